@@ -1,0 +1,39 @@
+-- The canonical EDF+D file of a recording: the one file of its data records.
+use Rattle.std.specs.Prelude.{◌≡◌, ℕ, ◌+◌, ◌-◌, ◌*◌, ◌/◌, ◌^◌, ◌≤◌, List, [], ◌∷◌, ◌++◌, length, replicate, All}
+use Rattle.std.specs.List.{flat_map}
+use Rattle.edf_header.specs.Key.{Key}
+use Rattle.edf_header.specs.Canonical.{IsExportHeader}
+use Rattle.edf_tal.specs.Canonical.{block_text}
+use Rattle.edf_fragment.specs.Fragment.{DataRecord, Spells}
+
+-- the whole second of an instant, from which a file's onsets count
+abbrev pub second_of : ℕ → ℕ
+second_of instant = instant / 10 ^ 9 * 10 ^ 9
+
+-- a record's block, its onsets counted from the file's start
+abbrev pub block_of : ℕ → DataRecord → List ℕ
+block_of file_start r = block_text file_start r.start r.annotations
+
+-- a record: its ordinary samples, then its block, which zeros fill
+abbrev pub record_text : ℕ → ℕ → DataRecord → List ℕ
+record_text file_start size r =
+    r.samples ++ (block_of file_start r ++ replicate (size - length (block_of file_start r)) 0)
+
+-- so many samples, two bytes each, hold the block of every record
+abbrev pub Hold : ℕ → ℕ → List DataRecord → Type 0
+Hold file_start samples records = All (λ r. length (block_of file_start r) ≤ 2 * samples) records
+
+-- the file of the records, which rise in time and of which `first` is the earliest
+pub record IsFileOf (bytes : List ℕ) (k : Key) (first : DataRecord) (records : List DataRecord) : Type 0 where
+  pub samples : ℕ
+  pub header : List ℕ
+  pub is_header : IsExportHeader header k first.start (length records) samples
+  pub holds : Hold (second_of first.start) samples records
+  pub least : (fewer : ℕ) → Hold (second_of first.start) fewer records → samples ≤ fewer
+  pub parts : bytes ≡ header ++ flat_map (record_text (second_of first.start) (2 * samples)) records
+  pub spells : Spells bytes k records
+
+-- the canonical file of one record or more
+abbrev pub IsCanonicalFile : List ℕ → Key → List DataRecord → Type 0
+IsCanonicalFile bytes k [] = ⊥
+IsCanonicalFile bytes k (r ∷ rs) = IsFileOf bytes k r (r ∷ rs)

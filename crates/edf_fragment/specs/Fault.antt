@@ -1,0 +1,69 @@
+-- When a fragment is refused: the first fault, in the order of header, data records, end.
+use Rattle.std.specs.Prelude.{◌≡◌, ℕ, ◌+◌, ◌≤◌, ◌<◌, List, length}
+use Rattle.edf_header.specs.Header.{Header, IsHeader, Layout, layout_of}
+use Rattle.edf_header.specs.Fault.{IsHeaderFault, number as header_number}
+use Rattle.edf_tal.specs.Block.{IsBlockFault, number as tal_number}
+use Rattle.edf_tal.specs.declared.place.Place.{Place}
+use Rattle.edf_tal.specs.declared.place.Place.TheVariants.{First}
+use Rattle.edf_tal.specs.declared.place.TalFault.{TalFault}
+use Rattle.edf_fragment.specs.Fragment.{DataRecord, AreDataRecords, block}
+use Rattle.edf_fragment.specs.declared.fault.FragmentFault.{FragmentFault}
+use Rattle.edf_fragment.specs.declared.fault.FragmentFault.TheVariants.{Header as BadHeader, CutRecord, Tal, Trailing, Read, Memory, Failed}
+
+-- a header, the data records before the fault, and what is left of the bytes
+pub record ReadsUpTo (bytes : List ℕ) : Type 0 where
+  pub header : Header
+  pub rest : List ℕ
+  pub records : List DataRecord
+  pub last : Place
+  pub left : List ℕ
+  pub is_header : IsHeader bytes header rest
+  pub are_records : AreDataRecords (layout_of header) First rest records last left
+
+-- its layout
+abbrev pub layout : {bytes : List ℕ} → ReadsUpTo bytes → Layout
+layout u = layout_of u.header
+
+-- the number, from 1, of the record that is next
+abbrev pub next_nth : {bytes : List ℕ} → ReadsUpTo bytes → ℕ
+next_nth u = length u.records + 1
+
+-- the input ends inside a record, or before it
+pub record IsCutRecord (bytes : List ℕ) (nth : ℕ) : Type 0 where
+  pub up_to : ReadsUpTo bytes
+  pub is_nth : nth ≡ next_nth up_to
+  pub wanted : nth ≤ (layout up_to).count
+  pub cut : length up_to.left < (layout up_to).record_bytes
+
+-- the block of a record is refused
+pub record IsRefusedBlock (bytes : List ℕ) (nth : ℕ) (fault : TalFault) : Type 0 where
+  pub up_to : ReadsUpTo bytes
+  pub is_nth : nth ≡ next_nth up_to
+  pub wanted : nth ≤ (layout up_to).count
+  pub whole : (layout up_to).record_bytes ≤ length up_to.left
+  pub refused : IsBlockFault (block (layout up_to) up_to.left) (layout up_to).start up_to.last fault
+
+-- bytes follow the last record
+pub record IsTrailing (bytes : List ℕ) : Type 0 where
+  pub up_to : ReadsUpTo bytes
+  pub all : length up_to.records ≡ (layout up_to).count
+  pub more : 0 < length up_to.left
+
+-- the one fault of bytes that spell no fragment: a record's fault stands behind all records before it, which have none
+abbrev pub IsFirstFault : List ℕ → FragmentFault → Type 0
+IsFirstFault bytes (BadHeader fault) = IsHeaderFault bytes fault
+IsFirstFault bytes (CutRecord nth) = IsCutRecord bytes nth
+IsFirstFault bytes (Tal nth fault) = IsRefusedBlock bytes nth fault
+IsFirstFault bytes Trailing = IsTrailing bytes
+IsFirstFault bytes Read = ⊥
+IsFirstFault bytes Memory = ⊥
+IsFirstFault bytes Failed = ⊥
+
+abbrev pub number : FragmentFault → ℕ
+number (BadHeader fault) = header_number fault
+number (CutRecord nth) = 21
+number (Tal nth fault) = tal_number fault
+number Trailing = 29
+number Read = 40
+number Memory = 41
+number Failed = 0

@@ -1,0 +1,54 @@
+-- Fragments: a header and its data records.
+use Rattle.std.specs.Prelude.{◌≡◌, ℕ, ◌+◌, ◌≤◌, List, [], ◌∷◌, ◌++◌, length, take, drop}
+use Rattle.edf_header.specs.Number.{field, duration_of}
+use Rattle.edf_header.specs.Key.{Key}
+use Rattle.edf_header.specs.Header.{Header, IsHeader, Layout, layout_of}
+use Rattle.edf_tal.specs.Tal.{Annotation}
+use Rattle.edf_tal.specs.Block.{IsRead, IsWithinLimits}
+use Rattle.edf_tal.specs.declared.place.Place.{Place}
+use Rattle.edf_tal.specs.declared.place.Place.TheVariants.{First, After}
+
+-- a data record: its start in nanoseconds, its ordinary sample bytes in signal order, its list of annotations
+pub record DataRecord : Type 0 where
+  pub start : ℕ
+  pub samples : List ℕ
+  pub annotations : List Annotation
+
+-- the limits of a data record
+pub record IsWithinSize (r : DataRecord) : Type 0 where
+  pub samples : length r.samples ≤ 4_194_304
+  pub annotations : IsWithinLimits r.annotations
+
+-- the annotations block of a data record's bytes, and the other bytes
+abbrev pub block : Layout → List ℕ → List ℕ
+block l bytes = field bytes l.block_at l.block_bytes
+
+abbrev pub ordinary_bytes : Layout → List ℕ → List ℕ
+ordinary_bytes l bytes = take l.block_at bytes ++ drop (l.block_at + l.block_bytes) bytes
+
+-- the bytes are the data record, which stands at this place
+pub record IsDataRecord (l : Layout) (place : Place) (bytes : List ℕ) (r : DataRecord) : Type 0 where
+  pub len : length bytes ≡ l.record_bytes
+  pub read : IsRead (block l bytes) l.start place r.start r.annotations
+  pub samples_are : r.samples ≡ ordinary_bytes l bytes
+
+-- the place of the record behind one that starts there
+abbrev pub behind : Layout → ℕ → Place
+behind l start = After start (duration_of l.key.duration)
+
+-- the bytes begin with these data records, the first at `place`; the next would stand at `last`, and the rest is left
+abbrev pub AreDataRecords : Layout → Place → List ℕ → List DataRecord → Place → List ℕ → Type 0
+AreDataRecords l place bytes [] last rest = (last ≡ place) × (rest ≡ bytes)
+AreDataRecords l place bytes (r ∷ rs) last rest =
+    (front : List ℕ) × (back : List ℕ) × (bytes ≡ front ++ back) × IsDataRecord l place front r
+    × AreDataRecords l (behind l r.start) back rs last rest
+
+-- the bytes spell a key and a list of data records, as many as the header says, and nothing follows them
+pub record Spells (bytes : List ℕ) (k : Key) (records : List DataRecord) : Type 0 where
+  pub header : Header
+  pub rest : List ℕ
+  pub last : Place
+  pub is_header : IsHeader bytes header rest
+  pub key : k ≡ (layout_of header).key
+  pub are_records : AreDataRecords (layout_of header) First rest records last []
+  pub count : length records ≡ (layout_of header).count

@@ -1,0 +1,130 @@
+-- When a header is refused: the condition of each fault, and the first in the order of their numbers.
+use Rattle.std.specs.Prelude.{◌≡◌, ◌≢◌, ℕ, ◌+◌, ◌*◌, ◌≤◌, ◌<◌, ◌⊎◌, List, ◌∷◌, ◌++◌, length, codes, take, All, ℤ, Option}
+use Rattle.edf_time.specs.Civil.{IsDateText, IsTimeText}
+use Rattle.edf_header.specs.Number.{field, IsDuration}
+use Rattle.edf_header.specs.Text.{IsPrintable, IsPatient, IsRecording}
+use Rattle.edf_header.specs.Signal.{signals_of, ordinary, samples, samples_in_all, IsLabelled, IsAnnotationsSignal, Passes, IsFirstBad}
+use Rattle.edf_header.specs.Header.{IsSameDay, IsPlus, IsNumber}
+use Rattle.edf_header.specs.declared.checks.Check.{Check}
+use Rattle.edf_header.specs.declared.checks.Check.TheVariants as checks
+use Rattle.edf_header.specs.declared.fault.HeaderFault.{HeaderFault}
+use Rattle.edf_header.specs.declared.fault.HeaderFault.TheVariants.{Cut, Unprintable, Version, Patient, Recording, Startdate, Starttime, DatesDiffer, NotPlus, Count, Duration, Signals, HeaderBytes, CutSignals, UnprintableSignals, Annotations, Physical, Digital, Samples, Size, Memory}
+
+abbrev pub HasCount : List ℕ → Type 0
+HasCount b = (n : ℕ) × IsNumber (field b 236 8) n × (1 ≤ n)
+
+abbrev pub HasSignals : List ℕ → ℕ → Type 0
+HasSignals b n = IsNumber (field b 252 4) n × (2 ≤ n) × (n ≤ 640)
+
+-- the Startdate subfield is a date, and not the startdate's
+pub record DatesAreOther (b : List ℕ) : Type 0 where
+  pub startdate : Option ℤ
+  pub after : List ℕ
+  pub days : ℕ
+  pub recording : IsRecording (field b 88 80) startdate after
+  pub date : IsDateText (field b 168 8) days
+  pub other : ¬ IsSameDay startdate days
+
+-- the fault is true of the fixed part's bytes, at its place
+abbrev pub Fails : List ℕ → HeaderFault → Type 0
+Fails b Cut = length b < 256
+Fails b (Unprintable offset) = IsFirstBad IsPrintable b offset
+Fails b Version = field b 0 8 ≢ codes "0       "
+Fails b Patient = ¬ IsPatient (field b 8 80)
+Fails b Recording = (startdate : Option ℤ) (after : List ℕ) → ¬ IsRecording (field b 88 80) startdate after
+Fails b Startdate = (days : ℕ) → ¬ IsDateText (field b 168 8) days
+Fails b Starttime = (seconds : ℕ) → ¬ IsTimeText (field b 176 8) seconds
+Fails b DatesDiffer = DatesAreOther b
+Fails b NotPlus = ¬ IsPlus (field b 192 44)
+Fails b Count = ¬ HasCount b
+Fails b Duration = (nanos : ℕ) → ¬ IsDuration (field b 244 8) nanos
+Fails b Signals = (n : ℕ) → ¬ HasSignals b n
+Fails b HeaderBytes = (n : ℕ) × HasSignals b n × ¬ IsNumber (field b 184 8) (256 + 256 * n)
+Fails b CutSignals = ⊥
+Fails b (UnprintableSignals offset) = ⊥
+Fails b Annotations = ⊥
+Fails b (Physical signal) = ⊥
+Fails b (Digital signal) = ⊥
+Fails b (Samples signal) = ⊥
+Fails b Size = ⊥
+Fails b Memory = ⊥
+
+-- exactly one signal is an annotations signal, and it has what it must
+pub record HasAnnotations (signals : List (List ℕ)) : Type 0 where
+  pub front : List (List ℕ)
+  pub annotations : List ℕ
+  pub back : List (List ℕ)
+  pub parts : signals ≡ front ++ annotations ∷ back
+  pub others : All (λ s. ¬ IsLabelled s) (front ++ back)
+  pub is_annotations : IsAnnotationsSignal annotations
+
+-- the signal that counts from 1 is the first that does not pass
+abbrev pub IsBadSignal : Check → List (List ℕ) → ℕ → Type 0
+IsBadSignal check signals signal = (at : ℕ) × IsFirstBad (Passes check) signals at × (signal ≡ at + 1)
+
+-- the samples of all signals less those of the ordinary ones are the annotations block's
+abbrev pub IsTooLarge : List (List ℕ) → Type 0
+IsTooLarge signals =
+    (4_194_304 < 2 * samples_in_all (ordinary signals))
+    ⊎ ((block : ℕ) × (samples_in_all signals ≡ samples_in_all (ordinary signals) + block) × (4_194_304 < 2 * block))
+
+-- the fault is true of the signal part's bytes, of n signals
+abbrev pub SignalsFail : List ℕ → ℕ → HeaderFault → Type 0
+SignalsFail s n CutSignals = length s < 256 * n
+SignalsFail s n (UnprintableSignals offset) = (at : ℕ) × IsFirstBad IsPrintable s at × (offset ≡ 256 + at)
+SignalsFail s n Annotations = ¬ HasAnnotations (signals_of s n)
+SignalsFail s n (Physical signal) = IsBadSignal checks.Physical (signals_of s n) signal
+SignalsFail s n (Digital signal) = IsBadSignal checks.Digital (signals_of s n) signal
+SignalsFail s n (Samples signal) = IsBadSignal checks.Samples (signals_of s n) signal
+SignalsFail s n Size = IsTooLarge (signals_of s n)
+SignalsFail s n Cut = ⊥
+SignalsFail s n (Unprintable offset) = ⊥
+SignalsFail s n Version = ⊥
+SignalsFail s n Patient = ⊥
+SignalsFail s n Recording = ⊥
+SignalsFail s n Startdate = ⊥
+SignalsFail s n Starttime = ⊥
+SignalsFail s n DatesDiffer = ⊥
+SignalsFail s n NotPlus = ⊥
+SignalsFail s n Count = ⊥
+SignalsFail s n Duration = ⊥
+SignalsFail s n Signals = ⊥
+SignalsFail s n HeaderBytes = ⊥
+SignalsFail s n Memory = ⊥
+
+abbrev pub number : HeaderFault → ℕ
+number Cut = 1
+number (Unprintable offset) = 2
+number Version = 3
+number Patient = 4
+number Recording = 5
+number Startdate = 6
+number Starttime = 7
+number DatesDiffer = 8
+number NotPlus = 9
+number Count = 10
+number Duration = 11
+number Signals = 12
+number HeaderBytes = 13
+number CutSignals = 14
+number (UnprintableSignals offset) = 15
+number Annotations = 16
+number (Physical signal) = 17
+number (Digital signal) = 18
+number (Samples signal) = 19
+number Size = 20
+number Memory = 41
+
+-- no fault of a lower number is true
+abbrev pub IsClean : (HeaderFault → Type 0) → ℕ → Type 0
+IsClean Holds n = (other : HeaderFault) → number other < n → ¬ Holds other
+
+-- the fault is true, and none of a lower number
+abbrev pub IsFirst : (HeaderFault → Type 0) → HeaderFault → Type 0
+IsFirst Holds fault = Holds fault × IsClean Holds (number fault)
+
+-- why bytes begin with no header: a fault of the fixed part, or, where it has none, of the signal part behind it
+abbrev pub IsHeaderFault : List ℕ → HeaderFault → Type 0
+IsHeaderFault bytes fault =
+    IsFirst (Fails (take 256 bytes)) fault
+    ⊎ ((n : ℕ) × IsClean (Fails (take 256 bytes)) 14 × HasSignals bytes n × IsFirst (SignalsFail (field bytes 256 (256 * n)) n) fault)

@@ -1,0 +1,115 @@
+-- What a header says, and when bytes spell it.
+use Rattle.std.specs.Prelude.{◌≡◌, ◌≢◌, ℕ, ◌+◌, ◌*◌, ◌≤◌, ◌<◌, ◌⊎◌, Bool, true, false, List, [], ◌∷◌, ◌++◌, length, take, All, codes, ℤ, pos, Option, Some, None}
+use Rattle.edf_time.specs.Civil.{IsCivil, IsDateText}
+use Rattle.edf_header.specs.Number.{field, IsWhole, whole_value, IsDuration}
+use Rattle.edf_header.specs.Text.{IsPrintable, IsPatient, IsRecording}
+use Rattle.edf_header.specs.Signal.{signals_of, IsLabelled, HasPhysical, HasDigital, HasSamples, IsAnnotationsSignal, samples, samples_in_all}
+use Rattle.edf_header.specs.Key.{Key}
+
+-- what the fixed part says: the Startdate subfield's day or none, what follows it, the start in nanoseconds
+pub record Fixed : Type 0 where
+  pub patient : List ℕ
+  pub startdate : Option ℤ
+  pub after : List ℕ
+  pub start : ℕ
+  pub count : ℕ
+  pub duration : List ℕ
+  pub signals : ℕ
+
+-- a Startdate subfield that is a date is the startdate's day
+abbrev pub IsSameDay : Option ℤ → ℕ → Type 0
+IsSameDay None days = Unit {0}
+IsSameDay (Some day) days = day ≡ pos days
+
+abbrev pub IsPlus : List ℕ → Type 0
+IsPlus reserved = (take 5 reserved ≡ codes "EDF+C") ⊎ (take 5 reserved ≡ codes "EDF+D")
+
+-- a field spells a whole number
+pub record IsNumber (text : List ℕ) (n : ℕ) : Type 0 where
+  pub whole : IsWhole text
+  pub value : n ≡ whole_value text
+
+-- 256 bytes spell the fixed part, each field at its offset
+pub record IsFixedHeader (bytes : List ℕ) (h : Fixed) : Type 0 where
+  pub len : length bytes ≡ 256
+  pub printable : All IsPrintable bytes
+  pub version : field bytes 0 8 ≡ codes "0       "
+  pub patient : h.patient ≡ field bytes 8 80
+  pub is_patient : IsPatient h.patient
+  pub recording : IsRecording (field bytes 88 80) h.startdate h.after
+  pub start : IsCivil (field bytes 168 8) (field bytes 176 8) h.start
+  pub same_day : (days : ℕ) → IsDateText (field bytes 168 8) days → IsSameDay h.startdate days
+  pub header_bytes : IsNumber (field bytes 184 8) (256 + 256 * h.signals)
+  pub reserved : IsPlus (field bytes 192 44)
+  pub count : IsNumber (field bytes 236 8) h.count
+  pub count_some : 1 ≤ h.count
+  pub duration : h.duration ≡ field bytes 244 8
+  pub is_duration : (nanos : ℕ) × IsDuration h.duration nanos
+  pub signals : IsNumber (field bytes 252 4) h.signals
+  pub signals_from : 2 ≤ h.signals
+  pub signals_to : h.signals ≤ 640
+
+-- a header: its fixed part, and its signals round the annotations signal, each a row
+pub record Header : Type 0 where
+  pub fixed : Fixed
+  pub front : List (List ℕ)
+  pub annotations : List ℕ
+  pub back : List (List ℕ)
+
+pub record IsOrdinary (row : List ℕ) : Type 0 where
+  pub label : ¬ IsLabelled row
+  pub physical : HasPhysical row
+  pub digital : HasDigital row
+
+-- 256 bytes a signal spell the header's signals, each field in its column
+pub record AreSignals (bytes : List ℕ) (h : Header) : Type 0 where
+  pub len : length bytes ≡ 256 * h.fixed.signals
+  pub printable : All IsPrintable bytes
+  pub each : signals_of bytes h.fixed.signals ≡ h.front ++ h.annotations ∷ h.back
+  pub annotations : IsAnnotationsSignal h.annotations
+  pub ordinary : All IsOrdinary (h.front ++ h.back)
+  pub each_samples : All HasSamples (h.front ++ h.annotations ∷ h.back)
+  pub ordinary_size : 2 * samples_in_all (h.front ++ h.back) ≤ 4_194_304
+  pub block_size : 2 * samples h.annotations ≤ 4_194_304
+
+-- the bytes begin with a header
+pub record IsHeader (bytes : List ℕ) (h : Header) (rest : List ℕ) : Type 0 where
+  pub first : List ℕ
+  pub second : List ℕ
+  pub parts : bytes ≡ first ++ (second ++ rest)
+  pub fixed : IsFixedHeader first h.fixed
+  pub signals : AreSignals second h
+
+abbrev pub is_dated : Option ℤ → Bool
+is_dated None = false
+is_dated (Some day) = true
+
+-- the recording that a header names
+abbrev pub key_of : Header → Key
+key_of h = record {
+  patient = h.fixed.patient;
+  dated = is_dated h.fixed.startdate;
+  after = h.fixed.after;
+  duration = h.fixed.duration;
+  signals = h.front ++ h.back
+}
+
+-- what a header says of its data records: whose they are, from where their onsets count in nanoseconds, how many there are;
+-- and in bytes where the annotations block stands in each, how long it is, and how long the whole record
+pub record Layout : Type 0 where
+  pub key : Key
+  pub start : ℕ
+  pub count : ℕ
+  pub block_at : ℕ
+  pub block_bytes : ℕ
+  pub record_bytes : ℕ
+
+abbrev pub layout_of : Header → Layout
+layout_of h = record {
+  key = key_of h;
+  start = h.fixed.start;
+  count = h.fixed.count;
+  block_at = 2 * samples_in_all h.front;
+  block_bytes = 2 * samples h.annotations;
+  record_bytes = 2 * samples_in_all (h.front ++ h.annotations ∷ h.back)
+}

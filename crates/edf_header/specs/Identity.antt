@@ -1,0 +1,57 @@
+-- When bytes are no identity: the condition of each fault, and the first in their order.
+use Rattle.std.specs.Prelude.{◌≡◌, ℕ, ◌+◌, ◌-◌, ◌*◌, ◌/◌, ◌≤◌, ◌<◌, ◌⊎◌, List, length, drop, slice_index, All}
+use Rattle.edf_header.specs.Number.{field, IsDuration, AreSpaces}
+use Rattle.edf_header.specs.Text.{IsPrintable, IsPatient, IsBehindStartdate}
+use Rattle.edf_header.specs.Signal.{rows, samples_in_all, IsFirstBad}
+use Rattle.edf_header.specs.Key.{key_at}
+use Rattle.edf_header.specs.Fault.{IsBadSignal}
+use Rattle.edf_header.specs.declared.checks.Check.TheVariants as checks
+use Rattle.edf_header.specs.declared.identity.IdentityFault.{IdentityFault}
+use Rattle.edf_header.specs.declared.identity.IdentityFault.TheVariants.{Length, Unprintable, Patient, Recording, Duration, Label, Physical, Digital, Samples, Size, Memory}
+
+-- 158 bytes, and 256 for each of 1 to 639 signals
+abbrev pub HasLength : List ℕ → Type 0
+HasLength b = (n : ℕ) × (1 ≤ n) × (n ≤ 639) × (length b ≡ 158 + 256 * n)
+
+-- D, with 10 spaces at the end of its part, or X
+abbrev pub HasMark : List ℕ → Type 0
+HasMark b = ((slice_index b 80 ≡ 68) × AreSpaces (field b 140 10)) ⊎ (slice_index b 80 ≡ 88)
+
+abbrev pub signals : List ℕ → List (List ℕ)
+signals b = rows ((length b - 158) / 256) (drop 158 b)
+
+-- the fault is true of the bytes, at its place
+abbrev pub KeyFails : List ℕ → IdentityFault → Type 0
+KeyFails b Length = ¬ HasLength b
+KeyFails b (Unprintable offset) = IsFirstBad IsPrintable b offset
+KeyFails b Patient = ¬ IsPatient (field b 0 80)
+KeyFails b Recording = ¬ (HasMark b × IsBehindStartdate (key_at b).after)
+KeyFails b Duration = (nanos : ℕ) → ¬ IsDuration (field b 150 8) nanos
+KeyFails b (Label signal) = IsBadSignal checks.Label (signals b) signal
+KeyFails b (Physical signal) = IsBadSignal checks.Physical (signals b) signal
+KeyFails b (Digital signal) = IsBadSignal checks.Digital (signals b) signal
+KeyFails b (Samples signal) = IsBadSignal checks.Samples (signals b) signal
+KeyFails b Size = 4_194_304 < 2 * samples_in_all (signals b)
+KeyFails b Memory = Unit {0}
+
+-- the order of the faults; want of memory comes last, so it says that no other is true
+abbrev pub place_in_order : IdentityFault → ℕ
+place_in_order Length = 1
+place_in_order (Unprintable offset) = 2
+place_in_order Patient = 3
+place_in_order Recording = 4
+place_in_order Duration = 5
+place_in_order (Label signal) = 6
+place_in_order (Physical signal) = 7
+place_in_order (Digital signal) = 8
+place_in_order (Samples signal) = 9
+place_in_order Size = 10
+place_in_order Memory = 11
+
+-- no fault that comes before is true
+abbrev pub IsCleanKey : List ℕ → ℕ → Type 0
+IsCleanKey b n = (other : IdentityFault) → place_in_order other < n → ¬ KeyFails b other
+
+-- the fault is true, and none before it
+abbrev pub IsFirstKeyFault : List ℕ → IdentityFault → Type 0
+IsFirstKeyFault b fault = KeyFails b fault × IsCleanKey b (place_in_order fault)

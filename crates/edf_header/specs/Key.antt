@@ -1,0 +1,53 @@
+-- To which recording a fragment belongs: the key, which fields have it, and its bytes.
+use Rattle.std.specs.Prelude.{◌≡◌, ℕ, ◌+◌, ◌-◌, ◌*◌, ◌/◌, ◌≤◌, ◌==◌, Bool, List, ◌∷◌, ◌++◌, length, drop, slice_index, All, if◌then◌else◌}
+use Rattle.std.specs.List.{flat_map}
+use Rattle.edf_header.specs.Number.{field, IsDuration}
+use Rattle.edf_header.specs.Text.{IsPrintable, IsPatient, IsBehindStartdate, spaces}
+use Rattle.edf_header.specs.Signal.{rows, Passes, samples_in_all}
+use Rattle.edf_header.specs.declared.checks.Check.{Check}
+
+-- the patient field; whether the Startdate subfield is a date; what follows it, 59 bytes behind a date and 69 behind X;
+-- the duration field; the ordinary signals' headers
+pub record Key : Type 0 where
+  pub patient : List ℕ
+  pub dated : Bool
+  pub after : List ℕ
+  pub duration : List ℕ
+  pub signals : List (List ℕ)
+
+-- the parts have the sizes of their places
+pub record IsSized (k : Key) : Type 0 where
+  pub patient : length k.patient ≡ 80
+  pub after : length k.after ≡ (if k.dated then 59 else 69)
+  pub duration : length k.duration ≡ 8
+  pub signals : All (λ s. length s ≡ 256) k.signals
+
+-- D, what follows and 10 more spaces; or X and what follows
+abbrev pub dated_bytes : Bool → List ℕ → List ℕ
+dated_bytes dated after = if dated then 68 ∷ (after ++ spaces 10) else 88 ∷ after
+
+-- the identity's bytes: 158, and 256 for each signal
+abbrev pub key_bytes : Key → List ℕ
+key_bytes k = k.patient ++ (dated_bytes k.dated k.after ++ (k.duration ++ flat_map (λ s. s) k.signals))
+
+-- the key that such bytes stand for
+abbrev pub key_at : List ℕ → Key
+key_at bytes = record {
+  patient = field bytes 0 80;
+  dated = slice_index bytes 80 == 68;
+  after = field bytes 81 (if slice_index bytes 80 == 68 then 59 else 69);
+  duration = field bytes 150 8;
+  signals = rows ((length bytes - 158) / 256) (drop 158 bytes)
+}
+
+-- the keys that headers name
+pub record IsKey (k : Key) : Type 0 where
+  pub sized : IsSized k
+  pub printable : All IsPrintable (key_bytes k)
+  pub patient : IsPatient k.patient
+  pub behind : IsBehindStartdate k.after
+  pub duration : (nanos : ℕ) × IsDuration k.duration nanos
+  pub signals_from : 1 ≤ length k.signals
+  pub signals_to : length k.signals ≤ 639
+  pub signals : (check : Check) → All (Passes check) k.signals
+  pub size : 2 * samples_in_all k.signals ≤ 4_194_304

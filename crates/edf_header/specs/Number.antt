@@ -1,0 +1,84 @@
+-- The number texts of header fields: each stands at the start of its field, and only spaces follow it.
+use Rattle.std.specs.Prelude.{◌≡◌, ◌≢◌, ℕ, ◌+◌, ◌*◌, ◌^◌, ◌<◌, ◌==◌, ◌||◌, Bool, not, List, [], length, take, drop, slice_index, All, ℤ, pos, neg_ℤ, if◌then◌else◌}
+use Rattle.std.specs.List.{prefix_len}
+use Rattle.std.specs.Char.{is_ascii_digit}
+use Rattle.std.specs.Str.Parse.{digits_value}
+use Rattle.edf_time.specs.Decimal.{IsSeconds, places as decimal_places}
+
+-- so many bytes from this place on
+abbrev pub field : List ℕ → ℕ → ℕ → List ℕ
+field bytes at len = take len (drop at bytes)
+
+abbrev pub AreSpaces : List ℕ → Type 0
+AreSpaces text = All (λ b. b ≡ 32) text
+
+-- the digits at the front, and what follows them
+abbrev pub digits_len : List ℕ → ℕ
+digits_len text = prefix_len is_ascii_digit text
+
+abbrev pub digits : List ℕ → List ℕ
+digits text = take (digits_len text) text
+
+abbrev pub behind : List ℕ → List ℕ
+behind text = drop (digits_len text) text
+
+-- a whole number: one digit or more, leading zeros allowed
+abbrev pub IsWhole : List ℕ → Type 0
+IsWhole field = (0 < digits_len field) × AreSpaces (behind field)
+
+abbrev pub whole_value : List ℕ → ℕ
+whole_value field = digits_value 10 (digits field)
+
+-- without the sign, where one stands at the front
+abbrev pub unsigned : List ℕ → List ℕ
+unsigned text = if (slice_index text 0 == 43) || (slice_index text 0 == 45) then drop 1 text else text
+
+abbrev pub signed : Bool → ℕ → ℤ
+signed negative n = if negative then neg_ℤ (pos n) else pos n
+
+-- a whole number behind a sign or none
+abbrev pub IsSigned : List ℕ → Type 0
+IsSigned field = IsWhole (unsigned field)
+
+abbrev pub signed_value : List ℕ → ℤ
+signed_value field = signed (slice_index field 0 == 45) (whole_value (unsigned field))
+
+-- the digits behind a dot, where one stands at the front, and what follows
+abbrev pub fraction : List ℕ → List ℕ
+fraction text = if slice_index text 0 == 46 then digits (drop 1 text) else []
+
+abbrev pub behind_fraction : List ℕ → List ℕ
+behind_fraction text = if slice_index text 0 == 46 then behind (drop 1 text) else text
+
+-- a physical value: a sign or none, one digit or more, then maybe a dot and zero or more digits
+abbrev pub IsPhysical : List ℕ → Type 0
+IsPhysical field = (0 < digits_len (unsigned field)) × AreSpaces (behind_fraction (behind (unsigned field)))
+
+-- how many digits stand behind its dot, and the number that all its digits write
+abbrev pub places : List ℕ → ℕ
+places field = length (fraction (behind (unsigned field)))
+
+abbrev pub size : List ℕ → ℕ
+size field = digits_value 10 (digits (unsigned field)) * 10 ^ places field + digits_value 10 (fraction (behind (unsigned field)))
+
+-- its value, so many decimal places further on
+abbrev pub scaled : List ℕ → ℕ → ℤ
+scaled field more = signed (slice_index field 0 == 45) (size field * 10 ^ more)
+
+-- two physical values differ, as numbers: each is scaled by the places of the other
+abbrev pub Differ : List ℕ → List ℕ → Type 0
+Differ a b = scaled a (places b) ≢ scaled b (places a)
+
+-- the text before the first space
+abbrev pub front_len : List ℕ → ℕ
+front_len field = prefix_len (λ b. not (b == 32)) field
+
+-- the duration of a data record: a decimal above 0, of this many nanoseconds
+pub record IsDuration (field : List ℕ) (nanos : ℕ) : Type 0 where
+  pub seconds : IsSeconds (take (front_len field) field) nanos
+  pub spaces : AreSpaces (drop (front_len field) field)
+  pub some : 0 < nanos
+
+-- the nanoseconds that the digits of a duration write; a law says that no duration has another value
+abbrev pub duration_of : List ℕ → ℕ
+duration_of field = digits_value 10 (digits field) * 10 ^ 9 + decimal_places (10 ^ 8) (fraction (behind field))

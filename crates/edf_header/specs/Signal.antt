@@ -1,0 +1,97 @@
+-- The headers of signals: each a row of 256 bytes, its ten fields one behind the other; a file has them in columns.
+use Rattle.std.specs.Prelude.{◌≡◌, ℕ, ◌+◌, ◌*◌, ◌/◌, ◌≤◌, ◌<◌, zero, suc, not, List, [], ◌∷◌, ◌++◌, length, take, drop, map, filter, sum_by, codes, All, ℤ, pos, neg_ℤ, ◌<ℤ◌, ◌≤ℤ◌}
+use Rattle.std.specs.List.{flat_map, range_with_len, HoldsAt, AllWithin}
+use Rattle.std.specs.Str.{bytes_eq}
+use Rattle.edf_header.specs.Number.{field, IsWhole, whole_value, IsSigned, signed_value, IsPhysical, Differ}
+use Rattle.edf_header.specs.declared.checks.Check.{Check}
+use Rattle.edf_header.specs.declared.checks.Check.TheVariants.{Label, Physical, Digital, Samples}
+
+-- where each of the ten fields stands in a row, and its width: label, transducer type, physical dimension, physical minimum
+-- and maximum, digital minimum and maximum, prefiltering, samples per data record, reserved
+abbrev pub fields : List (ℕ × ℕ)
+fields = (0, 16) ∷ (16, 80) ∷ (96, 8) ∷ (104, 8) ∷ (112, 8) ∷ (120, 8) ∷ (128, 8) ∷ (136, 80) ∷ (216, 8) ∷ (224, 32) ∷ []
+
+-- a field of all signals in turn
+abbrev pub column_of : ℕ × ℕ → List (List ℕ) → List ℕ
+column_of f rows = flat_map (λ row. field row f.0 f.1) rows
+
+abbrev pub columns_by : List (ℕ × ℕ) → List (List ℕ) → List ℕ
+columns_by fs rows = flat_map (λ f. column_of f rows) fs
+
+-- the signal part of a header: field by field, each for all signals in turn
+abbrev pub columns : List (List ℕ) → List ℕ
+columns rows = columns_by fields rows
+
+-- the ith of n signals, its fields taken from their columns
+abbrev pub row_by : List (ℕ × ℕ) → List ℕ → ℕ → ℕ → List ℕ
+row_by fs bytes n i = flat_map (λ f. field bytes (n * f.0 + i * f.1) f.1) fs
+
+abbrev pub row_at : List ℕ → ℕ → ℕ → List ℕ
+row_at bytes n i = row_by fields bytes n i
+
+abbrev pub signals_of : List ℕ → ℕ → List (List ℕ)
+signals_of bytes n = map (row_at bytes n) (range_with_len 0 n)
+
+-- so many rows that stand one behind the other
+abbrev pub rows : ℕ → List ℕ → List (List ℕ)
+rows zero bytes = []
+rows (suc n) bytes = take 256 bytes ∷ rows n (drop 256 bytes)
+
+abbrev pub rows_of : List ℕ → List (List ℕ)
+rows_of bytes = rows (length bytes / 256) bytes
+
+-- the annotations signals, by their label
+abbrev pub IsLabelled : List ℕ → Type 0
+IsLabelled row = field row 0 16 ≡ codes "EDF Annotations "
+
+-- the signals that are not
+abbrev pub ordinary : List (List ℕ) → List (List ℕ)
+ordinary ss = filter (λ s. not (bytes_eq (field s 0 16) (codes "EDF Annotations "))) ss
+
+-- physical minimum and maximum are numbers that differ
+pub record HasPhysical (row : List ℕ) : Type 0 where
+  pub minimum : IsPhysical (field row 104 8)
+  pub maximum : IsPhysical (field row 112 8)
+  pub differ : Differ (field row 104 8) (field row 112 8)
+
+-- digital minimum and maximum are numbers of 16 bits, and the maximum is the greater
+pub record HasDigital (row : List ℕ) : Type 0 where
+  pub minimum : IsSigned (field row 120 8)
+  pub maximum : IsSigned (field row 128 8)
+  pub from : neg_ℤ (pos 32_768) ≤ℤ signed_value (field row 120 8)
+  pub rises : signed_value (field row 120 8) <ℤ signed_value (field row 128 8)
+  pub to : signed_value (field row 128 8) ≤ℤ pos 32_767
+
+-- samples per data record
+abbrev pub samples : List ℕ → ℕ
+samples row = whole_value (field row 216 8)
+
+pub record HasSamples (row : List ℕ) : Type 0 where
+  pub whole : IsWhole (field row 216 8)
+  pub some : 1 ≤ samples row
+
+-- the samples that signals have in a data record, two bytes each
+abbrev pub samples_in_all : List (List ℕ) → ℕ
+samples_in_all ss = sum_by samples ss
+
+-- an annotations signal: digital minimum and maximum are those of 16 bits, the physical ones differ
+pub record IsAnnotationsSignal (row : List ℕ) : Type 0 where
+  pub label : IsLabelled row
+  pub physical : HasPhysical row
+  pub minimum : IsSigned (field row 120 8)
+  pub minimum_is : signed_value (field row 120 8) ≡ neg_ℤ (pos 32_768)
+  pub maximum : IsSigned (field row 128 8)
+  pub maximum_is : signed_value (field row 128 8) ≡ pos 32_767
+
+-- what each signal is checked for: that it is ordinary; and where it is, its physical and its digital values; and its samples
+abbrev pub Passes : Check → List ℕ → Type 0
+Passes Label row = ¬ IsLabelled row
+Passes Physical row = (¬ IsLabelled row) → HasPhysical row
+Passes Digital row = (¬ IsLabelled row) → HasDigital row
+Passes Samples row = HasSamples row
+
+-- the place, from 0, of the first member that has it not
+pub record IsFirstBad {X : Type 0} (P : X → Type 0) (xs : List X) (at : ℕ) : Type 0 where
+  pub within : at < length xs
+  pub bad : HoldsAt (λ x. ¬ P x) xs at
+  pub good : AllWithin P xs 0 at

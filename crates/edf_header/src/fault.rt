@@ -1,0 +1,69 @@
+use thiserror::Error;
+
+/// Why a header is refused, the first condition by number. Signals count from 1, offsets in bytes from the file's first.
+#[derive(Clone, Copy, Debug, PartialEq, Eq, Drop, Error)]
+pub enum HeaderFault {
+    /// E1: the file has fewer than 256 bytes.
+    #[error("the file has fewer than 256 bytes")]
+    Cut,
+    /// E2: a byte of the fixed part is not 32 to 126.
+    #[error("byte {offset} is not printable")]
+    Unprintable { offset: usize },
+    /// E3: the version is not `0` and seven spaces.
+    #[error("the version is not 0")]
+    Version,
+    /// E4: the patient field is no patient identification of EDF+.
+    #[error("the patient identification is not that of EDF+")]
+    Patient,
+    /// E5: the recording field is no recording identification of EDF+.
+    #[error("the recording identification is not that of EDF+")]
+    Recording,
+    /// E6: the startdate is no day of 1985 to 2084.
+    #[error("the startdate is no date")]
+    Startdate,
+    /// E7: the starttime is no second of a day.
+    #[error("the starttime is no time")]
+    Starttime,
+    /// E8: the Startdate subfield is a date, and not the startdate's.
+    #[error("the Startdate subfield is not the startdate")]
+    DatesDiffer,
+    /// E9: the reserved field does not begin with `EDF+C` or `EDF+D`.
+    #[error("the file is not EDF+")]
+    NotPlus,
+    /// E10: the number of data records is no whole number from 1 on.
+    #[error("the number of data records is not a whole number from 1 on")]
+    Count,
+    /// E11: the duration of a data record is no decimal above 0.
+    #[error("the duration of a data record is not a decimal above 0")]
+    Duration,
+    /// E12: the number of signals is no whole number from 2 to 640.
+    #[error("the number of signals is not a whole number from 2 to 640")]
+    Signals,
+    /// E13: the number of header bytes is not 256 and 256 for each signal.
+    #[error("the number of header bytes is not that of the signals")]
+    HeaderBytes,
+    /// E14: the file ends in the signal part of the header.
+    #[error("the file ends in the signal headers")]
+    CutSignals,
+    /// E15: a byte of the signal part is not 32 to 126.
+    #[error("byte {offset} is not printable")]
+    UnprintableSignals { offset: usize },
+    /// E16: not exactly one signal is an annotations signal, or its digital or physical values are not as they must be.
+    #[error("there is not exactly one well-formed annotations signal")]
+    Annotations,
+    /// E17: an ordinary signal's physical minimum and maximum are no numbers, or equal.
+    #[error("signal {signal} has no two different physical values")]
+    Physical { signal: u32 },
+    /// E18: an ordinary signal's digital minimum and maximum are no numbers of 16 bits, or do not rise.
+    #[error("signal {signal} has no two rising digital values of 16 bits")]
+    Digital { signal: u32 },
+    /// E19: a signal's samples per data record are no whole number from 1 on.
+    #[error("signal {signal} has no samples per data record")]
+    Samples { signal: u32 },
+    /// E20: the ordinary samples or the annotations of a data record have more than 4,194,304 bytes.
+    #[error("a data record is too large")]
+    Size,
+    /// E41: memory ran out.
+    #[error("out of memory")]
+    Memory,
+}

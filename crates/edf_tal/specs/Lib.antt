@@ -1,0 +1,3 @@
+pub mod Tal
+pub mod Block
+pub mod Canonical

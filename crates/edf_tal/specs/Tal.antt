@@ -1,0 +1,87 @@
+-- Time-stamped annotations lists, TALs for short.
+use Rattle.std.specs.Prelude.{◌≡◌, ◌≢◌, ℕ, ◌^◌, ◌<◌, ◌⊎◌, List, [], ◌∷◌, ◌++◌, drop, map, ℤ, pos, neg_ℤ, ◌+ℤ◌, unsigned_abs, Option, Some, None, IfSome, IsUtf8}
+use Rattle.std.specs.List.{AllByRecursion, flat_map}
+use Rattle.edf_time.specs.Decimal.{IsSeconds}
+use Rattle.edf_time.specs.Civil.{window, IsInWindow}
+
+-- an onset in nanoseconds, a duration or none, and the texts of the annotations that share them
+pub record Tal : Type 0 where
+  pub onset : ℤ
+  pub duration : Option ℕ
+  pub texts : List (List ℕ)
+
+-- an annotation: its instant, a duration or none, and a text
+pub record Annotation : Type 0 where
+  pub onset : ℕ
+  pub duration : Option ℕ
+  pub text : List ℕ
+
+-- a sign and a decimal
+abbrev pub IsOnset : List ℕ → ℤ → Type 0
+IsOnset [] z = ⊥
+IsOnset (sign ∷ text) z =
+    ((sign ≡ 43) × ((n : ℕ) × IsSeconds text n × (z ≡ pos n)))
+    ⊎ ((sign ≡ 45) × ((n : ℕ) × IsSeconds text n × (z ≡ neg_ℤ (pos n))))
+
+-- nothing, or byte 21 and a decimal
+abbrev pub IsDurationPart : List ℕ → Option ℕ → Type 0
+IsDurationPart bytes None = bytes ≡ []
+IsDurationPart bytes (Some n) = (text : List ℕ) × (bytes ≡ 21 ∷ text) × IsSeconds text n
+
+-- any bytes but 0 and 20
+abbrev pub IsText : List ℕ → Type 0
+IsText text = AllByRecursion (λ b. (b ≢ 0) × (b ≢ 20)) text
+
+-- each text followed by byte 20
+abbrev pub ended : List (List ℕ) → List ℕ
+ended texts = flat_map (λ text. text ++ 20 ∷ []) texts
+
+-- the bytes spell the TAL, whether or not its texts are UTF-8
+pub record IsTal (bytes : List ℕ) (t : Tal) : Type 0 where
+  pub onset : List ℕ
+  pub duration : List ℕ
+  pub parts : bytes ≡ onset ++ duration ++ 20 ∷ ended t.texts ++ 0 ∷ []
+  pub is_onset : IsOnset onset t.onset
+  pub is_duration : IsDurationPart duration t.duration
+  pub are_texts : AllByRecursion IsText t.texts
+
+-- TALs alone, each right behind the one before
+abbrev pub AreTals : List ℕ → List Tal → Type 0
+AreTals bytes [] = bytes ≡ []
+AreTals bytes (t ∷ ts) = (front : List ℕ) × (rest : List ℕ) × (bytes ≡ front ++ rest) × IsTal front t × AreTals rest ts
+
+-- TALs, and then zeros to the end
+abbrev pub AreTalsAndZeros : List ℕ → List Tal → Type 0
+AreTalsAndZeros bytes ts =
+    (front : List ℕ) × (zeros : List ℕ) × (bytes ≡ front ++ zeros) × AreTals front ts × AllByRecursion (λ b. b ≡ 0) zeros
+
+-- a block: TALs and zeros, and each text is UTF-8
+abbrev pub IsBlock : List ℕ → List Tal → Type 0
+IsBlock bytes ts = AreTalsAndZeros bytes ts × AllByRecursion (λ t. AllByRecursion IsUtf8 t.texts) ts
+
+-- the instant of an onset, which counts from the file's start; it means something only inside the window
+abbrev pub instant : ℕ → ℤ → ℕ
+instant file_start onset = unsigned_abs (pos file_start +ℤ onset)
+
+-- the annotations of a TAL share its onset and duration
+abbrev pub annotations_of : ℕ → Tal → List Annotation
+annotations_of file_start t = map (λ text. record { onset = instant file_start t.onset; duration = t.duration; text = text }) t.texts
+
+-- the first TAL keeps time: its first text is empty
+abbrev pub IsTimed : List Tal → Type 0
+IsTimed [] = ⊥
+IsTimed (t ∷ ts) = (texts : List (List ℕ)) × (t.texts ≡ [] ∷ texts)
+
+-- the data record's list: all annotations but the time-keeping one
+abbrev pub notes : ℕ → List Tal → List Annotation
+notes file_start ts = drop 1 (flat_map (annotations_of file_start) ts)
+
+-- the data record's start
+abbrev pub begin : ℕ → List Tal → ℕ
+begin file_start [] = file_start
+begin file_start (t ∷ ts) = instant file_start t.onset
+
+-- the onset is an instant of the window, and the duration is shorter than the window
+pub record IsTalInWindow (file_start : ℕ) (t : Tal) : Type 0 where
+  pub onset : IsInWindow (pos file_start +ℤ t.onset)
+  pub duration : IfSome t.duration (λ d. d < window)

@@ -1,0 +1,98 @@
+-- Civil days and clock readings, and the texts that name them.
+use Rattle.std.specs.Prelude.{◌≡◌, ℕ, ◌+◌, ◌-◌, ◌*◌, ◌/◌, ◌%◌, ◌^◌, ◌≤◌, ◌<◌, List, [], ◌∷◌, ◌++◌, length, ℤ, pos, ◌+ℤ◌, ◌≤ℤ◌, ◌<ℤ◌, take, drop, codes}
+use Rattle.jiff_core.specs.Calendar.{IsCivilDate, days_from_civil}
+use Rattle.edf_time.specs.Decimal.{fraction_text}
+use Rattle.edf_time.specs.declared.civil.StartFault.{StartFault}
+use Rattle.edf_time.specs.declared.civil.StartFault.TheVariants.{Date, Time}
+
+-- the length of the window, in nanoseconds: 36,525 days from 1985-01-01 00:00:00 on
+abbrev pub window : ℕ
+window = 36_525 * 86_400 * 10 ^ 9
+
+-- a moment, counted in nanoseconds from 1985-01-01 00:00:00, lies in the window
+pub record IsInWindow (moment : ℤ) : Type 0 where
+  pub from : pos 0 ≤ℤ moment
+  pub to : moment <ℤ pos window
+
+-- the day of an instant, counted from 1985-01-01
+abbrev pub day_of : ℕ → ℕ
+day_of instant = instant / (86_400 * 10 ^ 9)
+
+-- the second of its day
+abbrev pub second_of_day : ℕ → ℕ
+second_of_day instant = instant / 10 ^ 9 % 86_400
+
+-- the calendar has the day, and this many days lie between 1985-01-01 and it
+pub record IsDay (year month day : ℕ) (days : ℤ) : Type 0 where
+  pub exists : IsCivilDate (pos year) month day
+  pub count : days_from_civil (pos year) month day ≡ pos 5_479 +ℤ days
+
+-- the clock reading is the second of a day that has 86,400 seconds
+pub record IsClock (hour minute second seconds : ℕ) : Type 0 where
+  pub in_day : hour ≤ 23
+  pub in_hour : minute ≤ 59
+  pub in_minute : second ≤ 59
+  pub count : seconds ≡ hour * 3_600 + minute * 60 + second
+
+-- a number below 100 in two digits
+abbrev pub two_digits : ℕ → List ℕ
+two_digits n = (48 + n / 10) ∷ (48 + n % 10) ∷ []
+
+-- a number below 10,000 in four digits
+abbrev pub four_digits : ℕ → List ℕ
+four_digits n = two_digits (n / 100) ++ two_digits (n % 100)
+
+-- dd.mm.yy, of the years 1985 to 2084
+pub record IsDateText (text : List ℕ) (days : ℕ) : Type 0 where
+  pub year : ℕ
+  pub month : ℕ
+  pub day : ℕ
+  pub is_text : text ≡ two_digits day ++ 46 ∷ two_digits month ++ 46 ∷ two_digits (year % 100)
+  pub from : 1985 ≤ year
+  pub to : year ≤ 2084
+  pub is_day : IsDay year month day (pos days)
+
+-- hh.mm.ss
+pub record IsTimeText (text : List ℕ) (seconds : ℕ) : Type 0 where
+  pub hour : ℕ
+  pub minute : ℕ
+  pub second : ℕ
+  pub is_text : text ≡ two_digits hour ++ 46 ∷ two_digits minute ++ 46 ∷ two_digits second
+  pub is_clock : IsClock hour minute second seconds
+
+-- a date and a time name this instant
+abbrev pub IsCivil : List ℕ → List ℕ → ℕ → Type 0
+IsCivil date time nanos =
+    (days : ℕ) × (seconds : ℕ) × IsDateText date days × IsTimeText time seconds × (nanos ≡ (days * 86_400 + seconds) * 10 ^ 9)
+
+-- why a date and a time name no instant: the date is none, else the time is none
+abbrev pub IsStartFault : List ℕ → List ℕ → StartFault → Type 0
+IsStartFault date time Date = (days : ℕ) → ¬ IsDateText date days
+IsStartFault date time Time = ((days : ℕ) × IsDateText date days) × ((seconds : ℕ) → ¬ IsTimeText time seconds)
+
+-- the months of dd-MMM-yyyy
+abbrev pub month_name : ℕ → List ℕ
+month_name m = take 3 (drop (3 * (m - 1)) (codes "JANFEBMARAPRMAYJUNJULAUGSEPOCTNOVDEC"))
+
+-- dd-MMM-yyyy, of the years 0000 to 9999
+pub record IsIdDate (text : List ℕ) (days : ℤ) : Type 0 where
+  pub year : ℕ
+  pub month : ℕ
+  pub day : ℕ
+  pub is_text : text ≡ two_digits day ++ 45 ∷ month_name month ++ 45 ∷ four_digits year
+  pub to : year ≤ 9999
+  pub is_day : IsDay year month day days
+
+-- yyyy-mm-ddThh:mm:ss, then a dot and the decimals of the second where it has some
+pub record IsInstantText (text : List ℕ) (instant : ℕ) : Type 0 where
+  pub year : ℕ
+  pub month : ℕ
+  pub day : ℕ
+  pub hour : ℕ
+  pub minute : ℕ
+  pub second : ℕ
+  pub is_text : text ≡ four_digits year ++ 45 ∷ two_digits month ++ 45 ∷ two_digits day
+      ++ 84 ∷ two_digits hour ++ 58 ∷ two_digits minute ++ 58 ∷ two_digits second ++ fraction_text (instant % 10 ^ 9)
+  pub to : year ≤ 9999
+  pub is_day : IsDay year month day (pos (day_of instant))
+  pub is_clock : IsClock hour minute second (second_of_day instant)

@@ -1,0 +1,54 @@
+-- Decimal texts of seconds, whose values are counted in nanoseconds.
+use Rattle.std.specs.Prelude.{◌≡◌, ℕ, zero, suc, ◌+◌, ◌-◌, ◌*◌, ◌/◌, ◌%◌, ◌^◌, ◌≤◌, List, [], ◌∷◌, ◌++◌, length, drop, All}
+use Rattle.std.specs.Fmt.{decimal}
+use Rattle.std.specs.Str.Parse.{IsNumeral, digits_value}
+use Rattle.edf_time.specs.declared.decimal.DecimalFault.{DecimalFault}
+use Rattle.edf_time.specs.declared.decimal.DecimalFault.TheVariants.{Syntax, TooFine, TooLarge}
+
+-- the text is one or more digits, or such digits, a dot and one or more digits
+abbrev pub IsDecimal : List ℕ → List ℕ → List ℕ → Type 0
+IsDecimal text whole [] = IsNumeral 10 whole × (text ≡ whole)
+IsDecimal text whole (d ∷ ds) = IsNumeral 10 whole × IsNumeral 10 (d ∷ ds) × (text ≡ whole ++ 46 ∷ d ∷ ds)
+
+-- what digits are worth where the first counts `unit`, and each other a tenth of the one before
+abbrev pub places : ℕ → List ℕ → ℕ
+places unit [] = 0
+places unit (d ∷ ds) = (d - 48) * unit + places (unit / 10) ds
+
+-- the digits past the ninth are zeros: none counts less than a nanosecond
+abbrev pub IsFine : List ℕ → Type 0
+IsFine fraction = All (λ d. d ≡ 48) (drop 9 fraction)
+
+-- the text is a decimal of this many nanoseconds
+pub record IsSeconds (text : List ℕ) (nanos : ℕ) : Type 0 where
+  pub whole : List ℕ
+  pub fraction : List ℕ
+  pub parts : IsDecimal text whole fraction
+  pub fine : IsFine fraction
+  pub value : nanos ≡ digits_value 10 whole * 10 ^ 9 + places (10 ^ 8) fraction
+
+-- why a text is not read: no decimal, else one too fine, else one too large for 63 bits
+abbrev pub IsDecimalFault : List ℕ → DecimalFault → Type 0
+IsDecimalFault text Syntax = (whole fraction : List ℕ) → ¬ IsDecimal text whole fraction
+IsDecimalFault text TooFine = (whole fraction : List ℕ) × IsDecimal text whole fraction × ¬ IsFine fraction
+IsDecimalFault text TooLarge = (nanos : ℕ) × IsSeconds text nanos × (2 ^ 63 ≤ nanos)
+
+-- a text of that value, and no text of that value is shorter
+pub record IsShortest (text : List ℕ) (nanos : ℕ) : Type 0 where
+  pub spells : IsSeconds text nanos
+  pub least : (other : List ℕ) → IsSeconds other nanos → length text ≤ length other
+
+-- the digits of a part below 10 ^ j, from the jth place on to the last that is not 0
+abbrev pub places_text : ℕ → ℕ → List ℕ
+places_text zero part = []
+places_text (suc j) zero = []
+places_text (suc j) (suc p) = (48 + suc p / 10 ^ j) ∷ places_text j (suc p % 10 ^ j)
+
+-- a dot and the digits of a part of a second in nanoseconds, where it is not 0
+abbrev pub fraction_text : ℕ → List ℕ
+fraction_text zero = []
+fraction_text (suc p) = 46 ∷ places_text 9 (suc p)
+
+-- the shortest decimal; a law says that it is the shortest, and the only one
+unfoldable pub short : ℕ → List ℕ
+short nanos = decimal (nanos / 10 ^ 9) ++ fraction_text (nanos % 10 ^ 9)

@@ -1,0 +1,174 @@
+ghost use Rattle.std.specs.Prelude.{◌≡◌, ℕ, ◌+◌, ◌-◌, ◌*◌, ◌/◌, ◌^◌, ◌≤◌, ◌<◌, ◌↔◌, List, length, min, slice_index, ◌≢◌, IsTrue, MatchResult, MatchOption};
+ghost use Rattle.std.specs.Str.Parse.{IsNumeral, AllDigits, digits_value};
+ghost use Rattle.edf_time.specs.Decimal.{IsDecimal, IsFine, IsSeconds, IsDecimalFault, places};
+
+/// Why a text is no decimal.
+#[derive(Clone, Copy, Debug, PartialEq, Eq)]
+pub enum DecimalFault {
+    /// Not digits, nor digits, a dot and digits.
+    Syntax,
+    /// A digit past the ninth after the dot is not 0.
+    TooFine,
+    /// More than 9,223,372,036,854,775,807 nanoseconds.
+    TooLarge,
+}
+
+/// Whether the text is one digit or more, and nothing else.
+fn are_digits(text: &[u8]) -> bool
+    ensures { IsTrue result ↔ IsNumeral 10 text.now }
+{
+    for b in text {
+        if !b.is_ascii_digit() {
+            return false;
+        }
+    }
+    !text.is_empty()
+}
+
+/// A whole number past every one that is read.
+const MANY: u64 = 1_000_000_000_000_000_000;
+
+/// The number that the digits write, or MANY where it is more.
+fn capped_number(text: &[u8]) -> u64
+    requires { IsNumeral 10 text.now }
+    ensures { result ≡ min (digits_value 10 text.now) MANY }
+{
+    let mut number = 0;
+    for b in text {
+        number = (number * 10 + u64::from(*b - b'0')).min(MANY);
+    }
+    number
+}
+
+/// The nanoseconds of the digits after a dot.
+fn fraction_nanos(digits: &[u8]) -> Result<u64, DecimalFault>
+    requires { AllDigits 10 digits.now }
+    ensures { MatchResult result
+        (λ n. IsFine digits.now × (n ≡ places (10 ^ 8) digits.now) × (n < 10 ^ 9))
+        (λ e. (e ≡ DecimalFault.TooFine) × ¬ IsFine digits.now) }
+{
+    let mut nanos = 0;
+    let mut unit = 100_000_000;
+    for (i, d) in digits.iter().enumerate() {
+        if i >= 9 && *d != b'0' {
+            return Err(DecimalFault::TooFine);
+        }
+        nanos += u64::from(*d - b'0') * unit;
+        unit /= 10;
+    }
+    Ok(nanos)
+}
+
+/// The place of the first dot, or the length.
+fn first_dot(text: &[u8]) -> usize
+    ensures within { result ≤ length text.now }
+    ensures before { (k : ℕ) → k < result → slice_index text.now k ≢ 46 }
+    ensures found { result < length text.now → slice_index text.now result ≡ 46 }
+{
+    for (i, b) in text.iter().enumerate() {
+        if *b == b'.' {
+            return i;
+        }
+    }
+    text.len()
+}
+
+/// The digits before the dot and those after it, of a decimal.
+fn parts(text: &[u8]) -> Option<(&[u8], &[u8])>
+    ensures { MatchOption result
+        ((whole fraction : List ℕ) → ¬ IsDecimal text.now whole fraction)
+        (λ found. IsDecimal text.now found.0.now found.1.now) }
+{
+    let (whole, rest) = text.split_at(first_dot(text));
+    if !are_digits(whole) {
+        return None;
+    }
+    match rest {
+        [] => Some((whole, rest)),
+        [_, fraction @ ..] => {
+            if !are_digits(fraction) {
+                return None;
+            }
+            Some((whole, fraction))
+        }
+    }
+}
+
+/// The nanoseconds of a decimal of seconds.
+pub fn read_seconds(text: &[u8]) -> Result<u64, DecimalFault>
+    ensures { MatchResult result (λ nanos. IsSeconds text.now nanos × (nanos < 2 ^ 63)) (IsDecimalFault text.now) }
+{
+    let Some((whole, fraction)) = parts(text) else {
+        return Err(DecimalFault::Syntax);
+    };
+    let nanos = match fraction_nanos(fraction) {
+        Ok(nanos) => nanos,
+        Err(fault) => return Err(fault),
+    };
+    let seconds = capped_number(whole);
+    if seconds > 9_223_372_036 {
+        return Err(DecimalFault::TooLarge);
+    }
+    let total = seconds * 1_000_000_000 + nanos;
+    if total >= 1 << 63 {
+        return Err(DecimalFault::TooLarge);
+    }
+    Ok(total)
+}
+
+#[cfg(test)]
+mod tests {
+    use super::*;
+    use crate::{start_of, write_seconds};
+    use std::test::Fail;
+
+    #[test]
+    fn reads_decimals(rt: HostRuntime) {
+        assert_eq!(rt; read_seconds(b"007.50"), Ok(7_500_000_000));
+        assert_eq!(rt; read_seconds(b""), Err(DecimalFault::Syntax));
+        assert_eq!(rt; read_seconds(b"1."), Err(DecimalFault::Syntax));
+        assert_eq!(rt; read_seconds(b".5"), Err(DecimalFault::Syntax));
+        assert_eq!(rt; read_seconds(b"1.0000000001"), Err(DecimalFault::TooFine));
+        assert_eq!(rt; read_seconds(b"1.0000000000"), Ok(1_000_000_000));
+        assert_eq!(rt;
+            read_seconds(b"9223372036.854775807"),
+            Ok(9_223_372_036_854_775_807)
+        );
+        assert_eq!(rt;
+            read_seconds(b"9223372036.854775808"),
+            Err(DecimalFault::TooLarge)
+        );
+        assert_eq!(rt;
+            read_seconds(b"99999999999999999999999999999"),
+            Err(DecimalFault::TooLarge)
+        );
+    }
+
+    #[test]
+    fn writes_decimals(rt: HostRuntime) -> Result<(), Fail> {
+        assert_eq!(rt; write_seconds(rt.alloc(), 0)?.as_slice(), b"0".as_slice());
+        assert_eq!(rt;
+            write_seconds(rt.alloc(), 25_500_000_000)?.as_slice(),
+            b"25.5".as_slice()
+        );
+        assert_eq!(rt;
+            write_seconds(rt.alloc(), 3_155_759_999_999_999_999)?.as_slice(),
+            b"3155759999.999999999".as_slice()
+        );
+        Ok(())
+    }
+
+    #[test]
+    fn reads_starts(rt: HostRuntime) {
+        assert_eq!(rt;
+            start_of(b"02.03.02", b"23.59.50").map(|i| i.nanos()),
+            Ok(541_727_990_000_000_000)
+        );
+        assert_eq!(rt;
+            start_of(b"31.12.84", b"23.59.59").map(|i| i.nanos()),
+            Ok(3_155_759_999_000_000_000)
+        );
+        assert!(rt; start_of(b"31.02.02", b"23.59.50").is_err());
+        assert!(rt; start_of(b"02.03.02", b"24.00.00").is_err());
+    }
+}
