@@ -6,3 +6,4 @@ pub mod Header
 pub mod Fault
 pub mod Canonical
 pub mod Identity
+pub mod First
