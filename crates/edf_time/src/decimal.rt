@@ -2,14 +2,19 @@ ghost use Rattle.std.specs.Prelude.{◌≡◌, ℕ, ◌+◌, ◌-◌, ◌*◌, �
 ghost use Rattle.std.specs.Str.Parse.{IsNumeral, AllDigits, digits_value};
 ghost use Rattle.edf_time.specs.Decimal.{IsDecimal, IsFine, IsSeconds, IsDecimalFault, places};
 
-/// Why a text is no decimal.
-#[derive(Clone, Copy, Debug, PartialEq, Eq)]
+use thiserror::Error;
+
+/// Why a text is not read as a decimal of seconds.
+#[derive(Clone, Copy, Debug, Drop, PartialEq, Eq, Error)]
 pub enum DecimalFault {
-    /// Not digits, nor digits, a dot and digits.
+    /// It is neither digits alone nor digits, a dot and digits.
+    #[error("not a decimal of seconds")]
     Syntax,
     /// A digit past the ninth after the dot is not 0.
+    #[error("finer than a nanosecond")]
     TooFine,
-    /// More than 9,223,372,036,854,775,807 nanoseconds.
+    /// It is worth more than 9,223,372,036,854,775,807 nanoseconds.
+    #[error("more than 9,223,372,036,854,775,807 nanoseconds")]
     TooLarge,
 }
 
@@ -94,7 +99,14 @@ fn parts(text: &[u8]) -> Option<(&[u8], &[u8])>
     }
 }
 
-/// The nanoseconds of a decimal of seconds.
+/// The nanoseconds that a decimal of seconds is worth, as onsets and durations are written.
+///
+/// A decimal is one or more digits, or such digits, a dot and one or more digits. Zeros may lead, and zeros may follow the
+/// ninth digit after the dot.
+///
+/// # Errors
+/// `Syntax` where the text is no decimal, else `TooFine` where a digit past the ninth after the dot is not 0, else `TooLarge`
+/// where it is worth more than 9,223,372,036,854,775,807 nanoseconds.
 pub fn read_seconds(text: &[u8]) -> Result<u64, DecimalFault>
     ensures { MatchResult result (λ nanos. IsSeconds text.now nanos × (nanos < 2 ^ 63)) (IsDecimalFault text.now) }
 {
@@ -114,61 +126,4 @@ pub fn read_seconds(text: &[u8]) -> Result<u64, DecimalFault>
         return Err(DecimalFault::TooLarge);
     }
     Ok(total)
-}
-
-#[cfg(test)]
-mod tests {
-    use super::*;
-    use crate::{start_of, write_seconds};
-    use std::test::Fail;
-
-    #[test]
-    fn reads_decimals(rt: HostRuntime) {
-        assert_eq!(rt; read_seconds(b"007.50"), Ok(7_500_000_000));
-        assert_eq!(rt; read_seconds(b""), Err(DecimalFault::Syntax));
-        assert_eq!(rt; read_seconds(b"1."), Err(DecimalFault::Syntax));
-        assert_eq!(rt; read_seconds(b".5"), Err(DecimalFault::Syntax));
-        assert_eq!(rt; read_seconds(b"1.0000000001"), Err(DecimalFault::TooFine));
-        assert_eq!(rt; read_seconds(b"1.0000000000"), Ok(1_000_000_000));
-        assert_eq!(rt;
-            read_seconds(b"9223372036.854775807"),
-            Ok(9_223_372_036_854_775_807)
-        );
-        assert_eq!(rt;
-            read_seconds(b"9223372036.854775808"),
-            Err(DecimalFault::TooLarge)
-        );
-        assert_eq!(rt;
-            read_seconds(b"99999999999999999999999999999"),
-            Err(DecimalFault::TooLarge)
-        );
-    }
-
-    #[test]
-    fn writes_decimals(rt: HostRuntime) -> Result<(), Fail> {
-        assert_eq!(rt; write_seconds(rt.alloc(), 0)?.as_slice(), b"0".as_slice());
-        assert_eq!(rt;
-            write_seconds(rt.alloc(), 25_500_000_000)?.as_slice(),
-            b"25.5".as_slice()
-        );
-        assert_eq!(rt;
-            write_seconds(rt.alloc(), 3_155_759_999_999_999_999)?.as_slice(),
-            b"3155759999.999999999".as_slice()
-        );
-        Ok(())
-    }
-
-    #[test]
-    fn reads_starts(rt: HostRuntime) {
-        assert_eq!(rt;
-            start_of(b"02.03.02", b"23.59.50").map(|i| i.nanos()),
-            Ok(541_727_990_000_000_000)
-        );
-        assert_eq!(rt;
-            start_of(b"31.12.84", b"23.59.59").map(|i| i.nanos()),
-            Ok(3_155_759_999_000_000_000)
-        );
-        assert!(rt; start_of(b"31.02.02", b"23.59.50").is_err());
-        assert!(rt; start_of(b"02.03.02", b"24.00.00").is_err());
-    }
 }

@@ -1,0 +1,149 @@
+ghost use Rattle.std.specs.Prelude.{◌≡◌, ℕ, ◌∷◌, ◌+◌, ◌-◌, ◌*◌, ◌/◌, ◌%◌, ◌^◌, ◌≤◌, ◌<◌, ◌++◌, ℤ, pos, MatchOption, IfOk};
+ghost use Rattle.edf_time.specs.Civil.{day_of, second_of_day, IsClock, IsDateText, IsTimeText, IsIdDate, IsInstantText, two_digits};
+ghost use Rattle.edf_time.specs.Decimal.{fraction_text};
+
+use crate::calendar::{date_of, day_number};
+use crate::civil::Instant;
+use crate::day::Day;
+use crate::months::{letters_of, month_of};
+use crate::pairs::{pair, tens, units};
+use crate::shortest::push_fraction;
+use std::alloc::{AllocError, Global};
+
+/// A reading of a clock.
+#[derive(Clone, Copy)]
+struct Clock {
+    hour: u8,
+    minute: u8,
+    second: u8,
+}
+
+/// The clock's reading at a second of the day.
+fn clock_at(seconds: u32) -> Clock
+    requires { seconds < 86_400 }
+    ensures { IsClock result.hour result.minute result.second seconds }
+{
+    Clock {
+        hour: (seconds / 3_600) as u8,
+        minute: (seconds / 60 % 60) as u8,
+        second: (seconds % 60) as u8,
+    }
+}
+
+/// Three numbers of two digits, with dots between them.
+fn dotted(first: u8, second: u8, third: u8) -> [u8; 8]
+    requires first { first < 100 }
+    requires second { second < 100 }
+    requires third { third < 100 }
+    ensures { result ≡ two_digits first ++ 46 ∷ two_digits second ++ 46 ∷ two_digits third }
+{
+    [
+        tens(first),
+        units(first),
+        b'.',
+        tens(second),
+        units(second),
+        b'.',
+        tens(third),
+        units(third),
+    ]
+}
+
+/// The startdate of a header, `dd.mm.yy`: the 8 bytes of the field.
+pub fn date_field(instant: Instant) -> [u8; 8]
+    ensures { IsDateText result (day_of instant) }
+{
+    let date = date_of(instant.days());
+    dotted(date.day, date.month, (date.year % 100) as u8)
+}
+
+/// The starttime of a header, `hh.mm.ss`: the 8 bytes of the field. A fraction of a second is left out.
+pub fn time_field(instant: Instant) -> [u8; 8]
+    ensures { IsTimeText result (second_of_day instant) }
+{
+    let clock = clock_at(instant.second_of_day());
+    dotted(clock.hour, clock.minute, clock.second)
+}
+
+/// The day of the instant as the identification fields write one, `dd-MMM-yyyy`: 11 bytes.
+pub fn id_date_text(instant: Instant) -> [u8; 11]
+    ensures { IsIdDate result (pos (day_of instant)) }
+{
+    let date = date_of(instant.days());
+    let month = letters_of(date.month);
+    let century = (date.year / 100) as u8;
+    let short = (date.year % 100) as u8;
+    [
+        tens(date.day),
+        units(date.day),
+        b'-',
+        month[0],
+        month[1],
+        month[2],
+        b'-',
+        tens(century),
+        units(century),
+        tens(short),
+        units(short),
+    ]
+}
+
+/// The day that a text `dd-MMM-yyyy` names, as the identification fields write one.
+///
+/// The months are JAN to DEC, in capitals; the years 0000 to 9999 are those of the Gregorian calendar, carried backwards. `None`
+/// where the text is no such date.
+pub fn id_date(text: &[u8]) -> Option<Day>
+    ensures { MatchOption result ((days : ℤ) → ¬ IsIdDate text.now days) (IsIdDate text.now) }
+{
+    if text.len() != 11 || text[2] != b'-' || text[6] != b'-' {
+        return None;
+    }
+    let day = pair(text[0], text[1])?;
+    let month = month_of([text[3], text[4], text[5]])?;
+    let century = pair(text[7], text[8])?;
+    let short = pair(text[9], text[10])?;
+    let Some(days) = day_number(u16::from(century) * 100 + u16::from(short), month, day) else {
+        return None;
+    };
+    Some(Day::from_days(days))
+}
+
+/// An instant as `yyyy-mm-ddThh:mm:ss`, then, where its second has a fraction, a dot and the decimals without trailing zeros.
+pub fn instant_text(alloc: Global, instant: Instant) -> Result<Vec<u8>, AllocError>
+    ensures { IfOk result (λ v. IsInstantText v.items instant) }
+{
+    let mut text = Vec::from_slice(alloc, &second_text(instant))?;
+    push_fraction(&mut text, instant.nanos() % 1_000_000_000)?;
+    Ok(text)
+}
+
+/// The same without the fraction: 19 bytes.
+fn second_text(instant: Instant) -> [u8; 19]
+    ensures { IsInstantText (result ++ fraction_text (instant % 10 ^ 9)) instant }
+{
+    let date = date_of(instant.days());
+    let clock = clock_at(instant.second_of_day());
+    let century = (date.year / 100) as u8;
+    let short = (date.year % 100) as u8;
+    [
+        tens(century),
+        units(century),
+        tens(short),
+        units(short),
+        b'-',
+        tens(date.month),
+        units(date.month),
+        b'-',
+        tens(date.day),
+        units(date.day),
+        b'T',
+        tens(clock.hour),
+        units(clock.hour),
+        b':',
+        tens(clock.minute),
+        units(clock.minute),
+        b':',
+        tens(clock.second),
+        units(clock.second),
+    ]
+}

@@ -1,0 +1,100 @@
+//! Laws of the texts: each function has a law for a contract, and does nothing.
+ghost use Rattle.std.specs.Prelude.{◌≡◌, ℕ, ℤ, pos, ◌+◌, ◌*◌, ◌/◌, ◌%◌, ◌^◌, ◌≤◌, ◌<◌, List, length, All};
+ghost use Rattle.edf_time.specs.Bytes.{IsVisible, IsDecimalByte};
+ghost use Rattle.edf_time.specs.Civil.{window, day_of, second_of_day, IsCivil, IsStartFault, IsDateText, IsTimeText, IsIdDate, IsInstantText};
+ghost use Rattle.edf_time.specs.Decimal.{IsDecimal, IsSeconds, IsDecimalFault, IsShortest, short, fraction_text};
+ghost use Rattle.edf_time.specs.declared.civil.StartFault.{StartFault};
+ghost use Rattle.edf_time.specs.declared.decimal.DecimalFault.{DecimalFault};
+
+/// A number has one shortest text. Past 10 ^ 73 nanoseconds `decimal` does not write every digit.
+pub fn one_shortest()
+    ensures { (n : ℕ) (text : List ℕ) → n < 10 ^ 73 → IsShortest text n → text ≡ short n }
+{}
+
+/// What `write_seconds` writes is that text, and has at most 21 bytes.
+pub fn is_shortest()
+    ensures shortest { (n : ℕ) → n < 10 ^ 73 → IsShortest (short n) n }
+    ensures some { (n : ℕ) → n < 10 ^ 73 → 1 ≤ length (short n) }
+    ensures most { (n : ℕ) → n < 2 ^ 64 → length (short n) ≤ 21 }
+{}
+
+/// A decimal has its digits in one way, and so one value.
+pub fn one_value()
+    ensures whole { (text w f v g : List ℕ) → IsDecimal text w f → IsDecimal text v g → w ≡ v }
+    ensures fraction { (text w f v g : List ℕ) → IsDecimal text w f → IsDecimal text v g → f ≡ g }
+    ensures value { (text : List ℕ) (m n : ℕ) → IsSeconds text m → IsSeconds text n → m ≡ n }
+{}
+
+/// A decimal is made of digits and dots.
+pub fn decimal_bytes()
+    ensures { (text : List ℕ) (n : ℕ) → IsSeconds text n → All IsDecimalByte text }
+{}
+
+/// A text that is read has no fault, and no text has two.
+pub fn one_fault()
+    ensures none { (text : List ℕ) (n : ℕ) (fault : DecimalFault) → IsSeconds text n → n < 2 ^ 63 → ¬ IsDecimalFault text fault }
+    ensures one { (text : List ℕ) (a b : DecimalFault) → IsDecimalFault text a → IsDecimalFault text b → a ≡ b }
+{}
+
+/// A text `dd.mm.yy` and its day are one to one.
+pub fn one_date()
+    ensures day { (text : List ℕ) (a b : ℕ) → IsDateText text a → IsDateText text b → a ≡ b }
+    ensures text { (s t : List ℕ) (days : ℕ) → IsDateText s days → IsDateText t days → s ≡ t }
+    ensures bound { (text : List ℕ) (days : ℕ) → IsDateText text days → days < 36_525 }
+{}
+
+/// A text `hh.mm.ss` and its second of the day are one to one.
+pub fn one_time()
+    ensures second { (text : List ℕ) (a b : ℕ) → IsTimeText text a → IsTimeText text b → a ≡ b }
+    ensures text { (s t : List ℕ) (seconds : ℕ) → IsTimeText s seconds → IsTimeText t seconds → s ≡ t }
+    ensures bound { (text : List ℕ) (seconds : ℕ) → IsTimeText text seconds → seconds < 86_400 }
+{}
+
+/// A text `dd-MMM-yyyy` and its day are one to one.
+pub fn one_id_date()
+    ensures day { (text : List ℕ) (a b : ℤ) → IsIdDate text a → IsIdDate text b → a ≡ b }
+    ensures text { (s t : List ℕ) (days : ℤ) → IsIdDate s days → IsIdDate t days → s ≡ t }
+{}
+
+/// A text `yyyy-mm-ddThh:mm:ss` with its decimals and its instant are one to one.
+pub fn one_instant_text()
+    ensures instant { (text : List ℕ) (a b : ℕ) → IsInstantText text a → IsInstantText text b → a ≡ b }
+    ensures text { (s t : List ℕ) (instant : ℕ) → IsInstantText s instant → IsInstantText t instant → s ≡ t }
+{}
+
+/// The texts of a start name its day and the second of its day; it lies in the window and begins a second.
+pub fn start_parts()
+    ensures date { (date time : List ℕ) (start : ℕ) → IsCivil date time start → IsDateText date (day_of start) }
+    ensures time { (date time : List ℕ) (start : ℕ) → IsCivil date time start → IsTimeText time (second_of_day start) }
+    ensures bound { (date time : List ℕ) (start : ℕ) → IsCivil date time start → start < window }
+    ensures second { (date time : List ℕ) (start : ℕ) → IsCivil date time start → start / 10 ^ 9 * 10 ^ 9 ≡ start }
+{}
+
+/// The texts of an instant's day and second name the start of its second.
+pub fn start_of_parts()
+    ensures { (date time : List ℕ) (instant : ℕ) → IsDateText date (day_of instant) → IsTimeText time (second_of_day instant)
+        → IsCivil date time (instant / 10 ^ 9 * 10 ^ 9) }
+{}
+
+/// A date and a time name one instant or have one fault, and not both.
+pub fn one_start()
+    ensures start { (date time : List ℕ) (a b : ℕ) → IsCivil date time a → IsCivil date time b → a ≡ b }
+    ensures none { (date time : List ℕ) (start : ℕ) (fault : StartFault) → IsCivil date time start → ¬ IsStartFault date time fault }
+    ensures fault { (date time : List ℕ) (a b : StartFault) → IsStartFault date time a → IsStartFault date time b → a ≡ b }
+{}
+
+/// How long the texts are.
+pub fn text_lengths()
+    ensures date { (text : List ℕ) (days : ℕ) → IsDateText text days → length text ≡ 8 }
+    ensures time { (text : List ℕ) (seconds : ℕ) → IsTimeText text seconds → length text ≡ 8 }
+    ensures id_date { (text : List ℕ) (days : ℤ) → IsIdDate text days → length text ≡ 11 }
+    ensures instant { (text : List ℕ) (instant : ℕ) → IsInstantText text instant → length text ≡ 19 + length (fraction_text (instant % 10 ^ 9)) }
+{}
+
+/// Each byte of the texts is printable, and none is a space.
+pub fn text_bytes()
+    ensures date { (text : List ℕ) (days : ℕ) → IsDateText text days → All IsVisible text }
+    ensures time { (text : List ℕ) (seconds : ℕ) → IsTimeText text seconds → All IsVisible text }
+    ensures id_date { (text : List ℕ) (days : ℤ) → IsIdDate text days → All IsVisible text }
+    ensures instant { (text : List ℕ) (instant : ℕ) → IsInstantText text instant → All IsVisible text }
+{}
