@@ -128,3 +128,7 @@ abbrev pub IsHeaderFault : List ℕ → HeaderFault → Type 0
 IsHeaderFault bytes fault =
     IsFirst (Fails (take 256 bytes)) fault
     ⊎ ((n : ℕ) × IsClean (Fails (take 256 bytes)) 14 × HasSignals bytes n × IsFirst (SignalsFail (field bytes 256 (256 * n)) n) fault)
+
+-- why the signal part is not read: want of memory, which may come first, or the first fault
+abbrev pub IsSignalsRefusal : List ℕ → ℕ → HeaderFault → Type 0
+IsSignalsRefusal s n fault = (fault ≡ Memory) ⊎ IsFirst (SignalsFail s n) fault

@@ -1,8 +1,8 @@
 -- What a header says, and when bytes spell it.
-use Rattle.std.specs.Prelude.{◌≡◌, ◌≢◌, ℕ, ◌+◌, ◌*◌, ◌≤◌, ◌<◌, ◌⊎◌, Bool, true, false, List, [], ◌∷◌, ◌++◌, length, take, All, codes, ℤ, pos, Option, Some, None}
-use Rattle.edf_time.specs.Civil.{IsCivil, IsDateText}
+use Rattle.std.specs.Prelude.{◌≡◌, ◌≢◌, ℕ, ◌+◌, ◌*◌, ◌≤◌, ◌<◌, ◌⊎◌, Bool, true, false, List, [], ◌∷◌, ◌++◌, length, take, All, codes, ℤ, pos, Option, Some, None, if◌then◌else◌}
+use Rattle.edf_time.specs.Civil.{IsCivil, IsDateText, window}
 use Rattle.edf_header.specs.Number.{field, IsWhole, whole_value, IsDuration}
-use Rattle.edf_header.specs.Text.{IsPrintable, IsPatient, IsRecording}
+use Rattle.edf_header.specs.Text.{IsPrintable, IsPatient, IsBehindStartdate, IsRecording, after_of}
 use Rattle.edf_header.specs.Signal.{signals_of, IsLabelled, HasPhysical, HasDigital, HasSamples, IsAnnotationsSignal, samples, samples_in_all}
 use Rattle.edf_header.specs.Key.{Key}
 
@@ -15,6 +15,43 @@ pub record Fixed : Type 0 where
   pub count : ℕ
   pub duration : List ℕ
   pub signals : ℕ
+
+abbrev pub is_dated : Option ℤ → Bool
+is_dated None = false
+is_dated (Some day) = true
+
+-- what a fixed part says, by the patient field, the recording field and the rest
+abbrev pub fixed_from : List ℕ → List ℕ → Option ℤ → ℕ → ℕ → List ℕ → ℕ → Fixed
+fixed_from patient recording startdate start count duration signals = record {
+  patient = patient;
+  startdate = startdate;
+  after = after_of startdate recording;
+  start = start;
+  count = count;
+  duration = duration;
+  signals = signals
+}
+
+-- the same, where the fields of 256 bytes stand
+abbrev pub fixed_at : List ℕ → Option ℤ → ℕ → ℕ → ℕ → Fixed
+fixed_at bytes startdate start count signals = fixed_from (field bytes 8 80) (field bytes 88 80) startdate start count (field bytes 244 8) signals
+
+-- the fixed parts that headers have
+pub record IsFixed (f : Fixed) : Type 0 where
+  pub patient_len : length f.patient ≡ 80
+  pub patient_printable : All IsPrintable f.patient
+  pub is_patient : IsPatient f.patient
+  pub after_len : length f.after ≡ (if is_dated f.startdate then 59 else 69)
+  pub after_printable : All IsPrintable f.after
+  pub is_behind : IsBehindStartdate f.after
+  pub in_window : f.start < window
+  pub count_from : 1 ≤ f.count
+  pub count_to : f.count < 100_000_000
+  pub duration_len : length f.duration ≡ 8
+  pub duration_printable : All IsPrintable f.duration
+  pub is_duration : (nanos : ℕ) × IsDuration f.duration nanos
+  pub signals_from : 2 ≤ f.signals
+  pub signals_to : f.signals ≤ 640
 
 -- a Startdate subfield that is a date is the startdate's day
 abbrev pub IsSameDay : Option ℤ → ℕ → Type 0
@@ -79,10 +116,6 @@ pub record IsHeader (bytes : List ℕ) (h : Header) (rest : List ℕ) : Type 0 w
   pub parts : bytes ≡ first ++ (second ++ rest)
   pub fixed : IsFixedHeader first h.fixed
   pub signals : AreSignals second h
-
-abbrev pub is_dated : Option ℤ → Bool
-is_dated None = false
-is_dated (Some day) = true
 
 -- the recording that a header names
 abbrev pub key_of : Header → Key

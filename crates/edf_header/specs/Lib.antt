@@ -5,5 +5,8 @@ pub mod Key
 pub mod Header
 pub mod Fault
 pub mod Canonical
+pub mod Spelled
 pub mod Identity
-pub mod First
+pub mod Shape
+pub mod Grammar
+pub mod Rows

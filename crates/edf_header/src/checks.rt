@@ -1,3 +1,10 @@
+ghost use Rattle.std.specs.Prelude.{◌≡◌, ℕ, List, length, MatchOption, IsTrue, ◌↔◌, All};
+ghost use Rattle.edf_header.specs.Text.{IsPrintable};
+ghost use Rattle.edf_header.specs.Signal.{rows_of, HasDigital, HasSamples, IsLabelled, Passes, IsFirstBad};
+
+use crate::number::{signed, whole};
+use crate::physical::has_physical;
+
 /// What each signal of a header is checked for, in this order.
 #[derive(Clone, Copy, Debug, PartialEq, Eq)]
 pub enum Check {
@@ -9,4 +16,66 @@ pub enum Check {
     Digital,
     /// Its samples per data record.
     Samples,
+}
+
+/// Whether the digital values are numbers of 16 bits, the maximum the greater.
+fn has_digital(row: &[u8]) -> bool
+    requires { length row.now ≡ 256 }
+    ensures { IsTrue result ↔ HasDigital row.now }
+{
+    match (signed(&row[120..128]), signed(&row[128..136])) {
+        (Some(low), Some(high)) => -32_768 <= low && low < high && high <= 32_767,
+        _ => false,
+    }
+}
+
+/// Whether the samples are a whole number from 1 on.
+fn has_samples(row: &[u8]) -> bool
+    requires { length row.now ≡ 256 }
+    ensures { IsTrue result ↔ HasSamples row.now }
+{
+    match whole(&row[216..224]) {
+        Some(n) => n >= 1,
+        None => false,
+    }
+}
+
+/// Whether a signal has the label of an annotations signal.
+pub(crate) fn is_labelled(row: &[u8]) -> bool
+    requires { length row.now ≡ 256 }
+    ensures { IsTrue result ↔ IsLabelled row.now }
+{
+    &row[0..16] == b"EDF Annotations ".as_slice()
+}
+
+/// Whether a signal passes a check.
+fn passes(check: Check, row: &[u8]) -> bool
+    requires { length row.now ≡ 256 }
+    ensures { IsTrue result ↔ Passes check row.now }
+{
+    match check {
+        Check::Label => !is_labelled(row),
+        Check::Physical => is_labelled(row) || has_physical(row),
+        Check::Digital => is_labelled(row) || has_digital(row),
+        Check::Samples => has_samples(row),
+    }
+}
+
+/// The place of the first signal that fails a check.
+pub(crate) fn first_bad(check: Check, rows: &[u8]) -> Option<usize>
+    ensures { MatchOption result (All (Passes check) (rows_of rows.now)) (IsFirstBad (Passes check) (rows_of rows.now)) }
+{
+    for i in 0..rows.len() / 256 {
+        if !passes(check, &rows[256 * i..256 * i + 256]) {
+            return Some(i);
+        }
+    }
+    None
+}
+
+/// The place of the first byte that is not printable.
+pub(crate) fn first_unprintable(bytes: &[u8]) -> Option<usize>
+    ensures { MatchOption result (All IsPrintable bytes.now) (IsFirstBad IsPrintable bytes.now) }
+{
+    bytes.iter().position(|b| !(32..=126).contains(b))
 }

@@ -1,3 +1,6 @@
+ghost use Rattle.std.specs.Prelude.{◌≡◌};
+ghost use Rattle.edf_header.specs.Fault.{number};
+
 use thiserror::Error;
 
 /// Why a header is refused, the first condition by number. Signals count from 1, offsets in bytes from the file's first.
@@ -66,4 +69,35 @@ pub enum HeaderFault {
     /// E41: memory ran out.
     #[error("out of memory")]
     Memory,
+}
+
+impl HeaderFault {
+    /// Its number: 1 to 20, or 41 where memory ran out.
+    pub fn number(&self) -> u8
+        ensures { result ≡ number self.now }
+    {
+        match self {
+            HeaderFault::Cut => 1,
+            HeaderFault::Unprintable { offset: _ } => 2,
+            HeaderFault::Version => 3,
+            HeaderFault::Patient => 4,
+            HeaderFault::Recording => 5,
+            HeaderFault::Startdate => 6,
+            HeaderFault::Starttime => 7,
+            HeaderFault::DatesDiffer => 8,
+            HeaderFault::NotPlus => 9,
+            HeaderFault::Count => 10,
+            HeaderFault::Duration => 11,
+            HeaderFault::Signals => 12,
+            HeaderFault::HeaderBytes => 13,
+            HeaderFault::CutSignals => 14,
+            HeaderFault::UnprintableSignals { offset: _ } => 15,
+            HeaderFault::Annotations => 16,
+            HeaderFault::Physical { signal: _ } => 17,
+            HeaderFault::Digital { signal: _ } => 18,
+            HeaderFault::Samples { signal: _ } => 19,
+            HeaderFault::Size => 20,
+            HeaderFault::Memory => 41,
+        }
+    }
 }

@@ -1,3 +1,17 @@
+ghost use Rattle.std.specs.Prelude.{◌≡◌, ◌≤◌, ◌<◌, ◌+◌, ◌*◌, ◌^◌, ◌↔◌, ◌∷◌, ◌++◌, List, ℕ, IfOk, OnOk, IsTrue, MatchResult, All, length, take, if◌then◌else◌};
+ghost use Rattle.edf_header.specs.Number.{duration_of};
+ghost use Rattle.edf_header.specs.Text.{IsBehindStartdate, subfields};
+ghost use Rattle.edf_header.specs.Signal.{rows_of, ordinary, samples_in_all, HasSamples, Passes};
+ghost use Rattle.edf_header.specs.Key.{Key, IsKey, dated_bytes, key_bytes, key_at};
+ghost use Rattle.edf_header.specs.Identity.{HasLength, HasMark, signals, IsCleanKey, IsFirstKeyFault};
+ghost use Rattle.edf_header.specs.Shape.{key_from, place_of_check};
+
+use crate::key::{after, check_key};
+use crate::number::read_duration;
+use crate::ordinary::{ordinary_samples, push_ordinary};
+use crate::subfield::next_subfield;
+use std::alloc::{AllocError, Global};
+use std::marker::Model;
 use thiserror::Error;
 
 /// Why bytes are no identity, the first condition in this order. Signals count from 1, offsets from 0.
@@ -36,4 +50,164 @@ pub enum IdentityFault {
     /// Memory ran out; no other condition is true.
     #[error("out of memory")]
     Memory,
+}
+
+/// To which recording a fragment belongs: the patient identification, the recording identification without its date, the
+/// duration of a data record, and the headers of the ordinary signals. Two fragments are of one recording where all these
+/// bytes are the same.
+///
+/// Its bytes: 0 to 79 the patient field; 80 `D` where the Startdate subfield is a date, else `X`; 81 to 149 what follows
+/// that subfield, filled with spaces; 150 to 157 the duration field; then 256 for each ordinary signal, its ten fields
+/// one behind the other.
+#[derive(Drop)]
+pub struct Identity {
+    pub(crate) bytes: Vec<u8>,
+}
+
+impl Model for Identity {
+    ghost use Rattle.std.specs.Prelude.{◌≡◌};
+    ghost use Rattle.edf_header.specs.Key.{Key, IsKey, key_bytes, key_at};
+
+    ghost Value = { Key };
+
+    ghost view = { λ i. key_at i.bytes.items };
+
+    ghost invariant = { λ i. (key_bytes (key_at i.bytes.items) ≡ i.bytes.items) × IsKey (key_at i.bytes.items) };
+}
+
+/// Writes the mark of the Startdate subfield, what follows it and the fill.
+fn push_mark(out: &mut Vec<u8>, dated: bool, after: &[u8]) -> Result<(), AllocError>
+    ensures { OnOk result (out.new.items ≡ out.old.items ++ dated_bytes dated after.now) }
+{
+    if dated {
+        out.push(b'D')?;
+        out.extend_from_slice(after)?;
+        out.extend_from_slice(b"          ".as_slice())?;
+    } else {
+        out.push(b'X')?;
+        out.extend_from_slice(after)?;
+    }
+    Ok(())
+}
+
+/// The bytes of an identity, from the parts of a header.
+fn bytes_from(
+    alloc: Global,
+    patient: &[u8],
+    dated: bool,
+    after: &[u8],
+    duration: &[u8],
+    rows: &[u8],
+) -> Result<Vec<u8>, AllocError>
+    ensures { IfOk result (λ v. v.items ≡ key_bytes (key_from patient.now dated after.now duration.now (ordinary (rows_of rows.now)))) }
+{
+    let mut bytes = Vec::with_capacity(alloc, 158)?;
+    bytes.extend_from_slice(patient)?;
+    push_mark(&mut bytes, dated, after)?;
+    bytes.extend_from_slice(duration)?;
+    push_ordinary(&mut bytes, rows)?;
+    Ok(bytes)
+}
+
+impl Identity {
+    /// The identity that the bytes stand for.
+    ///
+    /// # Errors
+    /// The first condition that is true of the bytes, in the order of `IdentityFault`.
+    pub fn from_bytes(alloc: Global, bytes: &[u8]) -> Result<Identity, IdentityFault>
+        ensures { MatchResult result (λ i. (key_bytes i ≡ bytes.now) × IsKey i) (IsFirstKeyFault bytes.now) }
+    {
+        check_key(bytes)?;
+        let Ok(copy) = Vec::from_slice(alloc, bytes) else {
+            return Err(IdentityFault::Memory);
+        };
+        Ok(Identity { bytes: copy })
+    }
+
+    /// The identity of a header, from its parts and the rows of all its signals.
+    pub(crate) fn from_parts(
+        alloc: Global,
+        patient: &[u8],
+        dated: bool,
+        after: &[u8],
+        duration: &[u8],
+        rows: &[u8],
+    ) -> Result<Identity, AllocError>
+        requires { IsKey (key_from patient.now dated after.now duration.now (ordinary (rows_of rows.now))) }
+        ensures { IfOk result (λ i. i ≡ key_from patient.now dated after.now duration.now (ordinary (rows_of rows.now))) }
+    {
+        let bytes = bytes_from(alloc, patient, dated, after, duration, rows)?;
+        Ok(Identity { bytes })
+    }
+
+    /// The bytes of the identity.
+    ///
+    /// # Errors
+    /// Where memory runs out.
+    pub fn to_bytes(&self, alloc: Global) -> Result<Vec<u8>, AllocError>
+        ensures { IfOk result (λ v. v.items ≡ key_bytes self.now) }
+    {
+        Vec::from_slice(alloc, self.bytes.as_slice())
+    }
+
+    /// Whether two identities are the same, byte for byte: two spellings of one value are two identities.
+    pub fn same(&self, other: &Identity) -> bool
+        ensures { IsTrue result ↔ (self.now ≡ other.now) }
+    {
+        self.bytes.as_slice() == other.bytes.as_slice()
+    }
+
+    /// Whether the Startdate subfield of the recording identification is a date, and not `X`.
+    pub fn dated(&self) -> bool
+        ensures { result ≡ self.now.dated }
+    {
+        self.bytes[80] == b'D'
+    }
+
+    /// How many ordinary signals there are: 1 to 639.
+    pub fn signals(&self) -> usize
+        ensures count { result ≡ length self.now.signals }
+        ensures key { IsKey self.now }
+    {
+        (self.bytes.len() - 158) / 256
+    }
+
+    /// How many bytes the ordinary samples of a data record have, two for each.
+    pub fn ordinary_bytes(&self) -> usize
+        ensures value { result ≡ 2 * samples_in_all self.now.signals }
+        ensures bound { result ≤ 4_194_304 }
+    {
+        2 * ordinary_samples(&self.bytes[158..]) as usize
+    }
+
+    /// The duration of a data record in nanoseconds.
+    pub fn duration(&self) -> u64
+        ensures value { result ≡ duration_of self.now.duration }
+        ensures positive { 0 < result }
+    {
+        match read_duration(&self.bytes[150..158]) {
+            Some(nanos) => nanos,
+            None => unreachable!(),
+        }
+    }
+
+    /// The patient code: the first subfield of the patient identification.
+    pub fn patient_code(&self) -> &[u8]
+        ensures { (more : List (List ℕ)) × (subfields self.now.patient ≡ result.now ∷ more) }
+    {
+        match next_subfield(&self.bytes[0..80]) {
+            Some((code, _)) => code,
+            None => unreachable!(),
+        }
+    }
+
+    /// The investigation code: the first subfield behind the Startdate subfield of the recording identification.
+    pub fn investigation_code(&self) -> &[u8]
+        ensures { (more : List (List ℕ)) × (subfields self.now.after ≡ result.now ∷ more) }
+    {
+        match next_subfield(after(&self.bytes)) {
+            Some((code, _)) => code,
+            None => unreachable!(),
+        }
+    }
 }

@@ -85,3 +85,8 @@ number Memory = 41
 pub record IsBlockFault (b : List ℕ) (s : ℕ) (place : Place) (fault : TalFault) : Type 0 where
   pub holds : Fails b s place fault
   pub first : (other : TalFault) → number other < number fault → ¬ Fails b s place other
+
+-- why a block is refused: want of memory, which says nothing of the block, or its first fault
+abbrev pub IsRefusal : List ℕ → ℕ → Place → TalFault → Type 0
+IsRefusal b s place Memory = Unit {0}
+IsRefusal b s place fault = IsBlockFault b s place fault

@@ -1,0 +1,217 @@
+-- A fixed part that bytes spell: it has no fault, is one, and keeps the bounds.
+use Rattle.std.proofs.Common.{◌≡◌, ℕ, zero, suc, ◌+◌, ◌-◌, ◌*◌, ◌/◌, ◌^◌, ◌≤◌, ◌<◌, min, Bool, true, false, not, eqb, cond, List, [], ◌∷◌, length, get_or, take, drop, arith, refl, sym, ap, ◌∙◌, subst, inl, inr, one-add, ℤ, pos, Option, Some, None}
+use Rattle.std.specs.Prelude.{All, codes, IsTrue}
+use Rattle.std.specs.List.{AllWithin, HoldsAt, prefix_len}
+use Rattle.std.specs.Char.{is_ascii_digit, digit_value}
+use Rattle.std.specs.Str.Parse.{AllDigits, digits_value}
+use Rattle.std.proofs.lemmas.Bool.{cases_lt, cases_eq}
+use Rattle.std.proofs.lemmas.Bool.Decides.{nat_tests}
+use Rattle.std.proofs.lemmas.Int.Digits.{digits_value-lt}
+use Rattle.std.proofs.lemmas.List.{length-take, length-drop}
+use Rattle.std.proofs.lemmas.List.Elements.{All-take, All-drop}
+use Rattle.std.proofs.Math.Nat.{pow-le-pow_right}
+use Rattle.jiff_core.proofs.SignedLemmas.{signed_arith}
+use Rattle.edf_time.proofs.Days.{days-in-window}
+use Rattle.edf_time.specs.Civil.{IsDateText, IsTimeText, IsCivil, window}
+use Rattle.edf_header.proofs.Dates.{one-date, one-civil, one-id-date, x-no-date}
+use Rattle.edf_header.specs.Number.{field, IsWhole, whole_value, digits, digits_len}
+use Rattle.edf_header.specs.Text.{IsPrintable, IsStartdate, IsRecording}
+use Rattle.edf_header.specs.Signal.{IsFirstBad}
+use Rattle.edf_header.specs.Header.{Fixed, IsFixed, IsFixedHeader, IsNumber, IsSameDay, is_dated}
+use Rattle.edf_header.specs.Fault.{Fails, IsClean, IsFirst, number}
+use Rattle.edf_header.specs.declared.fault.HeaderFault.{HeaderFault}
+use Rattle.edf_header.specs.declared.fault.HeaderFault.TheVariants.{Cut, Unprintable, Version, Patient, Recording, Startdate, Starttime, DatesDiffer, NotPlus, Count, Duration, Signals, HeaderBytes, CutSignals, UnprintableSignals, Annotations, Physical, Digital, Samples, Size, Memory}
+
+one-number : (text : List ℕ) (m n : ℕ) → IsNumber text m → IsNumber text n → m ≡ n
+one-number text m n p q = p.value ∙ sym q.value
+
+-- ---- no fault
+
+same-startdate : (f : List ℕ) (s r : Option ℤ) (a b : List ℕ) (days : ℕ) → IsStartdate f s a → IsStartdate f r b → IsSameDay s days → IsSameDay r days
+same-startdate f s None a b days p q same = tt
+same-startdate f None (Some day) a b days p q same = absurd (x-no-date f day p.0 q.1)
+same-startdate f (Some other) (Some day) a b days p q same = one-id-date (field f 10 11) day other q.1 p.1 ∙ same
+
+pub no-fault : (b : List ℕ) (h : Fixed) → IsFixedHeader b h → (e : HeaderFault) → ¬ Fails b e
+no-fault b h f Cut bad = omega (arith, f.len)
+no-fault b h f (Unprintable at) bad = bad.bad 0 (f.printable at 0 bad.within)
+no-fault b h f Version bad = bad f.version
+no-fault b h f Patient bad = bad (rw (sym f.patient) f.is_patient)
+no-fault b h f Recording bad = bad h.startdate h.after f.recording
+no-fault b h f Startdate bad = bad f.start.0 f.start.2
+no-fault b h f Starttime bad = bad f.start.1 f.start.3
+no-fault b h f DatesDiffer bad = bad.other (same-startdate (field b 88 80) h.startdate bad.startdate h.after bad.after bad.days f.recording.front bad.recording.front (f.same_day bad.days bad.date))
+no-fault b h f NotPlus bad = bad f.reserved
+no-fault b h f Count bad = bad (h.count, f.count, f.count_some)
+no-fault b h f Duration bad = bad f.is_duration.0 (rw (sym f.duration) f.is_duration.1)
+no-fault b h f Signals bad = bad h.signals (f.signals, f.signals_from, f.signals_to)
+no-fault b h f HeaderBytes bad =
+    let same : bad.0 ≡ h.signals = one-number (field b 252 4) bad.0 h.signals bad.1.0 f.signals in
+    bad.2 (rw same f.header_bytes)
+no-fault b h f CutSignals bad = bad
+no-fault b h f (UnprintableSignals at) bad = bad
+no-fault b h f Annotations bad = bad
+no-fault b h f (Physical at) bad = bad
+no-fault b h f (Digital at) bad = bad
+no-fault b h f (Samples at) bad = bad
+no-fault b h f Size bad = bad
+no-fault b h f Memory bad = bad
+
+pub fixed-clean : (b : List ℕ) (h : Fixed) → IsFixedHeader b h → IsClean (Fails b) 14
+fixed-clean b h f e lt = no-fault b h f e
+
+-- ---- one fixed part
+
+-- a recording field has one Startdate subfield
+pub one-after : (f : List ℕ) (s r : Option ℤ) (a b : List ℕ) → IsStartdate f s a → IsStartdate f r b → (s ≡ r) × (a ≡ b)
+one-after f None None a b p q = (refl, p.1 ∙ sym q.1)
+one-after f None (Some day) a b p q = absurd (x-no-date f day p.0 q.1)
+one-after f (Some other) None a b p q = absurd (x-no-date f other q.0 p.1)
+one-after f (Some other) (Some day) a b p q = (ap (λ (z : ℤ). Some z) (one-id-date (field f 10 11) other day p.1 q.1), p.2 ∙ sym q.2)
+
+pub one-fixed : (b : List ℕ) (h g : Fixed) → IsFixedHeader b h → IsFixedHeader b g → h ≡ g
+one-fixed b h g p q =
+    let recording = one-after (field b 88 80) h.startdate g.startdate h.after g.after p.recording.front q.recording.front in
+    let patient = p.patient ∙ sym q.patient in
+    let start = one-civil (field b 168 8) (field b 176 8) h.start g.start p.start q.start in
+    let count = one-number (field b 236 8) h.count g.count p.count q.count in
+    let duration = p.duration ∙ sym q.duration in
+    let signals = one-number (field b 252 4) h.signals g.signals p.signals q.signals in
+    λ i. record { patient = patient i; startdate = recording.0 i; after = recording.1 i; start = start i; count = count i; duration = duration i; signals = signals i }
+
+-- ---- one fault
+
+one-first-bad : (P : ℕ → Type 0) (xs : List ℕ) (a b : ℕ) → IsFirstBad P xs a → IsFirstBad P xs b → a ≡ b
+one-first-bad P xs a b p q =
+    elim (cases_lt a b) [
+      | inl lt ↦ absurd (p.bad 0 (q.good a 0 (omega arith) lt))
+      | inr le ↦ elim (cases_lt b a) [
+        | inl lt ↦ absurd (q.bad 0 (p.good b 0 (omega arith) lt))
+        | inr more ↦ omega arith
+      ]
+    ]
+
+-- the offset that a fault names, or 0
+abbrev spot : HeaderFault → ℕ
+spot (Unprintable offset) = offset
+spot e = 0
+
+-- a fault of the fixed part, by its number and its offset
+abbrev fault_at : ℕ → ℕ → HeaderFault
+fault_at n at =
+    cond (eqb n 1) Cut (cond (eqb n 2) (Unprintable at) (cond (eqb n 3) Version (cond (eqb n 4) Patient (cond (eqb n 5) Recording (cond (eqb n 6) Startdate (cond (eqb n 7) Starttime
+    (cond (eqb n 8) DatesDiffer (cond (eqb n 9) NotPlus (cond (eqb n 10) Count (cond (eqb n 11) Duration (cond (eqb n 12) Signals HeaderBytes)))))))))))
+
+placed : (b : List ℕ) (e : HeaderFault) → Fails b e → e ≡ fault_at (number e) (spot e)
+placed b Cut fails = refl
+placed b (Unprintable at) fails = refl
+placed b Version fails = refl
+placed b Patient fails = refl
+placed b Recording fails = refl
+placed b Startdate fails = refl
+placed b Starttime fails = refl
+placed b DatesDiffer fails = refl
+placed b NotPlus fails = refl
+placed b Count fails = refl
+placed b Duration fails = refl
+placed b Signals fails = refl
+placed b HeaderBytes fails = refl
+placed b CutSignals fails = absurd fails
+placed b (UnprintableSignals at) fails = absurd fails
+placed b Annotations fails = absurd fails
+placed b (Physical at) fails = absurd fails
+placed b (Digital at) fails = absurd fails
+placed b (Samples at) fails = absurd fails
+placed b Size fails = absurd fails
+placed b Memory fails = absurd fails
+
+spot-bad : (b : List ℕ) (e : HeaderFault) → Fails b e → number e ≡ 2 → IsFirstBad IsPrintable b (spot e)
+spot-bad b (Unprintable at) fails same = fails
+spot-bad b e fails same = absurd (omega arith)
+
+spot-none : (b : List ℕ) (e : HeaderFault) → (number e ≡ 2 → ⊥) → spot e ≡ 0
+spot-none b (Unprintable at) other = absurd (other refl)
+spot-none b e other = refl
+
+same-number : (b : List ℕ) (e f : HeaderFault) → IsFirst (Fails b) e → IsFirst (Fails b) f → number e ≡ number f
+same-number b e f p q =
+    elim (cases_lt (number e) (number f)) [
+      | inl lt ↦ absurd (q.1 e lt p.0)
+      | inr le ↦ elim (cases_lt (number f) (number e)) [
+        | inl lt ↦ absurd (p.1 f lt q.0)
+        | inr more ↦ omega arith
+      ]
+    ]
+
+pub one-fault : (b : List ℕ) (e f : HeaderFault) → IsFirst (Fails b) e → IsFirst (Fails b) f → e ≡ f
+one-fault b e f p q =
+    let same = same-number b e f p q in
+    let spots : spot e ≡ spot f = elim (cases_eq (number e) 2) [
+      | inl two ↦ one-first-bad IsPrintable b (spot e) (spot f) (spot-bad b e p.0 two) (spot-bad b f q.0 (sym same ∙ two))
+      | inr other ↦ spot-none b e other ∙ sym (spot-none b f (λ two. other (same ∙ two)))
+    ] in
+    placed b e p.0 ∙ ap (λ (n : ℕ). fault_at n (spot e)) same ∙ ap (fault_at (number f)) spots ∙ sym (placed b f q.0)
+
+-- ---- the bounds
+
+length-field : (b : List ℕ) (at len : ℕ) → at + len ≤ length b → length (field b at len) ≡ len
+length-field b at len fits = omega (arith, length-take len (drop at b), length-drop at b)
+
+All-field : (P : ℕ → Type 0) (b : List ℕ) (at len : ℕ) → All P b → All P (field b at len)
+All-field P b at len all = All-take P len (drop at b) (All-drop P at b all)
+
+digit-value : (b : ℕ) → is_ascii_digit b ≡ true → digit_value b < 10
+digit-value b h = grind (arith, nat_tests)
+
+digit-more : (x : ℕ) (xs : List ℕ) (d : Bool) → is_ascii_digit x ≡ d → AllDigits 10 (digits xs) → AllDigits 10 (digits (x ∷ xs))
+digit-more x xs true e more =
+    let n : prefix_len is_ascii_digit (x ∷ xs) ≡ suc (digits_len xs) = ap (λ (d : Bool). cond d (1 + digits_len xs) 0) e ∙ one-add (digits_len xs) in
+    subst (λ (k : ℕ). AllDigits 10 (take k (x ∷ xs))) (sym n) (digit-value x e, more)
+digit-more x xs false e more =
+    let n : prefix_len is_ascii_digit (x ∷ xs) ≡ 0 = ap (λ (d : Bool). cond d (1 + digits_len xs) 0) e in
+    subst (λ (k : ℕ). AllDigits 10 (take k (x ∷ xs))) (sym n) tt
+
+digits-all : (text : List ℕ) → AllDigits 10 (digits text)
+digits-all [] = tt
+digits-all (x ∷ xs) = digit-more x xs (is_ascii_digit x) refl (digits-all xs)
+
+whole-fits : (text : List ℕ) → length text ≤ 8 → whole_value text < 100_000_000
+whole-fits text short =
+    let lt = digits_value-lt 10 (digits text) (digits-all text) in
+    let few : length (digits text) ≤ 8 = omega (arith, length-take (digits_len text) text) in
+    let ten : 0 < 10 = omega arith in
+    let most : 10 ^ length (digits text) ≤ 10 ^ 8 = pow-le-pow_right ten few in
+    omega (arith, lt, most)
+
+civil-fits : (date time : List ℕ) (n : ℕ) → IsCivil date time n → n < window
+civil-fits date time n c =
+    let day = days-in-window c.2.year c.2.month c.2.day c.2.from c.2.to c.2.is_day.exists in
+    let days : c.0 < 36_525 = omega (arith, signed_arith, day.1, c.2.is_day.count) in
+    let clock : c.1 < 86_400 = omega (arith, c.3.is_clock.in_day, c.3.is_clock.in_hour, c.3.is_clock.in_minute, c.3.is_clock.count) in
+    omega (arith, c.4)
+
+after-len : (f : List ℕ) (s : Option ℤ) (after : List ℕ) → length f ≡ 80 → IsStartdate f s after → length after ≡ cond (is_dated s) 59 69
+after-len f None after len p = ap length p.1 ∙ omega (arith, length-drop 11 f)
+after-len f (Some day) after len p = ap length p.2 ∙ omega (arith, length-drop 21 f)
+
+after-printable : (f : List ℕ) (s : Option ℤ) (after : List ℕ) → All IsPrintable f → IsStartdate f s after → All IsPrintable after
+after-printable f None after all p = rw p.1 (All-drop IsPrintable 11 f all)
+after-printable f (Some day) after all p = rw p.2 (All-drop IsPrintable 21 f all)
+
+pub is-fixed : (b : List ℕ) (h : Fixed) → IsFixedHeader b h → IsFixed h
+is-fixed b h f = record {
+  patient_len = ap length f.patient ∙ length-field b 8 80 (omega (arith, f.len));
+  patient_printable = rw f.patient (All-field IsPrintable b 8 80 f.printable);
+  is_patient = f.is_patient;
+  after_len = after-len (field b 88 80) h.startdate h.after (length-field b 88 80 (omega (arith, f.len))) f.recording.front;
+  after_printable = after-printable (field b 88 80) h.startdate h.after (All-field IsPrintable b 88 80 f.printable) f.recording.front;
+  is_behind = f.recording.behind;
+  in_window = civil-fits (field b 168 8) (field b 176 8) h.start f.start;
+  count_from = f.count_some;
+  count_to = rw f.count.value (whole-fits (field b 236 8) (omega (arith, length-field b 236 8 (omega (arith, f.len)))));
+  duration_len = ap length f.duration ∙ length-field b 244 8 (omega (arith, f.len));
+  duration_printable = rw f.duration (All-field IsPrintable b 244 8 f.printable);
+  is_duration = f.is_duration;
+  signals_from = f.signals_from;
+  signals_to = f.signals_to
+}

@@ -1,0 +1,289 @@
+-- A header that is spelled from its fields is read as what they say.
+use Rattle.std.proofs.Common.{◌≡◌, ℕ, zero, suc, ◌+◌, ◌*◌, ◌^◌, ◌≤◌, ◌<◌, List, [], ◌∷◌, ◌++◌, length, take, drop, Bool, true, false, cond, Option, Some, None, refl, sym, ap, ◌∙◌, subst, arith, append_assoc, ℤ, pos}
+use Rattle.std.specs.Prelude.{All, codes}
+use Rattle.std.specs.List.{flat_map}
+use Rattle.std.proofs.lemmas.List.{length-append, append-nil, take_at, drop_at, take_all}
+use Rattle.std.proofs.lemmas.List.Elements.{All-append, All-push, All-head, All-tail}
+use Rattle.std.proofs.lemmas.List.Sums.{sum_by_push}
+use Rattle.edf_time.specs.Civil.{IsDateText, IsTimeText, IsIdDate}
+use Rattle.edf_header.specs.Number.{field}
+use Rattle.edf_header.specs.Text.{IsPrintable, IsRecording, IsStartdate, IsBehindStartdate, spaces}
+use Rattle.edf_header.specs.Signal.{columns, samples, samples_in_all, signals_of, IsAnnotationsSignal, HasSamples, Passes}
+use Rattle.edf_header.specs.Key.{Key, IsSized, IsKey, key_bytes, dated_bytes}
+use Rattle.edf_header.specs.Header.{Header, Fixed, Layout, IsFixedHeader, AreSignals, IsHeader, IsSameDay, IsNumber, IsPlus, IsOrdinary, is_dated, key_of, layout_of}
+use Rattle.edf_header.specs.Spelled.{IsPrinted, Texts, IsSpelledBy, IsSpelledHeader, IsReadAs, spelled_bytes, startdate_text, spelled_layout}
+use Rattle.edf_header.specs.declared.checks.Check.TheVariants as checks
+use Rattle.edf_header.proofs.Strides.{signals-back}
+use Rattle.edf_header.proofs.SpelledTexts.{date-printed, time-printed, id_date-printed, printable-by}
+use Rattle.edf_time.proofs.FieldTexts.{one-date_day}
+use Rattle.edf_header.proofs.SpelledParts.{all-left, all-right, parts-all, all-columns, length-columns, IsPartAt, part-here}
+
+-- the Startdate subfield's day
+abbrev pub startdate_of : Bool → ℕ → Option ℤ
+startdate_of true days = Some (pos days)
+startdate_of false days = None
+
+abbrev pub spelled_fixed : Key → ℕ → ℕ → ℕ → Fixed
+spelled_fixed k days seconds count = record {
+  patient = k.patient;
+  startdate = startdate_of k.dated days;
+  after = k.after;
+  start = (days * 86_400 + seconds) * 10 ^ 9;
+  count = count;
+  duration = k.duration;
+  signals = length k.signals + 1;
+}
+
+abbrev pub spelled_header : Key → ℕ → ℕ → ℕ → List ℕ → Header
+spelled_header k days seconds count row = record {
+  fixed = spelled_fixed k days seconds count;
+  front = k.signals;
+  annotations = row;
+  back = [];
+}
+
+-- the fixed part's bytes
+abbrev pub fixed_bytes : Key → Texts → List ℕ
+fixed_bytes k t =
+    codes "0       " ++ (k.patient ++ (codes "Startdate " ++ (startdate_text k.dated t.id_date ++ (k.after ++ (t.date ++ (t.time
+    ++ (t.header_bytes ++ (t.reserved ++ (t.count ++ (k.duration ++ t.signals))))))))))
+
+-- the recording field
+abbrev recording : Bool → List ℕ → List ℕ → List ℕ
+recording dated id_date after = codes "Startdate " ++ (startdate_text dated id_date ++ after)
+
+length-recording : (dated : Bool) (id_date after : List ℕ) → length id_date ≡ 11 → length after ≡ cond dated 59 69 → length (recording dated id_date after) ≡ 80
+length-recording true id_date after li la = omega (arith, length-append id_date after)
+length-recording false id_date after li la = omega arith
+
+is-recording : (dated : Bool) (id_date after : List ℕ) (days : ℕ) → length id_date ≡ 11 → IsIdDate id_date (pos days) → IsBehindStartdate after
+    → IsRecording (recording dated id_date after) (startdate_of dated days) after
+is-recording true id_date after days li is behind = record {
+  front = (refl, subst (λ (t : List ℕ). IsIdDate t (pos days)) (sym (take_at id_date after 11 li)) is, sym (drop_at id_date after 11 li));
+  behind = behind;
+}
+is-recording false id_date after days li is behind = record { front = (refl, refl); behind = behind }
+
+same-day : (dated : Bool) (date : List ℕ) (days other : ℕ) → IsDateText date days → IsDateText date other → IsSameDay (startdate_of dated days) other
+same-day true date days other t u = ap pos (one-date_day date days other t u)
+same-day false date days other t u = tt
+
+dated-back : (dated : Bool) (days : ℕ) → is_dated (startdate_of dated days) ≡ dated
+dated-back true days = refl
+dated-back false days = refl
+
+-- the parts of the fixed part, each in its place
+record Places (k : Key) (t : Texts) (bytes : List ℕ) : Type 0 where
+  len : length bytes ≡ 256
+  version : field bytes 0 8 ≡ codes "0       "
+  patient : field bytes 8 80 ≡ k.patient
+  recording : field bytes 88 80 ≡ recording k.dated t.id_date k.after
+  date : field bytes 168 8 ≡ t.date
+  time : field bytes 176 8 ≡ t.time
+  header_bytes : field bytes 184 8 ≡ t.header_bytes
+  reserved : field bytes 192 44 ≡ t.reserved
+  count : field bytes 236 8 ≡ t.count
+  duration : field bytes 244 8 ≡ k.duration
+  signals : field bytes 252 4 ≡ t.signals
+
+-- the three texts of the recording field as one
+as-recording : (dated : Bool) (id_date after rest : List ℕ) → codes "Startdate " ++ (startdate_text dated id_date ++ (after ++ rest)) ≡ recording dated id_date after ++ rest
+as-recording dated id_date after rest = ap (λ (l : List ℕ). codes "Startdate " ++ l) (sym (append_assoc (startdate_text dated id_date) after rest))
+
+places : (k : Key) (t : Texts) → IsSized k → length t.id_date ≡ 11 → length t.date ≡ 8 → length t.time ≡ 8 → length t.header_bytes ≡ 8 → length t.reserved ≡ 44
+    → length t.count ≡ 8 → length t.signals ≡ 4 → Places k t (fixed_bytes k t)
+places k t s id date time header_bytes reserved count signals =
+    let b : List ℕ = fixed_bytes k t in
+    let l9 : List ℕ = k.duration ++ t.signals in
+    let l8 : List ℕ = t.count ++ l9 in
+    let l7 : List ℕ = t.reserved ++ l8 in
+    let l6 : List ℕ = t.header_bytes ++ l7 in
+    let l5 : List ℕ = t.time ++ l6 in
+    let l4 : List ℕ = t.date ++ l5 in
+    let rec : List ℕ = recording k.dated t.id_date k.after in
+    let rec-len : length rec ≡ 80 = length-recording k.dated t.id_date k.after id s.after in
+    let p1 : IsPartAt b (codes "0       ") (k.patient ++ (codes "Startdate " ++ (startdate_text k.dated t.id_date ++ (k.after ++ l4)))) 0 8 = part-here b (codes "0       ") (k.patient ++ (codes "Startdate " ++ (startdate_text k.dated t.id_date ++ (k.after ++ l4)))) 0 8 refl refl in
+    let p2 : IsPartAt b k.patient (rec ++ l4) 8 80 = part-here b k.patient (rec ++ l4) 8 80 (p1.behind ∙ ap (λ (l : List ℕ). k.patient ++ l) (as-recording k.dated t.id_date k.after l4)) s.patient in
+    let p3 : IsPartAt b rec l4 88 80 = part-here b rec l4 88 80 p2.behind rec-len in
+    let p4 : IsPartAt b t.date l5 168 8 = part-here b t.date l5 168 8 p3.behind date in
+    let p5 : IsPartAt b t.time l6 176 8 = part-here b t.time l6 176 8 p4.behind time in
+    let p6 : IsPartAt b t.header_bytes l7 184 8 = part-here b t.header_bytes l7 184 8 p5.behind header_bytes in
+    let p7 : IsPartAt b t.reserved l8 192 44 = part-here b t.reserved l8 192 44 p6.behind reserved in
+    let p8 : IsPartAt b t.count l9 236 8 = part-here b t.count l9 236 8 p7.behind count in
+    let p9 : IsPartAt b k.duration t.signals 244 8 = part-here b k.duration t.signals 244 8 p8.behind s.duration in
+    let whole : b ≡ codes "0       " ++ (k.patient ++ (rec ++ l4)) = ap (λ (l : List ℕ). codes "0       " ++ (k.patient ++ l)) (as-recording k.dated t.id_date k.after l4) in
+    record {
+      len = ap length whole
+          ∙ omega (
+            arith,
+            length-append (codes "0       ") (k.patient ++ (rec ++ l4)),
+            length-append k.patient (rec ++ l4),
+            length-append rec l4,
+            length-append t.date l5,
+            length-append t.time l6,
+            length-append t.header_bytes l7,
+            length-append t.reserved l8,
+            length-append t.count l9,
+            length-append k.duration t.signals,
+            s.patient,
+            s.duration,
+          );
+      version = p1.here;
+      patient = p2.here;
+      recording = p3.here;
+      date = p4.here;
+      time = p5.here;
+      header_bytes = p6.here;
+      reserved = p7.here;
+      count = p8.here;
+      duration = p9.here;
+      signals = ap (take 4) p9.behind ∙ take_all 4 t.signals (omega arith);
+    }
+
+-- the bytes of a key are printable, part by part
+after-printable : (dated : Bool) (after rest : List ℕ) → All IsPrintable (dated_bytes dated after ++ rest) → All IsPrintable after × All IsPrintable rest
+after-printable true after rest all =
+    let both : List ℕ = after ++ spaces 10 in
+    let tail = All-tail IsPrintable 68 (both ++ rest) all in
+    (all-left IsPrintable after (spaces 10) (all-left IsPrintable both rest tail), all-right IsPrintable both rest tail)
+after-printable false after rest all =
+    let tail = All-tail IsPrintable 88 (after ++ rest) all in
+    (all-left IsPrintable after rest tail, all-right IsPrintable after rest tail)
+
+record IsPrintableKey (k : Key) : Type 0 where
+  patient : All IsPrintable k.patient
+  after : All IsPrintable k.after
+  duration : All IsPrintable k.duration
+  signals : All (All IsPrintable) k.signals
+
+printable-key : (k : Key) → All IsPrintable (key_bytes k) → IsPrintableKey k
+printable-key k all =
+    let tail : List ℕ = flat_map (λ (s : List ℕ). s) k.signals in
+    let behind = all-right IsPrintable k.patient (dated_bytes k.dated k.after ++ (k.duration ++ tail)) all in
+    let both = after-printable k.dated k.after (k.duration ++ tail) behind in
+    record {
+      patient = all-left IsPrintable k.patient (dated_bytes k.dated k.after ++ (k.duration ++ tail)) all;
+      after = both.0;
+      duration = all-left IsPrintable k.duration tail both.1;
+      signals = parts-all IsPrintable (λ (s : List ℕ). s) k.signals (all-right IsPrintable k.duration tail both.1);
+    }
+
+startdate-printable : (dated : Bool) (id_date : List ℕ) → All IsPrintable id_date → All IsPrintable (startdate_text dated id_date)
+startdate-printable true id_date all = all
+startdate-printable false id_date all = printable-by (codes "X") refl
+
+fixed-printable : (k : Key) (t : Texts) → IsPrintableKey k → All IsPrintable t.id_date → All IsPrintable t.date → All IsPrintable t.time → All IsPrintable t.header_bytes
+    → All IsPrintable t.reserved → All IsPrintable t.count → All IsPrintable t.signals → All IsPrintable (fixed_bytes k t)
+fixed-printable k t p id date time header_bytes reserved count signals =
+    let l9 : List ℕ = k.duration ++ t.signals in
+    let l8 : List ℕ = t.count ++ l9 in
+    let l7 : List ℕ = t.reserved ++ l8 in
+    let l6 : List ℕ = t.header_bytes ++ l7 in
+    let l5 : List ℕ = t.time ++ l6 in
+    let l4 : List ℕ = t.date ++ l5 in
+    let l3 : List ℕ = k.after ++ l4 in
+    let l2 : List ℕ = startdate_text k.dated t.id_date ++ l3 in
+    let l1 : List ℕ = codes "Startdate " ++ l2 in
+    let join : (a b : List ℕ) → All IsPrintable a → All IsPrintable b → All IsPrintable (a ++ b) = All-append IsPrintable in
+    join (codes "0       ") (k.patient ++ l1) (printable-by (codes "0       ") refl)
+    (join k.patient l1 p.patient (join (codes "Startdate ") l2 (printable-by (codes "Startdate ") refl)
+    (join (startdate_text k.dated t.id_date) l3 (startdate-printable k.dated t.id_date id) (join k.after l4 p.after (join t.date l5 date (join t.time l6 time
+    (join t.header_bytes l7 header_bytes (join t.reserved l8 reserved (join t.count l9 count (join k.duration t.signals p.duration signals))))))))))
+
+abbrev rows : Key → List ℕ → List (List ℕ)
+rows k row = k.signals ++ row ∷ []
+
+is-fixed : (k : Key) (days seconds count : ℕ) (t : Texts) (row : List ℕ) → IsKey k → IsSpelledBy k days seconds count t row
+    → IsFixedHeader (fixed_bytes k t) (spelled_fixed k days seconds count)
+is-fixed k days seconds count t row key s =
+    let date = date-printed t.date days s.date in
+    let time = time-printed t.time seconds s.time in
+    let id = id_date-printed t.id_date (pos days) s.id_date in
+    let p = places k t key.sized id.len date.len time.len s.header_bytes_printed.len s.reserved_printed.len s.count_printed.len s.signals_printed.len in
+    let b : List ℕ = fixed_bytes k t in
+    record {
+      len = p.len;
+      printable = fixed-printable k t (printable-key k key.printable) id.printable date.printable time.printable s.header_bytes_printed.printable
+          s.reserved_printed.printable s.count_printed.printable s.signals_printed.printable;
+      version = p.version;
+      patient = sym p.patient;
+      is_patient = key.patient;
+      recording = subst (λ (l : List ℕ). IsRecording l (startdate_of k.dated days) k.after) (sym p.recording) (is-recording k.dated t.id_date k.after days id.len s.id_date key.behind);
+      start = (days, seconds, subst (λ (l : List ℕ). IsDateText l days) (sym p.date) s.date, subst (λ (l : List ℕ). IsTimeText l seconds) (sym p.time) s.time, refl);
+      same_day = λ other is. same-day k.dated t.date days other s.date (subst (λ (l : List ℕ). IsDateText l other) p.date is);
+      header_bytes = subst (λ (l : List ℕ). IsNumber l (256 + 256 * (length k.signals + 1))) (sym p.header_bytes) s.header_bytes;
+      reserved = subst IsPlus (sym p.reserved) s.reserved;
+      count = subst (λ (l : List ℕ). IsNumber l count) (sym p.count) s.count;
+      count_some = s.count_some;
+      duration = sym p.duration;
+      is_duration = key.duration;
+      signals = subst (λ (l : List ℕ). IsNumber l (length k.signals + 1)) (sym p.signals) s.signals;
+      signals_from = omega (arith, key.signals_from);
+      signals_to = omega (arith, key.signals_to);
+    }
+
+is-ordinary : (k : Key) → IsKey k → All IsOrdinary k.signals
+is-ordinary k key at d lt =
+    let label = key.signals checks.Label at d lt in
+    record { label = label; physical = key.signals checks.Physical at d lt label; digital = key.signals checks.Digital at d lt label }
+
+all-rows : (P : List ℕ → Type 0) (k : Key) (row : List ℕ) → All P k.signals → P row → All P (rows k row)
+all-rows P k row each last = All-push P k.signals row each last
+
+are-signals : (k : Key) (days seconds count : ℕ) (t : Texts) (row : List ℕ) → IsKey k → IsSpelledBy k days seconds count t row
+    → AreSignals (columns (rows k row)) (spelled_header k days seconds count row)
+are-signals k days seconds count t row key s =
+    let sized = all-rows (λ (s : List ℕ). length s ≡ 256) k row key.sized.signals s.row_printed.len in
+    let n : length (rows k row) ≡ length k.signals + 1 = length-append k.signals (row ∷ []) in
+    let same : k.signals ++ [] ≡ k.signals = append-nil k.signals in
+    record {
+      len = omega (arith, length-columns (rows k row) sized, n);
+      printable = all-columns IsPrintable (rows k row) (all-rows (All IsPrintable) k row (printable-key k key.printable).signals s.row_printed.printable);
+      each = ap (signals_of (columns (rows k row))) (sym n) ∙ signals-back (rows k row) sized;
+      annotations = s.annotations;
+      ordinary = subst (All IsOrdinary) (sym same) (is-ordinary k key);
+      each_samples = all-rows HasSamples k row (key.signals checks.Samples) s.row_samples;
+      ordinary_size = subst (λ (l : List (List ℕ)). 2 * samples_in_all l ≤ 4_194_304) (sym same) key.size;
+      block_size = s.block_size;
+    }
+
+spelled-parts : (k : Key) (t : Texts) (row : List ℕ) → spelled_bytes k t row ≡ fixed_bytes k t ++ columns (rows k row)
+spelled-parts k t row = sym (simp append_assoc)
+
+spelled-says : (k : Key) (days seconds count : ℕ) (row : List ℕ)
+    → layout_of (spelled_header k days seconds count row) ≡ spelled_layout k ((days * 86_400 + seconds) * 10 ^ 9) count (samples row)
+spelled-says k days seconds count row =
+    let dated = dated-back k.dated days in
+    let same : k.signals ++ [] ≡ k.signals = append-nil k.signals in
+    let all : samples_in_all (rows k row) ≡ samples_in_all k.signals + samples row = sum_by_push samples k.signals row in
+    λ i. record {
+      key = record { patient = k.patient; dated = dated i; after = k.after; duration = k.duration; signals = same i };
+      start = (days * 86_400 + seconds) * 10 ^ 9;
+      count = count;
+      block_at = 2 * samples_in_all k.signals;
+      block_bytes = 2 * samples row;
+      record_bytes = 2 * all i;
+    }
+
+-- bytes that spell a header of a key are read as it
+pub spelled-reads : (bytes : List ℕ) (k : Key) (days seconds count : ℕ) (row : List ℕ) → IsKey k → IsSpelledHeader bytes k days seconds count row
+    → IsReadAs bytes (spelled_layout k ((days * 86_400 + seconds) * 10 ^ 9) count (samples row))
+spelled-reads bytes k days seconds count row key s =
+    let t : Texts = s.texts in
+    let fixed = is-fixed k days seconds count t row key s.says in
+    let signals = are-signals k days seconds count t row key s.says in
+    let first : List ℕ = fixed_bytes k t in
+    let second : List ℕ = columns (rows k row) in
+    let is : bytes ≡ first ++ second = s.parts ∙ spelled-parts k t row in
+    record {
+      header = spelled_header k days seconds count row;
+      reads = λ rest. record {
+        first = first;
+        second = second;
+        parts = ap (λ (l : List ℕ). l ++ rest) is ∙ append_assoc first second rest;
+        fixed = fixed;
+        signals = signals;
+      };
+      says = spelled-says k days seconds count row;
+      len = omega (arith, ap length is, length-append first second, fixed.len, signals.len);
+    }

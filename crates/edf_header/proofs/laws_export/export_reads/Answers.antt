@@ -1,0 +1,5 @@
+use Rattle.edf_header.proofs.ExportHeader.{export-reads}
+use Rattle.edf_header.proofs.laws_export.export_reads.Goals as goal
+
+pub returns : goal.returns
+returns c = export-reads

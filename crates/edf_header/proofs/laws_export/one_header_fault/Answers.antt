@@ -1,0 +1,5 @@
+use Rattle.edf_header.proofs.SpelledOnce.{one-header-fault}
+use Rattle.edf_header.proofs.laws_export.one_header_fault.Goals as goal
+
+pub returns : goal.returns
+returns c = one-header-fault

@@ -1,0 +1,37 @@
+-- Words for single steps: the label test, a key from its parts, the bytes that stand for a key, and where a check comes in the order of faults.
+use Rattle.std.specs.Prelude.{◌≡◌, ℕ, ◌+◌, ◌*◌, ◌⊎◌, Bool, List, length, codes, slice_index, All}
+use Rattle.std.specs.Str.{bytes_eq}
+use Rattle.edf_header.specs.Number.{field, IsDuration}
+use Rattle.edf_header.specs.Text.{IsPrintable, IsPatient, IsBehindStartdate, spaces}
+use Rattle.edf_header.specs.Key.{Key, key_at}
+use Rattle.edf_header.specs.Identity.{HasLength, HasMark}
+use Rattle.edf_header.specs.declared.checks.Check.{Check}
+use Rattle.edf_header.specs.declared.checks.Check.TheVariants.{Label, Physical, Digital, Samples}
+
+abbrev pub has_label : List ℕ → Bool
+has_label row = bytes_eq (field row 0 16) (codes "EDF Annotations ")
+
+abbrev pub key_from : List ℕ → Bool → List ℕ → List ℕ → List (List ℕ) → Key
+key_from p b a d ss = record { patient = p; dated = b; after = a; duration = d; signals = ss }
+
+-- byte 80 is D, with 10 spaces at the end of its part, or X
+pub record IsShaped (bytes : List ℕ) : Type 0 where
+  pub signals : ℕ
+  pub len : length bytes ≡ 158 + 256 * signals
+  pub dated : ((slice_index bytes 80 ≡ 68) × (field bytes 140 10 ≡ spaces 10)) ⊎ (slice_index bytes 80 ≡ 88)
+
+-- the place of a signal's fault in the order of an identity's
+abbrev pub place_of_check : Check → ℕ
+place_of_check Label = 6
+place_of_check Physical = 7
+place_of_check Digital = 8
+place_of_check Samples = 9
+
+-- what stands before an identity's signals has no fault
+pub record IsFront (b : List ℕ) : Type 0 where
+  pub len : HasLength b
+  pub printable : All IsPrintable b
+  pub patient : IsPatient (field b 0 80)
+  pub mark : HasMark b
+  pub behind : IsBehindStartdate (key_at b).after
+  pub duration : (nanos : ℕ) × IsDuration (field b 150 8) nanos

@@ -1,0 +1,75 @@
+-- A header spelled field by field, its annotations signal last.
+use Rattle.std.specs.Prelude.{◌≡◌, ℕ, ◌+◌, ◌*◌, ◌^◌, ◌≤◌, Bool, true, false, List, [], ◌∷◌, ◌++◌, length, All, codes, if◌then◌else◌, ℤ, pos, Option, Some, None}
+use Rattle.edf_time.specs.Civil.{IsDateText, IsTimeText, IsIdDate}
+use Rattle.edf_header.specs.Text.{IsPrintable}
+use Rattle.edf_header.specs.Signal.{columns, samples, samples_in_all, IsAnnotationsSignal, HasSamples}
+use Rattle.edf_header.specs.Key.{Key}
+use Rattle.edf_header.specs.Header.{Header, Layout, IsHeader, IsNumber, IsPlus, layout_of}
+
+-- a printable text of a field's width
+pub record IsPrinted (width : ℕ) (text : List ℕ) : Type 0 where
+  pub len : length text ≡ width
+  pub printable : All IsPrintable text
+
+-- the Startdate subfield
+abbrev pub startdate_text : Bool → List ℕ → List ℕ
+startdate_text dated id_date = if dated then id_date else codes "X"
+
+-- the texts that no key has: the start's three, and those of numbers and of the reserved field
+pub record Texts : Type 0 where
+  pub date : List ℕ
+  pub time : List ℕ
+  pub id_date : List ℕ
+  pub header_bytes : List ℕ
+  pub reserved : List ℕ
+  pub count : List ℕ
+  pub signals : List ℕ
+
+-- the header's bytes, field by field
+abbrev pub spelled_bytes : Key → Texts → List ℕ → List ℕ
+spelled_bytes k t row =
+    codes "0       " ++ (k.patient ++ (codes "Startdate " ++ (startdate_text k.dated t.id_date ++ (k.after ++ (t.date ++ (t.time
+    ++ (t.header_bytes ++ (t.reserved ++ (t.count ++ (k.duration ++ (t.signals ++ columns (k.signals ++ row ∷ []))))))))))))
+
+-- what the texts say, and the annotations signal
+pub record IsSpelledBy (k : Key) (days seconds records : ℕ) (t : Texts) (row : List ℕ) : Type 0 where
+  pub date : IsDateText t.date days
+  pub time : IsTimeText t.time seconds
+  pub id_date : IsIdDate t.id_date (pos days)
+  pub header_bytes_printed : IsPrinted 8 t.header_bytes
+  pub header_bytes : IsNumber t.header_bytes (256 + 256 * (length k.signals + 1))
+  pub reserved_printed : IsPrinted 44 t.reserved
+  pub reserved : IsPlus t.reserved
+  pub count_printed : IsPrinted 8 t.count
+  pub count : IsNumber t.count records
+  pub count_some : 1 ≤ records
+  pub signals_printed : IsPrinted 4 t.signals
+  pub signals : IsNumber t.signals (length k.signals + 1)
+  pub row_printed : IsPrinted 256 row
+  pub annotations : IsAnnotationsSignal row
+  pub row_samples : HasSamples row
+  pub block_size : 2 * samples row ≤ 4_194_304
+
+-- the bytes spell such a header
+pub record IsSpelledHeader (bytes : List ℕ) (k : Key) (days seconds records : ℕ) (row : List ℕ) : Type 0 where
+  pub texts : Texts
+  pub says : IsSpelledBy k days seconds records texts row
+  pub parts : bytes ≡ spelled_bytes k texts row
+
+-- bytes are read as a header that says this, whatever follows them
+pub record IsReadAs (bytes : List ℕ) (layout : Layout) : Type 0 where
+  pub header : Header
+  pub reads : (rest : List ℕ) → IsHeader (bytes ++ rest) header rest
+  pub says : layout_of header ≡ layout
+  pub len : length bytes ≡ 512 + 256 * length layout.key.signals
+
+-- what it says: the annotations block of so many samples stands last in each data record
+abbrev pub spelled_layout : Key → ℕ → ℕ → ℕ → Layout
+spelled_layout k start count block = record {
+  key = k;
+  start = start;
+  count = count;
+  block_at = 2 * samples_in_all k.signals;
+  block_bytes = 2 * block;
+  record_bytes = 2 * (samples_in_all k.signals + block);
+}

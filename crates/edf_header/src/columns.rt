@@ -1,0 +1,86 @@
+ghost use Rattle.std.specs.Prelude.{◌≡◌, ℕ, ◌+◌, ◌*◌, ◌/◌, ◌%◌, ◌≤◌, ◌<◌, List, [], ◌∷◌, ◌++◌, length, OnOk, IfOk};
+ghost use Rattle.edf_header.specs.Number.{field};
+ghost use Rattle.edf_header.specs.Signal.{fields, column_of, columns, row_at, rows_of, signals_of};
+
+use std::alloc::{AllocError, Global};
+
+/// Where each field of a signal stands in its row, and its width.
+const FIELDS: [(usize, usize); 10] = [
+    (0, 16),
+    (16, 80),
+    (96, 8),
+    (104, 8),
+    (112, 8),
+    (120, 8),
+    (128, 8),
+    (136, 80),
+    (216, 8),
+    (224, 32),
+];
+
+/// Writes one field of all signals in turn, those in rows and then the last.
+fn push_column(
+    out: &mut Vec<u8>,
+    rows: &[u8],
+    last: &[u8; 256],
+    at: usize,
+    width: usize,
+) -> Result<(), AllocError>
+    requires { at + width ≤ 256 }
+    ensures { OnOk result (out.new.items ≡ out.old.items ++ column_of (at, width) (rows_of rows.now ++ last.now ∷ [])) }
+{
+    for i in 0..rows.len() / 256 {
+        let row = &rows[256 * i..256 * i + 256];
+        out.extend_from_slice(&row[at..at + width])?;
+    }
+    out.extend_from_slice(&last[at..at + width])?;
+    Ok(())
+}
+
+/// Writes the signals field by field.
+pub(crate) fn push_columns(out: &mut Vec<u8>, rows: &[u8], last: &[u8; 256]) -> Result<(), AllocError>
+    ensures { OnOk result (out.new.items ≡ out.old.items ++ columns (rows_of rows.now ++ last.now ∷ [])) }
+{
+    for (at, width) in &FIELDS {
+        push_column(out, rows, last, *at, *width)?;
+    }
+    Ok(())
+}
+
+/// A field of one of `n` signals, in its column.
+fn column(bytes: &[u8], n: usize, i: usize, at: usize, width: usize) -> &[u8]
+    requires size { length bytes.now ≡ 256 * n }
+    requires few { n ≤ 640 }
+    requires inside { i < n }
+    requires place { at + width ≤ 256 }
+    ensures { result.now ≡ field bytes.now (n * at + i * width) width }
+{
+    let from = n * at + i * width;
+    &bytes[from..from + width]
+}
+
+/// Writes one of `n` signals in a row, its fields read from their columns.
+fn push_row(out: &mut Vec<u8>, bytes: &[u8], n: usize, i: usize) -> Result<(), AllocError>
+    requires size { length bytes.now ≡ 256 * n }
+    requires few { n ≤ 640 }
+    requires inside { i < n }
+    ensures { OnOk result (out.new.items ≡ out.old.items ++ row_at bytes.now n i) }
+{
+    for (at, width) in &FIELDS {
+        out.extend_from_slice(column(bytes, n, i, *at, *width))?;
+    }
+    Ok(())
+}
+
+/// The signals, each in a row, from their columns.
+pub(crate) fn rows_from(alloc: Global, bytes: &[u8], n: usize) -> Result<Vec<u8>, AllocError>
+    requires size { length bytes.now ≡ 256 * n }
+    requires few { n ≤ 640 }
+    ensures { IfOk result (λ v. (rows_of v.items ≡ signals_of bytes.now n) × (length v.items ≡ 256 * n)) }
+{
+    let mut rows = Vec::with_capacity(alloc, bytes.len())?;
+    for i in 0..n {
+        push_row(&mut rows, bytes, n, i)?;
+    }
+    Ok(rows)
+}

@@ -1,0 +1,139 @@
+ghost use Rattle.std.specs.Prelude.{◌≡◌, ◌≤◌, MatchResult};
+ghost use Rattle.edf_header.specs.Header.{IsFixed, IsFixedHeader, fixed_at, is_dated};
+ghost use Rattle.edf_header.specs.Fault.{Fails, IsFirst};
+
+use crate::fault::HeaderFault;
+use crate::fields::{
+    check_duration, check_header_bytes, check_patient, check_plus, check_printable, check_same_day,
+    check_version, field_at, read_count, read_signal_count, read_start, read_startdate,
+};
+use edf_time::{Day, Instant};
+use std::marker::Model;
+
+/// The fixed part of a header: what its 256 bytes say of the file.
+#[derive(Drop)]
+pub struct Fixed {
+    patient: [u8; 80],
+    recording: [u8; 80],
+    startdate: Option<Day>,
+    start: Instant,
+    count: u32,
+    duration: [u8; 8],
+    signals: usize,
+}
+
+impl Model for Fixed {
+    ghost use Rattle.edf_header.specs.Header.{Fixed as SpelledFixed, IsFixed, fixed_from};
+
+    ghost Value = { SpelledFixed };
+
+    ghost view = { λ f. fixed_from f.patient f.recording f.startdate f.start f.count f.duration f.signals };
+
+    ghost invariant = { λ f. IsFixed (fixed_from f.patient f.recording f.startdate f.start f.count f.duration f.signals) };
+}
+
+impl Fixed {
+    /// The number of signals, the annotations signal among them: 2 to 640.
+    pub fn signals(&self) -> usize
+        ensures value { result ≡ self.now.signals }
+        ensures from { 2 ≤ result }
+        ensures to { result ≤ 640 }
+    {
+        self.signals
+    }
+
+    /// The patient field, 80 bytes.
+    pub(crate) fn patient(&self) -> &[u8]
+        ensures { result.now ≡ self.now.patient }
+    {
+        self.patient.as_slice()
+    }
+
+    /// Whether the Startdate subfield is a date.
+    pub(crate) fn dated(&self) -> bool
+        ensures value { result ≡ is_dated self.now.startdate }
+        ensures fixed { IsFixed self.now }
+    {
+        self.startdate.is_some()
+    }
+
+    /// What follows the Startdate subfield in the recording field: 59 bytes behind a date, 69 behind `X`.
+    pub(crate) fn after(&self) -> &[u8]
+        ensures { result.now ≡ self.now.after }
+    {
+        match self.startdate {
+            Some(_) => &self.recording[21..],
+            None => &self.recording[11..],
+        }
+    }
+
+    /// The start.
+    pub(crate) fn start(&self) -> Instant
+        ensures { result ≡ self.now.start }
+    {
+        self.start
+    }
+
+    /// The number of data records.
+    pub(crate) fn count(&self) -> u32
+        ensures { result ≡ self.now.count }
+    {
+        self.count
+    }
+
+    /// The duration field, 8 bytes.
+    pub(crate) fn duration(&self) -> &[u8]
+        ensures { result.now ≡ self.now.duration }
+    {
+        self.duration.as_slice()
+    }
+}
+
+/// The fixed part of these bytes, of which all but the copied fields was read.
+fn fixed_of(
+    bytes: &[u8; 256],
+    startdate: Option<Day>,
+    start: Instant,
+    count: u32,
+    signals: u32,
+) -> Fixed
+    requires { IsFixedHeader bytes.now (fixed_at bytes.now startdate start count signals) }
+    ensures { IsFixedHeader bytes.now result }
+{
+    let patient = field_at(bytes, 8);
+    let recording = field_at(bytes, 88);
+    let duration = field_at(bytes, 244);
+    Fixed {
+        patient,
+        recording,
+        startdate,
+        start,
+        count,
+        duration,
+        signals: signals as usize,
+    }
+}
+
+/// Reads the fixed part of a header.
+///
+/// # Errors
+/// The first of E2 to E13 that is true, in the order of their numbers.
+pub fn read_fixed(bytes: &[u8; 256]) -> Result<Fixed, HeaderFault>
+    ensures { MatchResult result (IsFixedHeader bytes.now) (IsFirst (Fails bytes.now)) }
+{
+    check_printable(bytes)?;
+    check_version(bytes)?;
+    check_patient(bytes)?;
+    let startdate = read_startdate(bytes)?;
+    let start = read_start(bytes)?;
+    check_same_day(bytes, &startdate, start)?;
+    check_plus(bytes)?;
+    let count = read_count(bytes)?;
+    check_duration(bytes)?;
+    let signals = read_signal_count(bytes)?;
+    check_header_bytes(bytes, signals)?;
+    Ok(fixed_of(bytes, startdate, start, count, signals))
+}
+
+#[cfg(test)]
+mod tests;

@@ -1,0 +1,146 @@
+-- The canonical block is read again as what was written.
+use Rattle.std.proofs.Common.{◌≡◌, ◌≢◌, ℕ, zero, suc, ◌+◌, ◌-◌, ◌^◌, ◌≤◌, ◌<◌, List, [], ◌∷◌, ◌++◌, length, take, drop, map, arith, refl, sym, ap, ◌∙◌, subst, append_assoc, inl, inr, ℤ, pos, neg_ℤ, Option, Some, None}
+use Rattle.std.specs.Prelude.{IsUtf8, replicate, unsigned_abs, ◌-ℤ◌, ◌+ℤ◌, ◌≤ℤ◌, ◌<ℤ◌, nat_le, IfSome, if◌then◌else◌}
+use Rattle.std.specs.List.{AllByRecursion, flat_map}
+use Rattle.std.proofs.lemmas.Bool.{cases_lt}
+use Rattle.std.proofs.lemmas.Bool.Decides.{nat_tests}
+use Rattle.std.proofs.lemmas.Int.{ints}
+use Rattle.std.proofs.lemmas.List.{append-nil}
+use Rattle.std.proofs.lemmas.Str.{IsUtf8-nil}
+use Rattle.edf_time.specs.Decimal.{IsSeconds, short}
+use Rattle.edf_time.specs.Civil.{window, IsInWindow}
+use Rattle.edf_time.proofs.Short.{IsSeconds-short}
+use Rattle.edf_tal.specs.Tal.{Tal, Annotation, IsTal, IsOnset, IsDurationPart, IsText, ended, AreTals, AreTalsAndZeros, IsTimed, IsTalInWindow, instant, annotations_of, notes, begin}
+use Rattle.edf_tal.specs.Note.{IsNote}
+use Rattle.edf_tal.specs.Block.{IsRead, IsWithinLimits, KeepsPlace}
+use Rattle.edf_tal.specs.Canonical.{onset_text, duration_text, tal_text, time_keeping, block_text}
+use Rattle.edf_tal.specs.declared.place.Place.{Place}
+use Rattle.edf_tal.specs.declared.place.Place.TheVariants.{First, After, Any}
+use Rattle.edf_tal.specs.Scan.{AreZeros}
+use Rattle.edf_tal.proofs.BadText.{AreGood}
+
+ahead : (base onset : ℕ) → base ≤ onset → pos onset -ℤ pos base ≡ pos (onset - base)
+ahead base onset h = omega (arith, ints)
+
+behind : (base onset : ℕ) → onset < base → pos onset -ℤ pos base ≡ neg_ℤ (pos (base - onset))
+behind base onset h = omega (arith, ints)
+
+abs-neg : (n : ℕ) → unsigned_abs (neg_ℤ (pos n)) ≡ n
+abs-neg zero = refl
+abs-neg (suc n) = refl
+
+plus : (base onset : ℕ) → base ≤ onset → ◌≡◌ {A = ℕ} (if nat_le base onset then 43 else 45) 43
+plus base onset h = grind (arith, nat_tests)
+
+minus : (base onset : ℕ) → onset < base → ◌≡◌ {A = ℕ} (if nat_le base onset then 43 else 45) 45
+minus base onset h = grind (arith, nat_tests)
+
+seconds : (n : ℕ) → n < window → IsSeconds (short n) n
+seconds n h = IsSeconds-short n (omega arith)
+
+-- an onset that is written spells how far it lies from the base
+pub IsOnset-text : (base onset : ℕ) → base < window → onset < window → IsOnset (onset_text base onset) (pos onset -ℤ pos base)
+IsOnset-text base onset low in-window =
+    elim (cases_lt onset base) [
+      | inl less ↦
+        let z = behind base onset less in
+        let n : unsigned_abs (pos onset -ℤ pos base) ≡ base - onset = ap unsigned_abs z ∙ abs-neg (base - onset) in
+        inr (minus base onset less, (base - onset, rw n (seconds (base - onset) (omega arith)), z))
+      | inr more ↦
+        let z = ahead base onset more in
+        let n : unsigned_abs (pos onset -ℤ pos base) ≡ onset - base = ap unsigned_abs z in
+        inl (plus base onset more, (onset - base, rw n (seconds (onset - base) (omega arith)), z))
+    ]
+
+pub IsDurationPart-text : (d : Option ℕ) → IfSome d (λ n. n < window) → IsDurationPart (duration_text d) d
+IsDurationPart-text None h = refl
+IsDurationPart-text (Some n) h = (short n, refl, seconds n h)
+
+-- the TAL that is written for an annotation
+abbrev pub tal_of : ℕ → Annotation → Tal
+tal_of base a = record { onset = pos a.onset -ℤ pos base; duration = a.duration; texts = a.text ∷ [] }
+
+in-parts : (o d x : List ℕ) → o ++ (d ++ (20 ∷ (x ++ (20 ∷ 0 ∷ [])))) ≡ o ++ d ++ 20 ∷ ended (x ∷ []) ++ 0 ∷ []
+in-parts o d x = simp (append_assoc, append-nil)
+
+IsTal-text : (base : ℕ) (a : Annotation) → base < window → IsNote a → IsTal (tal_text base a) (tal_of base a)
+IsTal-text base a low h = record {
+  onset = onset_text base a.onset;
+  duration = duration_text a.duration;
+  parts = in-parts (onset_text base a.onset) (duration_text a.duration) a.text;
+  is_onset = IsOnset-text base a.onset low h.onset;
+  is_duration = IsDurationPart-text a.duration h.duration;
+  are_texts = (h.text, tt)
+}
+
+AreTals-text : (base : ℕ) (list : List Annotation) → base < window → AllByRecursion IsNote list → AreTals (flat_map (tal_text base) list) (map (tal_of base) list)
+AreTals-text base [] low h = refl
+AreTals-text base (a ∷ list) low h = (tal_text base a, flat_map (tal_text base) list, refl, IsTal-text base a low h.0, AreTals-text base list low h.1)
+
+AreGood-text : (base : ℕ) (list : List Annotation) → AllByRecursion IsNote list → AreGood (map (tal_of base) list)
+AreGood-text base [] h = tt
+AreGood-text base (a ∷ list) h = ((h.0.utf8, tt), AreGood-text base list h.1)
+
+AreZeros-replicate : (n : ℕ) → AreZeros (replicate n 0)
+AreZeros-replicate zero = tt
+AreZeros-replicate (suc n) = (refl, AreZeros-replicate n)
+
+onset-back : (base onset : ℕ) → pos base +ℤ (pos onset -ℤ pos base) ≡ pos onset
+onset-back base onset = omega (arith, ints)
+
+pub instant-back : (base onset : ℕ) → instant base (pos onset -ℤ pos base) ≡ onset
+instant-back base onset = ap unsigned_abs (onset-back base onset)
+
+in-window : (base onset : ℕ) → onset < window → IsInWindow (pos base +ℤ (pos onset -ℤ pos base))
+in-window base onset h = rw (onset-back base onset) (record { from = omega (arith, ints); to = omega (arith, ints) })
+
+AreInWindow-text : (base : ℕ) (list : List Annotation) → AllByRecursion IsNote list → AllByRecursion (IsTalInWindow base) (map (tal_of base) list)
+AreInWindow-text base [] h = tt
+AreInWindow-text base (a ∷ list) h = (record { onset = in-window base a.onset h.0.onset; duration = h.0.duration }, AreInWindow-text base list h.1)
+
+notes-back : (base : ℕ) (list : List Annotation) → flat_map (annotations_of base) (map (tal_of base) list) ≡ list
+notes-back base [] = refl
+notes-back base (a ∷ list) =
+    let first : a ≡ record { onset = instant base (pos a.onset -ℤ pos base); duration = a.duration; text = a.text } =
+      ap (λ (o : ℕ). record a { onset = o }) (sym (instant-back base a.onset)) in
+    let more = notes-back base list in
+    cc
+
+IsNote-time_keeping : (start : ℕ) → start < window → IsNote (time_keeping start)
+IsNote-time_keeping start h = record { onset = h; duration = tt; text = tt; utf8 = IsUtf8-nil }
+
+abbrev written : ℕ → ℕ → List Annotation → List Tal
+written base start list = map (tal_of base) (time_keeping start ∷ list)
+
+-- a written block, with any fill, where the first onset keeps its place
+pub read-again : (p : Place) (base start n : ℕ) (list : List Annotation) → base < window → start < window → AllByRecursion IsNote list → IsWithinLimits list
+    → KeepsPlace p base (map (tal_of base) (time_keeping start ∷ list)) → IsRead (block_text base start list ++ replicate n 0) base p start list
+read-again p base start n list low in-window' all limits keeps =
+    let whole : AllByRecursion IsNote (time_keeping start ∷ list) = (IsNote-time_keeping start in-window', all) in
+    record {
+      tals = map (tal_of base) (time_keeping start ∷ list);
+      block = ((block_text base start list, replicate n 0, refl, AreTals-text base (time_keeping start ∷ list) low whole, AreZeros-replicate n), AreGood-text base (time_keeping start ∷ list) whole);
+      timed = ([], refl);
+      keeps = keeps;
+      window = AreInWindow-text base (time_keeping start ∷ list) whole;
+      limits = limits;
+      start_is = sym (instant-back base start);
+      list_is = sym (notes-back base list)
+    }
+
+keeps-first : (base start : ℕ) → base ≤ start → start < base + 10 ^ 9 → (pos 0 ≤ℤ (pos start -ℤ pos base)) × ((pos start -ℤ pos base) <ℤ pos (10 ^ 9))
+keeps-first base start low high = (omega (arith, ints), omega (arith, ints))
+
+pub read-first : (base start n : ℕ) (list : List Annotation) → base < window → start < window → AllByRecursion IsNote list → IsWithinLimits list
+    → base ≤ start → start < base + 10 ^ 9 → IsRead (block_text base start list ++ replicate n 0) base First start list
+read-first base start n list low in-window' all limits from to =
+    read-again First base start n list low in-window' all limits (keeps-first base start from to)
+
+pub read-after : (base start n before duration : ℕ) (list : List Annotation) → base < window → start < window → AllByRecursion IsNote list → IsWithinLimits list
+    → before + duration ≤ start → IsRead (block_text base start list ++ replicate n 0) base (After before duration) start list
+read-after base start n before duration list low in-window' all limits later =
+    read-again (After before duration) base start n list low in-window' all limits (rw (instant-back base start) later)
+
+pub read-any : (base start n : ℕ) (list : List Annotation) → base < window → start < window → AllByRecursion IsNote list → IsWithinLimits list
+    → IsRead (block_text base start list ++ replicate n 0) base Any start list
+read-any base start n list low in-window' all limits = read-again Any base start n list low in-window' all limits tt

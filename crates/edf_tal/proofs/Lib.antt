@@ -1,0 +1,13 @@
+pub mod Unique
+pub mod Fronts
+pub mod OneBlock
+pub mod BadText
+pub mod OneAnswer
+pub mod Again
+pub mod ReadNotes
+pub mod Heads
+pub mod Surveys
+pub mod Totals
+pub mod Judge
+pub mod Lists
+pub mod Lengths

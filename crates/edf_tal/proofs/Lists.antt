@@ -1,0 +1,210 @@
+-- The list of a block's annotations, as far as it is made.
+use Rattle.std.proofs.Common.{◌≡◌, ◌≢◌, ℕ, zero, suc, ◌+◌, ◌-◌, ◌^◌, ◌≤◌, ◌<◌, Bool, true, false, min, List, [], ◌∷◌, ◌++◌, length, take, drop, map, arith, refl, sym, ap, ◌∙◌, subst, append_assoc, ℤ, pos, Option, Some, None}
+use Rattle.std.specs.Prelude.{IsTrue, IsUtf8, IfSome}
+use Rattle.std.specs.List.{AllByRecursion, flat_map}
+use Rattle.std.proofs.lemmas.List.{append-nil, length-append}
+use Rattle.edf_time.specs.Civil.{window}
+use Rattle.edf_tal.specs.Tal.{Tal, Annotation, IsTal, IsText, ended, AreTals, IsTimed, IsTalInWindow, instant, annotations_of, notes}
+use Rattle.edf_tal.specs.Block.{IsBlockFault, IsRefusal}
+use Rattle.edf_tal.specs.Scan.{Lacks, NoTal, IsFront, TellsOnset, TellsDuration, AreTexts, TellsTal, AreSoundTals, capped}
+use Rattle.edf_tal.specs.declared.place.Place.{Place}
+use Rattle.edf_tal.specs.declared.place.TalFault.{TalFault}
+use Rattle.edf_tal.specs.declared.place.TalFault.TheVariants.{Tal as NotTals, Text, NotTimed, FirstOnset, Window, Order, TooMany, Memory}
+use Rattle.edf_tal.proofs.Unique.{same-sides, not-both, Lacks-text, one-tal}
+use Rattle.edf_tal.proofs.Fronts.{same-front, HasEnd-tal}
+use Rattle.edf_tal.proofs.OneBlock.{same-tals, zeros-no-tal}
+use Rattle.edf_tal.proofs.Totals.{note_of}
+
+-- the annotations of the texts so far
+pub record HasPushed (onset : ℕ) (duration : Option ℕ) (texts rest : List ℕ) (old new : List Annotation) : Type 0 where
+  pub all : List (List ℕ)
+  pub left : List (List ℕ)
+  pub are_all : AreTexts texts all
+  pub are_left : AreTexts rest left
+  pub items : old ++ map (note_of onset duration) all ≡ new ++ map (note_of onset duration) left
+
+pub pushed-none : (onset : ℕ) (duration : Option ℕ) (texts : List ℕ) (old : List Annotation) → ((xs : List (List ℕ)) × AreTexts texts xs) → HasPushed onset duration texts texts old old
+pushed-none onset duration texts old (xs, a) = record { all = xs; left = xs; are_all = a; are_left = a; items = refl }
+
+pub record NextText (text more : List ℕ) (left : List (List ℕ)) : Type 0 where
+  pub others : List (List ℕ)
+  pub left_is : left ≡ text ∷ others
+  pub is_text : IsText text
+  pub good : IsUtf8 text
+  pub rest : AreTexts more others
+
+next-text : (rest text more : List ℕ) (xs : List (List ℕ)) → rest ≡ ended xs → AllByRecursion IsText xs → AllByRecursion IsUtf8 xs → Lacks 20 text → rest ≡ text ++ 20 ∷ more → NextText text more xs
+next-text rest text more [] e a u lacks f = absurd (not-both 20 [] text more tt (sym e ∙ f))
+next-text rest text more (x ∷ xs) e a u lacks f =
+    let s = same-sides 20 x text (ended xs) more (Lacks-text x a.0) lacks (sym (append_assoc x (20 ∷ []) (ended xs)) ∙ sym e ∙ f) in
+    record {
+      others = xs;
+      left_is = ap (λ (w : List ℕ). w ∷ xs) s.front;
+      is_text = subst IsText s.front a.0;
+      good = subst IsUtf8 s.front u.0;
+      rest = record { bytes_are = sym s.back; are_texts = a.1; good = u.1 }
+    }
+
+pub pushed-next : (onset : ℕ) (duration : Option ℕ) (texts rest text more : List ℕ) (old new : List Annotation) (h : HasPushed onset duration texts rest old new)
+    → Lacks 20 text → rest ≡ text ++ 20 ∷ more → NextText text more h.left
+pushed-next onset duration texts rest text more old new h lacks e = next-text rest text more h.left h.are_left.bytes_are h.are_left.are_texts h.are_left.good lacks e
+
+pub pushed-more : (onset : ℕ) (duration : Option ℕ) (texts rest text more : List ℕ) (old new newer : List Annotation) → HasPushed onset duration texts rest old new
+    → Lacks 20 text → rest ≡ text ++ 20 ∷ more → newer ≡ new ++ note_of onset duration text ∷ [] → HasPushed onset duration texts more old newer
+pushed-more onset duration texts rest text more old new newer h lacks e is =
+    let n = pushed-next onset duration texts rest text more old new h lacks e in
+    record {
+      all = h.all;
+      left = n.others;
+      are_all = h.are_all;
+      are_left = n.rest;
+      items = h.items ∙ ap (λ (w : List (List ℕ)). new ++ map (note_of onset duration) w) n.left_is
+        ∙ sym (ap (λ (w : List Annotation). w ++ map (note_of onset duration) n.others) is ∙ append_assoc new (note_of onset duration text ∷ []) (map (note_of onset duration) n.others))
+    }
+
+no-text-left : (rest : List ℕ) (xs : List (List ℕ)) → rest ≡ ended xs → Lacks 20 rest → xs ≡ []
+no-text-left rest [] e lacks = refl
+no-text-left rest (x ∷ xs) e lacks = absurd (not-both 20 rest x (ended xs) lacks (e ∙ append_assoc x (20 ∷ []) (ended xs)))
+
+same-texts : (xs ys : List (List ℕ)) → AllByRecursion IsText xs → AllByRecursion IsText ys → ended xs ≡ ended ys → xs ≡ ys
+same-texts [] [] a b e = refl
+same-texts [] (y ∷ ys) a b e = absurd (not-both 20 [] y (ended ys) tt (e ∙ append_assoc y (20 ∷ []) (ended ys)))
+same-texts (x ∷ xs) [] a b e = absurd (not-both 20 [] x (ended xs) tt (sym e ∙ append_assoc x (20 ∷ []) (ended xs)))
+same-texts (x ∷ xs) (y ∷ ys) a b e =
+    let s = same-sides 20 x y (ended xs) (ended ys) (Lacks-text x a.0) (Lacks-text y b.0) (sym (append_assoc x (20 ∷ []) (ended xs)) ∙ e ∙ append_assoc y (20 ∷ []) (ended ys)) in
+    let first : x ≡ y = s.front in
+    let more : xs ≡ ys = same-texts xs ys a.1 b.1 s.back in
+    cc
+
+pub pushed-all : (onset : ℕ) (duration : Option ℕ) (texts rest : List ℕ) (old new : List Annotation) → HasPushed onset duration texts rest old new → Lacks 20 rest
+    → (xs : List (List ℕ)) → AreTexts texts xs → new ≡ old ++ map (note_of onset duration) xs
+pushed-all onset duration texts rest old new h lacks xs a =
+    let none = no-text-left rest h.left h.are_left.bytes_are lacks in
+    let same = same-texts h.all xs h.are_all.are_texts a.are_texts (sym h.are_all.bytes_are ∙ a.bytes_are) in
+    sym (append-nil new) ∙ sym (ap (λ (w : List (List ℕ)). new ++ map (note_of onset duration) w) none) ∙ sym h.items ∙ ap (λ (w : List (List ℕ)). old ++ map (note_of onset duration) w) same
+
+-- a duration in the window is exact
+pub duration-exact : (d e : Option ℕ) → TellsDuration d e → IfSome e (λ n. n < window) → d ≡ e
+duration-exact None None t h = refl
+duration-exact (Some n) (Some m) t h = ap (λ (k : ℕ). Some k) (let same : n ≡ m = omega arith in same)
+duration-exact None (Some m) t h = absurd t
+duration-exact (Some n) None t h = absurd t
+
+-- the annotations of the TALs so far
+pub record HasPushedTals (file_start : ℕ) (tals rest : List ℕ) (old new : List Annotation) : Type 0 where
+  pub all : List Tal
+  pub left : List Tal
+  pub are_all : AreSoundTals tals file_start all
+  pub are_left : AreSoundTals rest file_start left
+  pub items : old ++ flat_map (annotations_of file_start) all ≡ new ++ flat_map (annotations_of file_start) left
+
+pub tals-none : (s : ℕ) (tals : List ℕ) (old : List Annotation) → ((ts : List Tal) × AreSoundTals tals s ts) → HasPushedTals s tals tals old old
+tals-none s tals old (ts, a) = record { all = ts; left = ts; are_all = a; are_left = a; items = refl }
+
+-- the TAL at the front is the first of them
+pub record NextTal (s : ℕ) (rest texts : List ℕ) (t : Tal) (left : List Tal) : Type 0 where
+  pub others : List Tal
+  pub left_is : left ≡ t ∷ others
+  pub are_texts : AllByRecursion IsText t.texts
+  pub good : AllByRecursion IsUtf8 t.texts
+  pub window : IsTalInWindow s t
+  pub texts_are : texts ≡ ended t.texts
+  pub sound : AreSoundTals rest s others
+
+pub next-tal : (s : ℕ) (bytes texts more : List ℕ) (t : Tal) (ts : List Tal) → AreSoundTals bytes s ts → IsFront bytes texts more t → NextTal s more texts t ts
+next-tal s bytes texts more t ts a f = at ts a.whole a.good a.window
+  where
+  at : (us : List Tal) → AreTals bytes us → AllByRecursion (λ t. AllByRecursion IsUtf8 t.texts) us → AllByRecursion (IsTalInWindow s) us → NextTal s more texts t us
+  at [] w g i = absurd (zeros-no-tal [] tt f.front more t (sym w ∙ f.parts) f.tal)
+  at (u ∷ us) (front, r, parts, is, others) g i =
+    let same = same-front front f.front r more (HasEnd-tal front u is) (HasEnd-tal f.front t f.tal) (sym parts ∙ f.parts) in
+    let one = one-tal front u t is (rw (same.front) (f.tal)) in
+    record {
+      others = us;
+      left_is = ap (λ (x : Tal). x ∷ us) one;
+      are_texts = f.tal.are_texts;
+      good = subst (λ (x : Tal). AllByRecursion IsUtf8 x.texts) one g.0;
+      window = subst (IsTalInWindow s) one i.0;
+      texts_are = f.texts_are;
+      sound = record { whole = subst (λ (x : List ℕ). AreTals x us) same.back others; good = g.1; window = i.1 }
+    }
+
+pub tells : (s : ℕ) (rest texts : List ℕ) (t : Tal) (left : List Tal) (ahead : Bool) (onset : ℕ) (duration : Option ℕ) → NextTal s rest texts t left
+    → TellsOnset ahead onset t.onset → TellsDuration duration t.duration → TellsTal texts ahead onset duration s t
+tells s rest texts t left ahead onset duration n o d = record {
+  texts_are = n.texts_are;
+  are_texts = n.are_texts;
+  good = n.good;
+  is_onset = o;
+  is_duration = d;
+  window = n.window
+}
+
+pub tals-more : (s : ℕ) (tals rest texts more : List ℕ) (old new newer : List Annotation) (t : Tal) → HasPushedTals s tals rest old new → IsFront rest texts more t
+    → newer ≡ new ++ annotations_of s t → HasPushedTals s tals more old newer
+tals-more s tals rest texts more old new newer t h f is =
+    let n = next-tal s rest texts more t h.left h.are_left f in
+    record {
+      all = h.all;
+      left = n.others;
+      are_all = h.are_all;
+      are_left = n.sound;
+      items = h.items ∙ ap (λ (w : List Tal). new ++ flat_map (annotations_of s) w) n.left_is
+        ∙ sym (ap (λ (w : List Annotation). w ++ flat_map (annotations_of s) n.others) is ∙ append_assoc new (annotations_of s t) (flat_map (annotations_of s) n.others))
+    }
+
+no-tal-left : (rest : List ℕ) (ts : List Tal) → AreTals rest ts → NoTal rest → ts ≡ []
+no-tal-left rest [] a none = refl
+no-tal-left rest (t ∷ ts) (f, r, parts, is, more) none = absurd (none f r t parts is)
+
+pub one-list : (bytes : List ℕ) (ts us : List Tal) → AreTals bytes ts → AreTals bytes us → ts ≡ us
+one-list bytes ts us a b = (same-tals ts us bytes [] bytes [] a b (zeros-no-tal [] tt) (zeros-no-tal [] tt) refl).tals
+
+pub tals-all : (s : ℕ) (tals rest : List ℕ) (old new : List Annotation) → HasPushedTals s tals rest old new → NoTal rest
+    → (ts : List Tal) → AreSoundTals tals s ts → new ≡ old ++ flat_map (annotations_of s) ts
+tals-all s tals rest old new h last ts a =
+    let none = no-tal-left rest h.left h.are_left.whole last in
+    let same = one-list tals h.all ts h.are_all.whole a.whole in
+    sym (append-nil new) ∙ sym (ap (λ (w : List Tal). new ++ flat_map (annotations_of s) w) none) ∙ sym h.items ∙ ap (λ (w : List Tal). old ++ flat_map (annotations_of s) w) same
+
+pub refusal : (b : List ℕ) (s : ℕ) (p : Place) (e : TalFault) → IsBlockFault b s p e → IsRefusal b s p e
+refusal b s p (NotTals offset) h = h
+refusal b s p (Text offset) h = h
+refusal b s p NotTimed h = h
+refusal b s p FirstOnset h = h
+refusal b s p Window h = h
+refusal b s p Order h = h
+refusal b s p TooMany h = h
+refusal b s p Memory h = tt
+
+-- the TALs of a timed block have a first
+pub some-tal : (s : ℕ) (tals : List ℕ) (ts : List Tal) → AreSoundTals tals s ts → IsTimed ts → NoTal tals → ⊥
+some-tal s tals [] a h none = h
+some-tal s tals (t ∷ ts) a h none = let w = a.whole in none w.0 w.1 t w.2 w.3
+
+pub first-timed : (s : ℕ) (rest texts : List ℕ) (t : Tal) (ts : List Tal) → NextTal s rest texts t ts → IsTimed ts → (xs : List (List ℕ)) × (t.texts ≡ [] ∷ xs)
+first-timed s rest texts t ts n h = subst IsTimed n.left_is h
+
+pub behind-empty : (s : ℕ) (rest texts : List ℕ) (t : Tal) (ts : List Tal) (xs : List (List ℕ)) → NextTal s rest texts t ts → t.texts ≡ [] ∷ xs → texts ≡ 20 ∷ ended xs
+behind-empty s rest texts t ts xs n e = n.texts_are ∙ ap ended e
+
+pub tells-rest : (s : ℕ) (rest texts : List ℕ) (t : Tal) (ts : List Tal) (xs : List (List ℕ)) (ahead : Bool) (onset : ℕ) (duration : Option ℕ) (behind : List ℕ) → NextTal s rest texts t ts
+    → t.texts ≡ [] ∷ xs → behind ≡ ended xs → TellsOnset ahead onset t.onset → TellsDuration duration t.duration → TellsTal behind ahead onset duration s (record t { texts = xs })
+tells-rest s rest texts t ts xs ahead onset duration behind n e b o d = record {
+  texts_are = b;
+  are_texts = (subst (AllByRecursion IsText) e n.are_texts).1;
+  good = (subst (AllByRecursion IsUtf8) e n.good).1;
+  is_onset = o;
+  is_duration = d;
+  window = let w = n.window in record { onset = w.onset; duration = w.duration }
+}
+
+pub whole-list : (s : ℕ) (rest texts : List ℕ) (t : Tal) (ts : List Tal) (xs : List (List ℕ)) (none first all : List Annotation) → (n : NextTal s rest texts t ts) → t.texts ≡ [] ∷ xs
+    → none ≡ [] → first ≡ none ++ annotations_of s (record t { texts = xs }) → all ≡ first ++ flat_map (annotations_of s) n.others → all ≡ notes s ts
+whole-list s rest texts t ts xs none first all n e f g h =
+    h ∙ ap (λ (w : List Annotation). w ++ flat_map (annotations_of s) n.others) (g ∙ ap (λ (w : List Annotation). w ++ annotations_of s (record t { texts = xs })) f)
+    ∙ sym (ap (notes s) n.left_is ∙ ap (λ (w : List (List ℕ)). drop 1 (map (note_of (instant s t.onset) t.duration) w ++ flat_map (annotations_of s) n.others)) e)
+
+-- the list may be told by any TALs of the bytes
+pub same-notes : (s : ℕ) (tals : List ℕ) (ts us : List Tal) (list : List Annotation) → AreSoundTals tals s ts → AreSoundTals tals s us → list ≡ notes s ts → list ≡ notes s us
+same-notes s tals ts us list a b e = e ∙ ap (notes s) (one-list tals ts us a.whole b.whole)

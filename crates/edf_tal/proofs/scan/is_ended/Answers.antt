@@ -1,0 +1,6 @@
+use Rattle.std.proofs.Common.{arith, ◌≡◌, ℕ, List, get_or, length, ◌-◌}
+use Rattle.edf_tal.proofs.Heads.{ended-tests}
+use Rattle.edf_tal.proofs.scan.is_ended.Goals as goal
+
+pub returns-else-is_empty : goal.returns-else-is_empty
+returns-else-is_empty c = ended-tests c.args.bytes.now (grind (arith, c.is_empty.ensures, c.if-is_empty.false))

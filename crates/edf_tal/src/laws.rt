@@ -1,0 +1,60 @@
+ghost use Rattle.std.specs.Prelude.{◌≡◌, ℕ, ◌+◌, ◌^◌, ◌≤◌, ◌<◌, ◌++◌, List, replicate};
+ghost use Rattle.std.specs.List.{AllByRecursion};
+ghost use Rattle.edf_time.specs.Civil.{window};
+ghost use Rattle.edf_tal.specs.Tal.{Tal, Annotation, IsTal, AreTalsAndZeros};
+ghost use Rattle.edf_tal.specs.Note.{IsNote};
+ghost use Rattle.edf_tal.specs.Block.{IsRead, IsBlockFault, IsWithinLimits};
+ghost use Rattle.edf_tal.specs.Canonical.{block_text};
+ghost use Rattle.edf_tal.specs.declared.place.TalFault.{TalFault};
+ghost use Rattle.edf_tal.specs.declared.place.Place.{Place};
+ghost use Rattle.edf_tal.specs.declared.place.Place.TheVariants.{First, After, Any};
+
+/// Bytes are one TAL at most.
+pub fn one_tal()
+    ensures { (b : List ℕ) (t u : Tal) → IsTal b t → IsTal b u → t ≡ u }
+{
+}
+
+/// A block is TALs and zeros in one way.
+pub fn one_block()
+    ensures { (b : List ℕ) (ts us : List Tal) → AreTalsAndZeros b ts → AreTalsAndZeros b us → ts ≡ us }
+{
+}
+
+/// A block has one answer at a place: a start and a list, or a fault.
+pub fn one_answer()
+    ensures one_read { (b : List ℕ) (s : ℕ) (p : Place) (m n : ℕ) (k l : List Annotation) →
+        IsRead b s p m k → IsRead b s p n l → (m ≡ n) × (k ≡ l) }
+    ensures not_both { (b : List ℕ) (s : ℕ) (p : Place) (m : ℕ) (l : List Annotation) (e : TalFault) →
+        IsRead b s p m l → ¬ IsBlockFault b s p e }
+    ensures one_fault { (b : List ℕ) (s : ℕ) (p : Place) (e f : TalFault) →
+        IsBlockFault b s p e → IsBlockFault b s p f → e ≡ f }
+{
+}
+
+/// A canonical block, with any fill of zeros, is read again as what was written.
+pub fn read_again()
+    ensures any { (base start n : ℕ) (list : List Annotation) →
+        base < window → start < window → AllByRecursion IsNote list → IsWithinLimits list →
+        IsRead (block_text base start list ++ replicate n 0) base Any start list }
+    ensures first { (base start n : ℕ) (list : List Annotation) →
+        base < window → start < window → AllByRecursion IsNote list → IsWithinLimits list →
+        base ≤ start → start < base + 10 ^ 9 →
+        IsRead (block_text base start list ++ replicate n 0) base First start list }
+    ensures after { (base start n before duration : ℕ) (list : List Annotation) →
+        base < window → start < window → AllByRecursion IsNote list → IsWithinLimits list →
+        before + duration ≤ start →
+        IsRead (block_text base start list ++ replicate n 0) base (After before duration) start list }
+{
+}
+
+/// What a block gives: an instant of the window, and annotations within the limits.
+pub fn read_notes()
+    ensures start { (b : List ℕ) (s : ℕ) (p : Place) (start : ℕ) (list : List Annotation) →
+        IsRead b s p start list → start < window }
+    ensures notes { (b : List ℕ) (s : ℕ) (p : Place) (start : ℕ) (list : List Annotation) →
+        IsRead b s p start list → AllByRecursion IsNote list }
+    ensures limits { (b : List ℕ) (s : ℕ) (p : Place) (start : ℕ) (list : List Annotation) →
+        IsRead b s p start list → IsWithinLimits list }
+{
+}

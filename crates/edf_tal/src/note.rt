@@ -1,0 +1,94 @@
+ghost use Rattle.std.specs.Prelude.{◌≡◌, ◌≢◌, ℕ, ◌*◌, ◌^◌, ◌<◌, ◌↔◌, IsSome, IfSome, string_bytes, IsTrue};
+ghost use Rattle.std.specs.Option.{ForSome};
+ghost use Rattle.std.specs.List.{AllByRecursion};
+ghost use Rattle.edf_tal.specs.Tal.{Annotation, IsText};
+ghost use Rattle.edf_tal.specs.Note.{IsNote};
+ghost use Rattle.edf_time.specs.Civil.{window};
+
+use edf_time::Instant;
+use std::marker::Model;
+
+/// An annotation of a data record: an instant, a duration or none, and a text.
+///
+/// A duration of 0 is not the same as none. The text is UTF-8 without the bytes 0 and 20, which end texts and TALs.
+#[derive(Drop)]
+pub struct Note {
+    onset: Instant,
+    duration: Option<u64>,
+    text: String,
+}
+
+impl Model for Note {
+    ghost use Rattle.std.specs.Prelude.{string_bytes};
+    ghost use Rattle.edf_tal.specs.Tal.{Annotation};
+    ghost use Rattle.edf_tal.specs.Note.{IsNote};
+
+    ghost Value = { Annotation };
+
+    ghost view = { λ n. record { onset = n.onset; duration = n.duration; text = string_bytes n.text } };
+
+    ghost invariant = { λ n. IsNote (record { onset = n.onset; duration = n.duration; text = string_bytes n.text }) };
+}
+
+/// Whether no byte is 0 or 20.
+fn is_text(text: &[u8]) -> bool
+    ensures { IsTrue result ↔ IsText text.now }
+{
+    text.iter().all(|b| *b != 0 && *b != 20)
+}
+
+/// Whether the duration is shorter than the window, or none.
+pub(crate) fn is_duration(duration: Option<u64>) -> bool
+    ensures { IsTrue result ↔ IfSome duration (λ d. d < window) }
+{
+    match duration {
+        None => true,
+        Some(d) => d < 3_155_760_000_000_000_000,
+    }
+}
+
+impl Note {
+    /// The annotation, or `None` where no TAL can hold it.
+    ///
+    /// `duration` counts nanoseconds and is to be below 3,155,760,000,000,000,000, the length of the years 1985 to 2084;
+    /// `text` is to have no byte 0 or 20.
+    pub fn new(onset: Instant, duration: Option<u64>, text: String) -> Option<Note>
+        ensures found { IsSome result ↔ (ForSome duration (λ d. d < window) × IsText (string_bytes text)) }
+        ensures value { IfSome result (λ n. n ≡ record { onset = onset; duration = duration; text = string_bytes text }) }
+    {
+        if is_duration(duration) && is_text(text.as_bytes()) {
+            let _in_window = onset.nanos();
+            Some(Note {
+                onset,
+                duration,
+                text,
+            })
+        } else {
+            None
+        }
+    }
+
+    /// Its onset as an instant.
+    pub fn onset(&self) -> Instant
+        ensures value { result ≡ self.now.onset }
+        ensures note { IsNote self.now }
+    {
+        self.onset
+    }
+
+    /// Its duration in nanoseconds, or none.
+    pub fn duration(&self) -> Option<u64>
+        ensures value { result ≡ self.now.duration }
+        ensures note { IsNote self.now }
+    {
+        self.duration
+    }
+
+    /// Its text.
+    pub fn text(&self) -> &str
+        ensures value { result.now ≡ self.now.text }
+        ensures note { IsNote self.now }
+    {
+        self.text.as_str()
+    }
+}

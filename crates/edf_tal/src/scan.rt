@@ -1,0 +1,163 @@
+ghost use Rattle.std.specs.Prelude.{◌≡◌, ◌≢◌, ℕ, ◌+◌, ◌^◌, ◌≤◌, ◌<◌, ◌↔◌, ◌∷◌, ◌++◌, ℤ, List, Option, length, MatchOption, MatchResult, IsTrue, IsUtf8};
+ghost use Rattle.edf_time.specs.Decimal.{IsSeconds};
+ghost use Rattle.edf_tal.specs.Tal.{Tal, IsTal};
+ghost use Rattle.edf_tal.specs.Scan.{Lacks, NoTal, capped, IsTimes, IsHead, TellsOnset, TellsDuration, IsEnded, IsFront, IsBadAmong, AreGoodTexts};
+
+use edf_time::{DecimalFault, read_seconds};
+
+/// The onset and the duration of a TAL, in nanoseconds; what does not fit 63 bits counts as 2 ^ 63.
+#[derive(Clone, Copy)]
+pub(crate) struct Times {
+    pub(crate) ahead: bool,
+    pub(crate) onset: u64,
+    pub(crate) duration: Option<u64>,
+}
+
+/// The TAL at the front of some bytes.
+#[derive(Clone, Copy)]
+pub(crate) struct FrontTal<'a> {
+    pub(crate) times: Times,
+    /// Its texts, each with its byte 20.
+    pub(crate) texts: &'a [u8],
+    /// What stands behind it.
+    pub(crate) rest: &'a [u8],
+}
+
+/// What stands before the first such byte, and what stands behind it.
+pub(crate) fn split_first(bytes: &[u8], byte: u8) -> Option<(&[u8], &[u8])>
+    ensures { MatchOption result (Lacks byte bytes.now)
+        (λ sides. Lacks byte sides.0.now × (bytes.now ≡ sides.0.now ++ byte ∷ sides.1.now)) }
+{
+    for (i, b) in bytes.iter().enumerate() {
+        if *b == byte {
+            return Some((&bytes[..i], &bytes[i + 1..]));
+        }
+    }
+    None
+}
+
+/// The nanoseconds of a decimal, capped.
+fn capped_seconds(text: &[u8]) -> Option<u64>
+    ensures { MatchOption result ((n : ℕ) → ¬ IsSeconds text.now n)
+        (λ nanos. (n : ℕ) × IsSeconds text.now n × (nanos ≡ capped n)) }
+{
+    match read_seconds(text) {
+        Ok(nanos) => Some(nanos),
+        Err(DecimalFault::TooLarge) => Some(1 << 63),
+        Err(DecimalFault::Syntax) => None,
+        Err(DecimalFault::TooFine) => None,
+    }
+}
+
+/// A decimal, and a duration or none.
+fn spans(bytes: &[u8]) -> Option<(u64, Option<u64>)>
+    ensures { MatchOption result ((n : ℕ) (d : Option ℕ) → ¬ IsTimes bytes.now n d)
+        (λ r. (n : ℕ) × (d : Option ℕ) × IsTimes bytes.now n d × (r.0 ≡ capped n) × TellsDuration r.1 d) }
+{
+    match split_first(bytes, 21) {
+        None => {
+            let Some(onset) = capped_seconds(bytes) else {
+                return None;
+            };
+            Some((onset, None))
+        }
+        Some((front, back)) => {
+            let Some(onset) = capped_seconds(front) else {
+                return None;
+            };
+            let Some(duration) = capped_seconds(back) else {
+                return None;
+            };
+            Some((onset, Some(duration)))
+        }
+    }
+}
+
+/// The times behind a sign.
+fn signed_times(sign: u8, unsigned: &[u8]) -> Option<Times>
+    ensures { MatchOption result ((z : ℤ) (d : Option ℕ) → ¬ IsHead (sign ∷ unsigned.now) z d)
+        (λ t. (z : ℤ) × (d : Option ℕ) × IsHead (sign ∷ unsigned.now) z d
+            × TellsOnset t.ahead t.onset z × TellsDuration t.duration d) }
+{
+    let Some((onset, duration)) = spans(unsigned) else {
+        return None;
+    };
+    if sign == b'+' {
+        Some(Times {
+            ahead: true,
+            onset,
+            duration,
+        })
+    } else if sign == b'-' {
+        Some(Times {
+            ahead: false,
+            onset,
+            duration,
+        })
+    } else {
+        None
+    }
+}
+
+/// The times before a TAL's first byte 20.
+fn head_times(head: &[u8]) -> Option<Times>
+    ensures { MatchOption result ((z : ℤ) (d : Option ℕ) → ¬ IsHead head.now z d)
+        (λ t. (z : ℤ) × (d : Option ℕ) × IsHead head.now z d
+            × TellsOnset t.ahead t.onset z × TellsDuration t.duration d) }
+{
+    match head {
+        [] => None,
+        [sign, unsigned @ ..] => signed_times(*sign, unsigned),
+    }
+}
+
+/// Whether the last byte, if there is one, ends a text.
+fn is_ended(bytes: &[u8]) -> bool
+    ensures { IsTrue result ↔ IsEnded bytes.now }
+{
+    bytes.is_empty() || bytes[bytes.len() - 1] == 20
+}
+
+/// The TAL at the front.
+pub(crate) fn first_tal(bytes: &[u8]) -> Option<FrontTal<'_>>
+    ensures { MatchOption result (NoTal bytes.now)
+        (λ f. (t : Tal) × IsFront bytes.now f.texts.now f.rest.now t
+            × TellsOnset f.times.ahead f.times.onset t.onset × TellsDuration f.times.duration t.duration) }
+{
+    let Some((body, rest)) = split_first(bytes, 0) else {
+        return None;
+    };
+    let Some((head, texts)) = split_first(body, 20) else {
+        return None;
+    };
+    if !is_ended(texts) {
+        return None;
+    }
+    let Some(times) = head_times(head) else {
+        return None;
+    };
+    Some(FrontTal { times, texts, rest })
+}
+
+fn is_utf8(text: &[u8]) -> bool
+    ensures { IsTrue result ↔ IsUtf8 text.now }
+{
+    simdutf8::basic::from_utf8(text).is_ok()
+}
+
+/// How many texts there are, or the place of the first that is no UTF-8.
+pub(crate) fn check_texts(texts: &[u8]) -> Result<usize, usize>
+    ensures { MatchResult result (AreGoodTexts texts.now) (IsBadAmong texts.now) }
+{
+    let len = texts.len();
+    let mut rest = texts;
+    let mut count = 0;
+    while let Some((text, more)) = split_first(rest, 20) {
+        if !is_utf8(text) {
+            return Err(len - rest.len());
+        }
+        count += 1;
+        rest = more;
+    }
+    Ok(count)
+}

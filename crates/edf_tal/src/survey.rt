@@ -1,0 +1,103 @@
+ghost use Rattle.std.specs.Prelude.{◌≡◌, ℕ, ◌+◌, ◌^◌, ◌≤◌, ◌<◌, ◌↔◌, ℤ, pos, ◌+ℤ◌, MatchOption, MatchResult, IsTrue};
+ghost use Rattle.edf_time.specs.Civil.{window, IsInWindow};
+ghost use Rattle.edf_tal.specs.Tal.{Tal, IsTalInWindow, instant};
+ghost use Rattle.edf_tal.specs.Block.{IsBadText};
+ghost use Rattle.edf_tal.specs.Scan.{NoTal, TellsOnset, TellsDuration, IsBehind, IsSurvey};
+
+use crate::note::is_duration;
+use crate::scan::{Times, check_texts, first_tal};
+use edf_time::Instant;
+
+/// What the TALs of a block come to, where all their texts are UTF-8.
+#[derive(Clone, Copy)]
+pub(crate) struct Totals<'a> {
+    /// What stands behind the last TAL.
+    pub(crate) rest: &'a [u8],
+    /// Whether each onset and duration keeps the window.
+    pub(crate) in_window: bool,
+    /// How many annotations there are, the time-keeping one among them.
+    pub(crate) count: usize,
+    /// How many bytes their texts have.
+    pub(crate) text_bytes: usize,
+}
+
+/// The first text that is no UTF-8.
+#[derive(Clone, Copy)]
+pub(crate) struct BadText<'a> {
+    pub(crate) offset: usize,
+    /// What stands behind the last TAL.
+    pub(crate) rest: &'a [u8],
+}
+
+/// The instant of an onset.
+pub(crate) fn onset_instant(ahead: bool, onset: u64, file_start: Instant) -> Option<Instant>
+    ensures { (z : ℤ) → TellsOnset ahead onset z →
+        MatchOption result (¬ IsInWindow (pos file_start +ℤ z))
+            (λ i. IsInWindow (pos file_start +ℤ z) × (i ≡ instant file_start z)) }
+{
+    let start = file_start.nanos();
+    if ahead {
+        Instant::at(start.saturating_add(onset))
+    } else if onset <= start {
+        Instant::at(start - onset)
+    } else {
+        None
+    }
+}
+
+/// Whether an onset and a duration keep the window.
+pub(crate) fn is_in_window(times: Times, file_start: Instant) -> bool
+    ensures { (t : Tal) → TellsOnset times.ahead times.onset t.onset → TellsDuration times.duration t.duration →
+        (IsTrue result ↔ IsTalInWindow file_start t) }
+{
+    match onset_instant(times.ahead, times.onset, file_start) {
+        None => false,
+        Some(_) => is_duration(times.duration),
+    }
+}
+
+/// What stands behind the TALs at the front.
+pub(crate) fn behind_tals(bytes: &[u8]) -> &[u8]
+    ensures whole { IsBehind bytes.now result.now }
+    ensures last { NoTal result.now }
+{
+    let mut rest = bytes;
+    while let Some(tal) = first_tal(rest) {
+        rest = tal.rest;
+    }
+    rest
+}
+
+/// Goes over the TALs at the front.
+pub(crate) fn survey(block: &[u8], file_start: Instant) -> Result<Totals<'_>, BadText<'_>>
+    ensures { MatchResult result
+        (λ s. IsSurvey block.now file_start s.rest.now s.in_window s.count s.text_bytes × NoTal s.rest.now)
+        (λ b. IsBehind block.now b.rest.now × NoTal b.rest.now × IsBadText block.now b.offset) }
+{
+    let mut rest = block;
+    let mut in_window = true;
+    let mut count = 0;
+    let mut text_bytes = 0;
+    while let Some(tal) = first_tal(rest) {
+        match check_texts(tal.texts) {
+            Ok(texts) => {
+                in_window &= is_in_window(tal.times, file_start);
+                count += texts;
+                text_bytes += tal.texts.len() - texts;
+                rest = tal.rest;
+            }
+            Err(at) => {
+                return Err(BadText {
+                    offset: block.len() - tal.rest.len() - 1 - tal.texts.len() + at,
+                    rest: behind_tals(tal.rest),
+                });
+            }
+        }
+    }
+    Ok(Totals {
+        rest,
+        in_window,
+        count,
+        text_bytes,
+    })
+}
