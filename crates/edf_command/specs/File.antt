@@ -23,17 +23,16 @@ record_text file_start size r =
 abbrev pub Hold : ℕ → ℕ → List DataRecord → Type 0
 Hold file_start samples records = All (λ r. length (block_of file_start r) ≤ 2 * samples) records
 
--- the file of the records, which rise in time and of which `first` is the earliest
-pub record IsFileOf (bytes : List ℕ) (k : Key) (first : DataRecord) (records : List DataRecord) : Type 0 where
+-- the bytes are laid out as an export of the records, which rise in time and of which `first` is the earliest
+pub record IsLaidOut (bytes : List ℕ) (k : Key) (first : DataRecord) (records : List DataRecord) : Type 0 where
   pub samples : ℕ
   pub header : List ℕ
   pub is_header : IsExportHeader header k first.start (length records) samples
   pub holds : Hold (second_of first.start) samples records
   pub least : (fewer : ℕ) → Hold (second_of first.start) fewer records → samples ≤ fewer
   pub parts : bytes ≡ header ++ flat_map (record_text (second_of first.start) (2 * samples)) records
-  pub spells : Spells bytes k records
 
--- the canonical file of one record or more
+-- the canonical file of one record or more: it spells them, and it is laid out so
 abbrev pub IsCanonicalFile : List ℕ → Key → List DataRecord → Type 0
 IsCanonicalFile bytes k [] = ⊥
-IsCanonicalFile bytes k (r ∷ rs) = IsFileOf bytes k r (r ∷ rs)
+IsCanonicalFile bytes k (r ∷ rs) = Spells bytes k (r ∷ rs) × IsLaidOut bytes k r (r ∷ rs)

@@ -1,6 +1,16 @@
-// The commands of edfstore.
+//! The commands of `edfstore`, over any reader and writer.
+//!
+//! - [`convert`]: one EDF+ file in, its canonical EDF+D file out.
+//! - [`ConvertFault`]: why a file is not converted.
 #![tactic(auto)]
 
-mod naming;
+mod blocks;
+mod conversion;
+mod fault;
+mod file;
+mod output;
+#[cfg(test)]
+mod tests;
 
-pub use naming::definitions_elaborate;
+pub use conversion::convert;
+pub use fault::ConvertFault;

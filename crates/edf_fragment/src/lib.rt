@@ -1,12 +1,33 @@
-// Fragments, record by record, from any reader.
+//! Fragments: EDF+ files, read data record by data record from any reader, in whatever pieces it gives them.
+//!
+//! `FragmentReader` reads a header and then one data record at a time; `read_fragment` reads them all into memory.
+//! Each reads no byte that it isn't asked for, and tells the first fault of the bytes by its number and place.
+//! `Input` and `Output` are readers and writers whose contracts also count the calls that failed, so that a refusal for
+//! a failed read or write is told only where one failed; `Counted` makes one of any reader or writer of std.
+//! The laws say that bytes spell one fragment at most, or have one first fault at most, and never both.
 #![tactic(auto)]
 
+mod advance;
 mod fault;
-mod naming;
+mod filling;
+mod laws;
+mod open_fragment;
+mod opening;
+mod progress;
+mod reader;
+mod record;
+#[cfg(test)]
+mod sample;
 mod sending;
 mod streams;
+mod whole;
 
 pub use fault::FragmentFault;
-pub use naming::definitions_elaborate;
+pub use laws::{no_fault_where_spelled, one_fault, one_fragment};
+pub use open_fragment::OpenFragment;
+pub use progress::{Progress, Status};
+pub use reader::FragmentReader;
+pub use record::Record;
 pub use sending::send;
 pub use streams::{Counted, Filled, Input, Output, fill};
+pub use whole::read_fragment;

@@ -1,5 +1,5 @@
 -- An exported header is read as what it was made from.
-use Rattle.std.proofs.Common.{◌≡◌, ℕ, ◌+◌, ◌*◌, ◌/◌, ◌%◌, ◌^◌, ◌≤◌, ◌<◌, List, [], ◌∷◌, ◌++◌, length, refl, sym, ap, ◌∙◌, subst, arith, inr}
+use Rattle.std.proofs.Common.{◌≡◌, ℕ, ◌+◌, ◌*◌, ◌/◌, ◌^◌, ◌≤◌, List, [], ◌∷◌, length, refl, subst, arith, inr}
 use Rattle.std.specs.Prelude.{codes}
 use Rattle.std.specs.Fmt.{decimal}
 use Rattle.std.proofs.lemmas.List.{length-append}
@@ -9,11 +9,11 @@ use Rattle.edf_header.specs.Signal.{samples}
 use Rattle.edf_header.specs.Key.{Key, IsKey}
 use Rattle.edf_header.specs.Header.{IsNumber}
 use Rattle.edf_header.specs.Canonical.{annotations_signal, export_signals, IsExportHeader}
-use Rattle.edf_header.specs.Spelled.{Texts, IsPrinted, IsSpelledBy, IsReadAs, spelled_layout}
+use Rattle.edf_header.specs.Spelled.{Texts, IsSpelledBy, IsReadAs, spelled_layout}
 use Rattle.edf_header.proofs.SpelledTexts.{printable-by}
-use Rattle.edf_header.proofs.SpelledNumbers.{IsNumberField, number-field}
+use Rattle.edf_header.proofs.SpelledNumbers.{number-field}
 use Rattle.edf_header.proofs.SpelledHeader.{spelled-reads}
-use Rattle.edf_header.proofs.ExportSignal.{IsExportRow, export-row}
+use Rattle.edf_header.proofs.ExportSignal.{export-row}
 
 -- the start to the second
 whole-second : (start : ℕ) → (day_of start * 86_400 + second_of_day start) * 10 ^ 9 ≡ start / 10 ^ 9 * 10 ^ 9

@@ -1,11 +1,9 @@
 -- What the writer of a header appends, one part after another, and the parts of an identity.
-use Rattle.std.proofs.Common.{◌≡◌, ℕ, ◌+◌, ◌-◌, ◌*◌, ◌/◌, ◌≤◌, ◌<◌, List, [], ◌∷◌, ◌++◌, length, take, drop, append_assoc, refl, sym, ap, ◌∙◌, arith}
-use Rattle.std.proofs.lemmas.List.{replicate_more, take_all, length-drop, length-append}
-use Rattle.std.specs.List.{flat_map}
+use Rattle.std.proofs.Common.{◌≡◌, ℕ, ◌+◌, ◌-◌, ◌/◌, ◌≤◌, List, [], ◌∷◌, ◌++◌, length, take, drop, append_assoc, ap, ◌∙◌, arith}
+use Rattle.std.proofs.lemmas.List.{replicate_more, take_all, length-drop}
 use Rattle.edf_header.specs.Text.{spaces}
 use Rattle.edf_header.specs.Signal.{rows, rows_of}
-use Rattle.edf_header.specs.Key.{Key, IsKey, key_at, key_bytes}
-use Rattle.edf_header.proofs.RowSteps.{length-rows}
+use Rattle.edf_header.specs.Key.{Key, key_at}
 
 pub spaces-more : (start old new : List ℕ) (i : ℕ) → old ≡ start ++ spaces i → new ≡ old ++ 32 ∷ [] → new ≡ start ++ spaces (i + 1)
 spaces-more start old new i was is =

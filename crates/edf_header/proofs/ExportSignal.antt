@@ -1,17 +1,17 @@
 -- The annotations signal of an export.
-use Rattle.std.proofs.Common.{◌≡◌, ◌≢◌, ℕ, ◌+◌, ◌*◌, ◌^◌, ◌≤◌, ◌<◌, List, [], ◌∷◌, ◌++◌, length, take, drop, refl, sym, ap, ◌∙◌, subst, arith, lit<, ℤ, pos, negsuc}
-use Rattle.std.specs.Prelude.{All, codes}
+use Rattle.std.proofs.Common.{◌≡◌, ℕ, ◌≤◌, List, ◌++◌, refl, sym, subst, arith, lit<}
+use Rattle.std.specs.Prelude.{codes}
 use Rattle.std.specs.Fmt.{decimal}
 use Rattle.std.proofs.lemmas.List.{length-append, take_at}
 use Rattle.std.proofs.lemmas.List.Elements.{All-append, All-replicate}
-use Rattle.edf_header.specs.Number.{field, AreSpaces, IsPhysical, Differ, IsSigned, scaled, places}
+use Rattle.edf_header.specs.Number.{field, AreSpaces}
 use Rattle.edf_header.specs.Text.{IsPrintable, spaces, padded_to}
-use Rattle.edf_header.specs.Signal.{IsAnnotationsSignal, HasPhysical, HasSamples, samples}
+use Rattle.edf_header.specs.Signal.{IsAnnotationsSignal, HasSamples, samples}
 use Rattle.edf_header.specs.Canonical.{annotations_signal}
 use Rattle.edf_header.specs.Header.{IsNumber}
 use Rattle.edf_header.specs.Spelled.{IsPrinted}
 use Rattle.edf_header.proofs.SpelledTexts.{printable-by}
-use Rattle.edf_header.proofs.SpelledNumbers.{IsNumberField, number-field, spaces-printable}
+use Rattle.edf_header.proofs.SpelledNumbers.{number-field, spaces-printable}
 
 -- the row up to the samples
 abbrev front : List ℕ

@@ -1,5 +1,5 @@
 -- The faults of identity bytes, one row after another.
-use Rattle.std.proofs.Common.{◌≡◌, ℕ, ◌+◌, ◌-◌, ◌*◌, ◌≤◌, ◌<◌, List, [], ◌++◌, length, take, drop, arith, sym, ap, ◌∙◌, subst, inl, inr}
+use Rattle.std.proofs.Common.{◌≡◌, ℕ, ◌+◌, ◌-◌, ◌*◌, ◌≤◌, ◌<◌, List, [], ◌++◌, length, take, drop, arith, sym, subst, inl, inr}
 use Rattle.std.proofs.lemmas.Bool.{cases_lt}
 use Rattle.edf_header.specs.Identity.{HasLength, HasMark, IsCleanKey, KeyFails, place_in_order, signals}
 use Rattle.edf_header.specs.Key.{IsKey, Key, key_at, key_bytes}
@@ -101,8 +101,7 @@ pub is-key : (b : List ℕ) → IsFront b → All (Passes CheckLabel) (signals b
     → 2 * samples_in_all (signals b) ≤ 4_194_304 → (key_bytes (key_at b) ≡ b) × IsKey (key_at b)
 is-key b f l p d s size =
     let back = bytes-back b (shaped b f.len f.mark) in
-    let n : length (signals b) ≡ f.len.0 = count-is b f.len.0 f.len.3 in
-    (
+    let n : length (signals b) ≡ f.len.0 = count-is b f.len.0 f.len.3 in (
       back,
       record {
         sized = sized b f.len;

@@ -1,21 +1,20 @@
 -- A fixed part that bytes spell: it has no fault, is one, and keeps the bounds.
-use Rattle.std.proofs.Common.{◌≡◌, ℕ, zero, suc, ◌+◌, ◌-◌, ◌*◌, ◌/◌, ◌^◌, ◌≤◌, ◌<◌, min, Bool, true, false, not, eqb, cond, List, [], ◌∷◌, length, get_or, take, drop, arith, refl, sym, ap, ◌∙◌, subst, inl, inr, one-add, ℤ, pos, Option, Some, None}
-use Rattle.std.specs.Prelude.{All, codes, IsTrue}
-use Rattle.std.specs.List.{AllWithin, HoldsAt, prefix_len}
+use Rattle.std.proofs.Common.{◌≡◌, ℕ, suc, ◌+◌, ◌^◌, ◌≤◌, ◌<◌, Bool, true, false, eqb, cond, List, [], ◌∷◌, length, take, drop, arith, refl, sym, ap, ◌∙◌, subst, inl, inr, one-add, ℤ, Option, Some, None}
+use Rattle.std.specs.Prelude.{All}
+use Rattle.std.specs.List.{prefix_len}
 use Rattle.std.specs.Char.{is_ascii_digit, digit_value}
-use Rattle.std.specs.Str.Parse.{AllDigits, digits_value}
+use Rattle.std.specs.Str.Parse.{AllDigits}
 use Rattle.std.proofs.lemmas.Bool.{cases_lt, cases_eq}
 use Rattle.std.proofs.lemmas.Bool.Decides.{nat_tests}
 use Rattle.std.proofs.lemmas.Int.Digits.{digits_value-lt}
 use Rattle.std.proofs.lemmas.List.{length-take, length-drop}
 use Rattle.std.proofs.lemmas.List.Elements.{All-take, All-drop}
 use Rattle.std.proofs.Math.Nat.{pow-le-pow_right}
-use Rattle.jiff_core.proofs.SignedLemmas.{signed_arith}
-use Rattle.edf_time.proofs.Days.{days-in-window}
-use Rattle.edf_time.specs.Civil.{IsDateText, IsTimeText, IsCivil, window}
-use Rattle.edf_header.proofs.Dates.{one-date, one-civil, one-id-date, x-no-date}
-use Rattle.edf_header.specs.Number.{field, IsWhole, whole_value, digits, digits_len}
-use Rattle.edf_header.specs.Text.{IsPrintable, IsStartdate, IsRecording}
+use Rattle.edf_time.proofs.IdDates.{one-id_day}
+use Rattle.edf_time.proofs.Starts.{start-parts, one-start}
+use Rattle.edf_header.proofs.Recordings.{x-no-date, one-after}
+use Rattle.edf_header.specs.Number.{field, whole_value, digits, digits_len}
+use Rattle.edf_header.specs.Text.{IsPrintable, IsStartdate}
 use Rattle.edf_header.specs.Signal.{IsFirstBad}
 use Rattle.edf_header.specs.Header.{Fixed, IsFixed, IsFixedHeader, IsNumber, IsSameDay, is_dated}
 use Rattle.edf_header.specs.Fault.{Fails, IsClean, IsFirst, number}
@@ -30,7 +29,7 @@ one-number text m n p q = p.value ∙ sym q.value
 same-startdate : (f : List ℕ) (s r : Option ℤ) (a b : List ℕ) (days : ℕ) → IsStartdate f s a → IsStartdate f r b → IsSameDay s days → IsSameDay r days
 same-startdate f s None a b days p q same = tt
 same-startdate f None (Some day) a b days p q same = absurd (x-no-date f day p.0 q.1)
-same-startdate f (Some other) (Some day) a b days p q same = one-id-date (field f 10 11) day other q.1 p.1 ∙ same
+same-startdate f (Some other) (Some day) a b days p q same = one-id_day (field f 10 11) day other q.1 p.1 ∙ same
 
 pub no-fault : (b : List ℕ) (h : Fixed) → IsFixedHeader b h → (e : HeaderFault) → ¬ Fails b e
 no-fault b h f Cut bad = omega (arith, f.len)
@@ -62,18 +61,11 @@ fixed-clean b h f e lt = no-fault b h f e
 
 -- ---- one fixed part
 
--- a recording field has one Startdate subfield
-pub one-after : (f : List ℕ) (s r : Option ℤ) (a b : List ℕ) → IsStartdate f s a → IsStartdate f r b → (s ≡ r) × (a ≡ b)
-one-after f None None a b p q = (refl, p.1 ∙ sym q.1)
-one-after f None (Some day) a b p q = absurd (x-no-date f day p.0 q.1)
-one-after f (Some other) None a b p q = absurd (x-no-date f other q.0 p.1)
-one-after f (Some other) (Some day) a b p q = (ap (λ (z : ℤ). Some z) (one-id-date (field f 10 11) other day p.1 q.1), p.2 ∙ sym q.2)
-
 pub one-fixed : (b : List ℕ) (h g : Fixed) → IsFixedHeader b h → IsFixedHeader b g → h ≡ g
 one-fixed b h g p q =
     let recording = one-after (field b 88 80) h.startdate g.startdate h.after g.after p.recording.front q.recording.front in
     let patient = p.patient ∙ sym q.patient in
-    let start = one-civil (field b 168 8) (field b 176 8) h.start g.start p.start q.start in
+    let start = one-start (field b 168 8) (field b 176 8) h.start g.start p.start q.start in
     let count = one-number (field b 236 8) h.count g.count p.count q.count in
     let duration = p.duration ∙ sym q.duration in
     let signals = one-number (field b 252 4) h.signals g.signals p.signals q.signals in
@@ -183,13 +175,6 @@ whole-fits text short =
     let most : 10 ^ length (digits text) ≤ 10 ^ 8 = pow-le-pow_right ten few in
     omega (arith, lt, most)
 
-civil-fits : (date time : List ℕ) (n : ℕ) → IsCivil date time n → n < window
-civil-fits date time n c =
-    let day = days-in-window c.2.year c.2.month c.2.day c.2.from c.2.to c.2.is_day.exists in
-    let days : c.0 < 36_525 = omega (arith, signed_arith, day.1, c.2.is_day.count) in
-    let clock : c.1 < 86_400 = omega (arith, c.3.is_clock.in_day, c.3.is_clock.in_hour, c.3.is_clock.in_minute, c.3.is_clock.count) in
-    omega (arith, c.4)
-
 after-len : (f : List ℕ) (s : Option ℤ) (after : List ℕ) → length f ≡ 80 → IsStartdate f s after → length after ≡ cond (is_dated s) 59 69
 after-len f None after len p = ap length p.1 ∙ omega (arith, length-drop 11 f)
 after-len f (Some day) after len p = ap length p.2 ∙ omega (arith, length-drop 21 f)
@@ -206,12 +191,12 @@ is-fixed b h f = record {
   after_len = after-len (field b 88 80) h.startdate h.after (length-field b 88 80 (omega (arith, f.len))) f.recording.front;
   after_printable = after-printable (field b 88 80) h.startdate h.after (All-field IsPrintable b 88 80 f.printable) f.recording.front;
   is_behind = f.recording.behind;
-  in_window = civil-fits (field b 168 8) (field b 176 8) h.start f.start;
+  in_window = (start-parts (field b 168 8) (field b 176 8) h.start f.start).in_window;
   count_from = f.count_some;
   count_to = rw f.count.value (whole-fits (field b 236 8) (omega (arith, length-field b 236 8 (omega (arith, f.len)))));
   duration_len = ap length f.duration ∙ length-field b 244 8 (omega (arith, f.len));
   duration_printable = rw f.duration (All-field IsPrintable b 244 8 f.printable);
   is_duration = f.is_duration;
   signals_from = f.signals_from;
-  signals_to = f.signals_to
+  signals_to = f.signals_to;
 }

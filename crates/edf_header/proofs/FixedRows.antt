@@ -1,19 +1,18 @@
 -- The rows of the fixed part, one after another.
-use Rattle.std.proofs.Common.{◌≡◌, ◌≢◌, ℕ, suc, ◌+◌, ◌-◌, ◌*◌, ◌/◌, ◌^◌, ◌≤◌, ◌<◌, List, length, take, drop, arith, inl, inr, refl, sym, ap, ◌∙◌, subst, ⊎_elim, ℤ, pos, Option, Some, None}
-use Rattle.std.specs.Prelude.{codes}
+use Rattle.std.proofs.Common.{◌≡◌, ◌≢◌, ℕ, suc, List, arith, inl, inr, sym, ap, ◌∙◌, subst, ℤ, pos, Option, Some, None}
 use Rattle.std.proofs.lemmas.Bool.{cases_lt}
-use Rattle.std.proofs.lemmas.List.{take-take}
 use Rattle.edf_time.specs.Civil.{IsCivil, IsDateText, IsTimeText, IsStartFault, day_of}
 use Rattle.edf_time.specs.declared.civil.StartFault.{StartFault}
 use Rattle.edf_time.specs.declared.civil.StartFault.TheVariants as why
-use Rattle.edf_header.proofs.Dates.{one-date, one-id-date}
-use Rattle.edf_header.proofs.FixedLaws.{one-after}
+use Rattle.edf_time.proofs.FieldTexts.{one-date_day}
+use Rattle.edf_time.proofs.Starts.{start-parts}
+use Rattle.edf_header.proofs.Recordings.{one-after}
 use Rattle.edf_header.specs.Number.{field, IsDuration}
 use Rattle.edf_header.specs.Text.{IsStartdate, IsRecording, after_of}
-use Rattle.edf_header.specs.Header.{IsSameDay, IsPlus, IsNumber}
-use Rattle.edf_header.specs.Fault.{Fails, IsClean, IsFirst, HasSignals, DatesAreOther, number}
+use Rattle.edf_header.specs.Header.{IsSameDay, IsPlus}
+use Rattle.edf_header.specs.Fault.{Fails, IsClean, IsFirst, HasSignals, number}
 use Rattle.edf_header.specs.declared.fault.HeaderFault.{HeaderFault}
-use Rattle.edf_header.specs.declared.fault.HeaderFault.TheVariants.{Cut, Unprintable, Version, Patient, Recording, Startdate, Starttime, DatesDiffer, NotPlus, Count, Duration, Signals, HeaderBytes, CutSignals, UnprintableSignals, Annotations, Physical, Digital, Samples, Size, Memory}
+use Rattle.edf_header.specs.declared.fault.HeaderFault.TheVariants.{Recording, Startdate, Starttime, DatesDiffer, NotPlus, Duration, Signals}
 
 -- past a row that is not true
 pub clean-more : (Holds : HeaderFault → Type 0) (n : ℕ) → IsClean Holds n → ((fault : HeaderFault) → number fault ≡ n → ¬ Holds fault) → IsClean Holds (suc n)
@@ -85,10 +84,7 @@ same-none b s start clean is civil none = same-in b s start clean is civil (λ d
 
 -- the day of a start is the startdate's
 start-day : (date time : List ℕ) (start days : ℕ) → IsCivil date time start → IsDateText date days → day_of start ≡ days
-start-day date time start days civil is =
-    let same : civil.0 ≡ days = one-date date civil.0 days civil.2 is in
-    let clock : civil.1 < 86_400 = omega (arith, civil.3.is_clock.in_day, civil.3.is_clock.in_hour, civil.3.is_clock.in_minute, civil.3.is_clock.count) in
-    omega (arith, civil.4)
+start-day date time start days civil is = one-date_day date (day_of start) days (start-parts date time start civil).is_date is
 
 day-same : (b : List ℕ) (day : ℤ) (start : ℕ) → IsCivil (field b 168 8) (field b 176 8) start → day ≡ pos (day_of start)
     → (days : ℕ) → IsDateText (field b 168 8) days → IsSameDay (Some day) days
@@ -102,7 +98,7 @@ day-other b day start is civil other = record {
   days = civil.0;
   recording = is;
   date = civil.2;
-  other = λ same. other (same ∙ ap (λ (n : ℕ). pos n) (sym (start-day (field b 168 8) (field b 176 8) start civil.0 civil civil.2)))
+  other = λ same. other (same ∙ ap (λ (n : ℕ). pos n) (sym (start-day (field b 168 8) (field b 176 8) start civil.0 civil civil.2)));
 }
 
 pub same-day : (b : List ℕ) (s : Option ℤ) (day : ℤ) (start : ℕ) → IsClean (Fails b) 8 → IsRecording (field b 88 80) s (after_of s (field b 88 80)) → IsCivil (field b 168 8) (field b 176 8) start

@@ -1,17 +1,15 @@
 -- The faults of the signal part, one row after another.
-use Rattle.std.proofs.Common.{◌≡◌, ℕ, ◌+◌, ◌*◌, ◌≤◌, ◌<◌, List, [], length, take, arith, sym, ap, ◌∙◌, subst, inl, inr}
+use Rattle.std.proofs.Common.{◌≡◌, ℕ, ◌+◌, ◌*◌, List, [], length, take, arith, ap, ◌∙◌, subst, inl, inr}
 use Rattle.std.proofs.lemmas.Bool.{cases_lt}
 use Rattle.std.specs.Prelude.{All}
-use Rattle.edf_header.specs.Number.{field}
 use Rattle.edf_header.specs.Text.{IsPrintable}
 use Rattle.edf_header.specs.Signal.{Passes, ordinary, samples, samples_in_all, signals_of}
-use Rattle.edf_header.specs.Rows.{RowsFail, IsSplit, IsSound, ArePlaces, annotations_at, others_at}
+use Rattle.edf_header.specs.Rows.{RowsFail, IsSplit, IsSound, ArePlaces, annotations_at}
 use Rattle.edf_header.specs.Fault.{HasAnnotations, IsBadSignal, IsTooLarge, SignalsFail, IsClean, IsFirst, number}
 use Rattle.edf_header.specs.declared.checks.Check.{Check}
 use Rattle.edf_header.specs.declared.checks.Check.TheVariants as checks
 use Rattle.edf_header.specs.declared.fault.HeaderFault.{HeaderFault}
-use Rattle.edf_header.specs.declared.fault.HeaderFault.TheVariants.{Cut, Unprintable, Version, Patient, Recording, Startdate, Starttime, DatesDiffer, NotPlus, Count, Duration, Signals, HeaderBytes, CutSignals, UnprintableSignals, Annotations, Physical, Digital, Samples, Size, Memory}
-use Rattle.edf_header.specs.declared.signals.Places.{Places}
+use Rattle.edf_header.specs.declared.fault.HeaderFault.TheVariants.{CutSignals, UnprintableSignals, Annotations, Physical, Digital, Samples, Size}
 use Rattle.edf_header.proofs.Faults.{not-bad}
 use Rattle.edf_header.proofs.RowFaults.{ordinary-is, ordinary-front, samples-parts, large-block, has-annotations}
 

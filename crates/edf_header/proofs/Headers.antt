@@ -1,16 +1,16 @@
 -- The header that checked rows and a fixed part make, its key and its layout.
-use Rattle.std.proofs.Common.{◌≡◌, ℕ, zero, suc, ◌+◌, ◌*◌, ◌≤◌, ◌<◌, List, [], ◌∷◌, ◌++◌, length, length-append, get_or, take, drop, map, Bool, true, false, arith, refl, sym, ap, ◌∙◌, subst}
+use Rattle.std.proofs.Common.{◌≡◌, ℕ, ◌+◌, ◌*◌, ◌<◌, List, [], ◌∷◌, ◌++◌, length, length-append, take, drop, Bool, true, false, arith, refl, sym, ap, ◌∙◌, subst}
 use Rattle.std.proofs.lemmas.List.{take_at, drop_at}
-use Rattle.std.proofs.lemmas.List.Elements.{All-nil, All-cons, All-append, All-take, All-drop, All-tail, All-head, All-replicate, All-from_get_or}
+use Rattle.std.proofs.lemmas.List.Elements.{All-nil, All-cons, All-append, All-take, All-drop, All-tail, All-head, All-replicate}
 use Rattle.std.proofs.lemmas.List.FromFn.{length-map-range_with_len, get_or-map-range_with_len}
 use Rattle.std.proofs.lemmas.List.Sums.{sum_by-append, sum_by-cons}
 use Rattle.std.specs.Prelude.{All}
 use Rattle.std.specs.List.{flat_map}
 use Rattle.edf_header.specs.Number.{field}
 use Rattle.edf_header.specs.Text.{IsPrintable, spaces}
-use Rattle.edf_header.specs.Signal.{HasSamples, IsLabelled, Passes, fields, ordinary, row_at, row_by, rows_of, samples, samples_in_all, signals_of}
+use Rattle.edf_header.specs.Signal.{HasSamples, Passes, fields, ordinary, row_at, row_by, rows_of, samples, samples_in_all, signals_of}
 use Rattle.edf_header.specs.Key.{IsKey, Key, dated_bytes, key_bytes}
-use Rattle.edf_header.specs.Header.{AreSignals, Fixed, Header, IsFixed, IsOrdinary, Layout, is_dated, key_of, layout_of}
+use Rattle.edf_header.specs.Header.{AreSignals, Fixed, Header, IsFixed, is_dated, key_of, layout_of}
 use Rattle.edf_header.specs.Shape.{key_from}
 use Rattle.edf_header.specs.Rows.{ArePlaces, IsLayout, IsSound, annotations_at, others_at}
 use Rattle.edf_header.specs.declared.signals.Places.{Places}
@@ -103,6 +103,7 @@ header-layout b h f s =
     record {
       key = header-key b h f s;
       some = f.count_from;
+      few = omega (arith, f.count_to);
       inside = omega (arith, all, one, others);
       parts = omega (arith, all, one, others);
       ordinary_size = s.ordinary_size;

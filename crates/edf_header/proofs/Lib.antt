@@ -5,7 +5,6 @@ pub mod Numbers
 pub mod Sorted
 pub mod Grammar
 pub mod Durations
-pub mod Dates
 pub mod FixedLaws
 pub mod FixedRows
 pub mod Recordings

@@ -1,12 +1,11 @@
 -- Where the one annotations signal stands, and the faults of rows one after another.
-use Rattle.std.proofs.Common.{◌≡◌, ℕ, zero, suc, ◌+◌, ◌-◌, ◌*◌, ◌≤◌, ◌<◌, ◌⊎◌, List, [], ◌∷◌, ◌++◌, length, length-append, append_assoc, get_or, take, drop, cond, not, Bool, true, false, arith, refl, sym, ap, ◌∙◌, subst, inl, inr}
+use Rattle.std.proofs.Common.{◌≡◌, ℕ, ◌+◌, ◌*◌, ◌≤◌, ◌<◌, List, [], ◌∷◌, ◌++◌, length, length-append, append_assoc, get_or, take, drop, cond, not, Bool, true, arith, refl, sym, ap, ◌∙◌, subst, inl, inr}
 use Rattle.std.proofs.lemmas.Bool.{cases_lt}
-use Rattle.std.proofs.lemmas.List.{take-append-drop, take_at, drop_at, drop_more, get_or_at, get_or_append_left, get_or-take, length-take, get_or-append-add, length-drop}
+use Rattle.std.proofs.lemmas.List.{take-append-drop, take_at, drop_at, drop_more, get_or_at, get_or_append_left, get_or-take, length-take}
 use Rattle.std.proofs.lemmas.List.Elements.{All-append, All-take, All-drop, filter-append}
 use Rattle.std.proofs.lemmas.List.Sums.{sum_by-append, sum_by-cons}
 use Rattle.std.proofs.lemmas.Slice.Eq.{bytes_eq-Decides}
 use Rattle.std.specs.Prelude.{All, codes}
-use Rattle.std.specs.List.{AllWithin, HoldsAt}
 use Rattle.edf_header.specs.Number.{field}
 use Rattle.edf_header.specs.Signal.{IsAnnotationsSignal, IsFirstBad, IsLabelled, Passes, ordinary, samples, samples_in_all}
 use Rattle.edf_header.specs.Shape.{has_label}

@@ -1,14 +1,14 @@
 -- Bytes spell one header's signals at most, and then have no fault.
-use Rattle.std.proofs.Common.{◌≡◌, ℕ, ◌+◌, ◌*◌, ◌≤◌, ◌<◌, List, [], ◌∷◌, ◌++◌, length, length-append, append_assoc, get_or, take, drop, arith, refl, sym, ap, ◌∙◌, subst, inl, inr}
+use Rattle.std.proofs.Common.{◌≡◌, ℕ, ◌+◌, ◌≤◌, List, [], ◌∷◌, ◌++◌, length, get_or, take, drop, arith, refl, sym, ap, ◌∙◌, subst, inl, inr}
 use Rattle.std.proofs.lemmas.Bool.{cases_lt}
 use Rattle.std.proofs.lemmas.List.{take_at, drop_at}
 use Rattle.std.proofs.lemmas.List.Elements.{All-append, All-cons, All-take, All-drop}
 use Rattle.std.specs.Prelude.{All}
-use Rattle.edf_header.specs.Signal.{HasSamples, IsAnnotationsSignal, IsLabelled, Passes, ordinary, samples, samples_in_all, signals_of}
-use Rattle.edf_header.specs.Header.{AreSignals, Header, IsHeader, IsOrdinary, key_of, layout_of}
+use Rattle.edf_header.specs.Signal.{HasSamples, IsAnnotationsSignal, IsLabelled, Passes, samples, samples_in_all, signals_of}
+use Rattle.edf_header.specs.Header.{AreSignals, Header, IsHeader, key_of, layout_of}
 use Rattle.edf_header.specs.Key.{IsKey}
 use Rattle.edf_header.specs.Fault.{HasAnnotations, IsClean, IsTooLarge, SignalsFail}
-use Rattle.edf_header.specs.Rows.{IsLayout, IsSplit, annotations_at, others_at}
+use Rattle.edf_header.specs.Rows.{IsLayout, IsSplit, others_at}
 use Rattle.edf_header.specs.declared.checks.Check.TheVariants.{Physical, Digital}
 use Rattle.edf_header.proofs.RowFaults.{here, inside, front-plain, behind-is, not-large, ordinary-is}
 use Rattle.edf_header.proofs.HeaderFaults.{clean-21, clean-signals}

@@ -1,17 +1,17 @@
 -- A header that is spelled from its fields is read as what they say.
-use Rattle.std.proofs.Common.{◌≡◌, ℕ, zero, suc, ◌+◌, ◌*◌, ◌^◌, ◌≤◌, ◌<◌, List, [], ◌∷◌, ◌++◌, length, take, drop, Bool, true, false, cond, Option, Some, None, refl, sym, ap, ◌∙◌, subst, arith, append_assoc, ℤ, pos}
+use Rattle.std.proofs.Common.{◌≡◌, ℕ, ◌+◌, ◌*◌, ◌^◌, ◌≤◌, List, [], ◌∷◌, ◌++◌, length, take, Bool, true, false, cond, Option, Some, None, refl, sym, ap, ◌∙◌, subst, arith, append_assoc, ℤ, pos}
 use Rattle.std.specs.Prelude.{All, codes}
 use Rattle.std.specs.List.{flat_map}
 use Rattle.std.proofs.lemmas.List.{length-append, append-nil, take_at, drop_at, take_all}
-use Rattle.std.proofs.lemmas.List.Elements.{All-append, All-push, All-head, All-tail}
+use Rattle.std.proofs.lemmas.List.Elements.{All-append, All-push, All-tail}
 use Rattle.std.proofs.lemmas.List.Sums.{sum_by_push}
 use Rattle.edf_time.specs.Civil.{IsDateText, IsTimeText, IsIdDate}
 use Rattle.edf_header.specs.Number.{field}
-use Rattle.edf_header.specs.Text.{IsPrintable, IsRecording, IsStartdate, IsBehindStartdate, spaces}
-use Rattle.edf_header.specs.Signal.{columns, samples, samples_in_all, signals_of, IsAnnotationsSignal, HasSamples, Passes}
+use Rattle.edf_header.specs.Text.{IsPrintable, IsRecording, IsBehindStartdate, spaces}
+use Rattle.edf_header.specs.Signal.{columns, samples, samples_in_all, signals_of, HasSamples}
 use Rattle.edf_header.specs.Key.{Key, IsSized, IsKey, key_bytes, dated_bytes}
-use Rattle.edf_header.specs.Header.{Header, Fixed, Layout, IsFixedHeader, AreSignals, IsHeader, IsSameDay, IsNumber, IsPlus, IsOrdinary, is_dated, key_of, layout_of}
-use Rattle.edf_header.specs.Spelled.{IsPrinted, Texts, IsSpelledBy, IsSpelledHeader, IsReadAs, spelled_bytes, startdate_text, spelled_layout}
+use Rattle.edf_header.specs.Header.{Header, Fixed, IsFixedHeader, AreSignals, IsSameDay, IsNumber, IsPlus, IsOrdinary, is_dated, layout_of}
+use Rattle.edf_header.specs.Spelled.{Texts, IsSpelledBy, IsSpelledHeader, IsReadAs, spelled_bytes, startdate_text, spelled_layout}
 use Rattle.edf_header.specs.declared.checks.Check.TheVariants as checks
 use Rattle.edf_header.proofs.Strides.{signals-back}
 use Rattle.edf_header.proofs.SpelledTexts.{date-printed, time-printed, id_date-printed, printable-by}

@@ -1,17 +1,17 @@
 -- Bytes begin with one header, or have one fault.
-use Rattle.std.proofs.Common.{◌≡◌, ℕ, zero, suc, ◌+◌, ◌-◌, ◌*◌, ◌≤◌, ◌<◌, List, [], ◌∷◌, ◌++◌, length, take, drop, inl, inr, refl, sym, ap, ◌∙◌, subst, arith}
-use Rattle.std.specs.Prelude.{All}
+use Rattle.std.proofs.Common.{◌≡◌, ℕ, ◌+◌, ◌-◌, ◌*◌, ◌≤◌, ◌<◌, List, [], ◌++◌, take, drop, inl, inr, refl, sym, ap, ◌∙◌, subst, arith}
 use Rattle.std.proofs.lemmas.Bool.{cases_lt}
 use Rattle.std.proofs.lemmas.List.{drop-take, take-take}
 use Rattle.edf_header.specs.Number.{field}
 use Rattle.edf_header.specs.Text.{IsPrintable}
 use Rattle.edf_header.specs.Signal.{signals_of, Passes, IsFirstBad}
-use Rattle.edf_header.specs.Header.{Header, Fixed, IsFixedHeader, AreSignals, IsHeader, IsNumber}
-use Rattle.edf_header.specs.Fault.{Fails, SignalsFail, HasSignals, IsBadSignal, IsClean, IsFirst, IsHeaderFault, number}
+use Rattle.edf_header.specs.Header.{Header, Fixed, Layout, IsFixedHeader, AreSignals, IsHeader, IsNumber, layout_of}
+use Rattle.edf_header.specs.Spelled.{IsReadAs}
+use Rattle.edf_header.specs.Fault.{Fails, SignalsFail, HasSignals, IsBadSignal, IsFirst, IsHeaderFault, number}
 use Rattle.edf_header.specs.declared.checks.Check.{Check}
 use Rattle.edf_header.specs.declared.checks.Check.TheVariants as checks
 use Rattle.edf_header.specs.declared.fault.HeaderFault.{HeaderFault}
-use Rattle.edf_header.specs.declared.fault.HeaderFault.TheVariants.{Cut, Unprintable, Version, Patient, Recording, Startdate, Starttime, DatesDiffer, NotPlus, Count, Duration, Signals, HeaderBytes, CutSignals, UnprintableSignals, Annotations, Physical, Digital, Samples, Size, Memory}
+use Rattle.edf_header.specs.declared.fault.HeaderFault.TheVariants.{Cut, Unprintable, Version, Patient, Recording, Startdate, Starttime, DatesDiffer, NotPlus, Count, Duration, Signals, HeaderBytes, CutSignals, UnprintableSignals, Annotations, Physical, Digital, Samples, Size}
 use Rattle.edf_header.proofs.FixedLaws.{no-fault, one-fixed, one-fault}
 use Rattle.edf_header.proofs.SignalLaws.{one-signals, signals-clean}
 use Rattle.edf_header.proofs.SpelledParts.{IsPartAt, part-here}
@@ -161,3 +161,9 @@ one-header-fault b e f p q =
             one-signals-fault (field b 256 (256 * one.0)) one.0 e f one.3 (subst (λ (m : ℕ). IsFirst (SignalsFail (field b 256 (256 * m)) m) f) n later.3)
       ]
     ]
+
+-- what bytes are read as is all that they are read as
+pub read-as-one : (bytes rest : List ℕ) (layout : Layout) (h : Header) (r : List ℕ) → IsReadAs bytes layout → IsHeader (bytes ++ rest) h r → (layout_of h ≡ layout) × (r ≡ rest)
+read-as-one bytes rest layout h r is i =
+    let same = one-header (bytes ++ rest) h is.header r rest i (is.reads rest) in
+    (ap layout_of same.0 ∙ is.says, same.1)

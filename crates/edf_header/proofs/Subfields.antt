@@ -1,9 +1,9 @@
 -- The subfields of a text, one after another.
-use Rattle.std.proofs.Common.{◌≡◌, ℕ, ◌+◌, ◌-◌, ◌<◌, ◌≤◌, Bool, true, false, not, eqb, cond, List, [], ◌∷◌, ◌++◌, length, get_or, take, drop, arith, one-add, add-zero, refl, sym, ap, ◌∙◌, filter, inl, inr}
+use Rattle.std.proofs.Common.{◌≡◌, ℕ, ◌+◌, ◌<◌, Bool, true, false, not, eqb, cond, List, [], ◌∷◌, ◌++◌, length, get_or, take, drop, arith, one-add, add-zero, refl, sym, ap, ◌∙◌, filter, inl, inr}
 use Rattle.std.specs.Prelude.{nat_lt}
-use Rattle.std.specs.List.{prefix_len, slice_split, onto_first, All}
+use Rattle.std.specs.List.{prefix_len, slice_split, All}
 use Rattle.std.proofs.lemmas.Bool.{cases_lt, lt-ltb, false≢true}
-use Rattle.std.proofs.lemmas.List.{length-drop, length-take, take-append-drop, take_all, get_or-drop, drop_all, drop_more, get_or-take, nil_from_length}
+use Rattle.std.proofs.lemmas.List.{length-drop, length-take, take-append-drop, take_all, get_or-drop, drop_all, drop_more, get_or-take}
 use Rattle.std.proofs.lemmas.List.Sums.{prefix_len-le-length, prefix_len_passes, prefix_len_stops}
 use Rattle.std.proofs.lemmas.List.Splits.{slice_split_none, slice_split_at, slice_split-cons_yes}
 use Rattle.edf_header.specs.Number.{front_len}
@@ -53,12 +53,12 @@ first-front text some =
     let long : 0 < length (take n text) = omega (arith, length-take n text) in
     elim (cases_lt n (length text)) [
       | inl lt ↦
-        let e : take n text ++ (get_or text n 0 ∷ drop (n + 1) text) ≡ text = ap (λ (l : List ℕ). take n text ++ l) (sym (drop_more text n 0 lt)) ∙ take-append-drop n text in
-        ap subfields (sym e) ∙ followed (take n text) (get_or text n 0) (drop (n + 1) text) long (front-all text) (is-space (eqb (get_or text n 0) 32) (prefix_len_stops (λ b. not (eqb b 32)) text 0 lt))
-        ∙ ap (λ (l : List ℕ). take n text ∷ subfields l) (sym (drop_more text n 0 lt))
+          let e : take n text ++ (get_or text n 0 ∷ drop (n + 1) text) ≡ text = ap (λ (l : List ℕ). take n text ++ l) (sym (drop_more text n 0 lt)) ∙ take-append-drop n text in
+          ap subfields (sym e) ∙ followed (take n text) (get_or text n 0) (drop (n + 1) text) long (front-all text) (is-space (eqb (get_or text n 0) 32) (prefix_len_stops (λ b. not (eqb b 32)) text 0 lt))
+          ∙ ap (λ (l : List ℕ). take n text ∷ subfields l) (sym (drop_more text n 0 lt))
       | inr past ↦
-        let e : take n text ≡ text = take_all n text past in
-        ap subfields (sym e) ∙ alone (take n text) long (front-all text) ∙ ap (λ (l : List ℕ). take n text ∷ subfields l) (sym (drop_all n text past))
+          let e : take n text ≡ text = take_all n text past in
+          ap subfields (sym e) ∙ alone (take n text) long (front-all text) ∙ ap (λ (l : List ℕ). take n text ∷ subfields l) (sym (drop_all n text past))
     ]
 
 -- past the spaces at the front something stands at once, or nothing at all
@@ -71,8 +71,8 @@ front-some text some =
     elim (cases_lt 0 (front_len t)) [
       | inl more ↦ more
       | inr none ↦
-        let zero_len : front_len t ≡ 0 = omega arith in
-        let stops : front_len t < length t = omega arith in
-        let there : eqb (get_or t 0 0) 32 ≡ true = ap (λ (k : ℕ). eqb (get_or t k 0) 32) (sym zero_len) ∙ is-space (eqb (get_or t (front_len t) 0) 32) (prefix_len_stops (λ b. not (eqb b 32)) t 0 stops) in
-        absurd (false≢true (sym here ∙ there))
+          let zero_len : front_len t ≡ 0 = omega arith in
+          let stops : front_len t < length t = omega arith in
+          let there : eqb (get_or t 0 0) 32 ≡ true = ap (λ (k : ℕ). eqb (get_or t k 0) 32) (sym zero_len) ∙ is-space (eqb (get_or t (front_len t) 0) 32) (prefix_len_stops (λ b. not (eqb b 32)) t 0 stops) in
+          absurd (false≢true (sym here ∙ there))
     ]

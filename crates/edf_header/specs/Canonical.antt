@@ -1,5 +1,5 @@
 -- The one header that an export has.
-use Rattle.std.specs.Prelude.{◌≡◌, ℕ, ◌+◌, ◌*◌, List, [], ◌∷◌, ◌++◌, length, codes, if◌then◌else◌, ℤ, pos}
+use Rattle.std.specs.Prelude.{◌≡◌, ℕ, ◌+◌, ◌*◌, List, [], ◌∷◌, ◌++◌, length, codes, if◌then◌else◌, pos}
 use Rattle.std.specs.Fmt.{decimal}
 use Rattle.edf_time.specs.Civil.{IsIdDate, IsDateText, IsTimeText, day_of, second_of_day}
 use Rattle.edf_header.specs.Text.{spaces, padded_to}

@@ -3,7 +3,7 @@ use Rattle.std.specs.Prelude.{◌≡◌, ◌≢◌, ℕ, ◌+◌, ◌*◌, ◌�
 use Rattle.edf_time.specs.Civil.{IsDateText, IsTimeText}
 use Rattle.edf_header.specs.Number.{field, IsDuration}
 use Rattle.edf_header.specs.Text.{IsPrintable, IsPatient, IsRecording}
-use Rattle.edf_header.specs.Signal.{signals_of, ordinary, samples, samples_in_all, IsLabelled, IsAnnotationsSignal, Passes, IsFirstBad}
+use Rattle.edf_header.specs.Signal.{signals_of, ordinary, samples_in_all, IsLabelled, IsAnnotationsSignal, Passes, IsFirstBad}
 use Rattle.edf_header.specs.Header.{IsSameDay, IsPlus, IsNumber}
 use Rattle.edf_header.specs.declared.checks.Check.{Check}
 use Rattle.edf_header.specs.declared.checks.Check.TheVariants as checks

@@ -1,5 +1,5 @@
 -- What a header says, and when bytes spell it.
-use Rattle.std.specs.Prelude.{◌≡◌, ◌≢◌, ℕ, ◌+◌, ◌*◌, ◌≤◌, ◌<◌, ◌⊎◌, Bool, true, false, List, [], ◌∷◌, ◌++◌, length, take, All, codes, ℤ, pos, Option, Some, None, if◌then◌else◌}
+use Rattle.std.specs.Prelude.{◌≡◌, ℕ, ◌+◌, ◌*◌, ◌≤◌, ◌<◌, ◌⊎◌, Bool, true, false, List, ◌∷◌, ◌++◌, length, take, All, codes, ℤ, pos, Option, Some, None, if◌then◌else◌}
 use Rattle.edf_time.specs.Civil.{IsCivil, IsDateText, window}
 use Rattle.edf_header.specs.Number.{field, IsWhole, whole_value, IsDuration}
 use Rattle.edf_header.specs.Text.{IsPrintable, IsPatient, IsBehindStartdate, IsRecording, after_of}
@@ -29,7 +29,7 @@ fixed_from patient recording startdate start count duration signals = record {
   start = start;
   count = count;
   duration = duration;
-  signals = signals
+  signals = signals;
 }
 
 -- the same, where the fields of 256 bytes stand
@@ -124,7 +124,7 @@ key_of h = record {
   dated = is_dated h.fixed.startdate;
   after = h.fixed.after;
   duration = h.fixed.duration;
-  signals = h.front ++ h.back
+  signals = h.front ++ h.back;
 }
 
 -- what a header says of its data records: whose they are, from where their onsets count in nanoseconds, how many there are;
@@ -144,5 +144,5 @@ layout_of h = record {
   count = h.fixed.count;
   block_at = 2 * samples_in_all h.front;
   block_bytes = 2 * samples h.annotations;
-  record_bytes = 2 * samples_in_all (h.front ++ h.annotations ∷ h.back)
+  record_bytes = 2 * samples_in_all (h.front ++ h.annotations ∷ h.back);
 }

@@ -1,5 +1,5 @@
 -- When bytes are no identity: the condition of each fault, and the first in their order.
-use Rattle.std.specs.Prelude.{◌≡◌, ℕ, ◌+◌, ◌-◌, ◌*◌, ◌/◌, ◌≤◌, ◌<◌, ◌⊎◌, List, length, drop, slice_index, All}
+use Rattle.std.specs.Prelude.{◌≡◌, ℕ, ◌+◌, ◌-◌, ◌*◌, ◌/◌, ◌≤◌, ◌<◌, ◌⊎◌, List, length, drop, slice_index}
 use Rattle.edf_header.specs.Number.{field, IsDuration, AreSpaces}
 use Rattle.edf_header.specs.Text.{IsPrintable, IsPatient, IsBehindStartdate}
 use Rattle.edf_header.specs.Signal.{rows, samples_in_all, IsFirstBad}

@@ -1,5 +1,5 @@
 -- To which recording a fragment belongs: the key, which fields have it, and its bytes.
-use Rattle.std.specs.Prelude.{◌≡◌, ℕ, ◌+◌, ◌-◌, ◌*◌, ◌/◌, ◌≤◌, ◌==◌, Bool, List, ◌∷◌, ◌++◌, length, drop, slice_index, All, if◌then◌else◌}
+use Rattle.std.specs.Prelude.{◌≡◌, ℕ, ◌-◌, ◌*◌, ◌/◌, ◌≤◌, ◌==◌, Bool, List, ◌∷◌, ◌++◌, length, drop, slice_index, All, if◌then◌else◌}
 use Rattle.std.specs.List.{flat_map}
 use Rattle.edf_header.specs.Number.{field, IsDuration}
 use Rattle.edf_header.specs.Text.{IsPrintable, IsPatient, IsBehindStartdate, spaces}
@@ -37,7 +37,7 @@ key_at bytes = record {
   dated = slice_index bytes 80 == 68;
   after = field bytes 81 (if slice_index bytes 80 == 68 then 59 else 69);
   duration = field bytes 150 8;
-  signals = rows ((length bytes - 158) / 256) (drop 158 bytes)
+  signals = rows ((length bytes - 158) / 256) (drop 158 bytes);
 }
 
 -- the keys that headers name

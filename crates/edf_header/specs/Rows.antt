@@ -66,6 +66,7 @@ pub record ArePlaces (ss : List (List ℕ)) (at : ℕ) (places : Places) : Type 
 pub record IsLayout (l : Layout) : Type 0 where
   pub key : IsKey l.key
   pub some : 1 ≤ l.count
+  pub few : l.count ≤ 99_999_999
   pub inside : l.block_at + l.block_bytes ≤ l.record_bytes
   pub parts : l.record_bytes ≡ 2 * samples_in_all l.key.signals + l.block_bytes
   pub ordinary_size : 2 * samples_in_all l.key.signals ≤ 4_194_304

@@ -1,5 +1,5 @@
 -- The headers of signals: each a row of 256 bytes, its ten fields one behind the other; a file has them in columns.
-use Rattle.std.specs.Prelude.{◌≡◌, ℕ, ◌+◌, ◌*◌, ◌/◌, ◌≤◌, ◌<◌, zero, suc, not, List, [], ◌∷◌, ◌++◌, length, take, drop, map, filter, sum_by, codes, All, ℤ, pos, neg_ℤ, ◌<ℤ◌, ◌≤ℤ◌}
+use Rattle.std.specs.Prelude.{◌≡◌, ℕ, ◌+◌, ◌*◌, ◌/◌, ◌≤◌, ◌<◌, zero, suc, not, List, [], ◌∷◌, length, take, drop, map, filter, sum_by, codes, pos, neg_ℤ, ◌<ℤ◌, ◌≤ℤ◌}
 use Rattle.std.specs.List.{flat_map, range_with_len, HoldsAt, AllWithin}
 use Rattle.std.specs.Str.{bytes_eq}
 use Rattle.edf_header.specs.Number.{field, IsWhole, whole_value, IsSigned, signed_value, IsPhysical, Differ}

@@ -1,5 +1,5 @@
 -- A header spelled field by field, its annotations signal last.
-use Rattle.std.specs.Prelude.{◌≡◌, ℕ, ◌+◌, ◌*◌, ◌^◌, ◌≤◌, Bool, true, false, List, [], ◌∷◌, ◌++◌, length, All, codes, if◌then◌else◌, ℤ, pos, Option, Some, None}
+use Rattle.std.specs.Prelude.{◌≡◌, ℕ, ◌+◌, ◌*◌, ◌≤◌, Bool, List, [], ◌∷◌, ◌++◌, length, All, codes, if◌then◌else◌, pos}
 use Rattle.edf_time.specs.Civil.{IsDateText, IsTimeText, IsIdDate}
 use Rattle.edf_header.specs.Text.{IsPrintable}
 use Rattle.edf_header.specs.Signal.{columns, samples, samples_in_all, IsAnnotationsSignal, HasSamples}

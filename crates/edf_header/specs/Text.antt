@@ -1,5 +1,5 @@
 -- The texts of header fields that name a patient and a recording.
-use Rattle.std.specs.Prelude.{◌≡◌, ℕ, ◌-◌, ◌≤◌, ◌⊎◌, ◌==◌, List, [], ◌∷◌, ◌++◌, length, take, drop, filter, replicate, codes, nat_lt, ℤ, pos, Option, Some, None}
+use Rattle.std.specs.Prelude.{◌≡◌, ℕ, ◌-◌, ◌≤◌, ◌⊎◌, ◌==◌, List, ◌∷◌, ◌++◌, length, take, drop, filter, replicate, codes, nat_lt, ℤ, Option, Some, None}
 use Rattle.std.specs.List.{slice_split}
 use Rattle.edf_time.specs.Civil.{IsIdDate}
 use Rattle.edf_header.specs.Number.{field}

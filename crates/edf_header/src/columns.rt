@@ -38,7 +38,11 @@ fn push_column(
 }
 
 /// Writes the signals field by field.
-pub(crate) fn push_columns(out: &mut Vec<u8>, rows: &[u8], last: &[u8; 256]) -> Result<(), AllocError>
+pub(crate) fn push_columns(
+    out: &mut Vec<u8>,
+    rows: &[u8],
+    last: &[u8; 256],
+) -> Result<(), AllocError>
     ensures { OnOk result (out.new.items ≡ out.old.items ++ columns (rows_of rows.now ++ last.now ∷ [])) }
 {
     for (at, width) in &FIELDS {

@@ -1,3 +1,5 @@
+//! The fields of a header's fixed part, in the order of their faults: each reader relies on what those before it found, and
+//! tells its own fault alone.
 ghost use Rattle.std.specs.Prelude.{◌≡◌, ℕ, ◌+◌, ◌*◌, ◌≤◌, ◌↔◌, All, IsTrue, codes, length, MatchResult};
 ghost use Rattle.edf_time.specs.Civil.{IsCivil, IsDateText};
 ghost use Rattle.edf_header.specs.Number.{field, IsDuration};
@@ -66,7 +68,7 @@ pub(crate) fn read_startdate(bytes: &[u8; 256]) -> Result<Option<Day>, HeaderFau
     requires { IsClean (Fails bytes.now) 5 }
     ensures { MatchResult result
         (λ startdate. IsRecording (field bytes.now 88 80) startdate (after_of startdate (field bytes.now 88 80))
-            × IsClean (Fails bytes.now) 6)
+        × IsClean (Fails bytes.now) 6)
         (IsFirst (Fails bytes.now)) }
 {
     match read_recording(&bytes[88..168]) {
@@ -101,7 +103,8 @@ pub(crate) fn check_same_day(
     requires start { IsCivil (field bytes.now 168 8) (field bytes.now 176 8) start }
     requires clean { IsClean (Fails bytes.now) 8 }
     ensures { MatchResult result
-        (λ _. ((days : ℕ) → IsDateText (field bytes.now 168 8) days → IsSameDay startdate.now days) × IsClean (Fails bytes.now) 9)
+        (λ _. ((days : ℕ) → IsDateText (field bytes.now 168 8) days → IsSameDay startdate.now days)
+        × IsClean (Fails bytes.now) 9)
         (IsFirst (Fails bytes.now)) }
 {
     let Some(day) = startdate else {

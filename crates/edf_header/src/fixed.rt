@@ -10,7 +10,11 @@ use crate::fields::{
 use edf_time::{Day, Instant};
 use std::marker::Model;
 
-/// The fixed part of a header: what its 256 bytes say of the file.
+/// What the fixed part of a header says, its first 256 bytes: whose recording the file belongs to, when it starts, how many
+/// data records and signals it has.
+///
+/// Of the startdate, the starttime and the recording field only their meaning is kept: the instant at which the file starts,
+/// the day of the Startdate subfield or none where that is `X`, and what follows that subfield.
 #[derive(Drop)]
 pub struct Fixed {
     patient: [u8; 80],
@@ -33,7 +37,7 @@ impl Model for Fixed {
 }
 
 impl Fixed {
-    /// The number of signals, the annotations signal among them: 2 to 640.
+    /// The number of signals, 2 to 640, the annotations signal among them: so many headers of 256 bytes follow the fixed part.
     pub fn signals(&self) -> usize
         ensures value { result ≡ self.now.signals }
         ensures from { 2 ≤ result }
@@ -89,7 +93,7 @@ impl Fixed {
     }
 }
 
-/// The fixed part of these bytes, of which all but the copied fields was read.
+/// The fixed part of bytes that spell one, with what was read of them.
 fn fixed_of(
     bytes: &[u8; 256],
     startdate: Option<Day>,
@@ -114,10 +118,16 @@ fn fixed_of(
     }
 }
 
-/// Reads the fixed part of a header.
+/// Reads the fixed part of a header, its first 256 bytes.
+///
+/// The fields are those of EDF with the identification fields of EDF+: version, bytes 0 to 7; patient, 8 to 87; recording, 88 to
+/// 167; startdate, 168 to 175; starttime, 176 to 183; number of header bytes, 184 to 191; reserved, 192 to 235, which begins with
+/// `EDF+C` or `EDF+D`; number of data records, 236 to 243; duration of a data record, 244 to 251; number of signals, 252 to 255.
 ///
 /// # Errors
-/// The first of E2 to E13 that is true, in the order of their numbers.
+/// The first fault of E2 to E13 in the order of their numbers: `Unprintable` with the offset of the first such byte, `Version`,
+/// `Patient`, `Recording`, `Startdate`, `Starttime`, `DatesDiffer` where the Startdate subfield is a date and not the startdate,
+/// `NotPlus`, `Count`, `Duration`, `Signals`, `HeaderBytes`.
 pub fn read_fixed(bytes: &[u8; 256]) -> Result<Fixed, HeaderFault>
     ensures { MatchResult result (IsFixedHeader bytes.now) (IsFirst (Fails bytes.now)) }
 {

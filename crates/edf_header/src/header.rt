@@ -25,21 +25,21 @@ impl Model for Header {
     ghost Value = { Layout };
 
     ghost view = { λ h. record {
-        key = h.identity;
-        start = h.start;
-        count = h.count;
-        block_at = h.block_at;
-        block_bytes = h.block_bytes;
-        record_bytes = h.record_bytes
+      key = h.identity;
+      start = h.start;
+      count = h.count;
+      block_at = h.block_at;
+      block_bytes = h.block_bytes;
+      record_bytes = h.record_bytes;
     } };
 
     ghost invariant = { λ h. IsLayout (record {
-        key = h.identity;
-        start = h.start;
-        count = h.count;
-        block_at = h.block_at;
-        block_bytes = h.block_bytes;
-        record_bytes = h.record_bytes
+      key = h.identity;
+      start = h.start;
+      count = h.count;
+      block_at = h.block_at;
+      block_bytes = h.block_bytes;
+      record_bytes = h.record_bytes;
     }) };
 }
 

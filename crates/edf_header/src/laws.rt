@@ -13,55 +13,46 @@ ghost use Rattle.edf_header.specs.Rows.{IsLayout};
 /// A law: signals written in columns read back.
 pub fn columns_back()
     ensures { (ss : List (List ℕ)) → All (λ s. length s ≡ 256) ss → signals_of (columns ss) (length ss) ≡ ss }
-{
-}
+{}
 
 /// A law: a key reads back from its bytes.
 pub fn key_back()
     ensures { (k : Key) → IsSized k → key_at (key_bytes k) ≡ k }
-{
-}
+{}
 
 /// A law: bytes that have the length and the mark of an identity's are those of the key at them.
 pub fn bytes_back()
     ensures { (bytes : List ℕ) → IsShaped bytes → key_bytes (key_at bytes) ≡ bytes }
-{
-}
+{}
 
 /// A law: the bytes of a key have none of the faults of an identity.
 pub fn key_accepted()
     ensures { (k : Key) → IsKey k → IsCleanKey (key_bytes k) 11 }
-{
-}
+{}
 
 /// A law: a physical value spelled out is read as its digits.
 pub fn physical_read()
     ensures { (sign : Option Bool) (d : ℕ) (ds : List ℕ) (point : Option (List ℕ)) (n : ℕ) → AreDigits (d ∷ ds) → AreDigits (unwrap_or point [])
         → IsSpelledAs (spelled sign (d ∷ ds) point n) (d ∷ ds) (unwrap_or point []) }
-{
-}
+{}
 
 /// A law: a duration field has one value, that of its digits.
 pub fn duration_value()
     ensures { (field : List ℕ) (nanos : ℕ) → IsDuration field nanos → nanos ≡ duration_of field }
-{
-}
+{}
 
 /// A law: behind one fixed part, bytes spell the signals of one header at most.
 pub fn one_signals()
     ensures { (bytes : List ℕ) (header other : HeaderParts) → AreSignals bytes header → AreSignals bytes other → header.fixed ≡ other.fixed → header ≡ other }
-{
-}
+{}
 
 /// A law: bytes that spell a header's signals have none of the faults E14 to E20.
 pub fn signals_have_no_fault()
     ensures { (bytes : List ℕ) (header : HeaderParts) → AreSignals bytes header → IsClean (SignalsFail bytes header.fixed.signals) 21 }
-{
-}
+{}
 
 /// A law: what a header names is a key, and its layout keeps the bounds.
 pub fn header_key()
     ensures key { (bytes : List ℕ) (header : HeaderParts) (rest : List ℕ) → IsHeader bytes header rest → IsKey (key_of header) }
     ensures layout { (bytes : List ℕ) (header : HeaderParts) (rest : List ℕ) → IsHeader bytes header rest → IsLayout (layout_of header) }
-{
-}
+{}

@@ -1,4 +1,13 @@
-// Headers, and the identity of a recording.
+//! The headers of EDF+ files, and the identity of a recording.
+//!
+//! - [`read_fixed`], [`Fixed`]: the fixed part, 256 bytes, or the first of E2 to E13.
+//! - [`read_signals`], [`Header`]: the signal part, 256 bytes a signal, or the first of E14 to E20; what a header says of its
+//!   data records.
+//! - [`HeaderFault`]: why a header is refused, E1 to E20.
+//! - [`Identity`], [`IdentityFault`]: to which recording a file belongs, as bytes and back.
+//! - [`write_header`]: the one header that an export has.
+//! - [`laws`], [`laws_fixed`], [`laws_export`]: a header says one thing, and what is written is read again; functions that do
+//!   nothing, each with a law for a contract.
 #![tactic(auto)]
 
 mod checks;
@@ -6,37 +15,28 @@ mod columns;
 mod export;
 mod fault;
 mod fields;
+#[cfg(test)]
+mod filled;
 mod fixed;
 mod header;
 mod identity;
 mod identity_parts;
 mod key;
-mod laws;
-mod laws_export;
-mod laws_fixed;
-mod naming;
+pub mod laws;
+pub mod laws_export;
+pub mod laws_fixed;
 mod number;
 mod ordinary;
-mod physical;
 mod patient;
+mod physical;
 mod recording;
 mod rows;
 mod signals;
 mod subfield;
 
-pub use checks::Check;
 pub use export::write_header;
 pub use fault::HeaderFault;
 pub use fixed::{Fixed, read_fixed};
 pub use header::Header;
 pub use identity::{Identity, IdentityFault};
-pub use laws::{
-    bytes_back, columns_back, duration_value, header_key, key_accepted, key_back, one_signals,
-    physical_read, signals_have_no_fault,
-};
-pub use laws_export::{
-    export_reads, header_no_fault, is_header_one, one_export, one_header_fault, spelled_reads,
-};
-pub use laws_fixed::{fixed_has_no_fault, one_fixed, one_fixed_fault, spelled_is_fixed};
-pub use naming::definitions_elaborate;
 pub use signals::read_signals;

@@ -160,3 +160,6 @@ pub fn read_signals(alloc: Global, fixed: Fixed, bytes: &[u8]) -> Result<Header,
         record_bytes: places.record_bytes,
     })
 }
+
+#[cfg(test)]
+mod tests;

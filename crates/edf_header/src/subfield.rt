@@ -1,3 +1,4 @@
+//! The subfields of an identification: its parts between runs of spaces.
 ghost use Rattle.std.specs.Prelude.{◌≡◌, ◌∷◌, ◌==◌, [], not, MatchOption};
 ghost use Rattle.std.specs.List.{prefix_len};
 ghost use Rattle.edf_header.specs.Number.{front_len};

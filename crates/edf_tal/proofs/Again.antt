@@ -1,6 +1,6 @@
 -- The canonical block is read again as what was written.
-use Rattle.std.proofs.Common.{◌≡◌, ◌≢◌, ℕ, zero, suc, ◌+◌, ◌-◌, ◌^◌, ◌≤◌, ◌<◌, List, [], ◌∷◌, ◌++◌, length, take, drop, map, arith, refl, sym, ap, ◌∙◌, subst, append_assoc, inl, inr, ℤ, pos, neg_ℤ, Option, Some, None}
-use Rattle.std.specs.Prelude.{IsUtf8, replicate, unsigned_abs, ◌-ℤ◌, ◌+ℤ◌, ◌≤ℤ◌, ◌<ℤ◌, nat_le, IfSome, if◌then◌else◌}
+use Rattle.std.proofs.Common.{◌≡◌, ℕ, zero, suc, ◌+◌, ◌-◌, ◌^◌, ◌≤◌, ◌<◌, List, [], ◌∷◌, ◌++◌, map, arith, refl, sym, ap, ◌∙◌, subst, append_assoc, inl, inr, pos, neg_ℤ, Option, Some, None}
+use Rattle.std.specs.Prelude.{replicate, unsigned_abs, ◌-ℤ◌, ◌+ℤ◌, ◌≤ℤ◌, ◌<ℤ◌, nat_le, IfSome, if◌then◌else◌}
 use Rattle.std.specs.List.{AllByRecursion, flat_map}
 use Rattle.std.proofs.lemmas.Bool.{cases_lt}
 use Rattle.std.proofs.lemmas.Bool.Decides.{nat_tests}
@@ -10,7 +10,7 @@ use Rattle.std.proofs.lemmas.Str.{IsUtf8-nil}
 use Rattle.edf_time.specs.Decimal.{IsSeconds, short}
 use Rattle.edf_time.specs.Civil.{window, IsInWindow}
 use Rattle.edf_time.proofs.Short.{IsSeconds-short}
-use Rattle.edf_tal.specs.Tal.{Tal, Annotation, IsTal, IsOnset, IsDurationPart, IsText, ended, AreTals, AreTalsAndZeros, IsTimed, IsTalInWindow, instant, annotations_of, notes, begin}
+use Rattle.edf_tal.specs.Tal.{Tal, Annotation, IsTal, IsOnset, IsDurationPart, ended, AreTals, IsTalInWindow, instant, annotations_of}
 use Rattle.edf_tal.specs.Note.{IsNote}
 use Rattle.edf_tal.specs.Block.{IsRead, IsWithinLimits, KeepsPlace}
 use Rattle.edf_tal.specs.Canonical.{onset_text, duration_text, tal_text, time_keeping, block_text}
@@ -18,6 +18,7 @@ use Rattle.edf_tal.specs.declared.place.Place.{Place}
 use Rattle.edf_tal.specs.declared.place.Place.TheVariants.{First, After, Any}
 use Rattle.edf_tal.specs.Scan.{AreZeros}
 use Rattle.edf_tal.proofs.BadText.{AreGood}
+use Rattle.edf_tal.proofs.OneAnswer.{SameAnswer, one-read}
 
 ahead : (base onset : ℕ) → base ≤ onset → pos onset -ℤ pos base ≡ pos (onset - base)
 ahead base onset h = omega (arith, ints)
@@ -43,13 +44,13 @@ pub IsOnset-text : (base onset : ℕ) → base < window → onset < window → I
 IsOnset-text base onset low in-window =
     elim (cases_lt onset base) [
       | inl less ↦
-        let z = behind base onset less in
-        let n : unsigned_abs (pos onset -ℤ pos base) ≡ base - onset = ap unsigned_abs z ∙ abs-neg (base - onset) in
-        inr (minus base onset less, (base - onset, rw n (seconds (base - onset) (omega arith)), z))
+          let z = behind base onset less in
+          let n : unsigned_abs (pos onset -ℤ pos base) ≡ base - onset = ap unsigned_abs z ∙ abs-neg (base - onset) in
+          inr (minus base onset less, (base - onset, rw n (seconds (base - onset) (omega arith)), z))
       | inr more ↦
-        let z = ahead base onset more in
-        let n : unsigned_abs (pos onset -ℤ pos base) ≡ onset - base = ap unsigned_abs z in
-        inl (plus base onset more, (onset - base, rw n (seconds (onset - base) (omega arith)), z))
+          let z = ahead base onset more in
+          let n : unsigned_abs (pos onset -ℤ pos base) ≡ onset - base = ap unsigned_abs z in
+          inl (plus base onset more, (onset - base, rw n (seconds (onset - base) (omega arith)), z))
     ]
 
 pub IsDurationPart-text : (d : Option ℕ) → IfSome d (λ n. n < window) → IsDurationPart (duration_text d) d
@@ -70,7 +71,7 @@ IsTal-text base a low h = record {
   parts = in-parts (onset_text base a.onset) (duration_text a.duration) a.text;
   is_onset = IsOnset-text base a.onset low h.onset;
   is_duration = IsDurationPart-text a.duration h.duration;
-  are_texts = (h.text, tt)
+  are_texts = (h.text, tt);
 }
 
 AreTals-text : (base : ℕ) (list : List Annotation) → base < window → AllByRecursion IsNote list → AreTals (flat_map (tal_text base) list) (map (tal_of base) list)
@@ -102,7 +103,7 @@ notes-back : (base : ℕ) (list : List Annotation) → flat_map (annotations_of 
 notes-back base [] = refl
 notes-back base (a ∷ list) =
     let first : a ≡ record { onset = instant base (pos a.onset -ℤ pos base); duration = a.duration; text = a.text } =
-      ap (λ (o : ℕ). record a { onset = o }) (sym (instant-back base a.onset)) in
+    ap (λ (o : ℕ). record a { onset = o }) (sym (instant-back base a.onset)) in
     let more = notes-back base list in
     cc
 
@@ -125,7 +126,7 @@ read-again p base start n list low in-window' all limits keeps =
       window = AreInWindow-text base (time_keeping start ∷ list) whole;
       limits = limits;
       start_is = sym (instant-back base start);
-      list_is = sym (notes-back base list)
+      list_is = sym (notes-back base list);
     }
 
 keeps-first : (base start : ℕ) → base ≤ start → start < base + 10 ^ 9 → (pos 0 ≤ℤ (pos start -ℤ pos base)) × ((pos start -ℤ pos base) <ℤ pos (10 ^ 9))
@@ -144,3 +145,23 @@ read-after base start n before duration list low in-window' all limits later =
 pub read-any : (base start n : ℕ) (list : List Annotation) → base < window → start < window → AllByRecursion IsNote list → IsWithinLimits list
     → IsRead (block_text base start list ++ replicate n 0) base Any start list
 read-any base start n list low in-window' all limits = read-again Any base start n list low in-window' all limits tt
+
+-- what is read at a place is read without one
+pub read-elsewhere : (b : List ℕ) (s : ℕ) (p : Place) (start : ℕ) (list : List Annotation) → IsRead b s p start list → IsRead b s Any start list
+read-elsewhere b s p start list r = record {
+  tals = r.tals;
+  block = r.block;
+  timed = r.timed;
+  keeps = tt;
+  window = r.window;
+  limits = r.limits;
+  start_is = r.start_is;
+  list_is = r.list_is;
+}
+
+-- a canonical block is written of one start and list
+pub one-writing : (base m n : ℕ) (k l : List Annotation) → base < window → m < window → n < window → AllByRecursion IsNote k → AllByRecursion IsNote l
+    → IsWithinLimits k → IsWithinLimits l → block_text base m k ≡ block_text base n l → SameAnswer m n k l
+one-writing base m n k l low p q a b c d e =
+    one-read (block_text base m k ++ replicate 0 0) base Any m n k l (read-any base m 0 k low p a c)
+    (subst (λ (x : List ℕ). IsRead (x ++ replicate 0 0) base Any n l) (sym e) (read-any base n 0 l low q b d))

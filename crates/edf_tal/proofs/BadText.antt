@@ -1,12 +1,12 @@
 -- The first text that is no UTF-8 has one place.
-use Rattle.std.proofs.Common.{◌≡◌, ◌≢◌, ℕ, zero, suc, ◌+◌, ◌-◌, ◌≤◌, ◌<◌, List, [], ◌∷◌, ◌++◌, length, take, drop, arith, refl, sym, ap, ◌∙◌, subst, append_assoc, inl, inr, ℤ, Option, Some, None}
+use Rattle.std.proofs.Common.{◌≡◌, ℕ, ◌+◌, List, [], ◌∷◌, ◌++◌, length, arith, refl, sym, ap, ◌∙◌, subst, append_assoc, ℤ, Option}
 use Rattle.std.specs.Prelude.{IsUtf8}
 use Rattle.std.specs.List.{AllByRecursion}
-use Rattle.std.proofs.lemmas.List.{length-append, append-nil}
+use Rattle.std.proofs.lemmas.List.{length-append}
 use Rattle.edf_tal.specs.Tal.{Tal, IsTal, IsOnset, IsDurationPart, IsText, ended, AreTals, AreTalsAndZeros}
 use Rattle.edf_tal.specs.Block.{IsBadText}
-use Rattle.edf_tal.specs.Scan.{Lacks, NoTal, AreZeros}
-use Rattle.edf_tal.proofs.Unique.{SameSides, same-sides, Lacks-append, Lacks-onset, Lacks-duration, Lacks-text}
+use Rattle.edf_tal.specs.Scan.{Lacks, AreZeros}
+use Rattle.edf_tal.proofs.Unique.{same-sides, Lacks-append, Lacks-onset, Lacks-duration, Lacks-text}
 use Rattle.edf_tal.proofs.Fronts.{same-front, HasEnd-tal}
 use Rattle.edf_tal.proofs.OneBlock.{no-onset, zeros-no-tal, tal-sides}
 
@@ -62,9 +62,9 @@ bad-split bytes at b = record {
     good_texts = b.good_texts;
     is_text = b.is_text;
     bad = b.bad;
-    place = refl
+    place = refl;
   };
-  place = let e : at ≡ length b.front + length b.onset + length b.duration + 1 + length (ended b.good) = b.place in omega arith
+  place = let e : at ≡ length b.front + length b.onset + length b.duration + 1 + length (ended b.good) = b.place in omega arith;
 }
 
 pub bad-join : (bytes front rest : List ℕ) (tals : List Tal) (at inner : ℕ) → bytes ≡ front ++ rest → AreTals front tals → AreGood tals
@@ -85,7 +85,7 @@ bad-join bytes front rest tals at inner e whole good b place = record {
   good_texts = b.good_texts;
   is_text = b.is_text;
   bad = b.bad;
-  place = let p : inner ≡ length b.onset + length b.duration + 1 + length (ended b.good) = b.place in omega arith
+  place = let p : inner ≡ length b.onset + length b.duration + 1 + length (ended b.good) = b.place in omega arith;
 }
 
 -- a text and its end do not begin with 0
@@ -108,7 +108,7 @@ among (y ∷ good) [] text back rest g p ts us e =
     absurd (no-zero y (ended good ++ (text ++ 20 ∷ back)) rest g.0.0 (sym (first-text y good (text ++ 20 ∷ back)) ∙ e))
 among (y ∷ good) (x ∷ xs) text back rest g p ts us e =
     let s = same-sides 20 y x (ended good ++ (text ++ 20 ∷ back)) (ended xs ++ 0 ∷ rest) (Lacks-text y g.0.0) (Lacks-text x ts.0)
-      (sym (first-text y good (text ++ 20 ∷ back)) ∙ e ∙ first-text x xs (0 ∷ rest)) in
+    (sym (first-text y good (text ++ 20 ∷ back)) ∙ e ∙ first-text x xs (0 ∷ rest)) in
     among good xs text back rest g.1 p ts.1 us.1 s.back
 
 Lacks-head : (o d : List ℕ) → ((z : ℤ) × IsOnset o z) → ((k : Option ℕ) × IsDurationPart d k) → Lacks 20 (o ++ d)
@@ -118,14 +118,14 @@ Lacks-head o d (z, p) (k, q) = Lacks-append 20 o d (Lacks-onset 20 o z (omega ar
 pub good-front : (bytes front rest : List ℕ) (t : Tal) (at : ℕ) → bytes ≡ front ++ rest → IsTal front t → AllByRecursion IsUtf8 t.texts → IsBadFront bytes at → ⊥
 good-front bytes front rest t at e s good b =
     let sides = same-sides 20 (b.onset ++ b.duration) (s.onset ++ s.duration) (ended b.good ++ (b.text ++ 20 ∷ b.back)) (ended t.texts ++ 0 ∷ rest)
-      (Lacks-head b.onset b.duration b.is_onset b.is_duration) (Lacks-head s.onset s.duration (t.onset, s.is_onset) (t.duration, s.is_duration))
-      (sym b.parts ∙ e ∙ tal-sides front rest t s) in
+    (Lacks-head b.onset b.duration b.is_onset b.is_duration) (Lacks-head s.onset s.duration (t.onset, s.is_onset) (t.duration, s.is_duration))
+    (sym b.parts ∙ e ∙ tal-sides front rest t s) in
     b.bad (among b.good t.texts b.text b.back rest b.good_texts b.is_text s.are_texts good sides.back)
 
 zeros-front : (zeros : List ℕ) (at : ℕ) → AreZeros zeros → IsBadFront zeros at → ⊥
 zeros-front zeros at a b =
     no-onset b.onset (b.duration ++ 20 ∷ (ended b.good ++ (b.text ++ 20 ∷ b.back))) zeros b.is_onset.0 a b.is_onset.1
-      (b.parts ∙ append_assoc b.onset b.duration (20 ∷ (ended b.good ++ (b.text ++ 20 ∷ b.back))))
+    (b.parts ∙ append_assoc b.onset b.duration (20 ∷ (ended b.good ++ (b.text ++ 20 ∷ b.back))))
 
 regroup : (f r x f' r' x' front front' : List ℕ) → front ≡ f ++ r → front' ≡ f' ++ r' → front ++ x ≡ front' ++ x' → f ++ (r ++ x) ≡ f' ++ (r' ++ x')
 regroup f r x f' r' x' front front' p q e =
@@ -161,7 +161,7 @@ same-good (g ∷ gs) [] x y back rest a m p q b c e =
     absurd (c (rw (← s.front) (a.0.1)))
 same-good (g ∷ gs) (m ∷ ms) x y back rest a d p q b c e =
     let s = same-sides 20 g m (ended gs ++ (x ++ 20 ∷ back)) (ended ms ++ (y ++ 20 ∷ rest)) (Lacks-text g a.0.0) (Lacks-text m d.0.0)
-      (sym (first-text g gs (x ++ 20 ∷ back)) ∙ e ∙ first-text m ms (y ++ 20 ∷ rest)) in
+    (sym (first-text g gs (x ++ 20 ∷ back)) ∙ e ∙ first-text m ms (y ++ 20 ∷ rest)) in
     let first : g ≡ m = s.front in
     let next : gs ≡ ms = same-good gs ms x y back rest a.1 d.1 p q b c s.back in
     cc
@@ -169,10 +169,10 @@ same-good (g ∷ gs) (m ∷ ms) x y back rest a d p q b c e =
 one-front : (bytes : List ℕ) (j k : ℕ) → IsBadFront bytes j → IsBadFront bytes k → j ≡ k
 one-front bytes j k b c =
     let s = same-sides 20 (b.onset ++ b.duration) (c.onset ++ c.duration) (ended b.good ++ (b.text ++ 20 ∷ b.back)) (ended c.good ++ (c.text ++ 20 ∷ c.back))
-      (Lacks-head b.onset b.duration b.is_onset b.is_duration) (Lacks-head c.onset c.duration c.is_onset c.is_duration) (sym b.parts ∙ c.parts) in
+    (Lacks-head b.onset b.duration b.is_onset b.is_duration) (Lacks-head c.onset c.duration c.is_onset c.is_duration) (sym b.parts ∙ c.parts) in
     let g = same-good b.good c.good b.text c.text b.back c.back b.good_texts c.good_texts b.is_text c.is_text b.bad c.bad s.back in
     let heads : length b.onset + length b.duration ≡ length c.onset + length c.duration =
-      sym (length-append b.onset b.duration) ∙ ap length s.front ∙ length-append c.onset c.duration in
+    sym (length-append b.onset b.duration) ∙ ap length s.front ∙ length-append c.onset c.duration in
     let goods : length (ended b.good) ≡ length (ended c.good) = ap (λ (x : List (List ℕ)). length (ended x)) g in
     let p : j ≡ length b.onset + length b.duration + 1 + length (ended b.good) = b.place in
     let q : k ≡ length c.onset + length c.duration + 1 + length (ended c.good) = c.place in

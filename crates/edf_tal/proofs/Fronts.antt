@@ -1,11 +1,10 @@
 -- A TAL ends with its first byte 0, so bytes begin with one TAL at most.
-use Rattle.std.proofs.Common.{◌≡◌, ◌≢◌, ℕ, zero, suc, ◌+◌, ◌-◌, ◌≤◌, ◌<◌, List, [], ◌∷◌, ◌++◌, length, take, drop, arith, refl, sym, ap, ◌∙◌, subst, append_assoc, Option, Some, None}
+use Rattle.std.proofs.Common.{◌≡◌, ℕ, ◌≤◌, List, [], ◌∷◌, ◌++◌, length, arith, refl, sym, ap, ◌∙◌, append_assoc, Option, Some, None}
 use Rattle.std.specs.List.{AllByRecursion}
-use Rattle.std.proofs.lemmas.List.{length-append, length-take, length-drop, take-append-drop, append-nil, take_at, take_all}
-use Rattle.edf_tal.specs.Tal.{Tal, IsTal, IsOnset, IsDurationPart, IsText, ended, AreTals}
-use Rattle.edf_tal.specs.Block.{IsLongestFront}
+use Rattle.std.proofs.lemmas.List.{length-append, append-nil}
+use Rattle.edf_tal.specs.Tal.{Tal, IsTal, IsDurationPart, IsText, ended, AreTals}
 use Rattle.edf_tal.specs.Scan.{Lacks, NoTal}
-use Rattle.edf_tal.proofs.Unique.{SameSides, same-sides, Lacks-append, Lacks-onset, Lacks-text, Lacks-seconds}
+use Rattle.edf_tal.proofs.Unique.{SameSides, same-sides, Lacks-append, Lacks-onset, Lacks-seconds}
 
 NoZero-duration : (bytes : List ℕ) (d : Option ℕ) → IsDurationPart bytes d → Lacks 0 bytes
 NoZero-duration bytes None e = rw e tt
@@ -35,7 +34,7 @@ pub HasEnd-tal : (bytes : List ℕ) (t : Tal) → IsTal bytes t → HasEnd bytes
 HasEnd-tal bytes t s = record {
   body = s.onset ++ s.duration ++ 20 ∷ ended t.texts;
   parts = s.parts;
-  no_zero = NoZero-tal bytes t s
+  no_zero = NoZero-tal bytes t s;
 }
 
 -- of two TALs at the front of the same bytes, one is the other

@@ -1,15 +1,14 @@
 -- What the scan's helpers test.
-use Rattle.std.proofs.Common.{◌≡◌, ◌≢◌, ℕ, zero, suc, ◌+◌, ◌-◌, ◌^◌, ◌≤◌, ◌<◌, ◌⊎◌, Bool, true, false, min, nat_eq, List, [], ◌∷◌, ◌++◌, length, get_or, take, drop, arith, refl, sym, ap, ◌∙◌, subst, inl, inr, append_assoc, ℤ, pos, neg_ℤ, Option, Some, None}
+use Rattle.std.proofs.Common.{◌≡◌, ◌≢◌, ℕ, suc, ◌-◌, ◌^◌, ◌≤◌, ◌<◌, ◌⊎◌, nat_eq, List, [], ◌∷◌, ◌++◌, length, get_or, take, drop, arith, refl, sym, ap, ◌∙◌, subst, inl, inr, append_assoc, ℤ, pos, neg_ℤ, Option, Some, None}
 use Rattle.std.specs.Prelude.{IsTrue}
 use Rattle.std.specs.List.{AllByRecursion}
-use Rattle.std.proofs.lemmas.Bool.{cases_lt, cases_eq}
+use Rattle.std.proofs.lemmas.Bool.{cases_eq}
 use Rattle.std.proofs.lemmas.List.{append-nil, length-append, take_all}
 use Rattle.edf_time.specs.Decimal.{IsDecimal, IsFine, IsSeconds}
 use Rattle.edf_tal.specs.Tal.{Tal, IsTal, IsOnset, IsDurationPart, IsText, ended}
-use Rattle.edf_tal.specs.Scan.{Lacks, NoTal, IsTimes, IsHead, IsEnded, IsFront, capped, TellsOnset, TellsDuration}
-use Rattle.edf_tal.proofs.Unique.{same-sides, SameSides, not-both, same-parts, Lacks-append, Lacks-onset, Lacks-duration, Lacks-text, Lacks-seconds}
+use Rattle.edf_tal.specs.Scan.{Lacks, NoTal, IsTimes, IsHead, IsEnded, IsFront, capped}
+use Rattle.edf_tal.proofs.Unique.{same-sides, not-both, same-parts, Lacks-append, Lacks-onset, Lacks-duration, Lacks-seconds}
 use Rattle.edf_tal.proofs.Fronts.{NoZero-tal}
-use Rattle.edf_tal.proofs.OneBlock.{tal-sides}
 
 -- a decimal that is too fine has no value
 pub too-fine : (text w f : List ℕ) (n : ℕ) → IsDecimal text w f → ¬ IsFine f → ¬ IsSeconds text n
@@ -71,9 +70,9 @@ head-signed b bytes z d h = signed-of b bytes h.onset h.duration z d h.parts h.i
 pub no-head : (z : ℤ) (d : Option ℕ) → ¬ IsHead [] z d
 no-head z d h = none h.onset h.parts h.is_onset
   where
-  none : (o : List ℕ) → [] ≡ o ++ h.duration → IsOnset o z → ⊥
-  none [] e p = p
-  none (c ∷ o) e p = cc
+    none : (o : List ℕ) → [] ≡ o ++ h.duration → IsOnset o z → ⊥
+    none [] e p = p
+    none (c ∷ o) e p = cc
 
 -- the head of a sign
 pub head-plus : (bytes : List ℕ) (n : ℕ) (d : Option ℕ) → IsTimes bytes n d → IsHead (43 ∷ bytes) (pos n) d
@@ -89,7 +88,7 @@ head-apart (b ∷ head) some = let e : suc (length head) - 1 ≡ length head = o
 
 -- no other sign
 pub neither : (b : ℕ) (bytes : List ℕ) (z : ℤ) (d : Option ℕ) → b ≢ 43 → b ≢ 45 → ¬ IsHead (b ∷ bytes) z d
-neither b bytes z d p q h = elim (head-signed b bytes z d h).sign [ | inl e ↦ p e | inr e ↦ q e ]
+neither b bytes z d p q h = elim (head-signed b bytes z d h).sign [ inl e ↦ p e | inr e ↦ q e ]
 
 -- the last byte
 IsEnded-last : (b : ℕ) (bytes : List ℕ) → IsEnded (b ∷ bytes) → get_or (b ∷ bytes) (length bytes) 0 ≡ 20
@@ -115,9 +114,10 @@ IsEnded-ended (x ∷ y ∷ texts) = IsEnded-append (x ++ 20 ∷ []) (ended (y �
 pub ended-tests : (bytes : List ℕ) → 0 < length bytes → (IsTrue (nat_eq (get_or bytes (length bytes - 1) 0) 20) → IsEnded bytes) × (IsEnded bytes → IsTrue (nat_eq (get_or bytes (length bytes - 1) 0) 20))
 ended-tests [] some = absurd (omega arith)
 ended-tests (b ∷ bytes) some =
-    let at : suc (length bytes) - 1 ≡ length bytes = omega arith in
-    (λ t. last-IsEnded b bytes (let e : get_or (b ∷ bytes) (suc (length bytes) - 1) 0 ≡ 20 = grind (arith, t) in subst (λ (i : ℕ). get_or (b ∷ bytes) i 0 ≡ 20) at e),
-      λ e. let f : get_or (b ∷ bytes) (suc (length bytes) - 1) 0 ≡ 20 = subst (λ (i : ℕ). get_or (b ∷ bytes) i 0 ≡ 20) (sym at) (IsEnded-last b bytes e) in rw f refl)
+    let at : suc (length bytes) - 1 ≡ length bytes = omega arith in (
+      λ t. last-IsEnded b bytes (let e : get_or (b ∷ bytes) (suc (length bytes) - 1) 0 ≡ 20 = grind (arith, t) in subst (λ (i : ℕ). get_or (b ∷ bytes) i 0 ≡ 20) at e),
+      λ e. let f : get_or (b ∷ bytes) (suc (length bytes) - 1) 0 ≡ 20 = subst (λ (i : ℕ). get_or (b ∷ bytes) i 0 ≡ 20) (sym at) (IsEnded-last b bytes e) in rw f refl,
+    )
 
 -- the texts of a tail
 pub record Texts (tail : List ℕ) : Type 0 where
@@ -128,9 +128,9 @@ pub record Texts (tail : List ℕ) : Type 0 where
 onto : (b : ℕ) (tail : List ℕ) → b ≢ 0 → b ≢ 20 → 0 < length tail → Texts tail → Texts (b ∷ tail)
 onto b tail nz nt some t = go t.texts t.parts t.are_texts
   where
-  go : (ts : List (List ℕ)) → tail ≡ ended ts → AllByRecursion IsText ts → Texts (b ∷ tail)
-  go [] e a = absurd (omega (arith, ap length e))
-  go (x ∷ xs) e a = record { texts = (b ∷ x) ∷ xs; parts = ap (λ (w : List ℕ). b ∷ w) e; are_texts = (((nz, nt), a.0), a.1) }
+    go : (ts : List (List ℕ)) → tail ≡ ended ts → AllByRecursion IsText ts → Texts (b ∷ tail)
+    go [] e a = absurd (omega (arith, ap length e))
+    go (x ∷ xs) e a = record { texts = (b ∷ x) ∷ xs; parts = ap (λ (w : List ℕ). b ∷ w) e; are_texts = (((nz, nt), a.0), a.1) }
 
 pub texts-of : (tail : List ℕ) → Lacks 0 tail → IsEnded tail → Texts tail
 texts-of [] nz e = record { texts = []; parts = refl; are_texts = tt }
@@ -157,7 +157,7 @@ front-body bytes body rest front behind t lacks e f s =
 pub no-zero-byte : (bytes : List ℕ) → Lacks 0 bytes → NoTal bytes
 no-zero-byte bytes lacks front rest t e s =
     not-both 0 bytes ((s.onset ++ s.duration) ++ 20 ∷ ended t.texts) rest lacks
-      (e ∙ ap (λ (w : List ℕ). w ++ rest) s.parts ∙ append_assoc ((s.onset ++ s.duration) ++ 20 ∷ ended t.texts) (0 ∷ []) rest)
+    (e ∙ ap (λ (w : List ℕ). w ++ rest) s.parts ∙ append_assoc ((s.onset ++ s.duration) ++ 20 ∷ ended t.texts) (0 ∷ []) rest)
 
 pub no-twenty : (bytes body rest : List ℕ) → Lacks 0 body → bytes ≡ body ++ 0 ∷ rest → Lacks 20 body → NoTal bytes
 no-twenty bytes body rest lacks e none front behind t f s =
@@ -171,11 +171,11 @@ pub front-sides : (bytes body rest head texts front behind : List ℕ) (t : Tal)
     → bytes ≡ front ++ behind → IsTal front t → Sides head texts t
 front-sides bytes body rest head texts front behind t lacks e lacks' f g s =
     let same = same-sides 20 head (s.onset ++ s.duration) texts (ended t.texts) lacks'
-      (Lacks-append 20 s.onset s.duration (Lacks-onset 20 s.onset t.onset (omega arith) s.is_onset) (Lacks-duration s.duration t.duration s.is_duration))
-      (sym f ∙ (front-body bytes body rest front behind t lacks e g s).body_is) in
+    (Lacks-append 20 s.onset s.duration (Lacks-onset 20 s.onset t.onset (omega arith) s.is_onset) (Lacks-duration s.duration t.duration s.is_duration))
+    (sym f ∙ (front-body bytes body rest front behind t lacks e g s).body_is) in
     record {
       head = record { onset = s.onset; duration = s.duration; parts = same.front; is_onset = s.is_onset; is_duration = s.is_duration };
-      texts = same.back
+      texts = same.back;
     }
 
 Lacks-back : (c : ℕ) (a b : List ℕ) → Lacks c (a ++ b) → Lacks c b
@@ -186,17 +186,19 @@ pub front-made : (bytes body rest head texts : List ℕ) (z : ℤ) (d : Option �
     → (x : Texts texts) × IsFront bytes texts rest (record { onset = z; duration = d; texts = x.texts })
 front-made bytes body rest head texts z d lacks e f h ends =
     let none : Lacks 0 texts = (Lacks-back 0 head (20 ∷ texts) (subst (λ (w : List ℕ). Lacks 0 w) f lacks)).1 in
-    let x = texts-of texts none ends in
-    (x, record {
-      front = body ++ 0 ∷ [];
-      parts = e ∙ sym (append_assoc body (0 ∷ []) rest);
-      tal = record {
-        onset = h.onset;
-        duration = h.duration;
-        parts = ap (λ (w : List ℕ). w ++ 0 ∷ []) (f ∙ ap (λ (w : List ℕ). w ++ 20 ∷ texts) h.parts ∙ ap (λ (w : List ℕ). (h.onset ++ h.duration) ++ 20 ∷ w) x.parts);
-        is_onset = h.is_onset;
-        is_duration = h.is_duration;
-        are_texts = x.are_texts
-      };
-      texts_are = x.parts
-    })
+    let x = texts-of texts none ends in (
+      x,
+      record {
+        front = body ++ 0 ∷ [];
+        parts = e ∙ sym (append_assoc body (0 ∷ []) rest);
+        tal = record {
+          onset = h.onset;
+          duration = h.duration;
+          parts = ap (λ (w : List ℕ). w ++ 0 ∷ []) (f ∙ ap (λ (w : List ℕ). w ++ 20 ∷ texts) h.parts ∙ ap (λ (w : List ℕ). (h.onset ++ h.duration) ++ 20 ∷ w) x.parts);
+          is_onset = h.is_onset;
+          is_duration = h.is_duration;
+          are_texts = x.are_texts;
+        };
+        texts_are = x.parts;
+      },
+    )

@@ -1,8 +1,8 @@
 -- The first fault of a block.
-use Rattle.std.proofs.Common.{◌≡◌, ◌≢◌, ℕ, zero, suc, ◌+◌, ◌-◌, ◌^◌, ◌≤◌, ◌<◌, Bool, true, false, List, [], ◌∷◌, ◌++◌, length, take, drop, map, arith, refl, sym, ap, ◌∙◌, subst, append_assoc, ℤ, pos, Option, Some, None}
-use Rattle.std.specs.Prelude.{IsTrue, IsUtf8, sum_by, ◌≤ℤ◌, ◌<ℤ◌, ◌↔◌}
+use Rattle.std.proofs.Common.{◌≡◌, ℕ, suc, ◌+◌, ◌-◌, ◌≤◌, ◌<◌, Bool, List, [], ◌∷◌, ◌++◌, length, take, drop, map, arith, refl, sym, ap, ◌∙◌, subst, append_assoc}
+use Rattle.std.specs.Prelude.{IsTrue, ◌↔◌}
 use Rattle.std.specs.List.{AllByRecursion, flat_map}
-use Rattle.std.proofs.lemmas.List.{append-nil, length-append, length-take, length-drop, take-append-drop, take_at}
+use Rattle.std.proofs.lemmas.List.{length-append, length-take, take-append-drop, take_at}
 use Rattle.std.proofs.lemmas.List.Sums.{sum_by-cons}
 use Rattle.edf_tal.specs.Tal.{Tal, Annotation, IsTal, IsText, ended, AreTals, AreTalsAndZeros, IsTimed, IsTalInWindow, instant, annotations_of, notes, begin}
 use Rattle.edf_tal.specs.Block.{IsBadText, IsLongestFront, IsWithinLimits, KeepsPlace, Fails, number, IsBlockFault}
@@ -31,8 +31,8 @@ longest-front block rest b last =
       within = omega (arith, ap length b.parts, length-append b.front rest);
       front = rw (b.parts, take_at b.front rest (length b.front) refl) b.whole;
       longest = λ m others low others-are.
-        let s = longest b.tals others b.front rest (take m block) (drop m block) b.whole last others-are (sym b.parts ∙ sym (take-append-drop m block)) in
-        omega (arith, s, length-take m block)
+          let s = longest b.tals others b.front rest (take m block) (drop m block) b.whole last others-are (sym b.parts ∙ sym (take-append-drop m block)) in
+          omega (arith, s, length-take m block);
     })
 
 lowest : (e : TalFault) → number e < 22 → ⊥
@@ -48,7 +48,7 @@ lowest Memory h = omega arith
 pub fault-tal : (block rest : List ℕ) (s : ℕ) (p : Place) → IsBehind block rest → NoTal rest → ¬ AreZeros rest → IsBlockFault block s p (NotTals (length block - length rest))
 fault-tal block rest s p b last not-zeros = record {
   holds = (not-block block rest b last not-zeros, longest-front block rest b last);
-  first = λ other low. absurd (lowest other low)
+  first = λ other low. absurd (lowest other low);
 }
 
 -- what comes before a fault of number n
@@ -87,8 +87,8 @@ fault-text block rest s p at b zeros bad =
         timed = λ h. absurd (omega arith);
         second = λ h. absurd (omega arith);
         window = λ h. absurd (omega arith);
-        order = λ h. absurd (omega arith)
-      })
+        order = λ h. absurd (omega arith);
+      });
     }
 
 -- a block of TALs, the first of which is known
@@ -123,7 +123,7 @@ known b rest texts more s in_window count bytes t v z f =
       zeros = z;
       window = subst (λ (ts : List Tal). IsTrue in_window ↔ AllByRecursion (IsTalInWindow s) ts) first.1 v.window;
       count_is = v.count_is ∙ ap (λ (ts : List Tal). length (flat_map (annotations_of s) ts)) first.1;
-      bytes_is = v.bytes_is ∙ ap (λ (ts : List Tal). text_bytes (flat_map (annotations_of s) ts)) first.1
+      bytes_is = v.bytes_is ∙ ap (λ (ts : List Tal). text_bytes (flat_map (annotations_of s) ts)) first.1;
     }
 
 -- there is no TAL
@@ -140,7 +140,7 @@ clear-right b rest s p ts whole good = record {
   timed = λ h. absurd (omega arith);
   second = λ h. absurd (omega arith);
   window = λ h. absurd (omega arith);
-  order = λ h. absurd (omega arith)
+  order = λ h. absurd (omega arith);
 }
 
 pub fault-none : (b rest : List ℕ) (s : ℕ) (p : Place) (in_window : Bool) (count bytes : ℕ) → IsSurvey b s rest in_window count bytes → AreZeros rest → NoTal b
@@ -149,7 +149,7 @@ fault-none b rest s p in_window count bytes v z none =
     let whole : AreTalsAndZeros b v.tals = (v.front, rest, v.parts, v.whole, z) in
     record {
       holds = (v.tals, whole, not-timed v.front rest v.tals v.whole (subst NoTal v.parts none));
-      first = clear b s p 24 v.tals (clear-right b rest s p v.tals whole v.good)
+      first = clear b s p 24 v.tals (clear-right b rest s p v.tals whole v.good);
     }
 
 -- a first text that is empty
@@ -177,21 +177,21 @@ clear-known b rest s p in_window count bytes t k n low timed second window order
   timed = timed;
   second = λ h is. subst (λ (q : Place). KeepsSecond q t.onset) is (second h);
   window = λ h. k.window.0 (window h);
-  order = order
+  order = order;
 }
 
 pub fault-untimed : (b rest texts more : List ℕ) (s : ℕ) (p : Place) (in_window : Bool) (count bytes : ℕ) (t : Tal) → Known b s rest in_window count bytes t → IsFront b texts more t
     → ¬ ((rest : List ℕ) × (texts ≡ 20 ∷ rest)) → IsBlockFault b s p NotTimed
 fault-untimed b rest texts more s p in_window count bytes t k f fails = record {
   holds = (t ∷ k.more, whole-of b rest s in_window count bytes t k, untimed b texts more t f fails);
-  first = clear b s p 24 (t ∷ k.more) (clear-right b rest s p (t ∷ k.more) (whole-of b rest s in_window count bytes t k) k.good)
+  first = clear b s p 24 (t ∷ k.more) (clear-right b rest s p (t ∷ k.more) (whole-of b rest s in_window count bytes t k) k.good);
 }
 
 pub fault-second : (b rest : List ℕ) (s : ℕ) (p : Place) (in_window : Bool) (count bytes : ℕ) (t : Tal) → Known b s rest in_window count bytes t
     → ((xs : List (List ℕ)) × (t.texts ≡ [] ∷ xs)) → ¬ KeepsSecond p t.onset → IsBlockFault b s p FirstOnset
 fault-second b rest s First in_window count bytes t k timed fails = record {
   holds = (t ∷ k.more, whole-of b rest s in_window count bytes t k, fails);
-  first = clear b s First 25 (t ∷ k.more) (clear-known b rest s First in_window count bytes t k 25 (omega arith) (λ h. timed) (λ h. absurd (omega arith)) (λ h. absurd (omega arith)) (λ h. absurd (omega arith)))
+  first = clear b s First 25 (t ∷ k.more) (clear-known b rest s First in_window count bytes t k 25 (omega arith) (λ h. timed) (λ h. absurd (omega arith)) (λ h. absurd (omega arith)) (λ h. absurd (omega arith)));
 }
 fault-second b rest s (After before duration) in_window count bytes t k timed fails = absurd (fails tt)
 fault-second b rest s Any in_window count bytes t k timed fails = absurd (fails tt)
@@ -200,7 +200,7 @@ pub fault-window : (b rest : List ℕ) (s : ℕ) (p : Place) (in_window : Bool) 
     → ((xs : List (List ℕ)) × (t.texts ≡ [] ∷ xs)) → KeepsSecond p t.onset → ¬ IsTrue in_window → IsBlockFault b s p Window
 fault-window b rest s p in_window count bytes t k timed second fails = record {
   holds = (t ∷ k.more, whole-of b rest s in_window count bytes t k, λ w. fails (k.window.1 w));
-  first = clear b s p 26 (t ∷ k.more) (clear-known b rest s p in_window count bytes t k 26 (omega arith) (λ h. timed) (λ h. second) (λ h. absurd (omega arith)) (λ h. absurd (omega arith)))
+  first = clear b s p 26 (t ∷ k.more) (clear-known b rest s p in_window count bytes t k 26 (omega arith) (λ h. timed) (λ h. second) (λ h. absurd (omega arith)) (λ h. absurd (omega arith)));
 }
 
 pub fault-order : (b rest : List ℕ) (s : ℕ) (p : Place) (in_window : Bool) (count bytes : ℕ) (t : Tal) → Known b s rest in_window count bytes t
@@ -209,7 +209,7 @@ fault-order b rest s First in_window count bytes t k timed second window fails =
 fault-order b rest s (After before duration) in_window count bytes t k timed second window fails = record {
   holds = (t ∷ k.more, whole-of b rest s in_window count bytes t k, fails);
   first = clear b s (After before duration) 27 (t ∷ k.more)
-    (clear-known b rest s (After before duration) in_window count bytes t k 27 (omega arith) (λ h. timed) (λ h. second) (λ h. window) (λ h. absurd (omega arith)))
+      (clear-known b rest s (After before duration) in_window count bytes t k 27 (omega arith) (λ h. timed) (λ h. second) (λ h. window) (λ h. absurd (omega arith)));
 }
 fault-order b rest s Any in_window count bytes t k timed second window fails = absurd (fails tt)
 
@@ -221,13 +221,13 @@ pub record Dropped (list : List Annotation) : Type 0 where
 dropped : (a : Annotation) (list : List Annotation) → a.text ≡ [] → Dropped (a ∷ list)
 dropped a list e = record {
   count = refl;
-  bytes = sum_by-cons (λ (x : Annotation). length x.text) a list ∙ ap (λ (x : List ℕ). length x + text_bytes list) e ∙ (let z : 0 + text_bytes list ≡ text_bytes list = omega arith in z)
+  bytes = sum_by-cons (λ (x : Annotation). length x.text) a list ∙ ap (λ (x : List ℕ). length x + text_bytes list) e ∙ (let z : 0 + text_bytes list ≡ text_bytes list = omega arith in z);
 }
 
 pub dropped-first : (s : ℕ) (t : Tal) (ts : List Tal) (xs : List (List ℕ)) → t.texts ≡ [] ∷ xs → Dropped (flat_map (annotations_of s) (t ∷ ts))
 dropped-first s t ts xs e =
     let same : flat_map (annotations_of s) (t ∷ ts) ≡ note_of (instant s t.onset) t.duration [] ∷ (map (note_of (instant s t.onset) t.duration) xs ++ flat_map (annotations_of s) ts) =
-      ap (λ (w : List (List ℕ)). map (note_of (instant s t.onset) t.duration) w ++ flat_map (annotations_of s) ts) e in
+    ap (λ (w : List (List ℕ)). map (note_of (instant s t.onset) t.duration) w ++ flat_map (annotations_of s) ts) e in
     rw same (dropped (note_of (instant s t.onset) t.duration []) (map (note_of (instant s t.onset) t.duration) xs ++ flat_map (annotations_of s) ts) refl)
 
 within : (b rest : List ℕ) (s : ℕ) (in_window : Bool) (count bytes : ℕ) (t : Tal) (k : Known b s rest in_window count bytes t)
@@ -251,7 +251,7 @@ pub fault-many : (b rest : List ℕ) (s : ℕ) (p : Place) (in_window : Bool) (c
     → ¬ ((count ≤ 10_001) × (bytes ≤ 1_000_000)) → IsBlockFault b s p TooMany
 fault-many b rest s p in_window count bytes t k timed second window order fails = record {
   holds = (t ∷ k.more, whole-of b rest s in_window count bytes t k, λ w. fails (beyond b rest s in_window count bytes t k timed w));
-  first = clear b s p 28 (t ∷ k.more) (clear-known b rest s p in_window count bytes t k 28 (omega arith) (λ h. timed) (λ h. second) (λ h. window) (λ h. order))
+  first = clear b s p 28 (t ∷ k.more) (clear-known b rest s p in_window count bytes t k 28 (omega arith) (λ h. timed) (λ h. second) (λ h. window) (λ h. order));
 }
 
 keeps-place : (p : Place) (s : ℕ) (t : Tal) (ts : List Tal) → KeepsSecond p t.onset → KeepsOrder p (instant s t.onset) → KeepsPlace p s (t ∷ ts)
@@ -286,5 +286,5 @@ checked b rest s p in_window count bytes t start k (xs, e) second window start-i
       window = k.window.0 window;
       limits = within b rest s in_window count bytes t k (xs, e) limits.0 limits.1;
       start_is = start-is;
-      count_is = omega (arith, d.count)
+      count_is = omega (arith, d.count);
     })

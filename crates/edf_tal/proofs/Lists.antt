@@ -1,12 +1,12 @@
 -- The list of a block's annotations, as far as it is made.
-use Rattle.std.proofs.Common.{◌≡◌, ◌≢◌, ℕ, zero, suc, ◌+◌, ◌-◌, ◌^◌, ◌≤◌, ◌<◌, Bool, true, false, min, List, [], ◌∷◌, ◌++◌, length, take, drop, map, arith, refl, sym, ap, ◌∙◌, subst, append_assoc, ℤ, pos, Option, Some, None}
-use Rattle.std.specs.Prelude.{IsTrue, IsUtf8, IfSome}
+use Rattle.std.proofs.Common.{◌≡◌, ℕ, ◌<◌, Bool, List, [], ◌∷◌, ◌++◌, drop, map, arith, refl, sym, ap, ◌∙◌, subst, append_assoc, Option, Some, None}
+use Rattle.std.specs.Prelude.{IsUtf8, IfSome}
 use Rattle.std.specs.List.{AllByRecursion, flat_map}
-use Rattle.std.proofs.lemmas.List.{append-nil, length-append}
+use Rattle.std.proofs.lemmas.List.{append-nil}
 use Rattle.edf_time.specs.Civil.{window}
-use Rattle.edf_tal.specs.Tal.{Tal, Annotation, IsTal, IsText, ended, AreTals, IsTimed, IsTalInWindow, instant, annotations_of, notes}
+use Rattle.edf_tal.specs.Tal.{Tal, Annotation, IsText, ended, AreTals, IsTimed, IsTalInWindow, instant, annotations_of, notes}
 use Rattle.edf_tal.specs.Block.{IsBlockFault, IsRefusal}
-use Rattle.edf_tal.specs.Scan.{Lacks, NoTal, IsFront, TellsOnset, TellsDuration, AreTexts, TellsTal, AreSoundTals, capped}
+use Rattle.edf_tal.specs.Scan.{Lacks, NoTal, IsFront, TellsOnset, TellsDuration, AreTexts, TellsTal, AreSoundTals}
 use Rattle.edf_tal.specs.declared.place.Place.{Place}
 use Rattle.edf_tal.specs.declared.place.TalFault.{TalFault}
 use Rattle.edf_tal.specs.declared.place.TalFault.TheVariants.{Tal as NotTals, Text, NotTimed, FirstOnset, Window, Order, TooMany, Memory}
@@ -42,7 +42,7 @@ next-text rest text more (x ∷ xs) e a u lacks f =
       left_is = ap (λ (w : List ℕ). w ∷ xs) s.front;
       is_text = subst IsText s.front a.0;
       good = subst IsUtf8 s.front u.0;
-      rest = record { bytes_are = sym s.back; are_texts = a.1; good = u.1 }
+      rest = record { bytes_are = sym s.back; are_texts = a.1; good = u.1 };
     }
 
 pub pushed-next : (onset : ℕ) (duration : Option ℕ) (texts rest text more : List ℕ) (old new : List Annotation) (h : HasPushed onset duration texts rest old new)
@@ -59,7 +59,7 @@ pushed-more onset duration texts rest text more old new newer h lacks e is =
       are_all = h.are_all;
       are_left = n.rest;
       items = h.items ∙ ap (λ (w : List (List ℕ)). new ++ map (note_of onset duration) w) n.left_is
-        ∙ sym (ap (λ (w : List Annotation). w ++ map (note_of onset duration) n.others) is ∙ append_assoc new (note_of onset duration text ∷ []) (map (note_of onset duration) n.others))
+          ∙ sym (ap (λ (w : List Annotation). w ++ map (note_of onset duration) n.others) is ∙ append_assoc new (note_of onset duration text ∷ []) (map (note_of onset duration) n.others));
     }
 
 no-text-left : (rest : List ℕ) (xs : List (List ℕ)) → rest ≡ ended xs → Lacks 20 rest → xs ≡ []
@@ -114,20 +114,20 @@ pub record NextTal (s : ℕ) (rest texts : List ℕ) (t : Tal) (left : List Tal)
 pub next-tal : (s : ℕ) (bytes texts more : List ℕ) (t : Tal) (ts : List Tal) → AreSoundTals bytes s ts → IsFront bytes texts more t → NextTal s more texts t ts
 next-tal s bytes texts more t ts a f = at ts a.whole a.good a.window
   where
-  at : (us : List Tal) → AreTals bytes us → AllByRecursion (λ t. AllByRecursion IsUtf8 t.texts) us → AllByRecursion (IsTalInWindow s) us → NextTal s more texts t us
-  at [] w g i = absurd (zeros-no-tal [] tt f.front more t (sym w ∙ f.parts) f.tal)
-  at (u ∷ us) (front, r, parts, is, others) g i =
-    let same = same-front front f.front r more (HasEnd-tal front u is) (HasEnd-tal f.front t f.tal) (sym parts ∙ f.parts) in
-    let one = one-tal front u t is (rw (same.front) (f.tal)) in
-    record {
-      others = us;
-      left_is = ap (λ (x : Tal). x ∷ us) one;
-      are_texts = f.tal.are_texts;
-      good = subst (λ (x : Tal). AllByRecursion IsUtf8 x.texts) one g.0;
-      window = subst (IsTalInWindow s) one i.0;
-      texts_are = f.texts_are;
-      sound = record { whole = subst (λ (x : List ℕ). AreTals x us) same.back others; good = g.1; window = i.1 }
-    }
+    at : (us : List Tal) → AreTals bytes us → AllByRecursion (λ t. AllByRecursion IsUtf8 t.texts) us → AllByRecursion (IsTalInWindow s) us → NextTal s more texts t us
+    at [] w g i = absurd (zeros-no-tal [] tt f.front more t (sym w ∙ f.parts) f.tal)
+    at (u ∷ us) (front, r, parts, is, others) g i =
+        let same = same-front front f.front r more (HasEnd-tal front u is) (HasEnd-tal f.front t f.tal) (sym parts ∙ f.parts) in
+        let one = one-tal front u t is (rw (same.front) (f.tal)) in
+        record {
+          others = us;
+          left_is = ap (λ (x : Tal). x ∷ us) one;
+          are_texts = f.tal.are_texts;
+          good = subst (λ (x : Tal). AllByRecursion IsUtf8 x.texts) one g.0;
+          window = subst (IsTalInWindow s) one i.0;
+          texts_are = f.texts_are;
+          sound = record { whole = subst (λ (x : List ℕ). AreTals x us) same.back others; good = g.1; window = i.1 };
+        }
 
 pub tells : (s : ℕ) (rest texts : List ℕ) (t : Tal) (left : List Tal) (ahead : Bool) (onset : ℕ) (duration : Option ℕ) → NextTal s rest texts t left
     → TellsOnset ahead onset t.onset → TellsDuration duration t.duration → TellsTal texts ahead onset duration s t
@@ -137,7 +137,7 @@ tells s rest texts t left ahead onset duration n o d = record {
   good = n.good;
   is_onset = o;
   is_duration = d;
-  window = n.window
+  window = n.window;
 }
 
 pub tals-more : (s : ℕ) (tals rest texts more : List ℕ) (old new newer : List Annotation) (t : Tal) → HasPushedTals s tals rest old new → IsFront rest texts more t
@@ -150,7 +150,7 @@ tals-more s tals rest texts more old new newer t h f is =
       are_all = h.are_all;
       are_left = n.sound;
       items = h.items ∙ ap (λ (w : List Tal). new ++ flat_map (annotations_of s) w) n.left_is
-        ∙ sym (ap (λ (w : List Annotation). w ++ flat_map (annotations_of s) n.others) is ∙ append_assoc new (annotations_of s t) (flat_map (annotations_of s) n.others))
+          ∙ sym (ap (λ (w : List Annotation). w ++ flat_map (annotations_of s) n.others) is ∙ append_assoc new (annotations_of s t) (flat_map (annotations_of s) n.others));
     }
 
 no-tal-left : (rest : List ℕ) (ts : List Tal) → AreTals rest ts → NoTal rest → ts ≡ []
@@ -196,7 +196,7 @@ tells-rest s rest texts t ts xs ahead onset duration behind n e b o d = record {
   good = (subst (AllByRecursion IsUtf8) e n.good).1;
   is_onset = o;
   is_duration = d;
-  window = let w = n.window in record { onset = w.onset; duration = w.duration }
+  window = let w = n.window in record { onset = w.onset; duration = w.duration };
 }
 
 pub whole-list : (s : ℕ) (rest texts : List ℕ) (t : Tal) (ts : List Tal) (xs : List (List ℕ)) (none first all : List Annotation) → (n : NextTal s rest texts t ts) → t.texts ≡ [] ∷ xs

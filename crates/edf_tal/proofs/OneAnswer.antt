@@ -1,10 +1,9 @@
 -- A block has one answer: one start and list, or one fault.
-use Rattle.std.proofs.Common.{◌≡◌, ◌≢◌, ℕ, zero, suc, ◌+◌, ◌-◌, ◌^◌, ◌≤◌, ◌<◌, ◌⊎◌, List, [], ◌∷◌, ◌++◌, length, take, drop, arith, refl, sym, ap, ◌∙◌, subst, inl, inr}
+use Rattle.std.proofs.Common.{◌≡◌, ℕ, List, arith, refl, sym, ap, ◌∙◌, subst, inl, inr}
 use Rattle.std.specs.List.{AllByRecursion}
-use Rattle.std.proofs.lemmas.Bool.{cases_lt, cases_eq}
-use Rattle.std.proofs.lemmas.List.{take-append-drop, length-take}
-use Rattle.edf_tal.specs.Tal.{Tal, Annotation, AreTals, AreTalsAndZeros, IsBlock, IsTimed, IsTalInWindow, notes, begin}
-use Rattle.edf_tal.specs.Block.{IsRead, IsWithinLimits, KeepsPlace, IsLongestFront, IsBadText, Fails, number, IsBlockFault}
+use Rattle.std.proofs.lemmas.Bool.{cases_lt}
+use Rattle.edf_tal.specs.Tal.{Tal, Annotation, AreTalsAndZeros, IsTimed, IsTalInWindow, notes, begin}
+use Rattle.edf_tal.specs.Block.{IsRead, IsWithinLimits, KeepsPlace, IsLongestFront, Fails, number, IsBlockFault}
 use Rattle.edf_tal.specs.declared.place.Place.{Place}
 use Rattle.edf_tal.specs.declared.place.Place.TheVariants.{First, After, Any}
 use Rattle.edf_tal.specs.declared.place.TalFault.{TalFault}
@@ -21,7 +20,7 @@ one-read b s p m n k l r q =
     let same = one-block b r.tals q.tals r.block.0 q.block.0 in
     record {
       start = r.start_is ∙ ap (begin s) same ∙ sym q.start_is;
-      list = r.list_is ∙ ap (notes s) same ∙ sym q.list_is
+      list = r.list_is ∙ ap (notes s) same ∙ sym q.list_is;
     }
 
 -- what a block's TALs must keep to have no fault
@@ -58,7 +57,7 @@ read-sound b s p m l r = record {
   timed = r.timed;
   keeps = r.keeps;
   window = r.window;
-  limits = subst IsWithinLimits r.list_is r.limits
+  limits = subst IsWithinLimits r.list_is r.limits;
 }
 
 pub read-no-fault : (b : List ℕ) (s : ℕ) (p : Place) (m : ℕ) (l : List Annotation) (e : TalFault) → IsRead b s p m l → ¬ IsBlockFault b s p e

@@ -1,9 +1,8 @@
 -- A block is TALs and zeros in one way.
-use Rattle.std.proofs.Common.{◌≡◌, ◌≢◌, ℕ, zero, suc, ◌+◌, ◌-◌, ◌≤◌, ◌<◌, List, [], ◌∷◌, ◌++◌, length, take, drop, arith, refl, sym, ap, ◌∙◌, subst, append_assoc, inl, inr, ℤ, Option, Some, None}
-use Rattle.std.specs.List.{AllByRecursion}
+use Rattle.std.proofs.Common.{◌≡◌, ℕ, List, [], ◌∷◌, ◌++◌, arith, refl, sym, ap, ◌∙◌, append_assoc, inl, inr, ℤ}
 use Rattle.edf_tal.specs.Tal.{Tal, IsTal, IsOnset, ended, AreTals, AreTalsAndZeros}
-use Rattle.edf_tal.specs.Scan.{Lacks, NoTal, AreZeros}
-use Rattle.edf_tal.proofs.Unique.{SameSides, one-tal}
+use Rattle.edf_tal.specs.Scan.{NoTal, AreZeros}
+use Rattle.edf_tal.proofs.Unique.{one-tal}
 use Rattle.edf_tal.proofs.Fronts.{same-front, HasEnd-tal}
 
 -- zeros do not begin with an onset
@@ -21,7 +20,7 @@ tal-sides front rest t s = ap (λ (x : List ℕ). x ++ rest) s.parts ∙ simp ap
 pub zeros-no-tal : (zeros : List ℕ) → AreZeros zeros → NoTal zeros
 zeros-no-tal zeros a front rest t e s =
     no-onset s.onset (s.duration ++ 20 ∷ (ended t.texts ++ 0 ∷ rest)) zeros t.onset a s.is_onset
-      (e ∙ tal-sides front rest t s ∙ append_assoc s.onset s.duration (20 ∷ (ended t.texts ++ 0 ∷ rest)))
+    (e ∙ tal-sides front rest t s ∙ append_assoc s.onset s.duration (20 ∷ (ended t.texts ++ 0 ∷ rest)))
 
 pub record SameTals (ts us : List Tal) (f x g y : List ℕ) : Type 0 where
   pub tals : ts ≡ us

@@ -1,12 +1,12 @@
 -- What is read is an instant of the window and a list of annotations within the limits.
-use Rattle.std.proofs.Common.{◌≡◌, ◌≢◌, ℕ, zero, suc, ◌+◌, ◌-◌, ◌^◌, ◌≤◌, ◌<◌, List, [], ◌∷◌, ◌++◌, length, drop, map, arith, refl, sym, ap, ◌∙◌, subst, ℤ, pos, negsuc, Option, Some, None}
-use Rattle.std.specs.Prelude.{IsUtf8, unsigned_abs, ◌-ℤ◌, ◌+ℤ◌, ◌≤ℤ◌, ◌<ℤ◌, IfSome}
+use Rattle.std.proofs.Common.{ℕ, ◌<◌, List, [], ◌∷◌, ◌++◌, drop, map, arith, ℤ, pos, negsuc, Option}
+use Rattle.std.specs.Prelude.{IsUtf8, unsigned_abs, ◌+ℤ◌, ◌≤ℤ◌, ◌<ℤ◌, IfSome}
 use Rattle.std.specs.List.{AllByRecursion, flat_map}
 use Rattle.std.proofs.lemmas.Int.{ints}
-use Rattle.edf_time.specs.Civil.{window, IsInWindow}
-use Rattle.edf_tal.specs.Tal.{Tal, Annotation, IsTal, IsText, AreTals, AreTalsAndZeros, IsTimed, IsTalInWindow, instant, annotations_of, notes, begin}
+use Rattle.edf_time.specs.Civil.{window}
+use Rattle.edf_tal.specs.Tal.{Tal, Annotation, IsText, AreTals, IsTimed, IsTalInWindow, instant, annotations_of, begin}
 use Rattle.edf_tal.specs.Note.{IsNote}
-use Rattle.edf_tal.specs.Block.{IsRead, IsWithinLimits}
+use Rattle.edf_tal.specs.Block.{IsRead}
 use Rattle.edf_tal.specs.declared.place.Place.{Place}
 use Rattle.edf_tal.proofs.BadText.{AreGood}
 
@@ -35,8 +35,8 @@ of-tals : (s : ℕ) (front : List ℕ) (ts : List Tal) → AreTals front ts → 
 of-tals s front [] a g w = tt
 of-tals s front (t ∷ ts) (f, r, parts, is, more) g w =
     all-append IsNote (annotations_of s t) (flat_map (annotations_of s) ts)
-      (of-texts (instant s t.onset) t.duration t.texts (instant-below s t w.0) w.0.duration is.are_texts g.0)
-      (of-tals s r ts more g.1 w.1)
+    (of-texts (instant s t.onset) t.duration t.texts (instant-below s t w.0) w.0.duration is.are_texts g.0)
+    (of-tals s r ts more g.1 w.1)
 
 begin-below : (s : ℕ) (ts : List Tal) → IsTimed ts → AllByRecursion (IsTalInWindow s) ts → begin s ts < window
 begin-below s [] timed w = absurd timed

@@ -1,9 +1,9 @@
 -- The walk over the texts of a TAL, and over the TALs of a block.
-use Rattle.std.proofs.Common.{◌≡◌, ◌≢◌, ℕ, zero, suc, ◌+◌, ◌-◌, ◌^◌, ◌≤◌, ◌<◌, List, [], ◌∷◌, ◌++◌, length, take, drop, arith, refl, sym, ap, ◌∙◌, subst, append_assoc}
-use Rattle.std.specs.Prelude.{IsTrue, IsUtf8}
-use Rattle.std.specs.List.{AllByRecursion, flat_map}
+use Rattle.std.proofs.Common.{◌≡◌, ℕ, ◌+◌, ◌-◌, ◌≤◌, List, [], ◌∷◌, ◌++◌, length, arith, refl, sym, ap, ◌∙◌, append_assoc}
+use Rattle.std.specs.Prelude.{IsUtf8}
+use Rattle.std.specs.List.{AllByRecursion}
 use Rattle.std.proofs.lemmas.List.{append-nil, length-append}
-use Rattle.edf_tal.specs.Tal.{Tal, IsTal, IsText, ended}
+use Rattle.edf_tal.specs.Tal.{ended}
 use Rattle.edf_tal.specs.Scan.{Lacks, IsBadAmong, AreGoodTexts}
 
 -- the texts so far
@@ -29,9 +29,9 @@ pub checked-more : (texts rest text more : List ℕ) (count : ℕ) → HasChecke
 checked-more texts rest text more count h lacks e u = record {
   list = h.list ++ text ∷ [];
   parts = h.parts ∙ ap (λ (w : List ℕ). ended h.list ++ w) e
-    ∙ sym (ap (λ (w : List ℕ). w ++ more) (ended-append h.list text) ∙ append_assoc (ended h.list) (text ++ 20 ∷ []) more ∙ ap (λ (w : List ℕ). ended h.list ++ w) (append_assoc text (20 ∷ []) more));
+      ∙ sym (ap (λ (w : List ℕ). w ++ more) (ended-append h.list text) ∙ append_assoc (ended h.list) (text ++ 20 ∷ []) more ∙ ap (λ (w : List ℕ). ended h.list ++ w) (append_assoc text (20 ∷ []) more));
   good = all-more (λ x. Lacks 20 x × IsUtf8 x) h.list text h.good (lacks, u);
-  count_is = let c : count ≡ length h.list = h.count_is in omega (arith, length-append h.list (text ∷ []))
+  count_is = let c : count ≡ length h.list = h.count_is in omega (arith, length-append h.list (text ∷ []));
 }
 
 pub checked-bad : (texts rest text more : List ℕ) (count : ℕ) → HasChecked texts rest count → Lacks 20 text → rest ≡ text ++ 20 ∷ more → ¬ IsUtf8 text
@@ -44,7 +44,7 @@ checked-bad texts rest text more count h lacks e bad = record {
   good_texts = h.good;
   is_text = lacks;
   bad = bad;
-  place = omega (arith, ap length h.parts, length-append (ended h.list) rest)
+  place = omega (arith, ap length h.parts, length-append (ended h.list) rest);
 }
 
 pub checked-all : (texts rest : List ℕ) (count : ℕ) → HasChecked texts rest count → Lacks 20 rest → AreGoodTexts texts count

@@ -1,18 +1,18 @@
 -- The walk over the TALs of a block.
-use Rattle.std.proofs.Common.{◌≡◌, ◌≢◌, ℕ, zero, suc, ◌+◌, ◌-◌, ◌^◌, ◌≤◌, ◌<◌, Bool, true, false, ◌&&◌, min, List, [], ◌∷◌, ◌++◌, length, take, drop, map, arith, refl, sym, ap, ◌∙◌, subst, append_assoc, ℤ, pos, negsuc, neg_ℤ, Option, Some, None}
-use Rattle.std.specs.Prelude.{IsTrue, IsUtf8, sum_by, unsigned_abs, ◌+ℤ◌, ◌≤ℤ◌, ◌<ℤ◌, IfSome, ◌↔◌}
+use Rattle.std.proofs.Common.{◌≡◌, ℕ, ◌+◌, ◌-◌, ◌≤◌, ◌<◌, Bool, true, false, ◌&&◌, List, [], ◌∷◌, ◌++◌, length, map, arith, refl, sym, ap, ◌∙◌, subst, append_assoc, pos, neg_ℤ, Option, Some, None}
+use Rattle.std.specs.Prelude.{IsTrue, IsUtf8, sum_by, unsigned_abs, ◌+ℤ◌, IfSome, ◌↔◌}
 use Rattle.std.specs.List.{AllByRecursion, flat_map}
 use Rattle.std.proofs.lemmas.List.{append-nil, length-append, length-map}
 use Rattle.std.proofs.lemmas.List.Sums.{sum_by-append, sum_by-cons}
 use Rattle.std.proofs.lemmas.Int.{ints}
 use Rattle.edf_time.specs.Civil.{window, IsInWindow}
-use Rattle.edf_tal.specs.Tal.{Tal, Annotation, IsTal, IsText, ended, AreTals, IsTalInWindow, instant, annotations_of}
+use Rattle.edf_tal.specs.Tal.{Tal, Annotation, IsText, ended, AreTals, IsTalInWindow, instant, annotations_of}
 use Rattle.edf_tal.specs.Block.{IsBadText}
-use Rattle.edf_tal.specs.Scan.{Lacks, NoTal, capped, TellsOnset, TellsDuration, IsFront, IsBadAmong, AreGoodTexts, IsBehind, IsSurvey}
-use Rattle.edf_tal.proofs.Unique.{same-sides, not-both, Lacks-append, Lacks-text, Lacks-onset, Lacks-duration}
-use Rattle.edf_tal.proofs.Fronts.{AreTals-more, NoZero-tal, NoZero-ended}
+use Rattle.edf_tal.specs.Scan.{Lacks, capped, TellsDuration, IsFront, IsBadAmong, AreGoodTexts, IsBehind, IsSurvey}
+use Rattle.edf_tal.proofs.Unique.{same-sides, not-both, Lacks-text}
+use Rattle.edf_tal.proofs.Fronts.{AreTals-more, NoZero-ended}
 use Rattle.edf_tal.proofs.OneBlock.{tal-sides}
-use Rattle.edf_tal.proofs.BadText.{AreGood, IsBadFront, bad-join, first-text}
+use Rattle.edf_tal.proofs.BadText.{IsBadFront, bad-join, first-text}
 use Rattle.edf_tal.proofs.Surveys.{all-more}
 
 -- the instant of an onset
@@ -52,7 +52,7 @@ behind-more bytes rest texts more t b f = record {
   front = b.front ++ f.front;
   tals = b.tals ++ t ∷ [];
   parts = b.parts ∙ ap (λ (w : List ℕ). b.front ++ w) f.parts ∙ sym (append_assoc b.front f.front more);
-  whole = AreTals-more b.front f.front b.tals t b.whole f.tal
+  whole = AreTals-more b.front f.front b.tals t b.whole f.tal;
 }
 
 AreTals-append : (a b : List ℕ) (ts us : List Tal) → AreTals a ts → AreTals b us → AreTals (a ++ b) (ts ++ us)
@@ -65,13 +65,20 @@ behind-behind bytes rest more b c = record {
   front = b.front ++ c.front;
   tals = b.tals ++ c.tals;
   parts = b.parts ∙ ap (λ (w : List ℕ). b.front ++ w) c.parts ∙ sym (append_assoc b.front c.front more);
-  whole = AreTals-append b.front c.front b.tals c.tals b.whole c.whole
+  whole = AreTals-append b.front c.front b.tals c.tals b.whole c.whole;
 }
 
 pub front-shorter : (bytes texts rest : List ℕ) (t : Tal) → IsFront bytes texts rest t → length rest + length texts + 2 ≤ length bytes
 front-shorter bytes texts rest t f =
-    omega (arith, ap length f.parts, ap length f.texts_are, ap length f.tal.parts, length-append f.front rest,
-      length-append ((f.tal.onset ++ f.tal.duration) ++ 20 ∷ ended t.texts) (0 ∷ []), length-append (f.tal.onset ++ f.tal.duration) (20 ∷ ended t.texts))
+    omega (
+      arith,
+      ap length f.parts,
+      ap length f.texts_are,
+      ap length f.tal.parts,
+      length-append f.front rest,
+      length-append ((f.tal.onset ++ f.tal.duration) ++ 20 ∷ ended t.texts) (0 ∷ []),
+      length-append (f.tal.onset ++ f.tal.duration) (20 ∷ ended t.texts),
+    )
 
 -- the texts that were counted are those of the TAL
 same-list : (xs ys : List (List ℕ)) (rest : List ℕ) → AllByRecursion (λ x. Lacks 20 x × IsUtf8 x) xs → Lacks 20 rest → AllByRecursion IsText ys
@@ -140,7 +147,7 @@ survey-none block s = record {
   good = tt;
   window = (λ h. tt, λ h. refl);
   count_is = refl;
-  bytes_is = refl
+  bytes_is = refl;
 }
 
 pub survey-more : (block rest texts more : List ℕ) (s : ℕ) (t : Tal) (in_window next is : Bool) (count bytes n m : ℕ) → IsSurvey block s rest in_window count bytes
@@ -160,19 +167,31 @@ survey-more block rest texts more s t in_window next is count bytes n m v f g on
       parts = v.parts ∙ ap (λ (w : List ℕ). v.front ++ w) f.parts ∙ sym (append_assoc v.front f.front more);
       whole = AreTals-more v.front f.front v.tals t v.whole f.tal;
       good = all-more (λ (t : Tal). AllByRecursion IsUtf8 t.texts) v.tals t v.good c.good;
-      window = (λ h. let p = both.0 h in all-more (IsTalInWindow s) v.tals t (v.window.0 p.0) (one.0 p.1),
-        λ a. let r = window-more s v.tals t a in both.1 (v.window.1 r.0, one.1 r.1));
+      window = (
+        λ h. let p = both.0 h in all-more (IsTalInWindow s) v.tals t (v.window.0 p.0) (one.0 p.1),
+        λ a. let r = window-more s v.tals t a in both.1 (v.window.1 r.0, one.1 r.1),
+      );
       count_is = rw list (omega (arith, length-append (flat_map (annotations_of s) v.tals) (annotations_of s t), length-annotations s t));
-      bytes_is = rw list (omega (arith, sum_by-append (λ (a : Annotation). length a.text) (flat_map (annotations_of s) v.tals) (annotations_of s t), bytes-annotations s t))
+      bytes_is = rw list (omega (arith, sum_by-append (λ (a : Annotation). length a.text) (flat_map (annotations_of s) v.tals) (annotations_of s t), bytes-annotations s t));
     }
 
 length-tals : (s : ℕ) (front : List ℕ) (ts : List Tal) → AreTals front ts → length (flat_map (annotations_of s) ts) + text_bytes (flat_map (annotations_of s) ts) ≤ length front
 length-tals s front [] a = omega arith
 length-tals s front (t ∷ ts) (f, r, parts, is, more) =
-    omega (arith, length-tals s r ts more, ap length parts, length-append f r, ap length is.parts, length-ended-is t.texts,
-      length-append ((is.onset ++ is.duration) ++ 20 ∷ ended t.texts) (0 ∷ []), length-append (is.onset ++ is.duration) (20 ∷ ended t.texts),
-      length-append (annotations_of s t) (flat_map (annotations_of s) ts), length-annotations s t,
-      sum_by-append (λ (a : Annotation). length a.text) (annotations_of s t) (flat_map (annotations_of s) ts), bytes-annotations s t)
+    omega (
+      arith,
+      length-tals s r ts more,
+      ap length parts,
+      length-append f r,
+      ap length is.parts,
+      length-ended-is t.texts,
+      length-append ((is.onset ++ is.duration) ++ 20 ∷ ended t.texts) (0 ∷ []),
+      length-append (is.onset ++ is.duration) (20 ∷ ended t.texts),
+      length-append (annotations_of s t) (flat_map (annotations_of s) ts),
+      length-annotations s t,
+      sum_by-append (λ (a : Annotation). length a.text) (annotations_of s t) (flat_map (annotations_of s) ts),
+      bytes-annotations s t,
+    )
 
 pub survey-room : (block rest : List ℕ) (s : ℕ) (in_window : Bool) (count bytes : ℕ) → IsSurvey block s rest in_window count bytes → count + bytes + length rest ≤ length block
 survey-room block rest s in_window count bytes v =
@@ -219,13 +238,13 @@ bad-front rest texts more t at f b =
       text = b.text;
       back = b.back ++ 0 ∷ more;
       parts = f.parts ∙ tal-sides f.front more t f.tal
-        ∙ ap (λ (w : List ℕ). (f.tal.onset ++ f.tal.duration) ++ 20 ∷ (w ++ 0 ∷ more)) (sym f.texts_are ∙ b.parts) ∙ simp append_assoc;
+          ∙ ap (λ (w : List ℕ). (f.tal.onset ++ f.tal.duration) ++ 20 ∷ (w ++ 0 ∷ more)) (sym f.texts_are ∙ b.parts) ∙ simp append_assoc;
       is_onset = (t.onset, f.tal.is_onset);
       is_duration = (t.duration, f.tal.is_duration);
       good_texts = good-texts b.good (Lacks-front 0 (ended b.good) (b.text ++ 20 ∷ b.back) none) b.good_texts;
       is_text = is-text b.text (Lacks-front 0 b.text (20 ∷ b.back) (Lacks-back 0 (ended b.good) (b.text ++ 20 ∷ b.back) none)) b.is_text;
       bad = b.bad;
-      place = let p : at ≡ length (ended b.good) = b.place in omega arith
+      place = let p : at ≡ length (ended b.good) = b.place in omega arith;
     }
 
 -- the place of the first bad text in the block
@@ -233,10 +252,19 @@ pub survey-bad : (block rest texts more : List ℕ) (s : ℕ) (t : Tal) (in_wind
     → IsFront rest texts more t → IsBadAmong texts at → IsBadText block (length block - length more - 1 - length texts + at)
 survey-bad block rest texts more s t in_window count bytes at v f b =
     bad-join block v.front rest v.tals (length block - length more - 1 - length texts + at) (length f.tal.onset + length f.tal.duration + 1 + at) v.parts v.whole v.good
-      (bad-front rest texts more t at f b)
-      (omega (arith, ap length v.parts, length-append v.front rest, ap length f.parts, length-append f.front more, ap length f.texts_are, ap length f.tal.parts,
-        length-append ((f.tal.onset ++ f.tal.duration) ++ 20 ∷ ended t.texts) (0 ∷ []), length-append (f.tal.onset ++ f.tal.duration) (20 ∷ ended t.texts),
-        length-append f.tal.onset f.tal.duration))
+    (bad-front rest texts more t at f b)
+    (omega (
+      arith,
+      ap length v.parts,
+      length-append v.front rest,
+      ap length f.parts,
+      length-append f.front more,
+      ap length f.texts_are,
+      ap length f.tal.parts,
+      length-append ((f.tal.onset ++ f.tal.duration) ++ 20 ∷ ended t.texts) (0 ∷ []),
+      length-append (f.tal.onset ++ f.tal.duration) (20 ∷ ended t.texts),
+      length-append f.tal.onset f.tal.duration,
+    ))
 
 pub survey-behind : (block rest : List ℕ) (s : ℕ) (in_window : Bool) (count bytes : ℕ) → IsSurvey block s rest in_window count bytes → IsBehind block rest
 survey-behind block rest s in_window count bytes v = record { front = v.front; tals = v.tals; parts = v.parts; whole = v.whole }

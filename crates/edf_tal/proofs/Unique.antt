@@ -1,8 +1,8 @@
 -- No bytes are a TAL in two ways.
-use Rattle.std.proofs.Common.{◌≡◌, ◌≢◌, ℕ, zero, suc, ◌+◌, ◌-◌, ◌≤◌, ◌<◌, List, [], ◌∷◌, ◌++◌, length, arith, refl, sym, ap, ◌∙◌, subst, inl, inr, append_assoc, ℤ, pos, neg_ℤ, Option, Some, None}
+use Rattle.std.proofs.Common.{◌≡◌, ℕ, ◌<◌, List, [], ◌∷◌, ◌++◌, arith, refl, sym, ap, ◌∙◌, inl, inr, append_assoc, ℤ, pos, neg_ℤ, Option, Some, None}
 use Rattle.std.specs.List.{AllByRecursion}
 use Rattle.std.proofs.lemmas.List.{append-nil}
-use Rattle.std.specs.Str.Parse.{AllDigits, IsNumeral}
+use Rattle.std.specs.Str.Parse.{AllDigits}
 use Rattle.edf_time.specs.Decimal.{IsDecimal, IsSeconds}
 use Rattle.edf_time.proofs.Digits.{digit_only}
 use Rattle.edf_tal.specs.Scan.{Lacks}
@@ -112,10 +112,10 @@ one-texts (x ∷ xs) (y ∷ ys) p q e =
 pub one-tal : (bytes : List ℕ) (t s : Tal) → IsTal bytes t → IsTal bytes s → t ≡ s
 one-tal bytes t s p q =
     let whole : (p.onset ++ p.duration) ++ 20 ∷ (ended t.texts ++ 0 ∷ []) ≡ (q.onset ++ q.duration) ++ 20 ∷ (ended s.texts ++ 0 ∷ []) =
-      sym (append_assoc (p.onset ++ p.duration) (20 ∷ ended t.texts) (0 ∷ [])) ∙ sym p.parts ∙ q.parts ∙ append_assoc (q.onset ++ q.duration) (20 ∷ ended s.texts) (0 ∷ []) in
+    sym (append_assoc (p.onset ++ p.duration) (20 ∷ ended t.texts) (0 ∷ [])) ∙ sym p.parts ∙ q.parts ∙ append_assoc (q.onset ++ q.duration) (20 ∷ ended s.texts) (0 ∷ []) in
     let sides = same-sides 20 (p.onset ++ p.duration) (q.onset ++ q.duration) (ended t.texts ++ 0 ∷ []) (ended s.texts ++ 0 ∷ [])
-      (Lacks-append 20 p.onset p.duration (Lacks-onset 20 p.onset t.onset (omega arith) p.is_onset) (Lacks-duration p.duration t.duration p.is_duration))
-      (Lacks-append 20 q.onset q.duration (Lacks-onset 20 q.onset s.onset (omega arith) q.is_onset) (Lacks-duration q.duration s.duration q.is_duration)) whole in
+    (Lacks-append 20 p.onset p.duration (Lacks-onset 20 p.onset t.onset (omega arith) p.is_onset) (Lacks-duration p.duration t.duration p.is_duration))
+    (Lacks-append 20 q.onset q.duration (Lacks-onset 20 q.onset s.onset (omega arith) q.is_onset) (Lacks-duration q.duration s.duration q.is_duration)) whole in
     let head = one-head p.onset q.onset p.duration q.duration t.duration s.duration (Lacks-onset 21 p.onset t.onset (omega arith) p.is_onset) (Lacks-onset 21 q.onset s.onset (omega arith) q.is_onset) p.is_duration q.is_duration sides.front in
     let onset : t.onset ≡ s.onset = one-onset p.onset t.onset s.onset p.is_onset (rw (head.onset) q.is_onset) in
     let duration : t.duration ≡ s.duration = head.duration in

@@ -1,5 +1,5 @@
 -- Time-stamped annotations lists, TALs for short.
-use Rattle.std.specs.Prelude.{◌≡◌, ◌≢◌, ℕ, ◌^◌, ◌<◌, ◌⊎◌, List, [], ◌∷◌, ◌++◌, drop, map, ℤ, pos, neg_ℤ, ◌+ℤ◌, unsigned_abs, Option, Some, None, IfSome, IsUtf8}
+use Rattle.std.specs.Prelude.{◌≡◌, ◌≢◌, ℕ, ◌<◌, ◌⊎◌, List, [], ◌∷◌, ◌++◌, drop, map, ℤ, pos, neg_ℤ, ◌+ℤ◌, unsigned_abs, Option, Some, None, IfSome, IsUtf8}
 use Rattle.std.specs.List.{AllByRecursion, flat_map}
 use Rattle.edf_time.specs.Decimal.{IsSeconds}
 use Rattle.edf_time.specs.Civil.{window, IsInWindow}

@@ -56,9 +56,7 @@ fn keeps_order(place: &Place, start: Instant) -> bool
         Place::After {
             start: before,
             duration,
-        } => {
-            before.nanos() <= start.nanos() && *duration <= start.nanos() - before.nanos()
-        }
+        } => { before.nanos() <= start.nanos() && *duration <= start.nanos() - before.nanos() }
         Place::Any => true,
     }
 }
@@ -138,7 +136,11 @@ fn check_tals<'a>(
 }
 
 /// Checks a block without taking memory.
-pub(crate) fn check_block(block: &[u8], file_start: Instant, place: Place) -> Result<Checked<'_>, TalFault>
+pub(crate) fn check_block(
+    block: &[u8],
+    file_start: Instant,
+    place: Place,
+) -> Result<Checked<'_>, TalFault>
     ensures { MatchResult result
         (λ c. IsChecked block.now file_start place c.tals.now c.start c.count)
         (IsBlockFault block.now file_start place) }

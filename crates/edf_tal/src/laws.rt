@@ -1,3 +1,4 @@
+//! Laws of blocks: each function has a law for a contract, and does nothing.
 ghost use Rattle.std.specs.Prelude.{◌≡◌, ℕ, ◌+◌, ◌^◌, ◌≤◌, ◌<◌, ◌++◌, List, replicate};
 ghost use Rattle.std.specs.List.{AllByRecursion};
 ghost use Rattle.edf_time.specs.Civil.{window};
@@ -12,14 +13,12 @@ ghost use Rattle.edf_tal.specs.declared.place.Place.TheVariants.{First, After, A
 /// Bytes are one TAL at most.
 pub fn one_tal()
     ensures { (b : List ℕ) (t u : Tal) → IsTal b t → IsTal b u → t ≡ u }
-{
-}
+{}
 
 /// A block is TALs and zeros in one way.
 pub fn one_block()
     ensures { (b : List ℕ) (ts us : List Tal) → AreTalsAndZeros b ts → AreTalsAndZeros b us → ts ≡ us }
-{
-}
+{}
 
 /// A block has one answer at a place: a start and a list, or a fault.
 pub fn one_answer()
@@ -29,8 +28,7 @@ pub fn one_answer()
         IsRead b s p m l → ¬ IsBlockFault b s p e }
     ensures one_fault { (b : List ℕ) (s : ℕ) (p : Place) (e f : TalFault) →
         IsBlockFault b s p e → IsBlockFault b s p f → e ≡ f }
-{
-}
+{}
 
 /// A canonical block, with any fill of zeros, is read again as what was written.
 pub fn read_again()
@@ -45,8 +43,7 @@ pub fn read_again()
         base < window → start < window → AllByRecursion IsNote list → IsWithinLimits list →
         before + duration ≤ start →
         IsRead (block_text base start list ++ replicate n 0) base (After before duration) start list }
-{
-}
+{}
 
 /// What a block gives: an instant of the window, and annotations within the limits.
 pub fn read_notes()
@@ -56,5 +53,18 @@ pub fn read_notes()
         IsRead b s p start list → AllByRecursion IsNote list }
     ensures limits { (b : List ℕ) (s : ℕ) (p : Place) (start : ℕ) (list : List Annotation) →
         IsRead b s p start list → IsWithinLimits list }
-{
-}
+{}
+
+/// What is read at a place is read without a place too.
+pub fn any_place()
+    ensures { (b : List ℕ) (s : ℕ) (p : Place) (start : ℕ) (list : List Annotation) →
+        IsRead b s p start list → IsRead b s Any start list }
+{}
+
+/// A canonical block has one start and one list.
+pub fn one_writing()
+    ensures { (base m n : ℕ) (k l : List Annotation) →
+        base < window → m < window → n < window → AllByRecursion IsNote k → AllByRecursion IsNote l →
+        IsWithinLimits k → IsWithinLimits l →
+        block_text base m k ≡ block_text base n l → (m ≡ n) × (k ≡ l) }
+{}

@@ -1,19 +1,26 @@
-// Blocks of time-stamped annotations lists.
+//! Annotations of a data record: the blocks of time-stamped annotations lists, TALs for short, that EDF+ keeps in the
+//! annotations signal.
+//!
+//! - [`read_block`]: the start and the annotations of a data record, or the first rule that its block breaks.
+//! - [`Note`]: an annotation. [`Place`]: where the data record stands. [`TalFault`]: why a block is refused, E22 to E28.
+//! - [`write_block`], [`block_len`]: the one block that an export has, and its length.
+//! - [`same_notes`]: whether two lists have the same annotations.
+//! - [`laws`]: a block has one answer, and a written block is read again; functions that do nothing, each with a law for a
+//!   contract.
 #![tactic(auto)]
 
 mod check;
-mod laws;
+pub mod laws;
 mod note;
 mod place;
 mod read;
-mod same;
 mod scan;
 mod survey;
+#[cfg(test)]
+mod tests;
 mod write;
 
-pub use laws::{one_answer, one_block, one_tal, read_again, read_notes};
 pub use note::Note;
 pub use place::{Place, TalFault};
 pub use read::read_block;
-pub use same::same_notes;
-pub use write::{block_len, write_block};
+pub use write::{block_len, same_notes, write_block};

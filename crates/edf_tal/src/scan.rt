@@ -77,7 +77,7 @@ fn spans(bytes: &[u8]) -> Option<(u64, Option<u64>)>
 fn signed_times(sign: u8, unsigned: &[u8]) -> Option<Times>
     ensures { MatchOption result ((z : ℤ) (d : Option ℕ) → ¬ IsHead (sign ∷ unsigned.now) z d)
         (λ t. (z : ℤ) × (d : Option ℕ) × IsHead (sign ∷ unsigned.now) z d
-            × TellsOnset t.ahead t.onset z × TellsDuration t.duration d) }
+        × TellsOnset t.ahead t.onset z × TellsDuration t.duration d) }
 {
     let Some((onset, duration)) = spans(unsigned) else {
         return None;
@@ -103,7 +103,7 @@ fn signed_times(sign: u8, unsigned: &[u8]) -> Option<Times>
 fn head_times(head: &[u8]) -> Option<Times>
     ensures { MatchOption result ((z : ℤ) (d : Option ℕ) → ¬ IsHead head.now z d)
         (λ t. (z : ℤ) × (d : Option ℕ) × IsHead head.now z d
-            × TellsOnset t.ahead t.onset z × TellsDuration t.duration d) }
+        × TellsOnset t.ahead t.onset z × TellsDuration t.duration d) }
 {
     match head {
         [] => None,
@@ -122,7 +122,7 @@ fn is_ended(bytes: &[u8]) -> bool
 pub(crate) fn first_tal(bytes: &[u8]) -> Option<FrontTal<'_>>
     ensures { MatchOption result (NoTal bytes.now)
         (λ f. (t : Tal) × IsFront bytes.now f.texts.now f.rest.now t
-            × TellsOnset f.times.ahead f.times.onset t.onset × TellsDuration f.times.duration t.duration) }
+        × TellsOnset f.times.ahead f.times.onset t.onset × TellsDuration f.times.duration t.duration) }
 {
     let Some((body, rest)) = split_first(bytes, 0) else {
         return None;

@@ -33,7 +33,7 @@ pub(crate) struct BadText<'a> {
 pub(crate) fn onset_instant(ahead: bool, onset: u64, file_start: Instant) -> Option<Instant>
     ensures { (z : ℤ) → TellsOnset ahead onset z →
         MatchOption result (¬ IsInWindow (pos file_start +ℤ z))
-            (λ i. IsInWindow (pos file_start +ℤ z) × (i ≡ instant file_start z)) }
+        (λ i. IsInWindow (pos file_start +ℤ z) × (i ≡ instant file_start z)) }
 {
     let start = file_start.nanos();
     if ahead {

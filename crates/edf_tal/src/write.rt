@@ -1,6 +1,9 @@
-ghost use Rattle.std.specs.Prelude.{◌≡◌, ℕ, pos, ◌-ℤ◌, unsigned_abs, ◌+◌, ◌*◌, ◌≤◌, ◌<◌, ◌++◌, Option, IfOk, OnOk, IfSome, length};
-ghost use Rattle.edf_time.specs.Civil.{window};
+ghost use Rattle.std.specs.Prelude.{◌≡◌, ℕ, ◌+◌, ◌-◌, ◌≤◌, ◌<◌, ◌↔◌, ◌++◌, ℤ, pos, ◌-ℤ◌, unsigned_abs, List, length, IfOk, IfSome, OnOk, IsTrue};
 ghost use Rattle.edf_time.specs.Decimal.{short};
+ghost use Rattle.edf_time.specs.Civil.{window};
+ghost use Rattle.std.specs.List.{AllByRecursion};
+ghost use Rattle.edf_tal.specs.Tal.{Annotation};
+ghost use Rattle.edf_tal.specs.Note.{IsNote};
 ghost use Rattle.edf_tal.specs.Block.{IsWithinLimits};
 ghost use Rattle.edf_tal.specs.Canonical.{onset_text, duration_text, tal_text, block_text};
 
@@ -8,71 +11,126 @@ use crate::note::Note;
 use edf_time::{Instant, seconds_len, write_seconds};
 use std::alloc::{AllocError, Global};
 
-/// How far two instants lie apart, in nanoseconds.
-fn distance(a: Instant, b: Instant) -> u64
-    ensures value { result ≡ unsigned_abs (pos a -ℤ pos b) }
+/// How far the instants lie apart, in nanoseconds.
+fn distance(base: Instant, onset: Instant) -> u64
+    ensures value { result ≡ unsigned_abs (pos onset -ℤ pos base) }
     ensures bound { result < window }
 {
-    a.since(b).unsigned_abs()
+    base.nanos().abs_diff(onset.nanos())
 }
 
-/// Appends an onset: its sign, and its distance from the base.
+/// Appends the shortest decimal.
+fn push_seconds(alloc: Global, block: &mut Vec<u8>, nanos: u64) -> Result<(), AllocError>
+    ensures { OnOk result (block.new.items ≡ block.old.items ++ short nanos) }
+{
+    let text = write_seconds(alloc, nanos)?;
+    block.extend_from_slice(text.as_slice())
+}
+
+/// Appends an onset that counts from the base.
 fn push_onset(
     alloc: Global,
-    out: &mut Vec<u8>,
-    onset: Instant,
+    block: &mut Vec<u8>,
     base: Instant,
+    onset: Instant,
 ) -> Result<(), AllocError>
-    ensures { OnOk result (out.new.items ≡ out.old.items ++ onset_text base onset) }
+    ensures { OnOk result (block.new.items ≡ block.old.items ++ onset_text base onset) }
 {
-    out.push(if base.nanos() <= onset.nanos() { b'+' } else { b'-' })?;
-    let size = write_seconds(alloc, distance(onset, base))?;
-    out.extend_from_slice(size.as_slice())?;
-    Ok(())
+    let sign = if base.nanos() <= onset.nanos() {
+        b'+'
+    } else {
+        b'-'
+    };
+    block.push(sign)?;
+    push_seconds(alloc, block, distance(base, onset))
 }
 
-/// Appends a duration behind byte 21, where there is one.
+/// Appends byte 21 and the duration, where there is one.
 fn push_duration(
     alloc: Global,
-    out: &mut Vec<u8>,
+    block: &mut Vec<u8>,
     duration: Option<u64>,
 ) -> Result<(), AllocError>
-    ensures { OnOk result (out.new.items ≡ out.old.items ++ duration_text duration) }
+    ensures { OnOk result (block.new.items ≡ block.old.items ++ duration_text duration) }
 {
-    let Some(duration) = duration else {
-        return Ok(());
-    };
-    out.push(21)?;
-    let size = write_seconds(alloc, duration)?;
-    out.extend_from_slice(size.as_slice())?;
-    Ok(())
+    match duration {
+        None => Ok(()),
+        Some(nanos) => {
+            block.push(21)?;
+            push_seconds(alloc, block, nanos)
+        }
+    }
 }
 
 /// Appends the TAL of one annotation.
-fn push_tal(
+fn push_annotation(
     alloc: Global,
-    out: &mut Vec<u8>,
+    block: &mut Vec<u8>,
     base: Instant,
     onset: Instant,
     duration: Option<u64>,
     text: &[u8],
 ) -> Result<(), AllocError>
-    ensures { OnOk result (out.new.items ≡ out.old.items ++ tal_text base (record { onset = onset; duration = duration; text = text.now })) }
+    ensures { OnOk result (block.new.items ≡ block.old.items
+        ++ tal_text base (record { onset = onset; duration = duration; text = text.now })) }
 {
-    push_onset(alloc, out, onset, base)?;
-    push_duration(alloc, out, duration)?;
-    out.push(20)?;
-    out.extend_from_slice(text)?;
-    out.extend_from_slice([20, 0].as_slice())?;
-    Ok(())
+    push_onset(alloc, block, base, onset)?;
+    push_duration(alloc, block, duration)?;
+    block.push(20)?;
+    block.extend_from_slice(text)?;
+    block.extend_from_slice(&[20, 0])
 }
 
-/// The canonical block of a data record, without fill: its start in a TAL of its own, then a TAL for each annotation.
+/// The length of a decimal of the window.
+fn short_len(nanos: u64) -> usize
+    requires { nanos < window }
+    ensures value { result ≡ length (short nanos) }
+    ensures bound { result ≤ 20 }
+{
+    seconds_len(nanos)
+}
+
+/// The length of what `push_duration` appends.
+fn duration_len(duration: Option<u64>) -> usize
+    requires { IfSome duration (λ d. d < window) }
+    ensures value { result ≡ length (duration_text duration) }
+    ensures bound { result ≤ 21 }
+{
+    match duration {
+        None => 0,
+        Some(nanos) => 1 + short_len(nanos),
+    }
+}
+
+/// The length of the TAL of one annotation.
+fn annotation_len(base: Instant, onset: Instant, duration: Option<u64>, text: &[u8]) -> usize
+    requires duration { IfSome duration (λ d. d < window) }
+    requires text { length text.now ≤ 1_000_000 }
+    ensures value { result ≡ length (tal_text base (record { onset = onset; duration = duration; text = text.now })) }
+    ensures bound { result ≤ 45 + length text.now }
+{
+    1 + short_len(distance(base, onset)) + duration_len(duration) + 3 + text.len()
+}
+
+/// The length in bytes of the block that `write_block` writes, at most 1,450,045. Contracts also learn what each annotation of
+/// the list is.
+pub fn block_len(start: Instant, notes: &[Note], base: Instant) -> usize
+    requires { IsWithinLimits notes.now }
+    ensures value { result ≡ length (block_text base start notes.now) }
+    ensures bound { result ≤ 1_450_045 }
+    ensures notes { AllByRecursion IsNote notes.now }
+{
+    let mut len = annotation_len(base, start, None, b"");
+    for note in notes {
+        len += annotation_len(base, note.onset(), note.duration(), note.text().as_bytes());
+    }
+    len
+}
+
+/// The canonical annotations block of a data record, without the bytes 0 that fill its signal.
 ///
-/// Onsets count from `base`. Each number is spelled in its shortest way, with `+` where an onset does not lie before the base.
-///
-/// # Errors
-/// Where memory runs out.
+/// The time-keeping annotation stands alone in the first TAL, then each annotation in a TAL of its own, in order. Onsets
+/// count from `base`, with `+` where they do not lie before it; every decimal is the shortest.
 pub fn write_block(
     alloc: Global,
     start: Instant,
@@ -82,61 +140,39 @@ pub fn write_block(
     requires { IsWithinLimits notes.now }
     ensures { IfOk result (λ v. v.items ≡ block_text base start notes.now) }
 {
-    let mut out = Vec::with_capacity(alloc, block_len(start, notes, base))?;
-    push_tal(alloc, &mut out, base, start, None, b"")?;
+    let mut block = Vec::with_capacity(alloc, block_len(start, notes, base))?;
+    push_annotation(alloc, &mut block, base, start, None, b"")?;
     for note in notes {
-        push_tal(
+        push_annotation(
             alloc,
-            &mut out,
+            &mut block,
             base,
             note.onset(),
             note.duration(),
             note.text().as_bytes(),
         )?;
     }
-    Ok(out)
+    Ok(block)
 }
 
-/// The bytes of the shortest decimal of so many nanoseconds.
-fn shortest_len(nanos: u64) -> usize
-    requires { nanos < window }
-    ensures value { result ≡ length (short nanos) }
-    ensures bound { result ≤ 20 }
+/// Whether two annotations have the same onset, duration and text.
+fn is_same(a: &Note, b: &Note) -> bool
+    ensures { IsTrue result ↔ (a.now ≡ b.now) }
 {
-    seconds_len(nanos)
+    a.onset() == b.onset() && a.duration() == b.duration() && a.text() == b.text()
 }
 
-/// The bytes of a duration behind byte 21, where there is one.
-fn duration_len(duration: Option<u64>) -> usize
-    requires { IfSome duration (λ d. d < window) }
-    ensures value { result ≡ length (duration_text duration) }
-    ensures bound { result ≤ 21 }
+/// Whether two lists have the same annotations in the same order. A duration of 0 is not the same as none.
+pub fn same_notes(a: &[Note], b: &[Note]) -> bool
+    ensures { IsTrue result ↔ (a.now ≡ b.now) }
 {
-    match duration {
-        None => 0,
-        Some(duration) => 1 + shortest_len(duration),
+    if a.len() != b.len() {
+        return false;
     }
-}
-
-/// The bytes of the TAL of one annotation.
-fn tal_len(base: Instant, onset: Instant, duration: Option<u64>, text: &[u8]) -> usize
-    requires duration { IfSome duration (λ d. d < window) }
-    requires text { length text.now ≤ 1_000_000 }
-    ensures value { result ≡ length (tal_text base (record { onset = onset; duration = duration; text = text.now })) }
-    ensures bound { result ≤ 45 + length text.now }
-{
-    1 + shortest_len(distance(onset, base)) + duration_len(duration) + 1 + text.len() + 2
-}
-
-/// The bytes of the canonical block, without fill.
-pub fn block_len(start: Instant, notes: &[Note], base: Instant) -> usize
-    requires { IsWithinLimits notes.now }
-    ensures value { result ≡ length (block_text base start notes.now) }
-    ensures bound { result ≤ 1_450_045 }
-{
-    let mut len = tal_len(base, start, None, b"");
-    for note in notes {
-        len += tal_len(base, note.onset(), note.duration(), note.text().as_bytes());
+    for (i, note) in a.iter().enumerate() {
+        if !is_same(note, &b[i]) {
+            return false;
+        }
     }
-    len
+    true
 }

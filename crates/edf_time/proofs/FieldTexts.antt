@@ -1,12 +1,10 @@
 -- The texts dd.mm.yy and hh.mm.ss.
-use Rattle.std.proofs.Common.{◌≡◌, ℕ, ◌+◌, ◌-◌, ◌*◌, ◌/◌, ◌%◌, ◌^◌, ◌≤◌, ◌<◌, List, [], ◌∷◌, ◌++◌, length, get_or, arith, refl, sym, ap, ◌∙◌, ℤ, pos, Option, Some, None}
+use Rattle.std.proofs.Common.{◌≡◌, ℕ, ◌+◌, ◌*◌, ◌/◌, ◌%◌, ◌^◌, ◌≤◌, ◌<◌, List, [], ◌∷◌, ◌++◌, length, get_or, arith, sym, ◌∙◌, ℤ, pos, Option, Some, None}
 use Rattle.std.specs.Prelude.{MatchOption}
 use Rattle.std.proofs.lemmas.Slice.Eq.{text_from_reads}
-use Rattle.edf_time.specs.Civil.{IsDay, IsClock, IsDateText, IsTimeText, IsCivil, IsStartFault, window, day_of, second_of_day, two_digits}
-use Rattle.edf_time.specs.declared.civil.StartFault.{StartFault}
-use Rattle.edf_time.specs.declared.civil.StartFault.TheVariants.{Date, Time}
+use Rattle.edf_time.specs.Civil.{IsDay, IsDateText, IsTimeText, day_of, second_of_day, two_digits}
 use Rattle.edf_time.proofs.Days.{number-in-window}
-use Rattle.edf_time.proofs.OneDay.{IsInBounds, in-bounds, SameDate, IsDay-same, one-number, one-date, SameClock, one-clock, one-second}
+use Rattle.edf_time.proofs.OneDay.{in-bounds, IsDay-same, one-number, one-date, one-clock, one-second}
 use Rattle.jiff_core.proofs.SignedLemmas.{signed_arith}
 
 -- three numbers of two digits, with dots between them

@@ -1,5 +1,5 @@
 -- The text dd-MMM-yyyy names one day.
-use Rattle.std.proofs.Common.{◌≡◌, ℕ, ◌+◌, ◌-◌, ◌*◌, ◌/◌, ◌%◌, ◌≤◌, ◌<◌, List, [], ◌∷◌, ◌++◌, length, get_or, arith, refl, sym, ap, ◌∙◌, subst, ℤ, pos}
+use Rattle.std.proofs.Common.{◌≡◌, ℕ, ◌+◌, ◌*◌, ◌/◌, ◌%◌, ◌≤◌, ◌<◌, List, [], ◌∷◌, ◌++◌, length, get_or, arith, sym, ap, ◌∙◌, ℤ}
 use Rattle.std.proofs.lemmas.Slice.Eq.{text_from_reads}
 use Rattle.edf_time.specs.Civil.{IsDay, IsIdDate, two_digits, four_digits, month_name}
 use Rattle.edf_time.proofs.OneDay.{IsInBounds, in-bounds, SameDate, IsDay-same, one-number, one-date}

@@ -1,10 +1,10 @@
 -- The text of an instant names it, and it has no other.
-use Rattle.std.proofs.Common.{◌≡◌, ℕ, zero, suc, ◌+◌, ◌-◌, ◌*◌, ◌/◌, ◌%◌, ◌^◌, ◌≤◌, ◌<◌, List, [], ◌∷◌, ◌++◌, take, drop, arith, refl, sym, ap, ◌∙◌, ℤ, pos}
-use Rattle.edf_time.specs.Civil.{IsDay, IsClock, IsInstantText, day_of, second_of_day, two_digits, four_digits}
+use Rattle.std.proofs.Common.{◌≡◌, ℕ, zero, suc, ◌+◌, ◌/◌, ◌%◌, ◌^◌, ◌≤◌, ◌<◌, List, ◌∷◌, ◌++◌, take, drop, arith, refl, sym, ap, ◌∙◌, pos}
+use Rattle.edf_time.specs.Civil.{IsInstantText, day_of, second_of_day, two_digits, four_digits}
 use Rattle.edf_time.specs.Decimal.{fraction_text, places_text, places}
 use Rattle.edf_time.proofs.Short.{places-text}
 use Rattle.edf_time.proofs.FieldTexts.{instant-parts}
-use Rattle.edf_time.proofs.OneDay.{IsInBounds, in-bounds, SameDate, IsDay-same, one-number, one-date, SameClock, one-clock, one-second}
+use Rattle.edf_time.proofs.OneDay.{in-bounds, SameDate, IsDay-same, one-number, one-date, SameClock, one-clock, one-second}
 use Rattle.jiff_core.proofs.SignedLemmas.{signed_arith}
 
 -- a part of a second has one text

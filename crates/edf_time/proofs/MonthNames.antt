@@ -1,5 +1,5 @@
 -- The twelve names of months are three capitals each, and no two are the same.
-use Rattle.std.proofs.Common.{◌≡◌, ℕ, ◌+◌, ◌-◌, ◌≤◌, ◌<◌, List, [], ◌∷◌, get_or, arith, refl, sym, ap, ◌∙◌, rules, cond, eqb, below_more, below_none}
+use Rattle.std.proofs.Common.{◌≡◌, ℕ, ◌+◌, ◌≤◌, List, [], ◌∷◌, get_or, arith, refl, sym, ap, ◌∙◌, rules, cond, eqb, below_more, below_none}
 use Rattle.edf_time.specs.Civil.{month_name}
 
 abbrev from_one : (ℕ → Type 0) → ℕ → Type 0

@@ -1,5 +1,5 @@
 -- A decimal has one value, and a text one fault.
-use Rattle.std.proofs.Common.{◌≡◌, ◌≢◌, ℕ, suc, ◌+◌, ◌^◌, ◌≤◌, ◌<◌, List, [], ◌∷◌, ◌++◌, length, get_or, arith, refl, sym, ap, ◌∙◌, subst}
+use Rattle.std.proofs.Common.{◌≡◌, ◌≢◌, ℕ, suc, ◌+◌, ◌^◌, ◌<◌, List, [], ◌∷◌, ◌++◌, length, get_or, arith, refl, sym, ap, ◌∙◌, subst}
 use Rattle.std.specs.List.{AllByRecursion}
 use Rattle.std.specs.Str.Parse.{AllDigits}
 use Rattle.std.proofs.lemmas.List.{length-append}
@@ -9,7 +9,7 @@ use Rattle.edf_time.specs.Bytes.{IsDecimalByte}
 use Rattle.edf_time.specs.declared.decimal.DecimalFault.{DecimalFault}
 use Rattle.edf_time.specs.declared.decimal.DecimalFault.TheVariants.{Syntax, TooFine, TooLarge}
 use Rattle.edf_time.proofs.Digits.{byte-at, digit_only}
-use Rattle.edf_time.proofs.Parts.{IsFirstDot, AreParts, parts-are, middle}
+use Rattle.edf_time.proofs.Parts.{IsFirstDot, parts-are, middle}
 
 no-dot-before : (w : List ℕ) (k : ℕ) → AllDigits 10 w → k < length w → get_or w k 0 ≢ 46
 no-dot-before w k digits lt e = absurd (omega (arith, (byte-at w k digits lt).0))

@@ -1,9 +1,9 @@
 -- A startdate and a starttime name one instant, which begins a second.
-use Rattle.std.proofs.Common.{◌≡◌, ℕ, ◌+◌, ◌*◌, ◌/◌, ◌%◌, ◌^◌, ◌<◌, List, arith, refl, sym, ap, ◌∙◌, subst}
+use Rattle.std.proofs.Common.{◌≡◌, ℕ, ◌*◌, ◌/◌, ◌^◌, ◌<◌, List, arith, refl, sym, subst}
 use Rattle.edf_time.specs.Civil.{IsDateText, IsTimeText, IsCivil, IsStartFault, window, day_of, second_of_day}
 use Rattle.edf_time.specs.declared.civil.StartFault.{StartFault}
 use Rattle.edf_time.specs.declared.civil.StartFault.TheVariants.{Date, Time}
-use Rattle.edf_time.proofs.FieldTexts.{one-date_day, one-time_second, date-in-window, time-in-day, IsWholeSecond, whole-second}
+use Rattle.edf_time.proofs.FieldTexts.{one-date_day, one-time_second, date-in-window, time-in-day, whole-second}
 
 pub record IsStart (date time : List ℕ) (nanos : ℕ) : Type 0 where
   pub is_date : IsDateText date (day_of nanos)

@@ -1,14 +1,14 @@
 -- How long the texts are, and that each byte of them is visible.
-use Rattle.std.proofs.Common.{◌≡◌, ℕ, zero, suc, ◌+◌, ◌-◌, ◌*◌, ◌/◌, ◌%◌, ◌^◌, ◌≤◌, ◌<◌, List, [], ◌∷◌, ◌++◌, length, get_or, arith, rules, refl, sym, ap, ◌∙◌, ℤ, pos}
+use Rattle.std.proofs.Common.{◌≡◌, ℕ, zero, suc, ◌+◌, ◌%◌, ◌^◌, ◌≤◌, ◌<◌, List, [], ◌∷◌, length, arith, rules, ap, ◌∙◌, ℤ, pos}
 use Rattle.std.specs.List.{AllByRecursion}
 use Rattle.std.specs.Str.Parse.{AllDigits}
 use Rattle.edf_time.specs.Bytes.{IsVisible}
-use Rattle.edf_time.specs.Civil.{IsDateText, IsTimeText, IsIdDate, IsInstantText, day_of, two_digits, four_digits, month_name}
+use Rattle.edf_time.specs.Civil.{IsDateText, IsTimeText, IsIdDate, IsInstantText}
 use Rattle.edf_time.specs.Decimal.{fraction_text, places_text}
 use Rattle.edf_time.proofs.Digits.{digit_only}
-use Rattle.edf_time.proofs.Short.{AllDigits-text, length-fraction_text}
-use Rattle.edf_time.proofs.MonthNames.{letters, IsCapital, AreCapitals, month_name-capitals}
-use Rattle.edf_time.proofs.OneDay.{IsInBounds, in-bounds}
+use Rattle.edf_time.proofs.Short.{AllDigits-text}
+use Rattle.edf_time.proofs.MonthNames.{AreCapitals, month_name-capitals}
+use Rattle.edf_time.proofs.OneDay.{in-bounds}
 use Rattle.edf_time.proofs.FieldTexts.{dotted}
 use Rattle.edf_time.proofs.IdDates.{id_text, id_text-is}
 use Rattle.edf_time.proofs.InstantTexts.{stamp, AreLow, are-low}

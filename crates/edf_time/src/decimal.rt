@@ -45,6 +45,9 @@ fn capped_number(text: &[u8]) -> u64
     number
 }
 
+/// How many digits after the dot count a nanosecond or more.
+const DECIMALS: usize = 9;
+
 /// The nanoseconds of the digits after a dot.
 fn fraction_nanos(digits: &[u8]) -> Result<u64, DecimalFault>
     requires { AllDigits 10 digits.now }
@@ -55,7 +58,7 @@ fn fraction_nanos(digits: &[u8]) -> Result<u64, DecimalFault>
     let mut nanos = 0;
     let mut unit = 100_000_000;
     for (i, d) in digits.iter().enumerate() {
-        if i >= 9 && *d != b'0' {
+        if i >= DECIMALS && *d != b'0' {
             return Err(DecimalFault::TooFine);
         }
         nanos += u64::from(*d - b'0') * unit;

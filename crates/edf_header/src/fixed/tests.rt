@@ -66,7 +66,11 @@ fn a_fixed_part_with_one_fault_is_refused_with_it(rt: HostRuntime) {
         (8, b"P7 F 2-MAY-1951 X ", HeaderFault::Patient),
         (8, b"P7 f 02-MAY-1951 X", HeaderFault::Patient),
         (8, b"P7 F 30-FEB-1951 X", HeaderFault::Patient),
-        (88, b"Startdate 02-MAR-2002 N1 T3     ", HeaderFault::Recording),
+        (
+            88,
+            b"Startdate 02-MAR-2002 N1 T3     ",
+            HeaderFault::Recording,
+        ),
         (88, b"Startdate 02-Mar-2002", HeaderFault::Recording),
         (88, b"startdate", HeaderFault::Recording),
         (168, b"31.02.02", HeaderFault::Startdate),
@@ -90,7 +94,11 @@ fn a_fixed_part_with_one_fault_is_refused_with_it(rt: HostRuntime) {
         (0, b"\x1f", HeaderFault::Unprintable { offset: 0 }),
     ];
     for (at, text, fault) in changes {
-        assert_eq!(rt; read_fixed(&changed(at, text)).err(), Some(fault), "at {at}");
+        assert_eq!(rt;
+            read_fixed(&changed(at, text)).err(),
+            Some(fault),
+            "at {at}"
+        );
     }
 }
 
@@ -100,5 +108,8 @@ fn of_two_faults_the_lower_number_is_told(rt: HostRuntime) {
     put(&mut bytes, 0, b"1");
     assert_eq!(rt; read_fixed(&bytes).err(), Some(HeaderFault::Version));
     put(&mut bytes, 200, b"\x00\x00");
-    assert_eq!(rt; read_fixed(&bytes).err(), Some(HeaderFault::Unprintable { offset: 200 }));
+    assert_eq!(rt;
+        read_fixed(&bytes).err(),
+        Some(HeaderFault::Unprintable { offset: 200 })
+    );
 }

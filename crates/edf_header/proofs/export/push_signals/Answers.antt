@@ -1,4 +1,4 @@
-use Rattle.std.proofs.Common.{◌≡◌, List, ℕ, length, sym, ap, ◌∙◌, ◌++◌, ◌∷◌, []}
+use Rattle.std.proofs.Common.{◌≡◌, List, ℕ, length, ap, ◌∙◌, ◌++◌, ◌∷◌, []}
 use Rattle.edf_header.specs.Signal.{columns, rows_of}
 use Rattle.edf_header.specs.Canonical.{annotations_signal}
 use Rattle.edf_header.proofs.ExportWritten.{row-length}

@@ -1,5 +1,4 @@
-use Rattle.std.proofs.Common.{rules, arith}
-use Rattle.std.proofs.lemmas.Bool.Decides.{nat_tests}
+use Rattle.std.proofs.Common.{rules}
 use Rattle.edf_header.proofs.FixedRows.{same-none, same-day, other-day}
 use Rattle.edf_header.proofs.fields.check_same_day.Goals as goal
 

@@ -3,11 +3,13 @@ use Rattle.edf_header.proofs.Faults.{clean-4, clean-5}
 use Rattle.edf_header.proofs.key.check_front.Goals as goal
 
 pub returns-then-not-has_recording : goal.returns-then-not-has_recording
-returns-then-not-has_recording c =
-    (iff_false c.has_recording.ensures c.if-not-has_recording.true,
-    clean-4 c.args.bytes.now (c.has_length.ensures.0 c.if-not-has_length.false) c.in_default.ensures (c.is_patient.ensures.0 c.if-not-is_patient.false))
+returns-then-not-has_recording c = (
+  iff_false c.has_recording.ensures c.if-not-has_recording.true,
+  clean-4 c.args.bytes.now (c.has_length.ensures.0 c.if-not-has_length.false) c.in_default.ensures (c.is_patient.ensures.0 c.if-not-is_patient.false),
+)
 
 pub returns-in-None : goal.returns-in-None
-returns-in-None c =
-    (c.in-None.ensures,
-    clean-5 c.args.bytes.now (c.has_length.ensures.0 c.if-not-has_length.false) c.in_default.ensures (c.is_patient.ensures.0 c.if-not-is_patient.false) (c.has_recording.ensures.0 c.if-not-has_recording.false))
+returns-in-None c = (
+  c.in-None.ensures,
+  clean-5 c.args.bytes.now (c.has_length.ensures.0 c.if-not-has_length.false) c.in_default.ensures (c.is_patient.ensures.0 c.if-not-is_patient.false) (c.has_recording.ensures.0 c.if-not-has_recording.false),
+)

@@ -1,7 +1,5 @@
-use Rattle.std.proofs.Common.{arith, take, subst, ◌∙◌, ap}
 use Rattle.std.proofs.lemmas.List.Sums.{prefix_len-le-length}
 use Rattle.std.specs.Prelude.{◌==◌, not}
-use Rattle.edf_time.specs.Decimal.{IsDecimalFault}
 use Rattle.edf_header.proofs.Durations.{not-read, not-zero}
 use Rattle.edf_header.proofs.number.read_duration.Goals as goal
 

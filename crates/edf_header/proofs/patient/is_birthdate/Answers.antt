@@ -1,4 +1,4 @@
-use Rattle.std.proofs.Common.{◌≡◌, Bool, true, ℕ, List, ℤ, Option, Some, None, IsTrue, refl, inl, inr, ⊎_elim, rules, ◌∙◌, sym}
+use Rattle.std.proofs.Common.{◌≡◌, Bool, ℕ, List, ℤ, Option, Some, None, IsTrue, inr, ⊎_elim, rules, ◌∙◌, sym}
 use Rattle.std.specs.Prelude.{MatchOption, is_some, codes}
 use Rattle.std.proofs.lemmas.Bool.{false≢true}
 use Rattle.edf_time.specs.Civil.{IsIdDate}

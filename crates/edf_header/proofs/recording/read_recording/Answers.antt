@@ -1,4 +1,4 @@
-use Rattle.std.proofs.Common.{rules, arith}
+use Rattle.std.proofs.Common.{rules}
 use Rattle.edf_header.proofs.Recordings.{not-behind}
 use Rattle.edf_header.proofs.recording.read_recording.Goals as goal
 

@@ -1,4 +1,4 @@
-use Rattle.std.proofs.Common.{rules, arith}
+use Rattle.std.proofs.Common.{rules}
 use Rattle.std.proofs.lemmas.List.{take_rest}
 use Rattle.edf_header.proofs.Recordings.{no-day}
 use Rattle.edf_header.proofs.recording.read_startdate.Goals as goal

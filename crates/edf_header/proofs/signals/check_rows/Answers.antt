@@ -13,12 +13,11 @@ returns-in-Some-bad_signal-3 c =
     (c.in-Some-bad_signal-3.ensures, clean-19 (rows_of c.args.rows.now) c.in-Some.at c.in-Some.ensures c.in_default-bad_signal.ensures c.in_default-bad_signal-2.ensures)
 
 pub returns-in-Some-places_at : goal.returns-in-Some-places_at
-returns-in-Some-places_at c =
-    (
-      c.in-Some.at,
-      sound-is (rows_of c.args.rows.now) c.in-Some.at c.in-Some.ensures c.in_default-bad_signal.ensures c.in_default-bad_signal-2.ensures c.in_default-bad_signal-3.ensures c.in-Some-places_at.ensures.1,
-      c.in-Some-places_at.ensures.0,
-    )
+returns-in-Some-places_at c = (
+  c.in-Some.at,
+  sound-is (rows_of c.args.rows.now) c.in-Some.at c.in-Some.ensures c.in_default-bad_signal.ensures c.in_default-bad_signal-2.ensures c.in_default-bad_signal-3.ensures c.in-Some-places_at.ensures.1,
+  c.in-Some-places_at.ensures.0,
+)
 
 pub returns-in-None : goal.returns-in-None
 returns-in-None c =

@@ -1,4 +1,4 @@
-use Rattle.std.proofs.Common.{arith, length, ◌/◌, ap, inl, ◌*◌, ◌≤◌, ◌≡◌, ℕ}
+use Rattle.std.proofs.Common.{arith, length, ◌/◌, inl, ◌*◌, ◌≤◌, ◌≡◌}
 use Rattle.edf_header.specs.Signal.{rows_of, samples, samples_in_all, ordinary}
 use Rattle.edf_header.specs.Rows.{annotations_at}
 use Rattle.edf_header.proofs.RowSteps.{length-rows}
@@ -25,9 +25,8 @@ returns c =
     let ss = rows_of c.args.rows.now in
     let e : c.from.result ≡ samples (annotations_at ss c.args.at) = block-is ss c.args.at c.row.result.now c.in-Some.samples c.from.result c.row.ensures.row c.in-Some.ensures.1 c.from.ensures in
     let all : 2 * samples_in_all (ordinary ss) ≤ 4_194_304 = omega (arith, c.ordinary_samples-ordinary.ensures.value) in
-    let block : 2 * samples (annotations_at ss c.args.at) ≤ 4_194_304 = omega (arith, e) in
-    (
+    let block : 2 * samples (annotations_at ss c.args.at) ≤ 4_194_304 = omega (arith, e) in (
       places-are ss (rows_of c.rows_before.result.now) c.args.at c.ordinary_samples-ordinary.result c.ordinary_samples.result c.from.result c.requires.split
-      c.ordinary_samples-ordinary.ensures.value c.rows_before.ensures.rows c.ordinary_samples.ensures.value e,
+          c.ordinary_samples-ordinary.ensures.value c.rows_before.ensures.rows c.ordinary_samples.ensures.value e,
       not-large ss c.args.at c.requires.split all block,
     )

@@ -1,4 +1,4 @@
-use Rattle.std.proofs.Common.{arith, ◌≡◌, ◌*◌, ◌∙◌, ap, sym, subst, refl, length, inr, List, ℕ}
+use Rattle.std.proofs.Common.{arith, ◌≡◌, ◌*◌, ◌∙◌, sym, subst, refl, length, inr, List, ℕ}
 use Rattle.edf_header.specs.Key.{IsKey}
 use Rattle.edf_header.specs.Signal.{rows_of, signals_of}
 use Rattle.edf_header.specs.Rows.{ArePlaces, IsLayout, IsSound}
@@ -53,8 +53,7 @@ returns c =
     let sound : IsSound (signals_of b f.signals) at = subst (λ (l : List (List ℕ)). IsSound l at) ss c.in-Ok-check_rows.ensures.1 in
     let places : ArePlaces (signals_of b f.signals) at c.in-Ok-check_rows.places = subst (λ (l : List (List ℕ)). ArePlaces l at c.in-Ok-check_rows.places) ss c.in-Ok-check_rows.ensures.2 in
     let key = key-made f (signals_of b f.signals) at c.patient.result.now c.after.result.now c.duration.result.now c.deref-2.result.now c.dated.result sound rows
-    c.patient.ensures c.dated.ensures.value c.after.ensures c.duration.ensures in
-    (
+    c.patient.ensures c.dated.ensures.value c.after.ensures c.duration.ensures in (
       header_of f (signals_of b f.signals) at,
       are-signals b f at len c.in_default.ensures sound,
       refl,

@@ -1,5 +1,5 @@
 use Rattle.std.proofs.lemmas.Bool.Decides.{nat_tests}
-use Rattle.std.proofs.Common.{◌==◌, not, arith, sym, ap, ◌∙◌, ◌≡◌, ◌<◌, length, drop, [], List, ℕ}
+use Rattle.std.proofs.Common.{◌==◌, not, arith, sym, ap, ◌∙◌, ◌≡◌, ◌<◌, length, drop, List, ℕ}
 use Rattle.std.proofs.lemmas.List.{nil_from_length}
 use Rattle.std.proofs.lemmas.List.Sums.{prefix_len-le-length}
 use Rattle.edf_header.specs.Number.{front_len}

@@ -1,4 +1,4 @@
-use Rattle.std.proofs.Common.{arith, sym, not, ap, eqb, ◌≡◌, true, false}
+use Rattle.std.proofs.Common.{arith, sym, eqb}
 use Rattle.std.proofs.lemmas.List.Sums.{prefix_len_is}
 use Rattle.std.proofs.lemmas.Bool.Decides.{nat_tests}
 use Rattle.edf_header.proofs.subfield.spaces_len.Goals as goal

@@ -1,4 +1,4 @@
-use Rattle.std.proofs.Common.{◌≡◌, ℕ, ◌<◌, true, not, eqb, get_or}
+use Rattle.std.proofs.Common.{◌≡◌, ℕ, ◌<◌, true, eqb, get_or}
 use Rattle.edf_header.proofs.subfield.spaces_len.Given as goal
 
 abbrev pub invariant-loop-i : goal.invariant-loop-i

@@ -1,4 +1,4 @@
-use Rattle.std.proofs.Common.{◌≤◌, ◌+◌, length}
+use Rattle.std.proofs.Common.{length}
 use Rattle.edf_tal.proofs.Surveys.{HasChecked}
 use Rattle.edf_tal.proofs.scan.check_texts.Given as goal
 

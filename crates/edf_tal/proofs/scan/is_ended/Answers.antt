@@ -1,4 +1,4 @@
-use Rattle.std.proofs.Common.{arith, ◌≡◌, ℕ, List, get_or, length, ◌-◌}
+use Rattle.std.proofs.Common.{arith}
 use Rattle.edf_tal.proofs.Heads.{ended-tests}
 use Rattle.edf_tal.proofs.scan.is_ended.Goals as goal
 

@@ -1,6 +1,6 @@
-use Rattle.std.proofs.Common.{refl, ℕ, List, ◌∷◌, pos, neg_ℤ, subst, sym}
+use Rattle.std.proofs.Common.{refl, ℕ, ◌∷◌, pos, neg_ℤ, subst, sym}
 use Rattle.edf_tal.specs.Scan.{IsHead}
-use Rattle.edf_tal.proofs.Heads.{head-signed, head-plus, head-minus, neither}
+use Rattle.edf_tal.proofs.Heads.{head-signed, head-plus, head-minus}
 use Rattle.edf_tal.proofs.scan.signed_times.Goals as goal
 
 pub returns-in_default : goal.returns-in_default

@@ -1,5 +1,5 @@
-use Rattle.std.proofs.Common.{arith, ◌≡◌, ◌+◌, ◌-◌, ◌≤◌, length, ◌&&◌}
-use Rattle.edf_tal.proofs.Totals.{survey-none, survey-more, survey-room, survey-bad, survey-behind, front-shorter, behind-more, behind-behind, good-count, bad-place, both-true}
+use Rattle.std.proofs.Common.{arith, ◌≡◌, ◌+◌, ◌-◌, length, ◌&&◌}
+use Rattle.edf_tal.proofs.Totals.{survey-none, survey-more, survey-room, survey-bad, survey-behind, front-shorter, behind-more, behind-behind, good-count, both-true}
 use Rattle.edf_tal.proofs.survey.survey.Goals as goal
 
 pub loop-tal-init : goal.loop-tal-init
@@ -32,16 +32,17 @@ loop-tal-preserved c =
     let few = good-count c.in-Some.tal.texts.now c.in-Ok.texts c.in-Ok.ensures in
     let sum : c.in-Ok.texts + (length c.in-Some.tal.texts.now - c.in-Ok.texts) ≡ length c.in-Some.tal.texts.now = omega arith in
     survey-more c.args.block.now c.loop-tal.rest.now c.in-Some.tal.texts.now c.in-Some.tal.rest.now c.args.file_start c.in-Some.ensures.0
-      c.loop-tal.in_window (c.loop-tal.in_window && c.is_in_window-in_window.result) c.is_in_window-in_window.result c.loop-tal.count c.loop-tal.text_bytes
-      c.in-Ok.texts (length c.in-Some.tal.texts.now - c.in-Ok.texts) c.loop-tal.invariant c.in-Some.ensures.1 c.in-Ok.ensures
-      (c.is_in_window-in_window.ensures c.in-Some.ensures.0 c.in-Some.ensures.2 c.in-Some.ensures.3) (both-true c.loop-tal.in_window c.is_in_window-in_window.result) sum
+    c.loop-tal.in_window (c.loop-tal.in_window && c.is_in_window-in_window.result) c.is_in_window-in_window.result c.loop-tal.count c.loop-tal.text_bytes
+    c.in-Ok.texts (length c.in-Some.tal.texts.now - c.in-Ok.texts) c.loop-tal.invariant c.in-Some.ensures.1 c.in-Ok.ensures
+    (c.is_in_window-in_window.ensures c.in-Some.ensures.0 c.in-Some.ensures.2 c.in-Some.ensures.3) (both-true c.loop-tal.in_window c.is_in_window-in_window.result) sum
 
 pub returns-in-Err : goal.returns-in-Err
 returns-in-Err c =
-    let behind = survey-behind c.args.block.now c.loop-tal.rest.now c.args.file_start c.loop-tal.in_window c.loop-tal.count c.loop-tal.text_bytes c.loop-tal.invariant in
-    (behind-behind c.args.block.now c.in-Some.tal.rest.now c.behind_tals.result.now
-        (behind-more c.args.block.now c.loop-tal.rest.now c.in-Some.tal.texts.now c.in-Some.tal.rest.now c.in-Some.ensures.0 behind c.in-Some.ensures.1)
-        c.behind_tals.ensures.whole,
+    let behind = survey-behind c.args.block.now c.loop-tal.rest.now c.args.file_start c.loop-tal.in_window c.loop-tal.count c.loop-tal.text_bytes c.loop-tal.invariant in (
+      behind-behind c.args.block.now c.in-Some.tal.rest.now c.behind_tals.result.now
+          (behind-more c.args.block.now c.loop-tal.rest.now c.in-Some.tal.texts.now c.in-Some.tal.rest.now c.in-Some.ensures.0 behind c.in-Some.ensures.1)
+          c.behind_tals.ensures.whole,
       c.behind_tals.ensures.last,
       survey-bad c.args.block.now c.loop-tal.rest.now c.in-Some.tal.texts.now c.in-Some.tal.rest.now c.args.file_start c.in-Some.ensures.0
-        c.loop-tal.in_window c.loop-tal.count c.loop-tal.text_bytes c.in-Err.at c.loop-tal.invariant c.in-Some.ensures.1 c.in-Err.ensures)
+          c.loop-tal.in_window c.loop-tal.count c.loop-tal.text_bytes c.in-Err.at c.loop-tal.invariant c.in-Some.ensures.1 c.in-Err.ensures,
+    )

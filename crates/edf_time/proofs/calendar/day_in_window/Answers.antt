@@ -1,7 +1,6 @@
-use Rattle.std.proofs.Common.{arith, ◌≡◌, ◌<◌, ℤ, pos, w32, to_z, of_z, FitsSigned, unsigned_abs, to_z-of_z, rules, ap, ◌∙◌, subst, sym}
-use Rattle.edf_time.specs.Civil.{IsDay}
+use Rattle.std.proofs.Common.{arith, w32, rules}
 use Rattle.edf_time.proofs.Days.{number-in-window, back-unsigned}
-use Rattle.jiff_core.proofs.SignedLemmas.{signed_arith, signed_casts}
+use Rattle.jiff_core.proofs.SignedLemmas.{signed_arith}
 use Rattle.edf_time.proofs.calendar.day_in_window.Goals as goal
 
 pub overflow_cast-result : goal.overflow_cast-result

@@ -1,4 +1,4 @@
-use Rattle.edf_time.proofs.OneValue.{SameParts, same-parts, one-value}
+use Rattle.edf_time.proofs.OneValue.{same-parts, one-value}
 use Rattle.edf_time.proofs.laws.one_value.Goals as goal
 
 pub returns : goal.returns

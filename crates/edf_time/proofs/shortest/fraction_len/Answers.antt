@@ -1,6 +1,6 @@
-use Rattle.std.proofs.Common.{arith, ◌≤◌}
+use Rattle.std.proofs.Common.{arith}
 use Rattle.edf_time.specs.Decimal.{fraction_text}
-use Rattle.edf_time.proofs.Short.{Writes, writes, IsCounting, counting-starts, counts, counting-ends, counted-le, length-fraction_text}
+use Rattle.edf_time.proofs.Short.{writes, counting-starts, counts, counting-ends, counted-le, length-fraction_text}
 use Rattle.edf_time.proofs.shortest.fraction_len.Goals as goal
 
 pub loop-part-init : goal.loop-part-init

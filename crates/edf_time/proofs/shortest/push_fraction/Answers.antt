@@ -1,5 +1,5 @@
-use Rattle.std.proofs.Common.{arith, rules, ◌≡◌, sym, refl}
-use Rattle.edf_time.proofs.Short.{IsWriting, Writes, writes, starts, ends}
+use Rattle.std.proofs.Common.{arith}
+use Rattle.edf_time.proofs.Short.{writes, starts, ends}
 use Rattle.edf_time.proofs.shortest.push_fraction.Goals as goal
 
 pub loop-part-init : goal.loop-part-init

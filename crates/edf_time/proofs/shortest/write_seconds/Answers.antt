@@ -1,6 +1,5 @@
-use Rattle.std.proofs.Common.{arith, ◌≡◌, ◌∙◌, sym, ◌++◌, ◌/◌, ◌%◌, ◌^◌}
-use Rattle.std.specs.Fmt.{decimal}
-use Rattle.edf_time.specs.Decimal.{short, fraction_text}
+use Rattle.std.proofs.Common.{arith, ◌≡◌}
+use Rattle.edf_time.specs.Decimal.{short}
 use Rattle.edf_time.proofs.Short.{short-parts, IsShortest-short}
 use Rattle.edf_time.proofs.shortest.write_seconds.Goals as goal
 

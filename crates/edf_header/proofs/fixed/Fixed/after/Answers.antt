@@ -1,4 +1,4 @@
-use Rattle.std.proofs.Common.{◌≡◌, ◌≤◌, ℕ, List, length, take, drop, cond, arith, sym, ap, ◌∙◌, subst, ℤ, Option, Some, None}
+use Rattle.std.proofs.Common.{◌≡◌, ℕ, List, length, take, drop, cond, arith, sym, ap, ◌∙◌, subst, ℤ, Option, Some, None}
 use Rattle.std.proofs.lemmas.List.{take_all}
 use Rattle.edf_header.specs.Text.{after_of}
 use Rattle.edf_header.specs.Header.{Fixed, is_dated}

@@ -1,0 +1,95 @@
+-- What is written of a fragment's records is their canonical file, and no other bytes are.
+use Rattle.std.proofs.Common.{◌≡◌, ℕ, zero, suc, ◌+◌, ◌-◌, ◌*◌, ◌/◌, ◌%◌, ◌^◌, ◌≤◌, ◌<◌, List, [], ◌∷◌, ◌++◌, length, refl, sym, ap, ◌∙◌, subst, arith, All}
+use Rattle.std.specs.List.{flat_map}
+use Rattle.std.proofs.lemmas.List.Elements.{All-head, All-weaker, All-cons, All-nil}
+use Rattle.std.specs.List.{AllByRecursion}
+use Rattle.edf_header.specs.Spelled.{spelled_layout}
+use Rattle.edf_header.specs.Rows.{IsLayout}
+use Rattle.edf_header.proofs.Headers.{header-layout}
+use Rattle.edf_header.proofs.FixedLaws.{is-fixed}
+use Rattle.edf_header.proofs.ExportOne.{one-export}
+use Rattle.edf_header.proofs.ExportHeader.{export-reads}
+use Rattle.edf_command.proofs.BlockLength.{block-length}
+use Rattle.edf_time.specs.Civil.{window}
+use Rattle.edf_header.specs.Number.{duration_of}
+use Rattle.edf_header.specs.Key.{Key, IsKey}
+use Rattle.edf_header.specs.Signal.{samples_in_all}
+use Rattle.edf_header.specs.Header.{Header, Layout, layout_of, IsHeader}
+use Rattle.edf_header.specs.Canonical.{IsExportHeader}
+use Rattle.edf_tal.specs.Tal.{Annotation}
+use Rattle.edf_tal.specs.Note.{IsNote}
+use Rattle.edf_tal.specs.Block.{IsWithinLimits}
+use Rattle.edf_tal.specs.Canonical.{block_text}
+use Rattle.edf_tal.specs.declared.place.Place.TheVariants.{First}
+use Rattle.edf_fragment.specs.Fragment.{DataRecord, AreDataRecords, Spells}
+use Rattle.edf_command.specs.File.{second_of, block_of, record_text, Hold, IsLaidOut, IsCanonicalFile}
+use Rattle.edf_command.proofs.Records.{records-read}
+use Rattle.edf_command.proofs.Exported.{IsExported, AreExported, IsExportLayout, are-exported, are-readable}
+
+-- what a header says is within the bounds of an export
+header-bounds : (bytes : List ℕ) (h : Header) (rest : List ℕ) → IsHeader bytes h rest → IsLayout (layout_of h)
+header-bounds bytes h rest is = header-layout is.second h (is-fixed is.first h.fixed is.fixed) is.signals
+
+second-of-low : (n : ℕ) → second_of n ≤ n
+second-of-low n = omega arith
+
+second-of-high : (n : ℕ) → n < second_of n + 10 ^ 9
+second-of-high n = omega arith
+
+all-bounded : (k : Key) (low base : ℕ) (rs : List DataRecord) → base < window → AreExported k low rs → All (λ r. length (block_of base r) ≤ 2 * 725_023) rs
+all-bounded k low base [] in_window are = All-nil (λ r. length (block_of base r) ≤ 2 * 725_023)
+all-bounded k low base (r ∷ rs) in_window (e, lower, more) =
+    All-cons (λ x. length (block_of base x) ≤ 2 * 725_023) r rs
+    (let b = block-length base r.start r.annotations in_window e.start e.limits e.notes in omega arith)
+    (all-bounded k (r.start + duration_of k.duration) base rs in_window more)
+
+some-samples : (base samples : ℕ) (r : DataRecord) → length (block_of base r) ≤ 2 * samples → 1 ≤ samples
+some-samples base samples r fits = omega arith
+
+export-layout-is : (k : Key) (start count samples : ℕ) → start < window → IsExportLayout (spelled_layout k (second_of start) count samples) (second_of start) (2 * samples)
+export-layout-is k start count samples lt =
+    record { start = refl; in_window = omega (arith, second-of-low start); block_at = refl; block_bytes = refl; record_bytes = omega arith }
+
+pub canonical : (bytes file : List ℕ) (k : Key) (r : DataRecord) (rs : List DataRecord) → Spells bytes k (r ∷ rs) → IsLaidOut file k r (r ∷ rs)
+    → IsCanonicalFile file k (r ∷ rs)
+canonical bytes file k r rs s laid =
+    let samples = laid.samples in
+    let header = laid.header in
+    let is-header = laid.is_header in
+    let holds = laid.holds in
+    let least = laid.least in
+    let parts = laid.parts in
+    let base = second_of r.start in
+    let bounded = header-bounds bytes s.header s.rest s.is_header in
+    let is-key : IsKey k = subst IsKey (sym s.key) bounded.key in
+    let are : AreExported k 0 (r ∷ rs) = subst (λ (x : Key). AreExported x 0 (r ∷ rs)) (sym s.key) (are-exported s.header First s.rest (r ∷ rs) s.last [] s.are_records) in
+    let in-window : r.start < window = are.0.start in
+    let base-in : second_of r.start < window = omega (arith, second-of-low r.start) in
+    let few : samples ≤ 725_023 = least 725_023 (all-bounded k 0 base (r ∷ rs) base-in are) in
+    let some : 1 ≤ samples = some-samples base samples r (All-head (λ x. length (block_of base x) ≤ 2 * samples) r rs holds) in
+    let body = flat_map (record_text base (2 * samples)) (r ∷ rs) in
+    let l = spelled_layout k (second_of r.start) (length (r ∷ rs)) samples in
+    let again = export-reads header k r.start (length (r ∷ rs)) samples is-key (omega arith) (omega (arith, s.count, bounded.few)) some (omega arith) is-header in
+    let read = records-read l First base (2 * samples) (r ∷ rs)
+    (are-readable l base (2 * samples) 0 r rs (export-layout-is k r.start (length (r ∷ rs)) samples in-window) are (second-of-low r.start, second-of-high r.start) holds) in
+    let spells : Spells (header ++ body) k (r ∷ rs) = record {
+      header = again.header;
+      rest = body;
+      last = read.0;
+      is_header = again.reads body;
+      key = ap (λ (x : Layout). x.key) (sym again.says);
+      are_records = subst (λ (x : Layout). AreDataRecords x First body (r ∷ rs) read.0 []) (sym again.says) read.1;
+      count = ap (λ (x : Layout). x.count) (sym again.says);
+    } in
+    (subst (λ (x : List ℕ). Spells x k (r ∷ rs)) (sym parts) spells, laid)
+
+pub one-file : (a b : List ℕ) (k : Key) (rs : List DataRecord) → IsCanonicalFile a k rs → IsCanonicalFile b k rs → a ≡ b
+one-file a b k [] x y = absurd x
+one-file a b k (r ∷ rs) (sa, x) (sb, y) =
+    let low : x.samples ≤ y.samples = x.least y.samples y.holds in
+    let high : y.samples ≤ x.samples = y.least x.samples x.holds in
+    let same : y.samples ≡ x.samples = omega arith in
+    let other : IsExportHeader y.header k r.start (length (r ∷ rs)) x.samples = subst (λ (n : ℕ). IsExportHeader y.header k r.start (length (r ∷ rs)) n) same y.is_header in
+    let headers : x.header ≡ y.header = one-export x.header y.header k r.start (length (r ∷ rs)) x.samples x.is_header other in
+    x.parts ∙ ap (λ (h : List ℕ). h ++ flat_map (record_text (second_of r.start) (2 * x.samples)) (r ∷ rs)) headers
+    ∙ ap (λ n. y.header ++ flat_map (record_text (second_of r.start) (2 * n)) (r ∷ rs)) (sym same) ∙ sym y.parts

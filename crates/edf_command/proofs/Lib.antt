@@ -1,0 +1,7 @@
+pub mod Records
+pub mod Exported
+pub mod BlockLength
+pub mod Files
+pub mod Longest
+pub mod Written
+pub mod Conversions

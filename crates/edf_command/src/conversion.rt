@@ -1,0 +1,47 @@
+//! One file in, its canonical file out.
+
+ghost use Rattle.std.specs.Prelude.{◌≡◌, IfOk, IfErr};
+ghost use Rattle.edf_command.specs.Convert.{refusal_of, IsConverted, IsNotConverted};
+
+use crate::fault::{ConvertFault, OutputFault};
+use crate::file::write_file;
+use edf_fragment::{FragmentFault, Input, Output, read_fragment};
+use std::alloc::Global;
+
+/// Want of memory is told as such, and any other fault as one of the input.
+fn refusal_of(fault: FragmentFault) -> ConvertFault
+    ensures { result ≡ refusal_of fault }
+{
+    match fault {
+        FragmentFault::Memory => ConvertFault::Memory,
+        fault => ConvertFault::Form(fault),
+    }
+}
+
+/// Reads one EDF+ file and writes the canonical EDF+D file of its data records, of which it tells the bytes.
+///
+/// The input is read to its end, and its records are kept before anything is written. The canonical file has them in order,
+/// counts its onsets from the second in which the first begins, and spells every number in its shortest way.
+///
+/// # Errors
+/// `Form` where the input is refused, by the first fault in the order of the format, or where a read failed; then nothing
+/// was written. `Memory` where memory ran out, `Write` where a write failed; then a part of the file may have been written.
+pub fn convert<R: Input, W: Output>(
+    alloc: Global,
+    input: &mut R,
+    out: &mut W,
+) -> Result<u64, ConvertFault>
+    ensures ok { IfOk result (λ len. IsConverted (R.remaining input.old) (R.remaining input.new) (W.contents out.old) (W.contents out.new) len) }
+    ensures refused { IfErr result (λ fault. IsNotConverted (R.remaining input.old) (W.contents out.old) (W.contents out.new)
+        (record { reads = R.failures input.old; writes = W.failures out.old }) (record { reads = R.failures input.new; writes = W.failures out.new }) fault) }
+{
+    let (header, records) = match read_fragment(alloc, input) {
+        Ok(read) => read,
+        Err(fault) => return Err(refusal_of(fault)),
+    };
+    match write_file(alloc, out, header.identity(), records.as_slice()) {
+        Ok(len) => Ok(len),
+        Err(OutputFault::Memory) => Err(ConvertFault::Memory),
+        Err(OutputFault::Write) => Err(ConvertFault::Write),
+    }
+}

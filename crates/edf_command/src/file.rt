@@ -1,0 +1,81 @@
+//! Writing the canonical file of a list of data records.
+
+ghost use Rattle.std.specs.Prelude.{◌≡◌, ℕ, ◌+◌, ◌*◌, ◌≤◌, ◌<◌, All, List, length, take, slice_index_or};
+ghost use Rattle.std.specs.List.{flat_map};
+ghost use Rattle.edf_header.specs.Signal.{samples_in_all};
+ghost use Rattle.edf_command.specs.File.{block_of, record_text};
+ghost use Rattle.edf_command.specs.Output.{IsPut, IsWritten};
+
+use crate::blocks::block_samples;
+use crate::fault::OutputFault;
+use crate::output::{flush, put, put_zeros};
+use edf_fragment::{Output, Record};
+use edf_header::{Identity, write_header};
+use edf_tal::write_block;
+use edf_time::Instant;
+use std::alloc::Global;
+
+/// Puts a data record: its samples, its block and the fill.
+fn put_record<W: Output>(
+    alloc: Global,
+    out: &mut W,
+    held: &mut Vec<u8>,
+    data_record: &Record,
+    file_start: Instant,
+    size: usize,
+) -> Result<(), OutputFault>
+    requires { length (block_of file_start data_record.now) ≤ size }
+    ensures { IsPut (W.contents out.old) (W.contents out.new) (W.failures out.old) (W.failures out.new) held.old.items held.new.items (record_text file_start size data_record.now) result }
+{
+    put(out, held, data_record.samples())?;
+    let Ok(block) = write_block(alloc, data_record.start(), data_record.notes(), file_start) else {
+        return Err(OutputFault::Memory);
+    };
+    put(out, held, block.as_slice())?;
+    put_zeros(out, held, size - block.len())
+}
+
+/// Puts the data records in order.
+fn put_records<W: Output>(
+    alloc: Global,
+    out: &mut W,
+    held: &mut Vec<u8>,
+    records: &[Record],
+    file_start: Instant,
+    size: usize,
+) -> Result<(), OutputFault>
+    requires { All (λ r. length (block_of file_start r) ≤ size) records.now }
+    ensures { IsPut (W.contents out.old) (W.contents out.new) (W.failures out.old) (W.failures out.new) held.old.items held.new.items (flat_map (record_text file_start size) records.now) result }
+{
+    for record in records {
+        put_record(alloc, out, held, record, file_start, size)?;
+    }
+    Ok(())
+}
+
+/// Writes the file of the records and tells its length.
+pub(crate) fn write_file<W: Output>(
+    alloc: Global,
+    out: &mut W,
+    identity: &Identity,
+    records: &[Record],
+) -> Result<u64, OutputFault>
+    requires some { 0 < length records.now }
+    requires few { length records.now ≤ 99_999_999 }
+    requires sizes { All (λ r. length r.samples ≡ 2 * samples_in_all identity.now.signals) records.now }
+    ensures { IsWritten (W.contents out.old) (W.contents out.new) (W.failures out.old) (W.failures out.new) identity.now records.now result }
+{
+    let first = records[0].start();
+    let file_start = first.second();
+    let samples = block_samples(records, file_start);
+    let Ok(header) = write_header(alloc, identity, first, records.len() as u32, samples) else {
+        return Err(OutputFault::Memory);
+    };
+    let size = 2 * samples as usize;
+    let mut held = Vec::new(alloc);
+    put(out, &mut held, header.as_slice())?;
+    put_records(alloc, out, &mut held, records, file_start, size)?;
+    flush(out, &mut held)?;
+    let record_bytes = identity.ordinary_bytes() + size;
+    Ok(header.len() as u64 + records.len() as u64 * record_bytes as u64)
+}

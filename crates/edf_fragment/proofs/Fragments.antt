@@ -1,0 +1,150 @@
+-- Fragments that were read, and the first fault of those that were not.
+use Rattle.std.proofs.Common.{◌≡◌, ℕ, ◌+◌, ◌-◌, ◌*◌, ◌≤◌, ◌<◌, ◌⊎◌, inl, inr, List, [], ◌∷◌, ◌++◌, length, take, drop, arith, refl, sym, ap, ◌∙◌, subst, append_assoc, append-nil, length-append, Option, Some, None, IfSome}
+use Rattle.std.specs.Io.KnownBytes.{Consumes, IsAtEnd}
+use Rattle.std.proofs.KnownBytes.{Consumes-trans}
+use Rattle.edf_header.specs.Header.{Header, IsHeader, Layout, layout_of}
+use Rattle.edf_header.specs.Fault.{IsHeaderFault}
+use Rattle.edf_header.specs.declared.fault.HeaderFault.{HeaderFault}
+use Rattle.edf_tal.specs.declared.place.Place.{Place}
+use Rattle.edf_tal.specs.declared.place.Place.TheVariants.{First}
+use Rattle.edf_tal.specs.declared.place.TalFault.{TalFault}
+use Rattle.edf_tal.specs.Block.{IsBlockFault}
+use Rattle.edf_fragment.specs.Fragment.{DataRecord, AreDataRecords, block, Spells}
+use Rattle.edf_fragment.specs.Fault.{ReadsUpTo, IsCutRecord, IsRefusedBlock, IsTrailing, IsFirstFault}
+use Rattle.edf_fragment.specs.Reading.{Reads, ReadsHeader, ReadsHeaderFault, IsOpenFault, EndsInRecord, RefusesBlock, FindsMore, IsNextFault, ReadsFragment, ReadsFault, IsFragmentFault}
+use Rattle.edf_fragment.specs.Steps.{ReadsRecords, HasRead, FailsBehind}
+use Rattle.edf_fragment.specs.declared.progress.Progress.{Progress}
+use Rattle.edf_fragment.specs.declared.fault.FragmentFault.{FragmentFault}
+use Rattle.edf_fragment.specs.declared.fault.FragmentFault.TheVariants.{Header as BadHeader, CutRecord, Tal, Trailing, Read, Memory, Failed}
+use Rattle.edf_fragment.proofs.HeaderParts.{field_front}
+use Rattle.edf_fragment.proofs.Runs.{AreDataRecords-more, IsHeader-more, layout-fits, IsHeaderFault-more}
+
+-- a header, and the data records behind it
+pub fragment_read : (left mid rest : Option (List ℕ)) (l : Layout) (rs : List DataRecord) → ReadsHeader left mid l → ReadsRecords l mid rest rs → ReadsFragment left rest l rs
+fragment_read left mid rest l rs a b =
+    let are = subst (λ (x : Layout). AreDataRecords x First b.bytes rs b.last []) a.layout_is b.are_records in
+    let spells : Spells (a.bytes ++ b.bytes) l.key rs = record {
+      header = a.header;
+      rest = b.bytes;
+      last = b.last;
+      is_header = IsHeader-more a.bytes b.bytes a.header a.is_header;
+      key = ap (λ (x : Layout). x.key) a.layout_is;
+      are_records = are;
+      count = b.count ∙ ap (λ (x : Layout). x.count) a.layout_is;
+    } in
+    record {
+      bytes = a.bytes ++ b.bytes;
+      read = Consumes-trans left mid rest a.bytes b.bytes a.read b.read;
+      end = b.end;
+      spells = spells;
+      layout_is = a.layout_is;
+    }
+
+-- ---- a refused header
+
+header_of_all : (left rest : Option (List ℕ)) (e : HeaderFault) → ReadsHeaderFault left rest e → IfSome left (λ all. IsHeaderFault all e)
+header_of_all None rest e f = tt
+header_of_all (Some all) None e f = absurd f.read
+header_of_all (Some all) (Some more) e f = subst (λ (x : List ℕ). IsHeaderFault x e) (sym f.read) (IsHeaderFault-more f.bytes more e f.ended f.is_fault)
+
+pub open_refused : (left rest : Option (List ℕ)) (e : FragmentFault) → IsOpenFault left rest e → IsFragmentFault left rest e
+open_refused left rest (BadHeader e) f = record { bytes = f.bytes; read = f.read; is_fault = header_of_all left rest e f }
+open_refused left rest (CutRecord nth) f = absurd f
+open_refused left rest (Tal nth e) f = absurd f
+open_refused left rest Trailing f = absurd f
+open_refused left rest Read f = f
+open_refused left rest Memory f = f
+open_refused left rest Failed f = f
+
+-- ---- a fault behind some data records
+
+-- the bytes of a header, those of the data records, and what is left
+abbrev up_to : (all one two a b : List ℕ) (h : Header) (rs : List DataRecord) (p : Place) → all ≡ a ++ one → one ≡ b ++ two → IsHeader a h [] → AreDataRecords (layout_of h) First b rs p [] → ReadsUpTo all
+up_to all one two a b h rs p first second is are = record {
+  header = h;
+  rest = one;
+  records = rs;
+  last = p;
+  left = two;
+  is_header = subst (λ (x : List ℕ). IsHeader x h one) (sym first) (IsHeader-more a one h is);
+  are_records = subst (λ (x : List ℕ). AreDataRecords (layout_of h) First x rs p two) (sym second) (AreDataRecords-more (layout_of h) First p b [] two rs are);
+}
+
+cut_of_all : (left mid two rest : Option (List ℕ)) (a b : List ℕ) (h : Header) (rs : List DataRecord) (p : Progress) (nth : ℕ) → Consumes left mid a → Consumes mid two b
+    → IsHeader a h [] → AreDataRecords (layout_of h) First b rs p.place [] → p.given ≡ length rs → EndsInRecord (layout_of h) p two rest nth → IfSome left (λ all. IsCutRecord all nth)
+cut_of_all None mid two rest a b h rs p nth x y is are given f = tt
+cut_of_all (Some all) None two rest a b h rs p nth x y is are given f = absurd x
+cut_of_all (Some all) (Some one) None rest a b h rs p nth x y is are given f = absurd y
+cut_of_all (Some all) (Some one) (Some two) None a b h rs p nth x y is are given f = absurd f.read
+cut_of_all (Some all) (Some one) (Some two) (Some rest) a b h rs p nth x y is are given f =
+    let len : length two ≡ length f.bytes = ap (λ (l : List ℕ). length l) (f.read ∙ ap (λ (l : List ℕ). f.bytes ++ l) f.end ∙ append-nil f.bytes) in
+    record {
+      up_to = up_to all one two a b h rs p.place x y is are;
+      is_nth = omega (arith, f.is_nth, given);
+      wanted = omega (arith, f.is_nth, f.wanted);
+      cut = omega (arith, f.cut, len);
+    }
+
+block_of_all : (left mid two rest : Option (List ℕ)) (a b : List ℕ) (h : Header) (rs : List DataRecord) (p : Progress) (nth : ℕ) (e : TalFault) → Consumes left mid a → Consumes mid two b
+    → IsHeader a h [] → AreDataRecords (layout_of h) First b rs p.place [] → p.given ≡ length rs → RefusesBlock (layout_of h) p two rest nth e → IfSome left (λ all. IsRefusedBlock all nth e)
+block_of_all None mid two rest a b h rs p nth e x y is are given f = tt
+block_of_all (Some all) None two rest a b h rs p nth e x y is are given f = absurd x
+block_of_all (Some all) (Some one) None rest a b h rs p nth e x y is are given f = absurd y
+block_of_all (Some all) (Some one) (Some two) None a b h rs p nth e x y is are given f = absurd f.read
+block_of_all (Some all) (Some one) (Some two) (Some rest) a b h rs p nth e x y is are given f =
+    let l = layout_of h in
+    let len : length two ≡ length f.bytes + length rest = ap (λ (z : List ℕ). length z) f.read ∙ length-append f.bytes rest in
+    let fits : l.block_at + l.block_bytes ≤ length f.bytes = omega (arith, layout-fits h, f.len) in
+    let same : block l two ≡ block l f.bytes = ap (block l) f.read ∙ field_front f.bytes rest l.block_at l.block_bytes fits in
+    record {
+      up_to = up_to all one two a b h rs p.place x y is are;
+      is_nth = omega (arith, f.is_nth, given);
+      wanted = omega (arith, f.is_nth, f.wanted);
+      whole = omega (arith, f.len, len);
+      refused = subst (λ (z : List ℕ). IsBlockFault z l.start p.place e) (sym same) f.refused;
+    }
+
+more_of_all : (left mid two rest : Option (List ℕ)) (a b : List ℕ) (h : Header) (rs : List DataRecord) (p : Progress) → Consumes left mid a → Consumes mid two b
+    → IsHeader a h [] → AreDataRecords (layout_of h) First b rs p.place [] → p.given ≡ length rs → FindsMore (layout_of h) p two rest → IfSome left (λ all. IsTrailing all)
+more_of_all None mid two rest a b h rs p x y is are given f = tt
+more_of_all (Some all) None two rest a b h rs p x y is are given f = absurd x
+more_of_all (Some all) (Some one) None rest a b h rs p x y is are given f = absurd y
+more_of_all (Some all) (Some one) (Some two) None a b h rs p x y is are given f = absurd f.read
+more_of_all (Some all) (Some one) (Some two) (Some rest) a b h rs p x y is are given f =
+    let len : length two ≡ 1 + length rest = ap (λ (z : List ℕ). length z) f.read ∙ length-append (f.byte ∷ []) rest in
+    record {
+      up_to = up_to all one two a b h rs p.place x y is are;
+      all = sym given ∙ f.all;
+      more = omega (arith, len);
+    }
+
+reads_all : (left mid two rest : Option (List ℕ)) (a b c : List ℕ) → Consumes left mid a → Consumes mid two b → Consumes two rest c → Consumes left rest (a ++ (b ++ c))
+reads_all left mid two rest a b c x y z = Consumes-trans left mid rest a (b ++ c) x (Consumes-trans mid two rest b c y z)
+
+behind_header : (left mid two rest : Option (List ℕ)) (a b : List ℕ) (h : Header) (rs : List DataRecord) (p : Progress) (e : FragmentFault) → Consumes left mid a → Consumes mid two b
+    → IsHeader a h [] → AreDataRecords (layout_of h) First b rs p.place [] → p.given ≡ length rs → IsNextFault (layout_of h) p two rest e → IsFragmentFault left rest e
+behind_header left mid two rest a b h rs p (BadHeader e) x y is are given f = absurd f
+behind_header left mid two rest a b h rs p (CutRecord nth) x y is are given f = record {
+  bytes = a ++ (b ++ f.bytes);
+  read = reads_all left mid two rest a b f.bytes x y f.read;
+  is_fault = cut_of_all left mid two rest a b h rs p nth x y is are given f;
+}
+behind_header left mid two rest a b h rs p (Tal nth e) x y is are given f = record {
+  bytes = a ++ (b ++ f.bytes);
+  read = reads_all left mid two rest a b f.bytes x y f.read;
+  is_fault = block_of_all left mid two rest a b h rs p nth e x y is are given f;
+}
+behind_header left mid two rest a b h rs p Trailing x y is are given f = record {
+  bytes = a ++ (b ++ f.byte ∷ []);
+  read = reads_all left mid two rest a b (f.byte ∷ []) x y f.read;
+  is_fault = more_of_all left mid two rest a b h rs p x y is are given f;
+}
+behind_header left mid two rest a b h rs p Read x y is are given (c, f) = (a ++ (b ++ c), reads_all left mid two rest a b c x y f)
+behind_header left mid two rest a b h rs p Memory x y is are given (c, f) = (a ++ (b ++ c), reads_all left mid two rest a b c x y f)
+behind_header left mid two rest a b h rs p Failed x y is are given f = f
+
+pub records_refused : (left mid rest : Option (List ℕ)) (l : Layout) (e : FragmentFault) → ReadsHeader left mid l → FailsBehind l mid rest e → IsFragmentFault left rest e
+records_refused left mid rest l e a b =
+    let are = subst (λ (x : Layout). AreDataRecords x First b.before.bytes b.records b.progress.place []) a.layout_is b.before.are_records in
+    let fault = subst (λ (x : Layout). IsNextFault x b.progress b.mid rest e) a.layout_is b.is_fault in
+    behind_header left mid b.mid rest a.bytes b.before.bytes a.header b.records b.progress e a.read b.before.read a.is_header are b.before.given fault

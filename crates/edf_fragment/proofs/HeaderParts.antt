@@ -1,0 +1,138 @@
+-- Faults of a header from those of its parts, and a header from its parts.
+use Rattle.std.proofs.Common.{◌≡◌, ℕ, ◌+◌, ◌-◌, ◌*◌, ◌≤◌, ◌<◌, ◌⊎◌, inl, inr, List, [], ◌++◌, length, take, drop, arith, refl, sym, ap, ◌∙◌, subst, append-nil, take_at, drop_at, Option, Result, Ok, Err, MatchResult}
+use Rattle.std.proofs.lemmas.List.{take_all, length-take, length-drop, drop-append-le, take-append-le}
+use Rattle.std.specs.Io.KnownBytes.{Consumes, IsAtEnd}
+use Rattle.std.proofs.KnownBytes.{Consumes-trans}
+use Rattle.edf_header.proofs.FixedLaws.{fixed-clean}
+use Rattle.edf_header.specs.Number.{field}
+use Rattle.edf_header.specs.Header.{Header, Fixed, IsFixedHeader, AreSignals, IsHeader, IsNumber, Layout, layout_of}
+use Rattle.edf_header.specs.Fault.{Fails, SignalsFail, HasSignals, IsHeaderFault, IsFirst, IsClean, number}
+use Rattle.edf_header.specs.declared.fault.HeaderFault.{HeaderFault}
+use Rattle.edf_header.specs.declared.fault.HeaderFault.TheVariants.{Cut, Unprintable, Version, Patient, Recording, Startdate, Starttime, DatesDiffer, NotPlus, Count, Duration, Signals, HeaderBytes, CutSignals, UnprintableSignals, Annotations, Physical, Digital, Samples, Size, Memory}
+use Rattle.edf_fragment.specs.Reading.{Reads, ReadsHeader, ReadsHeaderFault, IsOpenFault, CountsAnswer}
+use Rattle.edf_fragment.specs.Steps.{ReadsFixed, ReadsSignals, ReadsSignalsFault, IsSignalsFault}
+use Rattle.edf_fragment.specs.declared.fault.FragmentFault.{FragmentFault}
+use Rattle.edf_fragment.specs.declared.fault.FragmentFault.TheVariants.{Header as BadHeader, CutRecord, Tal, Trailing, Read, Memory as NoMemory, Failed}
+
+-- numbers count from 1
+number-from : (e : HeaderFault) → 1 ≤ number e
+number-from Cut = omega arith
+number-from (Unprintable at) = omega arith
+number-from Version = omega arith
+number-from Patient = omega arith
+number-from Recording = omega arith
+number-from Startdate = omega arith
+number-from Starttime = omega arith
+number-from DatesDiffer = omega arith
+number-from NotPlus = omega arith
+number-from Count = omega arith
+number-from Duration = omega arith
+number-from Signals = omega arith
+number-from HeaderBytes = omega arith
+number-from CutSignals = omega arith
+number-from (UnprintableSignals at) = omega arith
+number-from Annotations = omega arith
+number-from (Physical at) = omega arith
+number-from (Digital at) = omega arith
+number-from (Samples at) = omega arith
+number-from Size = omega arith
+number-from Memory = omega arith
+
+-- fewer than 256 bytes
+pub cut_header : (b : List ℕ) → length b < 256 → IsHeaderFault b Cut
+cut_header b short = inl (omega (arith, length-take 256 b), λ other low holds. omega (arith, number-from other))
+
+-- 256 bytes with a fault of the fixed part
+pub first_fault : (b : List ℕ) (e : HeaderFault) → length b ≡ 256 → IsFirst (Fails b) e → IsHeaderFault b e
+first_fault b e len first = inl (subst (λ (x : List ℕ). IsFirst (Fails x) e) (sym (take_all 256 b (omega arith))) first)
+
+-- a field of the front
+pub field_front : (a b : List ℕ) (at n : ℕ) → at + n ≤ length a → field (a ++ b) at n ≡ field a at n
+field_front a b at n within =
+    let room : n ≤ length (drop at a) = omega (arith, length-drop at a) in
+    ap (take n) (drop-append-le at a b (omega arith)) ∙ take-append-le n (drop at a) b room
+
+-- a fixed part, and behind it signals with a fault
+pub second_fault : (a b : List ℕ) (f : Fixed) (e : HeaderFault) → IsFixedHeader a f → length b ≤ 256 * f.signals
+    → IsFirst (SignalsFail b f.signals) e → IsHeaderFault (a ++ b) e
+second_fault a b f e fixed within first =
+    let front : take 256 (a ++ b) ≡ a = take_at a b 256 fixed.len in
+    let back : field (a ++ b) 256 (256 * f.signals) ≡ b = ap (take (256 * f.signals)) (drop_at a b 256 fixed.len) ∙ take_all (256 * f.signals) b within in
+    let count : field (a ++ b) 252 4 ≡ field a 252 4 = field_front a b 252 4 (omega (arith, fixed.len)) in
+    inr (
+      f.signals,
+      subst (λ (x : List ℕ). IsClean (Fails x) 14) (sym front) (fixed-clean a f fixed),
+      (subst (λ (x : List ℕ). IsNumber x f.signals) (sym count) fixed.signals, fixed.signals_from, fixed.signals_to),
+      subst (λ (x : List ℕ). IsFirst (SignalsFail x f.signals) e) (sym back) first,
+    )
+
+-- what is told where memory was wanted
+pub told_memory : (left rest : Option (List ℕ)) (told : FragmentFault) → told ≡ NoMemory → Reads left rest → IsOpenFault left rest told
+told_memory left rest told is reads = subst (IsOpenFault left rest) (sym is) reads
+
+-- the fault of a whole fixed part
+pub told_first : (left rest : Option (List ℕ)) (b : List ℕ) (e : HeaderFault) (told : FragmentFault) → length b ≡ 256 → Consumes left rest b
+    → (e ≡ Memory → told ≡ NoMemory) → ((e ≡ Memory → ⊥) → told ≡ BadHeader e)
+    → (e ≡ Memory) ⊎ IsFirst (Fails b) e → IsOpenFault left rest told
+told_first left rest b e told len read memory other (inl is) = told_memory left rest told (memory is) (b, read)
+told_first left rest b e told len read memory other (inr first) =
+    let no : e ≡ Memory → ⊥ = λ is. subst (Fails b) is first.0 in
+    let ended : (e ≡ Cut) ⊎ (e ≡ CutSignals) → IsAtEnd rest = elim [
+      | inl is ↦ absurd (let low : length b < 256 = subst (Fails b) is first.0 in omega arith)
+      | inr is ↦ absurd (subst (Fails b) is first.0)
+    ] in
+    let r : ReadsHeaderFault left rest e = record { bytes = b; read = read; is_fault = first_fault b e len first; ended = ended } in
+    subst (IsOpenFault left rest) (sym (other no)) r
+
+-- the fault of the signals
+pub told_second : (left rest : Option (List ℕ)) (n : ℕ) (b : List ℕ) (e : HeaderFault) (told : FragmentFault) → length b ≤ 256 * n → Consumes left rest b
+    → (length b < 256 * n → IsAtEnd rest)
+    → (e ≡ Memory → told ≡ NoMemory) → ((e ≡ Memory → ⊥) → told ≡ BadHeader e)
+    → (e ≡ Memory) ⊎ IsFirst (SignalsFail b n) e → IsSignalsFault left rest n told
+told_second left rest n b e told within read short memory other (inl is) = subst (IsSignalsFault left rest n) (sym (memory is)) (b, read)
+told_second left rest n b e told within read short memory other (inr first) =
+    let no : e ≡ Memory → ⊥ = λ is. subst (SignalsFail b n) is first.0 in
+    let r : ReadsSignalsFault left rest n e =
+    record { bytes = b; read = read; within = within; is_fault = first; ended = λ is. short (subst (SignalsFail b n) is first.0) } in
+    subst (IsSignalsFault left rest n) (sym (other no)) r
+
+-- both parts of a header
+pub whole_header : (left mid rest : Option (List ℕ)) (f : Fixed) (l : Layout) → ReadsFixed left mid f → ReadsSignals mid rest f l → ReadsHeader left rest l
+whole_header left mid rest f l a b =
+    let fixed : IsFixedHeader a.bytes b.header.fixed = subst (IsFixedHeader a.bytes) (sym b.same) a.is_fixed in
+    let is : IsHeader (a.bytes ++ b.bytes) b.header [] =
+    record { first = a.bytes; second = b.bytes; parts = ap (λ (x : List ℕ). a.bytes ++ x) (sym (append-nil b.bytes)); fixed = fixed; signals = b.are_signals } in
+    record { bytes = a.bytes ++ b.bytes; header = b.header; read = Consumes-trans left mid rest a.bytes b.bytes a.read b.read; is_header = is; layout_is = b.layout_is }
+
+reads-trans : (left mid rest : Option (List ℕ)) (a : List ℕ) → Consumes left mid a → Reads mid rest → Reads left rest
+reads-trans left mid rest a read (b, more) = (a ++ b, Consumes-trans left mid rest a b read more)
+
+-- the fixed part and no signals
+pub header_fault : (left mid rest : Option (List ℕ)) (f : Fixed) (told : FragmentFault) → ReadsFixed left mid f → IsSignalsFault mid rest f.signals told → IsOpenFault left rest told
+header_fault left mid rest f (BadHeader e) a b =
+    let whole = second_fault a.bytes b.bytes f e a.is_fixed b.within b.is_fault in
+    record {
+      bytes = a.bytes ++ b.bytes;
+      read = Consumes-trans left mid rest a.bytes b.bytes a.read b.read;
+      is_fault = whole;
+      ended = elim [
+        | inl is ↦ absurd (subst (SignalsFail b.bytes f.signals) is b.is_fault.0)
+        | inr is ↦ b.ended is
+      ];
+    }
+header_fault left mid rest f (CutRecord nth) a b = b
+header_fault left mid rest f (Tal nth e) a b = b
+header_fault left mid rest f Trailing a b = b
+header_fault left mid rest f Read a b = reads-trans left mid rest a.bytes a.read b
+header_fault left mid rest f NoMemory a b = reads-trans left mid rest a.bytes a.read b
+header_fault left mid rest f Failed a b = b
+
+-- the answer of the second part, as that of the whole
+pub header_answer : (left mid rest : Option (List ℕ)) (f : Fixed) (result : Result Layout FragmentFault) → ReadsFixed left mid f
+    → MatchResult result (ReadsSignals mid rest f) (IsSignalsFault mid rest f.signals) → MatchResult result (ReadsHeader left rest) (IsOpenFault left rest)
+header_answer left mid rest f (Ok l) a b = whole_header left mid rest f l a b
+header_answer left mid rest f (Err e) a b = header_fault left mid rest f e a b
+
+-- the second part's count, after a first part without a failed read
+pub counted_after : {X : Type 0} (old mid new : ℕ) (result : Result X FragmentFault) → mid ≡ old → CountsAnswer mid new result → CountsAnswer old new result
+counted_after old mid new result same counts = subst (λ (n : ℕ). CountsAnswer n new result) same counts

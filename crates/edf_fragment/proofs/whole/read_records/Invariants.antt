@@ -1,0 +1,15 @@
+use Rattle.std.proofs.Common.{◌≡◌, ◌-◌}
+use Rattle.edf_fragment.specs.declared.progress.Status.TheVariants.{Reading}
+use Rattle.edf_fragment.specs.Steps.{HasRead}
+use Rattle.edf_fragment.proofs.whole.read_records.Given as goal
+
+abbrev pub invariant-records : goal.invariant-records
+invariant-records g l = record {
+  header : l.fragment.header ≡ l.initial.fragment.header;
+  status : l.fragment.progress.status ≡ Reading;
+  so_far : HasRead l.initial.fragment.header (g.R.Input.remaining l.initial.input) (g.R.Input.remaining l.input) l.records.items l.fragment.progress;
+  count : g.R.Input.failures l.input ≡ g.R.Input.failures l.initial.input;
+}
+
+abbrev pub decreases-records : goal.decreases-records
+decreases-records g l = l.initial.fragment.header.count - l.fragment.progress.given

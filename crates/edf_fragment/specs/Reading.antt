@@ -1,0 +1,161 @@
+-- What a reader of fragments reads and answers, call by call. Each says which bytes were read, so pieces don't matter.
+use Rattle.std.specs.Prelude.{◌≡◌, ℕ, ◌+◌, ◌<◌, ◌⊎◌, List, [], ◌∷◌, length, Option, Some, None, Result, Ok, Err, IfSome, MatchResult}
+use Rattle.std.specs.Io.KnownBytes.{Consumes, IsAtEnd}
+use Rattle.edf_header.specs.Header.{Header, IsHeader, Layout, layout_of}
+use Rattle.edf_header.specs.Fault.{IsHeaderFault}
+use Rattle.edf_header.specs.declared.fault.HeaderFault.{HeaderFault}
+use Rattle.edf_header.specs.declared.fault.HeaderFault.TheVariants.{Cut, CutSignals}
+use Rattle.edf_tal.specs.Block.{IsBlockFault}
+use Rattle.edf_tal.specs.declared.place.Place.TheVariants.{First}
+use Rattle.edf_tal.specs.declared.place.TalFault.{TalFault}
+use Rattle.edf_fragment.specs.Failures.{one_more}
+use Rattle.edf_fragment.specs.Fragment.{DataRecord, IsDataRecord, block, behind, Spells}
+use Rattle.edf_fragment.specs.Fault.{IsFirstFault}
+use Rattle.edf_fragment.specs.declared.progress.Progress.{Progress}
+use Rattle.edf_fragment.specs.declared.progress.Status.{Status}
+use Rattle.edf_fragment.specs.declared.progress.Status.TheVariants.{Reading, Ended, Stopped}
+use Rattle.edf_fragment.specs.declared.fault.FragmentFault.{FragmentFault}
+use Rattle.edf_fragment.specs.declared.fault.FragmentFault.TheVariants.{Header as BadHeader, CutRecord, Tal, Trailing, Read, Memory, Failed}
+
+-- what was left begins with some bytes, and the rest is left
+abbrev pub Reads : Option (List ℕ) → Option (List ℕ) → Type 0
+Reads left rest = (bytes : List ℕ) × Consumes left rest bytes
+
+-- a call that answers this made one failed read, or none
+abbrev pub CountsFault : ℕ → ℕ → FragmentFault → Type 0
+CountsFault old new (BadHeader fault) = new ≡ old
+CountsFault old new (CutRecord nth) = new ≡ old
+CountsFault old new (Tal nth fault) = new ≡ old
+CountsFault old new Trailing = new ≡ old
+CountsFault old new Read = new ≡ one_more old
+CountsFault old new Memory = new ≡ old
+CountsFault old new Failed = new ≡ old
+
+abbrev pub CountsAnswer : {X : Type 0} → ℕ → ℕ → Result X FragmentFault → Type 0
+CountsAnswer old new result = MatchResult result (λ x. new ≡ old) (CountsFault old new)
+
+-- the bytes that were read are a header, and this is what it says
+pub record ReadsHeader (left rest : Option (List ℕ)) (layout : Layout) : Type 0 where
+  pub bytes : List ℕ
+  pub header : Header
+  pub read : Consumes left rest bytes
+  pub is_header : IsHeader bytes header []
+  pub layout_is : layout ≡ layout_of header
+
+-- the bytes that were read have this fault; where they are too few, no more follow
+pub record ReadsHeaderFault (left rest : Option (List ℕ)) (fault : HeaderFault) : Type 0 where
+  pub bytes : List ℕ
+  pub read : Consumes left rest bytes
+  pub is_fault : IsHeaderFault bytes fault
+  pub ended : (fault ≡ Cut) ⊎ (fault ≡ CutSignals) → IsAtEnd rest
+
+-- why there is no header, and what of the input was read
+abbrev pub IsOpenFault : Option (List ℕ) → Option (List ℕ) → FragmentFault → Type 0
+IsOpenFault left rest (BadHeader fault) = ReadsHeaderFault left rest fault
+IsOpenFault left rest (CutRecord nth) = ⊥
+IsOpenFault left rest (Tal nth fault) = ⊥
+IsOpenFault left rest Trailing = ⊥
+IsOpenFault left rest Read = Reads left rest
+IsOpenFault left rest Memory = Reads left rest
+IsOpenFault left rest Failed = ⊥
+
+-- how far a reader is that gave no record yet
+abbrev pub at_first : Progress
+at_first = record { given = 0; place = First; status = Reading }
+
+-- how far it is behind one more record, behind the end, behind a fault
+abbrev pub progress_after : Layout → Progress → Result (Option DataRecord) FragmentFault → Progress
+progress_after l from (Ok (Some r)) = record { given = from.given + 1; place = behind l r.start; status = Reading }
+progress_after l from (Ok None) = record from { status = Ended }
+progress_after l from (Err fault) = record from { status = Stopped }
+
+-- one more record, spelled by the bytes that were read
+pub record GivesRecord (l : Layout) (from : Progress) (left rest : Option (List ℕ)) (r : DataRecord) : Type 0 where
+  pub bytes : List ℕ
+  pub wanted : from.given < l.count
+  pub read : Consumes left rest bytes
+  pub is_record : IsDataRecord l from.place bytes r
+
+-- no more record, and nothing follows the last
+pub record EndsThere (l : Layout) (from : Progress) (left rest : Option (List ℕ)) : Type 0 where
+  pub all : from.given ≡ l.count
+  pub read : Consumes left rest []
+  pub end : IsAtEnd rest
+
+-- the input ends inside a record, or before it
+pub record EndsInRecord (l : Layout) (from : Progress) (left rest : Option (List ℕ)) (nth : ℕ) : Type 0 where
+  pub bytes : List ℕ
+  pub is_nth : nth ≡ from.given + 1
+  pub wanted : from.given < l.count
+  pub read : Consumes left rest bytes
+  pub cut : length bytes < l.record_bytes
+  pub end : IsAtEnd rest
+
+-- the bytes that were read are a record's, and its block is refused
+pub record RefusesBlock (l : Layout) (from : Progress) (left rest : Option (List ℕ)) (nth : ℕ) (fault : TalFault) : Type 0 where
+  pub bytes : List ℕ
+  pub is_nth : nth ≡ from.given + 1
+  pub wanted : from.given < l.count
+  pub read : Consumes left rest bytes
+  pub len : length bytes ≡ l.record_bytes
+  pub refused : IsBlockFault (block l bytes) l.start from.place fault
+
+-- a byte follows the last record
+pub record FindsMore (l : Layout) (from : Progress) (left rest : Option (List ℕ)) : Type 0 where
+  pub byte : ℕ
+  pub all : from.given ≡ l.count
+  pub read : Consumes left rest (byte ∷ [])
+
+-- why there is no next record, and what of the input was read
+abbrev pub IsNextFault : Layout → Progress → Option (List ℕ) → Option (List ℕ) → FragmentFault → Type 0
+IsNextFault l from left rest (BadHeader fault) = ⊥
+IsNextFault l from left rest (CutRecord nth) = EndsInRecord l from left rest nth
+IsNextFault l from left rest (Tal nth fault) = RefusesBlock l from left rest nth fault
+IsNextFault l from left rest Trailing = FindsMore l from left rest
+IsNextFault l from left rest Read = Reads left rest
+IsNextFault l from left rest Memory = Reads left rest
+IsNextFault l from left rest Failed = ⊥
+
+-- what comes next: a record, the end or a fault
+abbrev pub IsNext : Layout → Progress → Option (List ℕ) → Option (List ℕ) → Result (Option DataRecord) FragmentFault → Type 0
+IsNext l from left rest (Ok (Some r)) = GivesRecord l from left rest r
+IsNext l from left rest (Ok None) = EndsThere l from left rest
+IsNext l from left rest (Err fault) = IsNextFault l from left rest fault
+
+-- nothing was read, and the reader is where it was
+abbrev pub Rests : Progress → Progress → Option (List ℕ) → Option (List ℕ) → Type 0
+Rests from to left rest = (to ≡ from) × (rest ≡ left)
+
+-- what is answered in this status: what comes next; behind the end no record; behind a fault that it failed
+abbrev pub AnswersIn : Status → Layout → Progress → Progress → Option (List ℕ) → Option (List ℕ) → Result (Option DataRecord) FragmentFault → Type 0
+AnswersIn Reading l from to left rest result = (to ≡ progress_after l from result) × IsNext l from left rest result
+AnswersIn Ended l from to left rest result = (result ≡ Ok None) × Rests from to left rest
+AnswersIn Stopped l from to left rest result = (result ≡ Err Failed) × Rests from to left rest
+
+-- the answer of a reader that is so far, and how far it is then
+abbrev pub IsAnswer : Layout → Progress → Progress → Option (List ℕ) → Option (List ℕ) → Result (Option DataRecord) FragmentFault → Type 0
+IsAnswer l from to left rest result = AnswersIn from.status l from to left rest result
+
+-- the whole input spells these records under a header that says this
+pub record ReadsFragment (left rest : Option (List ℕ)) (layout : Layout) (records : List DataRecord) : Type 0 where
+  pub bytes : List ℕ
+  pub read : Consumes left rest bytes
+  pub end : IsAtEnd rest
+  pub spells : Spells bytes layout.key records
+  pub layout_is : layout ≡ layout_of spells.header
+
+-- the input was read as far as a fault, which is the first of its bytes where these are known
+pub record ReadsFault (left rest : Option (List ℕ)) (fault : FragmentFault) : Type 0 where
+  pub bytes : List ℕ
+  pub read : Consumes left rest bytes
+  pub is_fault : IfSome left (λ all. IsFirstFault all fault)
+
+-- why an input gives no fragment
+abbrev pub IsFragmentFault : Option (List ℕ) → Option (List ℕ) → FragmentFault → Type 0
+IsFragmentFault left rest (BadHeader fault) = ReadsFault left rest (BadHeader fault)
+IsFragmentFault left rest (CutRecord nth) = ReadsFault left rest (CutRecord nth)
+IsFragmentFault left rest (Tal nth fault) = ReadsFault left rest (Tal nth fault)
+IsFragmentFault left rest Trailing = ReadsFault left rest Trailing
+IsFragmentFault left rest Read = Reads left rest
+IsFragmentFault left rest Memory = Reads left rest
+IsFragmentFault left rest Failed = ⊥

@@ -1,0 +1,131 @@
+ghost use Rattle.std.specs.Prelude.{◌≡◌, ◌≢◌, ℕ, ◌+◌, ◌-◌, ◌^◌, ◌<◌, ◌≤◌, length, IfOk, IfSome, MatchResult};
+ghost use Rattle.edf_fragment.specs.Reading.{GivesRecord, IsNextFault, IsNext, CountsAnswer, progress_after};
+ghost use Rattle.edf_fragment.specs.Steps.{ReadsEnd, IsEndFault};
+
+use crate::fault::FragmentFault;
+use crate::filling::read_bytes;
+use crate::progress::{Progress, Status};
+use crate::record::Record;
+use crate::streams::{Filled, Input, fill};
+use edf_header::Header;
+use edf_tal::{Place, TalFault, read_block};
+use std::alloc::Global;
+
+/// The refusal for a fault of the nth data record's block. Want of memory has its own.
+fn block_refusal(nth: u32, fault: TalFault) -> FragmentFault
+    ensures memory { fault ≡ TalFault.Memory → result ≡ FragmentFault.Memory }
+    ensures other { fault ≢ TalFault.Memory → result ≡ FragmentFault.Tal nth fault }
+{
+    match fault {
+        TalFault::Memory => FragmentFault::Memory,
+        _ => FragmentFault::Tal { nth, fault },
+    }
+}
+
+/// How many sample bytes a data record has.
+fn sample_bytes(header: &Header) -> usize
+    ensures total { result + header.now.block_bytes ≡ header.now.record_bytes }
+    ensures room { header.now.block_at ≤ result }
+    ensures limit { result ≤ 4_194_304 }
+{
+    let _at = header.block_at();
+    header.record_bytes() - header.block_bytes()
+}
+
+/// Reads the next data record, through a buffer for its block.
+fn read_record<R: Input>(
+    alloc: Global,
+    input: &mut R,
+    header: &Header,
+    progress: Progress,
+    block: &mut [u8],
+) -> Result<Record, FragmentFault>
+    requires wanted { progress.given < header.now.count }
+    requires countable { progress.given < 2 ^ 32 - 1 }
+    requires room { length block.old ≡ header.now.block_bytes }
+    ensures step { MatchResult result (GivesRecord header.now progress (R.remaining input.old) (R.remaining input.new))
+        (IsNextFault header.now progress (R.remaining input.old) (R.remaining input.new)) }
+    ensures counted { CountsAnswer (R.failures input.old) (R.failures input.new) result }
+{
+    let nth = progress.given + 1;
+    let Ok(mut samples) = vec![in alloc; 0u8; sample_bytes(header)] else {
+        return Err(FragmentFault::Memory);
+    };
+    match read_bytes(input, samples.as_mut_slice(), header.block_at(), block, nth) {
+        Ok(()) => {}
+        Err(fault) => return Err(fault),
+    }
+    match read_block(alloc, block, header.start(), progress.place) {
+        Ok((start, notes)) => Ok(Record::within_limits(start, samples, notes)),
+        Err(fault) => Err(block_refusal(nth, fault)),
+    }
+}
+
+/// Tells whether nothing follows the last data record.
+fn read_end<R: Input>(input: &mut R) -> Result<(), FragmentFault>
+    ensures step { MatchResult result (λ _. ReadsEnd (R.remaining input.old) (R.remaining input.new))
+        (IsEndFault (R.remaining input.old) (R.remaining input.new)) }
+    ensures counted { CountsAnswer (R.failures input.old) (R.failures input.new) result }
+{
+    let mut byte = [0u8; 1];
+    match fill(input, &mut byte) {
+        Filled::Full => Err(FragmentFault::Trailing),
+        Filled::Cut { .. } => Ok(()),
+        Filled::Failed => Err(FragmentFault::Read),
+    }
+}
+
+/// Reads the next data record, or the end behind the last.
+pub(crate) fn read_next<R: Input>(
+    alloc: Global,
+    input: &mut R,
+    header: &Header,
+    progress: Progress,
+    block: &mut [u8],
+) -> Result<Option<Record>, FragmentFault>
+    requires within { progress.given ≤ header.now.count }
+    requires room { length block.old ≡ header.now.block_bytes }
+    ensures step { IsNext header.now progress (R.remaining input.old) (R.remaining input.new) result }
+    ensures counted { CountsAnswer (R.failures input.old) (R.failures input.new) result }
+{
+    if progress.given < header.count() {
+        match read_record(alloc, input, header, progress, block) {
+            Ok(record) => Ok(Some(record)),
+            Err(fault) => Err(fault),
+        }
+    } else {
+        match read_end(input) {
+            Ok(()) => Ok(None),
+            Err(fault) => Err(fault),
+        }
+    }
+}
+
+/// How far a reader is behind an answer.
+pub(crate) fn progress_behind(
+    header: &Header,
+    progress: Progress,
+    answer: &Result<Option<Record>, FragmentFault>,
+) -> Progress
+    requires { IfOk answer.now (λ next. IfSome next (λ r. progress.given < 2 ^ 32 - 1)) }
+    ensures { result ≡ progress_after header.now progress answer.now }
+{
+    match answer {
+        Ok(Some(record)) => Progress {
+            given: progress.given + 1,
+            place: Place::After {
+                start: record.start(),
+                duration: header.identity().duration(),
+            },
+            status: Status::Reading,
+        },
+        Ok(None) => Progress {
+            status: Status::Ended,
+            ..progress
+        },
+        Err(_) => Progress {
+            status: Status::Stopped,
+            ..progress
+        },
+    }
+}

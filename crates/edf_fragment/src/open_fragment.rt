@@ -1,0 +1,111 @@
+ghost use Rattle.std.specs.Prelude.{◌≡◌, ℕ, ◌≤◌, vec_len, MatchResult};
+ghost use Rattle.edf_fragment.specs.Reading.{ReadsHeader, IsOpenFault, IsAnswer, IsNext, CountsAnswer, at_first, progress_after};
+
+use crate::advance::{progress_behind, read_next};
+use crate::fault::FragmentFault;
+use crate::opening::read_header;
+use crate::progress::{Progress, Status};
+use crate::record::Record;
+use crate::streams::Input;
+use edf_header::Header;
+use std::alloc::Global;
+
+/// A fragment whose header was read, and how far its data records were read.
+///
+/// It doesn't hold the input: each call takes the one that the header was read from. `FragmentReader` holds both.
+#[derive(Drop)]
+pub struct OpenFragment {
+    alloc: Global,
+    header: Header,
+    block: Vec<u8>,
+    progress: Progress,
+    ghost room: { vec_len block ≡ header.block_bytes },
+    ghost within: { progress.given ≤ header.count },
+}
+
+impl OpenFragment {
+    /// Reads the header, and no byte more.
+    ///
+    /// # Errors
+    /// `Header` where the header is refused, `Read` where a read failed, `Memory` where memory ran out. The input then
+    /// stands where reading stopped.
+    pub fn read<R: Input>(alloc: Global, input: &mut R) -> Result<OpenFragment, FragmentFault>
+        ensures step { MatchResult result
+            (λ o. ReadsHeader (R.remaining input.old) (R.remaining input.new) o.header × (o.progress ≡ at_first))
+            (IsOpenFault (R.remaining input.old) (R.remaining input.new)) }
+        ensures counted { CountsAnswer (R.failures input.old) (R.failures input.new) result }
+    {
+        let header = match read_header(alloc, input) {
+            Ok(header) => header,
+            Err(fault) => return Err(fault),
+        };
+        let _some = header.count();
+        let Ok(block) = vec![in alloc; 0u8; header.block_bytes()] else {
+            return Err(FragmentFault::Memory);
+        };
+        Ok(OpenFragment {
+            alloc,
+            header,
+            block,
+            progress: Progress::at_first(),
+        })
+    }
+
+    /// The header.
+    pub fn header(&self) -> &Header
+        ensures { result.now ≡ self.now.header }
+    {
+        &self.header
+    }
+
+    /// The header, where no more data records are wanted.
+    pub fn into_header(self) -> Header
+        ensures { result ≡ self.header }
+    {
+        let OpenFragment {
+            alloc: _,
+            header,
+            block: _,
+            progress: _,
+        } = self;
+        header
+    }
+
+    /// Reads the next data record; `None` where the last was given and nothing follows, and at every later call.
+    ///
+    /// # Errors
+    /// `CutRecord` where the input ends in the data record, `Tal` where its annotations are refused, `Trailing` where
+    /// bytes follow the last, `Read` where a read failed, `Memory` where memory ran out. After any of these, `Failed`.
+    pub fn next<R: Input>(&mut self, input: &mut R) -> Result<Option<Record>, FragmentFault>
+        ensures header { self.new.header ≡ self.old.header }
+        ensures answer { IsAnswer self.old.header self.old.progress self.new.progress
+            (R.remaining input.old) (R.remaining input.new) result }
+        ensures counted { CountsAnswer (R.failures input.old) (R.failures input.new) result }
+    {
+        match self.progress.status {
+            Status::Reading => self.advance(input),
+            Status::Ended => Ok(None),
+            Status::Stopped => Err(FragmentFault::Failed),
+        }
+    }
+
+    /// Reads on, where neither the end nor a fault was met.
+    fn advance<R: Input>(&mut self, input: &mut R) -> Result<Option<Record>, FragmentFault>
+        ensures header { self.new.header ≡ self.old.header }
+        ensures progress { self.new.progress ≡ progress_after self.old.header self.old.progress result }
+        ensures step { IsNext self.old.header self.old.progress
+            (R.remaining input.old) (R.remaining input.new) result }
+        ensures counted { CountsAnswer (R.failures input.old) (R.failures input.new) result }
+    {
+        let _few = self.header.count();
+        let answer = read_next(
+            self.alloc,
+            input,
+            &self.header,
+            self.progress,
+            self.block.as_mut_slice(),
+        );
+        self.progress = progress_behind(&self.header, self.progress, &answer);
+        answer
+    }
+}

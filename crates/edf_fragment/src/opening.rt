@@ -1,0 +1,73 @@
+ghost use Rattle.std.specs.Prelude.{◌≡◌, ◌≢◌, ℕ, length, MatchResult};
+ghost use Rattle.edf_fragment.specs.Reading.{ReadsHeader, IsOpenFault, CountsAnswer};
+ghost use Rattle.edf_fragment.specs.Steps.{ReadsFixed, ReadsSignals, IsSignalsFault};
+
+use crate::fault::FragmentFault;
+use crate::streams::{Filled, Input, fill};
+use edf_header::{Fixed, Header, HeaderFault, read_fixed, read_signals};
+use std::alloc::Global;
+
+/// The refusal for a header's fault. Want of memory has its own.
+fn header_refusal(fault: HeaderFault) -> FragmentFault
+    ensures memory { fault ≡ HeaderFault.Memory → result ≡ FragmentFault.Memory }
+    ensures other { fault ≢ HeaderFault.Memory → result ≡ FragmentFault.Header fault }
+{
+    match fault {
+        HeaderFault::Memory => FragmentFault::Memory,
+        _ => FragmentFault::Header(fault),
+    }
+}
+
+/// Reads the fixed part, 256 bytes.
+fn read_first_part<R: Input>(input: &mut R) -> Result<Fixed, FragmentFault>
+    ensures step { MatchResult result (ReadsFixed (R.remaining input.old) (R.remaining input.new))
+        (IsOpenFault (R.remaining input.old) (R.remaining input.new)) }
+    ensures counted { CountsAnswer (R.failures input.old) (R.failures input.new) result }
+{
+    let mut bytes = [0u8; 256];
+    match fill(input, &mut bytes) {
+        Filled::Full => {}
+        Filled::Cut { .. } => return Err(FragmentFault::Header(HeaderFault::Cut)),
+        Filled::Failed => return Err(FragmentFault::Read),
+    }
+    match read_fixed(&bytes) {
+        Ok(fixed) => Ok(fixed),
+        Err(fault) => Err(header_refusal(fault)),
+    }
+}
+
+/// Reads the signals, 256 bytes each.
+fn read_second_part<R: Input>(
+    alloc: Global,
+    input: &mut R,
+    fixed: Fixed,
+) -> Result<Header, FragmentFault>
+    ensures step { MatchResult result (ReadsSignals (R.remaining input.old) (R.remaining input.new) fixed)
+        (IsSignalsFault (R.remaining input.old) (R.remaining input.new) fixed.signals) }
+    ensures counted { CountsAnswer (R.failures input.old) (R.failures input.new) result }
+{
+    let Ok(mut bytes) = vec![in alloc; 0u8; 256 * fixed.signals()] else {
+        return Err(FragmentFault::Memory);
+    };
+    let there = match fill(input, bytes.as_mut_slice()) {
+        Filled::Full => bytes.len(),
+        Filled::Cut { at } => at,
+        Filled::Failed => return Err(FragmentFault::Read),
+    };
+    match read_signals(alloc, fixed, &bytes.as_slice()[..there]) {
+        Ok(header) => Ok(header),
+        Err(fault) => Err(header_refusal(fault)),
+    }
+}
+
+/// Reads a header, and no byte more.
+pub(crate) fn read_header<R: Input>(alloc: Global, input: &mut R) -> Result<Header, FragmentFault>
+    ensures step { MatchResult result (ReadsHeader (R.remaining input.old) (R.remaining input.new))
+        (IsOpenFault (R.remaining input.old) (R.remaining input.new)) }
+    ensures counted { CountsAnswer (R.failures input.old) (R.failures input.new) result }
+{
+    match read_first_part(input) {
+        Ok(fixed) => read_second_part(alloc, input, fixed),
+        Err(fault) => Err(fault),
+    }
+}

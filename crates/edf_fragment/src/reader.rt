@@ -1,0 +1,85 @@
+ghost use Rattle.std.specs.Prelude.{◌≡◌, ℕ, List, Option, IfOk, IfErr};
+ghost use Rattle.edf_fragment.specs.Reading.{ReadsHeader, IsOpenFault, IsAnswer, CountsAnswer, at_first};
+
+use crate::fault::FragmentFault;
+use crate::open_fragment::OpenFragment;
+use crate::record::Record;
+use crate::streams::Input;
+use edf_header::Header;
+use std::alloc::Global;
+
+/// The data records of a fragment, one at a time, from a reader that stands at its first byte.
+///
+/// It reads no byte before it is asked for what the byte belongs to: `open` the header's, `next` those of one data
+/// record, and behind the last one more, to find that nothing follows. It holds one data record at a time.
+///
+/// Where a proof is to follow the input past the reader's end, use `OpenFragment`, which leaves it with the caller.
+pub struct FragmentReader<'a, R> {
+    input: &'a mut R,
+    fragment: OpenFragment,
+}
+
+impl<R> Drop for FragmentReader<'_, R> {
+    fn drop(self) {
+        let FragmentReader {
+            input: _,
+            fragment: _,
+        } = self;
+    }
+}
+
+impl<'a, R: Input> FragmentReader<'a, R> {
+    /// Reads the header, and no byte more.
+    ///
+    /// # Errors
+    /// `Header` where the header is refused, `Read` where a read failed, `Memory` where memory ran out. The input then
+    /// stands where reading stopped; `OpenFragment::read`, which does the same, also says so in its contract.
+    pub fn open(alloc: Global, input: &'a mut R) -> Result<FragmentReader<'a, R>, FragmentFault>
+        ensures same_reference { IfOk result (λ r. r.input.ghost_name ≡ input.entry.ghost_name) }
+        ensures opened { IfOk result
+            (λ r. ReadsHeader (R.remaining input.old) (R.remaining r.input.now) r.fragment.header) }
+        ensures counted { IfOk result (λ r. R.failures r.input.now ≡ R.failures input.old) }
+        ensures at_first { IfOk result (λ r. r.fragment.progress ≡ at_first) }
+        ensures refused { IfErr result
+            (λ fault. (rest : Option (List ℕ)) × IsOpenFault (R.remaining input.old) rest fault) }
+    {
+        match OpenFragment::read(alloc, input) {
+            Ok(fragment) => Ok(FragmentReader { input, fragment }),
+            Err(fault) => Err(fault),
+        }
+    }
+
+    /// The header.
+    pub fn header(&self) -> &Header
+        ensures { result.now ≡ self.now.fragment.header }
+    {
+        self.fragment.header()
+    }
+
+    /// The header, where no more data records are wanted.
+    pub fn into_header(self) -> Header
+        ensures { result ≡ self.entry.fragment.header }
+    {
+        let FragmentReader { input: _, fragment } = self;
+        fragment.into_header()
+    }
+
+    /// Reads the next data record; `None` where the last was given and nothing follows, and at every later call.
+    ///
+    /// # Errors
+    /// `CutRecord` where the input ends in the data record, `Tal` where its annotations are refused, `Trailing` where
+    /// bytes follow the last, `Read` where a read failed, `Memory` where memory ran out. After any of these, `Failed`.
+    pub fn next(&mut self) -> Result<Option<Record>, FragmentFault>
+        ensures same_reference { self.new.input.ghost_name ≡ self.old.input.ghost_name }
+        ensures header { self.new.fragment.header ≡ self.old.fragment.header }
+        ensures answer { IsAnswer self.old.fragment.header self.old.fragment.progress self.new.fragment.progress
+            (R.remaining self.old.input.now) (R.remaining self.new.input.now) result }
+        ensures counted { CountsAnswer (R.failures self.old.input.now)
+            (R.failures self.new.input.now) result }
+    {
+        self.fragment.next(self.input)
+    }
+}
+
+#[cfg(test)]
+mod tests;

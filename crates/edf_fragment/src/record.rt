@@ -1,0 +1,107 @@
+ghost use Rattle.std.specs.Prelude.{◌≡◌, ◌≤◌, ◌+◌, ◌↔◌, length, take, sum_by, MatchOption, IsTrue};
+ghost use Rattle.edf_tal.specs.Block.{IsWithinLimits};
+ghost use Rattle.edf_fragment.specs.Fragment.{DataRecord, IsWithinSize};
+
+use edf_tal::{Note, same_notes};
+use edf_time::Instant;
+use std::marker::Model;
+
+/// A data record: its start, its ordinary sample bytes in signal order, and its annotations in order.
+///
+/// The time-keeping annotation is no member of the list; its onset is the start. A record has at most 4,194,304 sample
+/// bytes, 10,000 annotations and 1,000,000 bytes of their texts.
+#[derive(Drop)]
+pub struct Record {
+    start: Instant,
+    samples: Vec<u8>,
+    notes: Vec<Note>,
+}
+
+impl Model for Record {
+    ghost use Rattle.edf_fragment.specs.Fragment.{DataRecord, IsWithinSize};
+
+    ghost Value = { DataRecord };
+
+    ghost view = { λ r. record { start = r.start; samples = r.samples.items; annotations = r.notes.items } };
+
+    ghost invariant = { λ r. IsWithinSize (record { start = r.start; samples = r.samples.items; annotations = r.notes.items }) };
+}
+
+/// Whether there are at most 10,000 annotations, and 1,000,000 bytes of their texts.
+fn are_within_limits(notes: &[Note]) -> bool
+    ensures { IsTrue result ↔ IsWithinLimits notes.now }
+{
+    if notes.len() > 10_000 {
+        return false;
+    }
+    let mut bytes = 0;
+    for note in notes {
+        let more = note.text().len();
+        if more > 1_000_000 - bytes {
+            return false;
+        }
+        bytes += more;
+    }
+    true
+}
+
+impl Record {
+    /// The data record of these parts, or `None` where they are past its limits.
+    pub fn new(start: Instant, samples: Vec<u8>, notes: Vec<Note>) -> Option<Record>
+        ensures { let parts : DataRecord = record { start = start; samples = samples.items; annotations = notes.items } in
+            MatchOption result (¬ IsWithinSize parts) (λ r. IsWithinSize r × (r ≡ parts)) }
+    {
+        if samples.len() <= 4_194_304 && are_within_limits(notes.as_slice()) {
+            Some(Record::within_limits(start, samples, notes))
+        } else {
+            None
+        }
+    }
+
+    /// The data record of parts that are known to keep its limits.
+    pub(crate) fn within_limits(start: Instant, samples: Vec<u8>, notes: Vec<Note>) -> Record
+        requires { IsWithinSize (record { start = start; samples = samples.items; annotations = notes.items }) }
+        ensures { result ≡ record { start = start; samples = samples.items; annotations = notes.items } }
+    {
+        Record {
+            start,
+            samples,
+            notes,
+        }
+    }
+
+    /// Its start.
+    pub fn start(&self) -> Instant
+        ensures { result ≡ self.now.start }
+    {
+        self.start
+    }
+
+    /// Its sample bytes: each signal's samples in turn, two bytes each, the lower first.
+    pub fn samples(&self) -> &[u8]
+        ensures value { result.now ≡ self.now.samples }
+        ensures limit { length result.now ≤ 4_194_304 }
+    {
+        self.samples.as_slice()
+    }
+
+    /// Its annotations.
+    pub fn notes(&self) -> &[Note]
+        ensures value { result.now ≡ self.now.annotations }
+        ensures limits { IsWithinLimits result.now }
+    {
+        self.notes.as_slice()
+    }
+
+    /// Whether start, samples and annotations are the same.
+    pub fn same(&self, other: &Record) -> bool
+        ensures { IsTrue result ↔ (self.now ≡ other.now) }
+    {
+        self.start == other.start
+            && self.samples.as_slice() == other.samples.as_slice()
+            && same_notes(self.notes.as_slice(), other.notes.as_slice())
+    }
+}
+
+#[cfg(test)]
+mod tests;

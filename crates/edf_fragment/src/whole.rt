@@ -1,0 +1,64 @@
+ghost use Rattle.std.specs.Prelude.{◌≡◌, ℕ, MatchResult};
+ghost use Rattle.edf_fragment.specs.Reading.{ReadsFragment, IsFragmentFault, CountsAnswer, at_first};
+ghost use Rattle.edf_fragment.specs.Steps.{ReadsRecords, FailsBehind};
+
+use crate::fault::FragmentFault;
+use crate::open_fragment::OpenFragment;
+use crate::record::Record;
+use crate::streams::Input;
+use edf_header::Header;
+use std::alloc::Global;
+
+/// Reads all data records behind a header that was just read.
+fn read_records<R: Input>(
+    alloc: Global,
+    fragment: &mut OpenFragment,
+    input: &mut R,
+) -> Result<Vec<Record>, FragmentFault>
+    requires { fragment.old.progress ≡ at_first }
+    ensures header { fragment.new.header ≡ fragment.old.header }
+    ensures answer { MatchResult result
+        (λ records. ReadsRecords fragment.old.header (R.remaining input.old) (R.remaining input.new) records.items)
+        (FailsBehind fragment.old.header (R.remaining input.old) (R.remaining input.new)) }
+    ensures counted { CountsAnswer (R.failures input.old) (R.failures input.new) result }
+{
+    let mut records = Vec::new(alloc);
+    'records: loop {
+        match fragment.next(input) {
+            Ok(Some(record)) => {
+                if records.push(record).is_err() {
+                    return Err(FragmentFault::Memory);
+                }
+            }
+            Ok(None) => return Ok(records),
+            Err(fault) => return Err(fault),
+        }
+    }
+}
+
+/// Reads a whole fragment into memory: its header and its data records in order.
+///
+/// # Errors
+/// The first fault of the bytes by the order of the header, the data records and the end; `Read` where a read failed,
+/// `Memory` where memory ran out, each in place of whatever would have been found later.
+pub fn read_fragment<R: Input>(
+    alloc: Global,
+    input: &mut R,
+) -> Result<(Header, Vec<Record>), FragmentFault>
+    ensures answer { MatchResult result
+        (λ r. ReadsFragment (R.remaining input.old) (R.remaining input.new) r.0 r.1.items)
+        (IsFragmentFault (R.remaining input.old) (R.remaining input.new)) }
+    ensures counted { CountsAnswer (R.failures input.old) (R.failures input.new) result }
+{
+    let mut fragment = match OpenFragment::read(alloc, input) {
+        Ok(fragment) => fragment,
+        Err(fault) => return Err(fault),
+    };
+    match read_records(alloc, &mut fragment, input) {
+        Ok(records) => Ok((fragment.into_header(), records)),
+        Err(fault) => Err(fault),
+    }
+}
+
+#[cfg(test)]
+mod tests;
