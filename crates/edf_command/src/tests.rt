@@ -2,6 +2,7 @@
 
 mod files;
 mod memory;
+mod scarce;
 mod streams;
 
 use crate::conversion::convert;

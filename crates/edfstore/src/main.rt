@@ -5,23 +5,34 @@
 //! word on the command line ends it with status 2 and nothing written.
 #![tactic(auto)]
 
-use edf_command::convert;
+use edf_command::{ConvertFault, convert};
 use edf_fragment::Counted;
+use std::io::BufReader;
 use std::process::ExitCode;
 use std::{env, io};
+
+/// How many bytes of standard input are asked for at once.
+const PIECE: usize = 65_536;
 
 /// The status of a refusal of this number.
 fn status_of(number: u8) -> u8 {
     if number < 30 { 1 } else { 3 }
 }
 
+fn convert_streams(rt: &HostRuntime) -> Result<u64, ConvertFault> {
+    let Ok(reader) = BufReader::with_capacity(rt.alloc(), PIECE, rt.stdin()) else {
+        return Err(ConvertFault::Memory);
+    };
+    let mut input = Counted::new(reader);
+    let mut out = Counted::new(rt.stdout());
+    convert(rt.alloc(), &mut input, &mut out)
+}
+
 fn run(rt: &HostRuntime) -> io::Result<u8> {
     if env::args(rt)?.count() > 1 {
         return Ok(2);
     }
-    let mut input = Counted::new(rt.stdin());
-    let mut out = Counted::new(rt.stdout());
-    let Err(fault) = convert(rt.alloc(), &mut input, &mut out) else {
+    let Err(fault) = convert_streams(rt) else {
         return Ok(0);
     };
     let number = fault.number();
