@@ -1,7 +1,7 @@
 -- Fragments that were read, and the first fault of those that were not.
-use Rattle.std.proofs.Common.{◌≡◌, ℕ, ◌+◌, ◌-◌, ◌*◌, ◌≤◌, ◌<◌, ◌⊎◌, inl, inr, List, [], ◌∷◌, ◌++◌, length, take, drop, arith, refl, sym, ap, ◌∙◌, subst, append_assoc, append-nil, length-append, Option, Some, None, IfSome}
-use Rattle.std.specs.Io.KnownBytes.{Consumes, IsAtEnd}
-use Rattle.std.proofs.KnownBytes.{Consumes-trans}
+use Rattle.std.proofs.Common.{◌≡◌, ℕ, ◌+◌, ◌≤◌, ◌⊎◌, inl, inr, List, [], ◌∷◌, ◌++◌, length, arith, refl, sym, ap, ◌∙◌, subst, append-nil, length-append, Option, Some, None, IfSome, Result, Ok, Err}
+use Rattle.std.specs.Io.KnownBytes.{Consumes}
+use Rattle.std.proofs.KnownBytes.{Consumes-trans, Consumes-nil}
 use Rattle.edf_header.specs.Header.{Header, IsHeader, Layout, layout_of}
 use Rattle.edf_header.specs.Fault.{IsHeaderFault}
 use Rattle.edf_header.specs.declared.fault.HeaderFault.{HeaderFault}
@@ -11,13 +11,15 @@ use Rattle.edf_tal.specs.declared.place.TalFault.{TalFault}
 use Rattle.edf_tal.specs.Block.{IsBlockFault}
 use Rattle.edf_fragment.specs.Fragment.{DataRecord, AreDataRecords, block, Spells}
 use Rattle.edf_fragment.specs.Fault.{ReadsUpTo, IsCutRecord, IsRefusedBlock, IsTrailing, IsFirstFault}
-use Rattle.edf_fragment.specs.Reading.{Reads, ReadsHeader, ReadsHeaderFault, IsOpenFault, EndsInRecord, RefusesBlock, FindsMore, IsNextFault, ReadsFragment, ReadsFault, IsFragmentFault}
+use Rattle.edf_fragment.specs.Reading.{ReadsHeader, ReadsHeaderFault, IsOpenFault, EndsThere, EndsInRecord, RefusesBlock, FindsMore, IsNextFault, IsNext, at_first, progress_after, AnswersIn, IsAnswer, ReadsFragment, ReadsFault, IsFragmentFault}
 use Rattle.edf_fragment.specs.Steps.{ReadsRecords, HasRead, FailsBehind}
 use Rattle.edf_fragment.specs.declared.progress.Progress.{Progress}
+use Rattle.edf_fragment.specs.declared.progress.Status.{Status}
+use Rattle.edf_fragment.specs.declared.progress.Status.TheVariants.{Reading}
 use Rattle.edf_fragment.specs.declared.fault.FragmentFault.{FragmentFault}
 use Rattle.edf_fragment.specs.declared.fault.FragmentFault.TheVariants.{Header as BadHeader, CutRecord, Tal, Trailing, Read, Memory, Failed}
 use Rattle.edf_fragment.proofs.HeaderParts.{field_front}
-use Rattle.edf_fragment.proofs.Runs.{AreDataRecords-more, IsHeader-more, layout-fits, IsHeaderFault-more}
+use Rattle.edf_fragment.proofs.Runs.{AreDataRecords-more, IsHeader-more, layout-fits, IsHeaderFault-more, reads_more}
 
 -- a header, and the data records behind it
 pub fragment_read : (left mid rest : Option (List ℕ)) (l : Layout) (rs : List DataRecord) → ReadsHeader left mid l → ReadsRecords l mid rest rs → ReadsFragment left rest l rs
@@ -148,3 +150,58 @@ records_refused left mid rest l e a b =
     let are = subst (λ (x : Layout). AreDataRecords x First b.before.bytes b.records b.progress.place []) a.layout_is b.before.are_records in
     let fault = subst (λ (x : Layout). IsNextFault x b.progress b.mid rest e) a.layout_is b.is_fault in
     behind_header left mid b.mid rest a.bytes b.before.bytes a.header b.records b.progress e a.read b.before.read a.is_header are b.before.given fault
+
+-- ---- step by step
+
+pub reads_none : (l : Layout) (left : Option (List ℕ)) → HasRead l left left [] at_first
+reads_none l left = record { bytes = []; read = Consumes-nil left; are_records = (refl, refl); given = refl }
+
+reads_end : (l : Layout) (left mid rest : Option (List ℕ)) (rs : List DataRecord) (p : Progress) → HasRead l left mid rs p → EndsThere l p mid rest → ReadsRecords l left rest rs
+reads_end l left mid rest rs p before ends = record {
+  bytes = before.bytes;
+  last = p.place;
+  read = subst (λ (x : List ℕ). Consumes left rest x) (append-nil before.bytes) (Consumes-trans left mid rest before.bytes [] before.read ends.read);
+  end = ends.end;
+  are_records = before.are_records;
+  count = sym before.given ∙ ends.all;
+}
+
+-- what a reader answers that goes on
+going : (l : Layout) (p q : Progress) (mid rest : Option (List ℕ)) (result : Result (Option DataRecord) FragmentFault) → p.status ≡ Reading → IsAnswer l p q mid rest result
+    → (q ≡ progress_after l p result) × IsNext l p mid rest result
+going l p q mid rest result on answer = subst (λ (s : Status). AnswersIn s l p q mid rest result) on answer
+
+pub one_more_read : (l : Layout) (left mid rest : Option (List ℕ)) (rs : List DataRecord) (p q : Progress) (r : DataRecord) → HasRead l left mid rs p → p.status ≡ Reading
+    → IsAnswer l p q mid rest (Ok (Some r)) → HasRead l left rest (rs ++ r ∷ []) q × (q.status ≡ Reading)
+one_more_read l left mid rest rs p q r before on answer =
+    let step = going l p q mid rest (Ok (Some r)) on answer in
+    (reads_more l left mid rest rs p q r before step.0 step.1, ap (λ (x : Progress). x.status) step.0)
+
+pub all_read : (l : Layout) (left one two rest : Option (List ℕ)) (rs : List DataRecord) (p q : Progress) → ReadsHeader left one l → HasRead l one two rs p → p.status ≡ Reading
+    → IsAnswer l p q two rest (Ok None) → ReadsFragment left rest l rs
+all_read l left one two rest rs p q header before on answer =
+    let step = going l p q two rest (Ok None) on answer in
+    fragment_read left one rest l rs header (reads_end l one two rest rs p before step.1)
+
+pub refused_then : (l : Layout) (left one two rest : Option (List ℕ)) (rs : List DataRecord) (p q : Progress) (e : FragmentFault) → ReadsHeader left one l → HasRead l one two rs p
+    → p.status ≡ Reading → IsAnswer l p q two rest (Err e) → IsFragmentFault left rest e
+refused_then l left one two rest rs p q e header before on answer =
+    let step = going l p q two rest (Err e) on answer in
+    records_refused left one rest l e header (record { mid = two; records = rs; progress = p; before = before; is_fault = step.1 })
+
+-- ---- where the bytes are known
+
+pub fragment_of_all : (all : List ℕ) (rest : Option (List ℕ)) (l : Layout) (rs : List DataRecord) → ReadsFragment (Some all) rest l rs → Spells all l.key rs
+fragment_of_all all None l rs f = absurd f.read
+fragment_of_all all (Some rest) l rs f =
+    let same : all ≡ f.bytes = f.read ∙ ap (λ (x : List ℕ). f.bytes ++ x) f.end ∙ append-nil f.bytes in
+    subst (λ (x : List ℕ). Spells x l.key rs) (sym same) f.spells
+
+pub fault_of_all : (all : List ℕ) (rest : Option (List ℕ)) (e : FragmentFault) → IsFragmentFault (Some all) rest e → (e ≡ Read) ⊎ ((e ≡ Memory) ⊎ IsFirstFault all e)
+fault_of_all all rest (BadHeader e) f = inr (inr f.is_fault)
+fault_of_all all rest (CutRecord nth) f = inr (inr f.is_fault)
+fault_of_all all rest (Tal nth e) f = inr (inr f.is_fault)
+fault_of_all all rest Trailing f = inr (inr f.is_fault)
+fault_of_all all rest Read f = inl refl
+fault_of_all all rest Memory f = inr (inl refl)
+fault_of_all all rest Failed f = absurd f

@@ -1,11 +1,11 @@
 -- Faults of a header from those of its parts, and a header from its parts.
-use Rattle.std.proofs.Common.{◌≡◌, ℕ, ◌+◌, ◌-◌, ◌*◌, ◌≤◌, ◌<◌, ◌⊎◌, inl, inr, List, [], ◌++◌, length, take, drop, arith, refl, sym, ap, ◌∙◌, subst, append-nil, take_at, drop_at, Option, Result, Ok, Err, MatchResult}
+use Rattle.std.proofs.Common.{◌≡◌, ℕ, ◌+◌, ◌*◌, ◌≤◌, ◌<◌, ◌⊎◌, inl, inr, List, [], ◌++◌, length, take, drop, arith, length-append, sym, ap, ◌∙◌, subst, append-nil, take_at, drop_at, Option, Result, Ok, Err, MatchResult}
 use Rattle.std.proofs.lemmas.List.{take_all, length-take, length-drop, drop-append-le, take-append-le}
 use Rattle.std.specs.Io.KnownBytes.{Consumes, IsAtEnd}
 use Rattle.std.proofs.KnownBytes.{Consumes-trans}
 use Rattle.edf_header.proofs.FixedLaws.{fixed-clean}
 use Rattle.edf_header.specs.Number.{field}
-use Rattle.edf_header.specs.Header.{Header, Fixed, IsFixedHeader, AreSignals, IsHeader, IsNumber, Layout, layout_of}
+use Rattle.edf_header.specs.Header.{Fixed, IsFixedHeader, IsHeader, IsNumber, Layout}
 use Rattle.edf_header.specs.Fault.{Fails, SignalsFail, HasSignals, IsHeaderFault, IsFirst, IsClean, number}
 use Rattle.edf_header.specs.declared.fault.HeaderFault.{HeaderFault}
 use Rattle.edf_header.specs.declared.fault.HeaderFault.TheVariants.{Cut, Unprintable, Version, Patient, Recording, Startdate, Starttime, DatesDiffer, NotPlus, Count, Duration, Signals, HeaderBytes, CutSignals, UnprintableSignals, Annotations, Physical, Digital, Samples, Size, Memory}
@@ -81,7 +81,7 @@ told_first left rest b e told len read memory other (inr first) =
       | inl is ↦ absurd (let low : length b < 256 = subst (Fails b) is first.0 in omega arith)
       | inr is ↦ absurd (subst (Fails b) is first.0)
     ] in
-    let r : ReadsHeaderFault left rest e = record { bytes = b; read = read; is_fault = first_fault b e len first; ended = ended } in
+    let r : ReadsHeaderFault left rest e = record { bytes = b; read = read; is_fault = first_fault b e len first; ended = ended; no_signals = λ low. omega (arith, len); no_records = λ n has. omega (arith, len) } in
     subst (IsOpenFault left rest) (sym (other no)) r
 
 -- the fault of the signals
@@ -104,6 +104,24 @@ whole_header left mid rest f l a b =
     record { first = a.bytes; second = b.bytes; parts = ap (λ (x : List ℕ). a.bytes ++ x) (sym (append-nil b.bytes)); fixed = fixed; signals = b.are_signals } in
     record { bytes = a.bytes ++ b.bytes; header = b.header; read = Consumes-trans left mid rest a.bytes b.bytes a.read b.read; is_header = is; layout_is = b.layout_is }
 
+-- faults of the signals have numbers from 14 on
+signals-from : (s : List ℕ) (n : ℕ) (e : HeaderFault) → SignalsFail s n e → 14 ≤ number e
+signals-from s n CutSignals f = omega arith
+signals-from s n (UnprintableSignals at) f = omega arith
+signals-from s n Annotations f = omega arith
+signals-from s n (Physical at) f = omega arith
+signals-from s n (Digital at) f = omega arith
+signals-from s n (Samples at) f = omega arith
+signals-from s n Size f = omega arith
+signals-from s n e f = absurd f
+
+-- the number of signals that stands in the fixed part
+count-of : (a b : List ℕ) (f : Fixed) (n : ℕ) → IsFixedHeader a f → HasSignals (a ++ b) n → n ≡ f.signals
+count-of a b f n fixed has =
+    let there : field (a ++ b) 252 4 ≡ field a 252 4 = field_front a b 252 4 (omega (arith, fixed.len)) in
+    let is : IsNumber (field a 252 4) n = subst (λ (x : List ℕ). IsNumber x n) there has.0 in
+    is.value ∙ sym fixed.signals.value
+
 reads-trans : (left mid rest : Option (List ℕ)) (a : List ℕ) → Consumes left mid a → Reads mid rest → Reads left rest
 reads-trans left mid rest a read (b, more) = (a ++ b, Consumes-trans left mid rest a b read more)
 
@@ -111,6 +129,7 @@ reads-trans left mid rest a read (b, more) = (a ++ b, Consumes-trans left mid re
 pub header_fault : (left mid rest : Option (List ℕ)) (f : Fixed) (told : FragmentFault) → ReadsFixed left mid f → IsSignalsFault mid rest f.signals told → IsOpenFault left rest told
 header_fault left mid rest f (BadHeader e) a b =
     let whole = second_fault a.bytes b.bytes f e a.is_fixed b.within b.is_fault in
+    let len : length (a.bytes ++ b.bytes) ≡ 256 + length b.bytes = length-append a.bytes b.bytes ∙ ap (λ (n : ℕ). n + length b.bytes) a.is_fixed.len in
     record {
       bytes = a.bytes ++ b.bytes;
       read = Consumes-trans left mid rest a.bytes b.bytes a.read b.read;
@@ -119,6 +138,10 @@ header_fault left mid rest f (BadHeader e) a b =
         | inl is ↦ absurd (subst (SignalsFail b.bytes f.signals) is b.is_fault.0)
         | inr is ↦ b.ended is
       ];
+      no_signals = λ low. absurd (omega (arith, signals-from b.bytes f.signals e b.is_fault.0, low));
+      no_records = λ n has.
+          let same : n ≡ f.signals = count-of a.bytes b.bytes f n a.is_fixed has in
+          omega (arith, len, b.within, same);
     }
 header_fault left mid rest f (CutRecord nth) a b = b
 header_fault left mid rest f (Tal nth e) a b = b

@@ -1,22 +1,21 @@
 -- Bytes spell one fragment at most, or have one first fault.
-use Rattle.std.proofs.Common.{◌≡◌, ℕ, ◌+◌, ◌-◌, ◌*◌, ◌≤◌, ◌<◌, ◌⊎◌, inl, inr, List, [], ◌∷◌, ◌++◌, length, take, drop, arith, refl, sym, ap, ◌∙◌, subst, append-nil, length-append}
+use Rattle.std.proofs.Common.{◌≡◌, ℕ, ◌+◌, ◌≤◌, ◌<◌, inl, inr, List, [], ◌∷◌, ◌++◌, length, arith, refl, sym, ap, ◌∙◌, subst, append-nil, length-append}
 use Rattle.std.proofs.lemmas.Bool.{cases_lt}
 use Rattle.edf_header.specs.Key.{Key}
 use Rattle.edf_header.specs.Header.{Header, IsHeader, Layout, layout_of}
-use Rattle.edf_header.specs.Fault.{IsHeaderFault}
-use Rattle.edf_tal.specs.Block.{IsRead, IsBlockFault}
+use Rattle.edf_tal.specs.Block.{IsBlockFault}
 use Rattle.edf_tal.specs.declared.place.Place.{Place}
 use Rattle.edf_tal.specs.declared.place.Place.TheVariants.{First}
 use Rattle.edf_tal.specs.declared.place.TalFault.{TalFault}
-use Rattle.edf_tal.proofs.OneAnswer.{SameAnswer, one-read, read-no-fault, one-fault}
-use Rattle.edf_fragment.specs.Fragment.{DataRecord, IsDataRecord, AreDataRecords, behind, block, ordinary_bytes, Spells}
+use Rattle.edf_tal.proofs.OneAnswer.{one-read, read-no-fault, one-fault}
+use Rattle.edf_fragment.specs.Fragment.{DataRecord, IsDataRecord, AreDataRecords, behind, block, Spells}
 use Rattle.edf_fragment.specs.Fault.{ReadsUpTo, IsCutRecord, IsRefusedBlock, IsTrailing, IsFirstFault}
 use Rattle.edf_fragment.specs.declared.fault.FragmentFault.{FragmentFault}
-use Rattle.edf_fragment.specs.declared.fault.FragmentFault.TheVariants.{Header as BadHeader, CutRecord, Tal, Trailing, Read, Memory, Failed}
+use Rattle.edf_fragment.specs.declared.fault.FragmentFault.TheVariants.{Header as BadHeader, CutRecord, Tal, Trailing}
 use Rattle.edf_header.specs.declared.fault.HeaderFault.{HeaderFault}
 use Rattle.edf_fragment.proofs.HeaderParts.{field_front}
 use Rattle.edf_fragment.proofs.Runs.{layout-fits}
-use Rattle.edf_fragment.proofs.OneHeader.{SameFront, same_front, SameHeader, one-header, header-no-fault, one-header-fault}
+use Rattle.edf_fragment.proofs.OneHeader.{same_front, one-header, header-no-fault, one-header-fault}
 
 -- ---- one data record
 

@@ -1,18 +1,17 @@
 -- Bytes begin with one header at most, or have one fault of a header.
-use Rattle.std.proofs.Common.{◌≡◌, ℕ, ◌+◌, ◌-◌, ◌*◌, ◌≤◌, ◌<◌, ◌⊎◌, inl, inr, Bool, true, false, eqb, cond, List, [], ◌∷◌, ◌++◌, length, take, drop, arith, refl, sym, ap, ◌∙◌, subst, take_at, drop_at}
+use Rattle.std.proofs.Common.{◌≡◌, ℕ, ◌+◌, ◌*◌, ◌<◌, inl, inr, eqb, cond, List, [], ◌++◌, length, take, drop, arith, refl, sym, ap, ◌∙◌, subst, take_at, drop_at}
 use Rattle.std.proofs.lemmas.Bool.{cases_lt}
-use Rattle.std.proofs.lemmas.List.{take_all, take-append-le}
 use Rattle.edf_header.proofs.FixedLaws.{no-fault, one-fixed, one-fault}
 use Rattle.edf_header.proofs.SignalLaws.{one-signals, signals-clean}
 use Rattle.edf_header.specs.Number.{field}
 use Rattle.edf_header.specs.Text.{IsPrintable}
 use Rattle.edf_header.specs.Signal.{signals_of, Passes, IsFirstBad}
 use Rattle.edf_header.specs.Header.{Header, Fixed, IsFixedHeader, AreSignals, IsHeader, IsNumber}
-use Rattle.edf_header.specs.Fault.{Fails, SignalsFail, IsBadSignal, HasSignals, IsHeaderFault, IsFirst, IsClean, number}
+use Rattle.edf_header.specs.Fault.{Fails, SignalsFail, IsBadSignal, HasSignals, IsHeaderFault, IsFirst, number}
 use Rattle.edf_header.specs.declared.checks.Check.{Check}
 use Rattle.edf_header.specs.declared.checks.Check.TheVariants as checks
 use Rattle.edf_header.specs.declared.fault.HeaderFault.{HeaderFault}
-use Rattle.edf_header.specs.declared.fault.HeaderFault.TheVariants.{Cut, Unprintable, Version, Patient, Recording, Startdate, Starttime, DatesDiffer, NotPlus, Count, Duration, Signals, HeaderBytes, CutSignals, UnprintableSignals, Annotations, Physical, Digital, Samples, Size, Memory}
+use Rattle.edf_header.specs.declared.fault.HeaderFault.TheVariants.{CutSignals, UnprintableSignals, Annotations, Physical, Digital, Samples, Size, Memory}
 use Rattle.edf_fragment.proofs.HeaderParts.{field_front}
 
 -- two fronts of one length, and what is behind them

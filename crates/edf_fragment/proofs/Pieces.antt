@@ -1,14 +1,13 @@
 -- Data records that are read in pieces.
-use Rattle.std.proofs.Common.{◌≡◌, ℕ, ◌+◌, ◌-◌, ◌*◌, ◌≤◌, ◌<◌, List, [], ◌∷◌, ◌++◌, length, take, drop, arith, refl, sym, ap, ◌∙◌, subst, length-append, append_assoc, take_at, drop_at, take-append-drop, length-take-le, Option, Some, None, IfSome, IfOk, Result, Ok, Err, MatchResult}
-use Rattle.std.proofs.lemmas.List.{take_all, length-take, length-drop}
-use Rattle.std.specs.Io.KnownBytes.{Consumes, IsAtEnd}
+use Rattle.std.proofs.Common.{◌≡◌, ℕ, ◌+◌, ◌-◌, ◌≤◌, ◌<◌, List, [], ◌∷◌, ◌++◌, length, take, drop, arith, refl, sym, ap, ◌∙◌, subst, length-append, append_assoc, take_at, drop_at, take-append-drop, length-take-le, Option, Some, None, IfSome, IfOk, Result, Ok, Err, MatchResult}
+use Rattle.std.specs.Io.KnownBytes.{Consumes}
 use Rattle.std.proofs.KnownBytes.{Consumes-trans}
 use Rattle.edf_header.specs.Header.{Layout}
 use Rattle.edf_tal.specs.Block.{IsRead, IsBlockFault, IsRefusal}
 use Rattle.edf_tal.specs.declared.place.TalFault.{TalFault}
 use Rattle.edf_tal.specs.declared.place.TalFault.TheVariants.{Tal as NotTals, Text, NotTimed, FirstOnset, Window, Order, TooMany, Memory as TalMemory}
 use Rattle.edf_fragment.specs.Fragment.{DataRecord, IsDataRecord, block, ordinary_bytes}
-use Rattle.edf_fragment.specs.Reading.{Reads, GivesRecord, RefusesBlock, IsNextFault, IsNext}
+use Rattle.edf_fragment.specs.Reading.{GivesRecord, RefusesBlock, IsNextFault, IsNext}
 use Rattle.edf_fragment.specs.declared.progress.Progress.{Progress}
 use Rattle.edf_fragment.specs.Steps.{IsCutShort, IsPartFault}
 use Rattle.edf_fragment.specs.declared.fault.FragmentFault.{FragmentFault}
@@ -124,10 +123,3 @@ pub one_byte : (left rest : Option (List ℕ)) (b : List ℕ) → length b ≡ 1
 one_byte left rest [] len read = absurd (omega arith)
 one_byte left rest (x ∷ []) len read = (x, read)
 one_byte left rest (x ∷ y ∷ b) len read = absurd (omega arith)
-
--- a record that was given was wanted
-pub next_wanted : (l : Layout) (p : Progress) (left rest : Option (List ℕ)) (result : Result (Option DataRecord) FragmentFault) (top : ℕ) → IsNext l p left rest result
-    → l.count < top → IfOk result (λ o. IfSome o (λ r. p.given < top - 1))
-next_wanted l p left rest (Ok (Some r)) top gives few = omega (arith, gives.wanted)
-next_wanted l p left rest (Ok None) top gives few = tt
-next_wanted l p left rest (Err e) top gives few = tt

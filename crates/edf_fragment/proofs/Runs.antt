@@ -1,29 +1,23 @@
 -- Data records, one after another, and fragments from their parts.
-use Rattle.std.proofs.Common.{◌≡◌, ℕ, zero, suc, ◌+◌, ◌-◌, ◌*◌, ◌≤◌, ◌<◌, ◌⊎◌, inl, inr, List, [], ◌∷◌, ◌++◌, length, take, drop, arith, refl, sym, ap, ◌∙◌, subst, append_assoc, append-nil, length-append, Option, Some, None, IfSome, Result, Ok, Err}
+use Rattle.std.proofs.Common.{◌≡◌, ℕ, ◌+◌, ◌*◌, ◌≤◌, ◌<◌, ◌⊎◌, inl, inr, List, [], ◌∷◌, ◌++◌, length, take, drop, arith, refl, sym, ap, ◌∙◌, subst, append_assoc, append-nil, length-append, Option, Some, Ok}
 use Rattle.std.proofs.lemmas.List.{take-append-le, length-take, length-drop}
 use Rattle.std.proofs.lemmas.Bool.{cases_lt}
 use Rattle.std.proofs.lemmas.List.Sums.{sum_by-append, sum_by-cons}
-use Rattle.std.specs.Io.KnownBytes.{Consumes, IsAtEnd}
-use Rattle.std.proofs.KnownBytes.{Consumes-trans, Consumes-nil}
-use Rattle.edf_header.specs.Number.{field, duration_of}
-use Rattle.edf_header.specs.Signal.{samples, samples_in_all}
+use Rattle.std.proofs.KnownBytes.{Consumes-trans}
+use Rattle.edf_header.specs.Number.{field}
+use Rattle.edf_header.specs.Signal.{samples}
 use Rattle.edf_header.specs.Header.{Header, IsHeader, IsNumber, Layout, layout_of}
 use Rattle.edf_header.specs.Fault.{Fails, SignalsFail, HasSignals, IsHeaderFault, IsFirst, IsClean, number}
 use Rattle.edf_header.specs.declared.fault.HeaderFault.{HeaderFault}
 use Rattle.edf_header.specs.declared.fault.HeaderFault.TheVariants.{Cut, Unprintable, Version, Patient, Recording, Startdate, Starttime, DatesDiffer, NotPlus, Count, Duration, Signals, HeaderBytes, CutSignals, UnprintableSignals, Annotations, Physical, Digital, Samples, Size, Memory}
 use Rattle.edf_tal.specs.declared.place.Place.{Place}
 use Rattle.edf_tal.specs.declared.place.Place.TheVariants.{First}
-use Rattle.edf_tal.specs.declared.place.TalFault.{TalFault}
-use Rattle.edf_tal.specs.Block.{IsBlockFault}
-use Rattle.edf_fragment.specs.Fragment.{DataRecord, IsDataRecord, AreDataRecords, behind, block, Spells}
-use Rattle.edf_fragment.specs.Fault.{ReadsUpTo, IsCutRecord, IsRefusedBlock, IsTrailing, IsFirstFault}
-use Rattle.edf_fragment.specs.Reading.{Reads, ReadsHeader, ReadsHeaderFault, IsOpenFault, GivesRecord, EndsThere, EndsInRecord, RefusesBlock, FindsMore, IsNextFault, AnswersIn, IsAnswer, progress_after, ReadsFragment, ReadsFault, IsFragmentFault}
-use Rattle.edf_fragment.specs.Steps.{ReadsRecords, HasRead, FailsBehind}
+use Rattle.edf_fragment.specs.Fragment.{DataRecord, IsDataRecord, AreDataRecords, behind}
+use Rattle.edf_fragment.specs.Reading.{GivesRecord, AnswersIn, IsAnswer, progress_after}
+use Rattle.edf_fragment.specs.Steps.{HasRead}
 use Rattle.edf_fragment.specs.declared.progress.Progress.{Progress}
 use Rattle.edf_fragment.specs.declared.progress.Status.{Status}
 use Rattle.edf_fragment.specs.declared.progress.Status.TheVariants.{Reading}
-use Rattle.edf_fragment.specs.declared.fault.FragmentFault.{FragmentFault}
-use Rattle.edf_fragment.specs.declared.fault.FragmentFault.TheVariants.{Header as BadHeader, CutRecord, Tal, Trailing, Read, Memory as NoMemory, Failed}
 use Rattle.edf_fragment.proofs.HeaderParts.{field_front}
 
 -- ---- lists of data records

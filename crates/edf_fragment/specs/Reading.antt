@@ -1,8 +1,8 @@
 -- What a reader of fragments reads and answers, call by call. Each says which bytes were read, so pieces don't matter.
-use Rattle.std.specs.Prelude.{◌≡◌, ℕ, ◌+◌, ◌<◌, ◌⊎◌, List, [], ◌∷◌, length, Option, Some, None, Result, Ok, Err, IfSome, MatchResult}
+use Rattle.std.specs.Prelude.{◌≡◌, ℕ, ◌+◌, ◌*◌, ◌≤◌, ◌<◌, ◌⊎◌, List, [], ◌∷◌, length, Option, Some, None, Result, Ok, Err, IfSome, MatchResult}
 use Rattle.std.specs.Io.KnownBytes.{Consumes, IsAtEnd}
 use Rattle.edf_header.specs.Header.{Header, IsHeader, Layout, layout_of}
-use Rattle.edf_header.specs.Fault.{IsHeaderFault}
+use Rattle.edf_header.specs.Fault.{HasSignals, IsHeaderFault, number as header_number}
 use Rattle.edf_header.specs.declared.fault.HeaderFault.{HeaderFault}
 use Rattle.edf_header.specs.declared.fault.HeaderFault.TheVariants.{Cut, CutSignals}
 use Rattle.edf_tal.specs.Block.{IsBlockFault}
@@ -42,12 +42,15 @@ pub record ReadsHeader (left rest : Option (List ℕ)) (layout : Layout) : Type 
   pub is_header : IsHeader bytes header []
   pub layout_is : layout ≡ layout_of header
 
--- the bytes that were read have this fault; where they are too few, no more follow
+-- the bytes that were read have this fault; where they are too few, no more follow; and none were read but those of the
+-- fixed part, and where it has no fault those of the signals
 pub record ReadsHeaderFault (left rest : Option (List ℕ)) (fault : HeaderFault) : Type 0 where
   pub bytes : List ℕ
   pub read : Consumes left rest bytes
   pub is_fault : IsHeaderFault bytes fault
   pub ended : (fault ≡ Cut) ⊎ (fault ≡ CutSignals) → IsAtEnd rest
+  pub no_signals : header_number fault < 14 → length bytes ≤ 256
+  pub no_records : (n : ℕ) → HasSignals bytes n → length bytes ≤ 256 + 256 * n
 
 -- why there is no header, and what of the input was read
 abbrev pub IsOpenFault : Option (List ℕ) → Option (List ℕ) → FragmentFault → Type 0

@@ -23,7 +23,7 @@ mod streams;
 mod whole;
 
 pub use fault::FragmentFault;
-pub use laws::{no_fault_where_spelled, one_fault, one_fragment};
+pub use laws::{answers_join, known_bytes, no_fault_where_spelled, one_fault, one_fragment};
 pub use open_fragment::OpenFragment;
 pub use progress::{Progress, Status};
 pub use reader::FragmentReader;

@@ -43,7 +43,8 @@ pub(crate) fn is_duration(duration: Option<u64>) -> bool
 {
     match duration {
         None => true,
-        Some(d) => d < 3_155_760_000_000_000_000,
+        // the window has an instant for each length below its own
+        Some(nanos) => Instant::at(nanos).is_some(),
     }
 }
 

@@ -1,4 +1,4 @@
-use Rattle.std.proofs.Common.{◌≡◌, List, ℕ, [], take, arith, refl, subst, ap, ◌∙◌}
+use Rattle.std.proofs.Common.{◌≡◌, ℕ, [], take, arith, refl, subst, ap}
 use Rattle.std.specs.Io.KnownBytes.{Consumes}
 use Rattle.edf_fragment.proofs.Pieces.{one_byte}
 use Rattle.edf_fragment.proofs.advance.read_end.Goals as goal

@@ -1,8 +1,5 @@
-use Rattle.std.proofs.Common.{◌≡◌, ℕ, List, ◌++◌, ◌≤◌, ◌+◌, length, take, drop, arith, refl, sym, subst, ap, ◌∙◌, take_at}
+use Rattle.std.proofs.Common.{◌≡◌, ℕ, ◌++◌, ◌+◌, length, take, drop, arith, refl, subst, take_at}
 use Rattle.std.specs.Io.KnownBytes.{Consumes}
-use Rattle.edf_tal.specs.Block.{IsRead, IsRefusal}
-use Rattle.edf_fragment.specs.Fragment.{DataRecord}
-use Rattle.edf_fragment.specs.Reading.{GivesRecord}
 use Rattle.edf_fragment.proofs.Pieces.{HasPieces, given_record, told_block}
 use Rattle.edf_fragment.proofs.advance.read_record.Goals as goal
 

@@ -1,4 +1,4 @@
-use Rattle.std.proofs.Common.{◌≡◌, ◌<◌, length, take, arith, refl}
+use Rattle.std.proofs.Common.{◌<◌, length, take, arith, refl}
 use Rattle.std.proofs.lemmas.List.{length-take}
 use Rattle.edf_fragment.proofs.filling.read_part.Goals as goal
 

@@ -1,4 +1,4 @@
-use Rattle.std.proofs.Common.{◌≡◌, ◌<◌, ◌≤◌, ◌*◌, List, ℕ, length, take, arith, refl, sym, ap, subst, ◌∙◌, take_at}
+use Rattle.std.proofs.Common.{◌≡◌, ◌*◌, List, ℕ, length, take, arith, refl, sym, ap, subst, ◌∙◌, take_at}
 use Rattle.std.proofs.lemmas.List.{take_all, length-take}
 use Rattle.std.specs.Io.KnownBytes.{Consumes}
 use Rattle.edf_fragment.proofs.HeaderParts.{told_second}
