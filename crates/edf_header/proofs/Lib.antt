@@ -26,3 +26,4 @@ pub mod ExportHeader
 pub mod ExportParts
 pub mod ExportWritten
 pub mod ExportOne
+pub mod KeyOnce

@@ -85,7 +85,7 @@ header-no-fault b h r e i fault =
 
 -- ---- one fault
 
-one-first-bad : {X : Type 0} (P : X → Type 0) (d : X) (xs : List X) (a b : ℕ) → IsFirstBad P xs a → IsFirstBad P xs b → a ≡ b
+pub one-first-bad : {X : Type 0} (P : X → Type 0) (d : X) (xs : List X) (a b : ℕ) → IsFirstBad P xs a → IsFirstBad P xs b → a ≡ b
 one-first-bad P d xs a b p q =
     elim (cases_lt a b) [
       | inl lt ↦ absurd (p.bad d (q.good a d (omega arith) lt))
@@ -105,7 +105,7 @@ same-number Holds e f p q =
       ]
     ]
 
-one-bad-signal : (check : Check) (ss : List (List ℕ)) (a b : ℕ) → IsBadSignal check ss a → IsBadSignal check ss b → a ≡ b
+pub one-bad-signal : (check : Check) (ss : List (List ℕ)) (a b : ℕ) → IsBadSignal check ss a → IsBadSignal check ss b → a ≡ b
 one-bad-signal check ss a b p q = p.2 ∙ ap (λ (n : ℕ). n + 1) (one-first-bad (Passes check) [] ss p.0 q.0 p.1 q.1) ∙ sym q.2
 
 same-fault : (s : List ℕ) (n : ℕ) (e f : HeaderFault) → number e ≡ number f → SignalsFail s n e → SignalsFail s n f → e ≡ f

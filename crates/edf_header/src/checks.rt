@@ -1,6 +1,7 @@
 ghost use Rattle.std.specs.Prelude.{◌≡◌, ℕ, List, length, MatchOption, IsTrue, ◌↔◌, All};
 ghost use Rattle.edf_header.specs.Text.{IsPrintable};
 ghost use Rattle.edf_header.specs.Signal.{rows_of, HasDigital, HasSamples, IsLabelled, Passes, IsFirstBad};
+ghost use Rattle.edf_header.specs.Shape.{has_label};
 
 use crate::number::{signed, whole};
 use crate::physical::has_physical;
@@ -43,7 +44,8 @@ fn has_samples(row: &[u8]) -> bool
 /// Whether a signal has the label of an annotations signal.
 pub(crate) fn is_labelled(row: &[u8]) -> bool
     requires { length row.now ≡ 256 }
-    ensures { IsTrue result ↔ IsLabelled row.now }
+    ensures value { result ≡ has_label row.now }
+    ensures label { IsTrue result ↔ IsLabelled row.now }
 {
     &row[0..16] == b"EDF Annotations ".as_slice()
 }

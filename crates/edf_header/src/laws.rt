@@ -5,7 +5,8 @@ ghost use Rattle.edf_header.specs.Signal.{columns, signals_of};
 ghost use Rattle.edf_header.specs.Key.{Key, IsKey, IsSized, key_bytes, key_at};
 ghost use Rattle.edf_header.specs.Header.{Header as HeaderParts, AreSignals, IsHeader, key_of, layout_of};
 ghost use Rattle.edf_header.specs.Fault.{SignalsFail, IsClean};
-ghost use Rattle.edf_header.specs.Identity.{IsCleanKey};
+ghost use Rattle.edf_header.specs.Identity.{IsCleanKey, IsFirstKeyFault};
+ghost use Rattle.edf_header.specs.declared.identity.IdentityFault.{IdentityFault};
 ghost use Rattle.edf_header.specs.Shape.{IsShaped};
 ghost use Rattle.edf_header.specs.Grammar.{AreDigits, IsSpelledAs, spelled};
 ghost use Rattle.edf_header.specs.Rows.{IsLayout};
@@ -28,6 +29,11 @@ pub fn bytes_back()
 /// A law: the bytes of a key have none of the faults of an identity.
 pub fn key_accepted()
     ensures { (k : Key) → IsKey k → IsCleanKey (key_bytes k) 11 }
+{}
+
+/// A law: bytes have one first fault of an identity at most.
+pub fn one_key_fault()
+    ensures { (bytes : List ℕ) (fault other : IdentityFault) → IsFirstKeyFault bytes fault → IsFirstKeyFault bytes other → fault ≡ other }
 {}
 
 /// A law: a physical value spelled out is read as its digits.

@@ -1,18 +1,10 @@
 ghost use Rattle.std.specs.Prelude.{◌≡◌, ℕ, ◌+◌, ◌*◌, ◌≤◌, ◌<◌, ◌++◌, List, length, OnOk, All};
 ghost use Rattle.std.specs.List.{flat_map};
 ghost use Rattle.edf_header.specs.Signal.{rows_of, ordinary, HasSamples, samples_in_all};
-ghost use Rattle.edf_header.specs.Shape.{has_label};
 
+use crate::checks::is_labelled;
 use crate::number::whole;
 use std::alloc::AllocError;
-
-/// Whether a signal has the label of an annotations signal.
-fn has_label(row: &[u8]) -> bool
-    requires { length row.now ≡ 256 }
-    ensures { result ≡ has_label row.now }
-{
-    &row[0..16] == b"EDF Annotations ".as_slice()
-}
 
 /// Copies the ordinary signals.
 pub(crate) fn push_ordinary(out: &mut Vec<u8>, rows: &[u8]) -> Result<(), AllocError>
@@ -20,7 +12,7 @@ pub(crate) fn push_ordinary(out: &mut Vec<u8>, rows: &[u8]) -> Result<(), AllocE
 {
     for i in 0..rows.len() / 256 {
         let row = &rows[256 * i..256 * i + 256];
-        if has_label(row) {
+        if is_labelled(row) {
             continue;
         }
         out.extend_from_slice(row)?;
@@ -38,7 +30,7 @@ pub(crate) fn ordinary_samples(rows: &[u8]) -> u64
     let mut total = 0;
     for i in 0..rows.len() / 256 {
         let row = &rows[256 * i..256 * i + 256];
-        if has_label(row) {
+        if is_labelled(row) {
             continue;
         }
         let Some(n) = whole(&row[216..224]) else {
