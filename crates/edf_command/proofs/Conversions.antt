@@ -17,19 +17,22 @@ use Rattle.edf_fragment.proofs.OneFragment.{spelled-no-fault}
 use Rattle.edf_command.specs.File.{IsCanonicalFile, IsLaidOut}
 use Rattle.edf_command.specs.Output.{IsFileWritten}
 use Rattle.edf_command.specs.Convert.{IsConverted, IsNotConverted, IsFormFault, Counts, refusal_of}
-use Rattle.edf_command.proofs.Exported.{AreExported, are-exported}
+use Rattle.edf_command.specs.Sound.{IsSoundRecord, AreSound}
+use Rattle.edf_command.proofs.Exported.{are-sound}
 use Rattle.edf_command.proofs.Files.{canonical, one-file}
 
-exported-sizes : (k : Key) (low : ℕ) (rs : List DataRecord) → AreExported k low rs → All (λ r. length r.samples ≡ 2 * samples_in_all k.signals) rs
-exported-sizes k low [] are = All-nil (λ r. length r.samples ≡ 2 * samples_in_all k.signals)
-exported-sizes k low (r ∷ rs) (e, lower, more) =
-    All-cons (λ x. length x.samples ≡ 2 * samples_in_all k.signals) r rs e.samples_len (exported-sizes k (r.start + duration_of k.duration) rs more)
+sound-sizes : (k : Key) (low : ℕ) (rs : List DataRecord) → AreSound k low rs → All (λ r. length r.samples ≡ 2 * samples_in_all k.signals) rs
+sound-sizes k low [] are = All-nil (λ r. length r.samples ≡ 2 * samples_in_all k.signals)
+sound-sizes k low (r ∷ rs) (e, lower, more) =
+    All-cons (λ x. length x.samples ≡ 2 * samples_in_all k.signals) r rs e.samples_len (sound-sizes k (r.start + duration_of k.duration) rs more)
+
+pub spelled-sound : (bytes : List ℕ) (k : Key) (rs : List DataRecord) → Spells bytes k rs → AreSound k 0 rs
+spelled-sound bytes k rs s =
+    subst (λ (x : Key). AreSound x 0 rs) (sym s.key) (are-sound s.header First s.rest rs s.last [] s.are_records)
 
 -- each record of a fragment has the sample bytes that its key says
 pub spelled-sizes : (bytes : List ℕ) (k : Key) (rs : List DataRecord) → Spells bytes k rs → All (λ r. length r.samples ≡ 2 * samples_in_all k.signals) rs
-spelled-sizes bytes k rs s =
-    subst (λ (x : Key). All (λ r. length r.samples ≡ 2 * samples_in_all x.signals) rs) (sym s.key)
-    (exported-sizes (layout_of s.header).key 0 rs (are-exported s.header First s.rest rs s.last [] s.are_records))
+spelled-sizes bytes k rs s = sound-sizes k 0 rs (spelled-sound bytes k rs s)
 
 pub converted : (left rest before after : Option (List ℕ)) (l : Layout) (records : List DataRecord) (len : ℕ) → ReadsFragment left rest l records
     → IsFileWritten before after l.key records len → IsConverted left rest before after len
@@ -68,3 +71,8 @@ refused left rest contents old new writes Trailing r counts = (keeps-same conten
 refused left rest contents old new writes Read r counts = (keeps-same contents, refl, counts)
 refused left rest contents old new writes Memory r counts = ap (λ (n : ℕ). record { reads = n; writes = writes }) counts
 refused left rest contents old new writes Failed r counts = absurd r
+
+-- a canonical file spells its records and is their only one
+pub its-own : (file : List ℕ) (k : Key) (rs : List DataRecord) → IsCanonicalFile file k rs → Spells file k rs
+its-own file k [] is = absurd is
+its-own file k (r ∷ rs) is = is.0

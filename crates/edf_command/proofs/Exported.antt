@@ -19,18 +19,8 @@ use Rattle.edf_tal.specs.declared.place.Place.{Place}
 use Rattle.edf_tal.specs.declared.place.Place.TheVariants.{First, After, Any}
 use Rattle.edf_fragment.specs.Fragment.{DataRecord, IsDataRecord, AreDataRecords, behind, ordinary_bytes}
 use Rattle.edf_command.specs.File.{block_of, record_text}
+use Rattle.edf_command.specs.Sound.{IsSoundRecord, AreSound}
 use Rattle.edf_command.proofs.Records.{AreReadable, record-read}
-
-pub record IsExported (k : Key) (r : DataRecord) : Type 0 where
-  pub samples_len : length r.samples ≡ 2 * samples_in_all k.signals
-  pub start : r.start < window
-  pub limits : IsWithinLimits r.annotations
-  pub notes : AllByRecursion IsNote r.annotations
-
--- records that start from `low` on, each at least a duration behind the one before
-abbrev pub AreExported : Key → ℕ → List DataRecord → Type 0
-AreExported k low [] = Unit {0}
-AreExported k low (r ∷ rs) = IsExported k r × (low ≤ r.start) × AreExported k (r.start + duration_of k.duration) rs
 
 -- from where on records at a place start
 abbrev pub least_start : Place → ℕ
@@ -55,10 +45,10 @@ samples-len h place bytes r is =
     let len : length bytes ≡ 2 * samples_in_all (h.front ++ h.annotations ∷ h.back) = is.len in
     ap length is.samples_are ∙ parts-len bytes (samples_in_all h.front) (samples h.annotations) (samples_in_all h.back) (len ∙ ap (λ n. 2 * n) whole) ∙ ap (λ n. 2 * n) (sym key)
 
-pub are-exported : (h : Header) (place : Place) (bytes : List ℕ) (rs : List DataRecord) (last : Place) (rest : List ℕ)
-    → AreDataRecords (layout_of h) place bytes rs last rest → AreExported (layout_of h).key (least_start place) rs
-are-exported h place bytes [] last rest are = tt
-are-exported h place bytes (r ∷ rs) last rest (front, back, parts, is, more) = (
+pub are-sound : (h : Header) (place : Place) (bytes : List ℕ) (rs : List DataRecord) (last : Place) (rest : List ℕ)
+    → AreDataRecords (layout_of h) place bytes rs last rest → AreSound (layout_of h).key (least_start place) rs
+are-sound h place bytes [] last rest are = tt
+are-sound h place bytes (r ∷ rs) last rest (front, back, parts, is, more) = (
   record {
     samples_len = samples-len h place front r is;
     start = read-start _ _ _ _ _ is.read;
@@ -66,7 +56,7 @@ are-exported h place bytes (r ∷ rs) last rest (front, back, parts, is, more) =
     notes = read-notes _ _ _ _ _ is.read;
   },
   low-start _ _ _ _ _ is.read,
-  are-exported h (behind (layout_of h) r.start) back rs last rest more,
+  are-sound h (behind (layout_of h) r.start) back rs last rest more,
 )
 
 -- where a record that starts at `start` may stand in a file that starts at `base`
@@ -90,7 +80,7 @@ pub record IsExportLayout (l : Layout) (base size : ℕ) : Type 0 where
   pub block_bytes : l.block_bytes ≡ size
   pub record_bytes : l.record_bytes ≡ l.block_at + size
 
-readable : (l : Layout) (place : Place) (base size : ℕ) (r : DataRecord) → IsExportLayout l base size → IsExported l.key r
+readable : (l : Layout) (place : Place) (base size : ℕ) (r : DataRecord) → IsExportLayout l base size → IsSoundRecord l.key r
     → MayStand place base r.start → length (block_of base r) ≤ size → IsDataRecord l place (record_text base size r) r
 readable l place base size r is e stands fits =
     record-read l place base size r (e.samples_len ∙ sym is.block_at) is.block_bytes is.record_bytes fits
@@ -98,7 +88,7 @@ readable l place base size r is e stands fits =
     (again place base r.start (size - length (block_of base r)) r.annotations stands e.start is.in_window e.limits e.notes))
 
 readable-behind : (l : Layout) (before base size : ℕ) (rs : List DataRecord) → IsExportLayout l base size
-    → AreExported l.key (before + duration_of l.key.duration) rs → All (λ r. length (block_of base r) ≤ size) rs → AreReadable l (behind l before) base size rs
+    → AreSound l.key (before + duration_of l.key.duration) rs → All (λ r. length (block_of base r) ≤ size) rs → AreReadable l (behind l before) base size rs
 readable-behind l before base size [] is are fit = tt
 readable-behind l before base size (r ∷ rs) is (e, low, more) fit = (
   readable l (behind l before) base size r is e low (All-head (λ x. length (block_of base x) ≤ size) r rs fit),
@@ -106,7 +96,7 @@ readable-behind l before base size (r ∷ rs) is (e, low, more) fit = (
 )
 
 pub are-readable : (l : Layout) (base size low : ℕ) (r : DataRecord) (rs : List DataRecord) → IsExportLayout l base size
-    → AreExported l.key low (r ∷ rs) → (base ≤ r.start) × (r.start < base + 10 ^ 9) → All (λ x. length (block_of base x) ≤ size) (r ∷ rs)
+    → AreSound l.key low (r ∷ rs) → (base ≤ r.start) × (r.start < base + 10 ^ 9) → All (λ x. length (block_of base x) ≤ size) (r ∷ rs)
     → AreReadable l First base size (r ∷ rs)
 are-readable l base size low r rs is (e, lower, more) stands fit = (
   readable l First base size r is e stands (All-head (λ x. length (block_of base x) ≤ size) r rs fit),

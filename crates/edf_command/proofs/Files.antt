@@ -24,7 +24,8 @@ use Rattle.edf_tal.specs.declared.place.Place.TheVariants.{First}
 use Rattle.edf_fragment.specs.Fragment.{DataRecord, AreDataRecords, Spells}
 use Rattle.edf_command.specs.File.{second_of, block_of, record_text, Hold, IsLaidOut, IsCanonicalFile}
 use Rattle.edf_command.proofs.Records.{records-read}
-use Rattle.edf_command.proofs.Exported.{IsExported, AreExported, IsExportLayout, are-exported, are-readable}
+use Rattle.edf_command.specs.Sound.{IsSoundRecord, AreSound}
+use Rattle.edf_command.proofs.Exported.{IsExportLayout, are-sound, are-readable}
 
 -- what a header says is within the bounds of an export
 header-bounds : (bytes : List ℕ) (h : Header) (rest : List ℕ) → IsHeader bytes h rest → IsLayout (layout_of h)
@@ -36,7 +37,7 @@ second-of-low n = omega arith
 second-of-high : (n : ℕ) → n < second_of n + 10 ^ 9
 second-of-high n = omega arith
 
-all-bounded : (k : Key) (low base : ℕ) (rs : List DataRecord) → base < window → AreExported k low rs → All (λ r. length (block_of base r) ≤ 2 * 725_023) rs
+all-bounded : (k : Key) (low base : ℕ) (rs : List DataRecord) → base < window → AreSound k low rs → All (λ r. length (block_of base r) ≤ 2 * 725_023) rs
 all-bounded k low base [] in_window are = All-nil (λ r. length (block_of base r) ≤ 2 * 725_023)
 all-bounded k low base (r ∷ rs) in_window (e, lower, more) =
     All-cons (λ x. length (block_of base x) ≤ 2 * 725_023) r rs
@@ -62,7 +63,7 @@ canonical bytes file k r rs s laid =
     let base = second_of r.start in
     let bounded = header-bounds bytes s.header s.rest s.is_header in
     let is-key : IsKey k = subst IsKey (sym s.key) bounded.key in
-    let are : AreExported k 0 (r ∷ rs) = subst (λ (x : Key). AreExported x 0 (r ∷ rs)) (sym s.key) (are-exported s.header First s.rest (r ∷ rs) s.last [] s.are_records) in
+    let are : AreSound k 0 (r ∷ rs) = subst (λ (x : Key). AreSound x 0 (r ∷ rs)) (sym s.key) (are-sound s.header First s.rest (r ∷ rs) s.last [] s.are_records) in
     let in-window : r.start < window = are.0.start in
     let base-in : second_of r.start < window = omega (arith, second-of-low r.start) in
     let few : samples ≤ 725_023 = least 725_023 (all-bounded k 0 base (r ∷ rs) base-in are) in

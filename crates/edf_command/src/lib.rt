@@ -2,12 +2,14 @@
 //!
 //! - [`convert`]: one EDF+ file in, its canonical EDF+D file out.
 //! - [`ConvertFault`]: why a file is not converted.
+//! - [`laws`]: canonical files are read again, and records have one; functions that do nothing, each with a law for a contract.
 #![tactic(auto)]
 
 mod blocks;
 mod conversion;
 mod fault;
 mod file;
+pub mod laws;
 mod output;
 #[cfg(test)]
 mod tests;

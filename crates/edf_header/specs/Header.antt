@@ -6,7 +6,8 @@ use Rattle.edf_header.specs.Text.{IsPrintable, IsPatient, IsBehindStartdate, IsR
 use Rattle.edf_header.specs.Signal.{signals_of, IsLabelled, HasPhysical, HasDigital, HasSamples, IsAnnotationsSignal, samples, samples_in_all}
 use Rattle.edf_header.specs.Key.{Key}
 
--- what the fixed part says: the Startdate subfield's day or none, what follows it, the start in nanoseconds
+-- what the fixed part says: the patient field; the Startdate subfield's day, or none for X, and what follows it; the start in
+-- nanoseconds; how many data records; the duration field; how many signals
 pub record Fixed : Type 0 where
   pub patient : List ℕ
   pub startdate : Option ℤ

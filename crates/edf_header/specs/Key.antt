@@ -1,8 +1,8 @@
 -- To which recording a fragment belongs: the key, which fields have it, and its bytes.
-use Rattle.std.specs.Prelude.{◌≡◌, ℕ, ◌-◌, ◌*◌, ◌/◌, ◌≤◌, ◌==◌, Bool, List, ◌∷◌, ◌++◌, length, drop, slice_index, All, if◌then◌else◌}
+use Rattle.std.specs.Prelude.{◌≡◌, ℕ, ◌-◌, ◌*◌, ◌/◌, ◌≤◌, ◌==◌, Bool, List, ◌∷◌, ◌++◌, length, drop, slice_index, All, if◌then◌else◌, [], slice_index_or}
 use Rattle.std.specs.List.{flat_map}
 use Rattle.edf_header.specs.Number.{field, IsDuration}
-use Rattle.edf_header.specs.Text.{IsPrintable, IsPatient, IsBehindStartdate, spaces}
+use Rattle.edf_header.specs.Text.{IsPrintable, IsPatient, IsBehindStartdate, spaces, subfields}
 use Rattle.edf_header.specs.Signal.{rows, Passes, samples_in_all}
 use Rattle.edf_header.specs.declared.checks.Check.{Check}
 
@@ -51,3 +51,10 @@ pub record IsKey (k : Key) : Type 0 where
   pub signals_to : length k.signals ≤ 639
   pub signals : (check : Check) → All (Passes check) k.signals
   pub size : 2 * samples_in_all k.signals ≤ 4_194_304
+
+-- the code of the patient, and that of the investigation: the first subfield of their fields
+abbrev pub patient_code : Key → List ℕ
+patient_code k = slice_index_or (subfields k.patient) 0 []
+
+abbrev pub investigation_code : Key → List ℕ
+investigation_code k = slice_index_or (subfields k.after) 0 []

@@ -12,22 +12,24 @@ field bytes at len = take len (drop at bytes)
 abbrev pub AreSpaces : List ℕ → Type 0
 AreSpaces text = All (λ b. b ≡ 32) text
 
--- the digits at the front, and what follows them
+-- how many digits stand at the front
 abbrev pub digits_len : List ℕ → ℕ
 digits_len text = prefix_len is_ascii_digit text
 
+-- these digits
 abbrev pub digits : List ℕ → List ℕ
 digits text = take (digits_len text) text
 
+-- what follows them
 abbrev pub behind : List ℕ → List ℕ
 behind text = drop (digits_len text) text
 
 -- a whole number: one digit or more, leading zeros allowed
 abbrev pub IsWhole : List ℕ → Type 0
-IsWhole field = (0 < digits_len field) × AreSpaces (behind field)
+IsWhole text = (0 < digits_len text) × AreSpaces (behind text)
 
 abbrev pub whole_value : List ℕ → ℕ
-whole_value field = digits_value 10 (digits field)
+whole_value text = digits_value 10 (digits text)
 
 -- without the sign, where one stands at the front
 abbrev pub unsigned : List ℕ → List ℕ
@@ -38,10 +40,10 @@ signed negative n = if negative then neg_ℤ (pos n) else pos n
 
 -- a whole number behind a sign or none
 abbrev pub IsSigned : List ℕ → Type 0
-IsSigned field = IsWhole (unsigned field)
+IsSigned text = IsWhole (unsigned text)
 
 abbrev pub signed_value : List ℕ → ℤ
-signed_value field = signed (slice_index field 0 == 45) (whole_value (unsigned field))
+signed_value text = signed (slice_index text 0 == 45) (whole_value (unsigned text))
 
 -- the digits behind a dot, where one stands at the front, and what follows
 abbrev pub fraction : List ℕ → List ℕ
@@ -52,33 +54,33 @@ behind_fraction text = if slice_index text 0 == 46 then behind (drop 1 text) els
 
 -- a physical value: a sign or none, one digit or more, then maybe a dot and zero or more digits
 abbrev pub IsPhysical : List ℕ → Type 0
-IsPhysical field = (0 < digits_len (unsigned field)) × AreSpaces (behind_fraction (behind (unsigned field)))
+IsPhysical text = (0 < digits_len (unsigned text)) × AreSpaces (behind_fraction (behind (unsigned text)))
 
 -- how many digits stand behind its dot, and the number that all its digits write
 abbrev pub places : List ℕ → ℕ
-places field = length (fraction (behind (unsigned field)))
+places text = length (fraction (behind (unsigned text)))
 
 abbrev pub size : List ℕ → ℕ
-size field = digits_value 10 (digits (unsigned field)) * 10 ^ places field + digits_value 10 (fraction (behind (unsigned field)))
+size text = digits_value 10 (digits (unsigned text)) * 10 ^ places text + digits_value 10 (fraction (behind (unsigned text)))
 
 -- its value, so many decimal places further on
 abbrev pub scaled : List ℕ → ℕ → ℤ
-scaled field more = signed (slice_index field 0 == 45) (size field * 10 ^ more)
+scaled text more = signed (slice_index text 0 == 45) (size text * 10 ^ more)
 
 -- two physical values differ, as numbers: each is scaled by the places of the other
 abbrev pub Differ : List ℕ → List ℕ → Type 0
 Differ a b = scaled a (places b) ≢ scaled b (places a)
 
--- the text before the first space
+-- how many bytes stand before the first space
 abbrev pub front_len : List ℕ → ℕ
-front_len field = prefix_len (λ b. not (b == 32)) field
+front_len text = prefix_len (λ b. not (b == 32)) text
 
 -- the duration of a data record: a decimal above 0, of this many nanoseconds
-pub record IsDuration (field : List ℕ) (nanos : ℕ) : Type 0 where
-  pub seconds : IsSeconds (take (front_len field) field) nanos
-  pub spaces : AreSpaces (drop (front_len field) field)
+pub record IsDuration (text : List ℕ) (nanos : ℕ) : Type 0 where
+  pub seconds : IsSeconds (take (front_len text) text) nanos
+  pub spaces : AreSpaces (drop (front_len text) text)
   pub some : 0 < nanos
 
 -- the nanoseconds that the digits of a duration write; a law says that no duration has another value
 abbrev pub duration_of : List ℕ → ℕ
-duration_of field = digits_value 10 (digits field) * 10 ^ 9 + decimal_places (10 ^ 8) (fraction (behind field))
+duration_of text = digits_value 10 (digits text) * 10 ^ 9 + decimal_places (10 ^ 8) (fraction (behind text))

@@ -2,7 +2,7 @@ ghost use Rattle.std.specs.Prelude.{◌≡◌, ◌≤◌, ◌<◌, ◌+◌, ◌*
 ghost use Rattle.edf_header.specs.Number.{duration_of};
 ghost use Rattle.edf_header.specs.Text.{IsBehindStartdate, subfields};
 ghost use Rattle.edf_header.specs.Signal.{rows_of, ordinary, samples_in_all, HasSamples, Passes};
-ghost use Rattle.edf_header.specs.Key.{Key, IsKey, dated_bytes, key_bytes, key_at};
+ghost use Rattle.edf_header.specs.Key.{Key, IsKey, dated_bytes, key_bytes, key_at, patient_code, investigation_code};
 ghost use Rattle.edf_header.specs.Identity.{HasLength, HasMark, signals, IsCleanKey, IsFirstKeyFault};
 ghost use Rattle.edf_header.specs.Shape.{key_from, place_of_check};
 
@@ -193,7 +193,7 @@ impl Identity {
 
     /// The patient code: the first subfield of the patient identification.
     pub fn patient_code(&self) -> &[u8]
-        ensures { (more : List (List ℕ)) × (subfields self.now.patient ≡ result.now ∷ more) }
+        ensures { result.now ≡ patient_code self.now }
     {
         match next_subfield(&self.bytes[0..80]) {
             Some((code, _)) => code,
@@ -203,7 +203,7 @@ impl Identity {
 
     /// The investigation code: the first subfield behind the Startdate subfield of the recording identification.
     pub fn investigation_code(&self) -> &[u8]
-        ensures { (more : List (List ℕ)) × (subfields self.now.after ≡ result.now ∷ more) }
+        ensures { result.now ≡ investigation_code self.now }
     {
         match next_subfield(after(&self.bytes)) {
             Some((code, _)) => code,

@@ -3,7 +3,6 @@ use edf_time::Instant;
 use std::alloc::{AllocError, Global};
 use std::test::Fail;
 
-
 /// 2002-03-02 23:59:50
 const EVENING: u64 = 541_727_990_000_000_000;
 

@@ -49,6 +49,6 @@ abbrev pub fraction_text : ℕ → List ℕ
 fraction_text zero = []
 fraction_text (suc p) = 46 ∷ places_text 9 (suc p)
 
--- the shortest decimal; a law says that it is the shortest, and the only one
+-- the shortest decimal; a law says of each number below 10 ^ 73 that this is the shortest, and the only one
 unfoldable pub short : ℕ → List ℕ
 short nanos = decimal (nanos / 10 ^ 9) ++ fraction_text (nanos % 10 ^ 9)

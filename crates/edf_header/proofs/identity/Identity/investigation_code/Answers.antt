@@ -1,4 +1,4 @@
-use Rattle.std.proofs.Common.{◌∷◌}
+use Rattle.std.proofs.Common.{◌∷◌, [], ℕ, List, ap, sym, slice_index_or}
 use Rattle.edf_header.specs.Text.{subfields}
 use Rattle.edf_header.proofs.Held.{after-read}
 use Rattle.edf_header.proofs.identity.Identity.investigation_code.Goals as goal
@@ -6,4 +6,4 @@ use Rattle.edf_header.proofs.identity.Identity.investigation_code.Goals as goal
 pub returns : goal.returns
 returns c =
     let more = subfields c.in-Some.field-0-1.now in
-    (more, after-read c.deref.result.now c.self.inside.bytes.items c.after.result.now c.args.self.now (c.in-Some.code.now ∷ more) c.deref.ensures.value c.self.view_is c.after.ensures c.in-Some.ensures)
+    sym (ap (λ (l : List (List ℕ)). slice_index_or l 0 []) (after-read c.deref.result.now c.self.inside.bytes.items c.after.result.now c.args.self.now (c.in-Some.code.now ∷ more) c.deref.ensures.value c.self.view_is c.after.ensures c.in-Some.ensures))
