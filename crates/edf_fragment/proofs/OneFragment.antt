@@ -15,7 +15,8 @@ use Rattle.edf_fragment.specs.declared.fault.FragmentFault.TheVariants.{Header a
 use Rattle.edf_header.specs.declared.fault.HeaderFault.{HeaderFault}
 use Rattle.edf_fragment.proofs.HeaderParts.{field_front}
 use Rattle.edf_fragment.proofs.Runs.{layout-fits}
-use Rattle.edf_fragment.proofs.OneHeader.{same_front, one-header, header-no-fault, one-header-fault}
+use Rattle.edf_header.proofs.SpelledOnce.{one-header, header-no-fault, one-header-fault}
+use Rattle.edf_fragment.proofs.Fronts.{same_front}
 
 -- ---- one data record
 
@@ -125,10 +126,10 @@ same-end : (b r s : List ℕ) (h g : Header) (rs ss : List DataRecord) (p q : Pl
     → AreDataRecords (layout_of h) First r rs p x → AreDataRecords (layout_of g) First s ss q y
     → IsStuck (layout_of h) rs p x → IsStuck (layout_of g) ss q y → SameEnd h g rs ss p q x y
 same-end b r s h g rs ss p q x y is is2 are are2 stuck stuck2 =
-    let one = one-header b r s h g is is2 in
-    let there = subst (λ (z : List ℕ). AreDataRecords (layout_of g) First z rs p x) one.rest (subst (λ (z : Header). AreDataRecords (layout_of z) First r rs p x) one.header are) in
-    let stuck1 = subst (λ (z : Header). IsStuck (layout_of z) rs p x) one.header stuck in
-    record { header = one.header; run = one-run (layout_of g) First p q s x y rs ss there are2 stuck1 stuck2 }
+    let one = one-header b h g r s is is2 in
+    let there = subst (λ (z : List ℕ). AreDataRecords (layout_of g) First z rs p x) one.1 (subst (λ (z : Header). AreDataRecords (layout_of z) First r rs p x) one.0 are) in
+    let stuck1 = subst (λ (z : Header). IsStuck (layout_of z) rs p x) one.0 stuck in
+    record { header = one.0; run = one-run (layout_of g) First p q s x y rs ss there are2 stuck1 stuck2 }
 
 -- the numbers that two readings share
 record SameNumbers (h g : Header) (rs ss : List DataRecord) (x y : List ℕ) : Type 0 where
@@ -201,23 +202,23 @@ one-refused b n m e f p q =
 
 pub one-first-fault : (b : List ℕ) (e f : FragmentFault) → IsFirstFault b e → IsFirstFault b f → e ≡ f
 one-first-fault b (BadHeader e) (BadHeader f) p q = ap (λ (z : HeaderFault). BadHeader z) (one-header-fault b e f p q)
-one-first-fault b (BadHeader e) (CutRecord m) p q = absurd (header-no-fault b q.up_to.rest q.up_to.header e q.up_to.is_header p)
-one-first-fault b (BadHeader e) (Tal m f) p q = absurd (header-no-fault b q.up_to.rest q.up_to.header e q.up_to.is_header p)
-one-first-fault b (BadHeader e) Trailing p q = absurd (header-no-fault b q.up_to.rest q.up_to.header e q.up_to.is_header p)
+one-first-fault b (BadHeader e) (CutRecord m) p q = absurd (header-no-fault b q.up_to.header q.up_to.rest e q.up_to.is_header p)
+one-first-fault b (BadHeader e) (Tal m f) p q = absurd (header-no-fault b q.up_to.header q.up_to.rest e q.up_to.is_header p)
+one-first-fault b (BadHeader e) Trailing p q = absurd (header-no-fault b q.up_to.header q.up_to.rest e q.up_to.is_header p)
 one-first-fault b (BadHeader e) f p q = absurd q
-one-first-fault b (CutRecord n) (BadHeader f) p q = absurd (header-no-fault b p.up_to.rest p.up_to.header f p.up_to.is_header q)
+one-first-fault b (CutRecord n) (BadHeader f) p q = absurd (header-no-fault b p.up_to.header p.up_to.rest f p.up_to.is_header q)
 one-first-fault b (CutRecord n) (CutRecord m) p q = ap (λ (z : ℕ). CutRecord z) (one-cut b n m p q)
 one-first-fault b (CutRecord n) (Tal m f) p q = absurd (cut-block b n m f p q)
 one-first-fault b (CutRecord n) Trailing p q = absurd (cut-trailing b n p q)
 one-first-fault b (CutRecord n) f p q = absurd q
-one-first-fault b (Tal n e) (BadHeader f) p q = absurd (header-no-fault b p.up_to.rest p.up_to.header f p.up_to.is_header q)
+one-first-fault b (Tal n e) (BadHeader f) p q = absurd (header-no-fault b p.up_to.header p.up_to.rest f p.up_to.is_header q)
 one-first-fault b (Tal n e) (CutRecord m) p q = absurd (cut-block b m n e q p)
 one-first-fault b (Tal n e) (Tal m f) p q =
     let s = one-refused b n m e f p q in
     ap (λ (z : ℕ). Tal z e) s.nth ∙ ap (λ (z : TalFault). Tal m z) s.fault
 one-first-fault b (Tal n e) Trailing p q = absurd (block-trailing b n e p q)
 one-first-fault b (Tal n e) f p q = absurd q
-one-first-fault b Trailing (BadHeader f) p q = absurd (header-no-fault b p.up_to.rest p.up_to.header f p.up_to.is_header q)
+one-first-fault b Trailing (BadHeader f) p q = absurd (header-no-fault b p.up_to.header p.up_to.rest f p.up_to.is_header q)
 one-first-fault b Trailing (CutRecord m) p q = absurd (cut-trailing b m q p)
 one-first-fault b Trailing (Tal m f) p q = absurd (block-trailing b m f q p)
 one-first-fault b Trailing Trailing p q = refl
@@ -225,7 +226,7 @@ one-first-fault b Trailing f p q = absurd q
 one-first-fault b e f p q = absurd p
 
 pub spelled-no-fault : (b : List ℕ) (k : Key) (rs : List DataRecord) (e : FragmentFault) → Spells b k rs → ¬ IsFirstFault b e
-spelled-no-fault b k rs (BadHeader e) s f = header-no-fault b s.rest s.header e s.is_header f
+spelled-no-fault b k rs (BadHeader e) s f = header-no-fault b s.header s.rest e s.is_header f
 spelled-no-fault b k rs (CutRecord n) s f =
     let e = both-numbers b (spelled b k rs s) f.up_to (all-stuck (layout_of s.header) rs s.last [] s.count) (cut-stuck b n f) in
     omega (arith, e.given, e.count, s.count, f.is_nth, f.wanted)

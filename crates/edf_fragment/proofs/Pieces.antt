@@ -1,5 +1,5 @@
 -- Data records that are read in pieces.
-use Rattle.std.proofs.Common.{◌≡◌, ℕ, ◌+◌, ◌-◌, ◌≤◌, ◌<◌, List, [], ◌∷◌, ◌++◌, length, take, drop, arith, refl, sym, ap, ◌∙◌, subst, length-append, append_assoc, take_at, drop_at, take-append-drop, length-take-le, Option, Some, None, IfSome, IfOk, Result, Ok, Err, MatchResult}
+use Rattle.std.proofs.Common.{◌≡◌, ℕ, ◌+◌, ◌≤◌, ◌<◌, List, [], ◌∷◌, ◌++◌, length, take, drop, arith, refl, sym, ap, ◌∙◌, subst, length-append, append_assoc, take_at, drop_at, take-append-drop, length-take-le, Option, Result, Ok, Err, MatchResult}
 use Rattle.std.specs.Io.KnownBytes.{Consumes}
 use Rattle.std.proofs.KnownBytes.{Consumes-trans}
 use Rattle.edf_header.specs.Header.{Layout}
@@ -7,7 +7,7 @@ use Rattle.edf_tal.specs.Block.{IsRead, IsBlockFault, IsRefusal}
 use Rattle.edf_tal.specs.declared.place.TalFault.{TalFault}
 use Rattle.edf_tal.specs.declared.place.TalFault.TheVariants.{Tal as NotTals, Text, NotTimed, FirstOnset, Window, Order, TooMany, Memory as TalMemory}
 use Rattle.edf_fragment.specs.Fragment.{DataRecord, IsDataRecord, block, ordinary_bytes}
-use Rattle.edf_fragment.specs.Reading.{GivesRecord, RefusesBlock, IsNextFault, IsNext}
+use Rattle.edf_fragment.specs.Reading.{GivesRecord, RefusesBlock, IsNextFault}
 use Rattle.edf_fragment.specs.declared.progress.Progress.{Progress}
 use Rattle.edf_fragment.specs.Steps.{IsCutShort, IsPartFault}
 use Rattle.edf_fragment.specs.declared.fault.FragmentFault.{FragmentFault}
