@@ -1,23 +1,22 @@
 -- From a fragment that was read and a file that was written, to what a conversion does.
-use Rattle.std.proofs.Common.{◌≡◌, ℕ, zero, suc, ◌+◌, ◌*◌, ◌≤◌, ◌<◌, List, [], ◌∷◌, ◌++◌, length, refl, sym, ap, ◌∙◌, subst, arith, All}
-use Rattle.std.specs.Prelude.{Option, None, Some, IfSome}
+use Rattle.std.proofs.Common.{◌≡◌, ℕ, ◌+◌, ◌*◌, List, [], ◌∷◌, length, refl, sym, ap, subst, All}
+use Rattle.std.specs.Prelude.{Option, None, Some}
 use Rattle.std.specs.Io.KnownBytes.{Keeps}
 use Rattle.std.proofs.lemmas.List.Elements.{All-cons, All-nil}
 use Rattle.edf_header.specs.Number.{duration_of}
 use Rattle.edf_header.specs.Key.{Key}
 use Rattle.edf_header.specs.Signal.{samples_in_all}
-use Rattle.edf_header.specs.Header.{Layout, layout_of}
+use Rattle.edf_header.specs.Header.{Layout}
 use Rattle.edf_tal.specs.declared.place.Place.TheVariants.{First}
 use Rattle.edf_fragment.specs.Fragment.{DataRecord, Spells}
-use Rattle.edf_fragment.specs.Fault.{IsFirstFault}
 use Rattle.edf_fragment.specs.Reading.{ReadsFragment, IsFragmentFault, ReadsFault, CountsFault}
 use Rattle.edf_fragment.specs.declared.fault.FragmentFault.{FragmentFault}
 use Rattle.edf_fragment.specs.declared.fault.FragmentFault.TheVariants.{Header as BadHeader, CutRecord, Tal, Trailing, Read, Memory, Failed}
 use Rattle.edf_fragment.proofs.OneFragment.{spelled-no-fault}
 use Rattle.edf_command.specs.File.{IsCanonicalFile, IsLaidOut}
 use Rattle.edf_command.specs.Output.{IsFileWritten}
-use Rattle.edf_command.specs.Convert.{IsConverted, IsNotConverted, IsFormFault, Counts, refusal_of}
-use Rattle.edf_command.specs.Sound.{IsSoundRecord, AreSound}
+use Rattle.edf_command.specs.Convert.{IsConverted, IsNotConverted, IsFormFault, refusal_of}
+use Rattle.edf_command.specs.Sound.{AreSound}
 use Rattle.edf_command.proofs.Exported.{are-sound}
 use Rattle.edf_command.proofs.Files.{canonical, one-file}
 

@@ -1,5 +1,5 @@
 -- What the records of a fragment have, and that it suffices for their export to be read again.
-use Rattle.std.proofs.Common.{◌≡◌, ℕ, zero, suc, ◌+◌, ◌-◌, ◌*◌, ◌/◌, ◌^◌, ◌≤◌, ◌<◌, List, [], ◌∷◌, ◌++◌, length, take, drop, refl, sym, ap, ◌∙◌, subst, arith, length-append, replicate, All, sum_by}
+use Rattle.std.proofs.Common.{◌≡◌, ℕ, ◌+◌, ◌-◌, ◌*◌, ◌^◌, ◌≤◌, ◌<◌, List, [], ◌∷◌, ◌++◌, length, take, drop, sym, ap, ◌∙◌, subst, arith, length-append, replicate, All}
 use Rattle.std.proofs.lemmas.List.{length-take, length-drop}
 use Rattle.std.proofs.lemmas.List.Elements.{All-head, All-tail}
 use Rattle.std.proofs.lemmas.List.Sums.{sum_by-append, sum_by-cons}
@@ -8,7 +8,6 @@ use Rattle.edf_tal.proofs.Again.{read-first, read-after, read-any}
 use Rattle.edf_tal.proofs.ReadNotes.{read-start, read-notes}
 use Rattle.edf_time.specs.Civil.{window}
 use Rattle.edf_header.specs.Number.{duration_of}
-use Rattle.edf_header.specs.Key.{Key}
 use Rattle.edf_header.specs.Signal.{samples, samples_in_all}
 use Rattle.edf_header.specs.Header.{Header, Layout, layout_of}
 use Rattle.edf_tal.specs.Tal.{Annotation}
@@ -17,7 +16,7 @@ use Rattle.edf_tal.specs.Block.{IsRead, IsWithinLimits}
 use Rattle.edf_tal.specs.Canonical.{block_text}
 use Rattle.edf_tal.specs.declared.place.Place.{Place}
 use Rattle.edf_tal.specs.declared.place.Place.TheVariants.{First, After, Any}
-use Rattle.edf_fragment.specs.Fragment.{DataRecord, IsDataRecord, AreDataRecords, behind, ordinary_bytes}
+use Rattle.edf_fragment.specs.Fragment.{DataRecord, IsDataRecord, AreDataRecords, behind}
 use Rattle.edf_command.specs.File.{block_of, record_text}
 use Rattle.edf_command.specs.Sound.{IsSoundRecord, AreSound}
 use Rattle.edf_command.proofs.Records.{AreReadable, record-read}

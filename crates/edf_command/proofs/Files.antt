@@ -1,8 +1,7 @@
 -- What is written of a fragment's records is their canonical file, and no other bytes are.
-use Rattle.std.proofs.Common.{◌≡◌, ℕ, zero, suc, ◌+◌, ◌-◌, ◌*◌, ◌/◌, ◌%◌, ◌^◌, ◌≤◌, ◌<◌, List, [], ◌∷◌, ◌++◌, length, refl, sym, ap, ◌∙◌, subst, arith, All}
+use Rattle.std.proofs.Common.{◌≡◌, ℕ, ◌+◌, ◌*◌, ◌^◌, ◌≤◌, ◌<◌, List, [], ◌∷◌, ◌++◌, length, refl, sym, ap, ◌∙◌, subst, arith, All}
 use Rattle.std.specs.List.{flat_map}
-use Rattle.std.proofs.lemmas.List.Elements.{All-head, All-weaker, All-cons, All-nil}
-use Rattle.std.specs.List.{AllByRecursion}
+use Rattle.std.proofs.lemmas.List.Elements.{All-head, All-cons, All-nil}
 use Rattle.edf_header.specs.Spelled.{spelled_layout}
 use Rattle.edf_header.specs.Rows.{IsLayout}
 use Rattle.edf_header.proofs.Headers.{header-layout}
@@ -13,18 +12,13 @@ use Rattle.edf_command.proofs.BlockLength.{block-length}
 use Rattle.edf_time.specs.Civil.{window}
 use Rattle.edf_header.specs.Number.{duration_of}
 use Rattle.edf_header.specs.Key.{Key, IsKey}
-use Rattle.edf_header.specs.Signal.{samples_in_all}
 use Rattle.edf_header.specs.Header.{Header, Layout, layout_of, IsHeader}
 use Rattle.edf_header.specs.Canonical.{IsExportHeader}
-use Rattle.edf_tal.specs.Tal.{Annotation}
-use Rattle.edf_tal.specs.Note.{IsNote}
-use Rattle.edf_tal.specs.Block.{IsWithinLimits}
-use Rattle.edf_tal.specs.Canonical.{block_text}
 use Rattle.edf_tal.specs.declared.place.Place.TheVariants.{First}
 use Rattle.edf_fragment.specs.Fragment.{DataRecord, AreDataRecords, Spells}
-use Rattle.edf_command.specs.File.{second_of, block_of, record_text, Hold, IsLaidOut, IsCanonicalFile}
+use Rattle.edf_command.specs.File.{second_of, block_of, record_text, IsLaidOut, IsCanonicalFile}
 use Rattle.edf_command.proofs.Records.{records-read}
-use Rattle.edf_command.specs.Sound.{IsSoundRecord, AreSound}
+use Rattle.edf_command.specs.Sound.{AreSound}
 use Rattle.edf_command.proofs.Exported.{IsExportLayout, are-sound, are-readable}
 
 -- what a header says is within the bounds of an export

@@ -1,8 +1,7 @@
 -- The greatest of the values so far, and one more.
-use Rattle.std.proofs.Common.{◌≡◌, ℕ, ◌+◌, ◌*◌, ◌/◌, ◌%◌, ◌≤◌, ◌<◌, List, length, take, get_or, subst, sym, arith, max, All}
+use Rattle.std.proofs.Common.{◌≡◌, ℕ, ◌+◌, ◌≤◌, ◌<◌, List, length, take, get_or, subst, sym, arith, max, All}
 use Rattle.std.proofs.lemmas.List.{get_or-take, length-take}
-use Rattle.std.proofs.lemmas.List.Elements.{All-more, All-weaker, All-get_or, All-from_get_or, All-same}
-use Rattle.std.proofs.lemmas.List.{take_all}
+use Rattle.std.proofs.lemmas.List.Elements.{All-more, All-weaker, All-get_or}
 
 pub holds-more : {X : Type 0} (f : X → ℕ) (xs : List X) (i m v : ℕ) (d : X) → i < length xs → All (λ x. f x ≤ m) (take i xs) → f (get_or xs i d) ≡ v
     → All (λ x. f x ≤ max m v) (take (i + 1) xs)

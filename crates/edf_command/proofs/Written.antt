@@ -1,5 +1,5 @@
 -- The file of some records, put out piece by piece.
-use Rattle.std.proofs.Common.{◌≡◌, ℕ, zero, suc, ◌+◌, ◌-◌, ◌*◌, ◌/◌, ◌^◌, ◌≤◌, ◌<◌, List, [], ◌∷◌, ◌++◌, length, get_or, refl, sym, ap, ◌∙◌, subst, arith, length-append, All, replicate}
+use Rattle.std.proofs.Common.{◌≡◌, ℕ, ◌+◌, ◌-◌, ◌*◌, ◌≤◌, ◌<◌, List, [], ◌∷◌, ◌++◌, length, get_or, refl, ap, ◌∙◌, subst, arith, length-append, All, replicate}
 use Rattle.std.specs.List.{flat_map}
 use Rattle.std.proofs.lemmas.List.Elements.{All-head, All-tail, All-cons, All-nil}
 use Rattle.edf_header.specs.Key.{Key}
@@ -7,7 +7,7 @@ use Rattle.edf_header.specs.Signal.{samples_in_all}
 use Rattle.edf_header.proofs.Strides.{length-parts}
 use Rattle.edf_fragment.specs.Fragment.{DataRecord}
 use Rattle.edf_header.specs.Canonical.{IsExportHeader}
-use Rattle.edf_command.specs.File.{second_of, block_of, record_text, Hold, IsLaidOut}
+use Rattle.edf_command.specs.File.{second_of, block_of, record_text, Hold}
 use Rattle.edf_command.specs.Output.{IsFileWritten}
 use Rattle.edf_command.proofs.Records.{length-filled}
 use Rattle.std.specs.Prelude.{Option, None, Some}

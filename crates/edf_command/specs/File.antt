@@ -1,5 +1,5 @@
 -- The canonical EDF+D file of a recording: the one file of its data records.
-use Rattle.std.specs.Prelude.{◌≡◌, ℕ, ◌+◌, ◌-◌, ◌*◌, ◌/◌, ◌^◌, ◌≤◌, List, [], ◌∷◌, ◌++◌, length, replicate, All}
+use Rattle.std.specs.Prelude.{◌≡◌, ℕ, ◌-◌, ◌*◌, ◌/◌, ◌^◌, ◌≤◌, List, [], ◌∷◌, ◌++◌, length, replicate, All}
 use Rattle.std.specs.List.{flat_map}
 use Rattle.edf_header.specs.Key.{Key}
 use Rattle.edf_header.specs.Canonical.{IsExportHeader}

@@ -1,5 +1,5 @@
 -- What putting bytes out through a buffer does: what the writer holds and then what is held back is one text, which grows.
-use Rattle.std.specs.Prelude.{◌≡◌, ℕ, ⊤, List, length, [], ◌∷◌, ◌++◌, Option, Result, MatchResult}
+use Rattle.std.specs.Prelude.{◌≡◌, ℕ, List, length, [], ◌∷◌, Option, Result, MatchResult}
 use Rattle.std.specs.Io.KnownBytes.{Appends, append_known}
 use Rattle.edf_header.specs.Key.{Key}
 use Rattle.edf_fragment.specs.Failures.{one_more}

@@ -1,10 +1,9 @@
-use Rattle.std.proofs.Common.{◌≡◌, ◌*◌, ℕ, List, length, ap, sym, subst, All}
+use Rattle.std.proofs.Common.{◌≡◌, ◌*◌, List, length, sym, subst, All}
 use Rattle.edf_header.specs.Key.{Key}
 use Rattle.edf_header.specs.Signal.{samples_in_all}
 use Rattle.edf_fragment.specs.Fragment.{DataRecord}
-use Rattle.edf_command.specs.Convert.{IsNotConverted, Counts}
+use Rattle.edf_command.specs.Convert.{IsNotConverted}
 use Rattle.edf_command.specs.Output.{IsFileWritten}
-use Rattle.edf_command.specs.declared.fault.ConvertFault.{ConvertFault}
 use Rattle.edf_command.proofs.Conversions.{spelled-sizes, converted, refused}
 use Rattle.edf_command.proofs.conversion.convert.Goals as goal
 

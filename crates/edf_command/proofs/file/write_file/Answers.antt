@@ -1,11 +1,9 @@
-use Rattle.std.proofs.Common.{◌≡◌, ◌∙◌, ◌≤◌, ◌<◌, ◌+◌, ◌*◌, ℕ, List, ◌∷◌, ◌++◌, length, get_or, ap, subst, sym, arith, All}
+use Rattle.std.proofs.Common.{◌≡◌, ◌∙◌, ◌+◌, ◌*◌, ℕ, List, ◌∷◌, ◌++◌, length, ap, subst, sym, arith}
 use Rattle.std.specs.List.{flat_map}
 use Rattle.std.specs.Io.KnownBytes.{Appends, append_known}
 use Rattle.std.proofs.KnownBytes.{Appends-trans}
-use Rattle.edf_header.specs.Signal.{samples_in_all}
-use Rattle.edf_header.specs.Canonical.{IsExportHeader}
 use Rattle.edf_fragment.specs.Fragment.{DataRecord}
-use Rattle.edf_command.specs.File.{block_of, record_text, second_of, Hold, IsLaidOut}
+use Rattle.edf_command.specs.File.{record_text, second_of}
 use Rattle.edf_command.specs.Output.{IsFileWritten}
 use Rattle.edf_command.proofs.Written.{first-of, put-and-flushed, written}
 use Rattle.edf_command.proofs.file.write_file.Goals as goal

@@ -1,4 +1,4 @@
-use Rattle.std.proofs.Common.{rules, arith, ◌≡◌, ◌∙◌, ap, subst, ℕ, ◌-◌, ◌++◌, [], List, length, replicate, ◌+◌, ◌<◌, ◌≤◌, take}
+use Rattle.std.proofs.Common.{arith, ◌≡◌, ◌∙◌, ap, subst, ℕ, ◌-◌, ◌++◌, List, replicate, ◌+◌, ◌≤◌, take}
 use Rattle.std.proofs.KnownBytes.{Appends-trans}
 use Rattle.std.specs.Io.KnownBytes.{Appends}
 use Rattle.std.proofs.lemmas.List.{take-replicate, replicate-append-replicate}

@@ -1,4 +1,4 @@
-use Rattle.std.proofs.Common.{◌≡◌, ℕ, ◌-◌, ◌≤◌, replicate}
+use Rattle.std.proofs.Common.{◌≡◌, ◌-◌, ◌≤◌, replicate}
 use Rattle.std.specs.Io.KnownBytes.{Appends}
 use Rattle.edf_command.specs.Output.{text_of}
 use Rattle.edf_command.proofs.output.put_zeros.Given as goal
