@@ -1,14 +1,9 @@
 pub mod Strides
 pub mod Keys
 pub mod RowSteps
-pub mod Numbers
 pub mod Sorted
-pub mod Grammar
-pub mod Durations
 pub mod FixedLaws
 pub mod FixedRows
-pub mod Recordings
-pub mod Subfields
 pub mod Held
 pub mod Faults
 pub mod RowCuts

@@ -1,8 +1,8 @@
 -- To which recording a fragment belongs: the key, which fields have it, and its bytes.
 use Rattle.std.specs.Prelude.{◌≡◌, ℕ, ◌-◌, ◌*◌, ◌/◌, ◌≤◌, ◌==◌, Bool, List, ◌∷◌, ◌++◌, length, drop, slice_index, All, if◌then◌else◌, [], slice_index_or}
 use Rattle.std.specs.List.{flat_map}
-use Rattle.edf_header.specs.Number.{field, IsDuration}
-use Rattle.edf_header.specs.Text.{IsPrintable, IsPatient, IsBehindStartdate, spaces, subfields}
+use Rattle.edf_field.specs.Number.{field, IsDuration}
+use Rattle.edf_field.specs.Text.{IsPrintable, IsPatient, IsBehindStartdate, spaces, subfields}
 use Rattle.edf_header.specs.Signal.{rows, Passes, samples_in_all}
 use Rattle.edf_header.specs.declared.checks.Check.{Check}
 

@@ -2,7 +2,7 @@
 use Rattle.std.specs.Prelude.{◌≡◌, ℕ, ◌+◌, ◌*◌, ◌/◌, ◌≤◌, ◌<◌, zero, suc, not, List, [], ◌∷◌, length, take, drop, map, filter, sum_by, codes, pos, neg_ℤ, ◌<ℤ◌, ◌≤ℤ◌}
 use Rattle.std.specs.List.{flat_map, range_with_len, HoldsAt, AllWithin}
 use Rattle.std.specs.Str.{bytes_eq}
-use Rattle.edf_header.specs.Number.{field, IsWhole, whole_value, IsSigned, signed_value, IsPhysical, Differ}
+use Rattle.edf_field.specs.Number.{field, IsWhole, whole_value, IsSigned, signed_value, IsPhysical, Differ}
 use Rattle.edf_header.specs.declared.checks.Check.{Check}
 use Rattle.edf_header.specs.declared.checks.Check.TheVariants.{Label, Physical, Digital, Samples}
 
