@@ -14,8 +14,7 @@ use Rattle.edf_header.specs.Header.{AreSignals, FixedPart, HeaderRecord, IsFixed
 use Rattle.edf_header.specs.Shape.{key_from}
 use Rattle.edf_header.specs.Rows.{AreExtents, IsLayout, IsSound, annotations_at, others_at}
 use Rattle.edf_header.specs.declared.signals.Extents.{Extents}
-use Rattle.edf_header.specs.declared.checks.Check.{Check}
-use Rattle.edf_header.specs.declared.checks.Check.TheVariants.{Label, Physical, Digital, Samples}
+use Rattle.edf_header.specs.declared.checks.Check.TheVariants.{Physical, Digital}
 use Rattle.edf_header.proofs.RowSteps.{sized-signals}
 use Rattle.edf_header.proofs.RowFaults.{parts-are, ordinary-is}
 
@@ -66,12 +65,6 @@ signals-count b h s =
       length-append h.front h.back,
     )
 
-passes : (b : List ℕ) (h : HeaderRecord) → AreSignals b h → (check : Check) → All (Passes check) (h.front ++ h.back)
-passes b h s Label k d lt = (s.ordinary k d lt).label
-passes b h s Physical k d lt = λ not-labelled. (s.ordinary k d lt).physical
-passes b h s Digital k d lt = λ not-labelled. (s.ordinary k d lt).digital
-passes b h s Samples k d lt = without HasSamples h.front h.annotations h.back s.each_samples k d lt
-
 -- the key that a header names is a key
 pub header-key : (b : List ℕ) (h : HeaderRecord) → IsFixed h.fixed → AreSignals b h → IsKey (key_of h)
 header-key b h f s =
@@ -91,7 +84,8 @@ header-key b h f s =
       duration = f.is_duration;
       signals_from = omega (arith, f.signals_from);
       signals_to = omega (arith, f.signals_to);
-      signals = passes b h s;
+      signals = s.ordinary;
+      each_samples = without HasSamples h.front h.annotations h.back s.each_samples;
       size = s.ordinary_size;
     }
 
@@ -102,6 +96,7 @@ header-layout b h f s =
     let others = sum_by-append samples h.front h.back in
     record {
       key = header-key b h f s;
+      whole_second = f.whole_second;
       some = f.count_from;
       few = omega (arith, f.count_to);
       inside = omega (arith, all, one, others);

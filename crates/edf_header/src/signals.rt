@@ -120,7 +120,7 @@ fn check_rows(rows: &[u8]) -> Result<Extents, HeaderFault>
 /// signals in turn.
 ///
 /// # Errors
-/// The first of E14 to E20 that is true of the bytes; `Memory` where memory runs out, which may come before E16.
+/// The first of E14 to E20 that is true of the bytes; `Memory` where memory runs out and neither E14 nor E15 is true.
 pub fn read_signals(alloc: Global, fixed: Fixed, bytes: &[u8]) -> Result<Header, HeaderFault>
     requires { length bytes.now ≤ 256 * fixed.signal_count }
     ensures { MatchResult result

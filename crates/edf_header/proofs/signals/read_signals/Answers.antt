@@ -1,8 +1,8 @@
-use Rattle.std.proofs.Common.{arith, ◌≡◌, ◌*◌, ◌∙◌, sym, subst, refl, length, inr, List, ℕ}
+use Rattle.std.proofs.Common.{arith, ◌≡◌, ◌*◌, ◌∙◌, sym, subst, refl, length, inl, inr, List, ℕ}
 use Rattle.edf_header.specs.Key.{IsKey}
 use Rattle.edf_header.specs.Signal.{rows_of, signals_of}
 use Rattle.edf_header.specs.Rows.{AreExtents, IsLayout, IsSound}
-use Rattle.edf_header.proofs.HeaderFaults.{first-signals}
+use Rattle.edf_header.proofs.HeaderFaults.{first-signals, clean-bytes}
 use Rattle.edf_header.proofs.Headers.{header_of, header-key, header-layout, are-signals, rows-are, key-made, layout-made}
 use Rattle.edf_header.proofs.signals.read_signals.Goals as goal
 
@@ -59,3 +59,6 @@ returns c =
       refl,
       layout-made f (signals_of b f.signal_count) at c.in-Ok-from_parts.identity c.start.result c.count.result c.in-Ok-check_rows.extents sound (c.in-Ok-from_parts.ensures ∙ key) c.start.ensures c.count.ensures extents,
     )
+
+pub returns-in_default-from_parts : goal.returns-in_default-from_parts
+returns-in_default-from_parts c = inl (refl, clean-bytes c.args.bytes.now c.args.fixed.signal_count (omega arith) c.in_default.ensures)
