@@ -83,7 +83,7 @@ places-small unit (d ∷ ds) all =
     let b = places-small (unit / 10) ds all.1 in
     omega (arith, a, b)
 
-small : (t : List ℕ) (n : ℕ) → length t ≤ 8 → IsSeconds t n → n < 2 ^ 63
+small : (t : List ℕ) (n : ℕ) → length t ≤ 8 → IsSeconds t n → n ≤ 10 ^ 17
 small t n few s =
     let w : digits_value 10 s.whole < 10 ^ length s.whole = digits_value-lt 10 s.whole (whole-digits t s.whole s.fraction s.parts) in
     let len : length s.whole ≤ 8 = omega (arith, ap length (shape t s.whole s.fraction s.parts), length-append s.whole (point_text (point s.fraction))) in
@@ -91,6 +91,9 @@ small t n few s =
     let most : 10 ^ length s.whole ≤ 10 ^ 8 = pow-le-pow_right ten len in
     let f : places (10 ^ 8) s.fraction ≤ 10 * 10 ^ 8 = places-small (10 ^ 8) s.fraction (fraction-digits t s.whole s.fraction s.parts) in
     omega (arith, w, most, f, s.value)
+
+pub duration-bound : (field : List ℕ) (n : ℕ) → length field ≤ 8 → IsDuration field n → n ≤ 10 ^ 17
+duration-bound field n few d = small (take (front_len field) field) n (omega (arith, few, length-take (front_len field) field)) d.seconds
 
 none-read : (field : List ℕ) (e : DecimalFault) → length field ≤ 8 → IsDecimalFault (take (front_len field) field) e → (n : ℕ) → ¬ IsDuration field n
 none-read field Syntax few f n d = f d.seconds.whole d.seconds.fraction d.seconds.parts
@@ -100,7 +103,7 @@ none-read field TooFine few f n d =
     f.3 (subst IsFine (sym (fraction-of t d.seconds.whole d.seconds.fraction [] d.seconds.parts none) ∙ fraction-of t f.0 f.1 [] f.2 none) d.seconds.fine)
 none-read field TooLarge few f n d =
     let t = take (front_len field) field in
-    let b : f.0 < 2 ^ 63 = small t f.0 (omega (arith, length-take (front_len field) field)) f.1 in
+    let b : f.0 ≤ 10 ^ 17 = small t f.0 (omega (arith, length-take (front_len field) field)) f.1 in
     omega (arith, f.2)
 
 pub not-read : (field front : List ℕ) (at : ℕ) (e : DecimalFault) → length field ≤ 8 → at ≡ front_len field → front ≡ take at field → IsDecimalFault front e → (n : ℕ) → ¬ IsDuration field n

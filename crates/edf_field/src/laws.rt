@@ -1,5 +1,5 @@
 //! Laws of the texts of fields: each function has a law for a contract, and does nothing.
-ghost use Rattle.std.specs.Prelude.{◌≡◌, ℕ, Bool, List, [], ◌∷◌, Option};
+ghost use Rattle.std.specs.Prelude.{◌≡◌, ℕ, Bool, List, [], ◌∷◌, Option, ◌^◌, ◌≤◌, length};
 ghost use Rattle.std.specs.Option.{unwrap_or};
 ghost use Rattle.edf_field.specs.Number.{IsDuration, duration_of};
 ghost use Rattle.edf_field.specs.Grammar.{AreDigits, IsSpelledAs, spelled};
@@ -10,7 +10,8 @@ pub fn physical_read()
         → IsSpelledAs (spelled sign (d ∷ ds) point n) (d ∷ ds) (unwrap_or point []) }
 {}
 
-/// A duration field has one value, that of its digits.
+/// A duration field has one value, that of its digits, and one of eight bytes at most 100,000,000 seconds.
 pub fn duration_value()
-    ensures { (field : List ℕ) (nanos : ℕ) → IsDuration field nanos → nanos ≡ duration_of field }
+    ensures value { (field : List ℕ) (nanos : ℕ) → IsDuration field nanos → nanos ≡ duration_of field }
+    ensures bound { (field : List ℕ) (nanos : ℕ) → length field ≤ 8 → IsDuration field nanos → nanos ≤ 10 ^ 17 }
 {}

@@ -91,12 +91,6 @@ clean-11 b clean size Size lt bad = absurd (omega (arith, bad))
 clean-11 b clean size Memory lt bad = absurd (omega arith)
 clean-11 b clean size e lt bad = clean e (omega arith) bad
 
-passed : (b : List ℕ) → All (Passes CheckLabel) (signals_at b) → All (Passes CheckPhysical) (signals_at b) → All (Passes CheckDigital) (signals_at b) → All (Passes CheckSamples) (signals_at b) → (check : Check) → All (Passes check) (signals_at b)
-passed b l p d s CheckLabel = l
-passed b l p d s CheckPhysical = p
-passed b l p d s CheckDigital = d
-passed b l p d s CheckSamples = s
-
 pub is-key : (b : List ℕ) → IsKeyFront b → All (Passes CheckLabel) (signals_at b) → All (Passes CheckPhysical) (signals_at b) → All (Passes CheckDigital) (signals_at b) → All (Passes CheckSamples) (signals_at b)
     → 2 * samples_in_all (signals_at b) ≤ 4_194_304 → (key_bytes (key_at b) ≡ b) × IsKey (key_at b)
 is-key b f l p d s size =
@@ -111,7 +105,8 @@ is-key b f l p d s size =
         duration = f.duration;
         signals_from = omega (arith, f.len.1);
         signals_to = omega (arith, f.len.2);
-        signals = passed b l p d s;
+        signals = λ i x lt. record { label = l i x lt; physical = p i x lt (l i x lt); digital = d i x lt (l i x lt) };
+        each_samples = s;
         size = size;
       },
     )
@@ -128,6 +123,13 @@ front-of k i =
       duration = (i.duration.0, subst (λ (k : Key). IsDuration k.duration i.duration.0) (sym back) i.duration.1);
     }
 
+-- the signals of a key pass each check
+passed : (k : Key) → IsKey k → (check : Check) → All (Passes check) k.signals
+passed k i CheckLabel at d lt = (i.signals at d lt).label
+passed k i CheckPhysical at d lt = λ label. (i.signals at d lt).physical
+passed k i CheckDigital at d lt = λ label. (i.signals at d lt).digital
+passed k i CheckSamples at d lt = i.each_samples at d lt
+
 clean-by : (b : List ℕ) → IsKeyFront b → ((check : Check) → All (Passes check) (signals_at b)) → IsCleanKey b 10
 clean-by b f all (Label s) lt bad = not-bad (Passes CheckLabel) [] (signals_at b) bad.0 (all CheckLabel) bad.1
 clean-by b f all (Physical s) lt bad = not-bad (Passes CheckPhysical) [] (signals_at b) bad.0 (all CheckPhysical) bad.1
@@ -141,5 +143,5 @@ clean-by b f all e lt bad = clean-6 b f e (omega arith) bad
 pub key-clean : (k : Key) → IsKey k → IsCleanKey (key_bytes k) 11
 key-clean k i =
     let back = key-back k i.sized in
-    clean-11 (key_bytes k) (clean-by (key_bytes k) (front-of k i) (λ check. subst (λ (k : Key). All (Passes check) k.signals) (sym back) (i.signals check)))
+    clean-11 (key_bytes k) (clean-by (key_bytes k) (front-of k i) (λ check. subst (λ (k : Key). All (Passes check) k.signals) (sym back) (passed k i check)))
     (subst (λ (k : Key). 2 * samples_in_all k.signals ≤ 4_194_304) (sym back) i.size)

@@ -192,6 +192,7 @@ is-fixed b h f = record {
   after_printable = after-printable (field b 88 80) h.startdate h.after (All-field IsPrintable b 88 80 f.printable) f.recording.front;
   is_behind = f.recording.behind;
   in_window = (start-parts (field b 168 8) (field b 176 8) h.start f.start).in_window;
+  whole_second = omega (arith, f.start.4);
   count_from = f.count_some;
   count_to = rw f.count.value (whole-fits (field b 236 8) (omega (arith, length-field b 236 8 (omega (arith, f.len)))));
   duration_len = ap length f.duration ∙ length-field b 244 8 (omega (arith, f.len));

@@ -114,6 +114,10 @@ signals-fail b n e bad = bad
 pub clean-signals : (b : List ℕ) (n k : ℕ) → length b ≡ 256 * n → All IsPrintable b → IsClean (RowsFail (signals_of b n)) k → IsClean (SignalsFail b n) k
 clean-signals b n k len printable clean e lt bad = clean e lt (rows-fail b n len printable e bad)
 
+-- bytes of the length, all printable, have no fault below E16
+pub clean-bytes : (b : List ℕ) (n : ℕ) → length b ≡ 256 * n → All IsPrintable b → IsClean (SignalsFail b n) 16
+clean-bytes b n len printable = clean-signals b n 16 len printable (clean-16 (signals_of b n))
+
 pub first-signals : (b : List ℕ) (n : ℕ) (ss : List (List ℕ)) (e : HeaderFault) → ss ≡ signals_of b n → length b ≡ 256 * n → All IsPrintable b → IsFirst (RowsFail ss) e → IsFirst (SignalsFail b n) e
 first-signals b n ss e is len printable first =
     let f : IsFirst (RowsFail (signals_of b n)) e = subst (λ (l : List (List ℕ)). IsFirst (RowsFail l) e) is first in

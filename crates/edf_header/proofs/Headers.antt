@@ -14,10 +14,9 @@ use Rattle.edf_header.specs.Header.{AreSignals, FixedPart, HeaderRecord, IsFixed
 use Rattle.edf_header.specs.Shape.{key_from}
 use Rattle.edf_header.specs.Rows.{AreExtents, IsLayout, IsSound, annotations_at, others_at}
 use Rattle.edf_header.specs.declared.signals.Extents.{Extents}
-use Rattle.edf_header.specs.declared.checks.Check.{Check}
-use Rattle.edf_header.specs.declared.checks.Check.TheVariants.{Label, Physical, Digital, Samples}
+use Rattle.edf_header.specs.declared.checks.Check.TheVariants.{Physical, Digital}
 use Rattle.edf_header.proofs.RowSteps.{sized-signals}
-use Rattle.edf_header.proofs.RowFaults.{parts-are, ordinary-is}
+use Rattle.edf_header.proofs.RowFaults.{parts-are, ordinary-is, samples-parts}
 
 -- one of the members left out
 without : {X : Type 0} (P : X → Type 0) (front : List X) (x : X) (back : List X) → All P (front ++ x ∷ back) → All P (front ++ back)
@@ -66,12 +65,6 @@ signals-count b h s =
       length-append h.front h.back,
     )
 
-passes : (b : List ℕ) (h : HeaderRecord) → AreSignals b h → (check : Check) → All (Passes check) (h.front ++ h.back)
-passes b h s Label k d lt = (s.ordinary k d lt).label
-passes b h s Physical k d lt = λ not-labelled. (s.ordinary k d lt).physical
-passes b h s Digital k d lt = λ not-labelled. (s.ordinary k d lt).digital
-passes b h s Samples k d lt = without HasSamples h.front h.annotations h.back s.each_samples k d lt
-
 -- the key that a header names is a key
 pub header-key : (b : List ℕ) (h : HeaderRecord) → IsFixed h.fixed → AreSignals b h → IsKey (key_of h)
 header-key b h f s =
@@ -91,7 +84,8 @@ header-key b h f s =
       duration = f.is_duration;
       signals_from = omega (arith, f.signals_from);
       signals_to = omega (arith, f.signals_to);
-      signals = passes b h s;
+      signals = s.ordinary;
+      each_samples = without HasSamples h.front h.annotations h.back s.each_samples;
       size = s.ordinary_size;
     }
 
@@ -102,6 +96,7 @@ header-layout b h f s =
     let others = sum_by-append samples h.front h.back in
     record {
       key = header-key b h f s;
+      whole_second = f.whole_second;
       some = f.count_from;
       few = omega (arith, f.count_to);
       inside = omega (arith, all, one, others);
@@ -140,12 +135,14 @@ are-signals b f at len printable s =
 pub rows-are : (d items b : List ℕ) (n m : ℕ) → d ≡ items → rows_of items ≡ signals_of b n → n ≡ m → rows_of d ≡ signals_of b m
 rows-are d items b n m is rows e = ap rows_of is ∙ rows ∙ ap (signals_of b) e
 
--- the key of the parts that were read
-pub key-made : (f : FixedPart) (ss : List (List ℕ)) (at : ℕ) (p a du rows : List ℕ) (dated : Bool) → IsSound ss at → rows_of rows ≡ ss
-    → p ≡ f.patient → dated ≡ is_dated f.startdate → a ≡ f.after → du ≡ f.duration → key_from p dated a du (ordinary (rows_of rows)) ≡ key_of (header_of f ss at)
-key-made f ss at p a du rows dated s is patient dated-is after duration =
-    let signals : ordinary (rows_of rows) ≡ others_at ss at = ap ordinary is ∙ ordinary-is ss at s.split in
-    λ i. record { patient = patient i; dated = dated-is i; after = after i; duration = duration i; signals = signals i }
+-- the key that was read
+pub key-made : (f : FixedPart) (ss : List (List ℕ)) (at : ℕ) (rows : List ℕ) → IsSound ss at → rows_of rows ≡ ss → key_from f (ordinary (rows_of rows)) ≡ key_of (header_of f ss at)
+key-made f ss at rows s is = ap (key_from f) (ap ordinary is ∙ ordinary-is ss at s.split)
+
+-- the bytes of the ordinary samples are what the block leaves of a data record
+pub ordinary-left : (ss : List (List ℕ)) (at : ℕ) (p : Extents) → IsSound ss at → AreExtents ss at p → p.record_bytes ≡ 2 * samples_in_all (ordinary ss) + p.block_bytes
+ordinary-left ss at p s are =
+    omega (arith, are.record_bytes, are.block_bytes, samples-parts ss at s.split.within, ap samples_in_all (ordinary-is ss at s.split))
 
 pub layout-made : (f : FixedPart) (ss : List (List ℕ)) (at : ℕ) (k : Key) (start count : ℕ) (p : Extents) → IsSound ss at → k ≡ key_of (header_of f ss at) → start ≡ f.start → count ≡ f.count → AreExtents ss at p
     → record { key = k; start = start; count = count; block_at = p.block_at; block_bytes = p.block_bytes; record_bytes = p.record_bytes } ≡ layout_of (header_of f ss at)

@@ -13,7 +13,7 @@ use Rattle.edf_field.specs.Text.{spaces, subfields}
 use Rattle.std.specs.Prelude.{All, codes, slice_index, ◌==◌}
 use Rattle.std.specs.List.{flat_map}
 use Rattle.edf_header.specs.declared.checks.Check.TheVariants.{Label, Samples}
-use Rattle.edf_field.proofs.Durations.{duration-value}
+use Rattle.edf_field.proofs.Cited.{duration-value}
 use Rattle.edf_field.proofs.Grammar.{spaces-are}
 use Rattle.edf_header.proofs.Strides.{length-field, length-parts}
 use Rattle.edf_header.proofs.Keys.{key-back, field-at}
@@ -120,7 +120,7 @@ pub held-small : (b : List ℕ) → (key_bytes (key_at b) ≡ b) → IsKey (key_
 held-small b is key = sliced-small b (omega (arith, held-len b is key, key.signals_to))
 
 pub held-samples : (b : List ℕ) (k : Key) (n : ℕ) → key_at b ≡ k → IsKey (key_at b) → n ≡ samples_in_all (ordinary (rows_of (take (length b - 158) (drop 158 b)))) → 2 * n ≡ 2 * samples_in_all k.signals
-held-samples b k n is key e = ap (λ (m : ℕ). 2 * m) (e ∙ sliced-samples b (key.signals Label) ∙ ap (λ (k : Key). samples_in_all k.signals) is)
+held-samples b k n is key e = ap (λ (m : ℕ). 2 * m) (e ∙ sliced-samples b (λ i d lt. (key.signals i d lt).label) ∙ ap (λ (k : Key). samples_in_all k.signals) is)
 
 pub held-size : (b : List ℕ) (k : Key) → key_at b ≡ k → IsKey (key_at b) → 2 * samples_in_all k.signals ≤ 4_194_304
 held-size b k is key = subst (λ (k : Key). 2 * samples_in_all k.signals ≤ 4_194_304) is key.size

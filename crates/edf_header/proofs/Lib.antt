@@ -1,3 +1,10 @@
+pub mod Decided
+pub mod DecidedFields
+pub mod DecidedDates
+pub mod DecidedTexts
+pub mod DecidedSignals
+pub mod FirstFault
+pub mod HeaderOrFault
 pub mod Strides
 pub mod Keys
 pub mod RowSteps
@@ -22,3 +29,5 @@ pub mod ExportParts
 pub mod ExportWritten
 pub mod ExportOne
 pub mod KeyOnce
+pub mod KeyLaws
+pub mod Cited

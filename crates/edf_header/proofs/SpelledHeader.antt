@@ -8,11 +8,10 @@ use Rattle.std.proofs.lemmas.List.Sums.{sum_by_push}
 use Rattle.edf_time.specs.Civil.{IsDateText, IsTimeText, IsIdDate}
 use Rattle.edf_field.specs.Number.{field, IsNumber}
 use Rattle.edf_field.specs.Text.{IsPrintable, IsRecording, IsBehindStartdate, spaces}
-use Rattle.edf_header.specs.Signal.{columns, samples, samples_in_all, signals_of, HasSamples}
+use Rattle.edf_header.specs.Signal.{columns, samples, samples_in_all, signals_of, IsOrdinary, HasSamples}
 use Rattle.edf_header.specs.Key.{Key, IsSized, IsKey, key_bytes, dated_bytes}
-use Rattle.edf_header.specs.Header.{HeaderRecord, FixedPart, IsFixedHeader, AreSignals, IsSameDay, IsPlus, IsOrdinary, is_dated, layout_of}
+use Rattle.edf_header.specs.Header.{HeaderRecord, FixedPart, IsFixedHeader, AreSignals, IsSameDay, IsPlus, is_dated, layout_of}
 use Rattle.edf_header.specs.Spelled.{Texts, IsSpelledBy, IsSpelledHeader, IsReadAs, spelled_bytes, startdate_text, spelled_layout}
-use Rattle.edf_header.specs.declared.checks.Check.TheVariants as checks
 use Rattle.edf_header.proofs.Strides.{signals-back}
 use Rattle.edf_header.proofs.SpelledTexts.{date-printed, time-printed, id_date-printed, printable-by}
 use Rattle.edf_time.proofs.FieldTexts.{one-date_day}
@@ -222,11 +221,6 @@ is-fixed k days seconds count t row key s =
       signals_to = omega (arith, key.signals_to);
     }
 
-is-ordinary : (k : Key) → IsKey k → All IsOrdinary k.signals
-is-ordinary k key at d lt =
-    let label = key.signals checks.Label at d lt in
-    record { label = label; physical = key.signals checks.Physical at d lt label; digital = key.signals checks.Digital at d lt label }
-
 all-rows : (P : List ℕ → Type 0) (k : Key) (row : List ℕ) → All P k.signals → P row → All P (rows k row)
 all-rows P k row each last = All-push P k.signals row each last
 
@@ -241,8 +235,8 @@ are-signals k days seconds count t row key s =
       printable = all-columns IsPrintable (rows k row) (all-rows (All IsPrintable) k row (printable-key k key.printable).signals s.row_printed.printable);
       each = ap (signals_of (columns (rows k row))) (sym n) ∙ signals-back (rows k row) sized;
       annotations = s.annotations;
-      ordinary = subst (All IsOrdinary) (sym same) (is-ordinary k key);
-      each_samples = all-rows HasSamples k row (key.signals checks.Samples) s.row_samples;
+      ordinary = subst (All IsOrdinary) (sym same) key.signals;
+      each_samples = all-rows HasSamples k row key.each_samples s.row_samples;
       ordinary_size = subst (λ (l : List (List ℕ)). 2 * samples_in_all l ≤ 4_194_304) (sym same) key.size;
       block_size = s.block_size;
     }

@@ -41,7 +41,7 @@ one-header b h g r s i j =
 
 -- ---- a header has no fault
 
-number-at : (b : List ℕ) (at n : ℕ) → at + n ≤ 256 → field (take 256 b) at n ≡ field b at n
+pub number-at : (b : List ℕ) (at n : ℕ) → at + n ≤ 256 → field (take 256 b) at n ≡ field b at n
 number-at b at n fits =
     let whole : 256 ≡ at + (256 - at) = omega arith in
     let small : n ≤ 256 - at = omega arith in

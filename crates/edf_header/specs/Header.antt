@@ -1,9 +1,9 @@
 -- What a header says, and when bytes spell it.
-use Rattle.std.specs.Prelude.{◌≡◌, ℕ, ◌+◌, ◌*◌, ◌≤◌, ◌<◌, ◌⊎◌, Bool, true, false, List, ◌∷◌, ◌++◌, length, take, All, codes, ℤ, pos, Option, Some, None, if◌then◌else◌}
+use Rattle.std.specs.Prelude.{◌≡◌, ℕ, ◌+◌, ◌*◌, ◌%◌, ◌^◌, ◌≤◌, ◌<◌, ◌⊎◌, Bool, true, false, List, ◌∷◌, ◌++◌, length, take, All, codes, ℤ, pos, Option, Some, None, if◌then◌else◌}
 use Rattle.edf_time.specs.Civil.{IsCivil, IsDateText, window}
 use Rattle.edf_field.specs.Number.{field, IsNumber, IsDuration}
 use Rattle.edf_field.specs.Text.{IsPrintable, IsPatient, IsBehindStartdate, IsRecording, after_of}
-use Rattle.edf_header.specs.Signal.{signals_of, IsLabelled, HasPhysical, HasDigital, HasSamples, IsAnnotationsSignal, samples, samples_in_all}
+use Rattle.edf_header.specs.Signal.{signals_of, IsOrdinary, HasSamples, IsAnnotationsSignal, samples, samples_in_all}
 use Rattle.edf_header.specs.Key.{Key}
 
 -- what the fixed part says: the patient field; the Startdate subfield's day, or none for X, and what follows it; the start in
@@ -46,6 +46,7 @@ pub record IsFixed (f : FixedPart) : Type 0 where
   pub after_printable : All IsPrintable f.after
   pub is_behind : IsBehindStartdate f.after
   pub in_window : f.start < window
+  pub whole_second : f.start % 10 ^ 9 ≡ 0
   pub count_from : 1 ≤ f.count
   pub count_to : f.count < 100_000_000
   pub duration_len : length f.duration ≡ 8
@@ -88,11 +89,6 @@ pub record HeaderRecord : Type 0 where
   pub front : List (List ℕ)
   pub annotations : List ℕ
   pub back : List (List ℕ)
-
-pub record IsOrdinary (row : List ℕ) : Type 0 where
-  pub label : ¬ IsLabelled row
-  pub physical : HasPhysical row
-  pub digital : HasDigital row
 
 -- 256 bytes a signal spell the header's signals, each field in its column
 pub record AreSignals (bytes : List ℕ) (h : HeaderRecord) : Type 0 where

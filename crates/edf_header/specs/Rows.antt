@@ -1,5 +1,5 @@
 -- The rows of a header's signals: their faults, and where the annotations block stands.
-use Rattle.std.specs.Prelude.{◌≡◌, ℕ, ◌+◌, ◌*◌, ◌≤◌, ◌<◌, List, [], ◌++◌, length, take, drop, All}
+use Rattle.std.specs.Prelude.{◌≡◌, ℕ, ◌+◌, ◌*◌, ◌%◌, ◌^◌, ◌≤◌, ◌<◌, List, [], ◌++◌, length, take, drop, All}
 use Rattle.std.specs.List.{slice_index_or}
 use Rattle.edf_header.specs.Signal.{IsLabelled, IsAnnotationsSignal, Passes, samples, samples_in_all}
 use Rattle.edf_header.specs.Key.{IsKey}
@@ -65,6 +65,7 @@ pub record AreExtents (ss : List (List ℕ)) (at : ℕ) (extents : Extents) : Ty
 -- what each header's layout keeps: the block lies in the record, and the rest are the ordinary samples
 pub record IsLayout (l : Layout) : Type 0 where
   pub key : IsKey l.key
+  pub whole_second : l.start % 10 ^ 9 ≡ 0
   pub some : 1 ≤ l.count
   pub few : l.count ≤ 99_999_999
   pub inside : l.block_at + l.block_bytes ≤ l.record_bytes

@@ -83,6 +83,12 @@ pub record IsAnnotationsSignal (row : List ℕ) : Type 0 where
   pub maximum : IsSigned (field row 128 8)
   pub maximum_is : signed_value (field row 128 8) ≡ pos 32_767
 
+-- an ordinary signal
+pub record IsOrdinary (row : List ℕ) : Type 0 where
+  pub label : ¬ IsLabelled row
+  pub physical : HasPhysical row
+  pub digital : HasDigital row
+
 -- what each signal is checked for: that it is ordinary; and where it is, its physical and its digital values; and its samples
 abbrev pub Passes : Check → List ℕ → Type 0
 Passes Label row = ¬ IsLabelled row

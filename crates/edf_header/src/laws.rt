@@ -1,4 +1,5 @@
-ghost use Rattle.std.specs.Prelude.{◌≡◌, ℕ, List, All, length};
+ghost use Rattle.std.specs.Prelude.{◌≡◌, ◌<◌, ◌≤◌, ◌^◌, ℕ, List, All, length};
+ghost use Rattle.edf_field.specs.Number.{duration_of};
 ghost use Rattle.edf_header.specs.Signal.{columns, signals_of};
 ghost use Rattle.edf_header.specs.Key.{Key, IsKey, IsSized, key_bytes, key_at};
 ghost use Rattle.edf_header.specs.Header.{HeaderRecord, AreSignals, IsHeader, key_of, layout_of};
@@ -21,6 +22,17 @@ pub fn key_back()
 /// A law: bytes that have the length and the mark of an identity's are those of the key at them.
 pub fn bytes_back()
     ensures { (bytes : List ℕ) → IsShaped bytes → key_bytes (key_at bytes) ≡ bytes }
+{}
+
+/// A law: keys that have the same bytes are the same.
+pub fn one_key()
+    ensures { (k other : Key) → IsKey k → IsKey other → key_bytes k ≡ key_bytes other → k ≡ other }
+{}
+
+/// A law: a key's data records last more than 0 and at most 100,000,000 seconds.
+pub fn key_duration()
+    ensures some { (k : Key) → IsKey k → 0 < duration_of k.duration }
+    ensures bound { (k : Key) → IsKey k → duration_of k.duration ≤ 10 ^ 17 }
 {}
 
 /// A law: the bytes of a key have none of the faults of an identity.

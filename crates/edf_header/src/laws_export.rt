@@ -1,4 +1,4 @@
-ghost use Rattle.std.specs.Prelude.{◌≡◌, ℕ, ◌+◌, ◌*◌, ◌/◌, ◌^◌, ◌≤◌, List};
+ghost use Rattle.std.specs.Prelude.{◌≡◌, ℕ, ◌+◌, ◌*◌, ◌/◌, ◌^◌, ◌≤◌, ◌⊎◌, List};
 ghost use Rattle.edf_header.specs.Key.{Key, IsKey};
 ghost use Rattle.edf_header.specs.Header.{HeaderRecord, IsHeader};
 ghost use Rattle.edf_header.specs.Fault.{IsHeaderFault};
@@ -40,4 +40,10 @@ pub fn header_no_fault()
 /// A law: bytes have one fault of a header at most.
 pub fn one_header_fault()
     ensures { (bytes : List ℕ) (fault other : HeaderFault) → IsHeaderFault bytes fault → IsHeaderFault bytes other → fault ≡ other }
+{}
+
+/// A law: each list of bytes begins with a header, or has a first fault of a header.
+pub fn header_or_fault()
+    ensures { (bytes : List ℕ) → ((header : HeaderRecord) × (rest : List ℕ) × IsHeader bytes header rest)
+        ⊎ ((fault : HeaderFault) × IsHeaderFault bytes fault) }
 {}

@@ -120,7 +120,7 @@ fn check_rows(rows: &[u8]) -> Result<Extents, HeaderFault>
 /// signals in turn.
 ///
 /// # Errors
-/// The first of E14 to E20 that is true of the bytes; `Memory` where memory runs out, which may come before E16.
+/// The first of E14 to E20 that is true of the bytes; `Memory` where memory runs out and neither E14 nor E15 is true.
 pub fn read_signals(alloc: Global, fixed: Fixed, bytes: &[u8]) -> Result<Header, HeaderFault>
     requires { length bytes.now ≤ 256 * fixed.signal_count }
     ensures { MatchResult result
@@ -140,14 +140,8 @@ pub fn read_signals(alloc: Global, fixed: Fixed, bytes: &[u8]) -> Result<Header,
         Ok(extents) => extents,
         Err(fault) => return Err(fault),
     };
-    let Ok(identity) = Identity::from_parts(
-        alloc,
-        fixed.patient(),
-        fixed.dated(),
-        fixed.after(),
-        fixed.duration(),
-        &rows,
-    ) else {
+    let ordinary_bytes = extents.record_bytes - extents.block_bytes;
+    let Ok(identity) = Identity::from_header(alloc, &fixed, &rows, ordinary_bytes) else {
         return Err(HeaderFault::Memory);
     };
     Ok(Header {
