@@ -27,3 +27,8 @@ pub mod ExportParts
 pub mod ExportWritten
 pub mod ExportOne
 pub mod KeyOnce
+pub mod Decimals
+pub mod DecimalDigits
+pub mod NumberTexts
+pub mod PhysicalNumbers
+pub mod DurationTexts
