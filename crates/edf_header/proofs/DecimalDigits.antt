@@ -7,9 +7,8 @@ use Rattle.std.proofs.lemmas.List.{length-append, length-replicate}
 use Rattle.std.specs.Prelude.{IsTrue, replicate}
 use Rattle.std.specs.Char.{is_ascii_digit, digit_value}
 use Rattle.std.specs.Str.Parse.{AllDigits, digits_value}
-use Rattle.edf_time.proofs.Digits.{digit_is, digit_only}
 use Rattle.edf_header.specs.Grammar.{AreDigits, AreDecimalDigits, filled, widened}
-use Rattle.edf_header.proofs.Decimals.{value-cons, value-append, value-zeros}
+use Rattle.edf_header.proofs.Decimals.{digit-is, value-cons, value-append, value-zeros}
 
 digit-counts : (c : ℕ) → IsTrue (is_ascii_digit c) → digit_value c < 10
 digit-counts c h = grind (arith, nat_tests)
@@ -30,10 +29,7 @@ apart x y a b by e low small =
     ]
 
 same-digit : (d e : ℕ) → digit_value d < 10 → digit_value e < 10 → digit_value d ≡ digit_value e → d ≡ e
-same-digit d e p q s =
-    let a = digit_only d p in
-    let b = digit_only e q in
-    omega (arith, digit_is d a.0 a.1, digit_is e b.0 b.1, s)
+same-digit d e p q s = omega (arith, digit-is d p, digit-is e q, s)
 
 same-digits : (ds es : List ℕ) → length ds ≡ length es → AllDigits 10 ds → AllDigits 10 es → digits_value 10 ds ≡ digits_value 10 es → ds ≡ es
 same-digits [] [] len p q s = refl

@@ -1,11 +1,18 @@
 -- The numbers that digits write in a row.
-use Rattle.std.proofs.Common.{◌≡◌, ℕ, zero, suc, ◌+◌, ◌-◌, ◌*◌, ◌^◌, List, [], ◌∷◌, ◌++◌, length, pow-add, arith, refl, ap, ◌∙◌}
+use Rattle.std.proofs.Common.{◌≡◌, ℕ, zero, suc, ◌+◌, ◌-◌, ◌*◌, ◌^◌, ◌<◌, List, [], ◌∷◌, ◌++◌, length, pow-add, arith, refl, ap, ◌∙◌}
+use Rattle.std.proofs.lemmas.Bool.Decides.{nat_tests}
 use Rattle.std.proofs.lemmas.List.{length-append, length-replicate}
-use Rattle.std.proofs.Math.Nat.{pow-succ'}
+use Rattle.std.proofs.Math.Nat.{pow-succ', one-le-pow}
 use Rattle.std.specs.Prelude.{replicate}
 use Rattle.std.specs.Char.{digit_value}
 use Rattle.std.specs.Str.Parse.{digits_value, digits_value_after}
 use Rattle.edf_header.specs.Grammar.{filled}
+
+pub power : (n : ℕ) → 0 < 10 ^ n
+power n = let ten : 0 < 10 = omega arith in one-le-pow n 10 ten
+
+pub digit-is : (d : ℕ) → digit_value d < 10 → digit_value d + 48 ≡ d
+digit-is d h = grind (arith, nat_tests)
 
 after-is : (n : ℕ) (ds : List ℕ) → digits_value_after 10 n ds ≡ n * 10 ^ length ds + digits_value 10 ds
 after-is n [] = omega arith

@@ -12,16 +12,13 @@ use Rattle.std.specs.Option.{unwrap_or}
 use Rattle.std.specs.Char.{is_ascii_digit, digit_value}
 use Rattle.std.specs.Str.Parse.{AllDigits, digits_value}
 use Rattle.edf_time.specs.Decimal.{IsDecimal, IsFine, IsSeconds, places, short}
-use Rattle.edf_time.proofs.Digits.{digit_is, digit_only}
-use Rattle.edf_time.proofs.Short.{some as power, unit_of, unit-next, IsSeconds-short}
-use Rattle.edf_time.proofs.OneValue.{bytes-of-seconds}
-use Rattle.edf_time.specs.Bytes.{IsDecimalByte}
+use Rattle.edf_time.proofs.Short.{IsSeconds-short}
 use Rattle.edf_header.specs.Number.{AreSpaces, front_len, IsDuration}
 use Rattle.edf_header.specs.Grammar.{AreDigits, point_text, IsDurationText}
 use Rattle.edf_header.proofs.Grammar.{spaces-are}
 use Rattle.edf_header.proofs.Durations.{digits-are, point, unpoint, shape, whole-digits, fraction-digits}
 use Rattle.edf_header.proofs.DecimalDigits.{digits-back}
-use Rattle.edf_header.proofs.Decimals.{value-cons, value-append}
+use Rattle.edf_header.proofs.Decimals.{power, digit-is, value-cons, value-append}
 
 abbrev AreZeros : List ℕ → Type 0
 AreZeros ds = All (λ d. d ≡ 48) ds
@@ -36,6 +33,15 @@ value-none (d ∷ ds) zeros =
     let e : digit_value d ≡ 0 = ap digit_value (All-head (λ (b : ℕ). b ≡ 48) d ds zeros) in
     rw (value-cons d ds, e, value-none ds (All-tail (λ (b : ℕ). b ≡ 48) d ds zeros)) (omega arith)
 
+-- what a digit counts that has j - 1 places behind it
+abbrev unit_of : ℕ → ℕ
+unit_of zero = 0
+unit_of (suc j) = 10 ^ j
+
+unit-next : (j : ℕ) → unit_of (suc j) / 10 ≡ unit_of j
+unit-next zero = refl
+unit-next (suc j) = omega (arith, pow-succ' 10 j)
+
 step : (x p d l j : ℕ) → p * l ≡ d * j → (x * j + p) * (10 * l) ≡ (x * l + d) * (10 * j)
 step x p d l j e = omega (arith, e)
 
@@ -44,8 +50,7 @@ worth : (j : ℕ) (ds : List ℕ) → AllDigits 10 ds → AreZeros (drop j ds) �
 worth zero ds all zeros = rw (places-none ds, value-none ds zeros) (omega arith)
 worth (suc j) [] all zeros = omega arith
 worth (suc j) (d ∷ ds) all zeros =
-    let b = digit_only d all.0 in
-    let v : digit_value d ≡ d - 48 = digit_is d b.0 b.1 in
+    let v : digit_value d ≡ d - 48 = omega (arith, digit-is d all.0) in
     let h = worth j ds all.1 zeros in
     let u : 10 ^ j / 10 ≡ unit_of j = unit-next j in
     rw (u, value-cons d ds, v, pow-succ' 10 (length ds), pow-succ' 10 j) (step (d - 48) (places (unit_of j) ds) (digits_value 10 ds) (10 ^ length ds) (10 ^ j) h)
@@ -53,11 +58,10 @@ worth (suc j) (d ∷ ds) all zeros =
 zeros-are : (ds : List ℕ) → AllDigits 10 ds → digits_value 10 ds ≡ 0 → AreZeros ds
 zeros-are [] all e = All-nil (λ (b : ℕ). b ≡ 48)
 zeros-are (d ∷ ds) all e =
-    let b = digit_only d all.0 in
     let v = value-cons d ds in
     let none : digit_value d * 10 ^ length ds ≡ 0 * 10 ^ length ds = omega arith in
     let zero : digit_value d ≡ 0 = eq_of_mul-eq-mul_right (10 ^ length ds) (power (length ds)) (digit_value d) 0 none in
-    All-cons (λ (b : ℕ). b ≡ 48) d ds (omega (arith, digit_is d b.0 b.1, zero)) (zeros-are ds all.1 (omega (arith, v, none)))
+    All-cons (λ (b : ℕ). b ≡ 48) d ds (omega (arith, digit-is d all.0, zero)) (zeros-are ds all.1 (omega (arith, v, none)))
 
 -- what is left of a product where a part of it is taken off
 record Left (n off by rest : ℕ) : Type 0 where
@@ -118,28 +122,33 @@ behind-dot : (f : List ℕ) → point f ≢ Some []
 behind-dot [] e = cc
 behind-dot (c ∷ f) e = cc
 
-to : (text : List ℕ) (nanos : ℕ) → IsDuration text nanos → IsDurationText text nanos
-to text nanos d =
-    let at = front_len text in
-    let s = d.seconds in
-    let p : AreDigits s.fraction = digits-are s.fraction (fraction-digits (take at text) s.whole s.fraction s.parts) in
+-- a decimal and spaces behind it
+of-seconds : (text rest : List ℕ) (nanos : ℕ) → IsSeconds text nanos → AreSpaces rest → 0 < nanos → IsDurationText (text ++ rest) nanos
+of-seconds text rest nanos s blank some =
+    let w : AreDigits s.whole = digits-are s.whole (whole-digits text s.whole s.fraction s.parts) in
+    let f : AreDigits s.fraction = digits-are s.fraction (fraction-digits text s.whole s.fraction s.parts) in
     record {
       whole = s.whole;
       point = point s.fraction;
       number = record {
-        some = whole-some (take at text) s.whole s.fraction s.parts;
-        whole_digits = digits-are s.whole (whole-digits (take at text) s.whole s.fraction s.parts);
-        part_digits = subst AreDigits (sym (unpoint s.fraction)) p;
-        spaces = length (drop at text);
-        spelling = sym (take-append-drop at text) ∙ ap (λ (x : List ℕ). x ++ drop at text) (shape (take at text) s.whole s.fraction s.parts)
-            ∙ append_assoc s.whole (point_text (point s.fraction)) (drop at text)
-            ∙ ap (λ (x : List ℕ). s.whole ++ (point_text (point s.fraction) ++ x)) (spaces-are (drop at text) (length (drop at text)) refl d.spaces);
+        some = whole-some text s.whole s.fraction s.parts;
+        whole_digits = w;
+        part_digits = subst AreDigits (sym (unpoint s.fraction)) f;
+        spaces = length rest;
+        spelling = ap (λ (x : List ℕ). x ++ rest) (shape text s.whole s.fraction s.parts)
+            ∙ append_assoc s.whole (point_text (point s.fraction)) rest
+            ∙ ap (λ (x : List ℕ). s.whole ++ (point_text (point s.fraction) ++ x)) (spaces-are rest (length rest) refl blank);
       };
       behind_dot = behind-dot s.fraction;
       value = subst (λ (x : List ℕ). nanos * 10 ^ length x ≡ digits_value 10 (s.whole ++ x) * 10 ^ 9) (sym (unpoint s.fraction))
-          (exact s.whole s.fraction nanos (fraction-digits (take at text) s.whole s.fraction s.parts) s.fine s.value);
-      some = d.some;
+          (exact s.whole s.fraction nanos (fraction-digits text s.whole s.fraction s.parts) s.fine s.value);
+      some = some;
     }
+
+to : (text : List ℕ) (nanos : ℕ) → IsDuration text nanos → IsDurationText text nanos
+to text nanos d =
+    let at = front_len text in
+    subst (λ (x : List ℕ). IsDurationText x nanos) (take-append-drop at text) (of-seconds (take at text) (drop at text) nanos d.seconds d.spaces d.some)
 
 abbrev NoSpaces : List ℕ → Type 0
 NoSpaces text = AllByRecursion (λ b. (b == 32) ≡ false) text
@@ -192,23 +201,5 @@ from text nanos t =
 pub duration-texts : (text : List ℕ) (nanos : ℕ) → (IsDuration text nanos → IsDurationText text nanos) × (IsDurationText text nanos → IsDuration text nanos)
 duration-texts text nanos = (to text nanos, from text nanos)
 
-no-decimal-byte : (b : ℕ) → IsDecimalByte b → (b == 32) ≡ false
-no-decimal-byte b h = let low : 32 < b = omega (arith, h.0) in grind (arith, nat_tests)
-
-visible : (text : List ℕ) → AllByRecursion IsDecimalByte text → NoSpaces text
-visible [] all = tt
-visible (b ∷ bs) all = (no-decimal-byte b all.0, visible bs all.1)
-
--- decimals of seconds, filled up
-pub seconds-filled : (text : List ℕ) (nanos n : ℕ) → IsSeconds text nanos → 0 < nanos → IsDurationText (text ++ replicate n 32) nanos
-seconds-filled text nanos n s some =
-    let all : List ℕ = text ++ replicate n 32 in
-    let at : front_len all ≡ length text = front-end text n (visible text (bytes-of-seconds text nanos s)) in
-    to all nanos (record {
-      seconds = subst (λ (x : List ℕ). IsSeconds x nanos) (sym (ap (λ (k : ℕ). take k all) at ∙ take_at text (replicate n 32) (length text) refl)) s;
-      spaces = subst AreSpaces (sym (ap (λ (k : ℕ). drop k all) at ∙ drop_at text (replicate n 32) (length text) refl)) (All-replicate (λ (b : ℕ). b ≡ 32) n 32 refl);
-      some = some;
-    })
-
 pub short-filled : (nanos n : ℕ) → 0 < nanos → nanos < 10 ^ 73 → IsDurationText (short nanos ++ replicate n 32) nanos
-short-filled nanos n some few = seconds-filled (short nanos) nanos n (IsSeconds-short nanos few) some
+short-filled nanos n some few = of-seconds (short nanos) (replicate n 32) nanos (IsSeconds-short nanos few) (All-replicate (λ (b : ℕ). b ≡ 32) n 32 refl) some

@@ -1,10 +1,11 @@
 -- Physical values differ exactly where their numbers do.
 use Rattle.std.proofs.Common.{◌≡◌, ◌≢◌, ℕ, ◌+◌, ◌-◌, ◌*◌, ◌^◌, ◌≤◌, ◌<◌, ◌==◌, List, get_or, Bool, true, false, pow-add, arith, refl, sym, ap, ◌∙◌}
 use Rattle.std.proofs.lemmas.Int.{ints}
-use Rattle.std.proofs.Math.Nat.{one-le-pow, eq_of_mul-eq-mul_right}
+use Rattle.std.proofs.Math.Nat.{eq_of_mul-eq-mul_right}
 use Rattle.std.specs.Prelude.{ℤ, pos, neg_ℤ}
 use Rattle.edf_header.specs.Number.{signed, places, size, scaled, Differ}
 use Rattle.edf_header.specs.Grammar.{IsPhysicalText}
+use Rattle.edf_header.proofs.Decimals.{power}
 use Rattle.edf_header.proofs.NumberTexts.{physical-from}
 
 -- numbers with a sign are equal where they are so many times as large
@@ -36,9 +37,6 @@ cross a p q at le =
     let u : 10 ^ at ≡ 10 ^ (at - p) * 10 ^ p = ap (λ (n : ℕ). 10 ^ n) e ∙ pow-add 10 (at - p) p in
     let v = pow-add 10 p q in
     rw (u, v) (omega arith)
-
-power : (n : ℕ) → 0 < 10 ^ n
-power n = let ten : 0 < 10 = omega arith in one-le-pow n 10 ten
 
 module _ (a b : List ℕ) (at : ℕ) (la : places a ≤ at) (lb : places b ≤ at) where
   left : signed (get_or a 0 0 == 45) (size a * 10 ^ places b * 10 ^ at) ≡ signed (get_or a 0 0 == 45) (size a * 10 ^ (at - places a) * 10 ^ (places a + places b))

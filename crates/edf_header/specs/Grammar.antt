@@ -34,7 +34,7 @@ pub record IsNumberText (text : List ℕ) (sign : Option Bool) (whole : List ℕ
   pub spaces : ℕ
   pub spelling : text ≡ spelled sign whole point spaces
 
--- a whole number: digits alone
+-- a whole number: no sign and no dot
 abbrev pub IsWholeText : List ℕ → ℕ → Type 0
 IsWholeText text n = (whole : List ℕ) × IsNumberText text None whole None × (n ≡ digits_value 10 whole)
 
@@ -42,7 +42,7 @@ IsWholeText text n = (whole : List ℕ) × IsNumberText text None whole None × 
 abbrev pub with_sign : Option Bool → ℕ → ℤ
 with_sign sign n = signed (unwrap_or sign false) n
 
--- a signed whole number: digits behind a sign or none
+-- a signed whole number: no dot
 abbrev pub IsSignedText : List ℕ → ℤ → Type 0
 IsSignedText text z = (sign : Option Bool) × (whole : List ℕ) × IsNumberText text sign whole None × (z ≡ with_sign sign (digits_value 10 whole))
 

@@ -18,8 +18,8 @@ pub fn signed_texts()
     ensures { (text : List ℕ) (z : ℤ) → (IsSigned text × (z ≡ signed_value text)) ↔ IsSignedText text z }
 {}
 
-/// A physical value is a sign or none, one digit or more, maybe a dot and zero or more digits, and then spaces. Its value is
-/// that of its digits, wherever behind its last digit one counts.
+/// A physical value is a sign or none, one digit or more, maybe a dot and zero or more digits, and then spaces. Counted in units
+/// of its last decimal place, or of any behind it, it is what its digits write, filled up with zeros to that place.
 pub fn physical_texts()
     ensures { (text : List ℕ) (at : ℕ) (z : ℤ) → (IsPhysical text × (places text ≤ at) × (z ≡ scaled text (at - places text))) ↔ IsPhysicalText text at z }
 {}
