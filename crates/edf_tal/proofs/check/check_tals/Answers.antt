@@ -1,6 +1,6 @@
 use Rattle.std.proofs.Common.{refl, sym, subst, arith}
 use Rattle.std.specs.Prelude.{IsTrue}
-use Rattle.edf_tal.specs.Scan.{KeepsSecond, KeepsOrder}
+use Rattle.edf_tal.specs.Inside.Scan.{KeepsSecond, KeepsOrder}
 use Rattle.edf_tal.proofs.Judge.{known, timed, some-count, checked, fault-none, fault-untimed, fault-second, fault-window, fault-order, fault-many}
 use Rattle.edf_tal.proofs.check.check_tals.Goals as goal
 
