@@ -7,9 +7,9 @@ use Rattle.std.specs.List.{AllByRecursion}
 use Rattle.edf_tal.proofs.Again.{read-first, read-after, read-any}
 use Rattle.edf_tal.proofs.ReadNotes.{read-start, read-notes}
 use Rattle.edf_time.specs.Civil.{window}
-use Rattle.edf_header.specs.Number.{duration_of}
+use Rattle.edf_field.specs.Number.{duration_of}
 use Rattle.edf_header.specs.Signal.{samples, samples_in_all}
-use Rattle.edf_header.specs.Header.{Header, Layout, layout_of}
+use Rattle.edf_header.specs.Header.{HeaderRecord, Layout, layout_of}
 use Rattle.edf_tal.specs.Tal.{Annotation}
 use Rattle.edf_tal.specs.Note.{IsNote}
 use Rattle.edf_tal.specs.Block.{IsRead, IsWithinLimits}
@@ -37,14 +37,14 @@ parts-len : (bytes : List ℕ) (front block back : ℕ) → length bytes ≡ 2 *
 parts-len bytes front block back len =
     omega (arith, length-append (take (2 * front) bytes) (drop (2 * front + 2 * block) bytes), length-take (2 * front) bytes, length-drop (2 * front + 2 * block) bytes)
 
-samples-len : (h : Header) (place : Place) (bytes : List ℕ) (r : DataRecord) → IsDataRecord (layout_of h) place bytes r → length r.samples ≡ 2 * samples_in_all (layout_of h).key.signals
+samples-len : (h : HeaderRecord) (place : Place) (bytes : List ℕ) (r : DataRecord) → IsDataRecord (layout_of h) place bytes r → length r.samples ≡ 2 * samples_in_all (layout_of h).key.signals
 samples-len h place bytes r is =
     let whole : samples_in_all (h.front ++ h.annotations ∷ h.back) ≡ samples_in_all h.front + (samples h.annotations + samples_in_all h.back) = sum_by-append samples h.front (h.annotations ∷ h.back) ∙ ap (λ n. samples_in_all h.front + n) (sum_by-cons samples h.annotations h.back) in
     let key : samples_in_all (h.front ++ h.back) ≡ samples_in_all h.front + samples_in_all h.back = sum_by-append samples h.front h.back in
     let len : length bytes ≡ 2 * samples_in_all (h.front ++ h.annotations ∷ h.back) = is.len in
     ap length is.samples_are ∙ parts-len bytes (samples_in_all h.front) (samples h.annotations) (samples_in_all h.back) (len ∙ ap (λ n. 2 * n) whole) ∙ ap (λ n. 2 * n) (sym key)
 
-pub are-sound : (h : Header) (place : Place) (bytes : List ℕ) (rs : List DataRecord) (last : Place) (rest : List ℕ)
+pub are-sound : (h : HeaderRecord) (place : Place) (bytes : List ℕ) (rs : List DataRecord) (last : Place) (rest : List ℕ)
     → AreDataRecords (layout_of h) place bytes rs last rest → AreSound (layout_of h).key (least_start place) rs
 are-sound h place bytes [] last rest are = tt
 are-sound h place bytes (r ∷ rs) last rest (front, back, parts, is, more) = (

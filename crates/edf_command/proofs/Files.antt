@@ -10,9 +10,9 @@ use Rattle.edf_header.proofs.ExportOne.{one-export}
 use Rattle.edf_header.proofs.ExportHeader.{export-reads}
 use Rattle.edf_command.proofs.BlockLength.{block-length}
 use Rattle.edf_time.specs.Civil.{window}
-use Rattle.edf_header.specs.Number.{duration_of}
+use Rattle.edf_field.specs.Number.{duration_of}
 use Rattle.edf_header.specs.Key.{Key, IsKey}
-use Rattle.edf_header.specs.Header.{Header, Layout, layout_of, IsHeader}
+use Rattle.edf_header.specs.Header.{HeaderRecord, Layout, layout_of, IsHeader}
 use Rattle.edf_header.specs.Canonical.{IsExportHeader}
 use Rattle.edf_tal.specs.declared.place.Place.TheVariants.{First}
 use Rattle.edf_fragment.specs.Fragment.{DataRecord, AreDataRecords, Spells}
@@ -22,7 +22,7 @@ use Rattle.edf_command.specs.Sound.{AreSound}
 use Rattle.edf_command.proofs.Exported.{IsExportLayout, are-sound, are-readable}
 
 -- what a header says is within the bounds of an export
-header-bounds : (bytes : List ℕ) (h : Header) (rest : List ℕ) → IsHeader bytes h rest → IsLayout (layout_of h)
+header-bounds : (bytes : List ℕ) (h : HeaderRecord) (rest : List ℕ) → IsHeader bytes h rest → IsLayout (layout_of h)
 header-bounds bytes h rest is = header-layout is.second h (is-fixed is.first h.fixed is.fixed) is.signals
 
 second-of-low : (n : ℕ) → second_of n ≤ n
