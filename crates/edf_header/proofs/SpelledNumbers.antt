@@ -8,7 +8,7 @@ use Rattle.std.proofs.lemmas.Bool.Decides.{nat_tests}
 use Rattle.std.proofs.lemmas.Fmt.{decimal_is_IsNumeral, length-decimal-le}
 use Rattle.std.proofs.lemmas.List.{length-append, length-replicate, take_at, drop_at}
 use Rattle.std.proofs.lemmas.List.Elements.{All-nil, All-cons, All-append, All-replicate}
-use Rattle.edf_time.proofs.Digits.{digit_only}
+use Rattle.edf_time.proofs.Cited.{digit_only}
 use Rattle.edf_field.specs.Number.{AreSpaces, digits_len, digits, behind_digits, IsNumber}
 use Rattle.edf_field.specs.Text.{IsPrintable, spaces, padded_to}
 use Rattle.edf_header.specs.Spelled.{IsPrinted}

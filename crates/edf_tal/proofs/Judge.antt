@@ -5,7 +5,7 @@ use Rattle.std.specs.List.{AllByRecursion, flat_map}
 use Rattle.std.proofs.lemmas.List.{length-append, length-take, take-append-drop, take_at}
 use Rattle.std.proofs.lemmas.List.Sums.{sum_by-cons}
 use Rattle.edf_tal.specs.Tal.{Tal, Annotation, IsTal, IsText, ended, AreTals, AreTalsAndZeros, IsTimed, IsTalInWindow, instant, tal_annotations, annotations, begin}
-use Rattle.edf_tal.specs.Block.{IsBadText, IsLongestFront, IsWithinLimits, KeepsPlace, BlockFails, tal_number, IsBlockFault}
+use Rattle.edf_tal.specs.Block.{IsBadText, IsLongestFront, IsWithinLimits, KeepsPlace, BlockFails, tal_fault_number, IsBlockFault}
 use Rattle.edf_tal.specs.Inside.Scan.{NoTal, AreZeros, IsTalAtFront, IsBehind, IsSurvey, KeepsSecond, KeepsOrder, IsChecked}
 use Rattle.edf_tal.specs.declared.place.Place.{Place}
 use Rattle.edf_tal.specs.declared.place.Place.TheVariants.{First, After, Any}
@@ -35,7 +35,7 @@ longest-front block rest b last =
           omega (arith, s, length-take m block);
     })
 
-lowest : (e : TalFault) → tal_number e < 22 → ⊥
+lowest : (e : TalFault) → tal_fault_number e < 22 → ⊥
 lowest (NotTals offset) h = omega arith
 lowest (Text offset) h = omega arith
 lowest NotTimed h = omega arith
@@ -61,7 +61,7 @@ pub record IsClear (b : List ℕ) (s : ℕ) (p : Place) (n : ℕ) (ts : List Tal
   pub window : 26 < n → AllByRecursion (IsTalInWindow s) ts
   pub order : 27 < n → KeepsOrder p (begin s ts)
 
-clear : (b : List ℕ) (s : ℕ) (p : Place) (n : ℕ) (ts : List Tal) → IsClear b s p n ts → (e : TalFault) → tal_number e < n → ¬ BlockFails b s p e
+clear : (b : List ℕ) (s : ℕ) (p : Place) (n : ℕ) (ts : List Tal) → IsClear b s p n ts → (e : TalFault) → tal_fault_number e < n → ¬ BlockFails b s p e
 clear b s p n ts h (NotTals offset) low f = f.0 ts (h.whole low)
 clear b s p n ts h (Text offset) low f = good-block b ts offset (h.whole (omega arith)) (h.good low) f.1
 clear b s p n ts h NotTimed low (us, w, fails) = on-tals IsTimed b ts us (h.whole (omega arith)) w (h.timed low) fails

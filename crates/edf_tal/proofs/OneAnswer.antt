@@ -3,7 +3,7 @@ use Rattle.std.proofs.Common.{◌≡◌, ℕ, List, arith, refl, sym, ap, ◌∙
 use Rattle.std.specs.List.{AllByRecursion}
 use Rattle.std.proofs.lemmas.Bool.{cases_lt}
 use Rattle.edf_tal.specs.Tal.{Tal, Annotation, AreTalsAndZeros, IsTimed, IsTalInWindow, annotations, begin}
-use Rattle.edf_tal.specs.Block.{IsRead, IsWithinLimits, KeepsPlace, IsLongestFront, BlockFails, tal_number, IsBlockFault}
+use Rattle.edf_tal.specs.Block.{IsRead, IsWithinLimits, KeepsPlace, IsLongestFront, BlockFails, tal_fault_number, IsBlockFault}
 use Rattle.edf_tal.specs.declared.place.Place.{Place}
 use Rattle.edf_tal.specs.declared.place.Place.TheVariants.{First, After, Any}
 use Rattle.edf_tal.specs.declared.place.TalFault.{TalFault}
@@ -70,7 +70,7 @@ one-offset b m n p q =
     omega arith
 
 -- faults of one number
-same-number : (b : List ℕ) (s : ℕ) (p : Place) (e f : TalFault) → tal_number e ≡ tal_number f → BlockFails b s p e → BlockFails b s p f → e ≡ f
+same-number : (b : List ℕ) (s : ℕ) (p : Place) (e f : TalFault) → tal_fault_number e ≡ tal_fault_number f → BlockFails b s p e → BlockFails b s p f → e ≡ f
 same-number b s p (NotTals m) (NotTals n) same h g = ap (λ (k : ℕ). NotTals k) (one-offset b m n h.1 g.1)
 same-number b s p (Text m) (Text n) same h g = ap (λ (k : ℕ). Text k) (one-bad-text b m n h.1 g.1)
 same-number b s p NotTimed NotTimed same h g = refl
@@ -83,9 +83,9 @@ same-number b s p e f same h g = absurd (omega arith)
 
 pub one-fault : (b : List ℕ) (s : ℕ) (p : Place) (e f : TalFault) → IsBlockFault b s p e → IsBlockFault b s p f → e ≡ f
 one-fault b s p e f h g =
-    elim (cases_lt (tal_number e) (tal_number f)) [
+    elim (cases_lt (tal_fault_number e) (tal_fault_number f)) [
       | inl low ↦ absurd (g.first e low h.holds)
-      | inr high ↦ elim (cases_lt (tal_number f) (tal_number e)) [
+      | inr high ↦ elim (cases_lt (tal_fault_number f) (tal_fault_number e)) [
         | inl low ↦ absurd (h.first f low g.holds)
         | inr high' ↦ same-number b s p e f (omega arith) h.holds g.holds
       ]

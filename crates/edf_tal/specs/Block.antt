@@ -66,20 +66,20 @@ BlockFails b s (After before duration) Order = (ts : List Tal) × AreTalsAndZero
 BlockFails b s place TooMany = (ts : List Tal) × AreTalsAndZeros b ts × ¬ IsWithinLimits (annotations s ts)
 BlockFails b s place fault = ⊥
 
-abbrev pub tal_number : TalFault → ℕ
-tal_number (NotTals offset) = 22
-tal_number (Text offset) = 23
-tal_number NotTimed = 24
-tal_number FirstOnset = 25
-tal_number Window = 26
-tal_number Order = 27
-tal_number TooMany = 28
-tal_number Memory = 41
+abbrev pub tal_fault_number : TalFault → ℕ
+tal_fault_number (NotTals offset) = 22
+tal_fault_number (Text offset) = 23
+tal_fault_number NotTimed = 24
+tal_fault_number FirstOnset = 25
+tal_fault_number Window = 26
+tal_fault_number Order = 27
+tal_fault_number TooMany = 28
+tal_fault_number Memory = 41
 
 -- the fault is true, and none of a lower number
 pub record IsBlockFault (b : List ℕ) (s : ℕ) (place : Place) (fault : TalFault) : Type 0 where
   pub holds : BlockFails b s place fault
-  pub first : (other : TalFault) → tal_number other < tal_number fault → ¬ BlockFails b s place other
+  pub first : (other : TalFault) → tal_fault_number other < tal_fault_number fault → ¬ BlockFails b s place other
 
 -- why a block is refused: its first fault; want of memory only where it has none, and so a start and a list
 abbrev pub IsBlockRefusal : List ℕ → ℕ → Place → TalFault → Type 0
