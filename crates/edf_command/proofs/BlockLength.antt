@@ -6,10 +6,10 @@ use Rattle.std.specs.Prelude.{Option, None, Some, unsigned_abs, pos, ◌-ℤ◌}
 use Rattle.std.proofs.lemmas.List.Sums.{sum_by-cons}
 use Rattle.std.proofs.lemmas.Int.{ints}
 use Rattle.std.proofs.lemmas.Str.{IsUtf8-nil}
-use Rattle.edf_tal.proofs.Lengths.{length-short-window}
+use Rattle.edf_time.proofs.Cited.{length-short-window}
 use Rattle.edf_time.specs.Civil.{window}
 use Rattle.edf_tal.specs.Tal.{Annotation}
-use Rattle.edf_tal.specs.Note.{IsNote}
+use Rattle.edf_tal.specs.Tal.{IsAnnotation as IsNote}
 use Rattle.edf_tal.specs.Block.{IsWithinLimits}
 use Rattle.edf_tal.specs.Canonical.{onset_text, duration_text, tal_text, time_keeping, block_text}
 

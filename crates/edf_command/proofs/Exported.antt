@@ -4,14 +4,13 @@ use Rattle.std.proofs.lemmas.List.{length-take, length-drop}
 use Rattle.std.proofs.lemmas.List.Elements.{All-head, All-tail}
 use Rattle.std.proofs.lemmas.List.Sums.{sum_by-append, sum_by-cons}
 use Rattle.std.specs.List.{AllByRecursion}
-use Rattle.edf_tal.proofs.Again.{read-first, read-after, read-any}
-use Rattle.edf_tal.proofs.ReadNotes.{read-start, read-notes}
+use Rattle.edf_tal.proofs.Cited.{read-first, read-after, read-any, read-start, read-annotations as read-notes}
 use Rattle.edf_time.specs.Civil.{window}
 use Rattle.edf_field.specs.Number.{duration_of}
 use Rattle.edf_header.specs.Signal.{samples, samples_in_all}
 use Rattle.edf_header.specs.Header.{HeaderRecord, Layout, layout_of}
 use Rattle.edf_tal.specs.Tal.{Annotation}
-use Rattle.edf_tal.specs.Note.{IsNote}
+use Rattle.edf_tal.specs.Tal.{IsAnnotation as IsNote}
 use Rattle.edf_tal.specs.Block.{IsRead, IsWithinLimits}
 use Rattle.edf_tal.specs.Canonical.{block_text}
 use Rattle.edf_tal.specs.declared.place.Place.{Place}

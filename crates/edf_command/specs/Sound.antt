@@ -5,7 +5,7 @@ use Rattle.edf_time.specs.Civil.{window}
 use Rattle.edf_field.specs.Number.{duration_of}
 use Rattle.edf_header.specs.Key.{Key}
 use Rattle.edf_header.specs.Signal.{samples_in_all}
-use Rattle.edf_tal.specs.Note.{IsNote}
+use Rattle.edf_tal.specs.Tal.{IsAnnotation as IsNote}
 use Rattle.edf_tal.specs.Block.{IsWithinLimits}
 use Rattle.edf_fragment.specs.Fragment.{DataRecord}
 

@@ -9,7 +9,7 @@ use Rattle.std.specs.Prelude.{IsTrue, replicate}
 use Rattle.std.specs.Option.{unwrap_or}
 use Rattle.std.specs.Char.{is_ascii_digit, digit_value}
 use Rattle.std.specs.Str.Parse.{AllDigits, digits_value}
-use Rattle.edf_time.specs.Decimal.{IsDecimal, IsFine, IsSeconds, IsDecimalFault, places}
+use Rattle.edf_time.specs.Decimal.{IsDecimal, IsFine, IsSeconds, IsDecimalFault, fraction_value as places}
 use Rattle.edf_time.specs.declared.decimal.DecimalFault.{DecimalFault}
 use Rattle.edf_time.specs.declared.decimal.DecimalFault.TheVariants.{Syntax, TooFine, TooLarge}
 use Rattle.edf_field.specs.Number.{AreSpaces, digits, behind_digits, fraction, front_len, IsDuration, duration_of}

@@ -2,10 +2,10 @@
 use Rattle.std.specs.Prelude.{◌≡◌, ◌≢◌, ℕ, ◌+◌, ◌^◌, ◌≤◌, min, List, [], ◌∷◌, ◌++◌, length, sum_by, ℤ, pos, neg_ℤ, ◌≤ℤ◌, ◌<ℤ◌, Bool, Option, Some, None, IsTrue, IsUtf8, ◌↔◌, if◌then◌else◌}
 use Rattle.std.specs.List.{AllByRecursion, flat_map}
 use Rattle.edf_time.specs.Decimal.{IsSeconds}
-use Rattle.edf_tal.specs.Tal.{Tal, IsTal, IsOnset, IsDurationPart, IsText, ended, AreTals, IsTimed, IsTalInWindow, annotations_of, notes, begin}
+use Rattle.edf_tal.specs.Tal.{Tal, IsTal, IsOnset, IsDurationPart, IsText, ended, AreTals, IsTimed, IsTalInWindow, tal_annotations, annotations, begin}
 use Rattle.edf_tal.specs.Block.{KeepsPlace, IsWithinLimits}
 use Rattle.edf_tal.specs.declared.place.Place.{Place}
-use Rattle.edf_tal.specs.declared.place.Place.TheVariants.{First, After, Any}
+use Rattle.edf_tal.specs.declared.place.Place.TheVariants.{First, After}
 
 -- the byte does not occur
 abbrev pub Lacks : ℕ → List ℕ → Type 0
@@ -47,8 +47,7 @@ TellsOnset ahead onset z = (m : ℕ) × (onset ≡ capped m) × (z ≡ (if ahead
 abbrev pub TellsDuration : Option ℕ → Option ℕ → Type 0
 TellsDuration None None = Unit {0}
 TellsDuration (Some n) (Some m) = n ≡ capped m
-TellsDuration None (Some m) = ⊥
-TellsDuration (Some n) None = ⊥
+TellsDuration d e = ⊥
 
 -- nothing, or bytes of which the last is 20
 abbrev pub IsEnded : List ℕ → Type 0
@@ -57,7 +56,7 @@ IsEnded (b ∷ []) = b ≡ 20
 IsEnded (b ∷ c ∷ bytes) = IsEnded (c ∷ bytes)
 
 -- the TAL at the front, its texts and what is behind it
-pub record IsFront (bytes texts rest : List ℕ) (t : Tal) : Type 0 where
+pub record IsTalAtFront (bytes texts rest : List ℕ) (t : Tal) : Type 0 where
   pub front : List ℕ
   pub parts : bytes ≡ front ++ rest
   pub tal : IsTal front t
@@ -98,20 +97,18 @@ pub record IsSurvey (bytes : List ℕ) (file_start : ℕ) (rest : List ℕ) (in_
   pub whole : AreTals front tals
   pub good : AllByRecursion (λ t. AllByRecursion IsUtf8 t.texts) tals
   pub window : IsTrue in_window ↔ AllByRecursion (IsTalInWindow file_start) tals
-  pub count_is : count ≡ length (flat_map (annotations_of file_start) tals)
-  pub bytes_is : text_bytes ≡ sum_by (λ a. length a.text) (flat_map (annotations_of file_start) tals)
+  pub count_is : count ≡ length (flat_map (tal_annotations file_start) tals)
+  pub bytes_is : text_bytes ≡ sum_by (λ a. length a.text) (flat_map (tal_annotations file_start) tals)
 
 -- the first data record starts in the second that the header names
 abbrev pub KeepsSecond : Place → ℤ → Type 0
 KeepsSecond First onset = (pos 0 ≤ℤ onset) × (onset <ℤ pos (10 ^ 9))
-KeepsSecond (After before duration) onset = Unit {0}
-KeepsSecond Any onset = Unit {0}
+KeepsSecond place onset = Unit {0}
 
 -- a later one starts at least a duration behind the one before
 abbrev pub KeepsOrder : Place → ℕ → Type 0
-KeepsOrder First start = Unit {0}
 KeepsOrder (After before duration) start = before + duration ≤ start
-KeepsOrder Any start = Unit {0}
+KeepsOrder place start = Unit {0}
 
 -- the block has no fault at this place: its TALs, its start and how many annotations its list has
 pub record IsChecked (bytes : List ℕ) (file_start : ℕ) (place : Place) (front : List ℕ) (start count : ℕ) : Type 0 where
@@ -124,9 +121,9 @@ pub record IsChecked (bytes : List ℕ) (file_start : ℕ) (place : Place) (fron
   pub timed : IsTimed tals
   pub keeps : KeepsPlace place file_start tals
   pub window : AllByRecursion (IsTalInWindow file_start) tals
-  pub limits : IsWithinLimits (notes file_start tals)
+  pub limits : IsWithinLimits (annotations file_start tals)
   pub start_is : start ≡ begin file_start tals
-  pub count_is : count ≡ length (notes file_start tals)
+  pub count_is : count ≡ length (annotations file_start tals)
 
 -- TALs without a fault, but for the first one's rules
 pub record AreSoundTals (bytes : List ℕ) (file_start : ℕ) (tals : List Tal) : Type 0 where
