@@ -94,6 +94,10 @@ rolled_back old new count h = (runs_as rollback_text [] old new old.now.schema r
 pub quiet_then : (a b c : State) (P : Trees → Type 0) → Survives a b (λ _. ⊥) → Survives b c P → Survives a c P
 quiet_then a b c P one two = survives_then a b c (λ _. ⊥) P P (λ _ db none. absurd none) (λ _ db h. h) one two
 
+-- and the other way round
+pub then_quiet : (a b c : State) (P : Trees → Type 0) → Survives a b P → Survives b c (λ _. ⊥) → Survives a c P
+then_quiet a b c P one two = survives_then a b c P (λ _. ⊥) P (λ _ db h. h) (λ _ db none. absurd none) one two
+
 pub quiet : (a b : State) (P : Trees → Type 0) → Survives a b (λ _. ⊥) → Survives a b P
 quiet a b P one = survives_weaker a b _ P (λ _ db none. absurd none) one
 

@@ -1,6 +1,7 @@
 pub mod AnswerLemmas
 pub mod CommitLemmas
 pub mod CreateLemmas
+pub mod HeldLemmas
 pub mod KeepLemmas
 pub mod Queries
 pub mod QueryTexts
@@ -8,6 +9,7 @@ pub mod ReadLemmas
 pub mod ShownLemmas
 pub mod SortLemmas
 pub mod StepLemmas
+pub mod TablesLemmas
 pub mod TermLemmas
 pub mod TextLemmas
 pub mod WriteLemmas

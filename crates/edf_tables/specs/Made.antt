@@ -18,3 +18,13 @@ pub data HasFirst (old new : Database) : Type 0 where
 pub data HasSecond (old new : Database) : Type 0 where
   made_second : old.schema ≡ one_schema → new.schema ≡ both_schema → new.trees 0 ≡ old.trees 0 → new.trees 2 ≡ [] → HasSecond old new
   kept_second : old.schema ≡ both_schema → new ≡ old → HasSecond old new
+
+-- both tables are there, with the rows that they had
+pub data HasTables (old new : Database) : Type 0 where
+  from_none : old.schema ≡ no_schema → new.schema ≡ both_schema → new.trees 0 ≡ [] → new.trees 2 ≡ [] → HasTables old new
+  from_one : old.schema ≡ one_schema → new.schema ≡ both_schema → new.trees 0 ≡ old.trees 0 → new.trees 2 ≡ [] → HasTables old new
+  from_both : old.schema ≡ both_schema → new ≡ old → HasTables old new
+
+-- what a crash may leave besides: a missing table is made, and the rows are the same
+abbrev pub IsMadeOf : Database → Trees → Type 0
+IsMadeOf old db = ((old.schema ≡ no_schema) × (db 0 ≡ [])) ⊎ ((old.schema ≡ one_schema) × (db 0 ≡ old.trees 0) × (db 2 ≡ []))
