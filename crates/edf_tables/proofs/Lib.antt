@@ -1,4 +1,5 @@
 pub mod AnswerLemmas
+pub mod ApartLemmas
 pub mod CommitLemmas
 pub mod CreateLemmas
 pub mod HeldLemmas
