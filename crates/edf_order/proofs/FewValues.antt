@@ -13,7 +13,7 @@ pub list_none : leaf_fault (sub 1) [] ≡ kind.MissingRequiredArgument ∷ []
 unfolding walk_fault defaults_fault
 list_none = refl
 
-pub list_walk : (a : Text) → is_value a ≡ true → walk (sub 1).rules [] nothing_held (a ∷ []) ≡ at (pending [] (codes "STORE") (a ∷ [])) idle 2
+list_walk : (a : Text) → is_value a ≡ true → walk (sub 1).rules [] nothing_held (a ∷ []) ≡ at (pending [] (codes "STORE") (a ∷ [])) idle 2
 list_walk a v = idle_walks (sub 1).rules nothing_held 1 a v
 
 pub list_one : (a : Text) → is_value a ≡ true → leaf_fault (sub 1) (a ∷ []) ≡ []
@@ -32,7 +32,7 @@ pub convert_none : leaf_fault (sub 3) [] ≡ kind.MissingRequiredArgument ∷ []
 unfolding walk_fault defaults_fault
 convert_none = refl
 
-pub convert_walk : (a : Text) → is_value a ≡ true → walk (sub 3).rules [] nothing_held (a ∷ []) ≡ at (pending [] (codes "FILE") (a ∷ [])) idle 2
+convert_walk : (a : Text) → is_value a ≡ true → walk (sub 3).rules [] nothing_held (a ∷ []) ≡ at (pending [] (codes "FILE") (a ∷ [])) idle 2
 convert_walk a v = idle_walks (sub 3).rules nothing_held 1 a v
 
 pub convert_one : (a : Text) → is_value a ≡ true → leaf_fault (sub 3) (a ∷ []) ≡ []
@@ -58,7 +58,7 @@ pub export_one : (a : Text) → is_value a ≡ true → leaf_fault (sub 2) (a �
 unfolding walk_fault defaults_fault
 export_one a v = leaf_by (sub 2) (a ∷ []) _ _ (idle_walks (sub 2).rules nothing_held 1 a v) (fault_step (sub 2) nothing_held 1 a [] v)
 
-pub export_walk : (a b : Text) → is_value a ≡ true → is_value b ≡ true → walk (sub 2).rules [] nothing_held (a ∷ b ∷ []) ≡ at (pending (store_row a) (codes "PLACE") (b ∷ [])) idle 3
+export_walk : (a b : Text) → is_value a ≡ true → is_value b ≡ true → walk (sub 2).rules [] nothing_held (a ∷ b ∷ []) ≡ at (pending (store_row a) (codes "PLACE") (b ∷ [])) idle 3
 export_walk a b v w = ap (λ k. walked (sub 2).rules [] k b) (idle_walks (sub 2).rules nothing_held 1 a v) ∙ idle_walks (sub 2).rules (pending [] (codes "STORE") (a ∷ [])) 2 b w
 
 pub export_two : (a b : Text) → is_value a ≡ true → is_value b ≡ true → leaf_fault (sub 2) (a ∷ b ∷ []) ≡ []

@@ -21,38 +21,38 @@ pub take_one : (a : Text) → is_value a ≡ true → leaf_fault (sub 0) (a ∷ 
 unfolding walk_fault defaults_fault
 take_one a v = leaf_by (sub 0) (a ∷ []) _ _ (idle_walks (sub 0).rules nothing_held 1 a v) (fault_step (sub 0) nothing_held 1 a [] v)
 
-abbrev pub files_at : Text → List Text → Walk
+abbrev files_at : Text → List Text → Walk
 files_at a files = at (pending (store_row a) (codes "FILE") files) positional 2
 
-pub files_walk : (a : Text) (files more : List Text) → list_all is_value more ≡ true → fold (walked (sub 0).rules []) (files_at a files) more ≡ files_at a (files ++ more)
+files_walk : (a : Text) (files more : List Text) → list_all is_value more ≡ true → fold (walked (sub 0).rules []) (files_at a files) more ≡ files_at a (files ++ more)
 files_walk a files [] v = ap (files_at a) (sym (append-nil files))
 files_walk a files (x ∷ more) v =
     ap (λ k. fold (walked (sub 0).rules []) k more) (more_walks (sub 0).rules (pending (store_row a) (codes "FILE") files) 2 x (and_left _ _ v))
     ∙ files_walk a (files ++ x ∷ []) more (and_right _ _ v) ∙ ap (files_at a) (append_assoc files (x ∷ []) more)
 
-pub files_faults : (a : Text) (files more : List Text) → list_all is_value more ≡ true → walk_fault (sub 0) [] (files_at a files) more ≡ []
+files_faults : (a : Text) (files more : List Text) → list_all is_value more ≡ true → walk_fault (sub 0) [] (files_at a files) more ≡ []
 unfolding walk_fault
 files_faults a files [] v = refl
 files_faults a files (x ∷ more) v = more_step (sub 0) (pending (store_row a) (codes "FILE") files) 2 x more (and_left _ _ v) ∙ files_faults a (files ++ x ∷ []) more (and_right _ _ v)
 
-pub take_walk : (a f : Text) (more : List Text) → is_value a ≡ true → is_value f ≡ true → list_all is_value more ≡ true
+take_walk : (a f : Text) (more : List Text) → is_value a ≡ true → is_value f ≡ true → list_all is_value more ≡ true
     → walk (sub 0).rules [] nothing_held (a ∷ f ∷ more) ≡ files_at a (f ∷ more)
 take_walk a f more v w all =
     ap (λ k. fold (walked (sub 0).rules []) (walked (sub 0).rules [] k f) more) (idle_walks (sub 0).rules nothing_held 1 a v)
     ∙ ap (λ k. fold (walked (sub 0).rules []) k more) (idle_walks (sub 0).rules (pending [] (codes "STORE") (a ∷ [])) 2 f w)
     ∙ files_walk a (f ∷ []) more all
 
-pub take_faults : (a f : Text) (more : List Text) → is_value a ≡ true → is_value f ≡ true → list_all is_value more ≡ true
+take_faults : (a f : Text) (more : List Text) → is_value a ≡ true → is_value f ≡ true → list_all is_value more ≡ true
     → walk_fault (sub 0) [] (walk_from nothing_held) (a ∷ f ∷ more) ≡ []
 take_faults a f more v w all = fault_step (sub 0) nothing_held 1 a (f ∷ more) v ∙ fault_step (sub 0) (pending [] (codes "STORE") (a ∷ [])) 2 f more w ∙ files_faults a (f ∷ []) more all
 
 -- each text passes as a value
-pub texts_pass : (vs : List Text) → values_kinds false vp.String vs ≡ []
+texts_pass : (vs : List Text) → values_kinds false vp.String vs ≡ []
 texts_pass [] = refl
 texts_pass (v ∷ vs) = texts_pass vs
 
 -- from one value on, as many as a list may have
-pub in_range : (n : ℕ) → 1 ≤ n → n ≤ usize_max → range_kinds 1 usize_max n ≡ []
+in_range : (n : ℕ) → 1 ≤ n → n ≤ usize_max → range_kinds 1 usize_max n ≡ []
 in_range n least most =
     let some : (n == 0) ≡ false = ne_eqb n 0 (λ e. absurd (omega (arith, e, least))) in
     let few : nat_lt n 1 ≡ false = le-ltb n 1 least in
@@ -60,7 +60,7 @@ in_range n least most =
     rw (some, few, many) refl
 
 -- the files that stand at the end are used
-pub files_used : (a f : Text) (more : List Text) → length (f ∷ more) ≤ usize_max → settle_fault (sub 0).rules false (files_at a (f ∷ more)).held ≡ []
+files_used : (a f : Text) (more : List Text) → length (f ∷ more) ≤ usize_max → settle_fault (sub 0).rules false (files_at a (f ∷ more)).held ≡ []
 files_used a f more fits = ap₂ or_else (in_range (length (f ∷ more)) (omega arith) fits) (texts_pass (f ∷ more))
 
 pub take_more : (a f : Text) (more : List Text) → is_value a ≡ true → is_value f ≡ true → list_all is_value more ≡ true → length (f ∷ more) ≤ usize_max

@@ -3,13 +3,15 @@
 ghost use Rattle.std.specs.Prelude.{◌≡◌};
 ghost use Rattle.edf_order.specs.Order.{place_of};
 
+/// The sign behind which a `u32` is read too.
+const PLUS: u8 = b'+';
+
 /// The place that a text names: digits without a sign, from 1 to 4,294,967,295.
 pub(crate) fn read_place(text: &str) -> Option<u32>
     ensures { result ≡ place_of text.now }
 {
     let bytes = text.as_bytes();
-    // A `u32` would be read behind a plus sign too.
-    if !bytes.is_empty() && bytes[0] == b'+' {
+    if !bytes.is_empty() && bytes[0] == PLUS {
         return None;
     }
     match text.parse::<u32>() {
