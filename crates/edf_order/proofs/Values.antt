@@ -4,8 +4,7 @@ use Rattle.std.specs.Str.{bytes_eq}
 use Rattle.clap.specs.Lexer.{long_of, long_of_rest, short_of, short_of_rest, strip_byte}
 use Rattle.clap.specs.Walk.{Held, Rule, Text, Waiting, Walk, arg_by_index, idle, positional, to_positional, value, walked}
 use Rattle.std.proofs.Common.{cond}
-use Rattle.std.specs.Prelude.{◌||◌, option_and_then}
-use Rattle.std.specs.Prelude.{◌==◌}
+use Rattle.std.specs.Prelude.{◌||◌, ◌==◌, option_and_then}
 use Rattle.clap.specs.Faults.{step_fault, turn_fault}
 use Rattle.clap.specs.Simple.{Shape}
 use Rattle.edf_order.specs.Order.{is_value}

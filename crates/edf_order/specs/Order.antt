@@ -17,7 +17,7 @@ abbrev pub is_value : Text → Bool
 is_value [] = true
 is_value (x ∷ rest) = not (x == 45) || length rest == 0
 
--- what can be asked for; a place is a number from 1
+-- what can be asked for, with the values: the store's text, the files' texts in order, the place
 pub data Asked : Type 0 where
   take : Text → List Text → Asked
   list : Text → Asked
@@ -29,10 +29,11 @@ abbrev pub is_place : Text → Bool
 is_place text = nat_lt 0 (length text) && (list_all (λ d. nat_lt (digit_value d) 10) text
     && (nat_lt 0 (digits_value 10 text) && nat_lt (digits_value 10 text) 4294967296))
 
+-- the place that a text names
 abbrev pub place_of : Text → Option ℕ
 place_of text = if is_place text then Some (digits_value 10 text) else None
 
--- each word that may come first, by the values behind it
+-- what is asked for by the values behind each word that may come first
 abbrev pub asked_of_take : List Text → Option Asked
 asked_of_take (store ∷ file ∷ files) = Some (take store (file ∷ files))
 asked_of_take _ = None
@@ -66,9 +67,11 @@ meaning (order.Convert file) = convert (string_bytes file)
 
 -- ---- the same of Rust's words
 
+-- the bytes of the words
 abbrev pub texts : List (String Global) → List Text
 texts words = map string_bytes words
 
+-- none is a flag
 abbrev pub AreValues : List (String Global) → Type 0
 AreValues words = list_all is_value (texts words) ≡ true
 

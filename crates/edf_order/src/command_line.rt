@@ -33,13 +33,14 @@ fn read<'a>(
 
 /// What the words after the program's name ask for.
 ///
-/// The words are `take STORE FILE...`, `list STORE`, `export STORE PLACE` or `convert FILE`; no word at all is `convert -`. PLACE
-/// is digits, without a sign, with a value from 1 to 4,294,967,295; zeros may lead. A word that begins with `-` is a flag, but for
-/// `-` alone, which is a value. The flags are `--help` and `-h`, as `help` and `help WORD` are, and `--`, behind which all are values.
+/// The words are `take STORE FILE...`, `list STORE`, `export STORE PLACE` or `convert FILE`; no word at all is `convert -`.
+/// PLACE is digits, without a sign, with a value from 1 to 4,294,967,295; zeros may lead. A word that begins with `-` is a
+/// flag, but for `-` alone, which is a value: `--help` and `-h` ask for help, as the words `help` and `help WORD` do, and
+/// behind a `--` that follows the first word all are values.
 ///
 /// # Errors
-/// Where no word is a flag, `Help` or `Usage` comes exactly where the words ask for nothing, and `Memory` only in place of
-/// another answer, where memory ran out.
+/// Where no word is a flag, `Help` or `Usage` comes exactly where the words ask for nothing. `Memory` where memory ran out,
+/// in place of any other answer.
 pub fn parse(alloc: Global, words: &[String]) -> Result<Order, CommandFault>
     ensures order { AreValues words.now → IfOk result (AskFor words.now) }
     ensures fault { AreValues words.now → IfErr result (λ fault. fault ≢ CommandFault.Memory → AskForNothing words.now) }
