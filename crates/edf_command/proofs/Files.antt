@@ -3,7 +3,7 @@ use Rattle.std.proofs.Common.{◌≡◌, ℕ, ◌+◌, ◌*◌, ◌^◌, ◌≤�
 use Rattle.std.specs.List.{flat_map}
 use Rattle.std.proofs.lemmas.List.Elements.{All-head, All-cons, All-nil}
 use Rattle.edf_header.specs.Spelled.{spelled_layout}
-use Rattle.edf_header.specs.Rows.{IsLayout}
+use Rattle.edf_header.specs.Header.{IsLayout}
 use Rattle.edf_header.proofs.Headers.{header-layout}
 use Rattle.edf_header.proofs.FixedLaws.{is-fixed}
 use Rattle.edf_header.proofs.ExportOne.{one-export}

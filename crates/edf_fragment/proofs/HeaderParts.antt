@@ -88,8 +88,8 @@ told_first left rest b e told len read memory other (inr first) =
 pub told_second : (left rest : Option (List ℕ)) (n : ℕ) (b : List ℕ) (e : HeaderFault) (told : FragmentFault) → length b ≤ 256 * n → Consumes left rest b
     → (length b < 256 * n → IsAtEnd rest)
     → (e ≡ Memory → told ≡ NoMemory) → ((e ≡ Memory → ⊥) → told ≡ BadHeader e)
-    → (e ≡ Memory) ⊎ IsFirst (SignalsFail b n) e → IsSignalsFault left rest n told
-told_second left rest n b e told within read short memory other (inl is) = subst (IsSignalsFault left rest n) (sym (memory is)) (b, read)
+    → ((e ≡ Memory) × IsClean (SignalsFail b n) 16) ⊎ IsFirst (SignalsFail b n) e → IsSignalsFault left rest n told
+told_second left rest n b e told within read short memory other (inl is) = subst (IsSignalsFault left rest n) (sym (memory is.0)) (b, read)
 told_second left rest n b e told within read short memory other (inr first) =
     let no : e ≡ Memory → ⊥ = λ is. subst (SignalsFail b n) is first.0 in
     let r : ReadsSignalsFault left rest n e =

@@ -2,8 +2,7 @@
 use Rattle.std.proofs.Common.{◌≡◌, ℕ, ◌+◌, ◌*◌, ◌/◌, ◌^◌, ◌≤◌, ◌<◌, List, ◌⊎◌}
 use Rattle.edf_field.specs.Number.{duration_of}
 use Rattle.edf_header.specs.Key.{Key, IsKey, IsSized, key_at, key_bytes}
-use Rattle.edf_header.specs.Header.{FixedPart, HeaderRecord, IsFixed, IsFixedHeader, IsHeader, key_of, layout_of}
-use Rattle.edf_header.specs.Rows.{IsLayout}
+use Rattle.edf_header.specs.Header.{FixedPart, HeaderRecord, IsFixed, IsFixedHeader, IsHeader, key_of, layout_of, IsLayout}
 use Rattle.edf_header.specs.Fault.{FixedPartFails, IsClean, IsHeaderFault}
 use Rattle.edf_header.specs.Canonical.{IsExportHeader}
 use Rattle.edf_header.specs.Spelled.{IsReadAs, spelled_layout}

@@ -3,10 +3,10 @@ use Rattle.std.proofs.Common.{ℕ, ◌+◌, ◌*◌, ◌-◌, List, [], get_or, 
 use Rattle.std.specs.Prelude.{All, ◌⊎◌, codes, neg_ℤ}
 use Rattle.edf_field.specs.Number.{field, signed_value}
 use Rattle.edf_header.specs.Signal.{HasDigital, HasPhysical, HasSamples, IsAnnotationsSignal, IsFirstBad, IsLabelled, Passes, ordinary, samples, samples_in_all}
-use Rattle.edf_header.specs.Rows.{IsSplit}
+use Rattle.edf_header.specs.Inside.Rows.{IsSplit}
 use Rattle.edf_header.specs.Fault.{HasAnnotations, IsTooLarge}
-use Rattle.edf_header.specs.declared.checks.Check.{Check}
-use Rattle.edf_header.specs.declared.checks.Check.TheVariants.{Label, Physical, Digital, Samples}
+use Rattle.edf_header.specs.declared.signal_checks.Check.{Check}
+use Rattle.edf_header.specs.declared.signal_checks.Check.TheVariants.{Label, Physical, Digital, Samples}
 use Rattle.edf_header.proofs.Decided.{Decided, like, both, either, negated, implied, less, at-most, same-bytes, same-int, less-int, at-most-int, first-bad}
 use Rattle.edf_header.proofs.DecidedFields.{physical, differ, signed, whole}
 use Rattle.edf_header.proofs.RowFaults.{none-labelled, not-annotations, two-labelled, split-is}

@@ -4,13 +4,13 @@ use Rattle.std.proofs.lemmas.Bool.{cases_lt}
 use Rattle.edf_header.specs.Identity.{HasLength, HasMark, IsCleanKey, KeyFails, place_in_order, signals_at}
 use Rattle.edf_header.specs.Key.{IsKey, Key, key_at, key_bytes}
 use Rattle.edf_field.specs.Number.{field, IsDuration}
-use Rattle.edf_header.specs.Shape.{IsKeyFront, place_of_check}
+use Rattle.edf_header.specs.Inside.Shape.{IsKeyFront, place_of_check}
 use Rattle.edf_header.specs.Signal.{IsFirstBad, Passes, rows_of, samples_in_all}
 use Rattle.edf_field.specs.Text.{IsPrintable, IsPatient, IsBehindStartdate}
 use Rattle.std.specs.Prelude.{All}
 use Rattle.std.specs.List.{flat_map}
-use Rattle.edf_header.specs.declared.checks.Check.{Check}
-use Rattle.edf_header.specs.declared.checks.Check.TheVariants.{Label as CheckLabel, Physical as CheckPhysical, Digital as CheckDigital, Samples as CheckSamples}
+use Rattle.edf_header.specs.declared.signal_checks.Check.{Check}
+use Rattle.edf_header.specs.declared.signal_checks.Check.TheVariants.{Label as CheckLabel, Physical as CheckPhysical, Digital as CheckDigital, Samples as CheckSamples}
 use Rattle.edf_header.specs.declared.identity.IdentityFault.{IdentityFault}
 use Rattle.edf_header.specs.declared.identity.IdentityFault.TheVariants.{Length, Unprintable, Patient, Recording, Duration, Label, Physical, Digital, Samples, Size, Memory}
 use Rattle.edf_header.proofs.Held.{sliced, count-is, shaped, sized, key-length, key-mark}

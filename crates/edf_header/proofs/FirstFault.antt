@@ -8,8 +8,8 @@ use Rattle.edf_field.specs.Text.{IsPrintable, IsRecording}
 use Rattle.edf_header.specs.Signal.{IsFirstBad, Passes, signals_of}
 use Rattle.edf_header.specs.Header.{IsSameDay}
 use Rattle.edf_header.specs.Fault.{DatesAreOther, FixedPartFails, HasAnnotations, HasSignals, IsBadSignal, IsClean, IsFirst, SignalsFail, header_fault_number}
-use Rattle.edf_header.specs.declared.checks.Check.{Check}
-use Rattle.edf_header.specs.declared.checks.Check.TheVariants as checks
+use Rattle.edf_header.specs.declared.signal_checks.Check.{Check}
+use Rattle.edf_header.specs.declared.signal_checks.Check.TheVariants as checks
 use Rattle.edf_header.specs.declared.fault.HeaderFault.{HeaderFault}
 use Rattle.edf_header.specs.declared.fault.HeaderFault.TheVariants.{Cut, Unprintable, Version, Patient, Recording, Startdate, Starttime, DatesDiffer, NotPlus, Count, Duration, Signals, HeaderBytes, CutSignals, UnprintableSignals, Annotations, Physical, Digital, Samples, Size, Memory}
 use Rattle.edf_field.proofs.Recordings.{one-after}

@@ -7,10 +7,10 @@ use Rattle.edf_field.specs.Number.{field, IsDuration, IsNumber}
 use Rattle.edf_field.specs.Text.{IsPrintable}
 use Rattle.edf_header.specs.Signal.{IsFirstBad, Passes, signals_of}
 use Rattle.edf_header.specs.Header.{AreSignals, FixedPart, HeaderRecord, IsFixedHeader, IsHeader}
-use Rattle.edf_header.specs.Rows.{IsSplit}
+use Rattle.edf_header.specs.Inside.Rows.{IsSplit}
 use Rattle.edf_header.specs.Fault.{FixedPartFails, HasSignals, IsBadSignal, IsClean, IsHeaderFault, SignalsFail}
-use Rattle.edf_header.specs.declared.checks.Check.{Check}
-use Rattle.edf_header.specs.declared.checks.Check.TheVariants as checks
+use Rattle.edf_header.specs.declared.signal_checks.Check.{Check}
+use Rattle.edf_header.specs.declared.signal_checks.Check.TheVariants as checks
 use Rattle.edf_header.specs.declared.fault.HeaderFault.{HeaderFault}
 use Rattle.edf_header.specs.declared.fault.HeaderFault.TheVariants.{Cut, Unprintable, Version, Patient, Recording, Startdate, Starttime, DatesDiffer, NotPlus, Count, Duration, Signals, HeaderBytes, CutSignals, UnprintableSignals, Annotations, Physical, Digital, Samples, Size}
 use Rattle.edf_header.proofs.HeaderFaults.{sound-is}

@@ -10,11 +10,11 @@ use Rattle.edf_field.specs.Number.{field}
 use Rattle.edf_field.specs.Text.{IsPrintable, spaces}
 use Rattle.edf_header.specs.Signal.{HasSamples, Passes, fields, ordinary, row_at, row_by, rows_of, samples, samples_in_all, signals_of}
 use Rattle.edf_header.specs.Key.{IsKey, Key, dated_bytes, key_bytes}
-use Rattle.edf_header.specs.Header.{AreSignals, FixedPart, HeaderRecord, IsFixed, is_dated, key_of, layout_of}
-use Rattle.edf_header.specs.Shape.{key_from}
-use Rattle.edf_header.specs.Rows.{AreExtents, IsLayout, IsSound, annotations_at, others_at}
+use Rattle.edf_header.specs.Header.{AreSignals, FixedPart, HeaderRecord, IsFixed, is_dated, key_of, layout_of, IsLayout}
+use Rattle.edf_header.specs.Inside.Shape.{key_from}
+use Rattle.edf_header.specs.Inside.Rows.{AreExtents, IsSound, annotations_at, others_at}
 use Rattle.edf_header.specs.declared.signals.Extents.{Extents}
-use Rattle.edf_header.specs.declared.checks.Check.TheVariants.{Physical, Digital}
+use Rattle.edf_header.specs.declared.signal_checks.Check.TheVariants.{Physical, Digital}
 use Rattle.edf_header.proofs.RowSteps.{sized-signals}
 use Rattle.edf_header.proofs.RowFaults.{parts-are, ordinary-is, samples-parts}
 

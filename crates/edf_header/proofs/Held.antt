@@ -4,15 +4,15 @@ use Rattle.std.proofs.lemmas.Bool.{cases_Bool}
 use Rattle.std.proofs.lemmas.List.{take_all, length-drop, length-take, get_or_at}
 use Rattle.std.proofs.lemmas.List.Elements.{All-nil, All-cons, All-replicate, All-head, All-tail}
 use Rattle.std.proofs.lemmas.Slice.Eq.{bytes_eq-Decides}
-use Rattle.edf_header.specs.Identity.{HasLength, HasMark, signals_at}
+use Rattle.edf_header.specs.Identity.{HasLength, HasMark, signals_at, IsShaped}
 use Rattle.edf_header.specs.Key.{IsKey, IsSized, Key, dated_bytes, key_at, key_bytes}
 use Rattle.edf_field.specs.Number.{field, IsDuration, duration_of}
-use Rattle.edf_header.specs.Shape.{IsShaped, has_label}
+use Rattle.edf_header.specs.Inside.Shape.{has_label}
 use Rattle.edf_header.specs.Signal.{HasSamples, IsLabelled, Passes, ordinary, rows, rows_of, samples_in_all}
 use Rattle.edf_field.specs.Text.{spaces, subfields}
 use Rattle.std.specs.Prelude.{All, codes, slice_index, ◌==◌}
 use Rattle.std.specs.List.{flat_map}
-use Rattle.edf_header.specs.declared.checks.Check.TheVariants.{Label, Samples}
+use Rattle.edf_header.specs.declared.signal_checks.Check.TheVariants.{Label, Samples}
 use Rattle.edf_field.proofs.Cited.{duration-value}
 use Rattle.edf_field.proofs.Grammar.{spaces-are}
 use Rattle.edf_header.proofs.Strides.{length-field, length-parts}

@@ -3,7 +3,7 @@ use Rattle.std.proofs.Common.{◌≡◌, ℕ, List, arith, refl, ap, inl, inr}
 use Rattle.std.proofs.lemmas.Bool.{cases_lt}
 use Rattle.edf_header.specs.Identity.{IsFirstKeyFault, KeyFails, place_in_order, signals_at}
 use Rattle.edf_field.specs.Text.{IsPrintable}
-use Rattle.edf_header.specs.declared.checks.Check.TheVariants as checks
+use Rattle.edf_header.specs.declared.signal_checks.Check.TheVariants as checks
 use Rattle.edf_header.specs.declared.identity.IdentityFault.{IdentityFault}
 use Rattle.edf_header.specs.declared.identity.IdentityFault.TheVariants.{Length, Unprintable, Patient, Recording, Duration, Label, Physical, Digital, Samples, Size, Memory}
 use Rattle.edf_header.proofs.SpelledOnce.{one-first-bad, one-bad-signal}

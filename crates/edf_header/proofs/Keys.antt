@@ -6,7 +6,7 @@ use Rattle.std.specs.Prelude.{All, cond, ◌==◌}
 use Rattle.std.specs.List.{flat_map}
 use Rattle.edf_header.specs.Key.{IsSized, Key, dated_bytes, key_at, key_bytes}
 use Rattle.edf_field.specs.Number.{field}
-use Rattle.edf_header.specs.Shape.{IsShaped}
+use Rattle.edf_header.specs.Identity.{IsShaped}
 use Rattle.edf_header.specs.Signal.{rows}
 use Rattle.edf_field.specs.Text.{spaces}
 use Rattle.edf_header.proofs.Strides.{cut, length-parts}

@@ -8,10 +8,10 @@ use Rattle.std.proofs.lemmas.Slice.Eq.{bytes_eq-Decides}
 use Rattle.std.specs.Prelude.{All, codes}
 use Rattle.edf_field.specs.Number.{field}
 use Rattle.edf_header.specs.Signal.{IsAnnotationsSignal, IsFirstBad, IsLabelled, Passes, ordinary, samples, samples_in_all}
-use Rattle.edf_header.specs.Shape.{has_label}
-use Rattle.edf_header.specs.Rows.{IsSplit, annotations_at, others_at}
+use Rattle.edf_header.specs.Inside.Shape.{has_label}
+use Rattle.edf_header.specs.Inside.Rows.{IsSplit, annotations_at, others_at}
 use Rattle.edf_header.specs.Fault.{HasAnnotations, IsTooLarge}
-use Rattle.edf_header.specs.declared.checks.Check.TheVariants.{Label}
+use Rattle.edf_header.specs.declared.signal_checks.Check.TheVariants.{Label}
 use Rattle.edf_header.proofs.Held.{all-ordinary}
 use Rattle.edf_header.proofs.Faults.{not-bad}
 

@@ -5,11 +5,11 @@ use Rattle.std.proofs.lemmas.List.{take_at, drop_at}
 use Rattle.std.proofs.lemmas.List.Elements.{All-append, All-cons, All-take, All-drop}
 use Rattle.std.specs.Prelude.{All}
 use Rattle.edf_header.specs.Signal.{HasSamples, IsAnnotationsSignal, IsLabelled, Passes, samples, samples_in_all, signals_of}
-use Rattle.edf_header.specs.Header.{AreSignals, HeaderRecord, IsHeader, key_of, layout_of}
+use Rattle.edf_header.specs.Header.{AreSignals, HeaderRecord, IsHeader, key_of, layout_of, IsLayout}
 use Rattle.edf_header.specs.Key.{IsKey}
 use Rattle.edf_header.specs.Fault.{HasAnnotations, IsClean, IsTooLarge, SignalsFail}
-use Rattle.edf_header.specs.Rows.{IsLayout, IsSplit, others_at}
-use Rattle.edf_header.specs.declared.checks.Check.TheVariants.{Physical, Digital}
+use Rattle.edf_header.specs.Inside.Rows.{IsSplit, others_at}
+use Rattle.edf_header.specs.declared.signal_checks.Check.TheVariants.{Physical, Digital}
 use Rattle.edf_header.proofs.RowFaults.{here, inside, front-plain, behind-is, not-large, ordinary-is}
 use Rattle.edf_header.proofs.HeaderFaults.{clean-21, clean-signals}
 use Rattle.edf_header.proofs.Headers.{header-key, header-layout}

@@ -5,7 +5,7 @@ use Rattle.std.proofs.lemmas.List.Elements.{filter_more}
 use Rattle.std.proofs.lemmas.List.Sums.{sum_by_push}
 use Rattle.std.specs.Prelude.{All}
 use Rattle.std.specs.List.{flat_map}
-use Rattle.edf_header.specs.Shape.{has_label}
+use Rattle.edf_header.specs.Inside.Shape.{has_label}
 use Rattle.edf_header.specs.Signal.{ordinary, rows_of, samples, samples_in_all}
 use Rattle.edf_header.proofs.RowSteps.{length-rows, row-sliced}
 

@@ -8,8 +8,8 @@ use Rattle.edf_header.specs.Signal.{signals_of, Passes, IsFirstBad}
 use Rattle.edf_header.specs.Header.{HeaderRecord, FixedPart, Layout, IsFixedHeader, AreSignals, IsHeader, layout_of}
 use Rattle.edf_header.specs.Spelled.{IsReadAs}
 use Rattle.edf_header.specs.Fault.{FixedPartFails, SignalsFail, HasSignals, IsBadSignal, IsFirst, IsHeaderFault, header_fault_number}
-use Rattle.edf_header.specs.declared.checks.Check.{Check}
-use Rattle.edf_header.specs.declared.checks.Check.TheVariants as checks
+use Rattle.edf_header.specs.declared.signal_checks.Check.{Check}
+use Rattle.edf_header.specs.declared.signal_checks.Check.TheVariants as checks
 use Rattle.edf_header.specs.declared.fault.HeaderFault.{HeaderFault}
 use Rattle.edf_header.specs.declared.fault.HeaderFault.TheVariants.{Cut, Unprintable, Version, Patient, Recording, Startdate, Starttime, DatesDiffer, NotPlus, Count, Duration, Signals, HeaderBytes, CutSignals, UnprintableSignals, Annotations, Physical, Digital, Samples, Size}
 use Rattle.edf_header.proofs.FixedLaws.{no-fault, one-fixed, one-fault}

@@ -5,8 +5,8 @@ use Rattle.edf_field.specs.Number.{field, IsDuration, IsNumber}
 use Rattle.edf_field.specs.Text.{IsPrintable, IsPatient, IsRecording}
 use Rattle.edf_header.specs.Signal.{signals_of, ordinary, samples_in_all, IsLabelled, IsAnnotationsSignal, Passes, IsFirstBad}
 use Rattle.edf_header.specs.Header.{IsSameDay, IsPlus}
-use Rattle.edf_header.specs.declared.checks.Check.{Check}
-use Rattle.edf_header.specs.declared.checks.Check.TheVariants as checks
+use Rattle.edf_header.specs.declared.signal_checks.Check.{Check}
+use Rattle.edf_header.specs.declared.signal_checks.Check.TheVariants as checks
 use Rattle.edf_header.specs.declared.fault.HeaderFault.{HeaderFault}
 use Rattle.edf_header.specs.declared.fault.HeaderFault.TheVariants.{Cut, Unprintable, Version, Patient, Recording, Startdate, Starttime, DatesDiffer, NotPlus, Count, Duration, Signals, HeaderBytes, CutSignals, UnprintableSignals, Annotations, Physical, Digital, Samples, Size, Memory}
 
@@ -40,14 +40,7 @@ FixedPartFails b Count = ¬ HasCount b
 FixedPartFails b Duration = (nanos : ℕ) → ¬ IsDuration (field b 244 8) nanos
 FixedPartFails b Signals = (n : ℕ) → ¬ HasSignals b n
 FixedPartFails b HeaderBytes = (n : ℕ) × HasSignals b n × ¬ IsNumber (field b 184 8) (256 + 256 * n)
-FixedPartFails b CutSignals = ⊥
-FixedPartFails b (UnprintableSignals offset) = ⊥
-FixedPartFails b Annotations = ⊥
-FixedPartFails b (Physical signal) = ⊥
-FixedPartFails b (Digital signal) = ⊥
-FixedPartFails b (Samples signal) = ⊥
-FixedPartFails b Size = ⊥
-FixedPartFails b Memory = ⊥
+FixedPartFails b _ = ⊥
 
 -- exactly one signal is an annotations signal, and it has what it must
 pub record HasAnnotations (signals : List (List ℕ)) : Type 0 where
@@ -77,20 +70,7 @@ SignalsFail s n (Physical signal) = IsBadSignal checks.Physical (signals_of s n)
 SignalsFail s n (Digital signal) = IsBadSignal checks.Digital (signals_of s n) signal
 SignalsFail s n (Samples signal) = IsBadSignal checks.Samples (signals_of s n) signal
 SignalsFail s n Size = IsTooLarge (signals_of s n)
-SignalsFail s n Cut = ⊥
-SignalsFail s n (Unprintable offset) = ⊥
-SignalsFail s n Version = ⊥
-SignalsFail s n Patient = ⊥
-SignalsFail s n Recording = ⊥
-SignalsFail s n Startdate = ⊥
-SignalsFail s n Starttime = ⊥
-SignalsFail s n DatesDiffer = ⊥
-SignalsFail s n NotPlus = ⊥
-SignalsFail s n Count = ⊥
-SignalsFail s n Duration = ⊥
-SignalsFail s n Signals = ⊥
-SignalsFail s n HeaderBytes = ⊥
-SignalsFail s n Memory = ⊥
+SignalsFail s n _ = ⊥
 
 abbrev pub header_fault_number : HeaderFault → ℕ
 header_fault_number Cut = 1

@@ -4,7 +4,7 @@ use Rattle.edf_time.specs.Civil.{IsCivil, IsDateText, window}
 use Rattle.edf_field.specs.Number.{field, IsNumber, IsDuration}
 use Rattle.edf_field.specs.Text.{IsPrintable, IsPatient, IsBehindStartdate, IsRecording, after_of}
 use Rattle.edf_header.specs.Signal.{signals_of, IsOrdinary, HasSamples, IsAnnotationsSignal, samples, samples_in_all}
-use Rattle.edf_header.specs.Key.{Key}
+use Rattle.edf_header.specs.Key.{Key, IsKey}
 
 -- what the fixed part says: the patient field; the Startdate subfield's day, or none for X, and what follows it; the start in
 -- nanoseconds; how many data records; the duration field; how many signals
@@ -138,3 +138,15 @@ layout_of h = record {
   block_bytes = 2 * samples h.annotations;
   record_bytes = 2 * samples_in_all (h.front ++ h.annotations ∷ h.back);
 }
+
+-- what each header's layout keeps: the block lies in the record, and the rest are the ordinary samples
+pub record IsLayout (l : Layout) : Type 0 where
+  pub key : IsKey l.key
+  pub whole_second : l.start % 10 ^ 9 ≡ 0
+  pub some : 1 ≤ l.count
+  pub few : l.count ≤ 99_999_999
+  pub inside : l.block_at + l.block_bytes ≤ l.record_bytes
+  pub parts : l.record_bytes ≡ 2 * samples_in_all l.key.signals + l.block_bytes
+  pub ordinary_size : 2 * samples_in_all l.key.signals ≤ 4_194_304
+  pub block_size : l.block_bytes ≤ 4_194_304
+  pub record_size : l.record_bytes ≤ 8_388_608

@@ -1,11 +1,11 @@
 -- When bytes are no identity: the condition of each fault, and the first in their order.
 use Rattle.std.specs.Prelude.{◌≡◌, ℕ, ◌+◌, ◌-◌, ◌*◌, ◌/◌, ◌≤◌, ◌<◌, ◌⊎◌, List, length, drop, slice_index}
 use Rattle.edf_field.specs.Number.{field, IsDuration, AreSpaces}
-use Rattle.edf_field.specs.Text.{IsPrintable, IsPatient, IsBehindStartdate}
+use Rattle.edf_field.specs.Text.{IsPrintable, IsPatient, IsBehindStartdate, spaces}
 use Rattle.edf_header.specs.Signal.{rows, samples_in_all, IsFirstBad}
 use Rattle.edf_header.specs.Key.{key_at}
 use Rattle.edf_header.specs.Fault.{IsBadSignal}
-use Rattle.edf_header.specs.declared.checks.Check.TheVariants as checks
+use Rattle.edf_header.specs.declared.signal_checks.Check.TheVariants as checks
 use Rattle.edf_header.specs.declared.identity.IdentityFault.{IdentityFault}
 use Rattle.edf_header.specs.declared.identity.IdentityFault.TheVariants.{Length, Unprintable, Patient, Recording, Duration, Label, Physical, Digital, Samples, Size, Memory}
 
@@ -17,6 +17,13 @@ HasLength b = (n : ℕ) × (1 ≤ n) × (n ≤ 639) × (length b ≡ 158 + 256 *
 abbrev pub HasMark : List ℕ → Type 0
 HasMark b = ((slice_index b 80 ≡ 68) × AreSpaces (field b 140 10)) ⊎ (slice_index b 80 ≡ 88)
 
+-- byte 80 is D, with 10 spaces at the end of its part, or X
+pub record IsShaped (bytes : List ℕ) : Type 0 where
+  pub signals : ℕ
+  pub len : length bytes ≡ 158 + 256 * signals
+  pub dated : ((slice_index bytes 80 ≡ 68) × (field bytes 140 10 ≡ spaces 10)) ⊎ (slice_index bytes 80 ≡ 88)
+
+-- its signals
 abbrev pub signals_at : List ℕ → List (List ℕ)
 signals_at b = rows ((length b - 158) / 256) (drop 158 b)
 

@@ -5,5 +5,4 @@ pub mod Fault
 pub mod Canonical
 pub mod Spelled
 pub mod Identity
-pub mod Shape
-pub mod Rows
+pub mod Inside

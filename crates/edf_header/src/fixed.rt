@@ -4,7 +4,7 @@ ghost use Rattle.edf_header.specs.Header.{IsFixed, IsFixedHeader, fixed_at, is_d
 ghost use Rattle.edf_header.specs.Fault.{FixedPartFails, IsFirst};
 
 use crate::fault::HeaderFault;
-use crate::fields::{
+use crate::fixed_fields::{
     check_header_bytes, check_patient, check_plus, check_printable, check_same_day, check_version,
     field_at, read_count, read_nanos, read_signal_count, read_start, read_startdate,
 };

@@ -1,6 +1,5 @@
 ghost use Rattle.std.specs.Prelude.{◌≡◌};
-ghost use Rattle.edf_header.specs.Header.{Layout};
-ghost use Rattle.edf_header.specs.Rows.{IsLayout};
+ghost use Rattle.edf_header.specs.Header.{Layout, IsLayout};
 
 use crate::identity::Identity;
 use edf_time::Instant;
@@ -19,8 +18,7 @@ pub struct Header {
 }
 
 impl Model for Header {
-    ghost use Rattle.edf_header.specs.Header.{Layout};
-    ghost use Rattle.edf_header.specs.Rows.{IsLayout};
+    ghost use Rattle.edf_header.specs.Header.{Layout, IsLayout};
 
     ghost Value = { Layout };
 
@@ -60,8 +58,7 @@ impl Header {
 
     /// The startdate and starttime, a whole second, from where the onsets of annotations count.
     pub fn start(&self) -> Instant
-        ensures value { result ≡ self.now.start }
-        ensures layout { IsLayout self.now }
+        ensures { result ≡ self.now.start }
     {
         self.start
     }

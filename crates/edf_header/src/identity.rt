@@ -4,11 +4,11 @@ ghost use Rattle.edf_field.specs.Text.{IsBehindStartdate, subfields};
 ghost use Rattle.edf_header.specs.Signal.{rows_of, ordinary, samples_in_all, HasSamples, Passes};
 ghost use Rattle.edf_header.specs.Key.{Key, IsKey, dated_bytes, key_bytes, key_at, patient_code, investigation_code};
 ghost use Rattle.edf_header.specs.Identity.{HasLength, HasMark, signals_at, IsCleanKey, IsFirstKeyFault};
-ghost use Rattle.edf_header.specs.Shape.{key_from, place_of_check};
+ghost use Rattle.edf_header.specs.Inside.Shape.{key_from, place_of_check};
 
 use crate::fixed::Fixed;
-use crate::key::{KeyNumbers, after, check_key};
-use crate::ordinary::push_ordinary;
+use crate::identity_checks::{KeyNumbers, after, check_key};
+use crate::rows::push_ordinary;
 use edf_field::next_subfield;
 use std::alloc::{AllocError, Global};
 use std::marker::Model;
@@ -68,7 +68,7 @@ pub struct Identity {
 
 impl Model for Identity {
     ghost use Rattle.edf_header.specs.Key.{Key, key_at};
-    ghost use Rattle.edf_header.specs.Shape.{IsIdentity};
+    ghost use Rattle.edf_header.specs.Inside.Shape.{IsIdentity};
 
     ghost Value = { Key };
 
@@ -218,6 +218,34 @@ impl Identity {
             Some((code, _)) => code,
             None => unreachable!(),
         }
+    }
+
+    /// The patient field, 80 bytes.
+    pub(crate) fn patient_field(&self) -> &[u8]
+        ensures { result.now ≡ self.now.patient }
+    {
+        &self.bytes[0..80]
+    }
+
+    /// What follows the Startdate subfield in the recording field: 59 bytes where the subfield is a date, else 69.
+    pub(crate) fn behind_startdate(&self) -> &[u8]
+        ensures { result.now ≡ self.now.after }
+    {
+        after(&self.bytes)
+    }
+
+    /// The field of the duration of a data record, 8 bytes.
+    pub(crate) fn duration_field(&self) -> &[u8]
+        ensures { result.now ≡ self.now.duration }
+    {
+        &self.bytes[150..158]
+    }
+
+    /// The ordinary signals' headers, each in a row of 256 bytes.
+    pub(crate) fn signal_rows(&self) -> &[u8]
+        ensures { rows_of result.now ≡ self.now.signals }
+    {
+        &self.bytes[158..]
     }
 }
 

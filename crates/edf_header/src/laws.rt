@@ -2,12 +2,10 @@ ghost use Rattle.std.specs.Prelude.{◌≡◌, ◌<◌, ◌≤◌, ◌^◌, ℕ,
 ghost use Rattle.edf_field.specs.Number.{duration_of};
 ghost use Rattle.edf_header.specs.Signal.{columns, signals_of};
 ghost use Rattle.edf_header.specs.Key.{Key, IsKey, IsSized, key_bytes, key_at};
-ghost use Rattle.edf_header.specs.Header.{HeaderRecord, AreSignals, IsHeader, key_of, layout_of};
+ghost use Rattle.edf_header.specs.Header.{HeaderRecord, AreSignals, IsHeader, key_of, layout_of, IsLayout};
 ghost use Rattle.edf_header.specs.Fault.{SignalsFail, IsClean};
-ghost use Rattle.edf_header.specs.Identity.{IsCleanKey, IsFirstKeyFault};
+ghost use Rattle.edf_header.specs.Identity.{IsCleanKey, IsFirstKeyFault, IsShaped};
 ghost use Rattle.edf_header.specs.declared.identity.IdentityFault.{IdentityFault};
-ghost use Rattle.edf_header.specs.Shape.{IsShaped};
-ghost use Rattle.edf_header.specs.Rows.{IsLayout};
 
 /// A law: signals written in columns read back.
 pub fn columns_back()

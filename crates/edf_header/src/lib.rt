@@ -11,23 +11,21 @@
 //! - [`laws_grammar`]: number texts are read exactly where the grammar has them.
 #![tactic(auto)]
 
-mod checks;
 mod columns;
 mod export;
 mod fault;
-mod fields;
 #[cfg(test)]
 mod filled;
 mod fixed;
+mod fixed_fields;
 mod header;
 mod identity;
-mod identity_parts;
-mod key;
+mod identity_checks;
 pub mod laws;
 pub mod laws_export;
 pub mod laws_fixed;
-mod ordinary;
 mod rows;
+mod signal_checks;
 mod signals;
 
 pub use export::write_header;

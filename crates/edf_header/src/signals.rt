@@ -3,16 +3,15 @@ ghost use Rattle.edf_field.specs.Number.{IsSigned, signed_value};
 ghost use Rattle.edf_header.specs.Signal.{rows_of, IsAnnotationsSignal, IsLabelled, Passes};
 ghost use Rattle.edf_header.specs.Header.{HeaderRecord, AreSignals, layout_of};
 ghost use Rattle.edf_header.specs.Fault.{HasAnnotations, IsBadSignal, IsTooLarge, IsFirst, IsSignalsRefusal};
-ghost use Rattle.edf_header.specs.Rows.{RowsFail, IsSplit, IsSound, AreExtents};
+ghost use Rattle.edf_header.specs.Inside.Rows.{RowsFail, IsSplit, IsSound, AreExtents};
 
-use crate::checks::{Check, first_bad, first_unprintable, has_physical, is_labelled};
 use crate::columns::rows_from;
 use crate::fault::HeaderFault;
 use crate::fixed::Fixed;
 use crate::header::Header;
 use crate::identity::Identity;
-use crate::ordinary::ordinary_samples;
-use crate::rows::{row, rows_before, rows_behind};
+use crate::rows::{ordinary_samples, row, rows_before, rows_behind};
+use crate::signal_checks::{Check, first_bad, first_unprintable, has_physical, is_labelled};
 use edf_field::{read_signed, read_whole};
 use std::alloc::Global;
 

@@ -43,18 +43,32 @@ fn the_fixed_part_of_a_night_is_read(rt: HostRuntime) {
 }
 
 #[test]
-fn a_fixed_part_with_one_change_is_accepted(rt: HostRuntime) {
-    let changes: [(usize, &[u8]); 7] = [
-        (8, b"P7 M X X more     "),
-        (88, b"Startdate X N1 T3 REC5          "),
-        (192, b"EDF+C"),
-        (236, b"99999999"),
-        (236, b"0002"),
-        (244, b"0.5"),
-        (184, b"000768"),
+fn a_fixed_part_with_one_change_is_read_as_it_says(rt: HostRuntime) {
+    // the number of data records, whether the recording is dated, the duration in nanoseconds
+    let changes: [(usize, &[u8], u32, bool, u64); 7] = [
+        (8, b"P7 M X X more     ", 1, true, 1_000_000_000),
+        (
+            88,
+            b"Startdate X N1 T3 REC5          ",
+            1,
+            false,
+            1_000_000_000,
+        ),
+        (192, b"EDF+C", 1, true, 1_000_000_000),
+        (236, b"99999999", 99_999_999, true, 1_000_000_000),
+        (236, b"0002", 2, true, 1_000_000_000),
+        (244, b"0.5", 1, true, 500_000_000),
+        (184, b"000768", 1, true, 1_000_000_000),
     ];
-    for (at, text) in changes {
-        assert!(rt; read_fixed(&changed(at, text)).is_ok(), "at {at}");
+    for (at, text, count, dated, nanos) in changes {
+        match read_fixed(&changed(at, text)) {
+            Ok(fixed) => {
+                assert_eq!(rt; fixed.count(), count, "at {at}");
+                assert_eq!(rt; fixed.dated(), dated, "at {at}");
+                assert_eq!(rt; fixed.nanos(), nanos, "at {at}");
+            }
+            Err(_) => assert!(rt; false, "at {at}"),
+        }
     }
 }
 
@@ -112,4 +126,24 @@ fn of_two_faults_the_lower_number_is_told(rt: HostRuntime) {
         read_fixed(&bytes).err(),
         Some(HeaderFault::Unprintable { offset: 200 })
     );
+}
+
+#[test]
+fn a_fault_says_what_is_wrong(rt: HostRuntime) -> Result<(), std::test::Fail> {
+    let texts = [
+        (HeaderFault::Cut, "the file has fewer than 256 bytes"),
+        (
+            HeaderFault::Unprintable { offset: 20 },
+            "byte 20 is not printable",
+        ),
+        (
+            HeaderFault::Physical { signal: 3 },
+            "signal 3 has no two different physical values",
+        ),
+        (HeaderFault::Memory, "out of memory"),
+    ];
+    for (fault, text) in texts {
+        assert_eq!(rt; format!(in rt.alloc(); "{fault}")?.as_str(), text);
+    }
+    Ok(())
 }

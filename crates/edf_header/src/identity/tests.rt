@@ -1,24 +1,6 @@
 use super::*;
-use crate::filled::{changed, filled};
+use crate::filled::{IDENTITY, changed, filled};
 use std::test::Fail;
-
-/// One ordinary signal behind a dated recording identification.
-const IDENTITY: [(&str, usize); 14] = [
-    ("P7 F 02-MAY-1951 X", 80),
-    ("D", 1),
-    (" N1 T3 REC5", 69),
-    ("1", 8),
-    ("EEG Fpz-Cz", 16),
-    ("AgAgCl electrode", 80),
-    ("uV", 8),
-    ("-440", 8),
-    ("510", 8),
-    ("-2048", 8),
-    ("2047", 8),
-    ("HP:0.1Hz LP:75Hz", 80),
-    ("2", 8),
-    ("", 32),
-];
 
 #[test]
 fn an_identity_reads_back_from_its_bytes(rt: HostRuntime) -> Result<(), Fail> {

@@ -1,5 +1,5 @@
 use super::*;
-use crate::filled::{changed, filled};
+use crate::filled::{IDENTITY, changed, filled};
 use crate::fixed::read_fixed;
 use std::test::Fail;
 
@@ -69,18 +69,91 @@ fn the_signal_part_of_a_night_is_read(rt: HostRuntime) -> Result<(), Fail> {
 }
 
 #[test]
-fn a_signal_part_with_one_change_is_accepted(rt: HostRuntime) -> Result<(), Fail> {
+fn a_signal_part_with_one_change_is_read_as_it_says(rt: HostRuntime) -> Result<(), Fail> {
     let bytes = filled(rt.alloc(), &SIGNALS)?;
-    let changes: [(usize, &[u8]); 5] = [
-        (208, b"-440."),
-        (216, b"+0.5"),
-        (240, b"-02048"),
-        (264, b"+32767"),
-        (440, b"2097152"),
+    let identity = filled(rt.alloc(), &IDENTITY)?;
+    // where the change stands, in the signal part and in the identity's bytes, where it reaches them; the bytes of the block
+    let changes: [(usize, &[u8], usize, usize); 5] = [
+        (208, b"-440.", 262, 6),
+        (216, b"+0.5", 500, 6),
+        (240, b"-02048", 278, 6),
+        (264, b"+32767", 500, 6),
+        (440, b"2097152", 500, 4_194_304),
     ];
-    for (at, text) in changes {
+    for (at, text, place, block) in changes {
         let other = changed(rt.alloc(), &bytes, at, text)?;
-        assert!(rt; matches!(read(rt.alloc(), &other), Some(Ok(_))), "at {at}");
+        let Some(Ok(header)) = read(rt.alloc(), &other) else {
+            return Err("a signal part is refused")?;
+        };
+        assert_eq!(rt; header.block_at(), 4, "at {at}");
+        assert_eq!(rt; header.block_bytes(), block, "at {at}");
+        assert_eq!(rt; header.record_bytes(), 4 + block, "at {at}");
+        let wanted = changed(rt.alloc(), &identity, place, text)?;
+        assert_eq!(rt;
+            header.identity().to_bytes(rt.alloc())?.as_slice(),
+            wanted.as_slice(),
+            "at {at}"
+        );
+    }
+    Ok(())
+}
+
+/// The signal part of two ordinary signals round the annotations signal.
+const THREE: [(&str, usize); 21] = [
+    ("EEG Fpz-Cz", 16),
+    ("EDF Annotations", 16),
+    ("EOG horizontal", 16),
+    ("", 240),
+    ("", 24),
+    ("-440", 8),
+    ("-1", 8),
+    ("-440", 8),
+    ("510", 8),
+    ("1", 8),
+    ("510", 8),
+    ("-2048", 8),
+    ("-32768", 8),
+    ("-2048", 8),
+    ("2047", 8),
+    ("32767", 8),
+    ("2047", 8),
+    ("", 240),
+    ("2       3       4", 24),
+    ("", 64),
+    ("", 32),
+];
+
+/// Reads it with another text from an offset on.
+fn read_three(alloc: Global, at: usize, text: &[u8]) -> Option<Result<Header, HeaderFault>> {
+    let first = filled(alloc, &FIXED).ok()?;
+    let longer = changed(alloc, &first, 184, b"1024").ok()?;
+    let three = changed(alloc, &longer, 252, b"3").ok()?;
+    let fixed = read_fixed(three.first_chunk::<256>()?).ok()?;
+    let bytes = changed(alloc, &filled(alloc, &THREE).ok()?, at, text).ok()?;
+    if bytes.len() > 256 * fixed.signals() {
+        return None;
+    }
+    Some(read_signals(alloc, fixed, &bytes))
+}
+
+#[test]
+fn a_fault_is_told_of_the_third_signal(rt: HostRuntime) -> Result<(), Fail> {
+    let Some(Ok(header)) = read_three(rt.alloc(), 0, b"EEG") else {
+        return Err("a header of three signals is refused")?;
+    };
+    assert_eq!(rt; header.block_at(), 4);
+    assert_eq!(rt; header.record_bytes(), 18);
+    assert_eq!(rt; header.identity().ordinary_bytes(), 12);
+    let changes: [(usize, &[u8], HeaderFault); 3] = [
+        (328, b"510 ", HeaderFault::Physical { signal: 3 }),
+        (376, b"2047 ", HeaderFault::Digital { signal: 3 }),
+        (664, b"0", HeaderFault::Samples { signal: 3 }),
+    ];
+    for (at, text, fault) in changes {
+        match read_three(rt.alloc(), at, text) {
+            Some(Err(found)) => assert_eq!(rt; found, fault, "at {at}"),
+            _ => assert!(rt; false, "at {at}"),
+        }
     }
     Ok(())
 }

@@ -1,6 +1,6 @@
 use Rattle.std.proofs.Common.{arith, length, ◌/◌, inl, ◌*◌, ◌≤◌, ◌≡◌}
 use Rattle.edf_header.specs.Signal.{rows_of, samples, samples_in_all, ordinary}
-use Rattle.edf_header.specs.Rows.{annotations_at}
+use Rattle.edf_header.specs.Inside.Rows.{annotations_at}
 use Rattle.edf_header.proofs.RowSteps.{length-rows}
 use Rattle.edf_header.proofs.RowFaults.{large-block, not-large}
 use Rattle.edf_header.proofs.HeaderFaults.{extents-are, block-is}

@@ -2,7 +2,7 @@ use Rattle.std.proofs.Common.{arith, length, ◌/◌, subst, sym, List, ℕ}
 use Rattle.std.proofs.lemmas.Bool.{iff_false}
 use Rattle.std.specs.Prelude.{All}
 use Rattle.edf_header.specs.Signal.{rows_of, IsAnnotationsSignal, IsFirstBad, Passes}
-use Rattle.edf_header.specs.declared.checks.Check.TheVariants.{Label}
+use Rattle.edf_header.specs.declared.signal_checks.Check.TheVariants.{Label}
 use Rattle.edf_header.proofs.RowSteps.{length-rows}
 use Rattle.edf_header.proofs.RowFaults.{none-labelled, not-annotations, two-labelled, split-is}
 use Rattle.edf_header.proofs.signals.find_annotations.Goals as goal

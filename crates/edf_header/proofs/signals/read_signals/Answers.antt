@@ -1,7 +1,8 @@
 use Rattle.std.proofs.Common.{arith, ◌≡◌, ◌+◌, ◌*◌, ◌∙◌, sym, subst, refl, length, inl, inr, List, ℕ}
 use Rattle.edf_header.specs.Key.{IsKey}
 use Rattle.edf_header.specs.Signal.{ordinary, rows_of, samples_in_all, signals_of}
-use Rattle.edf_header.specs.Rows.{AreExtents, IsLayout, IsSound}
+use Rattle.edf_header.specs.Header.{IsLayout}
+use Rattle.edf_header.specs.Inside.Rows.{AreExtents, IsSound}
 use Rattle.edf_header.proofs.HeaderFaults.{first-signals, clean-bytes}
 use Rattle.edf_header.proofs.Headers.{header_of, header-key, header-layout, are-signals, rows-are, key-made, layout-made, ordinary-left}
 use Rattle.edf_header.proofs.signals.read_signals.Goals as goal

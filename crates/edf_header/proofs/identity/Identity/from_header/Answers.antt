@@ -1,7 +1,7 @@
 use Rattle.std.proofs.Common.{◌∙◌, ◌*◌, sym, ap}
 use Rattle.edf_field.specs.Number.{duration_of}
 use Rattle.edf_header.specs.Key.{Key}
-use Rattle.edf_header.specs.Shape.{key_from}
+use Rattle.edf_header.specs.Inside.Shape.{key_from}
 use Rattle.edf_header.specs.Signal.{ordinary, rows_of, samples_in_all}
 use Rattle.edf_header.proofs.Held.{held, keeps}
 use Rattle.edf_header.proofs.identity.Identity.from_header.Goals as goal

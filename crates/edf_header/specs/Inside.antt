@@ -1,0 +1,3 @@
+-- Words of private contracts, which no public contract cites.
+pub mod Rows
+pub mod Shape

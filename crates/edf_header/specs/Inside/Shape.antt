@@ -1,0 +1,41 @@
+-- Words for single steps: the label test, a key from its parts, the bytes that stand for a key, and where a check comes in the order of faults.
+use Rattle.std.specs.Prelude.{◌≡◌, ℕ, ◌+◌, ◌*◌, ◌⊎◌, Bool, List, length, codes, slice_index, All}
+use Rattle.std.specs.Str.{bytes_eq}
+use Rattle.edf_field.specs.Number.{field, IsDuration, duration_of}
+use Rattle.edf_field.specs.Text.{IsPrintable, IsPatient, IsBehindStartdate, spaces}
+use Rattle.edf_header.specs.Key.{Key, IsKey, key_at, key_bytes}
+use Rattle.edf_header.specs.Signal.{samples_in_all}
+use Rattle.edf_header.specs.Header.{FixedPart, is_dated}
+use Rattle.edf_header.specs.Identity.{HasLength, HasMark}
+use Rattle.edf_header.specs.declared.signal_checks.Check.{Check}
+use Rattle.edf_header.specs.declared.signal_checks.Check.TheVariants.{Label, Physical, Digital, Samples}
+
+abbrev pub has_label : List ℕ → Bool
+has_label row = bytes_eq (field row 0 16) (codes "EDF Annotations ")
+
+-- the key of a fixed part and ordinary signals
+abbrev pub key_from : FixedPart → List (List ℕ) → Key
+key_from f ss = record { patient = f.patient; dated = is_dated f.startdate; after = f.after; duration = f.duration; signals = ss }
+
+-- what an identity keeps: its bytes, the duration of a data record in nanoseconds, the bytes of a data record's ordinary samples
+pub record IsIdentity (bytes : List ℕ) (duration ordinary_bytes : ℕ) : Type 0 where
+  pub back : key_bytes (key_at bytes) ≡ bytes
+  pub key : IsKey (key_at bytes)
+  pub duration_is : duration ≡ duration_of (key_at bytes).duration
+  pub ordinary_is : ordinary_bytes ≡ 2 * samples_in_all (key_at bytes).signals
+
+-- the place of a signal's fault in the order of an identity's
+abbrev pub place_of_check : Check → ℕ
+place_of_check Label = 6
+place_of_check Physical = 7
+place_of_check Digital = 8
+place_of_check Samples = 9
+
+-- what stands before an identity's signals has no fault
+pub record IsKeyFront (b : List ℕ) : Type 0 where
+  pub len : HasLength b
+  pub printable : All IsPrintable b
+  pub patient : IsPatient (field b 0 80)
+  pub mark : HasMark b
+  pub behind : IsBehindStartdate (key_at b).after
+  pub duration : (nanos : ℕ) × IsDuration (field b 150 8) nanos

@@ -1,0 +1,190 @@
+//! The fields of a header's fixed part, in the order of their faults: each reader relies on what those before it found, and
+//! tells its own fault alone.
+ghost use Rattle.std.specs.Prelude.{◌≡◌, ℕ, ◌+◌, ◌*◌, ◌≤◌, ◌↔◌, All, IsTrue, codes, length, MatchResult};
+ghost use Rattle.edf_time.specs.Civil.{IsCivil, IsDateText};
+ghost use Rattle.edf_field.specs.Number.{field, IsDuration, IsNumber};
+ghost use Rattle.edf_field.specs.Text.{IsPrintable, IsPatient, IsRecording, after_of};
+ghost use Rattle.edf_header.specs.Header.{IsPlus, IsSameDay};
+ghost use Rattle.edf_header.specs.Fault.{FixedPartFails, IsClean, IsFirst, HasSignals};
+
+use crate::fault::HeaderFault;
+use crate::signal_checks::first_unprintable;
+use edf_field::{is_patient, read_duration, read_recording, read_whole};
+use edf_time::{Day, Instant, StartFault, start_of};
+
+/// The field of N bytes at this offset.
+pub(crate) fn field_at<const N: usize>(bytes: &[u8; 256], at: usize) -> [u8; N]
+    requires { at + N ≤ 256 }
+    ensures { result ≡ field bytes.now at N }
+{
+    let mut text = [0; N];
+    text.copy_from_slice(&bytes[at..at + N]);
+    text
+}
+
+/// Every byte is printable, or E2 is the first fault.
+pub(crate) fn check_printable(bytes: &[u8; 256]) -> Result<(), HeaderFault>
+    ensures { MatchResult result
+        (λ _. All IsPrintable bytes.now × IsClean (FixedPartFails bytes.now) 3)
+        (IsFirst (FixedPartFails bytes.now)) }
+{
+    match first_unprintable(bytes.as_slice()) {
+        Some(offset) => Err(HeaderFault::Unprintable { offset }),
+        None => Ok(()),
+    }
+}
+
+/// The version, bytes 0 to 7, is `0` and seven spaces; or E3 is the first fault.
+pub(crate) fn check_version(bytes: &[u8; 256]) -> Result<(), HeaderFault>
+    requires { IsClean (FixedPartFails bytes.now) 3 }
+    ensures { MatchResult result
+        (λ _. (field bytes.now 0 8 ≡ codes "0       ") × IsClean (FixedPartFails bytes.now) 4)
+        (IsFirst (FixedPartFails bytes.now)) }
+{
+    if &bytes[0..8] != b"0       ".as_slice() {
+        return Err(HeaderFault::Version);
+    }
+    Ok(())
+}
+
+/// The patient field, bytes 8 to 87, is a patient identification; or E4 is the first fault.
+pub(crate) fn check_patient(bytes: &[u8; 256]) -> Result<(), HeaderFault>
+    requires { IsClean (FixedPartFails bytes.now) 4 }
+    ensures { MatchResult result
+        (λ _. IsPatient (field bytes.now 8 80) × IsClean (FixedPartFails bytes.now) 5)
+        (IsFirst (FixedPartFails bytes.now)) }
+{
+    if !is_patient(&bytes[8..88]) {
+        return Err(HeaderFault::Patient);
+    }
+    Ok(())
+}
+
+/// The day of the Startdate subfield in the recording field, bytes 88 to 167, or none where that subfield is `X`; or E5 is the
+/// first fault.
+pub(crate) fn read_startdate(bytes: &[u8; 256]) -> Result<Option<Day>, HeaderFault>
+    requires { IsClean (FixedPartFails bytes.now) 5 }
+    ensures { MatchResult result
+        (λ startdate. IsRecording (field bytes.now 88 80) startdate (after_of startdate (field bytes.now 88 80))
+        × IsClean (FixedPartFails bytes.now) 6)
+        (IsFirst (FixedPartFails bytes.now)) }
+{
+    match read_recording(&bytes[88..168]) {
+        Some((startdate, _)) => Ok(startdate),
+        None => Err(HeaderFault::Recording),
+    }
+}
+
+/// The start, by the startdate, bytes 168 to 175, and the starttime, bytes 176 to 183; or E6 or E7 is the first fault.
+pub(crate) fn read_start(bytes: &[u8; 256]) -> Result<Instant, HeaderFault>
+    requires { IsClean (FixedPartFails bytes.now) 6 }
+    ensures { MatchResult result
+        (λ start. IsCivil (field bytes.now 168 8) (field bytes.now 176 8) start × IsClean (FixedPartFails bytes.now) 8)
+        (IsFirst (FixedPartFails bytes.now)) }
+{
+    let date: [u8; 8] = field_at(bytes, 168);
+    let time: [u8; 8] = field_at(bytes, 176);
+    match start_of(&date, &time) {
+        Ok(start) => Ok(start),
+        Err(StartFault::Date) => Err(HeaderFault::Startdate),
+        Err(StartFault::Time) => Err(HeaderFault::Starttime),
+    }
+}
+
+/// A Startdate subfield that is a date is the startdate's; or E8 is the first fault.
+pub(crate) fn check_same_day(
+    bytes: &[u8; 256],
+    startdate: &Option<Day>,
+    start: Instant,
+) -> Result<(), HeaderFault>
+    requires recording { IsRecording (field bytes.now 88 80) startdate.now (after_of startdate.now (field bytes.now 88 80)) }
+    requires start { IsCivil (field bytes.now 168 8) (field bytes.now 176 8) start }
+    requires clean { IsClean (FixedPartFails bytes.now) 8 }
+    ensures { MatchResult result
+        (λ _. ((days : ℕ) → IsDateText (field bytes.now 168 8) days → IsSameDay startdate.now days)
+        × IsClean (FixedPartFails bytes.now) 9)
+        (IsFirst (FixedPartFails bytes.now)) }
+{
+    let Some(day) = startdate else {
+        return Ok(());
+    };
+    if *day != start.day() {
+        return Err(HeaderFault::DatesDiffer);
+    }
+    Ok(())
+}
+
+/// Whether a reserved field names a file of EDF+.
+fn is_plus(reserved: &[u8]) -> bool
+    requires { 5 ≤ length reserved.now }
+    ensures { IsTrue result ↔ IsPlus reserved.now }
+{
+    let kind = &reserved[..5];
+    kind == b"EDF+C".as_slice() || kind == b"EDF+D".as_slice()
+}
+
+/// The reserved field, bytes 192 to 235, begins with `EDF+C` or `EDF+D`; or E9 is the first fault.
+pub(crate) fn check_plus(bytes: &[u8; 256]) -> Result<(), HeaderFault>
+    requires { IsClean (FixedPartFails bytes.now) 9 }
+    ensures { MatchResult result
+        (λ _. IsPlus (field bytes.now 192 44) × IsClean (FixedPartFails bytes.now) 10)
+        (IsFirst (FixedPartFails bytes.now)) }
+{
+    if !is_plus(&bytes[192..236]) {
+        return Err(HeaderFault::NotPlus);
+    }
+    Ok(())
+}
+
+/// The number of data records, bytes 236 to 243; or E10 is the first fault.
+pub(crate) fn read_count(bytes: &[u8; 256]) -> Result<u32, HeaderFault>
+    requires { IsClean (FixedPartFails bytes.now) 10 }
+    ensures { MatchResult result
+        (λ count. IsNumber (field bytes.now 236 8) count × (1 ≤ count) × IsClean (FixedPartFails bytes.now) 11)
+        (IsFirst (FixedPartFails bytes.now)) }
+{
+    match read_whole(&bytes[236..244]) {
+        Some(count) if count >= 1 => Ok(count),
+        _ => Err(HeaderFault::Count),
+    }
+}
+
+/// The duration of a data record in nanoseconds, bytes 244 to 251; or E11 is the first fault.
+pub(crate) fn read_nanos(bytes: &[u8; 256]) -> Result<u64, HeaderFault>
+    requires { IsClean (FixedPartFails bytes.now) 11 }
+    ensures { MatchResult result
+        (λ nanos. IsDuration (field bytes.now 244 8) nanos × ((n : ℕ) × IsDuration (field bytes.now 244 8) n) × IsClean (FixedPartFails bytes.now) 12)
+        (IsFirst (FixedPartFails bytes.now)) }
+{
+    match read_duration(&bytes[244..252]) {
+        Some(nanos) => Ok(nanos),
+        None => Err(HeaderFault::Duration),
+    }
+}
+
+/// The number of signals, bytes 252 to 255; or E12 is the first fault.
+pub(crate) fn read_signal_count(bytes: &[u8; 256]) -> Result<u32, HeaderFault>
+    requires { IsClean (FixedPartFails bytes.now) 12 }
+    ensures { MatchResult result
+        (λ signals. HasSignals bytes.now signals × IsClean (FixedPartFails bytes.now) 13)
+        (IsFirst (FixedPartFails bytes.now)) }
+{
+    match read_whole(&bytes[252..256]) {
+        Some(signals) if 2 <= signals && signals <= 640 => Ok(signals),
+        _ => Err(HeaderFault::Signals),
+    }
+}
+
+/// The number of header bytes, bytes 184 to 191, is that of so many signals; or E13 is the first fault.
+pub(crate) fn check_header_bytes(bytes: &[u8; 256], signals: u32) -> Result<(), HeaderFault>
+    requires signals { HasSignals bytes.now signals }
+    requires clean { IsClean (FixedPartFails bytes.now) 13 }
+    ensures { MatchResult result
+        (λ _. IsNumber (field bytes.now 184 8) (256 + 256 * signals))
+        (IsFirst (FixedPartFails bytes.now)) }
+{
+    match read_whole(&bytes[184..192]) {
+        Some(len) if len == 256 + 256 * signals => Ok(()),
+        _ => Err(HeaderFault::HeaderBytes),
+    }
+}

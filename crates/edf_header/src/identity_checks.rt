@@ -1,0 +1,138 @@
+ghost use Rattle.std.specs.Prelude.{◌≡◌, ◌≤◌, ◌+◌, ◌*◌, ◌↔◌, IsTrue, MatchResult, All, length};
+ghost use Rattle.edf_field.specs.Number.{duration_of};
+ghost use Rattle.edf_field.specs.Text.{IsBehindStartdate};
+ghost use Rattle.edf_header.specs.Signal.{samples_in_all, Passes};
+ghost use Rattle.edf_header.specs.Key.{key_at};
+ghost use Rattle.edf_header.specs.Identity.{HasLength, HasMark, signals_at, IsCleanKey, IsFirstKeyFault};
+ghost use Rattle.edf_header.specs.Inside.Shape.{IsIdentity, IsKeyFront, place_of_check};
+
+use crate::identity::IdentityFault;
+use crate::rows::ordinary_samples;
+use crate::signal_checks::{Check, first_bad, first_unprintable};
+use edf_field::{are_spaces, is_behind_startdate, is_patient, read_duration};
+
+/// Whether the length is that of an identity.
+fn has_length(bytes: &[u8]) -> bool
+    ensures { IsTrue result ↔ HasLength bytes.now }
+{
+    let n = bytes.len().saturating_sub(158) / 256;
+    bytes.len() == 158 + 256 * n && 1 <= n && n <= 639
+}
+
+/// Whether the mark of the Startdate subfield is there, with its spaces.
+fn has_mark(bytes: &[u8]) -> bool
+    requires { 158 ≤ length bytes.now }
+    ensures { IsTrue result ↔ HasMark bytes.now }
+{
+    match bytes[80] {
+        b'D' => are_spaces(&bytes[140..150]),
+        b'X' => true,
+        _ => false,
+    }
+}
+
+/// What follows the Startdate subfield.
+pub(crate) fn after(bytes: &[u8]) -> &[u8]
+    requires { 158 ≤ length bytes.now }
+    ensures { result.now ≡ (key_at bytes.now).after }
+{
+    if bytes[80] == b'D' {
+        &bytes[81..140]
+    } else {
+        &bytes[81..150]
+    }
+}
+
+/// Whether the recording identification is there, its date left out.
+fn has_recording(bytes: &[u8]) -> bool
+    requires { 158 ≤ length bytes.now }
+    ensures { IsTrue result ↔ HasMark bytes.now × IsBehindStartdate (key_at bytes.now).after }
+{
+    has_mark(bytes) && is_behind_startdate(after(bytes))
+}
+
+/// What is read of an identity's bytes: the duration of a data record in nanoseconds, and the bytes of its ordinary samples.
+#[derive(Clone, Copy)]
+pub(crate) struct KeyNumbers {
+    pub(crate) duration: u64,
+    pub(crate) ordinary_bytes: usize,
+}
+
+/// Checks what stands before the signals, and reads the duration of a data record in nanoseconds.
+fn check_front(bytes: &[u8]) -> Result<u64, IdentityFault>
+    ensures { MatchResult result
+        (λ nanos. IsKeyFront bytes.now × (nanos ≡ duration_of (key_at bytes.now).duration))
+        (IsFirstKeyFault bytes.now) }
+{
+    if !has_length(bytes) {
+        return Err(IdentityFault::Length);
+    }
+    if let Some(offset) = first_unprintable(bytes) {
+        return Err(IdentityFault::Unprintable(offset));
+    }
+    if !is_patient(&bytes[0..80]) {
+        return Err(IdentityFault::Patient);
+    }
+    if !has_recording(bytes) {
+        return Err(IdentityFault::Recording);
+    }
+    match read_duration(&bytes[150..158]) {
+        Some(nanos) => Ok(nanos),
+        None => Err(IdentityFault::Duration),
+    }
+}
+
+/// Looks for the first signal that fails a check.
+fn check_signals(check: Check, bytes: &[u8]) -> Result<(), IdentityFault>
+    requires length { HasLength bytes.now }
+    requires clean { IsCleanKey bytes.now (place_of_check check) }
+    ensures { MatchResult result
+        (λ _. All (Passes check) (signals_at bytes.now) × IsCleanKey bytes.now (place_of_check check + 1))
+        (IsFirstKeyFault bytes.now) }
+{
+    let Some(at) = first_bad(check, &bytes[158..]) else {
+        return Ok(());
+    };
+    let signal = at as u32 + 1;
+    Err(match check {
+        Check::Label => IdentityFault::Label(signal),
+        Check::Physical => IdentityFault::Physical(signal),
+        Check::Digital => IdentityFault::Digital(signal),
+        Check::Samples => IdentityFault::Samples(signal),
+    })
+}
+
+/// How many bytes a data record's ordinary samples have, unless it is too large.
+fn check_size(bytes: &[u8]) -> Result<usize, IdentityFault>
+    requires length { HasLength bytes.now }
+    requires label { All (Passes Check.Label) (signals_at bytes.now) }
+    requires samples { All (Passes Check.Samples) (signals_at bytes.now) }
+    requires clean { IsCleanKey bytes.now 10 }
+    ensures { MatchResult result
+        (λ size. (size ≡ 2 * samples_in_all (signals_at bytes.now)) × (size ≤ 4_194_304) × IsCleanKey bytes.now 11)
+        (IsFirstKeyFault bytes.now) }
+{
+    let size = 2 * ordinary_samples(&bytes[158..]);
+    if size > 4_194_304 {
+        return Err(IdentityFault::Size);
+    }
+    Ok(size as usize)
+}
+
+/// Checks bytes that may be an identity's, and reads what is kept of them.
+pub(crate) fn check_key(bytes: &[u8]) -> Result<KeyNumbers, IdentityFault>
+    ensures { MatchResult result
+        (λ kept. IsIdentity bytes.now kept.duration kept.ordinary_bytes × IsCleanKey bytes.now 11)
+        (IsFirstKeyFault bytes.now) }
+{
+    let duration = check_front(bytes)?;
+    check_signals(Check::Label, bytes)?;
+    check_signals(Check::Physical, bytes)?;
+    check_signals(Check::Digital, bytes)?;
+    check_signals(Check::Samples, bytes)?;
+    let ordinary_bytes = check_size(bytes)?;
+    Ok(KeyNumbers {
+        duration,
+        ordinary_bytes,
+    })
+}

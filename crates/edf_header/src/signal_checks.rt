@@ -1,0 +1,90 @@
+ghost use Rattle.std.specs.Prelude.{◌≡◌, ℕ, List, length, MatchOption, IsTrue, ◌↔◌, All};
+ghost use Rattle.edf_field.specs.Text.{IsPrintable};
+ghost use Rattle.edf_header.specs.Signal.{rows_of, HasPhysical, HasDigital, HasSamples, IsLabelled, Passes, IsFirstBad};
+ghost use Rattle.edf_header.specs.Inside.Shape.{has_label};
+
+use edf_field::{physical_values_differ, read_signed, read_whole};
+
+/// What each signal of a header is checked for, in this order.
+#[derive(Clone, Copy, Debug, PartialEq, Eq)]
+pub enum Check {
+    /// That it is an ordinary signal.
+    Label,
+    /// Its physical minimum and maximum, where it is an ordinary signal.
+    Physical,
+    /// Its digital minimum and maximum, where it is an ordinary signal.
+    Digital,
+    /// Its samples per data record.
+    Samples,
+}
+
+/// Whether the physical minimum and maximum are numbers that differ.
+pub(crate) fn has_physical(row: &[u8]) -> bool
+    requires { length row.now ≡ 256 }
+    ensures { IsTrue result ↔ HasPhysical row.now }
+{
+    physical_values_differ(&row[104..112], &row[112..120])
+}
+
+/// Whether the digital values are numbers of 16 bits, the maximum the greater.
+fn has_digital(row: &[u8]) -> bool
+    requires { length row.now ≡ 256 }
+    ensures { IsTrue result ↔ HasDigital row.now }
+{
+    match (read_signed(&row[120..128]), read_signed(&row[128..136])) {
+        (Some(low), Some(high)) => -32_768 <= low && low < high && high <= 32_767,
+        _ => false,
+    }
+}
+
+/// Whether the samples are a whole number from 1 on.
+fn has_samples(row: &[u8]) -> bool
+    requires { length row.now ≡ 256 }
+    ensures { IsTrue result ↔ HasSamples row.now }
+{
+    match read_whole(&row[216..224]) {
+        Some(n) => n >= 1,
+        None => false,
+    }
+}
+
+/// Whether a signal has the label of an annotations signal.
+pub(crate) fn is_labelled(row: &[u8]) -> bool
+    requires { length row.now ≡ 256 }
+    ensures value { result ≡ has_label row.now }
+    ensures label { IsTrue result ↔ IsLabelled row.now }
+{
+    &row[0..16] == b"EDF Annotations ".as_slice()
+}
+
+/// Whether a signal passes a check.
+fn passes(check: Check, row: &[u8]) -> bool
+    requires { length row.now ≡ 256 }
+    ensures { IsTrue result ↔ Passes check row.now }
+{
+    match check {
+        Check::Label => !is_labelled(row),
+        Check::Physical => is_labelled(row) || has_physical(row),
+        Check::Digital => is_labelled(row) || has_digital(row),
+        Check::Samples => has_samples(row),
+    }
+}
+
+/// The place of the first signal that fails a check.
+pub(crate) fn first_bad(check: Check, rows: &[u8]) -> Option<usize>
+    ensures { MatchOption result (All (Passes check) (rows_of rows.now)) (IsFirstBad (Passes check) (rows_of rows.now)) }
+{
+    for i in 0..rows.len() / 256 {
+        if !passes(check, &rows[256 * i..256 * i + 256]) {
+            return Some(i);
+        }
+    }
+    None
+}
+
+/// The place of the first byte that is not printable.
+pub(crate) fn first_unprintable(bytes: &[u8]) -> Option<usize>
+    ensures { MatchOption result (All IsPrintable bytes.now) (IsFirstBad IsPrintable bytes.now) }
+{
+    bytes.iter().position(|b| !(32..=126).contains(b))
+}
