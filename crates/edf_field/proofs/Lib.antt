@@ -3,3 +3,4 @@ pub mod Grammar
 pub mod Durations
 pub mod Recordings
 pub mod Subfields
+pub mod Cited
