@@ -65,7 +65,8 @@ instant file_start onset = unsigned_abs (pos file_start +ℤ onset)
 
 -- the annotations of a TAL share its onset and duration
 abbrev pub tal_annotations : ℕ → Tal → List Annotation
-tal_annotations file_start t = map (λ text. record { onset = instant file_start t.onset; duration = t.duration; text = text }) t.texts
+tal_annotations file_start t =
+    map (λ text. record { onset = instant file_start t.onset; duration = t.duration; text = text }) t.texts
 
 -- the first TAL keeps time: its first text is empty
 abbrev pub IsTimed : List Tal → Type 0

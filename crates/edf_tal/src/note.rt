@@ -28,8 +28,8 @@ impl Model for Note {
     ghost view = { λ n.
         record { onset = n.onset; duration = n.duration; text = string_bytes n.text } };
 
-    ghost invariant = { λ n.
-        IsAnnotation (record { onset = n.onset; duration = n.duration; text = string_bytes n.text }) };
+    ghost invariant = { λ n. IsAnnotation
+        (record { onset = n.onset; duration = n.duration; text = string_bytes n.text }) };
 }
 
 /// Whether no byte is 0 or 20.
