@@ -32,7 +32,7 @@ pub record GoesOn (l : Layout) (rs ss : List DataRecord) (p q : Place) (x y : Li
   pub all : ss ≡ rs ++ others
   pub are_records : AreDataRecords l p x others q y
 
-goes_on : (l : Layout) (f p q : Place) (b x y : List ℕ) (rs ss : List DataRecord) → length rs ≤ length ss
+pub goes_on : (l : Layout) (f p q : Place) (b x y : List ℕ) (rs ss : List DataRecord) → length rs ≤ length ss
     → AreDataRecords l f b rs p x → AreDataRecords l f b ss q y → GoesOn l rs ss p q x y
 goes_on l f p q b x y [] ss few (place, rest) more = record {
   others = ss;

@@ -14,7 +14,7 @@ use Rattle.edf_tal.specs.declared.place.Place.{Place}
 use Rattle.edf_tal.specs.declared.place.Place.TheVariants.{First}
 use Rattle.edf_fragment.specs.Fragment.{DataRecord, IsDataRecord, AreDataRecords, behind}
 use Rattle.edf_fragment.specs.Reading.{GivesRecord, AnswersIn, IsAnswer, progress_after}
-use Rattle.edf_fragment.specs.Steps.{HasRead}
+use Rattle.edf_fragment.specs.Whole.{HasRead}
 use Rattle.edf_fragment.specs.declared.progress.Progress.{Progress}
 use Rattle.edf_fragment.specs.declared.progress.Status.{Status}
 use Rattle.edf_fragment.specs.declared.progress.Status.TheVariants.{Reading}
@@ -157,4 +157,5 @@ reads_more l left mid rest rs p q r before is gives =
       read = Consumes-trans left mid rest before.bytes gives.bytes before.read gives.read;
       are_records = subst (λ (x : Place). AreDataRecords l First (before.bytes ++ gives.bytes) (rs ++ r ∷ []) x []) (sym place) more;
       given = omega (arith, before.given, length-append rs (r ∷ []));
+      within = omega (arith, gives.wanted, given);
     }

@@ -55,9 +55,7 @@ IsFirstFault bytes (BadHeader fault) = IsHeaderFault bytes fault
 IsFirstFault bytes (CutRecord nth) = IsCutRecord bytes nth
 IsFirstFault bytes (Tal nth fault) = IsRefusedBlock bytes nth fault
 IsFirstFault bytes Trailing = IsTrailing bytes
-IsFirstFault bytes Read = ⊥
-IsFirstFault bytes Memory = ⊥
-IsFirstFault bytes Failed = ⊥
+IsFirstFault bytes fault = ⊥
 
 abbrev pub number : FragmentFault → ℕ
 number (BadHeader fault) = header_number fault

@@ -9,7 +9,6 @@
 
 mod advance;
 mod fault;
-mod filling;
 mod laws;
 mod open_fragment;
 mod opening;
@@ -18,16 +17,17 @@ mod reader;
 mod record;
 #[cfg(test)]
 mod sample;
-mod sending;
 mod streams;
 mod whole;
 
 pub use fault::FragmentFault;
-pub use laws::{answers_join, known_bytes, no_fault_where_spelled, one_fault, one_fragment};
+pub use laws::{
+    answers_join, keys_last, known_bytes, no_fault_where_spelled, one_fault, one_fragment,
+    records_are_sound, records_so_far,
+};
 pub use open_fragment::OpenFragment;
 pub use progress::{Progress, Status};
 pub use reader::FragmentReader;
 pub use record::Record;
-pub use sending::send;
-pub use streams::{Counted, Filled, Input, Output, fill};
+pub use streams::{Counted, Filled, Input, Output, fill, send};
 pub use whole::read_fragment;

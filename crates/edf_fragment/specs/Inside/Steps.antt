@@ -8,10 +8,9 @@ use Rattle.edf_header.specs.declared.fault.HeaderFault.TheVariants.{CutSignals}
 use Rattle.edf_tal.specs.declared.place.Place.{Place}
 use Rattle.edf_tal.specs.declared.place.Place.TheVariants.{First}
 use Rattle.edf_fragment.specs.Fragment.{DataRecord, AreDataRecords}
-use Rattle.edf_fragment.specs.Reading.{Reads, IsNextFault}
-use Rattle.edf_fragment.specs.declared.progress.Progress.{Progress}
+use Rattle.edf_fragment.specs.Reading.{ReadsWithin}
 use Rattle.edf_fragment.specs.declared.fault.FragmentFault.{FragmentFault}
-use Rattle.edf_fragment.specs.declared.fault.FragmentFault.TheVariants.{Header as BadHeader, CutRecord, Tal, Trailing, Read, Memory, Failed}
+use Rattle.edf_fragment.specs.declared.fault.FragmentFault.TheVariants.{Header as BadHeader, CutRecord, Trailing, Read, Memory}
 
 -- the bytes that were read are a fixed part
 pub record ReadsFixed (left rest : Option (List ℕ)) (fixed : Fixed) : Type 0 where
@@ -39,12 +38,9 @@ pub record ReadsSignalsFault (left rest : Option (List ℕ)) (n : ℕ) (fault : 
 -- why there are no signals, and what of the input was read
 abbrev pub IsSignalsFault : Option (List ℕ) → Option (List ℕ) → ℕ → FragmentFault → Type 0
 IsSignalsFault left rest n (BadHeader fault) = ReadsSignalsFault left rest n fault
-IsSignalsFault left rest n (CutRecord nth) = ⊥
-IsSignalsFault left rest n (Tal nth fault) = ⊥
-IsSignalsFault left rest n Trailing = ⊥
-IsSignalsFault left rest n Read = Reads left rest
-IsSignalsFault left rest n Memory = Reads left rest
-IsSignalsFault left rest n Failed = ⊥
+IsSignalsFault left rest n Read = ReadsWithin (256 * n) left rest
+IsSignalsFault left rest n Memory = ReadsWithin (256 * n) left rest
+IsSignalsFault left rest n fault = ⊥
 
 -- fewer bytes were read than were wanted, and no more follow
 pub record IsCutShort (left rest : Option (List ℕ)) (wanted : ℕ) : Type 0 where
@@ -55,13 +51,9 @@ pub record IsCutShort (left rest : Option (List ℕ)) (wanted : ℕ) : Type 0 wh
 
 -- why so many bytes of a data record are not there
 abbrev pub IsPartFault : Option (List ℕ) → Option (List ℕ) → ℕ → ℕ → FragmentFault → Type 0
-IsPartFault left rest wanted nth (BadHeader fault) = ⊥
 IsPartFault left rest wanted nth (CutRecord k) = (k ≡ nth) × IsCutShort left rest wanted
-IsPartFault left rest wanted nth (Tal k fault) = ⊥
-IsPartFault left rest wanted nth Trailing = ⊥
-IsPartFault left rest wanted nth Read = Reads left rest
-IsPartFault left rest wanted nth Memory = ⊥
-IsPartFault left rest wanted nth Failed = ⊥
+IsPartFault left rest wanted nth Read = ReadsWithin wanted left rest
+IsPartFault left rest wanted nth fault = ⊥
 
 -- nothing was read, and nothing is there
 abbrev pub ReadsEnd : Option (List ℕ) → Option (List ℕ) → Type 0
@@ -69,13 +61,9 @@ ReadsEnd left rest = Consumes left rest [] × IsAtEnd rest
 
 -- why the input does not end
 abbrev pub IsEndFault : Option (List ℕ) → Option (List ℕ) → FragmentFault → Type 0
-IsEndFault left rest (BadHeader fault) = ⊥
-IsEndFault left rest (CutRecord nth) = ⊥
-IsEndFault left rest (Tal nth fault) = ⊥
 IsEndFault left rest Trailing = (byte : ℕ) × Consumes left rest (byte ∷ [])
-IsEndFault left rest Read = Reads left rest
-IsEndFault left rest Memory = ⊥
-IsEndFault left rest Failed = ⊥
+IsEndFault left rest Read = ReadsWithin 0 left rest
+IsEndFault left rest fault = ⊥
 
 -- all data records were read, and the input is at its end
 pub record ReadsRecords (l : Layout) (left rest : Option (List ℕ)) (records : List DataRecord) : Type 0 where
@@ -85,18 +73,3 @@ pub record ReadsRecords (l : Layout) (left rest : Option (List ℕ)) (records : 
   pub end : IsAtEnd rest
   pub are_records : AreDataRecords l First bytes records last []
   pub count : length records ≡ l.count
-
--- these data records were read, and the next would stand as this progress says
-pub record HasRead (l : Layout) (left rest : Option (List ℕ)) (records : List DataRecord) (p : Progress) : Type 0 where
-  pub bytes : List ℕ
-  pub read : Consumes left rest bytes
-  pub are_records : AreDataRecords l First bytes records p.place []
-  pub given : p.given ≡ length records
-
--- some data records were read, and then came the fault
-pub record FailsBehind (l : Layout) (left rest : Option (List ℕ)) (fault : FragmentFault) : Type 0 where
-  pub mid : Option (List ℕ)
-  pub records : List DataRecord
-  pub progress : Progress
-  pub before : HasRead l left mid records progress
-  pub is_fault : IsNextFault l progress mid rest fault

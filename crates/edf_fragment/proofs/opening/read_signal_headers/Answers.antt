@@ -2,8 +2,9 @@ use Rattle.std.proofs.Common.{◌≡◌, ◌*◌, List, ℕ, length, take, arith
 use Rattle.std.proofs.lemmas.List.{take_all, length-take}
 use Rattle.std.specs.Io.KnownBytes.{Consumes}
 use Rattle.edf_fragment.proofs.HeaderParts.{told_second}
-use Rattle.edf_fragment.proofs.opening.read_second_part.Goals.{in-Full, in-Cut}
-use Rattle.edf_fragment.proofs.opening.read_second_part.Goals as goal
+use Rattle.edf_fragment.proofs.Pieces.{fewer}
+use Rattle.edf_fragment.proofs.opening.read_signal_headers.Goals.{in-Full, in-Cut}
+use Rattle.edf_fragment.proofs.opening.read_signal_headers.Goals as goal
 
 -- what is there of the buffer, all of it or a front
 pub returns-in-Ok-read_signals-clause-step : goal.returns-in-Ok-read_signals-clause-step
@@ -50,3 +51,6 @@ returns-clause-step g c =
           told (omega (arith, length-take w.in-Cut.at buf)) (subst (Consumes _ _) (sym bytes) cut.1) (λ low. cut.2)
           c.header_refusal.ensures.memory c.header_refusal.ensures.other c.in-Err.ensures
     ]
+
+pub returns-in-Failed-clause-step : goal.returns-in-Failed-clause-step
+returns-in-Failed-clause-step g c = fewer _ _ _ _ (omega (arith, c.in-Ok.ensures.len)) (c.in-Failed.ensures.stopped refl)
