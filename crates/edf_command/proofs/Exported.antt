@@ -4,7 +4,7 @@ use Rattle.std.proofs.lemmas.List.Elements.{All-head, All-tail}
 use Rattle.std.specs.List.{AllByRecursion}
 use Rattle.edf_tal.proofs.Again.{read-first, read-after, read-any}
 use Rattle.edf_time.specs.Civil.{window}
-use Rattle.edf_header.specs.Number.{duration_of}
+use Rattle.edf_field.specs.Number.{duration_of}
 use Rattle.edf_header.specs.Signal.{samples_in_all}
 use Rattle.edf_header.specs.Header.{Layout}
 use Rattle.edf_tal.specs.Tal.{Annotation}

@@ -7,7 +7,7 @@ use Rattle.edf_header.proofs.ExportOne.{one-export}
 use Rattle.edf_header.proofs.ExportHeader.{export-reads}
 use Rattle.edf_command.proofs.BlockLength.{block-length}
 use Rattle.edf_time.specs.Civil.{window}
-use Rattle.edf_header.specs.Number.{duration_of}
+use Rattle.edf_field.specs.Number.{duration_of}
 use Rattle.edf_header.specs.Key.{Key, IsKey}
 use Rattle.edf_header.specs.Header.{Layout}
 use Rattle.edf_header.specs.Canonical.{IsExportHeader}

@@ -2,7 +2,7 @@
 use Rattle.std.proofs.Common.{◌≡◌, ℕ, ◌+◌, ◌≤◌, ◌⊎◌, inl, inr, List, [], ◌∷◌, ◌++◌, length, arith, refl, sym, ap, ◌∙◌, subst, append-nil, length-append, Option, Some, None, IfSome, Result, Ok, Err}
 use Rattle.std.specs.Io.KnownBytes.{Consumes}
 use Rattle.std.proofs.KnownBytes.{Consumes-trans, Consumes-nil}
-use Rattle.edf_header.specs.Header.{Header, IsHeader, Layout, layout_of}
+use Rattle.edf_header.specs.Header.{HeaderRecord, IsHeader, Layout, layout_of}
 use Rattle.edf_header.specs.Fault.{IsHeaderFault}
 use Rattle.edf_header.specs.declared.fault.HeaderFault.{HeaderFault}
 use Rattle.edf_tal.specs.declared.place.Place.{Place}
@@ -62,7 +62,7 @@ open_refused left rest e f = record { place = inl f; first = first_in_header lef
 -- ---- a fault behind some data records
 
 -- the bytes of a header, those of the data records, and what is left
-abbrev up_to : (all one two a b : List ℕ) (h : Header) (rs : List DataRecord) (p : Place) → all ≡ a ++ one → one ≡ b ++ two → IsHeader a h [] → AreDataRecords (layout_of h) First b rs p [] → ReadsUpTo all
+abbrev up_to : (all one two a b : List ℕ) (h : HeaderRecord) (rs : List DataRecord) (p : Place) → all ≡ a ++ one → one ≡ b ++ two → IsHeader a h [] → AreDataRecords (layout_of h) First b rs p [] → ReadsUpTo all
 up_to all one two a b h rs p first second is are = record {
   header = h;
   rest = one;
@@ -73,7 +73,7 @@ up_to all one two a b h rs p first second is are = record {
   are_records = subst (λ (x : List ℕ). AreDataRecords (layout_of h) First x rs p two) (sym second) (AreDataRecords-more (layout_of h) First p b [] two rs are);
 }
 
-cut_of_all : (left mid two rest : Option (List ℕ)) (a b : List ℕ) (h : Header) (rs : List DataRecord) (p : Progress) (nth : ℕ) → Consumes left mid a → Consumes mid two b
+cut_of_all : (left mid two rest : Option (List ℕ)) (a b : List ℕ) (h : HeaderRecord) (rs : List DataRecord) (p : Progress) (nth : ℕ) → Consumes left mid a → Consumes mid two b
     → IsHeader a h [] → AreDataRecords (layout_of h) First b rs p.place [] → p.given ≡ length rs → EndsInRecord (layout_of h) p two rest nth → IfSome left (λ all. IsCutRecord all nth)
 cut_of_all None mid two rest a b h rs p nth x y is are given f = tt
 cut_of_all (Some all) None two rest a b h rs p nth x y is are given f = absurd x
@@ -88,7 +88,7 @@ cut_of_all (Some all) (Some one) (Some two) (Some rest) a b h rs p nth x y is ar
       cut = omega (arith, f.cut, len);
     }
 
-block_of_all : (left mid two rest : Option (List ℕ)) (a b : List ℕ) (h : Header) (rs : List DataRecord) (p : Progress) (nth : ℕ) (e : TalFault) → Consumes left mid a → Consumes mid two b
+block_of_all : (left mid two rest : Option (List ℕ)) (a b : List ℕ) (h : HeaderRecord) (rs : List DataRecord) (p : Progress) (nth : ℕ) (e : TalFault) → Consumes left mid a → Consumes mid two b
     → IsHeader a h [] → AreDataRecords (layout_of h) First b rs p.place [] → p.given ≡ length rs → RefusesBlock (layout_of h) p two rest nth e → IfSome left (λ all. IsRefusedBlock all nth e)
 block_of_all None mid two rest a b h rs p nth e x y is are given f = tt
 block_of_all (Some all) None two rest a b h rs p nth e x y is are given f = absurd x
@@ -107,7 +107,7 @@ block_of_all (Some all) (Some one) (Some two) (Some rest) a b h rs p nth e x y i
       refused = subst (λ (z : List ℕ). IsBlockFault z l.start p.place e) (sym same) f.refused;
     }
 
-more_of_all : (left mid two rest : Option (List ℕ)) (a b : List ℕ) (h : Header) (rs : List DataRecord) (p : Progress) → Consumes left mid a → Consumes mid two b
+more_of_all : (left mid two rest : Option (List ℕ)) (a b : List ℕ) (h : HeaderRecord) (rs : List DataRecord) (p : Progress) → Consumes left mid a → Consumes mid two b
     → IsHeader a h [] → AreDataRecords (layout_of h) First b rs p.place [] → p.given ≡ length rs → FindsMore (layout_of h) p two rest → IfSome left (λ all. IsTrailing all)
 more_of_all None mid two rest a b h rs p x y is are given f = tt
 more_of_all (Some all) None two rest a b h rs p x y is are given f = absurd x
@@ -121,7 +121,7 @@ more_of_all (Some all) (Some one) (Some two) (Some rest) a b h rs p x y is are g
       more = omega (arith, len);
     }
 
-behind_header : (left mid two rest : Option (List ℕ)) (a b : List ℕ) (h : Header) (rs : List DataRecord) (p : Progress) (e : FragmentFault) → Consumes left mid a → Consumes mid two b
+behind_header : (left mid two rest : Option (List ℕ)) (a b : List ℕ) (h : HeaderRecord) (rs : List DataRecord) (p : Progress) (e : FragmentFault) → Consumes left mid a → Consumes mid two b
     → IsHeader a h [] → AreDataRecords (layout_of h) First b rs p.place [] → p.given ≡ length rs → IsNextFault (layout_of h) p two rest e → IsFirstWhereKnown left e
 behind_header left mid two rest a b h rs p (CutRecord nth) x y is are given f = cut_of_all left mid two rest a b h rs p nth x y is are given f
 behind_header left mid two rest a b h rs p (Tal nth e) x y is are given f = block_of_all left mid two rest a b h rs p nth e x y is are given f

@@ -4,9 +4,9 @@ use Rattle.std.proofs.lemmas.List.{take_all, length-take, length-drop, drop-appe
 use Rattle.std.specs.Io.KnownBytes.{Consumes, IsAtEnd}
 use Rattle.std.proofs.KnownBytes.{Consumes-trans}
 use Rattle.edf_header.proofs.FixedLaws.{fixed-clean}
-use Rattle.edf_header.specs.Number.{field}
-use Rattle.edf_header.specs.Header.{Fixed, IsFixedHeader, IsHeader, IsNumber, Layout}
-use Rattle.edf_header.specs.Fault.{Fails, SignalsFail, HasSignals, IsHeaderFault, IsFirst, IsClean, number}
+use Rattle.edf_field.specs.Number.{field, IsNumber}
+use Rattle.edf_header.specs.Header.{FixedPart, IsFixedHeader, IsHeader, Layout}
+use Rattle.edf_header.specs.Fault.{FixedPartFails, SignalsFail, HasSignals, IsHeaderFault, IsFirst, IsClean, header_fault_number}
 use Rattle.edf_header.specs.declared.fault.HeaderFault.{HeaderFault}
 use Rattle.edf_header.specs.declared.fault.HeaderFault.TheVariants.{Cut, Unprintable, Version, Patient, Recording, Startdate, Starttime, DatesDiffer, NotPlus, Count, Duration, Signals, HeaderBytes, CutSignals, UnprintableSignals, Annotations, Physical, Digital, Samples, Size, Memory}
 use Rattle.edf_fragment.specs.Reading.{ReadsWithin, ReadsInHeader, ReadsHeader, ReadsHeaderFault, IsOpenFault, CountsAnswer}
@@ -15,7 +15,7 @@ use Rattle.edf_fragment.specs.declared.fault.FragmentFault.{FragmentFault}
 use Rattle.edf_fragment.specs.declared.fault.FragmentFault.TheVariants.{Header as BadHeader, CutRecord, Tal, Trailing, Read, Memory as NoMemory, Failed}
 
 -- numbers count from 1
-number-from : (e : HeaderFault) → 1 ≤ number e
+number-from : (e : HeaderFault) → 1 ≤ header_fault_number e
 number-from Cut = omega arith
 number-from (Unprintable at) = omega arith
 number-from Version = omega arith
@@ -43,8 +43,8 @@ pub cut_header : (b : List ℕ) → length b < 256 → IsHeaderFault b Cut
 cut_header b short = inl (omega (arith, length-take 256 b), λ other low holds. omega (arith, number-from other))
 
 -- 256 bytes with a fault of the fixed part
-pub first_fault : (b : List ℕ) (e : HeaderFault) → length b ≡ 256 → IsFirst (Fails b) e → IsHeaderFault b e
-first_fault b e len first = inl (subst (λ (x : List ℕ). IsFirst (Fails x) e) (sym (take_all 256 b (omega arith))) first)
+pub first_fault : (b : List ℕ) (e : HeaderFault) → length b ≡ 256 → IsFirst (FixedPartFails b) e → IsHeaderFault b e
+first_fault b e len first = inl (subst (λ (x : List ℕ). IsFirst (FixedPartFails x) e) (sym (take_all 256 b (omega arith))) first)
 
 -- a field of the front
 pub field_front : (a b : List ℕ) (at n : ℕ) → at + n ≤ length a → field (a ++ b) at n ≡ field a at n
@@ -53,17 +53,17 @@ field_front a b at n within =
     ap (take n) (drop-append-le at a b (omega arith)) ∙ take-append-le n (drop at a) b room
 
 -- a fixed part, and behind it signals with a fault
-pub second_fault : (a b : List ℕ) (f : Fixed) (e : HeaderFault) → IsFixedHeader a f → length b ≤ 256 * f.signals
-    → IsFirst (SignalsFail b f.signals) e → IsHeaderFault (a ++ b) e
+pub second_fault : (a b : List ℕ) (f : FixedPart) (e : HeaderFault) → IsFixedHeader a f → length b ≤ 256 * f.signal_count
+    → IsFirst (SignalsFail b f.signal_count) e → IsHeaderFault (a ++ b) e
 second_fault a b f e fixed within first =
     let front : take 256 (a ++ b) ≡ a = take_at a b 256 fixed.len in
-    let back : field (a ++ b) 256 (256 * f.signals) ≡ b = ap (take (256 * f.signals)) (drop_at a b 256 fixed.len) ∙ take_all (256 * f.signals) b within in
+    let back : field (a ++ b) 256 (256 * f.signal_count) ≡ b = ap (take (256 * f.signal_count)) (drop_at a b 256 fixed.len) ∙ take_all (256 * f.signal_count) b within in
     let count : field (a ++ b) 252 4 ≡ field a 252 4 = field_front a b 252 4 (omega (arith, fixed.len)) in
     inr (
-      f.signals,
-      subst (λ (x : List ℕ). IsClean (Fails x) 14) (sym front) (fixed-clean a f fixed),
-      (subst (λ (x : List ℕ). IsNumber x f.signals) (sym count) fixed.signals, fixed.signals_from, fixed.signals_to),
-      subst (λ (x : List ℕ). IsFirst (SignalsFail x f.signals) e) (sym back) first,
+      f.signal_count,
+      subst (λ (x : List ℕ). IsClean (FixedPartFails x) 14) (sym front) (fixed-clean a f fixed),
+      (subst (λ (x : List ℕ). IsNumber x f.signal_count) (sym count) fixed.signals, fixed.signals_from, fixed.signals_to),
+      subst (λ (x : List ℕ). IsFirst (SignalsFail x f.signal_count) e) (sym back) first,
     )
 
 -- what is told where memory was wanted
@@ -73,13 +73,13 @@ told_memory left rest told is reads = subst (IsOpenFault left rest) (sym is) rea
 -- the fault of a whole fixed part
 pub told_first : (left rest : Option (List ℕ)) (b : List ℕ) (e : HeaderFault) (told : FragmentFault) → length b ≡ 256 → Consumes left rest b
     → (e ≡ Memory → told ≡ NoMemory) → ((e ≡ Memory → ⊥) → told ≡ BadHeader e)
-    → (e ≡ Memory) ⊎ IsFirst (Fails b) e → IsOpenFault left rest told
+    → (e ≡ Memory) ⊎ IsFirst (FixedPartFails b) e → IsOpenFault left rest told
 told_first left rest b e told len read memory other (inl is) = told_memory left rest told (memory is) (record { bytes = b; read = read; within = inl (omega (arith, len)) })
 told_first left rest b e told len read memory other (inr first) =
-    let no : e ≡ Memory → ⊥ = λ is. subst (Fails b) is first.0 in
+    let no : e ≡ Memory → ⊥ = λ is. subst (FixedPartFails b) is first.0 in
     let ended : (e ≡ Cut) ⊎ (e ≡ CutSignals) → IsAtEnd rest = elim [
-      | inl is ↦ absurd (let low : length b < 256 = subst (Fails b) is first.0 in omega arith)
-      | inr is ↦ absurd (subst (Fails b) is first.0)
+      | inl is ↦ absurd (let low : length b < 256 = subst (FixedPartFails b) is first.0 in omega arith)
+      | inr is ↦ absurd (subst (FixedPartFails b) is first.0)
     ] in
     let r : ReadsHeaderFault left rest e = record { bytes = b; read = read; is_fault = first_fault b e len first; ended = ended; no_signals = λ low. omega (arith, len); no_records = λ n has. omega (arith, len) } in
     subst (IsOpenFault left rest) (sym (other no)) r
@@ -97,7 +97,7 @@ told_second left rest n b e told within read short memory other (inr first) =
     subst (IsSignalsFault left rest n) (sym (other no)) r
 
 -- both parts of a header
-pub whole_header : (left mid rest : Option (List ℕ)) (f : Fixed) (l : Layout) → ReadsFixed left mid f → ReadsSignals mid rest f l → ReadsHeader left rest l
+pub whole_header : (left mid rest : Option (List ℕ)) (f : FixedPart) (l : Layout) → ReadsFixed left mid f → ReadsSignals mid rest f l → ReadsHeader left rest l
 whole_header left mid rest f l a b =
     let fixed : IsFixedHeader a.bytes b.header.fixed = subst (IsFixedHeader a.bytes) (sym b.same) a.is_fixed in
     let is : IsHeader (a.bytes ++ b.bytes) b.header [] =
@@ -105,7 +105,7 @@ whole_header left mid rest f l a b =
     record { bytes = a.bytes ++ b.bytes; header = b.header; read = Consumes-trans left mid rest a.bytes b.bytes a.read b.read; is_header = is; layout_is = b.layout_is }
 
 -- faults of the signals have numbers from 14 on
-signals-from : (s : List ℕ) (n : ℕ) (e : HeaderFault) → SignalsFail s n e → 14 ≤ number e
+signals-from : (s : List ℕ) (n : ℕ) (e : HeaderFault) → SignalsFail s n e → 14 ≤ header_fault_number e
 signals-from s n CutSignals f = omega arith
 signals-from s n (UnprintableSignals at) f = omega arith
 signals-from s n Annotations f = omega arith
@@ -116,17 +116,17 @@ signals-from s n Size f = omega arith
 signals-from s n e f = absurd f
 
 -- the number of signals that stands in the fixed part
-count-of : (a b : List ℕ) (f : Fixed) (n : ℕ) → IsFixedHeader a f → HasSignals (a ++ b) n → n ≡ f.signals
+count-of : (a b : List ℕ) (f : FixedPart) (n : ℕ) → IsFixedHeader a f → HasSignals (a ++ b) n → n ≡ f.signal_count
 count-of a b f n fixed has =
     let there : field (a ++ b) 252 4 ≡ field a 252 4 = field_front a b 252 4 (omega (arith, fixed.len)) in
     let is : IsNumber (field a 252 4) n = subst (λ (x : List ℕ). IsNumber x n) there has.0 in
     is.value ∙ sym fixed.signals.value
 
 -- a fixed part counts its signals, whatever follows it
-counts-signals : (a b : List ℕ) (f : Fixed) → IsFixedHeader a f → HasSignals (a ++ b) f.signals
+counts-signals : (a b : List ℕ) (f : FixedPart) → IsFixedHeader a f → HasSignals (a ++ b) f.signal_count
 counts-signals a b f fixed =
     let there : field (a ++ b) 252 4 ≡ field a 252 4 = field_front a b 252 4 (omega (arith, fixed.len)) in
-    (subst (λ (x : List ℕ). IsNumber x f.signals) (sym there) fixed.signals, fixed.signals_from, fixed.signals_to)
+    (subst (λ (x : List ℕ). IsNumber x f.signal_count) (sym there) fixed.signals, fixed.signals_from, fixed.signals_to)
 
 -- a header was read
 pub in-header : (left rest : Option (List ℕ)) (l : Layout) → ReadsHeader left rest l → ReadsInHeader left rest
@@ -136,22 +136,22 @@ in-header left rest l h =
       bytes = h.bytes;
       read = h.read;
       within = inr (
-        h.header.fixed.signals,
-        subst (λ (x : List ℕ). HasSignals x h.header.fixed.signals) (sym i.parts) (counts-signals i.first (i.second ++ []) h.header.fixed i.fixed),
+        h.header.fixed.signal_count,
+        subst (λ (x : List ℕ). HasSignals x h.header.fixed.signal_count) (sym i.parts) (counts-signals i.first (i.second ++ []) h.header.fixed i.fixed),
         omega (arith, ap (λ (x : List ℕ). length x) i.parts, length-append i.first (i.second ++ []), length-append {A = ℕ} i.second [], i.fixed.len, i.signals.len),
       );
     }
 
 -- the fixed part was read, and some bytes of the signals
-in-signals : (left mid rest : Option (List ℕ)) (f : Fixed) → ReadsFixed left mid f → ReadsWithin (256 * f.signals) mid rest → ReadsInHeader left rest
+in-signals : (left mid rest : Option (List ℕ)) (f : FixedPart) → ReadsFixed left mid f → ReadsWithin (256 * f.signal_count) mid rest → ReadsInHeader left rest
 in-signals left mid rest f a b = record {
   bytes = a.bytes ++ b.bytes;
   read = Consumes-trans left mid rest a.bytes b.bytes a.read b.read;
-  within = inr (f.signals, counts-signals a.bytes b.bytes f a.is_fixed, omega (arith, length-append a.bytes b.bytes, a.is_fixed.len, b.within));
+  within = inr (f.signal_count, counts-signals a.bytes b.bytes f a.is_fixed, omega (arith, length-append a.bytes b.bytes, a.is_fixed.len, b.within));
 }
 
 -- the fixed part and no signals
-pub header_fault : (left mid rest : Option (List ℕ)) (f : Fixed) (told : FragmentFault) → ReadsFixed left mid f → IsSignalsFault mid rest f.signals told → IsOpenFault left rest told
+pub header_fault : (left mid rest : Option (List ℕ)) (f : FixedPart) (told : FragmentFault) → ReadsFixed left mid f → IsSignalsFault mid rest f.signal_count told → IsOpenFault left rest told
 header_fault left mid rest f (BadHeader e) a b =
     let whole = second_fault a.bytes b.bytes f e a.is_fixed b.within b.is_fault in
     let len : length (a.bytes ++ b.bytes) ≡ 256 + length b.bytes = length-append a.bytes b.bytes ∙ ap (λ (n : ℕ). n + length b.bytes) a.is_fixed.len in
@@ -160,12 +160,12 @@ header_fault left mid rest f (BadHeader e) a b =
       read = Consumes-trans left mid rest a.bytes b.bytes a.read b.read;
       is_fault = whole;
       ended = elim [
-        | inl is ↦ absurd (subst (SignalsFail b.bytes f.signals) is b.is_fault.0)
+        | inl is ↦ absurd (subst (SignalsFail b.bytes f.signal_count) is b.is_fault.0)
         | inr is ↦ b.ended is
       ];
-      no_signals = λ low. absurd (omega (arith, signals-from b.bytes f.signals e b.is_fault.0, low));
+      no_signals = λ low. absurd (omega (arith, signals-from b.bytes f.signal_count e b.is_fault.0, low));
       no_records = λ n has.
-          let same : n ≡ f.signals = count-of a.bytes b.bytes f n a.is_fixed has in
+          let same : n ≡ f.signal_count = count-of a.bytes b.bytes f n a.is_fixed has in
           omega (arith, len, b.within, same);
     }
 header_fault left mid rest f (CutRecord nth) a b = b
@@ -176,8 +176,8 @@ header_fault left mid rest f NoMemory a b = in-signals left mid rest f a b
 header_fault left mid rest f Failed a b = b
 
 -- the answer of the second part, as that of the whole
-pub header_answer : (left mid rest : Option (List ℕ)) (f : Fixed) (result : Result Layout FragmentFault) → ReadsFixed left mid f
-    → MatchResult result (ReadsSignals mid rest f) (IsSignalsFault mid rest f.signals) → MatchResult result (ReadsHeader left rest) (IsOpenFault left rest)
+pub header_answer : (left mid rest : Option (List ℕ)) (f : FixedPart) (result : Result Layout FragmentFault) → ReadsFixed left mid f
+    → MatchResult result (ReadsSignals mid rest f) (IsSignalsFault mid rest f.signal_count) → MatchResult result (ReadsHeader left rest) (IsOpenFault left rest)
 header_answer left mid rest f (Ok l) a b = whole_header left mid rest f l a b
 header_answer left mid rest f (Err e) a b = header_fault left mid rest f e a b
 

@@ -2,7 +2,7 @@
 use Rattle.std.proofs.Common.{◌≡◌, ℕ, ◌+◌, ◌≤◌, ◌<◌, inl, inr, List, [], ◌∷◌, ◌++◌, length, arith, refl, sym, ap, ◌∙◌, subst, append-nil, length-append}
 use Rattle.std.proofs.lemmas.Bool.{cases_lt}
 use Rattle.edf_header.specs.Key.{Key}
-use Rattle.edf_header.specs.Header.{Header, IsHeader, Layout, layout_of}
+use Rattle.edf_header.specs.Header.{HeaderRecord, IsHeader, Layout, layout_of}
 use Rattle.edf_tal.specs.Block.{IsBlockFault}
 use Rattle.edf_tal.specs.declared.place.Place.{Place}
 use Rattle.edf_tal.specs.declared.place.Place.TheVariants.{First}
@@ -118,31 +118,31 @@ spelled b k rs s = record {
 
 -- ---- two readings of the same bytes
 
-pub record SameEnd (h g : Header) (rs ss : List DataRecord) (p q : Place) (x y : List ℕ) : Type 0 where
+pub record SameEnd (h g : HeaderRecord) (rs ss : List DataRecord) (p q : Place) (x y : List ℕ) : Type 0 where
   pub header : h ≡ g
   pub run : SameRun rs ss p q x y
 
-same-end : (b r s : List ℕ) (h g : Header) (rs ss : List DataRecord) (p q : Place) (x y : List ℕ) → IsHeader b h r → IsHeader b g s
+same-end : (b r s : List ℕ) (h g : HeaderRecord) (rs ss : List DataRecord) (p q : Place) (x y : List ℕ) → IsHeader b h r → IsHeader b g s
     → AreDataRecords (layout_of h) First r rs p x → AreDataRecords (layout_of g) First s ss q y
     → IsStuck (layout_of h) rs p x → IsStuck (layout_of g) ss q y → SameEnd h g rs ss p q x y
 same-end b r s h g rs ss p q x y is is2 are are2 stuck stuck2 =
     let one = one-header b h g r s is is2 in
-    let there = subst (λ (z : List ℕ). AreDataRecords (layout_of g) First z rs p x) one.1 (subst (λ (z : Header). AreDataRecords (layout_of z) First r rs p x) one.0 are) in
-    let stuck1 = subst (λ (z : Header). IsStuck (layout_of z) rs p x) one.0 stuck in
+    let there = subst (λ (z : List ℕ). AreDataRecords (layout_of g) First z rs p x) one.1 (subst (λ (z : HeaderRecord). AreDataRecords (layout_of z) First r rs p x) one.0 are) in
+    let stuck1 = subst (λ (z : HeaderRecord). IsStuck (layout_of z) rs p x) one.0 stuck in
     record { header = one.0; run = one-run (layout_of g) First p q s x y rs ss there are2 stuck1 stuck2 }
 
 -- the numbers that two readings share
-record SameNumbers (h g : Header) (rs ss : List DataRecord) (x y : List ℕ) : Type 0 where
+record SameNumbers (h g : HeaderRecord) (rs ss : List DataRecord) (x y : List ℕ) : Type 0 where
   given : length rs ≡ length ss
   count : (layout_of h).count ≡ (layout_of g).count
   size : (layout_of h).record_bytes ≡ (layout_of g).record_bytes
   left : length x ≡ length y
 
-numbers : (h g : Header) (rs ss : List DataRecord) (p q : Place) (x y : List ℕ) → SameEnd h g rs ss p q x y → SameNumbers h g rs ss x y
+numbers : (h g : HeaderRecord) (rs ss : List DataRecord) (p q : Place) (x y : List ℕ) → SameEnd h g rs ss p q x y → SameNumbers h g rs ss x y
 numbers h g rs ss p q x y e = record {
   given = ap (λ (z : List DataRecord). length z) e.run.records;
-  count = ap (λ (z : Header). (layout_of z).count) e.header;
-  size = ap (λ (z : Header). (layout_of z).record_bytes) e.header;
+  count = ap (λ (z : HeaderRecord). (layout_of z).count) e.header;
+  size = ap (λ (z : HeaderRecord). (layout_of z).record_bytes) e.header;
   left = ap (λ (z : List ℕ). length z) e.run.rest;
 }
 
@@ -164,7 +164,7 @@ pub record SameFragment (k j : Key) (rs ss : List DataRecord) : Type 0 where
 pub one-fragment : (b : List ℕ) (k j : Key) (rs ss : List DataRecord) → Spells b k rs → Spells b j ss → SameFragment k j rs ss
 one-fragment b k j rs ss s t =
     let e = both b (spelled b k rs s) (spelled b j ss t) (all-stuck (layout_of s.header) rs s.last [] s.count) (all-stuck (layout_of t.header) ss t.last [] t.count) in
-    record { key = s.key ∙ ap (λ (z : Header). (layout_of z).key) e.header ∙ sym t.key; records = e.run.records }
+    record { key = s.key ∙ ap (λ (z : HeaderRecord). (layout_of z).key) e.header ∙ sym t.key; records = e.run.records }
 
 cut-trailing : (b : List ℕ) (n : ℕ) → IsCutRecord b n → ¬ IsTrailing b
 cut-trailing b n p q =
@@ -195,7 +195,7 @@ one-refused b n m e f p q =
     let s = both b p.up_to q.up_to (block-stuck b n e p) (block-stuck b m f q) in
     let k = both-numbers b p.up_to q.up_to (block-stuck b n e p) (block-stuck b m f q) in
     let g = q.up_to.header in
-    let here = subst (λ (z : Header). IsBlockFault (block (layout_of z) p.up_to.left) (layout_of z).start p.up_to.last e) s.header p.refused in
+    let here = subst (λ (z : HeaderRecord). IsBlockFault (block (layout_of z) p.up_to.left) (layout_of z).start p.up_to.last e) s.header p.refused in
     let place = subst (λ (z : Place). IsBlockFault (block (layout_of g) p.up_to.left) (layout_of g).start z e) s.run.place here in
     let there = subst (λ (z : List ℕ). IsBlockFault (block (layout_of g) z) (layout_of g).start q.up_to.last e) s.run.rest place in
     record { nth = omega (arith, k.given, p.is_nth, q.is_nth); fault = one-fault (block (layout_of g) q.up_to.left) (layout_of g).start q.up_to.last e f there q.refused }

@@ -4,10 +4,10 @@ use Rattle.std.proofs.lemmas.List.{take-append-le, length-take, length-drop}
 use Rattle.std.proofs.lemmas.Bool.{cases_lt}
 use Rattle.std.proofs.lemmas.List.Sums.{sum_by-append, sum_by-cons}
 use Rattle.std.proofs.KnownBytes.{Consumes-trans}
-use Rattle.edf_header.specs.Number.{field}
+use Rattle.edf_field.specs.Number.{field, IsNumber}
 use Rattle.edf_header.specs.Signal.{samples}
-use Rattle.edf_header.specs.Header.{Header, IsHeader, IsNumber, Layout, layout_of}
-use Rattle.edf_header.specs.Fault.{Fails, SignalsFail, HasSignals, IsHeaderFault, IsFirst, IsClean, number}
+use Rattle.edf_header.specs.Header.{HeaderRecord, IsHeader, Layout, layout_of}
+use Rattle.edf_header.specs.Fault.{FixedPartFails, SignalsFail, HasSignals, IsHeaderFault, IsFirst, IsClean, header_fault_number}
 use Rattle.edf_header.specs.declared.fault.HeaderFault.{HeaderFault}
 use Rattle.edf_header.specs.declared.fault.HeaderFault.TheVariants.{Cut, Unprintable, Version, Patient, Recording, Startdate, Starttime, DatesDiffer, NotPlus, Count, Duration, Signals, HeaderBytes, CutSignals, UnprintableSignals, Annotations, Physical, Digital, Samples, Size, Memory}
 use Rattle.edf_tal.specs.declared.place.Place.{Place}
@@ -50,7 +50,7 @@ AreDataRecords-more l p q b rest more (x ∷ rs) (first, back, parts, one, other
 
 -- ---- headers
 
-pub IsHeader-more : (b more : List ℕ) (h : Header) → IsHeader b h [] → IsHeader (b ++ more) h more
+pub IsHeader-more : (b more : List ℕ) (h : HeaderRecord) → IsHeader b h [] → IsHeader (b ++ more) h more
 IsHeader-more b more h is = record {
   first = is.first;
   second = is.second;
@@ -60,26 +60,26 @@ IsHeader-more b more h is = record {
 }
 
 -- a header's annotations block lies within its data records
-pub layout-fits : (h : Header) → (layout_of h).block_at + (layout_of h).block_bytes ≤ (layout_of h).record_bytes
+pub layout-fits : (h : HeaderRecord) → (layout_of h).block_at + (layout_of h).block_bytes ≤ (layout_of h).record_bytes
 layout-fits h = omega (arith, sum_by-append samples h.front (h.annotations ∷ h.back), sum_by-cons samples h.annotations h.back)
 
 not-below : (a b : ℕ) → (a < b → ⊥) → b ≤ a
 not-below a b never = elim (cases_lt a b) [ inl low ↦ absurd (never low) | inr high ↦ high ]
 
 -- a fault of a fixed part that is there
-first-more : (b more : List ℕ) (e : HeaderFault) → 256 ≤ length b → IsFirst (Fails (take 256 b)) e → IsFirst (Fails (take 256 (b ++ more))) e
-first-more b more e enough first = subst (λ (x : List ℕ). IsFirst (Fails x) e) (sym (take-append-le 256 b more enough)) first
+first-more : (b more : List ℕ) (e : HeaderFault) → 256 ≤ length b → IsFirst (FixedPartFails (take 256 b)) e → IsFirst (FixedPartFails (take 256 (b ++ more))) e
+first-more b more e enough first = subst (λ (x : List ℕ). IsFirst (FixedPartFails x) e) (sym (take-append-le 256 b more enough)) first
 
 -- the place of a fault tells that 256 bytes are there
-enough-clean : (b : List ℕ) (n : ℕ) → 1 < n → IsClean (Fails (take 256 b)) n → 256 ≤ length b
+enough-clean : (b : List ℕ) (n : ℕ) → 1 < n → IsClean (FixedPartFails (take 256 b)) n → 256 ≤ length b
 enough-clean b n later clean =
     not-below (length b) 256 (λ low. clean Cut later (omega (arith, length-take 256 b)))
 
-cut-or-later : (e : HeaderFault) → (e ≡ Cut) ⊎ (1 < number e)
+cut-or-later : (e : HeaderFault) → (e ≡ Cut) ⊎ (1 < header_fault_number e)
 cut-or-later Cut = inl refl
 cut-or-later e = inr (omega arith)
 
-signals-later : (s : List ℕ) (n : ℕ) (e : HeaderFault) → SignalsFail s n e → (e ≡ CutSignals) ⊎ (14 < number e)
+signals-later : (s : List ℕ) (n : ℕ) (e : HeaderFault) → SignalsFail s n e → (e ≡ CutSignals) ⊎ (14 < header_fault_number e)
 signals-later s n CutSignals fails = inl refl
 signals-later s n (UnprintableSignals at) fails = inr (omega arith)
 signals-later s n Annotations fails = inr (omega arith)
@@ -103,7 +103,7 @@ signals-later s n HeaderBytes fails = absurd fails
 signals-later s n Memory fails = absurd fails
 
 -- the fault of signals that are there
-second-more : (b more : List ℕ) (n : ℕ) (e : HeaderFault) → IsClean (Fails (take 256 b)) 14 → HasSignals b n → 14 < number e
+second-more : (b more : List ℕ) (n : ℕ) (e : HeaderFault) → IsClean (FixedPartFails (take 256 b)) 14 → HasSignals b n → 14 < header_fault_number e
     → IsFirst (SignalsFail (field b 256 (256 * n)) n) e → IsHeaderFault (b ++ more) e
 second-more b more n e clean has later first =
     let enough : 256 ≤ length b = enough-clean b 14 (omega arith) clean in
@@ -114,7 +114,7 @@ second-more b more n e clean has later first =
     let signals : field (b ++ more) 256 (256 * n) ≡ field b 256 (256 * n) = field_front b more 256 (256 * n) all in
     inr (
       n,
-      subst (λ (x : List ℕ). IsClean (Fails x) 14) (sym front) clean,
+      subst (λ (x : List ℕ). IsClean (FixedPartFails x) 14) (sym front) clean,
       (subst (λ (x : List ℕ). IsNumber x n) (sym count) has.0, has.1, has.2),
       subst (λ (x : List ℕ). IsFirst (SignalsFail x n) e) (sym signals) first,
     )
@@ -129,7 +129,7 @@ pub IsHeaderFault-more : (b more : List ℕ) (e : HeaderFault) → ((e ≡ Cut) 
 IsHeaderFault-more b more e none (inl first) =
     elim (cut-or-later e) [
       | inl cut ↦ same-bytes b more e (none (inl cut)) (inl first)
-      | inr later ↦ inl (first-more b more e (enough-clean b (number e) later first.1) first)
+      | inr later ↦ inl (first-more b more e (enough-clean b (header_fault_number e) later first.1) first)
     ]
 IsHeaderFault-more b more e none (inr (n, clean, has, first)) =
     elim (signals-later (field b 256 (256 * n)) n e first.0) [

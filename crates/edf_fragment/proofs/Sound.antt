@@ -1,12 +1,12 @@
 -- What the data records of a fragment have, and those that were read so far.
 use Rattle.std.proofs.Common.{◌≡◌, ℕ, ◌+◌, ◌*◌, ◌≤◌, ◌<◌, List, [], ◌∷◌, ◌++◌, length, take, drop, arith, sym, ap, ◌∙◌, subst, append-nil, length-append, Option, None, Some, Result, Ok, Err, IfOk, IfSome}
 use Rattle.std.proofs.lemmas.List.{length-take, length-drop}
-use Rattle.edf_header.specs.Number.{duration_of}
+use Rattle.edf_field.specs.Number.{duration_of}
 use Rattle.edf_header.specs.Signal.{samples_in_all}
 use Rattle.edf_header.specs.Key.{Key, IsKey}
 use Rattle.edf_header.specs.Rows.{IsLayout}
-use Rattle.edf_header.specs.Header.{Header, IsHeader, Layout, layout_of}
-use Rattle.edf_header.proofs.Durations.{duration-value}
+use Rattle.edf_header.specs.Header.{HeaderRecord, IsHeader, Layout, layout_of}
+use Rattle.edf_field.proofs.Durations.{duration-value}
 use Rattle.edf_header.proofs.SignalLaws.{header-has-layout}
 use Rattle.edf_header.proofs.SpelledOnce.{one-header}
 use Rattle.edf_tal.specs.Tal.{Annotation}
@@ -126,15 +126,15 @@ abbrev pub Begins : List DataRecord → List DataRecord → Type 0
 Begins all rs = (later : List DataRecord) × (all ≡ rs ++ later)
 
 -- behind the same header, in the same bytes
-front-of : (a b c : List ℕ) (h g : Header) (rest : List ℕ) (rs all : List DataRecord) (p q : Place) → IsHeader (a ++ (b ++ c)) g rest → IsHeader a h []
+front-of : (a b c : List ℕ) (h g : HeaderRecord) (rest : List ℕ) (rs all : List DataRecord) (p q : Place) → IsHeader (a ++ (b ++ c)) g rest → IsHeader a h []
     → AreDataRecords (layout_of h) First b rs p [] → AreDataRecords (layout_of g) First rest all q [] → length rs ≤ length all
     → ((layout_of g).key ≡ (layout_of h).key) × Begins all rs
 front-of a b c h g rest rs all p q is read are spelled few =
     let one = one-header (a ++ (b ++ c)) g h rest (b ++ c) is (IsHeader-more a (b ++ c) h read) in
     let here = AreDataRecords-more (layout_of h) First p b [] c rs are in
-    let there = subst (λ (x : Header). AreDataRecords (layout_of x) First (b ++ c) all q []) one.0 (subst (λ (x : List ℕ). AreDataRecords (layout_of g) First x all q []) one.1 spelled) in
+    let there = subst (λ (x : HeaderRecord). AreDataRecords (layout_of x) First (b ++ c) all q []) one.0 (subst (λ (x : List ℕ). AreDataRecords (layout_of g) First x all q []) one.1 spelled) in
     let on = goes_on (layout_of h) First p q (b ++ c) c [] rs all few here there in
-    (ap (λ (x : Header). (layout_of x).key) one.0, (on.others, on.all))
+    (ap (λ (x : HeaderRecord). (layout_of x).key) one.0, (on.others, on.all))
 
 pub read-front : (all : List ℕ) (one two : Option (List ℕ)) (l : Layout) (rs : List DataRecord) (p : Progress) (k : Key) (others : List DataRecord)
     → ReadsHeader (Some all) one l → HasRead l one two rs p → Spells all k others → (k ≡ l.key) × Begins others rs
@@ -145,6 +145,6 @@ read-front all (Some one) (Some two) l rs p k others h b s =
     let are = subst (λ (x : Layout). AreDataRecords x First b.bytes rs p.place []) h.layout_is b.are_records in
     let is = subst (λ (x : List ℕ). IsHeader x s.header s.rest) parts s.is_header in
     let same = (one-header (h.bytes ++ (b.bytes ++ two)) s.header h.header s.rest (b.bytes ++ two) is (IsHeader-more h.bytes (b.bytes ++ two) h.header h.is_header)).0 in
-    let counts : (layout_of s.header).count ≡ l.count = ap (λ (x : Header). (layout_of x).count) same ∙ ap (λ (x : Layout). x.count) (sym h.layout_is) in
+    let counts : (layout_of s.header).count ≡ l.count = ap (λ (x : HeaderRecord). (layout_of x).count) same ∙ ap (λ (x : Layout). x.count) (sym h.layout_is) in
     let front = front-of h.bytes b.bytes two h.header s.header s.rest rs others p.place s.last is h.is_header are s.are_records (omega (arith, b.given, b.within, s.count, counts)) in
     (s.key ∙ front.0 ∙ ap (λ (x : Layout). x.key) (sym h.layout_is), front.1)

@@ -1,7 +1,7 @@
 -- When a fragment is refused: the first fault, in the order of header, data records, end.
 use Rattle.std.specs.Prelude.{◌≡◌, ℕ, ◌+◌, ◌≤◌, ◌<◌, List, length}
-use Rattle.edf_header.specs.Header.{Header, IsHeader, Layout, layout_of}
-use Rattle.edf_header.specs.Fault.{IsHeaderFault, number as header_number}
+use Rattle.edf_header.specs.Header.{HeaderRecord, IsHeader, Layout, layout_of}
+use Rattle.edf_header.specs.Fault.{IsHeaderFault, header_fault_number}
 use Rattle.edf_tal.specs.Block.{IsBlockFault, number as tal_number}
 use Rattle.edf_tal.specs.declared.place.Place.{Place}
 use Rattle.edf_tal.specs.declared.place.Place.TheVariants.{First}
@@ -12,7 +12,7 @@ use Rattle.edf_fragment.specs.declared.fault.FragmentFault.TheVariants.{Header a
 
 -- a header, the data records before the fault, and what is left of the bytes
 pub record ReadsUpTo (bytes : List ℕ) : Type 0 where
-  pub header : Header
+  pub header : HeaderRecord
   pub rest : List ℕ
   pub records : List DataRecord
   pub last : Place
@@ -58,7 +58,7 @@ IsFirstFault bytes Trailing = IsTrailing bytes
 IsFirstFault bytes fault = ⊥
 
 abbrev pub number : FragmentFault → ℕ
-number (BadHeader fault) = header_number fault
+number (BadHeader fault) = header_fault_number fault
 number (CutRecord nth) = 21
 number (Tal nth fault) = tal_number fault
 number Trailing = 29

@@ -1,8 +1,8 @@
 -- Fragments: a header and its data records.
 use Rattle.std.specs.Prelude.{◌≡◌, ℕ, ◌+◌, ◌≤◌, List, [], ◌∷◌, ◌++◌, length, take, drop}
-use Rattle.edf_header.specs.Number.{field, duration_of}
+use Rattle.edf_field.specs.Number.{field, duration_of}
 use Rattle.edf_header.specs.Key.{Key}
-use Rattle.edf_header.specs.Header.{Header, IsHeader, Layout, layout_of}
+use Rattle.edf_header.specs.Header.{HeaderRecord, IsHeader, Layout, layout_of}
 use Rattle.edf_tal.specs.Tal.{Annotation}
 use Rattle.edf_tal.specs.Block.{IsRead, IsWithinLimits}
 use Rattle.edf_tal.specs.declared.place.Place.{Place}
@@ -45,7 +45,7 @@ AreDataRecords l place bytes (r ∷ rs) last rest =
 
 -- the bytes spell a key and a list of data records, as many as the header says, and nothing follows them
 pub record Spells (bytes : List ℕ) (k : Key) (records : List DataRecord) : Type 0 where
-  pub header : Header
+  pub header : HeaderRecord
   pub rest : List ℕ
   pub last : Place
   pub is_header : IsHeader bytes header rest

@@ -1,8 +1,8 @@
 -- What a reader of fragments reads and answers, call by call. Each says which bytes were read, so pieces don't matter.
 use Rattle.std.specs.Prelude.{◌≡◌, ℕ, ◌+◌, ◌*◌, ◌≤◌, ◌<◌, ◌⊎◌, List, [], ◌∷◌, length, Option, Some, None, Result, Ok, Err, IfSome, MatchResult}
 use Rattle.std.specs.Io.KnownBytes.{Consumes, IsAtEnd}
-use Rattle.edf_header.specs.Header.{Header, IsHeader, Layout, layout_of}
-use Rattle.edf_header.specs.Fault.{HasSignals, IsHeaderFault, number as header_number}
+use Rattle.edf_header.specs.Header.{HeaderRecord, IsHeader, Layout, layout_of}
+use Rattle.edf_header.specs.Fault.{HasSignals, IsHeaderFault, header_fault_number}
 use Rattle.edf_header.specs.declared.fault.HeaderFault.{HeaderFault}
 use Rattle.edf_header.specs.declared.fault.HeaderFault.TheVariants.{Cut, CutSignals}
 use Rattle.edf_tal.specs.Block.{IsBlockFault}
@@ -33,7 +33,7 @@ CountsAnswer old new result = MatchResult result (λ x. new ≡ old) (CountsFaul
 -- the bytes that were read are a header, and this is what it says
 pub record ReadsHeader (left rest : Option (List ℕ)) (layout : Layout) : Type 0 where
   pub bytes : List ℕ
-  pub header : Header
+  pub header : HeaderRecord
   pub read : Consumes left rest bytes
   pub is_header : IsHeader bytes header []
   pub layout_is : layout ≡ layout_of header
@@ -45,7 +45,7 @@ pub record ReadsHeaderFault (left rest : Option (List ℕ)) (fault : HeaderFault
   pub read : Consumes left rest bytes
   pub is_fault : IsHeaderFault bytes fault
   pub ended : (fault ≡ Cut) ⊎ (fault ≡ CutSignals) → IsAtEnd rest
-  pub no_signals : header_number fault < 14 → length bytes ≤ 256
+  pub no_signals : header_fault_number fault < 14 → length bytes ≤ 256
   pub no_records : (n : ℕ) → HasSignals bytes n → length bytes ≤ 256 + 256 * n
 
 -- no byte was read but those of the fixed part, and of the signals that it counts

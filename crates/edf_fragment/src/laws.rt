@@ -1,6 +1,6 @@
 //! Laws of fragments: each function has a law for a contract, and does nothing.
 ghost use Rattle.std.specs.Prelude.{◌≡◌, ℕ, ◌++◌, ◌∷◌, [], ◌⊎◌, ◌≤◌, ◌<◌, List, length, Option, Some, None, Ok, Err};
-ghost use Rattle.edf_header.specs.Number.{duration_of};
+ghost use Rattle.edf_field.specs.Number.{duration_of};
 ghost use Rattle.edf_header.specs.Key.{Key, IsKey};
 ghost use Rattle.edf_header.specs.Header.{Layout};
 ghost use Rattle.edf_fragment.specs.Fragment.{DataRecord, Spells};

@@ -43,7 +43,7 @@ fn read_signal_headers<R: Input>(
     fixed: Fixed,
 ) -> Result<Header, FragmentFault>
     ensures step { MatchResult result (ReadsSignals (R.remaining input.old) (R.remaining input.new) fixed)
-        (IsSignalsFault (R.remaining input.old) (R.remaining input.new) fixed.signals) }
+        (IsSignalsFault (R.remaining input.old) (R.remaining input.new) fixed.signal_count) }
     ensures counted { CountsAnswer (R.failures input.old) (R.failures input.new) result }
 {
     let Ok(mut bytes) = vec![in alloc; 0u8; 256 * fixed.signals()] else {

@@ -4,10 +4,10 @@ use Rattle.std.specs.Prelude.{codes}
 use Rattle.std.specs.Fmt.{decimal}
 use Rattle.std.proofs.lemmas.List.{length-append}
 use Rattle.edf_time.specs.Civil.{day_of, second_of_day}
-use Rattle.edf_header.specs.Text.{padded_to}
+use Rattle.edf_field.specs.Text.{padded_to}
+use Rattle.edf_field.specs.Number.{IsNumber}
 use Rattle.edf_header.specs.Signal.{samples}
 use Rattle.edf_header.specs.Key.{Key, IsKey}
-use Rattle.edf_header.specs.Header.{IsNumber}
 use Rattle.edf_header.specs.Canonical.{annotations_signal, export_signals, IsExportHeader}
 use Rattle.edf_header.specs.Spelled.{Texts, IsSpelledBy, IsReadAs, spelled_layout}
 use Rattle.edf_header.proofs.SpelledTexts.{printable-by}
@@ -27,7 +27,7 @@ texts b k start count n e = record {
   header_bytes = padded_to 8 (decimal (256 + 256 * length (export_signals k n)));
   reserved = padded_to 44 (codes "EDF+D");
   count = padded_to 8 (decimal count);
-  signals = padded_to 4 (decimal (length (export_signals k n)));
+  signal_count = padded_to 4 (decimal (length (export_signals k n)));
 }
 
 says : (b : List ℕ) (k : Key) (start count n : ℕ) → IsKey k → 1 ≤ count → count ≤ 99_999_999 → 1 ≤ n → n ≤ 2_097_152 → (e : IsExportHeader b k start count n)

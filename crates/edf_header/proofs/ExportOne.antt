@@ -5,7 +5,7 @@ use Rattle.std.specs.Fmt.{decimal}
 use Rattle.edf_time.specs.Civil.{day_of, second_of_day}
 use Rattle.edf_time.proofs.FieldTexts.{one-date_text, one-time_text}
 use Rattle.edf_time.proofs.IdDates.{one-id_text}
-use Rattle.edf_header.specs.Text.{padded_to}
+use Rattle.edf_field.specs.Text.{padded_to}
 use Rattle.edf_header.specs.Signal.{columns}
 use Rattle.edf_header.specs.Key.{Key}
 use Rattle.edf_header.specs.Canonical.{export_signals, IsExportHeader}

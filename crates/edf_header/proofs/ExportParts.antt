@@ -1,7 +1,7 @@
 -- What the writer of a header appends, one part after another, and the parts of an identity.
 use Rattle.std.proofs.Common.{◌≡◌, ℕ, ◌+◌, ◌-◌, ◌/◌, ◌≤◌, List, [], ◌∷◌, ◌++◌, length, take, drop, append_assoc, ap, ◌∙◌, arith}
 use Rattle.std.proofs.lemmas.List.{replicate_more, take_all, length-drop}
-use Rattle.edf_header.specs.Text.{spaces}
+use Rattle.edf_field.specs.Text.{spaces}
 use Rattle.edf_header.specs.Signal.{rows, rows_of}
 use Rattle.edf_header.specs.Key.{Key, key_at}
 

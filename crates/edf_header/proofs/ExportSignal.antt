@@ -4,11 +4,10 @@ use Rattle.std.specs.Prelude.{codes}
 use Rattle.std.specs.Fmt.{decimal}
 use Rattle.std.proofs.lemmas.List.{length-append, take_at}
 use Rattle.std.proofs.lemmas.List.Elements.{All-append, All-replicate}
-use Rattle.edf_header.specs.Number.{field, AreSpaces}
-use Rattle.edf_header.specs.Text.{IsPrintable, spaces, padded_to}
+use Rattle.edf_field.specs.Number.{field, AreSpaces, IsNumber}
+use Rattle.edf_field.specs.Text.{IsPrintable, spaces, padded_to}
 use Rattle.edf_header.specs.Signal.{IsAnnotationsSignal, HasSamples, samples}
 use Rattle.edf_header.specs.Canonical.{annotations_signal}
-use Rattle.edf_header.specs.Header.{IsNumber}
 use Rattle.edf_header.specs.Spelled.{IsPrinted}
 use Rattle.edf_header.proofs.SpelledTexts.{printable-by}
 use Rattle.edf_header.proofs.SpelledNumbers.{number-field, spaces-printable}

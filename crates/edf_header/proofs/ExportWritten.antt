@@ -4,7 +4,7 @@ use Rattle.std.specs.Prelude.{codes}
 use Rattle.std.specs.Fmt.{decimal}
 use Rattle.std.proofs.lemmas.List.{length-append}
 use Rattle.edf_time.specs.Civil.{IsDateText, IsTimeText, IsIdDate, day_of, second_of_day}
-use Rattle.edf_header.specs.Text.{padded_to}
+use Rattle.edf_field.specs.Text.{padded_to}
 use Rattle.edf_header.specs.Signal.{columns}
 use Rattle.edf_header.specs.Key.{Key}
 use Rattle.edf_header.specs.Canonical.{annotations_signal, export_signals, IsExportHeader}

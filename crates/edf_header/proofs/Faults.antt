@@ -1,12 +1,12 @@
 -- The faults of identity bytes, one row after another.
 use Rattle.std.proofs.Common.{◌≡◌, ℕ, ◌+◌, ◌-◌, ◌*◌, ◌≤◌, ◌<◌, List, [], ◌++◌, length, take, drop, arith, sym, subst, inl, inr}
 use Rattle.std.proofs.lemmas.Bool.{cases_lt}
-use Rattle.edf_header.specs.Identity.{HasLength, HasMark, IsCleanKey, KeyFails, place_in_order, signals}
+use Rattle.edf_header.specs.Identity.{HasLength, HasMark, IsCleanKey, KeyFails, place_in_order, signals_at}
 use Rattle.edf_header.specs.Key.{IsKey, Key, key_at, key_bytes}
-use Rattle.edf_header.specs.Number.{field, IsDuration}
-use Rattle.edf_header.specs.Shape.{IsFront, place_of_check}
+use Rattle.edf_field.specs.Number.{field, IsDuration}
+use Rattle.edf_header.specs.Shape.{IsKeyFront, place_of_check}
 use Rattle.edf_header.specs.Signal.{IsFirstBad, Passes, rows_of, samples_in_all}
-use Rattle.edf_header.specs.Text.{IsPrintable, IsPatient, IsBehindStartdate}
+use Rattle.edf_field.specs.Text.{IsPrintable, IsPatient, IsBehindStartdate}
 use Rattle.std.specs.Prelude.{All}
 use Rattle.std.specs.List.{flat_map}
 use Rattle.edf_header.specs.declared.checks.Check.{Check}
@@ -49,7 +49,7 @@ clean-5 b len printable patient recording Length lt bad = bad len
 clean-5 b len printable patient recording (Unprintable offset) lt bad = not-bad IsPrintable 0 b offset printable bad
 clean-5 b len printable patient recording e lt bad = absurd (omega arith)
 
-pub clean-6 : (b : List ℕ) → IsFront b → IsCleanKey b 6
+pub clean-6 : (b : List ℕ) → IsKeyFront b → IsCleanKey b 6
 clean-6 b f Duration lt bad = bad f.duration.0 f.duration.1
 clean-6 b f Recording lt bad = bad (f.mark, f.behind)
 clean-6 b f Patient lt bad = bad f.patient
@@ -58,18 +58,18 @@ clean-6 b f (Unprintable offset) lt bad = not-bad IsPrintable 0 b offset f.print
 clean-6 b f e lt bad = absurd (omega arith)
 
 -- past the row of a check that all signals pass
-past : (check : Check) (b : List ℕ) → All (Passes check) (signals b) → (e : IdentityFault) → place_in_order e ≡ place_of_check check → ¬ KeyFails b e
-past CheckLabel b all (Label s) eq bad = not-bad (Passes CheckLabel) [] (signals b) bad.0 all bad.1
+past : (check : Check) (b : List ℕ) → All (Passes check) (signals_at b) → (e : IdentityFault) → place_in_order e ≡ place_of_check check → ¬ KeyFails b e
+past CheckLabel b all (Label s) eq bad = not-bad (Passes CheckLabel) [] (signals_at b) bad.0 all bad.1
 past CheckLabel b all e eq bad = absurd (omega arith)
-past CheckPhysical b all (Physical s) eq bad = not-bad (Passes CheckPhysical) [] (signals b) bad.0 all bad.1
+past CheckPhysical b all (Physical s) eq bad = not-bad (Passes CheckPhysical) [] (signals_at b) bad.0 all bad.1
 past CheckPhysical b all e eq bad = absurd (omega arith)
-past CheckDigital b all (Digital s) eq bad = not-bad (Passes CheckDigital) [] (signals b) bad.0 all bad.1
+past CheckDigital b all (Digital s) eq bad = not-bad (Passes CheckDigital) [] (signals_at b) bad.0 all bad.1
 past CheckDigital b all e eq bad = absurd (omega arith)
-past CheckSamples b all (Samples s) eq bad = not-bad (Passes CheckSamples) [] (signals b) bad.0 all bad.1
+past CheckSamples b all (Samples s) eq bad = not-bad (Passes CheckSamples) [] (signals_at b) bad.0 all bad.1
 past CheckSamples b all e eq bad = absurd (omega arith)
 
 pub all-passed : (check : Check) (b : List ℕ) → IsCleanKey b (place_of_check check) → All (Passes check) (rows_of (take (length b - 158) (drop 158 b)))
-    → All (Passes check) (signals b) × IsCleanKey b (place_of_check check + 1)
+    → All (Passes check) (signals_at b) × IsCleanKey b (place_of_check check + 1)
 all-passed check b clean all =
     let here = subst (All (Passes check)) (sliced b) all in (
       here,
@@ -79,29 +79,23 @@ all-passed check b clean all =
       ],
     )
 
-pub bad-at : (check : Check) (b : List ℕ) (at : ℕ) → IsFirstBad (Passes check) (rows_of (take (length b - 158) (drop 158 b))) at → IsFirstBad (Passes check) (signals b) at
+pub bad-at : (check : Check) (b : List ℕ) (at : ℕ) → IsFirstBad (Passes check) (rows_of (take (length b - 158) (drop 158 b))) at → IsFirstBad (Passes check) (signals_at b) at
 bad-at check b at bad = subst (λ (l : List (List ℕ)). IsFirstBad (Passes check) l at) (sliced b) bad
 
 pub at-small : (check : Check) (b : List ℕ) (at : ℕ) → HasLength b → IsFirstBad (Passes check) (rows_of (take (length b - 158) (drop 158 b))) at → at < 639
 at-small check b at len bad = omega (arith, (bad-at check b at bad).within, count-is b len.0 len.3, len.2)
 
 -- past the size
-pub clean-11 : (b : List ℕ) → IsCleanKey b 10 → 2 * samples_in_all (signals b) ≤ 4_194_304 → IsCleanKey b 11
+pub clean-11 : (b : List ℕ) → IsCleanKey b 10 → 2 * samples_in_all (signals_at b) ≤ 4_194_304 → IsCleanKey b 11
 clean-11 b clean size Size lt bad = absurd (omega (arith, bad))
 clean-11 b clean size Memory lt bad = absurd (omega arith)
 clean-11 b clean size e lt bad = clean e (omega arith) bad
 
-passed : (b : List ℕ) → All (Passes CheckLabel) (signals b) → All (Passes CheckPhysical) (signals b) → All (Passes CheckDigital) (signals b) → All (Passes CheckSamples) (signals b) → (check : Check) → All (Passes check) (signals b)
-passed b l p d s CheckLabel = l
-passed b l p d s CheckPhysical = p
-passed b l p d s CheckDigital = d
-passed b l p d s CheckSamples = s
-
-pub is-key : (b : List ℕ) → IsFront b → All (Passes CheckLabel) (signals b) → All (Passes CheckPhysical) (signals b) → All (Passes CheckDigital) (signals b) → All (Passes CheckSamples) (signals b)
-    → 2 * samples_in_all (signals b) ≤ 4_194_304 → (key_bytes (key_at b) ≡ b) × IsKey (key_at b)
+pub is-key : (b : List ℕ) → IsKeyFront b → All (Passes CheckLabel) (signals_at b) → All (Passes CheckPhysical) (signals_at b) → All (Passes CheckDigital) (signals_at b) → All (Passes CheckSamples) (signals_at b)
+    → 2 * samples_in_all (signals_at b) ≤ 4_194_304 → (key_bytes (key_at b) ≡ b) × IsKey (key_at b)
 is-key b f l p d s size =
     let back = bytes-back b (shaped b f.len f.mark) in
-    let n : length (signals b) ≡ f.len.0 = count-is b f.len.0 f.len.3 in (
+    let n : length (signals_at b) ≡ f.len.0 = count-is b f.len.0 f.len.3 in (
       back,
       record {
         sized = sized b f.len;
@@ -111,12 +105,13 @@ is-key b f l p d s size =
         duration = f.duration;
         signals_from = omega (arith, f.len.1);
         signals_to = omega (arith, f.len.2);
-        signals = passed b l p d s;
+        signals = λ i x lt. record { label = l i x lt; physical = p i x lt (l i x lt); digital = d i x lt (l i x lt) };
+        each_samples = s;
         size = size;
       },
     )
 
-front-of : (k : Key) → IsKey k → IsFront (key_bytes k)
+front-of : (k : Key) → IsKey k → IsKeyFront (key_bytes k)
 front-of k i =
     let back = key-back k i.sized in
     record {
@@ -128,11 +123,18 @@ front-of k i =
       duration = (i.duration.0, subst (λ (k : Key). IsDuration k.duration i.duration.0) (sym back) i.duration.1);
     }
 
-clean-by : (b : List ℕ) → IsFront b → ((check : Check) → All (Passes check) (signals b)) → IsCleanKey b 10
-clean-by b f all (Label s) lt bad = not-bad (Passes CheckLabel) [] (signals b) bad.0 (all CheckLabel) bad.1
-clean-by b f all (Physical s) lt bad = not-bad (Passes CheckPhysical) [] (signals b) bad.0 (all CheckPhysical) bad.1
-clean-by b f all (Digital s) lt bad = not-bad (Passes CheckDigital) [] (signals b) bad.0 (all CheckDigital) bad.1
-clean-by b f all (Samples s) lt bad = not-bad (Passes CheckSamples) [] (signals b) bad.0 (all CheckSamples) bad.1
+-- the signals of a key pass each check
+passed : (k : Key) → IsKey k → (check : Check) → All (Passes check) k.signals
+passed k i CheckLabel at d lt = (i.signals at d lt).label
+passed k i CheckPhysical at d lt = λ label. (i.signals at d lt).physical
+passed k i CheckDigital at d lt = λ label. (i.signals at d lt).digital
+passed k i CheckSamples at d lt = i.each_samples at d lt
+
+clean-by : (b : List ℕ) → IsKeyFront b → ((check : Check) → All (Passes check) (signals_at b)) → IsCleanKey b 10
+clean-by b f all (Label s) lt bad = not-bad (Passes CheckLabel) [] (signals_at b) bad.0 (all CheckLabel) bad.1
+clean-by b f all (Physical s) lt bad = not-bad (Passes CheckPhysical) [] (signals_at b) bad.0 (all CheckPhysical) bad.1
+clean-by b f all (Digital s) lt bad = not-bad (Passes CheckDigital) [] (signals_at b) bad.0 (all CheckDigital) bad.1
+clean-by b f all (Samples s) lt bad = not-bad (Passes CheckSamples) [] (signals_at b) bad.0 (all CheckSamples) bad.1
 clean-by b f all Size lt bad = absurd (omega arith)
 clean-by b f all Memory lt bad = absurd (omega arith)
 clean-by b f all e lt bad = clean-6 b f e (omega arith) bad
@@ -141,5 +143,5 @@ clean-by b f all e lt bad = clean-6 b f e (omega arith) bad
 pub key-clean : (k : Key) → IsKey k → IsCleanKey (key_bytes k) 11
 key-clean k i =
     let back = key-back k i.sized in
-    clean-11 (key_bytes k) (clean-by (key_bytes k) (front-of k i) (λ check. subst (λ (k : Key). All (Passes check) k.signals) (sym back) (i.signals check)))
+    clean-11 (key_bytes k) (clean-by (key_bytes k) (front-of k i) (λ check. subst (λ (k : Key). All (Passes check) k.signals) (sym back) (passed k i check)))
     (subst (λ (k : Key). 2 * samples_in_all k.signals ≤ 4_194_304) (sym back) i.size)

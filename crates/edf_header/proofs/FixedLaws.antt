@@ -12,12 +12,12 @@ use Rattle.std.proofs.lemmas.List.Elements.{All-take, All-drop}
 use Rattle.std.proofs.Math.Nat.{pow-le-pow_right}
 use Rattle.edf_time.proofs.IdDates.{one-id_day}
 use Rattle.edf_time.proofs.Starts.{start-parts, one-start}
-use Rattle.edf_header.proofs.Recordings.{x-no-date, one-after}
-use Rattle.edf_header.specs.Number.{field, whole_value, digits, digits_len}
-use Rattle.edf_header.specs.Text.{IsPrintable, IsStartdate}
+use Rattle.edf_field.proofs.Recordings.{x-no-date, one-after}
+use Rattle.edf_field.specs.Number.{field, whole_value, digits, digits_len, IsNumber}
+use Rattle.edf_field.specs.Text.{IsPrintable, IsStartdate}
 use Rattle.edf_header.specs.Signal.{IsFirstBad}
-use Rattle.edf_header.specs.Header.{Fixed, IsFixed, IsFixedHeader, IsNumber, IsSameDay, is_dated}
-use Rattle.edf_header.specs.Fault.{Fails, IsClean, IsFirst, number}
+use Rattle.edf_header.specs.Header.{FixedPart, IsFixed, IsFixedHeader, IsSameDay, is_dated}
+use Rattle.edf_header.specs.Fault.{FixedPartFails, IsClean, IsFirst, header_fault_number}
 use Rattle.edf_header.specs.declared.fault.HeaderFault.{HeaderFault}
 use Rattle.edf_header.specs.declared.fault.HeaderFault.TheVariants.{Cut, Unprintable, Version, Patient, Recording, Startdate, Starttime, DatesDiffer, NotPlus, Count, Duration, Signals, HeaderBytes, CutSignals, UnprintableSignals, Annotations, Physical, Digital, Samples, Size, Memory}
 
@@ -31,7 +31,7 @@ same-startdate f s None a b days p q same = tt
 same-startdate f None (Some day) a b days p q same = absurd (x-no-date f day p.0 q.1)
 same-startdate f (Some other) (Some day) a b days p q same = one-id_day (field f 10 11) day other q.1 p.1 ∙ same
 
-pub no-fault : (b : List ℕ) (h : Fixed) → IsFixedHeader b h → (e : HeaderFault) → ¬ Fails b e
+pub no-fault : (b : List ℕ) (h : FixedPart) → IsFixedHeader b h → (e : HeaderFault) → ¬ FixedPartFails b e
 no-fault b h f Cut bad = omega (arith, f.len)
 no-fault b h f (Unprintable at) bad = bad.bad 0 (f.printable at 0 bad.within)
 no-fault b h f Version bad = bad f.version
@@ -43,9 +43,9 @@ no-fault b h f DatesDiffer bad = bad.other (same-startdate (field b 88 80) h.sta
 no-fault b h f NotPlus bad = bad f.reserved
 no-fault b h f Count bad = bad (h.count, f.count, f.count_some)
 no-fault b h f Duration bad = bad f.is_duration.0 (rw (sym f.duration) f.is_duration.1)
-no-fault b h f Signals bad = bad h.signals (f.signals, f.signals_from, f.signals_to)
+no-fault b h f Signals bad = bad h.signal_count (f.signals, f.signals_from, f.signals_to)
 no-fault b h f HeaderBytes bad =
-    let same : bad.0 ≡ h.signals = one-number (field b 252 4) bad.0 h.signals bad.1.0 f.signals in
+    let same : bad.0 ≡ h.signal_count = one-number (field b 252 4) bad.0 h.signal_count bad.1.0 f.signals in
     bad.2 (rw same f.header_bytes)
 no-fault b h f CutSignals bad = bad
 no-fault b h f (UnprintableSignals at) bad = bad
@@ -56,20 +56,20 @@ no-fault b h f (Samples at) bad = bad
 no-fault b h f Size bad = bad
 no-fault b h f Memory bad = bad
 
-pub fixed-clean : (b : List ℕ) (h : Fixed) → IsFixedHeader b h → IsClean (Fails b) 14
+pub fixed-clean : (b : List ℕ) (h : FixedPart) → IsFixedHeader b h → IsClean (FixedPartFails b) 14
 fixed-clean b h f e lt = no-fault b h f e
 
 -- ---- one fixed part
 
-pub one-fixed : (b : List ℕ) (h g : Fixed) → IsFixedHeader b h → IsFixedHeader b g → h ≡ g
+pub one-fixed : (b : List ℕ) (h g : FixedPart) → IsFixedHeader b h → IsFixedHeader b g → h ≡ g
 one-fixed b h g p q =
     let recording = one-after (field b 88 80) h.startdate g.startdate h.after g.after p.recording.front q.recording.front in
     let patient = p.patient ∙ sym q.patient in
     let start = one-start (field b 168 8) (field b 176 8) h.start g.start p.start q.start in
     let count = one-number (field b 236 8) h.count g.count p.count q.count in
     let duration = p.duration ∙ sym q.duration in
-    let signals = one-number (field b 252 4) h.signals g.signals p.signals q.signals in
-    λ i. record { patient = patient i; startdate = recording.0 i; after = recording.1 i; start = start i; count = count i; duration = duration i; signals = signals i }
+    let signals = one-number (field b 252 4) h.signal_count g.signal_count p.signals q.signals in
+    λ i. record { patient = patient i; startdate = recording.0 i; after = recording.1 i; start = start i; count = count i; duration = duration i; signal_count = signals i }
 
 -- ---- one fault
 
@@ -94,7 +94,7 @@ fault_at n at =
     cond (eqb n 1) Cut (cond (eqb n 2) (Unprintable at) (cond (eqb n 3) Version (cond (eqb n 4) Patient (cond (eqb n 5) Recording (cond (eqb n 6) Startdate (cond (eqb n 7) Starttime
     (cond (eqb n 8) DatesDiffer (cond (eqb n 9) NotPlus (cond (eqb n 10) Count (cond (eqb n 11) Duration (cond (eqb n 12) Signals HeaderBytes)))))))))))
 
-placed : (b : List ℕ) (e : HeaderFault) → Fails b e → e ≡ fault_at (number e) (spot e)
+placed : (b : List ℕ) (e : HeaderFault) → FixedPartFails b e → e ≡ fault_at (header_fault_number e) (spot e)
 placed b Cut fails = refl
 placed b (Unprintable at) fails = refl
 placed b Version fails = refl
@@ -117,32 +117,32 @@ placed b (Samples at) fails = absurd fails
 placed b Size fails = absurd fails
 placed b Memory fails = absurd fails
 
-spot-bad : (b : List ℕ) (e : HeaderFault) → Fails b e → number e ≡ 2 → IsFirstBad IsPrintable b (spot e)
+spot-bad : (b : List ℕ) (e : HeaderFault) → FixedPartFails b e → header_fault_number e ≡ 2 → IsFirstBad IsPrintable b (spot e)
 spot-bad b (Unprintable at) fails same = fails
 spot-bad b e fails same = absurd (omega arith)
 
-spot-none : (b : List ℕ) (e : HeaderFault) → (number e ≡ 2 → ⊥) → spot e ≡ 0
+spot-none : (b : List ℕ) (e : HeaderFault) → (header_fault_number e ≡ 2 → ⊥) → spot e ≡ 0
 spot-none b (Unprintable at) other = absurd (other refl)
 spot-none b e other = refl
 
-same-number : (b : List ℕ) (e f : HeaderFault) → IsFirst (Fails b) e → IsFirst (Fails b) f → number e ≡ number f
+same-number : (b : List ℕ) (e f : HeaderFault) → IsFirst (FixedPartFails b) e → IsFirst (FixedPartFails b) f → header_fault_number e ≡ header_fault_number f
 same-number b e f p q =
-    elim (cases_lt (number e) (number f)) [
+    elim (cases_lt (header_fault_number e) (header_fault_number f)) [
       | inl lt ↦ absurd (q.1 e lt p.0)
-      | inr le ↦ elim (cases_lt (number f) (number e)) [
+      | inr le ↦ elim (cases_lt (header_fault_number f) (header_fault_number e)) [
         | inl lt ↦ absurd (p.1 f lt q.0)
         | inr more ↦ omega arith
       ]
     ]
 
-pub one-fault : (b : List ℕ) (e f : HeaderFault) → IsFirst (Fails b) e → IsFirst (Fails b) f → e ≡ f
+pub one-fault : (b : List ℕ) (e f : HeaderFault) → IsFirst (FixedPartFails b) e → IsFirst (FixedPartFails b) f → e ≡ f
 one-fault b e f p q =
     let same = same-number b e f p q in
-    let spots : spot e ≡ spot f = elim (cases_eq (number e) 2) [
+    let spots : spot e ≡ spot f = elim (cases_eq (header_fault_number e) 2) [
       | inl two ↦ one-first-bad IsPrintable b (spot e) (spot f) (spot-bad b e p.0 two) (spot-bad b f q.0 (sym same ∙ two))
       | inr other ↦ spot-none b e other ∙ sym (spot-none b f (λ two. other (same ∙ two)))
     ] in
-    placed b e p.0 ∙ ap (λ (n : ℕ). fault_at n (spot e)) same ∙ ap (fault_at (number f)) spots ∙ sym (placed b f q.0)
+    placed b e p.0 ∙ ap (λ (n : ℕ). fault_at n (spot e)) same ∙ ap (fault_at (header_fault_number f)) spots ∙ sym (placed b f q.0)
 
 -- ---- the bounds
 
@@ -183,7 +183,7 @@ after-printable : (f : List ℕ) (s : Option ℤ) (after : List ℕ) → All IsP
 after-printable f None after all p = rw p.1 (All-drop IsPrintable 11 f all)
 after-printable f (Some day) after all p = rw p.2 (All-drop IsPrintable 21 f all)
 
-pub is-fixed : (b : List ℕ) (h : Fixed) → IsFixedHeader b h → IsFixed h
+pub is-fixed : (b : List ℕ) (h : FixedPart) → IsFixedHeader b h → IsFixed h
 is-fixed b h f = record {
   patient_len = ap length f.patient ∙ length-field b 8 80 (omega (arith, f.len));
   patient_printable = rw f.patient (All-field IsPrintable b 8 80 f.printable);
@@ -192,6 +192,7 @@ is-fixed b h f = record {
   after_printable = after-printable (field b 88 80) h.startdate h.after (All-field IsPrintable b 88 80 f.printable) f.recording.front;
   is_behind = f.recording.behind;
   in_window = (start-parts (field b 168 8) (field b 176 8) h.start f.start).in_window;
+  whole_second = omega (arith, f.start.4);
   count_from = f.count_some;
   count_to = rw f.count.value (whole-fits (field b 236 8) (omega (arith, length-field b 236 8 (omega (arith, f.len)))));
   duration_len = ap length f.duration ∙ length-field b 244 8 (omega (arith, f.len));

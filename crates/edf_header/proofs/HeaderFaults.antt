@@ -2,10 +2,10 @@
 use Rattle.std.proofs.Common.{◌≡◌, ℕ, ◌+◌, ◌*◌, List, [], length, take, arith, ap, ◌∙◌, subst, inl, inr}
 use Rattle.std.proofs.lemmas.Bool.{cases_lt}
 use Rattle.std.specs.Prelude.{All}
-use Rattle.edf_header.specs.Text.{IsPrintable}
+use Rattle.edf_field.specs.Text.{IsPrintable}
 use Rattle.edf_header.specs.Signal.{Passes, ordinary, samples, samples_in_all, signals_of}
-use Rattle.edf_header.specs.Rows.{RowsFail, IsSplit, IsSound, ArePlaces, annotations_at}
-use Rattle.edf_header.specs.Fault.{HasAnnotations, IsBadSignal, IsTooLarge, SignalsFail, IsClean, IsFirst, number}
+use Rattle.edf_header.specs.Rows.{RowsFail, IsSplit, IsSound, AreExtents, annotations_at}
+use Rattle.edf_header.specs.Fault.{HasAnnotations, IsBadSignal, IsTooLarge, SignalsFail, IsClean, IsFirst, header_fault_number}
 use Rattle.edf_header.specs.declared.checks.Check.{Check}
 use Rattle.edf_header.specs.declared.checks.Check.TheVariants as checks
 use Rattle.edf_header.specs.declared.fault.HeaderFault.{HeaderFault}
@@ -22,9 +22,9 @@ clean-16 ss (Samples signal) lt bad = absurd (omega arith)
 clean-16 ss Size lt bad = absurd (omega arith)
 clean-16 ss e lt bad = bad
 
-more : (P : HeaderFault → Type 0) (n : ℕ) → IsClean P n → ((e : HeaderFault) → number e ≡ n → ¬ P e) → IsClean P (n + 1)
+more : (P : HeaderFault → Type 0) (n : ℕ) → IsClean P n → ((e : HeaderFault) → header_fault_number e ≡ n → ¬ P e) → IsClean P (n + 1)
 more P n clean here e lt bad =
-    elim (cases_lt (number e) n) [
+    elim (cases_lt (header_fault_number e) n) [
       | inl below ↦ clean e below bad
       | inr le ↦ here e (omega arith) bad
     ]
@@ -32,23 +32,23 @@ more P n clean here e lt bad =
 good : (check : Check) (ss : List (List ℕ)) (signal : ℕ) → All (Passes check) ss → ¬ IsBadSignal check ss signal
 good check ss signal all bad = not-bad (Passes check) [] ss bad.0 all bad.1
 
-at-16 : (ss : List (List ℕ)) → HasAnnotations ss → (e : HeaderFault) → number e ≡ 16 → ¬ RowsFail ss e
+at-16 : (ss : List (List ℕ)) → HasAnnotations ss → (e : HeaderFault) → header_fault_number e ≡ 16 → ¬ RowsFail ss e
 at-16 ss h Annotations eq bad = bad h
 at-16 ss h e eq bad = absurd (omega arith)
 
-at-17 : (ss : List (List ℕ)) → All (Passes checks.Physical) ss → (e : HeaderFault) → number e ≡ 17 → ¬ RowsFail ss e
+at-17 : (ss : List (List ℕ)) → All (Passes checks.Physical) ss → (e : HeaderFault) → header_fault_number e ≡ 17 → ¬ RowsFail ss e
 at-17 ss all (Physical signal) eq bad = good checks.Physical ss signal all bad
 at-17 ss all e eq bad = absurd (omega arith)
 
-at-18 : (ss : List (List ℕ)) → All (Passes checks.Digital) ss → (e : HeaderFault) → number e ≡ 18 → ¬ RowsFail ss e
+at-18 : (ss : List (List ℕ)) → All (Passes checks.Digital) ss → (e : HeaderFault) → header_fault_number e ≡ 18 → ¬ RowsFail ss e
 at-18 ss all (Digital signal) eq bad = good checks.Digital ss signal all bad
 at-18 ss all e eq bad = absurd (omega arith)
 
-at-19 : (ss : List (List ℕ)) → All (Passes checks.Samples) ss → (e : HeaderFault) → number e ≡ 19 → ¬ RowsFail ss e
+at-19 : (ss : List (List ℕ)) → All (Passes checks.Samples) ss → (e : HeaderFault) → header_fault_number e ≡ 19 → ¬ RowsFail ss e
 at-19 ss all (Samples signal) eq bad = good checks.Samples ss signal all bad
 at-19 ss all e eq bad = absurd (omega arith)
 
-at-20 : (ss : List (List ℕ)) → ¬ IsTooLarge ss → (e : HeaderFault) → number e ≡ 20 → ¬ RowsFail ss e
+at-20 : (ss : List (List ℕ)) → ¬ IsTooLarge ss → (e : HeaderFault) → header_fault_number e ≡ 20 → ¬ RowsFail ss e
 at-20 ss small Size eq bad = small bad
 at-20 ss small e eq bad = absurd (omega arith)
 
@@ -89,9 +89,9 @@ sound-is ss at s p d n small = record {
   ];
 }
 
-pub places-are : (ss before : List (List ℕ)) (at all front block : ℕ) → IsSplit ss at → all ≡ samples_in_all (ordinary ss) → before ≡ take at ss → front ≡ samples_in_all (ordinary before)
-    → block ≡ samples (annotations_at ss at) → ArePlaces ss at (record { block_at = 2 * front; block_bytes = 2 * block; record_bytes = 2 * all + 2 * block })
-places-are ss before at all front block s all-is before-is front-is block-is = record {
+pub extents-are : (ss before : List (List ℕ)) (at all front block : ℕ) → IsSplit ss at → all ≡ samples_in_all (ordinary ss) → before ≡ take at ss → front ≡ samples_in_all (ordinary before)
+    → block ≡ samples (annotations_at ss at) → AreExtents ss at (record { block_at = 2 * front; block_bytes = 2 * block; record_bytes = 2 * all + 2 * block })
+extents-are ss before at all front block s all-is before-is front-is block-is = record {
   block_at = ap (λ (k : ℕ). 2 * k) (front-is ∙ ap (λ (l : List (List ℕ)). samples_in_all (ordinary l)) before-is ∙ ap samples_in_all (ordinary-front ss at s));
   block_bytes = ap (λ (k : ℕ). 2 * k) block-is;
   record_bytes = omega (arith, samples-parts ss at s.within, ap samples_in_all (ordinary-is ss at s));
@@ -114,7 +114,11 @@ signals-fail b n e bad = bad
 pub clean-signals : (b : List ℕ) (n k : ℕ) → length b ≡ 256 * n → All IsPrintable b → IsClean (RowsFail (signals_of b n)) k → IsClean (SignalsFail b n) k
 clean-signals b n k len printable clean e lt bad = clean e lt (rows-fail b n len printable e bad)
 
+-- bytes of the length, all printable, have no fault below E16
+pub clean-bytes : (b : List ℕ) (n : ℕ) → length b ≡ 256 * n → All IsPrintable b → IsClean (SignalsFail b n) 16
+clean-bytes b n len printable = clean-signals b n 16 len printable (clean-16 (signals_of b n))
+
 pub first-signals : (b : List ℕ) (n : ℕ) (ss : List (List ℕ)) (e : HeaderFault) → ss ≡ signals_of b n → length b ≡ 256 * n → All IsPrintable b → IsFirst (RowsFail ss) e → IsFirst (SignalsFail b n) e
 first-signals b n ss e is len printable first =
     let f : IsFirst (RowsFail (signals_of b n)) e = subst (λ (l : List (List ℕ)). IsFirst (RowsFail l) e) is first in
-    (signals-fail b n e f.0, clean-signals b n (number e) len printable f.1)
+    (signals-fail b n e f.0, clean-signals b n (header_fault_number e) len printable f.1)

@@ -6,16 +6,15 @@ use Rattle.std.proofs.lemmas.List.FromFn.{length-map-range_with_len, get_or-map-
 use Rattle.std.proofs.lemmas.List.Sums.{sum_by-append, sum_by-cons}
 use Rattle.std.specs.Prelude.{All}
 use Rattle.std.specs.List.{flat_map}
-use Rattle.edf_header.specs.Number.{field}
-use Rattle.edf_header.specs.Text.{IsPrintable, spaces}
+use Rattle.edf_field.specs.Number.{field}
+use Rattle.edf_field.specs.Text.{IsPrintable, spaces}
 use Rattle.edf_header.specs.Signal.{HasSamples, Passes, fields, ordinary, row_at, row_by, rows_of, samples, samples_in_all, signals_of}
 use Rattle.edf_header.specs.Key.{IsKey, Key, dated_bytes, key_bytes}
-use Rattle.edf_header.specs.Header.{AreSignals, Fixed, Header, IsFixed, is_dated, key_of, layout_of}
+use Rattle.edf_header.specs.Header.{AreSignals, FixedPart, HeaderRecord, IsFixed, is_dated, key_of, layout_of}
 use Rattle.edf_header.specs.Shape.{key_from}
-use Rattle.edf_header.specs.Rows.{ArePlaces, IsLayout, IsSound, annotations_at, others_at}
-use Rattle.edf_header.specs.declared.signals.Places.{Places}
-use Rattle.edf_header.specs.declared.checks.Check.{Check}
-use Rattle.edf_header.specs.declared.checks.Check.TheVariants.{Label, Physical, Digital, Samples}
+use Rattle.edf_header.specs.Rows.{AreExtents, IsLayout, IsSound, annotations_at, others_at}
+use Rattle.edf_header.specs.declared.signals.Extents.{Extents}
+use Rattle.edf_header.specs.declared.checks.Check.TheVariants.{Physical, Digital}
 use Rattle.edf_header.proofs.RowSteps.{sized-signals}
 use Rattle.edf_header.proofs.RowFaults.{parts-are, ordinary-is}
 
@@ -56,28 +55,22 @@ key-printable k p a d ss =
     (All-append IsPrintable (dated_bytes k.dated k.after) (k.duration ++ tail) (mark-printable k.dated k.after a)
     (All-append IsPrintable k.duration tail d (joined-printable k.signals ss)))
 
-signals-count : (b : List ℕ) (h : Header) → AreSignals b h → length (h.front ++ h.back) + 1 ≡ h.fixed.signals
+signals-count : (b : List ℕ) (h : HeaderRecord) → AreSignals b h → length (h.front ++ h.back) + 1 ≡ h.fixed.signal_count
 signals-count b h s =
     omega (
       arith,
       ap length s.each,
-      length-map-range_with_len (row_at b h.fixed.signals) 0 h.fixed.signals,
+      length-map-range_with_len (row_at b h.fixed.signal_count) 0 h.fixed.signal_count,
       length-append h.front (h.annotations ∷ h.back),
       length-append h.front h.back,
     )
 
-passes : (b : List ℕ) (h : Header) → AreSignals b h → (check : Check) → All (Passes check) (h.front ++ h.back)
-passes b h s Label k d lt = (s.ordinary k d lt).label
-passes b h s Physical k d lt = λ not-labelled. (s.ordinary k d lt).physical
-passes b h s Digital k d lt = λ not-labelled. (s.ordinary k d lt).digital
-passes b h s Samples k d lt = without HasSamples h.front h.annotations h.back s.each_samples k d lt
-
 -- the key that a header names is a key
-pub header-key : (b : List ℕ) (h : Header) → IsFixed h.fixed → AreSignals b h → IsKey (key_of h)
+pub header-key : (b : List ℕ) (h : HeaderRecord) → IsFixed h.fixed → AreSignals b h → IsKey (key_of h)
 header-key b h f s =
     let n = signals-count b h s in
-    let sizes = subst (All (λ (s : List ℕ). length s ≡ 256)) s.each (sized-signals b h.fixed.signals s.len) in
-    let prints = subst (All (λ (s : List ℕ). All IsPrintable s)) s.each (rows-printable b h.fixed.signals s.printable) in
+    let sizes = subst (All (λ (s : List ℕ). length s ≡ 256)) s.each (sized-signals b h.fixed.signal_count s.len) in
+    let prints = subst (All (λ (s : List ℕ). All IsPrintable s)) s.each (rows-printable b h.fixed.signal_count s.printable) in
     record {
       sized = record {
         patient = f.patient_len;
@@ -91,17 +84,19 @@ header-key b h f s =
       duration = f.is_duration;
       signals_from = omega (arith, f.signals_from);
       signals_to = omega (arith, f.signals_to);
-      signals = passes b h s;
+      signals = s.ordinary;
+      each_samples = without HasSamples h.front h.annotations h.back s.each_samples;
       size = s.ordinary_size;
     }
 
-pub header-layout : (b : List ℕ) (h : Header) → IsFixed h.fixed → AreSignals b h → IsLayout (layout_of h)
+pub header-layout : (b : List ℕ) (h : HeaderRecord) → IsFixed h.fixed → AreSignals b h → IsLayout (layout_of h)
 header-layout b h f s =
     let all = sum_by-append samples h.front (h.annotations ∷ h.back) in
     let one = sum_by-cons samples h.annotations h.back in
     let others = sum_by-append samples h.front h.back in
     record {
       key = header-key b h f s;
+      whole_second = f.whole_second;
       some = f.count_from;
       few = omega (arith, f.count_to);
       inside = omega (arith, all, one, others);
@@ -112,15 +107,15 @@ header-layout b h f s =
     }
 
 -- the header of a fixed part and checked rows
-abbrev pub header_of : Fixed → List (List ℕ) → ℕ → Header
+abbrev pub header_of : FixedPart → List (List ℕ) → ℕ → HeaderRecord
 header_of f ss at = record { fixed = f; front = take at ss; annotations = annotations_at ss at; back = drop (at + 1) ss }
 
 others-of : {X : Type 0} (P : X → Type 0) (ss : List X) (at : ℕ) → All P ss → All P (take at ss ++ drop (at + 1) ss)
 others-of P ss at all = All-append P (take at ss) (drop (at + 1) ss) (All-take P at ss all) (All-drop P (at + 1) ss all)
 
-pub are-signals : (b : List ℕ) (f : Fixed) (at : ℕ) → length b ≡ 256 * f.signals → All IsPrintable b → IsSound (signals_of b f.signals) at → AreSignals b (header_of f (signals_of b f.signals) at)
+pub are-signals : (b : List ℕ) (f : FixedPart) (at : ℕ) → length b ≡ 256 * f.signal_count → All IsPrintable b → IsSound (signals_of b f.signal_count) at → AreSignals b (header_of f (signals_of b f.signal_count) at)
 are-signals b f at len printable s =
-    let ss : List (List ℕ) = signals_of b f.signals in
+    let ss : List (List ℕ) = signals_of b f.signal_count in
     let each = parts-are ss at s.split.within in
     record {
       len = len;
@@ -141,15 +136,15 @@ pub rows-are : (d items b : List ℕ) (n m : ℕ) → d ≡ items → rows_of it
 rows-are d items b n m is rows e = ap rows_of is ∙ rows ∙ ap (signals_of b) e
 
 -- the key of the parts that were read
-pub key-made : (f : Fixed) (ss : List (List ℕ)) (at : ℕ) (p a du rows : List ℕ) (dated : Bool) → IsSound ss at → rows_of rows ≡ ss
+pub key-made : (f : FixedPart) (ss : List (List ℕ)) (at : ℕ) (p a du rows : List ℕ) (dated : Bool) → IsSound ss at → rows_of rows ≡ ss
     → p ≡ f.patient → dated ≡ is_dated f.startdate → a ≡ f.after → du ≡ f.duration → key_from p dated a du (ordinary (rows_of rows)) ≡ key_of (header_of f ss at)
 key-made f ss at p a du rows dated s is patient dated-is after duration =
     let signals : ordinary (rows_of rows) ≡ others_at ss at = ap ordinary is ∙ ordinary-is ss at s.split in
     λ i. record { patient = patient i; dated = dated-is i; after = after i; duration = duration i; signals = signals i }
 
-pub layout-made : (f : Fixed) (ss : List (List ℕ)) (at : ℕ) (k : Key) (start count : ℕ) (p : Places) → IsSound ss at → k ≡ key_of (header_of f ss at) → start ≡ f.start → count ≡ f.count → ArePlaces ss at p
+pub layout-made : (f : FixedPart) (ss : List (List ℕ)) (at : ℕ) (k : Key) (start count : ℕ) (p : Extents) → IsSound ss at → k ≡ key_of (header_of f ss at) → start ≡ f.start → count ≡ f.count → AreExtents ss at p
     → record { key = k; start = start; count = count; block_at = p.block_at; block_bytes = p.block_bytes; record_bytes = p.record_bytes } ≡ layout_of (header_of f ss at)
-layout-made f ss at k start count p s key start-is count-is places =
+layout-made f ss at k start count p s key start-is count-is extents =
     let all : p.record_bytes ≡ 2 * samples_in_all (take at ss ++ annotations_at ss at ∷ drop (at + 1) ss) =
-    places.record_bytes ∙ ap (λ (l : List (List ℕ)). 2 * samples_in_all l) (parts-are ss at s.split.within) in
-    λ i. record { key = key i; start = start-is i; count = count-is i; block_at = places.block_at i; block_bytes = places.block_bytes i; record_bytes = all i }
+    extents.record_bytes ∙ ap (λ (l : List (List ℕ)). 2 * samples_in_all l) (parts-are ss at s.split.within) in
+    λ i. record { key = key i; start = start-is i; count = count-is i; block_at = extents.block_at i; block_bytes = extents.block_bytes i; record_bytes = all i }

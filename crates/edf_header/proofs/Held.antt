@@ -4,28 +4,28 @@ use Rattle.std.proofs.lemmas.Bool.{cases_Bool}
 use Rattle.std.proofs.lemmas.List.{take_all, length-drop, length-take, get_or_at}
 use Rattle.std.proofs.lemmas.List.Elements.{All-nil, All-cons, All-replicate, All-head, All-tail}
 use Rattle.std.proofs.lemmas.Slice.Eq.{bytes_eq-Decides}
-use Rattle.edf_header.specs.Identity.{HasLength, HasMark, signals}
+use Rattle.edf_header.specs.Identity.{HasLength, HasMark, signals_at}
 use Rattle.edf_header.specs.Key.{IsKey, IsSized, Key, dated_bytes, key_at, key_bytes}
-use Rattle.edf_header.specs.Number.{field, IsDuration, duration_of}
+use Rattle.edf_field.specs.Number.{field, IsDuration, duration_of}
 use Rattle.edf_header.specs.Shape.{IsShaped, has_label}
 use Rattle.edf_header.specs.Signal.{HasSamples, IsLabelled, Passes, ordinary, rows, rows_of, samples_in_all}
-use Rattle.edf_header.specs.Text.{spaces, subfields}
+use Rattle.edf_field.specs.Text.{spaces, subfields}
 use Rattle.std.specs.Prelude.{All, codes, slice_index, ◌==◌}
 use Rattle.std.specs.List.{flat_map}
 use Rattle.edf_header.specs.declared.checks.Check.TheVariants.{Label, Samples}
-use Rattle.edf_header.proofs.Durations.{duration-value}
-use Rattle.edf_header.proofs.Grammar.{spaces-are}
+use Rattle.edf_field.proofs.Durations.{duration-value}
+use Rattle.edf_field.proofs.Grammar.{spaces-are}
 use Rattle.edf_header.proofs.Strides.{length-field, length-parts}
 use Rattle.edf_header.proofs.Keys.{key-back, field-at}
 use Rattle.edf_header.proofs.RowSteps.{length-rows}
 
 -- what a loop over the bytes behind 158 looks through are the key's signals
-pub sliced : (b : List ℕ) → rows_of (take (length b - 158) (drop 158 b)) ≡ signals b
+pub sliced : (b : List ℕ) → rows_of (take (length b - 158) (drop 158 b)) ≡ signals_at b
 sliced b =
     let e : take (length b - 158) (drop 158 b) ≡ drop 158 b = take_all (length b - 158) (drop 158 b) (omega (arith, length-drop 158 b)) in
     ap rows_of e ∙ ap (λ (n : ℕ). rows (n / 256) (drop 158 b)) (length-drop 158 b)
 
-pub count-is : (b : List ℕ) (n : ℕ) → length b ≡ 158 + 256 * n → length (signals b) ≡ n
+pub count-is : (b : List ℕ) (n : ℕ) → length b ≡ 158 + 256 * n → length (signals_at b) ≡ n
 count-is b n len = omega (arith, length-rows ((length b - 158) / 256) (drop 158 b), len)
 
 pub shaped : (b : List ℕ) → HasLength b → HasMark b → IsShaped b
@@ -104,13 +104,13 @@ all-ordinary (s ∷ ss) all =
     rw (not-labelled s (All-head (Passes Label) s ss all)) (ap (λ (l : List (List ℕ)). s ∷ l) (all-ordinary ss (All-tail (Passes Label) s ss all)))
 
 -- the samples of the rows in an identity's bytes, all of them ordinary
-pub sliced-samples : (b : List ℕ) → All (Passes Label) (signals b) → samples_in_all (ordinary (rows_of (take (length b - 158) (drop 158 b)))) ≡ samples_in_all (signals b)
-sliced-samples b all = ap (λ (l : List (List ℕ)). samples_in_all (ordinary l)) (sliced b) ∙ ap samples_in_all (all-ordinary (signals b) all)
+pub sliced-samples : (b : List ℕ) → All (Passes Label) (signals_at b) → samples_in_all (ordinary (rows_of (take (length b - 158) (drop 158 b)))) ≡ samples_in_all (signals_at b)
+sliced-samples b all = ap (λ (l : List (List ℕ)). samples_in_all (ordinary l)) (sliced b) ∙ ap samples_in_all (all-ordinary (signals_at b) all)
 
-pub sliced-each : (b : List ℕ) → All (Passes Samples) (signals b) → All HasSamples (rows_of (take (length b - 158) (drop 158 b)))
+pub sliced-each : (b : List ℕ) → All (Passes Samples) (signals_at b) → All HasSamples (rows_of (take (length b - 158) (drop 158 b)))
 sliced-each b all = subst (All HasSamples) (sym (sliced b)) all
 
-pub held-len : (b : List ℕ) → (key_bytes (key_at b) ≡ b) → IsKey (key_at b) → length b ≡ 158 + 256 * length (signals b)
+pub held-len : (b : List ℕ) → (key_bytes (key_at b) ≡ b) → IsKey (key_at b) → length b ≡ 158 + 256 * length (signals_at b)
 held-len b is key = sym (ap length is) ∙ key-length (key_at b) key.sized
 
 pub sliced-small : (b : List ℕ) → length b ≤ 158 + 256 * 639 → length (take (length b - 158) (drop 158 b)) ≤ 256 * 640
@@ -120,7 +120,7 @@ pub held-small : (b : List ℕ) → (key_bytes (key_at b) ≡ b) → IsKey (key_
 held-small b is key = sliced-small b (omega (arith, held-len b is key, key.signals_to))
 
 pub held-samples : (b : List ℕ) (k : Key) (n : ℕ) → key_at b ≡ k → IsKey (key_at b) → n ≡ samples_in_all (ordinary (rows_of (take (length b - 158) (drop 158 b)))) → 2 * n ≡ 2 * samples_in_all k.signals
-held-samples b k n is key e = ap (λ (m : ℕ). 2 * m) (e ∙ sliced-samples b (key.signals Label) ∙ ap (λ (k : Key). samples_in_all k.signals) is)
+held-samples b k n is key e = ap (λ (m : ℕ). 2 * m) (e ∙ sliced-samples b (λ i d lt. (key.signals i d lt).label) ∙ ap (λ (k : Key). samples_in_all k.signals) is)
 
 pub held-size : (b : List ℕ) (k : Key) → key_at b ≡ k → IsKey (key_at b) → 2 * samples_in_all k.signals ≤ 4_194_304
 held-size b k is key = subst (λ (k : Key). 2 * samples_in_all k.signals ≤ 4_194_304) is key.size

@@ -1,8 +1,8 @@
 -- Bytes have one first fault of an identity.
 use Rattle.std.proofs.Common.{◌≡◌, ℕ, List, arith, refl, ap, inl, inr}
 use Rattle.std.proofs.lemmas.Bool.{cases_lt}
-use Rattle.edf_header.specs.Identity.{IsFirstKeyFault, KeyFails, place_in_order, signals}
-use Rattle.edf_header.specs.Text.{IsPrintable}
+use Rattle.edf_header.specs.Identity.{IsFirstKeyFault, KeyFails, place_in_order, signals_at}
+use Rattle.edf_field.specs.Text.{IsPrintable}
 use Rattle.edf_header.specs.declared.checks.Check.TheVariants as checks
 use Rattle.edf_header.specs.declared.identity.IdentityFault.{IdentityFault}
 use Rattle.edf_header.specs.declared.identity.IdentityFault.TheVariants.{Length, Unprintable, Patient, Recording, Duration, Label, Physical, Digital, Samples, Size, Memory}
@@ -29,13 +29,13 @@ same-fault b Recording Recording same p q = refl
 same-fault b Recording f same p q = absurd (omega arith)
 same-fault b Duration Duration same p q = refl
 same-fault b Duration f same p q = absurd (omega arith)
-same-fault b (Label x) (Label y) same p q = ap (λ (o : ℕ). Label o) (one-bad-signal checks.Label (signals b) x y p q)
+same-fault b (Label x) (Label y) same p q = ap (λ (o : ℕ). Label o) (one-bad-signal checks.Label (signals_at b) x y p q)
 same-fault b (Label x) f same p q = absurd (omega arith)
-same-fault b (Physical x) (Physical y) same p q = ap (λ (o : ℕ). Physical o) (one-bad-signal checks.Physical (signals b) x y p q)
+same-fault b (Physical x) (Physical y) same p q = ap (λ (o : ℕ). Physical o) (one-bad-signal checks.Physical (signals_at b) x y p q)
 same-fault b (Physical x) f same p q = absurd (omega arith)
-same-fault b (Digital x) (Digital y) same p q = ap (λ (o : ℕ). Digital o) (one-bad-signal checks.Digital (signals b) x y p q)
+same-fault b (Digital x) (Digital y) same p q = ap (λ (o : ℕ). Digital o) (one-bad-signal checks.Digital (signals_at b) x y p q)
 same-fault b (Digital x) f same p q = absurd (omega arith)
-same-fault b (Samples x) (Samples y) same p q = ap (λ (o : ℕ). Samples o) (one-bad-signal checks.Samples (signals b) x y p q)
+same-fault b (Samples x) (Samples y) same p q = ap (λ (o : ℕ). Samples o) (one-bad-signal checks.Samples (signals_at b) x y p q)
 same-fault b (Samples x) f same p q = absurd (omega arith)
 same-fault b Size Size same p q = refl
 same-fault b Size f same p q = absurd (omega arith)

@@ -5,10 +5,10 @@ use Rattle.std.proofs.lemmas.List.Elements.{All-head, All-tail}
 use Rattle.std.specs.Prelude.{All, cond, ◌==◌}
 use Rattle.std.specs.List.{flat_map}
 use Rattle.edf_header.specs.Key.{IsSized, Key, dated_bytes, key_at, key_bytes}
-use Rattle.edf_header.specs.Number.{field}
+use Rattle.edf_field.specs.Number.{field}
 use Rattle.edf_header.specs.Shape.{IsShaped}
 use Rattle.edf_header.specs.Signal.{rows}
-use Rattle.edf_header.specs.Text.{spaces}
+use Rattle.edf_field.specs.Text.{spaces}
 use Rattle.edf_header.proofs.Strides.{cut, length-parts}
 
 -- rows joined and cut again, and the other way round

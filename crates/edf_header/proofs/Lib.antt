@@ -1,14 +1,16 @@
+pub mod Decided
+pub mod DecidedFields
+pub mod DecidedDates
+pub mod DecidedTexts
+pub mod DecidedSignals
+pub mod FirstFault
+pub mod HeaderOrFault
 pub mod Strides
 pub mod Keys
 pub mod RowSteps
-pub mod Numbers
 pub mod Sorted
-pub mod Grammar
-pub mod Durations
 pub mod FixedLaws
 pub mod FixedRows
-pub mod Recordings
-pub mod Subfields
 pub mod Held
 pub mod Faults
 pub mod RowCuts
@@ -27,3 +29,4 @@ pub mod ExportParts
 pub mod ExportWritten
 pub mod ExportOne
 pub mod KeyOnce
+pub mod KeyLaws

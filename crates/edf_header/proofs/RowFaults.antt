@@ -6,7 +6,7 @@ use Rattle.std.proofs.lemmas.List.Elements.{All-append, All-take, All-drop, filt
 use Rattle.std.proofs.lemmas.List.Sums.{sum_by-append, sum_by-cons}
 use Rattle.std.proofs.lemmas.Slice.Eq.{bytes_eq-Decides}
 use Rattle.std.specs.Prelude.{All, codes}
-use Rattle.edf_header.specs.Number.{field}
+use Rattle.edf_field.specs.Number.{field}
 use Rattle.edf_header.specs.Signal.{IsAnnotationsSignal, IsFirstBad, IsLabelled, Passes, ordinary, samples, samples_in_all}
 use Rattle.edf_header.specs.Shape.{has_label}
 use Rattle.edf_header.specs.Rows.{IsSplit, annotations_at, others_at}

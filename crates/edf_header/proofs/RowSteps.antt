@@ -7,7 +7,7 @@ use Rattle.std.specs.List.{flat_map, range_with_len, AllWithin, HoldsAt}
 use Rattle.edf_header.proofs.Strides.{Tiles, tiles-fit, length-field, length-parts}
 use Rattle.edf_header.proofs.Keys.{rows-back}
 use Rattle.std.proofs.lemmas.List.Elements.{AllWithin-more, All-from_all_within}
-use Rattle.edf_header.specs.Number.{field}
+use Rattle.edf_field.specs.Number.{field}
 use Rattle.edf_header.specs.Signal.{IsFirstBad, column_of, fields, row_at, row_by, rows, rows_of, signals_of}
 
 pub length-rows : (n : ℕ) (bytes : List ℕ) → length (rows n bytes) ≡ n

@@ -5,7 +5,7 @@ use Rattle.std.proofs.lemmas.List.{take_at, drop_at}
 use Rattle.std.proofs.lemmas.List.Elements.{All-append, All-cons, All-take, All-drop}
 use Rattle.std.specs.Prelude.{All}
 use Rattle.edf_header.specs.Signal.{HasSamples, IsAnnotationsSignal, IsLabelled, Passes, samples, samples_in_all, signals_of}
-use Rattle.edf_header.specs.Header.{AreSignals, Header, IsHeader, key_of, layout_of}
+use Rattle.edf_header.specs.Header.{AreSignals, HeaderRecord, IsHeader, key_of, layout_of}
 use Rattle.edf_header.specs.Key.{IsKey}
 use Rattle.edf_header.specs.Fault.{HasAnnotations, IsClean, IsTooLarge, SignalsFail}
 use Rattle.edf_header.specs.Rows.{IsLayout, IsSplit, others_at}
@@ -15,7 +15,7 @@ use Rattle.edf_header.proofs.HeaderFaults.{clean-21, clean-signals}
 use Rattle.edf_header.proofs.Headers.{header-key, header-layout}
 use Rattle.edf_header.proofs.FixedLaws.{is-fixed}
 
-abbrev has : (b : List ℕ) (h : Header) → AreSignals b h → HasAnnotations (signals_of b h.fixed.signals)
+abbrev has : (b : List ℕ) (h : HeaderRecord) → AreSignals b h → HasAnnotations (signals_of b h.fixed.signal_count)
 has b h s = record {
   front = h.front;
   annotations = h.annotations;
@@ -35,15 +35,15 @@ same-length ss h g =
 front-is : (ss : List (List ℕ)) (h : HasAnnotations ss) → h.front ≡ take (length h.front) ss
 front-is ss h = sym (ap (take (length h.front)) h.parts ∙ take_at h.front (h.annotations ∷ h.back) (length h.front) refl)
 
-pub one-signals : (b : List ℕ) (h g : Header) → AreSignals b h → AreSignals b g → h.fixed ≡ g.fixed → h ≡ g
+pub one-signals : (b : List ℕ) (h g : HeaderRecord) → AreSignals b h → AreSignals b g → h.fixed ≡ g.fixed → h ≡ g
 one-signals b h g s t e =
-    let ss : List (List ℕ) = signals_of b h.fixed.signals in
+    let ss : List (List ℕ) = signals_of b h.fixed.signal_count in
     let p : HasAnnotations ss = has b h s in
     let q : HasAnnotations ss = record {
       front = g.front;
       annotations = g.annotations;
       back = g.back;
-      parts = ap (λ f. signals_of b f.signals) e ∙ t.each;
+      parts = ap (λ f. signals_of b f.signal_count) e ∙ t.each;
       others = λ k d lt. (t.ordinary k d lt).label;
       is_annotations = t.annotations;
     } in
@@ -60,9 +60,9 @@ with P front x back all one =
     (subst (All P) (take_at front back (length front) refl) (All-take P (length front) (front ++ back) all))
     (All-cons P x back one (subst (All P) (drop_at front back (length front) refl) (All-drop P (length front) (front ++ back) all)))
 
-split : (b : List ℕ) (h : Header) → AreSignals b h → IsSplit (signals_of b h.fixed.signals) (length h.front)
+split : (b : List ℕ) (h : HeaderRecord) → AreSignals b h → IsSplit (signals_of b h.fixed.signal_count) (length h.front)
 split b h s =
-    let ss : List (List ℕ) = signals_of b h.fixed.signals in
+    let ss : List (List ℕ) = signals_of b h.fixed.signal_count in
     let p : HasAnnotations ss = has b h s in
     let others : others_at ss (length h.front) ≡ h.front ++ h.back = ap (λ (l : List (List ℕ)). l ++ drop (length h.front + 1) ss) (sym (front-is ss p)) ∙ ap (λ (l : List (List ℕ)). h.front ++ l) (behind-is ss p) in
     record {
@@ -71,9 +71,9 @@ split b h s =
       others = subst (All (λ (x : List ℕ). ¬ IsLabelled x)) (sym others) p.others;
     }
 
-small : (b : List ℕ) (h : Header) → AreSignals b h → ¬ IsTooLarge (signals_of b h.fixed.signals)
+small : (b : List ℕ) (h : HeaderRecord) → AreSignals b h → ¬ IsTooLarge (signals_of b h.fixed.signal_count)
 small b h s =
-    let ss : List (List ℕ) = signals_of b h.fixed.signals in
+    let ss : List (List ℕ) = signals_of b h.fixed.signal_count in
     let p : HasAnnotations ss = has b h s in
     let at = length h.front in
     let others : others_at ss at ≡ h.front ++ h.back = ap (λ (l : List (List ℕ)). l ++ drop (at + 1) ss) (sym (front-is ss p)) ∙ ap (λ (l : List (List ℕ)). h.front ++ l) (behind-is ss p) in
@@ -81,18 +81,18 @@ small b h s =
     (omega (arith, ap samples_in_all (ordinary-is ss at (split b h s) ∙ others), s.ordinary_size))
     (omega (arith, ap samples (here ss p), s.block_size))
 
-pub signals-clean : (b : List ℕ) (h : Header) → AreSignals b h → IsClean (SignalsFail b h.fixed.signals) 21
+pub signals-clean : (b : List ℕ) (h : HeaderRecord) → AreSignals b h → IsClean (SignalsFail b h.fixed.signal_count) 21
 signals-clean b h s =
-    let ss : List (List ℕ) = signals_of b h.fixed.signals in
-    clean-signals b h.fixed.signals 21 s.len s.printable
+    let ss : List (List ℕ) = signals_of b h.fixed.signal_count in
+    clean-signals b h.fixed.signal_count 21 s.len s.printable
     (clean-21 ss (has b h s)
     (subst (All (Passes Physical)) (sym s.each) (with (Passes Physical) h.front h.annotations h.back (λ k d lt label. (s.ordinary k d lt).physical) (λ label. s.annotations.physical)))
     (subst (All (Passes Digital)) (sym s.each) (with (Passes Digital) h.front h.annotations h.back (λ k d lt label. (s.ordinary k d lt).digital) (λ label. absurd (label s.annotations.label))))
     (subst (All HasSamples) (sym s.each) s.each_samples)
     (small b h s))
 
-pub header-has-key : (b : List ℕ) (h : Header) (rest : List ℕ) → IsHeader b h rest → IsKey (key_of h)
+pub header-has-key : (b : List ℕ) (h : HeaderRecord) (rest : List ℕ) → IsHeader b h rest → IsKey (key_of h)
 header-has-key b h rest i = header-key i.second h (is-fixed i.first h.fixed i.fixed) i.signals
 
-pub header-has-layout : (b : List ℕ) (h : Header) (rest : List ℕ) → IsHeader b h rest → IsLayout (layout_of h)
+pub header-has-layout : (b : List ℕ) (h : HeaderRecord) (rest : List ℕ) → IsHeader b h rest → IsLayout (layout_of h)
 header-has-layout b h rest i = header-layout i.second h (is-fixed i.first h.fixed i.fixed) i.signals

@@ -6,13 +6,12 @@ use Rattle.std.proofs.lemmas.List.{length-append, append-nil, take_at, drop_at, 
 use Rattle.std.proofs.lemmas.List.Elements.{All-append, All-push, All-tail}
 use Rattle.std.proofs.lemmas.List.Sums.{sum_by_push}
 use Rattle.edf_time.specs.Civil.{IsDateText, IsTimeText, IsIdDate}
-use Rattle.edf_header.specs.Number.{field}
-use Rattle.edf_header.specs.Text.{IsPrintable, IsRecording, IsBehindStartdate, spaces}
-use Rattle.edf_header.specs.Signal.{columns, samples, samples_in_all, signals_of, HasSamples}
+use Rattle.edf_field.specs.Number.{field, IsNumber}
+use Rattle.edf_field.specs.Text.{IsPrintable, IsRecording, IsBehindStartdate, spaces}
+use Rattle.edf_header.specs.Signal.{columns, samples, samples_in_all, signals_of, IsOrdinary, HasSamples}
 use Rattle.edf_header.specs.Key.{Key, IsSized, IsKey, key_bytes, dated_bytes}
-use Rattle.edf_header.specs.Header.{Header, Fixed, IsFixedHeader, AreSignals, IsSameDay, IsNumber, IsPlus, IsOrdinary, is_dated, layout_of}
+use Rattle.edf_header.specs.Header.{HeaderRecord, FixedPart, IsFixedHeader, AreSignals, IsSameDay, IsPlus, is_dated, layout_of}
 use Rattle.edf_header.specs.Spelled.{Texts, IsSpelledBy, IsSpelledHeader, IsReadAs, spelled_bytes, startdate_text, spelled_layout}
-use Rattle.edf_header.specs.declared.checks.Check.TheVariants as checks
 use Rattle.edf_header.proofs.Strides.{signals-back}
 use Rattle.edf_header.proofs.SpelledTexts.{date-printed, time-printed, id_date-printed, printable-by}
 use Rattle.edf_time.proofs.FieldTexts.{one-date_day}
@@ -23,7 +22,7 @@ abbrev pub startdate_of : Bool → ℕ → Option ℤ
 startdate_of true days = Some (pos days)
 startdate_of false days = None
 
-abbrev pub spelled_fixed : Key → ℕ → ℕ → ℕ → Fixed
+abbrev pub spelled_fixed : Key → ℕ → ℕ → ℕ → FixedPart
 spelled_fixed k days seconds count = record {
   patient = k.patient;
   startdate = startdate_of k.dated days;
@@ -31,10 +30,10 @@ spelled_fixed k days seconds count = record {
   start = (days * 86_400 + seconds) * 10 ^ 9;
   count = count;
   duration = k.duration;
-  signals = length k.signals + 1;
+  signal_count = length k.signals + 1;
 }
 
-abbrev pub spelled_header : Key → ℕ → ℕ → ℕ → List ℕ → Header
+abbrev pub spelled_header : Key → ℕ → ℕ → ℕ → List ℕ → HeaderRecord
 spelled_header k days seconds count row = record {
   fixed = spelled_fixed k days seconds count;
   front = k.signals;
@@ -46,7 +45,7 @@ spelled_header k days seconds count row = record {
 abbrev pub fixed_bytes : Key → Texts → List ℕ
 fixed_bytes k t =
     codes "0       " ++ (k.patient ++ (codes "Startdate " ++ (startdate_text k.dated t.id_date ++ (k.after ++ (t.date ++ (t.time
-    ++ (t.header_bytes ++ (t.reserved ++ (t.count ++ (k.duration ++ t.signals))))))))))
+    ++ (t.header_bytes ++ (t.reserved ++ (t.count ++ (k.duration ++ t.signal_count))))))))))
 
 -- the recording field
 abbrev recording : Bool → List ℕ → List ℕ → List ℕ
@@ -73,7 +72,7 @@ dated-back true days = refl
 dated-back false days = refl
 
 -- the parts of the fixed part, each in its place
-record Places (k : Key) (t : Texts) (bytes : List ℕ) : Type 0 where
+record FieldsInPlace (k : Key) (t : Texts) (bytes : List ℕ) : Type 0 where
   len : length bytes ≡ 256
   version : field bytes 0 8 ≡ codes "0       "
   patient : field bytes 8 80 ≡ k.patient
@@ -84,17 +83,17 @@ record Places (k : Key) (t : Texts) (bytes : List ℕ) : Type 0 where
   reserved : field bytes 192 44 ≡ t.reserved
   count : field bytes 236 8 ≡ t.count
   duration : field bytes 244 8 ≡ k.duration
-  signals : field bytes 252 4 ≡ t.signals
+  signals : field bytes 252 4 ≡ t.signal_count
 
 -- the three texts of the recording field as one
 as-recording : (dated : Bool) (id_date after rest : List ℕ) → codes "Startdate " ++ (startdate_text dated id_date ++ (after ++ rest)) ≡ recording dated id_date after ++ rest
 as-recording dated id_date after rest = ap (λ (l : List ℕ). codes "Startdate " ++ l) (sym (append_assoc (startdate_text dated id_date) after rest))
 
-places : (k : Key) (t : Texts) → IsSized k → length t.id_date ≡ 11 → length t.date ≡ 8 → length t.time ≡ 8 → length t.header_bytes ≡ 8 → length t.reserved ≡ 44
-    → length t.count ≡ 8 → length t.signals ≡ 4 → Places k t (fixed_bytes k t)
-places k t s id date time header_bytes reserved count signals =
+fields-in-place : (k : Key) (t : Texts) → IsSized k → length t.id_date ≡ 11 → length t.date ≡ 8 → length t.time ≡ 8 → length t.header_bytes ≡ 8 → length t.reserved ≡ 44
+    → length t.count ≡ 8 → length t.signal_count ≡ 4 → FieldsInPlace k t (fixed_bytes k t)
+fields-in-place k t s id date time header_bytes reserved count signals =
     let b : List ℕ = fixed_bytes k t in
-    let l9 : List ℕ = k.duration ++ t.signals in
+    let l9 : List ℕ = k.duration ++ t.signal_count in
     let l8 : List ℕ = t.count ++ l9 in
     let l7 : List ℕ = t.reserved ++ l8 in
     let l6 : List ℕ = t.header_bytes ++ l7 in
@@ -110,7 +109,7 @@ places k t s id date time header_bytes reserved count signals =
     let p6 : IsPartAt b t.header_bytes l7 184 8 = part-here b t.header_bytes l7 184 8 p5.behind header_bytes in
     let p7 : IsPartAt b t.reserved l8 192 44 = part-here b t.reserved l8 192 44 p6.behind reserved in
     let p8 : IsPartAt b t.count l9 236 8 = part-here b t.count l9 236 8 p7.behind count in
-    let p9 : IsPartAt b k.duration t.signals 244 8 = part-here b k.duration t.signals 244 8 p8.behind s.duration in
+    let p9 : IsPartAt b k.duration t.signal_count 244 8 = part-here b k.duration t.signal_count 244 8 p8.behind s.duration in
     let whole : b ≡ codes "0       " ++ (k.patient ++ (rec ++ l4)) = ap (λ (l : List ℕ). codes "0       " ++ (k.patient ++ l)) (as-recording k.dated t.id_date k.after l4) in
     record {
       len = ap length whole
@@ -124,7 +123,7 @@ places k t s id date time header_bytes reserved count signals =
             length-append t.header_bytes l7,
             length-append t.reserved l8,
             length-append t.count l9,
-            length-append k.duration t.signals,
+            length-append k.duration t.signal_count,
             s.patient,
             s.duration,
           );
@@ -137,7 +136,7 @@ places k t s id date time header_bytes reserved count signals =
       reserved = p7.here;
       count = p8.here;
       duration = p9.here;
-      signals = ap (take 4) p9.behind ∙ take_all 4 t.signals (omega arith);
+      signals = ap (take 4) p9.behind ∙ take_all 4 t.signal_count (omega arith);
     }
 
 -- the bytes of a key are printable, part by part
@@ -173,9 +172,9 @@ startdate-printable true id_date all = all
 startdate-printable false id_date all = printable-by (codes "X") refl
 
 fixed-printable : (k : Key) (t : Texts) → IsPrintableKey k → All IsPrintable t.id_date → All IsPrintable t.date → All IsPrintable t.time → All IsPrintable t.header_bytes
-    → All IsPrintable t.reserved → All IsPrintable t.count → All IsPrintable t.signals → All IsPrintable (fixed_bytes k t)
+    → All IsPrintable t.reserved → All IsPrintable t.count → All IsPrintable t.signal_count → All IsPrintable (fixed_bytes k t)
 fixed-printable k t p id date time header_bytes reserved count signals =
-    let l9 : List ℕ = k.duration ++ t.signals in
+    let l9 : List ℕ = k.duration ++ t.signal_count in
     let l8 : List ℕ = t.count ++ l9 in
     let l7 : List ℕ = t.reserved ++ l8 in
     let l6 : List ℕ = t.header_bytes ++ l7 in
@@ -188,7 +187,7 @@ fixed-printable k t p id date time header_bytes reserved count signals =
     join (codes "0       ") (k.patient ++ l1) (printable-by (codes "0       ") refl)
     (join k.patient l1 p.patient (join (codes "Startdate ") l2 (printable-by (codes "Startdate ") refl)
     (join (startdate_text k.dated t.id_date) l3 (startdate-printable k.dated t.id_date id) (join k.after l4 p.after (join t.date l5 date (join t.time l6 time
-    (join t.header_bytes l7 header_bytes (join t.reserved l8 reserved (join t.count l9 count (join k.duration t.signals p.duration signals))))))))))
+    (join t.header_bytes l7 header_bytes (join t.reserved l8 reserved (join t.count l9 count (join k.duration t.signal_count p.duration signals))))))))))
 
 abbrev rows : Key → List ℕ → List (List ℕ)
 rows k row = k.signals ++ row ∷ []
@@ -199,7 +198,7 @@ is-fixed k days seconds count t row key s =
     let date = date-printed t.date days s.date in
     let time = time-printed t.time seconds s.time in
     let id = id_date-printed t.id_date (pos days) s.id_date in
-    let p = places k t key.sized id.len date.len time.len s.header_bytes_printed.len s.reserved_printed.len s.count_printed.len s.signals_printed.len in
+    let p = fields-in-place k t key.sized id.len date.len time.len s.header_bytes_printed.len s.reserved_printed.len s.count_printed.len s.signals_printed.len in
     let b : List ℕ = fixed_bytes k t in
     record {
       len = p.len;
@@ -222,11 +221,6 @@ is-fixed k days seconds count t row key s =
       signals_to = omega (arith, key.signals_to);
     }
 
-is-ordinary : (k : Key) → IsKey k → All IsOrdinary k.signals
-is-ordinary k key at d lt =
-    let label = key.signals checks.Label at d lt in
-    record { label = label; physical = key.signals checks.Physical at d lt label; digital = key.signals checks.Digital at d lt label }
-
 all-rows : (P : List ℕ → Type 0) (k : Key) (row : List ℕ) → All P k.signals → P row → All P (rows k row)
 all-rows P k row each last = All-push P k.signals row each last
 
@@ -241,8 +235,8 @@ are-signals k days seconds count t row key s =
       printable = all-columns IsPrintable (rows k row) (all-rows (All IsPrintable) k row (printable-key k key.printable).signals s.row_printed.printable);
       each = ap (signals_of (columns (rows k row))) (sym n) ∙ signals-back (rows k row) sized;
       annotations = s.annotations;
-      ordinary = subst (All IsOrdinary) (sym same) (is-ordinary k key);
-      each_samples = all-rows HasSamples k row (key.signals checks.Samples) s.row_samples;
+      ordinary = subst (All IsOrdinary) (sym same) key.signals;
+      each_samples = all-rows HasSamples k row key.each_samples s.row_samples;
       ordinary_size = subst (λ (l : List (List ℕ)). 2 * samples_in_all l ≤ 4_194_304) (sym same) key.size;
       block_size = s.block_size;
     }

@@ -9,9 +9,8 @@ use Rattle.std.proofs.lemmas.Fmt.{decimal_is_IsNumeral, length-decimal-le}
 use Rattle.std.proofs.lemmas.List.{length-append, length-replicate, take_at, drop_at}
 use Rattle.std.proofs.lemmas.List.Elements.{All-nil, All-cons, All-append, All-replicate}
 use Rattle.edf_time.proofs.Digits.{digit_only}
-use Rattle.edf_header.specs.Number.{AreSpaces, digits_len, digits, behind}
-use Rattle.edf_header.specs.Text.{IsPrintable, spaces, padded_to}
-use Rattle.edf_header.specs.Header.{IsNumber}
+use Rattle.edf_field.specs.Number.{AreSpaces, digits_len, digits, behind_digits, IsNumber}
+use Rattle.edf_field.specs.Text.{IsPrintable, spaces, padded_to}
 use Rattle.edf_header.specs.Spelled.{IsPrinted}
 
 digit-passes : (b : ℕ) → 48 ≤ b → b ≤ 57 → is_ascii_digit b ≡ true
@@ -49,7 +48,7 @@ numeral-number ds m n (some, all) value =
     let t : List ℕ = ds ++ spaces m in
     let end : digits_len t ≡ length ds = digits-end ds m all in
     let front : digits t ≡ ds = ap (λ (k : ℕ). take k t) end ∙ take_at ds (spaces m) (length ds) refl in
-    let rest : behind t ≡ spaces m = ap (λ (k : ℕ). drop k t) end ∙ drop_at ds (spaces m) (length ds) refl in
+    let rest : behind_digits t ≡ spaces m = ap (λ (k : ℕ). drop k t) end ∙ drop_at ds (spaces m) (length ds) refl in
     record {
       whole = (omega arith, subst AreSpaces (sym rest) (All-replicate (λ (b : ℕ). b ≡ 32) m 32 refl));
       value = sym value ∙ ap (digits_value 10) (sym front);

@@ -2,12 +2,12 @@
 use Rattle.std.proofs.Common.{◌≡◌, ℕ, ◌+◌, ◌-◌, ◌*◌, ◌≤◌, ◌<◌, List, [], ◌++◌, take, drop, inl, inr, refl, sym, ap, ◌∙◌, subst, arith}
 use Rattle.std.proofs.lemmas.Bool.{cases_lt}
 use Rattle.std.proofs.lemmas.List.{drop-take, take-take}
-use Rattle.edf_header.specs.Number.{field}
-use Rattle.edf_header.specs.Text.{IsPrintable}
+use Rattle.edf_field.specs.Number.{field, IsNumber}
+use Rattle.edf_field.specs.Text.{IsPrintable}
 use Rattle.edf_header.specs.Signal.{signals_of, Passes, IsFirstBad}
-use Rattle.edf_header.specs.Header.{Header, Fixed, Layout, IsFixedHeader, AreSignals, IsHeader, IsNumber, layout_of}
+use Rattle.edf_header.specs.Header.{HeaderRecord, FixedPart, Layout, IsFixedHeader, AreSignals, IsHeader, layout_of}
 use Rattle.edf_header.specs.Spelled.{IsReadAs}
-use Rattle.edf_header.specs.Fault.{Fails, SignalsFail, HasSignals, IsBadSignal, IsFirst, IsHeaderFault, number}
+use Rattle.edf_header.specs.Fault.{FixedPartFails, SignalsFail, HasSignals, IsBadSignal, IsFirst, IsHeaderFault, header_fault_number}
 use Rattle.edf_header.specs.declared.checks.Check.{Check}
 use Rattle.edf_header.specs.declared.checks.Check.TheVariants as checks
 use Rattle.edf_header.specs.declared.fault.HeaderFault.{HeaderFault}
@@ -22,26 +22,26 @@ pub record ArePlaced (b first second rest : List ℕ) (n : ℕ) : Type 0 where
   pub signals : field b 256 (256 * n) ≡ second
   pub rest_is : drop (256 + 256 * n) b ≡ rest
 
-pub placed : (b : List ℕ) (h : Header) (r : List ℕ) → (i : IsHeader b h r) → ArePlaced b i.first i.second r h.fixed.signals
+pub placed : (b : List ℕ) (h : HeaderRecord) (r : List ℕ) → (i : IsHeader b h r) → ArePlaced b i.first i.second r h.fixed.signal_count
 placed b h r i =
     let one : IsPartAt b i.first (i.second ++ r) 0 256 = part-here b i.first (i.second ++ r) 0 256 i.parts i.fixed.len in
-    let two : IsPartAt b i.second r 256 (256 * h.fixed.signals) = part-here b i.second r 256 (256 * h.fixed.signals) one.behind i.signals.len in
+    let two : IsPartAt b i.second r 256 (256 * h.fixed.signal_count) = part-here b i.second r 256 (256 * h.fixed.signal_count) one.behind i.signals.len in
     record { fixed = one.here; signals = two.here; rest_is = two.behind }
 
-pub one-header : (b : List ℕ) (h g : Header) (r s : List ℕ) → IsHeader b h r → IsHeader b g s → (h ≡ g) × (r ≡ s)
+pub one-header : (b : List ℕ) (h g : HeaderRecord) (r s : List ℕ) → IsHeader b h r → IsHeader b g s → (h ≡ g) × (r ≡ s)
 one-header b h g r s i j =
     let p = placed b h r i in
     let q = placed b g s j in
     let first : i.first ≡ j.first = sym p.fixed ∙ q.fixed in
     let fixed : h.fixed ≡ g.fixed = one-fixed j.first h.fixed g.fixed (subst (λ (l : List ℕ). IsFixedHeader l h.fixed) first i.fixed) j.fixed in
-    let n : h.fixed.signals ≡ g.fixed.signals = ap (λ (f : Fixed). f.signals) fixed in
+    let n : h.fixed.signal_count ≡ g.fixed.signal_count = ap (λ (f : FixedPart). f.signal_count) fixed in
     let second : i.second ≡ j.second = sym p.signals ∙ ap (λ (n : ℕ). field b 256 (256 * n)) n ∙ q.signals in
     let rest : r ≡ s = sym p.rest_is ∙ ap (λ (n : ℕ). drop (256 + 256 * n) b) n ∙ q.rest_is in
     (one-signals j.second h g (subst (λ (l : List ℕ). AreSignals l h) second i.signals) j.signals fixed, rest)
 
 -- ---- a header has no fault
 
-number-at : (b : List ℕ) (at n : ℕ) → at + n ≤ 256 → field (take 256 b) at n ≡ field b at n
+pub number-at : (b : List ℕ) (at n : ℕ) → at + n ≤ 256 → field (take 256 b) at n ≡ field b at n
 number-at b at n fits =
     let whole : 256 ≡ at + (256 - at) = omega arith in
     let small : n ≤ 256 - at = omega arith in
@@ -51,14 +51,14 @@ one-number : (text : List ℕ) (m n : ℕ) → IsNumber text m → IsNumber text
 one-number text m n p q = p.value ∙ sym q.value
 
 -- the number of signals that the fixed part names
-same-count : (b : List ℕ) (h : Header) (r : List ℕ) (n : ℕ) → (i : IsHeader b h r) → HasSignals b n → n ≡ h.fixed.signals
+same-count : (b : List ℕ) (h : HeaderRecord) (r : List ℕ) (n : ℕ) → (i : IsHeader b h r) → HasSignals b n → n ≡ h.fixed.signal_count
 same-count b h r n i has =
     let p = placed b h r i in
     let text : field i.first 252 4 ≡ field b 252 4 = ap (λ (l : List ℕ). field l 252 4) (sym p.fixed) ∙ number-at b 252 4 (omega arith) in
-    one-number (field b 252 4) n h.fixed.signals has.0 (subst (λ (l : List ℕ). IsNumber l h.fixed.signals) text i.fixed.signals)
+    one-number (field b 252 4) n h.fixed.signal_count has.0 (subst (λ (l : List ℕ). IsNumber l h.fixed.signal_count) text i.fixed.signals)
 
 -- a fault of the signal part has a number below 21
-signals-below : (s : List ℕ) (n : ℕ) (e : HeaderFault) → SignalsFail s n e → number e < 21
+signals-below : (s : List ℕ) (n : ℕ) (e : HeaderFault) → SignalsFail s n e → header_fault_number e < 21
 signals-below s n CutSignals fails = omega arith
 signals-below s n (UnprintableSignals offset) fails = omega arith
 signals-below s n Annotations fails = omega arith
@@ -68,19 +68,19 @@ signals-below s n (Samples signal) fails = omega arith
 signals-below s n Size fails = omega arith
 signals-below s n e fails = absurd fails
 
-signals-no-fault : (s : List ℕ) (h : Header) (e : HeaderFault) → AreSignals s h → ¬ SignalsFail s h.fixed.signals e
-signals-no-fault s h e i fails = signals-clean s h i e (signals-below s h.fixed.signals e fails) fails
+signals-no-fault : (s : List ℕ) (h : HeaderRecord) (e : HeaderFault) → AreSignals s h → ¬ SignalsFail s h.fixed.signal_count e
+signals-no-fault s h e i fails = signals-clean s h i e (signals-below s h.fixed.signal_count e fails) fails
 
-pub header-no-fault : (b : List ℕ) (h : Header) (r : List ℕ) (e : HeaderFault) → IsHeader b h r → ¬ IsHeaderFault b e
+pub header-no-fault : (b : List ℕ) (h : HeaderRecord) (r : List ℕ) (e : HeaderFault) → IsHeader b h r → ¬ IsHeaderFault b e
 header-no-fault b h r e i fault =
     let p = placed b h r i in
     elim fault [
-      | inl first ↦ no-fault i.first h.fixed i.fixed e (subst (λ (l : List ℕ). Fails l e) p.fixed first.0)
+      | inl first ↦ no-fault i.first h.fixed i.fixed e (subst (λ (l : List ℕ). FixedPartFails l e) p.fixed first.0)
       | inr later ↦
-          let n : later.0 ≡ h.fixed.signals = same-count b h r later.0 i later.2 in
+          let n : later.0 ≡ h.fixed.signal_count = same-count b h r later.0 i later.2 in
           let second : field b 256 (256 * later.0) ≡ i.second = ap (λ (n : ℕ). field b 256 (256 * n)) n ∙ p.signals in
           signals-no-fault i.second h e i.signals
-          (subst (λ (l : List ℕ). SignalsFail l h.fixed.signals e) second (subst (λ (m : ℕ). SignalsFail (field b 256 (256 * later.0)) m e) n later.3.0))
+          (subst (λ (l : List ℕ). SignalsFail l h.fixed.signal_count e) second (subst (λ (m : ℕ). SignalsFail (field b 256 (256 * later.0)) m e) n later.3.0))
     ]
 
 -- ---- one fault
@@ -95,11 +95,11 @@ one-first-bad P d xs a b p q =
       ]
     ]
 
-same-number : (Holds : HeaderFault → Type 0) (e f : HeaderFault) → IsFirst Holds e → IsFirst Holds f → number e ≡ number f
+same-number : (Holds : HeaderFault → Type 0) (e f : HeaderFault) → IsFirst Holds e → IsFirst Holds f → header_fault_number e ≡ header_fault_number f
 same-number Holds e f p q =
-    elim (cases_lt (number e) (number f)) [
+    elim (cases_lt (header_fault_number e) (header_fault_number f)) [
       | inl lt ↦ absurd (q.1 e lt p.0)
-      | inr le ↦ elim (cases_lt (number f) (number e)) [
+      | inr le ↦ elim (cases_lt (header_fault_number f) (header_fault_number e)) [
         | inl lt ↦ absurd (p.1 f lt q.0)
         | inr more ↦ omega arith
       ]
@@ -108,7 +108,7 @@ same-number Holds e f p q =
 pub one-bad-signal : (check : Check) (ss : List (List ℕ)) (a b : ℕ) → IsBadSignal check ss a → IsBadSignal check ss b → a ≡ b
 one-bad-signal check ss a b p q = p.2 ∙ ap (λ (n : ℕ). n + 1) (one-first-bad (Passes check) [] ss p.0 q.0 p.1 q.1) ∙ sym q.2
 
-same-fault : (s : List ℕ) (n : ℕ) (e f : HeaderFault) → number e ≡ number f → SignalsFail s n e → SignalsFail s n f → e ≡ f
+same-fault : (s : List ℕ) (n : ℕ) (e f : HeaderFault) → header_fault_number e ≡ header_fault_number f → SignalsFail s n e → SignalsFail s n f → e ≡ f
 same-fault s n CutSignals CutSignals same p q = refl
 same-fault s n CutSignals f same p q = absurd (omega arith)
 same-fault s n (UnprintableSignals a) (UnprintableSignals b) same p q =
@@ -130,7 +130,7 @@ pub one-signals-fault : (s : List ℕ) (n : ℕ) (e f : HeaderFault) → IsFirst
 one-signals-fault s n e f p q = same-fault s n e f (same-number (SignalsFail s n) e f p q) p.0 q.0
 
 -- a fault of the fixed part has a number below 14
-fails-below : (b : List ℕ) (e : HeaderFault) → Fails b e → number e < 14
+fails-below : (b : List ℕ) (e : HeaderFault) → FixedPartFails b e → header_fault_number e < 14
 fails-below b Cut fails = omega arith
 fails-below b (Unprintable at) fails = omega arith
 fails-below b Version fails = omega arith
@@ -163,7 +163,7 @@ one-header-fault b e f p q =
     ]
 
 -- what bytes are read as is all that they are read as
-pub read-as-one : (bytes rest : List ℕ) (layout : Layout) (h : Header) (r : List ℕ) → IsReadAs bytes layout → IsHeader (bytes ++ rest) h r → (layout_of h ≡ layout) × (r ≡ rest)
+pub read-as-one : (bytes rest : List ℕ) (layout : Layout) (h : HeaderRecord) (r : List ℕ) → IsReadAs bytes layout → IsHeader (bytes ++ rest) h r → (layout_of h ≡ layout) × (r ≡ rest)
 read-as-one bytes rest layout h r is i =
     let same = one-header (bytes ++ rest) h is.header r rest i (is.reads rest) in
     (ap layout_of same.0 ∙ is.says, same.1)

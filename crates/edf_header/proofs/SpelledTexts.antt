@@ -6,7 +6,7 @@ use Rattle.std.proofs.lemmas.List.{length-append, length-take, length-drop}
 use Rattle.std.proofs.lemmas.List.Elements.{All-nil, All-cons, All-append, All-take, All-drop}
 use Rattle.jiff_core.proofs.CalendarLemmas.{days_in_month_bounds}
 use Rattle.edf_time.specs.Civil.{IsDay, IsDateText, IsTimeText, IsIdDate, two_digits, four_digits, month_name}
-use Rattle.edf_header.specs.Text.{IsPrintable}
+use Rattle.edf_field.specs.Text.{IsPrintable}
 use Rattle.edf_header.specs.Spelled.{IsPrinted}
 
 pub two-printable : (n : ℕ) → n < 100 → All IsPrintable (two_digits n)

@@ -5,7 +5,7 @@ use Rattle.std.proofs.lemmas.List.FromFn.{fill_by_all}
 use Rattle.std.proofs.lemmas.List.Elements.{All-head, All-tail, All-get_or, All-weaker}
 use Rattle.std.specs.Prelude.{All}
 use Rattle.std.specs.List.{flat_map}
-use Rattle.edf_header.specs.Number.{field}
+use Rattle.edf_field.specs.Number.{field}
 use Rattle.edf_header.specs.Signal.{column_of, columns, columns_by, fields, row_at, row_by, signals_of}
 
 -- a part of the parts joined

@@ -2,7 +2,7 @@
 use Rattle.std.specs.Prelude.{◌≡◌, ℕ, ◌+◌, ◌*◌, List, [], ◌∷◌, ◌++◌, length, codes, if◌then◌else◌, pos}
 use Rattle.std.specs.Fmt.{decimal}
 use Rattle.edf_time.specs.Civil.{IsIdDate, IsDateText, IsTimeText, day_of, second_of_day}
-use Rattle.edf_header.specs.Text.{spaces, padded_to}
+use Rattle.edf_field.specs.Text.{spaces, padded_to}
 use Rattle.edf_header.specs.Signal.{columns}
 use Rattle.edf_header.specs.Key.{Key}
 

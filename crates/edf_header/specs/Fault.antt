@@ -1,10 +1,10 @@
 -- When a header is refused: the condition of each fault, and the first in the order of their numbers.
 use Rattle.std.specs.Prelude.{◌≡◌, ◌≢◌, ℕ, ◌+◌, ◌*◌, ◌≤◌, ◌<◌, ◌⊎◌, List, ◌∷◌, ◌++◌, length, codes, take, All, ℤ, Option}
 use Rattle.edf_time.specs.Civil.{IsDateText, IsTimeText}
-use Rattle.edf_header.specs.Number.{field, IsDuration}
-use Rattle.edf_header.specs.Text.{IsPrintable, IsPatient, IsRecording}
+use Rattle.edf_field.specs.Number.{field, IsDuration, IsNumber}
+use Rattle.edf_field.specs.Text.{IsPrintable, IsPatient, IsRecording}
 use Rattle.edf_header.specs.Signal.{signals_of, ordinary, samples_in_all, IsLabelled, IsAnnotationsSignal, Passes, IsFirstBad}
-use Rattle.edf_header.specs.Header.{IsSameDay, IsPlus, IsNumber}
+use Rattle.edf_header.specs.Header.{IsSameDay, IsPlus}
 use Rattle.edf_header.specs.declared.checks.Check.{Check}
 use Rattle.edf_header.specs.declared.checks.Check.TheVariants as checks
 use Rattle.edf_header.specs.declared.fault.HeaderFault.{HeaderFault}
@@ -26,28 +26,28 @@ pub record DatesAreOther (b : List ℕ) : Type 0 where
   pub other : ¬ IsSameDay startdate days
 
 -- the fault is true of the fixed part's bytes, at its place
-abbrev pub Fails : List ℕ → HeaderFault → Type 0
-Fails b Cut = length b < 256
-Fails b (Unprintable offset) = IsFirstBad IsPrintable b offset
-Fails b Version = field b 0 8 ≢ codes "0       "
-Fails b Patient = ¬ IsPatient (field b 8 80)
-Fails b Recording = (startdate : Option ℤ) (after : List ℕ) → ¬ IsRecording (field b 88 80) startdate after
-Fails b Startdate = (days : ℕ) → ¬ IsDateText (field b 168 8) days
-Fails b Starttime = (seconds : ℕ) → ¬ IsTimeText (field b 176 8) seconds
-Fails b DatesDiffer = DatesAreOther b
-Fails b NotPlus = ¬ IsPlus (field b 192 44)
-Fails b Count = ¬ HasCount b
-Fails b Duration = (nanos : ℕ) → ¬ IsDuration (field b 244 8) nanos
-Fails b Signals = (n : ℕ) → ¬ HasSignals b n
-Fails b HeaderBytes = (n : ℕ) × HasSignals b n × ¬ IsNumber (field b 184 8) (256 + 256 * n)
-Fails b CutSignals = ⊥
-Fails b (UnprintableSignals offset) = ⊥
-Fails b Annotations = ⊥
-Fails b (Physical signal) = ⊥
-Fails b (Digital signal) = ⊥
-Fails b (Samples signal) = ⊥
-Fails b Size = ⊥
-Fails b Memory = ⊥
+abbrev pub FixedPartFails : List ℕ → HeaderFault → Type 0
+FixedPartFails b Cut = length b < 256
+FixedPartFails b (Unprintable offset) = IsFirstBad IsPrintable b offset
+FixedPartFails b Version = field b 0 8 ≢ codes "0       "
+FixedPartFails b Patient = ¬ IsPatient (field b 8 80)
+FixedPartFails b Recording = (startdate : Option ℤ) (after : List ℕ) → ¬ IsRecording (field b 88 80) startdate after
+FixedPartFails b Startdate = (days : ℕ) → ¬ IsDateText (field b 168 8) days
+FixedPartFails b Starttime = (seconds : ℕ) → ¬ IsTimeText (field b 176 8) seconds
+FixedPartFails b DatesDiffer = DatesAreOther b
+FixedPartFails b NotPlus = ¬ IsPlus (field b 192 44)
+FixedPartFails b Count = ¬ HasCount b
+FixedPartFails b Duration = (nanos : ℕ) → ¬ IsDuration (field b 244 8) nanos
+FixedPartFails b Signals = (n : ℕ) → ¬ HasSignals b n
+FixedPartFails b HeaderBytes = (n : ℕ) × HasSignals b n × ¬ IsNumber (field b 184 8) (256 + 256 * n)
+FixedPartFails b CutSignals = ⊥
+FixedPartFails b (UnprintableSignals offset) = ⊥
+FixedPartFails b Annotations = ⊥
+FixedPartFails b (Physical signal) = ⊥
+FixedPartFails b (Digital signal) = ⊥
+FixedPartFails b (Samples signal) = ⊥
+FixedPartFails b Size = ⊥
+FixedPartFails b Memory = ⊥
 
 -- exactly one signal is an annotations signal, and it has what it must
 pub record HasAnnotations (signals : List (List ℕ)) : Type 0 where
@@ -92,43 +92,43 @@ SignalsFail s n Signals = ⊥
 SignalsFail s n HeaderBytes = ⊥
 SignalsFail s n Memory = ⊥
 
-abbrev pub number : HeaderFault → ℕ
-number Cut = 1
-number (Unprintable offset) = 2
-number Version = 3
-number Patient = 4
-number Recording = 5
-number Startdate = 6
-number Starttime = 7
-number DatesDiffer = 8
-number NotPlus = 9
-number Count = 10
-number Duration = 11
-number Signals = 12
-number HeaderBytes = 13
-number CutSignals = 14
-number (UnprintableSignals offset) = 15
-number Annotations = 16
-number (Physical signal) = 17
-number (Digital signal) = 18
-number (Samples signal) = 19
-number Size = 20
-number Memory = 41
+abbrev pub header_fault_number : HeaderFault → ℕ
+header_fault_number Cut = 1
+header_fault_number (Unprintable offset) = 2
+header_fault_number Version = 3
+header_fault_number Patient = 4
+header_fault_number Recording = 5
+header_fault_number Startdate = 6
+header_fault_number Starttime = 7
+header_fault_number DatesDiffer = 8
+header_fault_number NotPlus = 9
+header_fault_number Count = 10
+header_fault_number Duration = 11
+header_fault_number Signals = 12
+header_fault_number HeaderBytes = 13
+header_fault_number CutSignals = 14
+header_fault_number (UnprintableSignals offset) = 15
+header_fault_number Annotations = 16
+header_fault_number (Physical signal) = 17
+header_fault_number (Digital signal) = 18
+header_fault_number (Samples signal) = 19
+header_fault_number Size = 20
+header_fault_number Memory = 41
 
 -- no fault of a lower number is true
 abbrev pub IsClean : (HeaderFault → Type 0) → ℕ → Type 0
-IsClean Holds n = (other : HeaderFault) → number other < n → ¬ Holds other
+IsClean Holds n = (other : HeaderFault) → header_fault_number other < n → ¬ Holds other
 
 -- the fault is true, and none of a lower number
 abbrev pub IsFirst : (HeaderFault → Type 0) → HeaderFault → Type 0
-IsFirst Holds fault = Holds fault × IsClean Holds (number fault)
+IsFirst Holds fault = Holds fault × IsClean Holds (header_fault_number fault)
 
 -- why bytes begin with no header: a fault of the fixed part, or, where it has none, of the signal part behind it
 abbrev pub IsHeaderFault : List ℕ → HeaderFault → Type 0
 IsHeaderFault bytes fault =
-    IsFirst (Fails (take 256 bytes)) fault
-    ⊎ ((n : ℕ) × IsClean (Fails (take 256 bytes)) 14 × HasSignals bytes n × IsFirst (SignalsFail (field bytes 256 (256 * n)) n) fault)
+    IsFirst (FixedPartFails (take 256 bytes)) fault
+    ⊎ ((n : ℕ) × IsClean (FixedPartFails (take 256 bytes)) 14 × HasSignals bytes n × IsFirst (SignalsFail (field bytes 256 (256 * n)) n) fault)
 
--- why the signal part is not read: want of memory, which may come first, or the first fault
+-- why the signal part is not read: want of memory, where its length and its bytes have no fault, or the first fault
 abbrev pub IsSignalsRefusal : List ℕ → ℕ → HeaderFault → Type 0
-IsSignalsRefusal s n fault = (fault ≡ Memory) ⊎ IsFirst (SignalsFail s n) fault
+IsSignalsRefusal s n fault = ((fault ≡ Memory) × IsClean (SignalsFail s n) 16) ⊎ IsFirst (SignalsFail s n) fault

@@ -1,28 +1,28 @@
 -- What a header says, and when bytes spell it.
-use Rattle.std.specs.Prelude.{◌≡◌, ℕ, ◌+◌, ◌*◌, ◌≤◌, ◌<◌, ◌⊎◌, Bool, true, false, List, ◌∷◌, ◌++◌, length, take, All, codes, ℤ, pos, Option, Some, None, if◌then◌else◌}
+use Rattle.std.specs.Prelude.{◌≡◌, ℕ, ◌+◌, ◌*◌, ◌%◌, ◌^◌, ◌≤◌, ◌<◌, ◌⊎◌, Bool, true, false, List, ◌∷◌, ◌++◌, length, take, All, codes, ℤ, pos, Option, Some, None, if◌then◌else◌}
 use Rattle.edf_time.specs.Civil.{IsCivil, IsDateText, window}
-use Rattle.edf_header.specs.Number.{field, IsWhole, whole_value, IsDuration}
-use Rattle.edf_header.specs.Text.{IsPrintable, IsPatient, IsBehindStartdate, IsRecording, after_of}
-use Rattle.edf_header.specs.Signal.{signals_of, IsLabelled, HasPhysical, HasDigital, HasSamples, IsAnnotationsSignal, samples, samples_in_all}
+use Rattle.edf_field.specs.Number.{field, IsNumber, IsDuration}
+use Rattle.edf_field.specs.Text.{IsPrintable, IsPatient, IsBehindStartdate, IsRecording, after_of}
+use Rattle.edf_header.specs.Signal.{signals_of, IsOrdinary, HasSamples, IsAnnotationsSignal, samples, samples_in_all}
 use Rattle.edf_header.specs.Key.{Key}
 
 -- what the fixed part says: the patient field; the Startdate subfield's day, or none for X, and what follows it; the start in
 -- nanoseconds; how many data records; the duration field; how many signals
-pub record Fixed : Type 0 where
+pub record FixedPart : Type 0 where
   pub patient : List ℕ
   pub startdate : Option ℤ
   pub after : List ℕ
   pub start : ℕ
   pub count : ℕ
   pub duration : List ℕ
-  pub signals : ℕ
+  pub signal_count : ℕ
 
 abbrev pub is_dated : Option ℤ → Bool
 is_dated None = false
 is_dated (Some day) = true
 
 -- what a fixed part says, by the patient field, the recording field and the rest
-abbrev pub fixed_from : List ℕ → List ℕ → Option ℤ → ℕ → ℕ → List ℕ → ℕ → Fixed
+abbrev pub fixed_from : List ℕ → List ℕ → Option ℤ → ℕ → ℕ → List ℕ → ℕ → FixedPart
 fixed_from patient recording startdate start count duration signals = record {
   patient = patient;
   startdate = startdate;
@@ -30,15 +30,15 @@ fixed_from patient recording startdate start count duration signals = record {
   start = start;
   count = count;
   duration = duration;
-  signals = signals;
+  signal_count = signals;
 }
 
 -- the same, where the fields of 256 bytes stand
-abbrev pub fixed_at : List ℕ → Option ℤ → ℕ → ℕ → ℕ → Fixed
+abbrev pub fixed_at : List ℕ → Option ℤ → ℕ → ℕ → ℕ → FixedPart
 fixed_at bytes startdate start count signals = fixed_from (field bytes 8 80) (field bytes 88 80) startdate start count (field bytes 244 8) signals
 
 -- the fixed parts that headers have
-pub record IsFixed (f : Fixed) : Type 0 where
+pub record IsFixed (f : FixedPart) : Type 0 where
   pub patient_len : length f.patient ≡ 80
   pub patient_printable : All IsPrintable f.patient
   pub is_patient : IsPatient f.patient
@@ -46,13 +46,14 @@ pub record IsFixed (f : Fixed) : Type 0 where
   pub after_printable : All IsPrintable f.after
   pub is_behind : IsBehindStartdate f.after
   pub in_window : f.start < window
+  pub whole_second : f.start % 10 ^ 9 ≡ 0
   pub count_from : 1 ≤ f.count
   pub count_to : f.count < 100_000_000
   pub duration_len : length f.duration ≡ 8
   pub duration_printable : All IsPrintable f.duration
   pub is_duration : (nanos : ℕ) × IsDuration f.duration nanos
-  pub signals_from : 2 ≤ f.signals
-  pub signals_to : f.signals ≤ 640
+  pub signals_from : 2 ≤ f.signal_count
+  pub signals_to : f.signal_count ≤ 640
 
 -- a Startdate subfield that is a date is the startdate's day
 abbrev pub IsSameDay : Option ℤ → ℕ → Type 0
@@ -62,13 +63,8 @@ IsSameDay (Some day) days = day ≡ pos days
 abbrev pub IsPlus : List ℕ → Type 0
 IsPlus reserved = (take 5 reserved ≡ codes "EDF+C") ⊎ (take 5 reserved ≡ codes "EDF+D")
 
--- a field spells a whole number
-pub record IsNumber (text : List ℕ) (n : ℕ) : Type 0 where
-  pub whole : IsWhole text
-  pub value : n ≡ whole_value text
-
 -- 256 bytes spell the fixed part, each field at its offset
-pub record IsFixedHeader (bytes : List ℕ) (h : Fixed) : Type 0 where
+pub record IsFixedHeader (bytes : List ℕ) (h : FixedPart) : Type 0 where
   pub len : length bytes ≡ 256
   pub printable : All IsPrintable bytes
   pub version : field bytes 0 8 ≡ codes "0       "
@@ -77,33 +73,28 @@ pub record IsFixedHeader (bytes : List ℕ) (h : Fixed) : Type 0 where
   pub recording : IsRecording (field bytes 88 80) h.startdate h.after
   pub start : IsCivil (field bytes 168 8) (field bytes 176 8) h.start
   pub same_day : (days : ℕ) → IsDateText (field bytes 168 8) days → IsSameDay h.startdate days
-  pub header_bytes : IsNumber (field bytes 184 8) (256 + 256 * h.signals)
+  pub header_bytes : IsNumber (field bytes 184 8) (256 + 256 * h.signal_count)
   pub reserved : IsPlus (field bytes 192 44)
   pub count : IsNumber (field bytes 236 8) h.count
   pub count_some : 1 ≤ h.count
   pub duration : h.duration ≡ field bytes 244 8
   pub is_duration : (nanos : ℕ) × IsDuration h.duration nanos
-  pub signals : IsNumber (field bytes 252 4) h.signals
-  pub signals_from : 2 ≤ h.signals
-  pub signals_to : h.signals ≤ 640
+  pub signals : IsNumber (field bytes 252 4) h.signal_count
+  pub signals_from : 2 ≤ h.signal_count
+  pub signals_to : h.signal_count ≤ 640
 
 -- a header: its fixed part, and its signals round the annotations signal, each a row
-pub record Header : Type 0 where
-  pub fixed : Fixed
+pub record HeaderRecord : Type 0 where
+  pub fixed : FixedPart
   pub front : List (List ℕ)
   pub annotations : List ℕ
   pub back : List (List ℕ)
 
-pub record IsOrdinary (row : List ℕ) : Type 0 where
-  pub label : ¬ IsLabelled row
-  pub physical : HasPhysical row
-  pub digital : HasDigital row
-
 -- 256 bytes a signal spell the header's signals, each field in its column
-pub record AreSignals (bytes : List ℕ) (h : Header) : Type 0 where
-  pub len : length bytes ≡ 256 * h.fixed.signals
+pub record AreSignals (bytes : List ℕ) (h : HeaderRecord) : Type 0 where
+  pub len : length bytes ≡ 256 * h.fixed.signal_count
   pub printable : All IsPrintable bytes
-  pub each : signals_of bytes h.fixed.signals ≡ h.front ++ h.annotations ∷ h.back
+  pub each : signals_of bytes h.fixed.signal_count ≡ h.front ++ h.annotations ∷ h.back
   pub annotations : IsAnnotationsSignal h.annotations
   pub ordinary : All IsOrdinary (h.front ++ h.back)
   pub each_samples : All HasSamples (h.front ++ h.annotations ∷ h.back)
@@ -111,7 +102,7 @@ pub record AreSignals (bytes : List ℕ) (h : Header) : Type 0 where
   pub block_size : 2 * samples h.annotations ≤ 4_194_304
 
 -- the bytes begin with a header
-pub record IsHeader (bytes : List ℕ) (h : Header) (rest : List ℕ) : Type 0 where
+pub record IsHeader (bytes : List ℕ) (h : HeaderRecord) (rest : List ℕ) : Type 0 where
   pub first : List ℕ
   pub second : List ℕ
   pub parts : bytes ≡ first ++ (second ++ rest)
@@ -119,7 +110,7 @@ pub record IsHeader (bytes : List ℕ) (h : Header) (rest : List ℕ) : Type 0 w
   pub signals : AreSignals second h
 
 -- the recording that a header names
-abbrev pub key_of : Header → Key
+abbrev pub key_of : HeaderRecord → Key
 key_of h = record {
   patient = h.fixed.patient;
   dated = is_dated h.fixed.startdate;
@@ -138,7 +129,7 @@ pub record Layout : Type 0 where
   pub block_bytes : ℕ
   pub record_bytes : ℕ
 
-abbrev pub layout_of : Header → Layout
+abbrev pub layout_of : HeaderRecord → Layout
 layout_of h = record {
   key = key_of h;
   start = h.fixed.start;

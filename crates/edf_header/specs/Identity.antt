@@ -1,7 +1,7 @@
 -- When bytes are no identity: the condition of each fault, and the first in their order.
 use Rattle.std.specs.Prelude.{◌≡◌, ℕ, ◌+◌, ◌-◌, ◌*◌, ◌/◌, ◌≤◌, ◌<◌, ◌⊎◌, List, length, drop, slice_index}
-use Rattle.edf_header.specs.Number.{field, IsDuration, AreSpaces}
-use Rattle.edf_header.specs.Text.{IsPrintable, IsPatient, IsBehindStartdate}
+use Rattle.edf_field.specs.Number.{field, IsDuration, AreSpaces}
+use Rattle.edf_field.specs.Text.{IsPrintable, IsPatient, IsBehindStartdate}
 use Rattle.edf_header.specs.Signal.{rows, samples_in_all, IsFirstBad}
 use Rattle.edf_header.specs.Key.{key_at}
 use Rattle.edf_header.specs.Fault.{IsBadSignal}
@@ -17,8 +17,8 @@ HasLength b = (n : ℕ) × (1 ≤ n) × (n ≤ 639) × (length b ≡ 158 + 256 *
 abbrev pub HasMark : List ℕ → Type 0
 HasMark b = ((slice_index b 80 ≡ 68) × AreSpaces (field b 140 10)) ⊎ (slice_index b 80 ≡ 88)
 
-abbrev pub signals : List ℕ → List (List ℕ)
-signals b = rows ((length b - 158) / 256) (drop 158 b)
+abbrev pub signals_at : List ℕ → List (List ℕ)
+signals_at b = rows ((length b - 158) / 256) (drop 158 b)
 
 -- the fault is true of the bytes, at its place
 abbrev pub KeyFails : List ℕ → IdentityFault → Type 0
@@ -27,11 +27,11 @@ KeyFails b (Unprintable offset) = IsFirstBad IsPrintable b offset
 KeyFails b Patient = ¬ IsPatient (field b 0 80)
 KeyFails b Recording = ¬ (HasMark b × IsBehindStartdate (key_at b).after)
 KeyFails b Duration = (nanos : ℕ) → ¬ IsDuration (field b 150 8) nanos
-KeyFails b (Label signal) = IsBadSignal checks.Label (signals b) signal
-KeyFails b (Physical signal) = IsBadSignal checks.Physical (signals b) signal
-KeyFails b (Digital signal) = IsBadSignal checks.Digital (signals b) signal
-KeyFails b (Samples signal) = IsBadSignal checks.Samples (signals b) signal
-KeyFails b Size = 4_194_304 < 2 * samples_in_all (signals b)
+KeyFails b (Label signal) = IsBadSignal checks.Label (signals_at b) signal
+KeyFails b (Physical signal) = IsBadSignal checks.Physical (signals_at b) signal
+KeyFails b (Digital signal) = IsBadSignal checks.Digital (signals_at b) signal
+KeyFails b (Samples signal) = IsBadSignal checks.Samples (signals_at b) signal
+KeyFails b Size = 4_194_304 < 2 * samples_in_all (signals_at b)
 KeyFails b Memory = Unit {0}
 
 -- the order of the faults; want of memory comes last, so it says that no other is true

@@ -1,10 +1,9 @@
 -- To which recording a fragment belongs: the key, which fields have it, and its bytes.
 use Rattle.std.specs.Prelude.{◌≡◌, ℕ, ◌-◌, ◌*◌, ◌/◌, ◌≤◌, ◌==◌, Bool, List, ◌∷◌, ◌++◌, length, drop, slice_index, All, if◌then◌else◌, [], slice_index_or}
 use Rattle.std.specs.List.{flat_map}
-use Rattle.edf_header.specs.Number.{field, IsDuration}
-use Rattle.edf_header.specs.Text.{IsPrintable, IsPatient, IsBehindStartdate, spaces, subfields}
-use Rattle.edf_header.specs.Signal.{rows, Passes, samples_in_all}
-use Rattle.edf_header.specs.declared.checks.Check.{Check}
+use Rattle.edf_field.specs.Number.{field, IsDuration}
+use Rattle.edf_field.specs.Text.{IsPrintable, IsPatient, IsBehindStartdate, spaces, subfields}
+use Rattle.edf_header.specs.Signal.{rows, IsOrdinary, HasSamples, samples_in_all}
 
 -- the patient field; whether the Startdate subfield is a date; what follows it, 59 bytes behind a date and 69 behind X;
 -- the duration field; the ordinary signals' headers
@@ -49,7 +48,8 @@ pub record IsKey (k : Key) : Type 0 where
   pub duration : (nanos : ℕ) × IsDuration k.duration nanos
   pub signals_from : 1 ≤ length k.signals
   pub signals_to : length k.signals ≤ 639
-  pub signals : (check : Check) → All (Passes check) k.signals
+  pub signals : All IsOrdinary k.signals
+  pub each_samples : All HasSamples k.signals
   pub size : 2 * samples_in_all k.signals ≤ 4_194_304
 
 -- the code of the patient, and that of the investigation: the first subfield of their fields

@@ -1,5 +1,3 @@
-pub mod Number
-pub mod Text
 pub mod Signal
 pub mod Key
 pub mod Header
@@ -8,5 +6,4 @@ pub mod Canonical
 pub mod Spelled
 pub mod Identity
 pub mod Shape
-pub mod Grammar
 pub mod Rows

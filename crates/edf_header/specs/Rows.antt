@@ -1,12 +1,12 @@
 -- The rows of a header's signals: their faults, and where the annotations block stands.
-use Rattle.std.specs.Prelude.{◌≡◌, ℕ, ◌+◌, ◌*◌, ◌≤◌, ◌<◌, List, [], ◌++◌, length, take, drop, All}
+use Rattle.std.specs.Prelude.{◌≡◌, ℕ, ◌+◌, ◌*◌, ◌%◌, ◌^◌, ◌≤◌, ◌<◌, List, [], ◌++◌, length, take, drop, All}
 use Rattle.std.specs.List.{slice_index_or}
 use Rattle.edf_header.specs.Signal.{IsLabelled, IsAnnotationsSignal, Passes, samples, samples_in_all}
 use Rattle.edf_header.specs.Key.{IsKey}
 use Rattle.edf_header.specs.Header.{Layout}
 use Rattle.edf_header.specs.Fault.{HasAnnotations, IsBadSignal, IsTooLarge}
 use Rattle.edf_header.specs.declared.checks.Check.TheVariants as checks
-use Rattle.edf_header.specs.declared.signals.Places.{Places}
+use Rattle.edf_header.specs.declared.signals.Extents.{Extents}
 use Rattle.edf_header.specs.declared.fault.HeaderFault.{HeaderFault}
 use Rattle.edf_header.specs.declared.fault.HeaderFault.TheVariants.{Cut, Unprintable, Version, Patient, Recording, Startdate, Starttime, DatesDiffer, NotPlus, Count, Duration, Signals, HeaderBytes, CutSignals, UnprintableSignals, Annotations, Physical, Digital, Samples, Size, Memory}
 
@@ -57,14 +57,15 @@ pub record IsSound (ss : List (List ℕ)) (at : ℕ) : Type 0 where
   pub block_size : 2 * samples (annotations_at ss at) ≤ 4_194_304
 
 -- where the annotations block stands in a data record, and how long both are, in bytes
-pub record ArePlaces (ss : List (List ℕ)) (at : ℕ) (places : Places) : Type 0 where
-  pub block_at : places.block_at ≡ 2 * samples_in_all (take at ss)
-  pub block_bytes : places.block_bytes ≡ 2 * samples (annotations_at ss at)
-  pub record_bytes : places.record_bytes ≡ 2 * samples_in_all ss
+pub record AreExtents (ss : List (List ℕ)) (at : ℕ) (extents : Extents) : Type 0 where
+  pub block_at : extents.block_at ≡ 2 * samples_in_all (take at ss)
+  pub block_bytes : extents.block_bytes ≡ 2 * samples (annotations_at ss at)
+  pub record_bytes : extents.record_bytes ≡ 2 * samples_in_all ss
 
 -- what each header's layout keeps: the block lies in the record, and the rest are the ordinary samples
 pub record IsLayout (l : Layout) : Type 0 where
   pub key : IsKey l.key
+  pub whole_second : l.start % 10 ^ 9 ≡ 0
   pub some : 1 ≤ l.count
   pub few : l.count ≤ 99_999_999
   pub inside : l.block_at + l.block_bytes ≤ l.record_bytes

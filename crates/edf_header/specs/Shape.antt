@@ -1,8 +1,8 @@
 -- Words for single steps: the label test, a key from its parts, the bytes that stand for a key, and where a check comes in the order of faults.
 use Rattle.std.specs.Prelude.{◌≡◌, ℕ, ◌+◌, ◌*◌, ◌⊎◌, Bool, List, length, codes, slice_index, All}
 use Rattle.std.specs.Str.{bytes_eq}
-use Rattle.edf_header.specs.Number.{field, IsDuration}
-use Rattle.edf_header.specs.Text.{IsPrintable, IsPatient, IsBehindStartdate, spaces}
+use Rattle.edf_field.specs.Number.{field, IsDuration}
+use Rattle.edf_field.specs.Text.{IsPrintable, IsPatient, IsBehindStartdate, spaces}
 use Rattle.edf_header.specs.Key.{Key, key_at}
 use Rattle.edf_header.specs.Identity.{HasLength, HasMark}
 use Rattle.edf_header.specs.declared.checks.Check.{Check}
@@ -28,7 +28,7 @@ place_of_check Digital = 8
 place_of_check Samples = 9
 
 -- what stands before an identity's signals has no fault
-pub record IsFront (b : List ℕ) : Type 0 where
+pub record IsKeyFront (b : List ℕ) : Type 0 where
   pub len : HasLength b
   pub printable : All IsPrintable b
   pub patient : IsPatient (field b 0 80)

@@ -2,7 +2,7 @@
 use Rattle.std.specs.Prelude.{◌≡◌, ℕ, ◌+◌, ◌*◌, ◌/◌, ◌≤◌, ◌<◌, zero, suc, not, List, [], ◌∷◌, length, take, drop, map, filter, sum_by, codes, pos, neg_ℤ, ◌<ℤ◌, ◌≤ℤ◌}
 use Rattle.std.specs.List.{flat_map, range_with_len, HoldsAt, AllWithin}
 use Rattle.std.specs.Str.{bytes_eq}
-use Rattle.edf_header.specs.Number.{field, IsWhole, whole_value, IsSigned, signed_value, IsPhysical, Differ}
+use Rattle.edf_field.specs.Number.{field, IsWhole, whole_value, IsSigned, signed_value, IsPhysical, Differ}
 use Rattle.edf_header.specs.declared.checks.Check.{Check}
 use Rattle.edf_header.specs.declared.checks.Check.TheVariants.{Label, Physical, Digital, Samples}
 
@@ -82,6 +82,12 @@ pub record IsAnnotationsSignal (row : List ℕ) : Type 0 where
   pub minimum_is : signed_value (field row 120 8) ≡ neg_ℤ (pos 32_768)
   pub maximum : IsSigned (field row 128 8)
   pub maximum_is : signed_value (field row 128 8) ≡ pos 32_767
+
+-- an ordinary signal
+pub record IsOrdinary (row : List ℕ) : Type 0 where
+  pub label : ¬ IsLabelled row
+  pub physical : HasPhysical row
+  pub digital : HasDigital row
 
 -- what each signal is checked for: that it is ordinary; and where it is, its physical and its digital values; and its samples
 abbrev pub Passes : Check → List ℕ → Type 0

@@ -1,10 +1,11 @@
 -- A header spelled field by field, its annotations signal last.
 use Rattle.std.specs.Prelude.{◌≡◌, ℕ, ◌+◌, ◌*◌, ◌≤◌, Bool, List, [], ◌∷◌, ◌++◌, length, All, codes, if◌then◌else◌, pos}
 use Rattle.edf_time.specs.Civil.{IsDateText, IsTimeText, IsIdDate}
-use Rattle.edf_header.specs.Text.{IsPrintable}
+use Rattle.edf_field.specs.Text.{IsPrintable}
+use Rattle.edf_field.specs.Number.{IsNumber}
 use Rattle.edf_header.specs.Signal.{columns, samples, samples_in_all, IsAnnotationsSignal, HasSamples}
 use Rattle.edf_header.specs.Key.{Key}
-use Rattle.edf_header.specs.Header.{Header, Layout, IsHeader, IsNumber, IsPlus, layout_of}
+use Rattle.edf_header.specs.Header.{HeaderRecord, Layout, IsHeader, IsPlus, layout_of}
 
 -- a printable text of a field's width
 pub record IsPrinted (width : ℕ) (text : List ℕ) : Type 0 where
@@ -23,13 +24,13 @@ pub record Texts : Type 0 where
   pub header_bytes : List ℕ
   pub reserved : List ℕ
   pub count : List ℕ
-  pub signals : List ℕ
+  pub signal_count : List ℕ
 
 -- the header's bytes, field by field
 abbrev pub spelled_bytes : Key → Texts → List ℕ → List ℕ
 spelled_bytes k t row =
     codes "0       " ++ (k.patient ++ (codes "Startdate " ++ (startdate_text k.dated t.id_date ++ (k.after ++ (t.date ++ (t.time
-    ++ (t.header_bytes ++ (t.reserved ++ (t.count ++ (k.duration ++ (t.signals ++ columns (k.signals ++ row ∷ []))))))))))))
+    ++ (t.header_bytes ++ (t.reserved ++ (t.count ++ (k.duration ++ (t.signal_count ++ columns (k.signals ++ row ∷ []))))))))))))
 
 -- what the texts say, and the annotations signal
 pub record IsSpelledBy (k : Key) (days seconds records : ℕ) (t : Texts) (row : List ℕ) : Type 0 where
@@ -43,8 +44,8 @@ pub record IsSpelledBy (k : Key) (days seconds records : ℕ) (t : Texts) (row :
   pub count_printed : IsPrinted 8 t.count
   pub count : IsNumber t.count records
   pub count_some : 1 ≤ records
-  pub signals_printed : IsPrinted 4 t.signals
-  pub signals : IsNumber t.signals (length k.signals + 1)
+  pub signals_printed : IsPrinted 4 t.signal_count
+  pub signals : IsNumber t.signal_count (length k.signals + 1)
   pub row_printed : IsPrinted 256 row
   pub annotations : IsAnnotationsSignal row
   pub row_samples : HasSamples row
@@ -58,7 +59,7 @@ pub record IsSpelledHeader (bytes : List ℕ) (k : Key) (days seconds records : 
 
 -- bytes are read as a header that says this, whatever follows them
 pub record IsReadAs (bytes : List ℕ) (layout : Layout) : Type 0 where
-  pub header : Header
+  pub header : HeaderRecord
   pub reads : (rest : List ℕ) → IsHeader (bytes ++ rest) header rest
   pub says : layout_of header ≡ layout
   pub len : length bytes ≡ 512 + 256 * length layout.key.signals

@@ -1,10 +1,9 @@
 ghost use Rattle.std.specs.Prelude.{◌≡◌, ℕ, List, length, MatchOption, IsTrue, ◌↔◌, All};
-ghost use Rattle.edf_header.specs.Text.{IsPrintable};
-ghost use Rattle.edf_header.specs.Signal.{rows_of, HasDigital, HasSamples, IsLabelled, Passes, IsFirstBad};
+ghost use Rattle.edf_field.specs.Text.{IsPrintable};
+ghost use Rattle.edf_header.specs.Signal.{rows_of, HasPhysical, HasDigital, HasSamples, IsLabelled, Passes, IsFirstBad};
 ghost use Rattle.edf_header.specs.Shape.{has_label};
 
-use crate::number::{signed, whole};
-use crate::physical::has_physical;
+use edf_field::{physical_values_differ, read_signed, read_whole};
 
 /// What each signal of a header is checked for, in this order.
 #[derive(Clone, Copy, Debug, PartialEq, Eq)]
@@ -19,12 +18,20 @@ pub enum Check {
     Samples,
 }
 
+/// Whether the physical minimum and maximum are numbers that differ.
+pub(crate) fn has_physical(row: &[u8]) -> bool
+    requires { length row.now ≡ 256 }
+    ensures { IsTrue result ↔ HasPhysical row.now }
+{
+    physical_values_differ(&row[104..112], &row[112..120])
+}
+
 /// Whether the digital values are numbers of 16 bits, the maximum the greater.
 fn has_digital(row: &[u8]) -> bool
     requires { length row.now ≡ 256 }
     ensures { IsTrue result ↔ HasDigital row.now }
 {
-    match (signed(&row[120..128]), signed(&row[128..136])) {
+    match (read_signed(&row[120..128]), read_signed(&row[128..136])) {
         (Some(low), Some(high)) => -32_768 <= low && low < high && high <= 32_767,
         _ => false,
     }
@@ -35,7 +42,7 @@ fn has_samples(row: &[u8]) -> bool
     requires { length row.now ≡ 256 }
     ensures { IsTrue result ↔ HasSamples row.now }
 {
-    match whole(&row[216..224]) {
+    match read_whole(&row[216..224]) {
         Some(n) => n >= 1,
         None => false,
     }

@@ -1,5 +1,5 @@
 ghost use Rattle.std.specs.Prelude.{◌≡◌, ℕ, ◌+◌, ◌*◌, ◌/◌, ◌%◌, ◌≤◌, ◌<◌, List, [], ◌∷◌, ◌++◌, length, OnOk, IfOk};
-ghost use Rattle.edf_header.specs.Number.{field};
+ghost use Rattle.edf_field.specs.Number.{field};
 ghost use Rattle.edf_header.specs.Signal.{fields, column_of, columns, row_at, rows_of, signals_of};
 
 use std::alloc::{AllocError, Global};

@@ -1,6 +1,6 @@
 ghost use Rattle.std.specs.Prelude.{◌≡◌, ◌+◌, ◌*◌, ◌≤◌, [], ◌∷◌, ◌++◌, OnOk, IfOk, codes};
 ghost use Rattle.std.specs.Fmt.{decimal};
-ghost use Rattle.edf_header.specs.Text.{spaces, padded_to};
+ghost use Rattle.edf_field.specs.Text.{spaces, padded_to};
 ghost use Rattle.edf_header.specs.Signal.{columns, rows_of};
 ghost use Rattle.edf_header.specs.Spelled.{startdate_text};
 ghost use Rattle.edf_header.specs.Canonical.{annotations_signal, IsExportHeader};

@@ -1,5 +1,5 @@
 ghost use Rattle.std.specs.Prelude.{◌≡◌};
-ghost use Rattle.edf_header.specs.Fault.{number};
+ghost use Rattle.edf_header.specs.Fault.{header_fault_number};
 
 use thiserror::Error;
 
@@ -74,7 +74,7 @@ pub enum HeaderFault {
 impl HeaderFault {
     /// Its number: 1 to 20, or 41 where memory ran out.
     pub fn number(&self) -> u8
-        ensures { result ≡ number self.now }
+        ensures { result ≡ header_fault_number self.now }
     {
         match self {
             HeaderFault::Cut => 1,

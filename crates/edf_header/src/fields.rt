@@ -2,16 +2,14 @@
 //! tells its own fault alone.
 ghost use Rattle.std.specs.Prelude.{◌≡◌, ℕ, ◌+◌, ◌*◌, ◌≤◌, ◌↔◌, All, IsTrue, codes, length, MatchResult};
 ghost use Rattle.edf_time.specs.Civil.{IsCivil, IsDateText};
-ghost use Rattle.edf_header.specs.Number.{field, IsDuration};
-ghost use Rattle.edf_header.specs.Text.{IsPrintable, IsPatient, IsRecording, after_of};
-ghost use Rattle.edf_header.specs.Header.{IsNumber, IsPlus, IsSameDay};
-ghost use Rattle.edf_header.specs.Fault.{Fails, IsClean, IsFirst, HasSignals};
+ghost use Rattle.edf_field.specs.Number.{field, IsDuration, IsNumber};
+ghost use Rattle.edf_field.specs.Text.{IsPrintable, IsPatient, IsRecording, after_of};
+ghost use Rattle.edf_header.specs.Header.{IsPlus, IsSameDay};
+ghost use Rattle.edf_header.specs.Fault.{FixedPartFails, IsClean, IsFirst, HasSignals};
 
 use crate::checks::first_unprintable;
 use crate::fault::HeaderFault;
-use crate::number::{read_duration, whole};
-use crate::patient::is_patient;
-use crate::recording::read_recording;
+use edf_field::{is_patient, read_duration, read_recording, read_whole};
 use edf_time::{Day, Instant, StartFault, start_of};
 
 /// The field of N bytes at this offset.
@@ -27,8 +25,8 @@ pub(crate) fn field_at<const N: usize>(bytes: &[u8; 256], at: usize) -> [u8; N]
 /// Every byte is printable, or E2 is the first fault.
 pub(crate) fn check_printable(bytes: &[u8; 256]) -> Result<(), HeaderFault>
     ensures { MatchResult result
-        (λ _. All IsPrintable bytes.now × IsClean (Fails bytes.now) 3)
-        (IsFirst (Fails bytes.now)) }
+        (λ _. All IsPrintable bytes.now × IsClean (FixedPartFails bytes.now) 3)
+        (IsFirst (FixedPartFails bytes.now)) }
 {
     match first_unprintable(bytes.as_slice()) {
         Some(offset) => Err(HeaderFault::Unprintable { offset }),
@@ -38,10 +36,10 @@ pub(crate) fn check_printable(bytes: &[u8; 256]) -> Result<(), HeaderFault>
 
 /// The version, bytes 0 to 7, is `0` and seven spaces; or E3 is the first fault.
 pub(crate) fn check_version(bytes: &[u8; 256]) -> Result<(), HeaderFault>
-    requires { IsClean (Fails bytes.now) 3 }
+    requires { IsClean (FixedPartFails bytes.now) 3 }
     ensures { MatchResult result
-        (λ _. (field bytes.now 0 8 ≡ codes "0       ") × IsClean (Fails bytes.now) 4)
-        (IsFirst (Fails bytes.now)) }
+        (λ _. (field bytes.now 0 8 ≡ codes "0       ") × IsClean (FixedPartFails bytes.now) 4)
+        (IsFirst (FixedPartFails bytes.now)) }
 {
     if &bytes[0..8] != b"0       ".as_slice() {
         return Err(HeaderFault::Version);
@@ -51,10 +49,10 @@ pub(crate) fn check_version(bytes: &[u8; 256]) -> Result<(), HeaderFault>
 
 /// The patient field, bytes 8 to 87, is a patient identification; or E4 is the first fault.
 pub(crate) fn check_patient(bytes: &[u8; 256]) -> Result<(), HeaderFault>
-    requires { IsClean (Fails bytes.now) 4 }
+    requires { IsClean (FixedPartFails bytes.now) 4 }
     ensures { MatchResult result
-        (λ _. IsPatient (field bytes.now 8 80) × IsClean (Fails bytes.now) 5)
-        (IsFirst (Fails bytes.now)) }
+        (λ _. IsPatient (field bytes.now 8 80) × IsClean (FixedPartFails bytes.now) 5)
+        (IsFirst (FixedPartFails bytes.now)) }
 {
     if !is_patient(&bytes[8..88]) {
         return Err(HeaderFault::Patient);
@@ -65,11 +63,11 @@ pub(crate) fn check_patient(bytes: &[u8; 256]) -> Result<(), HeaderFault>
 /// The day of the Startdate subfield in the recording field, bytes 88 to 167, or none where that subfield is `X`; or E5 is the
 /// first fault.
 pub(crate) fn read_startdate(bytes: &[u8; 256]) -> Result<Option<Day>, HeaderFault>
-    requires { IsClean (Fails bytes.now) 5 }
+    requires { IsClean (FixedPartFails bytes.now) 5 }
     ensures { MatchResult result
         (λ startdate. IsRecording (field bytes.now 88 80) startdate (after_of startdate (field bytes.now 88 80))
-        × IsClean (Fails bytes.now) 6)
-        (IsFirst (Fails bytes.now)) }
+        × IsClean (FixedPartFails bytes.now) 6)
+        (IsFirst (FixedPartFails bytes.now)) }
 {
     match read_recording(&bytes[88..168]) {
         Some((startdate, _)) => Ok(startdate),
@@ -79,10 +77,10 @@ pub(crate) fn read_startdate(bytes: &[u8; 256]) -> Result<Option<Day>, HeaderFau
 
 /// The start, by the startdate, bytes 168 to 175, and the starttime, bytes 176 to 183; or E6 or E7 is the first fault.
 pub(crate) fn read_start(bytes: &[u8; 256]) -> Result<Instant, HeaderFault>
-    requires { IsClean (Fails bytes.now) 6 }
+    requires { IsClean (FixedPartFails bytes.now) 6 }
     ensures { MatchResult result
-        (λ start. IsCivil (field bytes.now 168 8) (field bytes.now 176 8) start × IsClean (Fails bytes.now) 8)
-        (IsFirst (Fails bytes.now)) }
+        (λ start. IsCivil (field bytes.now 168 8) (field bytes.now 176 8) start × IsClean (FixedPartFails bytes.now) 8)
+        (IsFirst (FixedPartFails bytes.now)) }
 {
     let date: [u8; 8] = field_at(bytes, 168);
     let time: [u8; 8] = field_at(bytes, 176);
@@ -101,11 +99,11 @@ pub(crate) fn check_same_day(
 ) -> Result<(), HeaderFault>
     requires recording { IsRecording (field bytes.now 88 80) startdate.now (after_of startdate.now (field bytes.now 88 80)) }
     requires start { IsCivil (field bytes.now 168 8) (field bytes.now 176 8) start }
-    requires clean { IsClean (Fails bytes.now) 8 }
+    requires clean { IsClean (FixedPartFails bytes.now) 8 }
     ensures { MatchResult result
         (λ _. ((days : ℕ) → IsDateText (field bytes.now 168 8) days → IsSameDay startdate.now days)
-        × IsClean (Fails bytes.now) 9)
-        (IsFirst (Fails bytes.now)) }
+        × IsClean (FixedPartFails bytes.now) 9)
+        (IsFirst (FixedPartFails bytes.now)) }
 {
     let Some(day) = startdate else {
         return Ok(());
@@ -127,10 +125,10 @@ fn is_plus(reserved: &[u8]) -> bool
 
 /// The reserved field, bytes 192 to 235, begins with `EDF+C` or `EDF+D`; or E9 is the first fault.
 pub(crate) fn check_plus(bytes: &[u8; 256]) -> Result<(), HeaderFault>
-    requires { IsClean (Fails bytes.now) 9 }
+    requires { IsClean (FixedPartFails bytes.now) 9 }
     ensures { MatchResult result
-        (λ _. IsPlus (field bytes.now 192 44) × IsClean (Fails bytes.now) 10)
-        (IsFirst (Fails bytes.now)) }
+        (λ _. IsPlus (field bytes.now 192 44) × IsClean (FixedPartFails bytes.now) 10)
+        (IsFirst (FixedPartFails bytes.now)) }
 {
     if !is_plus(&bytes[192..236]) {
         return Err(HeaderFault::NotPlus);
@@ -140,12 +138,12 @@ pub(crate) fn check_plus(bytes: &[u8; 256]) -> Result<(), HeaderFault>
 
 /// The number of data records, bytes 236 to 243; or E10 is the first fault.
 pub(crate) fn read_count(bytes: &[u8; 256]) -> Result<u32, HeaderFault>
-    requires { IsClean (Fails bytes.now) 10 }
+    requires { IsClean (FixedPartFails bytes.now) 10 }
     ensures { MatchResult result
-        (λ count. IsNumber (field bytes.now 236 8) count × (1 ≤ count) × IsClean (Fails bytes.now) 11)
-        (IsFirst (Fails bytes.now)) }
+        (λ count. IsNumber (field bytes.now 236 8) count × (1 ≤ count) × IsClean (FixedPartFails bytes.now) 11)
+        (IsFirst (FixedPartFails bytes.now)) }
 {
-    match whole(&bytes[236..244]) {
+    match read_whole(&bytes[236..244]) {
         Some(count) if count >= 1 => Ok(count),
         _ => Err(HeaderFault::Count),
     }
@@ -153,10 +151,10 @@ pub(crate) fn read_count(bytes: &[u8; 256]) -> Result<u32, HeaderFault>
 
 /// The duration of a data record, bytes 244 to 251, is a decimal above 0; or E11 is the first fault.
 pub(crate) fn check_duration(bytes: &[u8; 256]) -> Result<(), HeaderFault>
-    requires { IsClean (Fails bytes.now) 11 }
+    requires { IsClean (FixedPartFails bytes.now) 11 }
     ensures { MatchResult result
-        (λ _. ((nanos : ℕ) × IsDuration (field bytes.now 244 8) nanos) × IsClean (Fails bytes.now) 12)
-        (IsFirst (Fails bytes.now)) }
+        (λ _. ((nanos : ℕ) × IsDuration (field bytes.now 244 8) nanos) × IsClean (FixedPartFails bytes.now) 12)
+        (IsFirst (FixedPartFails bytes.now)) }
 {
     match read_duration(&bytes[244..252]) {
         Some(_) => Ok(()),
@@ -166,12 +164,12 @@ pub(crate) fn check_duration(bytes: &[u8; 256]) -> Result<(), HeaderFault>
 
 /// The number of signals, bytes 252 to 255; or E12 is the first fault.
 pub(crate) fn read_signal_count(bytes: &[u8; 256]) -> Result<u32, HeaderFault>
-    requires { IsClean (Fails bytes.now) 12 }
+    requires { IsClean (FixedPartFails bytes.now) 12 }
     ensures { MatchResult result
-        (λ signals. HasSignals bytes.now signals × IsClean (Fails bytes.now) 13)
-        (IsFirst (Fails bytes.now)) }
+        (λ signals. HasSignals bytes.now signals × IsClean (FixedPartFails bytes.now) 13)
+        (IsFirst (FixedPartFails bytes.now)) }
 {
-    match whole(&bytes[252..256]) {
+    match read_whole(&bytes[252..256]) {
         Some(signals) if 2 <= signals && signals <= 640 => Ok(signals),
         _ => Err(HeaderFault::Signals),
     }
@@ -180,12 +178,12 @@ pub(crate) fn read_signal_count(bytes: &[u8; 256]) -> Result<u32, HeaderFault>
 /// The number of header bytes, bytes 184 to 191, is that of so many signals; or E13 is the first fault.
 pub(crate) fn check_header_bytes(bytes: &[u8; 256], signals: u32) -> Result<(), HeaderFault>
     requires signals { HasSignals bytes.now signals }
-    requires clean { IsClean (Fails bytes.now) 13 }
+    requires clean { IsClean (FixedPartFails bytes.now) 13 }
     ensures { MatchResult result
         (λ _. IsNumber (field bytes.now 184 8) (256 + 256 * signals))
-        (IsFirst (Fails bytes.now)) }
+        (IsFirst (FixedPartFails bytes.now)) }
 {
-    match whole(&bytes[184..192]) {
+    match read_whole(&bytes[184..192]) {
         Some(len) if len == 256 + 256 * signals => Ok(()),
         _ => Err(HeaderFault::HeaderBytes),
     }

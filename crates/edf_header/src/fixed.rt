@@ -1,6 +1,6 @@
 ghost use Rattle.std.specs.Prelude.{◌≡◌, ◌≤◌, MatchResult};
 ghost use Rattle.edf_header.specs.Header.{IsFixed, IsFixedHeader, fixed_at, is_dated};
-ghost use Rattle.edf_header.specs.Fault.{Fails, IsFirst};
+ghost use Rattle.edf_header.specs.Fault.{FixedPartFails, IsFirst};
 
 use crate::fault::HeaderFault;
 use crate::fields::{
@@ -27,9 +27,9 @@ pub struct Fixed {
 }
 
 impl Model for Fixed {
-    ghost use Rattle.edf_header.specs.Header.{Fixed as SpelledFixed, IsFixed, fixed_from};
+    ghost use Rattle.edf_header.specs.Header.{FixedPart, IsFixed, fixed_from};
 
-    ghost Value = { SpelledFixed };
+    ghost Value = { FixedPart };
 
     ghost view = { λ f. fixed_from f.patient f.recording f.startdate f.start f.count f.duration f.signals };
 
@@ -39,7 +39,7 @@ impl Model for Fixed {
 impl Fixed {
     /// The number of signals, 2 to 640, the annotations signal among them: so many headers of 256 bytes follow the fixed part.
     pub fn signals(&self) -> usize
-        ensures value { result ≡ self.now.signals }
+        ensures value { result ≡ self.now.signal_count }
         ensures from { 2 ≤ result }
         ensures to { result ≤ 640 }
     {
@@ -129,7 +129,7 @@ fn fixed_of(
 /// `Patient`, `Recording`, `Startdate`, `Starttime`, `DatesDiffer` where the Startdate subfield is a date and not the startdate,
 /// `NotPlus`, `Count`, `Duration`, `Signals`, `HeaderBytes`.
 pub fn read_fixed(bytes: &[u8; 256]) -> Result<Fixed, HeaderFault>
-    ensures { MatchResult result (IsFixedHeader bytes.now) (IsFirst (Fails bytes.now)) }
+    ensures { MatchResult result (IsFixedHeader bytes.now) (IsFirst (FixedPartFails bytes.now)) }
 {
     check_printable(bytes)?;
     check_version(bytes)?;

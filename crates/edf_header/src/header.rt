@@ -58,9 +58,10 @@ impl Header {
         self.identity
     }
 
-    /// The startdate and starttime, from where the onsets of annotations count.
+    /// The startdate and starttime, a whole second, from where the onsets of annotations count.
     pub fn start(&self) -> Instant
-        ensures { result ≡ self.now.start }
+        ensures value { result ≡ self.now.start }
+        ensures layout { IsLayout self.now }
     {
         self.start
     }

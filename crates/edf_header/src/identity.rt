@@ -1,15 +1,14 @@
 ghost use Rattle.std.specs.Prelude.{◌≡◌, ◌≤◌, ◌<◌, ◌+◌, ◌*◌, ◌^◌, ◌↔◌, ◌∷◌, ◌++◌, List, ℕ, IfOk, OnOk, IsTrue, MatchResult, All, length, take, if◌then◌else◌};
-ghost use Rattle.edf_header.specs.Number.{duration_of};
-ghost use Rattle.edf_header.specs.Text.{IsBehindStartdate, subfields};
+ghost use Rattle.edf_field.specs.Number.{duration_of};
+ghost use Rattle.edf_field.specs.Text.{IsBehindStartdate, subfields};
 ghost use Rattle.edf_header.specs.Signal.{rows_of, ordinary, samples_in_all, HasSamples, Passes};
 ghost use Rattle.edf_header.specs.Key.{Key, IsKey, dated_bytes, key_bytes, key_at, patient_code, investigation_code};
-ghost use Rattle.edf_header.specs.Identity.{HasLength, HasMark, signals, IsCleanKey, IsFirstKeyFault};
+ghost use Rattle.edf_header.specs.Identity.{HasLength, HasMark, signals_at, IsCleanKey, IsFirstKeyFault};
 ghost use Rattle.edf_header.specs.Shape.{key_from, place_of_check};
 
 use crate::key::{after, check_key};
-use crate::number::read_duration;
 use crate::ordinary::{ordinary_samples, push_ordinary};
-use crate::subfield::next_subfield;
+use edf_field::{next_subfield, read_duration};
 use std::alloc::{AllocError, Global};
 use std::marker::Model;
 use thiserror::Error;

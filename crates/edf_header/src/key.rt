@@ -1,16 +1,14 @@
 ghost use Rattle.std.specs.Prelude.{◌≡◌, ◌≤◌, ◌+◌, ◌*◌, ◌↔◌, IsTrue, MatchResult, All, length};
-ghost use Rattle.edf_header.specs.Text.{IsBehindStartdate};
+ghost use Rattle.edf_field.specs.Text.{IsBehindStartdate};
 ghost use Rattle.edf_header.specs.Signal.{samples_in_all, Passes};
 ghost use Rattle.edf_header.specs.Key.{IsKey, key_bytes, key_at};
-ghost use Rattle.edf_header.specs.Identity.{HasLength, HasMark, signals, IsCleanKey, IsFirstKeyFault};
-ghost use Rattle.edf_header.specs.Shape.{IsFront, place_of_check};
+ghost use Rattle.edf_header.specs.Identity.{HasLength, HasMark, signals_at, IsCleanKey, IsFirstKeyFault};
+ghost use Rattle.edf_header.specs.Shape.{IsKeyFront, place_of_check};
 
 use crate::checks::{Check, first_bad, first_unprintable};
 use crate::identity::IdentityFault;
-use crate::number::{are_spaces, read_duration};
 use crate::ordinary::ordinary_samples;
-use crate::patient::is_patient;
-use crate::recording::is_behind_startdate;
+use edf_field::{are_spaces, is_behind_startdate, is_patient, read_duration};
 
 /// Whether the length is that of an identity.
 fn has_length(bytes: &[u8]) -> bool
@@ -54,7 +52,7 @@ fn has_recording(bytes: &[u8]) -> bool
 
 /// Checks what stands before the signals.
 fn check_front(bytes: &[u8]) -> Result<(), IdentityFault>
-    ensures { MatchResult result (λ _. IsFront bytes.now) (IsFirstKeyFault bytes.now) }
+    ensures { MatchResult result (λ _. IsKeyFront bytes.now) (IsFirstKeyFault bytes.now) }
 {
     if !has_length(bytes) {
         return Err(IdentityFault::Length);
@@ -79,7 +77,7 @@ fn check_signals(check: Check, bytes: &[u8]) -> Result<(), IdentityFault>
     requires length { HasLength bytes.now }
     requires clean { IsCleanKey bytes.now (place_of_check check) }
     ensures { MatchResult result
-        (λ _. All (Passes check) (signals bytes.now) × IsCleanKey bytes.now (place_of_check check + 1))
+        (λ _. All (Passes check) (signals_at bytes.now) × IsCleanKey bytes.now (place_of_check check + 1))
         (IsFirstKeyFault bytes.now) }
 {
     let Some(at) = first_bad(check, &bytes[158..]) else {
@@ -97,11 +95,11 @@ fn check_signals(check: Check, bytes: &[u8]) -> Result<(), IdentityFault>
 /// Checks the size of a data record's ordinary samples.
 fn check_size(bytes: &[u8]) -> Result<(), IdentityFault>
     requires length { HasLength bytes.now }
-    requires label { All (Passes Check.Label) (signals bytes.now) }
-    requires samples { All (Passes Check.Samples) (signals bytes.now) }
+    requires label { All (Passes Check.Label) (signals_at bytes.now) }
+    requires samples { All (Passes Check.Samples) (signals_at bytes.now) }
     requires clean { IsCleanKey bytes.now 10 }
     ensures { MatchResult result
-        (λ _. (2 * samples_in_all (signals bytes.now) ≤ 4_194_304) × IsCleanKey bytes.now 11)
+        (λ _. (2 * samples_in_all (signals_at bytes.now) ≤ 4_194_304) × IsCleanKey bytes.now 11)
         (IsFirstKeyFault bytes.now) }
 {
     if 2 * ordinary_samples(&bytes[158..]) > 4_194_304 {

@@ -1,14 +1,12 @@
-ghost use Rattle.std.specs.Prelude.{◌≡◌, ℕ, Bool, List, [], ◌∷◌, Option, All, length};
-ghost use Rattle.std.specs.Option.{unwrap_or};
-ghost use Rattle.edf_header.specs.Number.{IsDuration, duration_of};
+ghost use Rattle.std.specs.Prelude.{◌≡◌, ◌<◌, ◌≤◌, ◌^◌, ℕ, List, All, length};
+ghost use Rattle.edf_field.specs.Number.{duration_of};
 ghost use Rattle.edf_header.specs.Signal.{columns, signals_of};
 ghost use Rattle.edf_header.specs.Key.{Key, IsKey, IsSized, key_bytes, key_at};
-ghost use Rattle.edf_header.specs.Header.{Header as HeaderParts, AreSignals, IsHeader, key_of, layout_of};
+ghost use Rattle.edf_header.specs.Header.{HeaderRecord, AreSignals, IsHeader, key_of, layout_of};
 ghost use Rattle.edf_header.specs.Fault.{SignalsFail, IsClean};
 ghost use Rattle.edf_header.specs.Identity.{IsCleanKey, IsFirstKeyFault};
 ghost use Rattle.edf_header.specs.declared.identity.IdentityFault.{IdentityFault};
 ghost use Rattle.edf_header.specs.Shape.{IsShaped};
-ghost use Rattle.edf_header.specs.Grammar.{AreDigits, IsSpelledAs, spelled};
 ghost use Rattle.edf_header.specs.Rows.{IsLayout};
 
 /// A law: signals written in columns read back.
@@ -26,6 +24,17 @@ pub fn bytes_back()
     ensures { (bytes : List ℕ) → IsShaped bytes → key_bytes (key_at bytes) ≡ bytes }
 {}
 
+/// A law: keys that have the same bytes are the same.
+pub fn one_key()
+    ensures { (k other : Key) → IsKey k → IsKey other → key_bytes k ≡ key_bytes other → k ≡ other }
+{}
+
+/// A law: a key's data records last more than 0 and at most 100,000,000 seconds.
+pub fn key_duration()
+    ensures some { (k : Key) → IsKey k → 0 < duration_of k.duration }
+    ensures bound { (k : Key) → IsKey k → duration_of k.duration ≤ 10 ^ 17 }
+{}
+
 /// A law: the bytes of a key have none of the faults of an identity.
 pub fn key_accepted()
     ensures { (k : Key) → IsKey k → IsCleanKey (key_bytes k) 11 }
@@ -36,29 +45,18 @@ pub fn one_key_fault()
     ensures { (bytes : List ℕ) (fault other : IdentityFault) → IsFirstKeyFault bytes fault → IsFirstKeyFault bytes other → fault ≡ other }
 {}
 
-/// A law: a physical value spelled out is read as its digits.
-pub fn physical_read()
-    ensures { (sign : Option Bool) (d : ℕ) (ds : List ℕ) (point : Option (List ℕ)) (n : ℕ) → AreDigits (d ∷ ds) → AreDigits (unwrap_or point [])
-        → IsSpelledAs (spelled sign (d ∷ ds) point n) (d ∷ ds) (unwrap_or point []) }
-{}
-
-/// A law: a duration field has one value, that of its digits.
-pub fn duration_value()
-    ensures { (field : List ℕ) (nanos : ℕ) → IsDuration field nanos → nanos ≡ duration_of field }
-{}
-
 /// A law: behind one fixed part, bytes spell the signals of one header at most.
 pub fn one_signals()
-    ensures { (bytes : List ℕ) (header other : HeaderParts) → AreSignals bytes header → AreSignals bytes other → header.fixed ≡ other.fixed → header ≡ other }
+    ensures { (bytes : List ℕ) (header other : HeaderRecord) → AreSignals bytes header → AreSignals bytes other → header.fixed ≡ other.fixed → header ≡ other }
 {}
 
 /// A law: bytes that spell a header's signals have none of the faults E14 to E20.
 pub fn signals_have_no_fault()
-    ensures { (bytes : List ℕ) (header : HeaderParts) → AreSignals bytes header → IsClean (SignalsFail bytes header.fixed.signals) 21 }
+    ensures { (bytes : List ℕ) (header : HeaderRecord) → AreSignals bytes header → IsClean (SignalsFail bytes header.fixed.signal_count) 21 }
 {}
 
 /// A law: what a header names is a key, and its layout keeps the bounds.
 pub fn header_key()
-    ensures key { (bytes : List ℕ) (header : HeaderParts) (rest : List ℕ) → IsHeader bytes header rest → IsKey (key_of header) }
-    ensures layout { (bytes : List ℕ) (header : HeaderParts) (rest : List ℕ) → IsHeader bytes header rest → IsLayout (layout_of header) }
+    ensures key { (bytes : List ℕ) (header : HeaderRecord) (rest : List ℕ) → IsHeader bytes header rest → IsKey (key_of header) }
+    ensures layout { (bytes : List ℕ) (header : HeaderRecord) (rest : List ℕ) → IsHeader bytes header rest → IsLayout (layout_of header) }
 {}

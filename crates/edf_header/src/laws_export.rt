@@ -1,6 +1,6 @@
-ghost use Rattle.std.specs.Prelude.{◌≡◌, ℕ, ◌+◌, ◌*◌, ◌/◌, ◌^◌, ◌≤◌, List};
+ghost use Rattle.std.specs.Prelude.{◌≡◌, ℕ, ◌+◌, ◌*◌, ◌/◌, ◌^◌, ◌≤◌, ◌⊎◌, List};
 ghost use Rattle.edf_header.specs.Key.{Key, IsKey};
-ghost use Rattle.edf_header.specs.Header.{Header, IsHeader};
+ghost use Rattle.edf_header.specs.Header.{HeaderRecord, IsHeader};
 ghost use Rattle.edf_header.specs.Fault.{IsHeaderFault};
 ghost use Rattle.edf_header.specs.declared.fault.HeaderFault.{HeaderFault};
 ghost use Rattle.edf_header.specs.Canonical.{IsExportHeader};
@@ -28,16 +28,22 @@ pub fn one_export()
 
 /// A law: bytes begin with one header at most, and end with one rest behind it.
 pub fn is_header_one()
-    ensures { (bytes rest other_rest : List ℕ) (header other : Header) → IsHeader bytes header rest → IsHeader bytes other other_rest
+    ensures { (bytes rest other_rest : List ℕ) (header other : HeaderRecord) → IsHeader bytes header rest → IsHeader bytes other other_rest
         → (header ≡ other) × (rest ≡ other_rest) }
 {}
 
 /// A law: bytes that begin with a header have no fault of a header.
 pub fn header_no_fault()
-    ensures { (bytes rest : List ℕ) (header : Header) (fault : HeaderFault) → IsHeader bytes header rest → ¬ IsHeaderFault bytes fault }
+    ensures { (bytes rest : List ℕ) (header : HeaderRecord) (fault : HeaderFault) → IsHeader bytes header rest → ¬ IsHeaderFault bytes fault }
 {}
 
 /// A law: bytes have one fault of a header at most.
 pub fn one_header_fault()
     ensures { (bytes : List ℕ) (fault other : HeaderFault) → IsHeaderFault bytes fault → IsHeaderFault bytes other → fault ≡ other }
+{}
+
+/// A law: each list of bytes begins with a header, or has a first fault of a header.
+pub fn header_or_fault()
+    ensures { (bytes : List ℕ) → ((header : HeaderRecord) × (rest : List ℕ) × IsHeader bytes header rest)
+        ⊎ ((fault : HeaderFault) × IsHeaderFault bytes fault) }
 {}

@@ -25,14 +25,9 @@ mod key;
 pub mod laws;
 pub mod laws_export;
 pub mod laws_fixed;
-mod number;
 mod ordinary;
-mod patient;
-mod physical;
-mod recording;
 mod rows;
 mod signals;
-mod subfield;
 
 pub use export::write_header;
 pub use fault::HeaderFault;

@@ -3,7 +3,7 @@ ghost use Rattle.std.specs.List.{flat_map};
 ghost use Rattle.edf_header.specs.Signal.{rows_of, ordinary, HasSamples, samples_in_all};
 
 use crate::checks::is_labelled;
-use crate::number::whole;
+use edf_field::read_whole;
 use std::alloc::AllocError;
 
 /// Copies the ordinary signals.
@@ -33,7 +33,7 @@ pub(crate) fn ordinary_samples(rows: &[u8]) -> u64
         if is_labelled(row) {
             continue;
         }
-        let Some(n) = whole(&row[216..224]) else {
+        let Some(n) = read_whole(&row[216..224]) else {
             continue;
         };
         total += u64::from(n);

@@ -1,25 +1,24 @@
 ghost use Rattle.std.specs.Prelude.{◌≡◌, ℕ, ◌+◌, ◌*◌, ◌≤◌, ◌<◌, ◌↔◌, IsTrue, MatchOption, MatchResult, All, length};
-ghost use Rattle.edf_header.specs.Number.{IsSigned, signed_value};
+ghost use Rattle.edf_field.specs.Number.{IsSigned, signed_value};
 ghost use Rattle.edf_header.specs.Signal.{rows_of, IsAnnotationsSignal, IsLabelled, Passes};
-ghost use Rattle.edf_header.specs.Header.{Header as HeaderParts, AreSignals, layout_of};
+ghost use Rattle.edf_header.specs.Header.{HeaderRecord, AreSignals, layout_of};
 ghost use Rattle.edf_header.specs.Fault.{HasAnnotations, IsBadSignal, IsTooLarge, IsFirst, IsSignalsRefusal};
-ghost use Rattle.edf_header.specs.Rows.{RowsFail, IsSplit, IsSound, ArePlaces};
+ghost use Rattle.edf_header.specs.Rows.{RowsFail, IsSplit, IsSound, AreExtents};
 
-use crate::checks::{Check, first_bad, first_unprintable, is_labelled};
+use crate::checks::{Check, first_bad, first_unprintable, has_physical, is_labelled};
 use crate::columns::rows_from;
 use crate::fault::HeaderFault;
 use crate::fixed::Fixed;
 use crate::header::Header;
 use crate::identity::Identity;
-use crate::number::{signed, whole};
 use crate::ordinary::ordinary_samples;
-use crate::physical::has_physical;
 use crate::rows::{row, rows_before, rows_behind};
+use edf_field::{read_signed, read_whole};
 use std::alloc::Global;
 
 /// Where the annotations block stands in a data record, and how long both are, in bytes.
 #[derive(Clone, Copy)]
-struct Places {
+struct Extents {
     block_at: usize,
     block_bytes: usize,
     record_bytes: usize,
@@ -30,7 +29,7 @@ fn is_annotations(row: &[u8]) -> bool
     requires { length row.now ≡ 256 }
     ensures { IsTrue result ↔ IsAnnotationsSignal row.now }
 {
-    match (signed(&row[120..128]), signed(&row[128..136])) {
+    match (read_signed(&row[120..128]), read_signed(&row[128..136])) {
         (Some(low), Some(high)) => {
             is_labelled(row) && has_physical(row) && low == -32_768 && high == 32_767
         }
@@ -66,16 +65,16 @@ fn bad_signal(check: Check, rows: &[u8]) -> Option<u32>
 }
 
 /// Where the annotations block stands, unless a data record is too large.
-fn places_at(rows: &[u8], at: usize) -> Option<Places>
+fn extents_at(rows: &[u8], at: usize) -> Option<Extents>
     requires few { length rows.now ≤ 256 * 640 }
     requires split { IsSplit (rows_of rows.now) at }
     requires samples { All (Passes Check.Samples) (rows_of rows.now) }
     ensures { MatchOption result
         (IsTooLarge (rows_of rows.now))
-        (λ places. ArePlaces (rows_of rows.now) at places × ¬ IsTooLarge (rows_of rows.now)) }
+        (λ extents. AreExtents (rows_of rows.now) at extents × ¬ IsTooLarge (rows_of rows.now)) }
 {
     let ordinary = 2 * ordinary_samples(rows);
-    let block = match whole(&row(rows, at)[216..224]) {
+    let block = match read_whole(&row(rows, at)[216..224]) {
         Some(samples) => 2 * u64::from(samples),
         None => unreachable!(),
     };
@@ -85,7 +84,7 @@ fn places_at(rows: &[u8], at: usize) -> Option<Places>
     if block > 4_194_304 {
         return None;
     }
-    Some(Places {
+    Some(Extents {
         block_at: 2 * ordinary_samples(rows_before(rows, at)) as usize,
         block_bytes: block as usize,
         record_bytes: (ordinary + block) as usize,
@@ -93,10 +92,10 @@ fn places_at(rows: &[u8], at: usize) -> Option<Places>
 }
 
 /// Checks all signals, and finds where the annotations block stands.
-fn check_rows(rows: &[u8]) -> Result<Places, HeaderFault>
+fn check_rows(rows: &[u8]) -> Result<Extents, HeaderFault>
     requires { length rows.now ≤ 256 * 640 }
     ensures { MatchResult result
-        (λ places. (at : ℕ) × IsSound (rows_of rows.now) at × ArePlaces (rows_of rows.now) at places)
+        (λ extents. (at : ℕ) × IsSound (rows_of rows.now) at × AreExtents (rows_of rows.now) at extents)
         (IsFirst (RowsFail (rows_of rows.now))) }
 {
     let Some(at) = find_annotations(rows) else {
@@ -111,8 +110,8 @@ fn check_rows(rows: &[u8]) -> Result<Places, HeaderFault>
     if let Some(signal) = bad_signal(Check::Samples, rows) {
         return Err(HeaderFault::Samples { signal });
     }
-    match places_at(rows, at) {
-        Some(places) => Ok(places),
+    match extents_at(rows, at) {
+        Some(extents) => Ok(extents),
         None => Err(HeaderFault::Size),
     }
 }
@@ -121,12 +120,12 @@ fn check_rows(rows: &[u8]) -> Result<Places, HeaderFault>
 /// signals in turn.
 ///
 /// # Errors
-/// The first of E14 to E20 that is true of the bytes; `Memory` where memory runs out, which may come before E16.
+/// The first of E14 to E20 that is true of the bytes; `Memory` where memory runs out and neither E14 nor E15 is true.
 pub fn read_signals(alloc: Global, fixed: Fixed, bytes: &[u8]) -> Result<Header, HeaderFault>
-    requires { length bytes.now ≤ 256 * fixed.signals }
+    requires { length bytes.now ≤ 256 * fixed.signal_count }
     ensures { MatchResult result
-        (λ r. (h : HeaderParts) × AreSignals bytes.now h × (h.fixed ≡ fixed) × (r ≡ layout_of h))
-        (IsSignalsRefusal bytes.now fixed.signals) }
+        (λ r. (h : HeaderRecord) × AreSignals bytes.now h × (h.fixed ≡ fixed) × (r ≡ layout_of h))
+        (IsSignalsRefusal bytes.now fixed.signal_count) }
 {
     if bytes.len() < 256 * fixed.signals() {
         return Err(HeaderFault::CutSignals);
@@ -137,8 +136,8 @@ pub fn read_signals(alloc: Global, fixed: Fixed, bytes: &[u8]) -> Result<Header,
     let Ok(rows) = rows_from(alloc, bytes, fixed.signals()) else {
         return Err(HeaderFault::Memory);
     };
-    let places = match check_rows(&rows) {
-        Ok(places) => places,
+    let extents = match check_rows(&rows) {
+        Ok(extents) => extents,
         Err(fault) => return Err(fault),
     };
     let Ok(identity) = Identity::from_parts(
@@ -155,9 +154,9 @@ pub fn read_signals(alloc: Global, fixed: Fixed, bytes: &[u8]) -> Result<Header,
         identity,
         start: fixed.start(),
         count: fixed.count(),
-        block_at: places.block_at,
-        block_bytes: places.block_bytes,
-        record_bytes: places.record_bytes,
+        block_at: extents.block_at,
+        block_bytes: extents.block_bytes,
+        record_bytes: extents.record_bytes,
     })
 }
 

@@ -1,7 +1,7 @@
 -- What the steps of a reader read: the two parts of a header, a part of a data record, the end.
 use Rattle.std.specs.Prelude.{◌≡◌, ℕ, ◌*◌, ◌≤◌, ◌<◌, List, [], ◌∷◌, length, Option}
 use Rattle.std.specs.Io.KnownBytes.{Consumes, IsAtEnd}
-use Rattle.edf_header.specs.Header.{Header, Fixed, IsFixedHeader, AreSignals, Layout, layout_of}
+use Rattle.edf_header.specs.Header.{HeaderRecord, FixedPart, IsFixedHeader, AreSignals, Layout, layout_of}
 use Rattle.edf_header.specs.Fault.{IsFirst, SignalsFail}
 use Rattle.edf_header.specs.declared.fault.HeaderFault.{HeaderFault}
 use Rattle.edf_header.specs.declared.fault.HeaderFault.TheVariants.{CutSignals}
@@ -13,15 +13,15 @@ use Rattle.edf_fragment.specs.declared.fault.FragmentFault.{FragmentFault}
 use Rattle.edf_fragment.specs.declared.fault.FragmentFault.TheVariants.{Header as BadHeader, CutRecord, Trailing, Read, Memory}
 
 -- the bytes that were read are a fixed part
-pub record ReadsFixed (left rest : Option (List ℕ)) (fixed : Fixed) : Type 0 where
+pub record ReadsFixed (left rest : Option (List ℕ)) (fixed : FixedPart) : Type 0 where
   pub bytes : List ℕ
   pub read : Consumes left rest bytes
   pub is_fixed : IsFixedHeader bytes fixed
 
 -- the bytes that were read are the signals that go with a fixed part
-pub record ReadsSignals (left rest : Option (List ℕ)) (fixed : Fixed) (layout : Layout) : Type 0 where
+pub record ReadsSignals (left rest : Option (List ℕ)) (fixed : FixedPart) (layout : Layout) : Type 0 where
   pub bytes : List ℕ
-  pub header : Header
+  pub header : HeaderRecord
   pub read : Consumes left rest bytes
   pub are_signals : AreSignals bytes header
   pub same : header.fixed ≡ fixed

@@ -30,7 +30,7 @@ returns-in-Ok-read_signals-clause-step g c =
 pub returns-clause-step : goal.returns-clause-step
 returns-clause-step g c =
     let buf = c.fill.new.buf in
-    let n = c.args.fixed.signals in
+    let n = c.args.fixed.signal_count in
     let there = c.match-fill.there in
     let slice = c.as_slice.result.now in
     let len : length buf ≡ c.in-Ok.bytes.len = omega arith in

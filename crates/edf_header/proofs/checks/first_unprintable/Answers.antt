@@ -1,7 +1,7 @@
 use Rattle.std.proofs.Common.{rules}
 use Rattle.std.proofs.lemmas.Iterator.{IsFirst-from_position, YieldsList-from_slice}
 use borrow.Author.Tests.{tests}
-use Rattle.edf_header.specs.Text.{IsPrintable}
+use Rattle.edf_field.specs.Text.{IsPrintable}
 use Rattle.edf_header.proofs.RowSteps.{first-from-position}
 use Rattle.edf_header.proofs.checks.first_unprintable.Goals as goal
 

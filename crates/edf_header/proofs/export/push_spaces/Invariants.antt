@@ -1,5 +1,5 @@
 use Rattle.std.proofs.Common.{◌≡◌, ◌++◌}
-use Rattle.edf_header.specs.Text.{spaces}
+use Rattle.edf_field.specs.Text.{spaces}
 use Rattle.edf_header.proofs.export.push_spaces.Given as goal
 
 abbrev pub invariant-loop : goal.invariant-loop

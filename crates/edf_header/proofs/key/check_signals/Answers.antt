@@ -1,5 +1,5 @@
 use Rattle.std.proofs.Common.{arith, subst, refl}
-use Rattle.edf_header.specs.Identity.{IsCleanKey, signals}
+use Rattle.edf_header.specs.Identity.{IsCleanKey, signals_at}
 use Rattle.edf_header.specs.Shape.{place_of_check}
 use Rattle.edf_header.specs.Signal.{IsFirstBad, Passes}
 use Rattle.edf_header.proofs.Faults.{all-passed, bad-at, at-small}
@@ -17,19 +17,19 @@ overflow_add-signal c = omega (arith, at-small c.args.check c.args.bytes.now c.i
 pub returns-in-Label : goal.returns-in-Label
 returns-in-Label c =
     let b = c.args.bytes.now in
-    ((c.in-Some.at, subst (λ k. IsFirstBad (Passes k) (signals b) c.in-Some.at) c.in-Label.is (bad-at c.args.check b c.in-Some.at c.in-Some.ensures), refl), subst (λ k. IsCleanKey b (place_of_check k)) c.in-Label.is c.requires.clean)
+    ((c.in-Some.at, subst (λ k. IsFirstBad (Passes k) (signals_at b) c.in-Some.at) c.in-Label.is (bad-at c.args.check b c.in-Some.at c.in-Some.ensures), refl), subst (λ k. IsCleanKey b (place_of_check k)) c.in-Label.is c.requires.clean)
 
 pub returns-in-Physical : goal.returns-in-Physical
 returns-in-Physical c =
     let b = c.args.bytes.now in
-    ((c.in-Some.at, subst (λ k. IsFirstBad (Passes k) (signals b) c.in-Some.at) c.in-Physical.is (bad-at c.args.check b c.in-Some.at c.in-Some.ensures), refl), subst (λ k. IsCleanKey b (place_of_check k)) c.in-Physical.is c.requires.clean)
+    ((c.in-Some.at, subst (λ k. IsFirstBad (Passes k) (signals_at b) c.in-Some.at) c.in-Physical.is (bad-at c.args.check b c.in-Some.at c.in-Some.ensures), refl), subst (λ k. IsCleanKey b (place_of_check k)) c.in-Physical.is c.requires.clean)
 
 pub returns-in-Digital : goal.returns-in-Digital
 returns-in-Digital c =
     let b = c.args.bytes.now in
-    ((c.in-Some.at, subst (λ k. IsFirstBad (Passes k) (signals b) c.in-Some.at) c.in-Digital.is (bad-at c.args.check b c.in-Some.at c.in-Some.ensures), refl), subst (λ k. IsCleanKey b (place_of_check k)) c.in-Digital.is c.requires.clean)
+    ((c.in-Some.at, subst (λ k. IsFirstBad (Passes k) (signals_at b) c.in-Some.at) c.in-Digital.is (bad-at c.args.check b c.in-Some.at c.in-Some.ensures), refl), subst (λ k. IsCleanKey b (place_of_check k)) c.in-Digital.is c.requires.clean)
 
 pub returns-in-Samples : goal.returns-in-Samples
 returns-in-Samples c =
     let b = c.args.bytes.now in
-    ((c.in-Some.at, subst (λ k. IsFirstBad (Passes k) (signals b) c.in-Some.at) c.in-Samples.is (bad-at c.args.check b c.in-Some.at c.in-Some.ensures), refl), subst (λ k. IsCleanKey b (place_of_check k)) c.in-Samples.is c.requires.clean)
+    ((c.in-Some.at, subst (λ k. IsFirstBad (Passes k) (signals_at b) c.in-Some.at) c.in-Samples.is (bad-at c.args.check b c.in-Some.at c.in-Some.ensures), refl), subst (λ k. IsCleanKey b (place_of_check k)) c.in-Samples.is c.requires.clean)

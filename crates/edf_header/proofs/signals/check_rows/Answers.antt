@@ -12,11 +12,11 @@ pub returns-in-Some-bad_signal-3 : goal.returns-in-Some-bad_signal-3
 returns-in-Some-bad_signal-3 c =
     (c.in-Some-bad_signal-3.ensures, clean-19 (rows_of c.args.rows.now) c.in-Some.at c.in-Some.ensures c.in_default-bad_signal.ensures c.in_default-bad_signal-2.ensures)
 
-pub returns-in-Some-places_at : goal.returns-in-Some-places_at
-returns-in-Some-places_at c = (
+pub returns-in-Some-extents_at : goal.returns-in-Some-extents_at
+returns-in-Some-extents_at c = (
   c.in-Some.at,
-  sound-is (rows_of c.args.rows.now) c.in-Some.at c.in-Some.ensures c.in_default-bad_signal.ensures c.in_default-bad_signal-2.ensures c.in_default-bad_signal-3.ensures c.in-Some-places_at.ensures.1,
-  c.in-Some-places_at.ensures.0,
+  sound-is (rows_of c.args.rows.now) c.in-Some.at c.in-Some.ensures c.in_default-bad_signal.ensures c.in_default-bad_signal-2.ensures c.in_default-bad_signal-3.ensures c.in-Some-extents_at.ensures.1,
+  c.in-Some-extents_at.ensures.0,
 )
 
 pub returns-in-None : goal.returns-in-None

@@ -1,5 +1,5 @@
 use Rattle.std.proofs.Common.{◌∷◌, [], ℕ, List, ap, sym, slice_index_or}
-use Rattle.edf_header.specs.Text.{subfields}
+use Rattle.edf_field.specs.Text.{subfields}
 use Rattle.edf_header.proofs.Held.{after-read}
 use Rattle.edf_header.proofs.identity.Identity.investigation_code.Goals as goal
 

@@ -1,5 +1,4 @@
 use Rattle.std.proofs.Common.{arith}
-use Rattle.edf_header.specs.declared.checks.Check.TheVariants.{Samples}
 use Rattle.edf_header.proofs.Held.{held-small, held-samples, held-size, sliced-each}
 use Rattle.edf_header.proofs.identity.Identity.ordinary_bytes.Goals as goal
 
@@ -7,7 +6,7 @@ pub ordinary_samples-requires-clause-few : goal.ordinary_samples-requires-clause
 ordinary_samples-requires-clause-few c = rw c.deref.ensures.value (held-small c.self.inside.bytes.items c.self.invariant.0 c.self.invariant.1)
 
 pub ordinary_samples-requires-clause-each : goal.ordinary_samples-requires-clause-each
-ordinary_samples-requires-clause-each c = rw c.deref.ensures.value (sliced-each c.self.inside.bytes.items (c.self.invariant.1.signals Samples))
+ordinary_samples-requires-clause-each c = rw c.deref.ensures.value (sliced-each c.self.inside.bytes.items c.self.invariant.1.each_samples)
 
 pub returns-clause-value : goal.returns-clause-value
 returns-clause-value c =

@@ -1,0 +1,5 @@
+pub mod Numbers
+pub mod Grammar
+pub mod Durations
+pub mod Recordings
+pub mod Subfields

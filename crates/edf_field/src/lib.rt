@@ -1,0 +1,21 @@
+//! The texts of header fields: numbers, durations, and the identifications of EDF+.
+//!
+//! - [`read_whole`], [`read_signed`], [`physical_values_differ`], [`are_spaces`]: number texts, behind which only spaces stand.
+//! - [`read_duration`]: the duration of a data record.
+//! - [`next_subfield`]: the subfields of an identification, one after the other.
+//! - [`is_patient`], [`read_recording`], [`is_behind_startdate`]: the patient and the recording identification.
+//! - [`laws`]: what the definitions of these texts come to; functions that do nothing, each with a law for a contract.
+#![tactic(auto)]
+
+pub mod laws;
+mod number;
+mod patient;
+mod physical;
+mod recording;
+mod subfield;
+
+pub use number::{are_spaces, read_duration, read_signed, read_whole};
+pub use patient::is_patient;
+pub use physical::physical_values_differ;
+pub use recording::{is_behind_startdate, read_recording};
+pub use subfield::next_subfield;

@@ -1,0 +1,70 @@
+ghost use Rattle.std.specs.Prelude.{◌≡◌, ◌≢◌, ℕ, ◌-◌, ◌*◌, ◌^◌, ◌≤◌, ◌<◌, ◌↔◌, ◌==◌, length, slice_index, MatchOption, IsTrue};
+ghost use Rattle.std.specs.Char.{is_ascii_digit};
+ghost use Rattle.edf_field.specs.Number.{fraction, behind_fraction, IsPhysical, fraction_len, unscaled, signed, Differ};
+
+use crate::number::{are_spaces, read_digits, split_digits, without_sign};
+
+/// A number with a sign, as all its digits write it, and how many of them stand behind the dot.
+#[derive(Clone, Copy)]
+struct Physical {
+    negative: bool,
+    unscaled: u32,
+    fraction_len: u32,
+    ghost small: { unscaled < 10 ^ 8 },
+    ghost few: { fraction_len < 8 },
+}
+
+/// The digits behind a dot, where one stands at the front, and what follows.
+fn split_fraction(text: &[u8]) -> (&[u8], &[u8])
+    ensures digits { result.0.now ≡ fraction text.now }
+    ensures rest { result.1.now ≡ behind_fraction text.now }
+    ensures each { (k : ℕ) → k < length result.0.now → IsTrue (is_ascii_digit (slice_index result.0.now k)) }
+    ensures len { length result.0.now ≤ length text.now - 1 }
+{
+    match text {
+        [b'.', rest @ ..] => split_digits(rest),
+        _ => text.split_at(0),
+    }
+}
+
+/// Reads a physical value.
+fn read_physical(field: &[u8]) -> Option<Physical>
+    requires { length field.now ≤ 8 }
+    ensures { MatchOption result
+        (¬ IsPhysical field.now)
+        (λ p. IsPhysical field.now × (p.negative ≡ (slice_index field.now 0 == 45)) × (p.unscaled ≡ unscaled field.now) × (p.fraction_len ≡ fraction_len field.now)) }
+{
+    let (whole, rest) = split_digits(without_sign(field));
+    let (fraction, rest) = split_fraction(rest);
+    if whole.is_empty() || !are_spaces(rest) {
+        return None;
+    }
+    let fraction_len = fraction.len() as u32;
+    Some(Physical {
+        negative: matches!(field, [b'-', ..]),
+        unscaled: read_digits(whole) * 10u32.pow(fraction_len) + read_digits(fraction),
+        fraction_len,
+    })
+}
+
+/// Whether two values differ, a zero having no sign.
+fn differ(a: Physical, b: Physical) -> bool
+    ensures { IsTrue result ↔ (signed a.negative (a.unscaled * 10 ^ b.fraction_len) ≢ signed b.negative (b.unscaled * 10 ^ a.fraction_len)) }
+{
+    let a_unscaled = u64::from(a.unscaled) * 10u64.pow(b.fraction_len);
+    let b_unscaled = u64::from(b.unscaled) * 10u64.pow(a.fraction_len);
+    a_unscaled != b_unscaled || (a.negative != b.negative && a_unscaled != 0)
+}
+
+/// Whether two texts of at most eight bytes are physical values that differ as numbers: a sign or none, digits, maybe a dot and
+/// digits, and then only spaces.
+pub fn physical_values_differ(minimum: &[u8], maximum: &[u8]) -> bool
+    requires minimum { length minimum.now ≤ 8 }
+    requires maximum { length maximum.now ≤ 8 }
+    ensures { IsTrue result ↔ IsPhysical minimum.now × IsPhysical maximum.now × Differ minimum.now maximum.now }
+{
+    match (read_physical(minimum), read_physical(maximum)) {
+        (Some(low), Some(high)) => differ(low, high),
+        _ => false,
+    }
+}

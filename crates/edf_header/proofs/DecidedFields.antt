@@ -1,0 +1,49 @@
+-- Whether a field's text is what it must be.
+use Rattle.std.proofs.Common.{◌≡◌, ℕ, List, length, take, arith, refl}
+use Rattle.std.specs.Prelude.{codes}
+use Rattle.edf_field.specs.Number.{field, AreSpaces, IsWhole, IsSigned, IsPhysical, Differ, whole_value, behind_digits, behind_fraction, digits_len, unsigned, IsNumber}
+use Rattle.edf_field.specs.Text.{IsPrintable, IsBehindStartdate, subfields}
+use Rattle.edf_header.specs.Header.{IsPlus}
+use Rattle.edf_header.specs.Fault.{HasCount, HasSignals}
+use Rattle.edf_header.proofs.Decided.{Decided, like, both, either, negated, less, at-most, same, same-bytes, same-int, every}
+
+pub printable : (b : ℕ) → Decided (IsPrintable b)
+printable b = like (both (at-most 32 b) (at-most b 126)) (λ p. record { from = p.0; to = p.1 }) (λ p. (p.from, p.to))
+
+pub spaces : (text : List ℕ) → Decided (AreSpaces text)
+spaces text = every (λ b. b ≡ 32) 0 (λ b. same b 32) text
+
+pub whole : (text : List ℕ) → Decided (IsWhole text)
+whole text = both (less 0 (digits_len text)) (spaces (behind_digits text))
+
+pub signed : (text : List ℕ) → Decided (IsSigned text)
+signed text = whole (unsigned text)
+
+pub physical : (text : List ℕ) → Decided (IsPhysical text)
+physical text = both (less 0 (digits_len (unsigned text))) (spaces (behind_fraction (behind_digits (unsigned text))))
+
+pub differ : (a b : List ℕ) → Decided (Differ a b)
+differ a b = negated (same-int _ _)
+
+pub number : (text : List ℕ) (n : ℕ) → Decided (IsNumber text n)
+number text n = like (both (whole text) (same n (whole_value text))) (λ p. record { whole = p.0; value = p.1 }) (λ p. (p.whole, p.value))
+
+pub plus : (text : List ℕ) → Decided (IsPlus text)
+plus text = either (same-bytes (take 5 text) (codes "EDF+C")) (same-bytes (take 5 text) (codes "EDF+D"))
+
+pub behind-startdate : (after : List ℕ) → Decided (IsBehindStartdate after)
+behind-startdate after =
+    like (both (same-bytes (take 1 after) (codes " ")) (at-most 3 (length (subfields after)))) (λ p. record { space = p.0; codes_in = p.1 }) (λ p. (p.space, p.codes_in))
+
+-- the numbers of data records and of signals
+pub count : (b : List ℕ) → Decided (HasCount b)
+count b =
+    like (both (whole (field b 236 8)) (at-most 1 (whole_value (field b 236 8))))
+    (λ p. (whole_value (field b 236 8), record { whole = p.0; value = refl }, p.1))
+    (λ p. (p.1.whole, omega (arith, p.1.value, p.2)))
+
+pub signals : (b : List ℕ) → Decided ((n : ℕ) × HasSignals b n)
+signals b =
+    like (both (whole (field b 252 4)) (both (at-most 2 (whole_value (field b 252 4))) (at-most (whole_value (field b 252 4)) 640)))
+    (λ p. (whole_value (field b 252 4), (record { whole = p.0; value = refl }, p.1.0, p.1.1)))
+    (λ p. (p.1.0.whole, (omega (arith, p.1.0.value, p.1.1), omega (arith, p.1.0.value, p.1.2))))

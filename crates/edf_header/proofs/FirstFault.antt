@@ -1,0 +1,191 @@
+-- Rows that are decided, in the order of their numbers: none is true, or one is the first.
+use Rattle.std.proofs.Common.{◌≡◌, ℕ, suc, ◌+◌, ◌*◌, List, [], length, arith, refl, sym, ap, ◌∙◌, subst, inl, inr, cond, eqb, Option, ℤ, pos, None, Some}
+use Rattle.std.specs.Prelude.{◌⊎◌, codes}
+use Rattle.edf_time.specs.Civil.{IsDateText, IsTimeText}
+use Rattle.edf_time.proofs.FieldTexts.{one-date_day}
+use Rattle.edf_field.specs.Number.{field, IsDuration, IsNumber}
+use Rattle.edf_field.specs.Text.{IsPrintable, IsRecording}
+use Rattle.edf_header.specs.Signal.{IsFirstBad, Passes, signals_of}
+use Rattle.edf_header.specs.Header.{IsSameDay}
+use Rattle.edf_header.specs.Fault.{DatesAreOther, FixedPartFails, HasAnnotations, HasSignals, IsBadSignal, IsClean, IsFirst, SignalsFail, header_fault_number}
+use Rattle.edf_header.specs.declared.checks.Check.{Check}
+use Rattle.edf_header.specs.declared.checks.Check.TheVariants as checks
+use Rattle.edf_header.specs.declared.fault.HeaderFault.{HeaderFault}
+use Rattle.edf_header.specs.declared.fault.HeaderFault.TheVariants.{Cut, Unprintable, Version, Patient, Recording, Startdate, Starttime, DatesDiffer, NotPlus, Count, Duration, Signals, HeaderBytes, CutSignals, UnprintableSignals, Annotations, Physical, Digital, Samples, Size, Memory}
+use Rattle.edf_field.proofs.Recordings.{one-after}
+use Rattle.edf_header.proofs.FixedRows.{clean-more}
+use Rattle.edf_header.proofs.Faults.{not-bad}
+use Rattle.edf_header.proofs.RowFaults.{has-annotations}
+use Rattle.edf_header.proofs.Decided.{Decided, like, negated, less, same-bytes, same-int, first-bad}
+use Rattle.edf_header.proofs.DecidedFields as fields
+use Rattle.edf_header.proofs.DecidedDates as dates
+use Rattle.edf_header.proofs.DecidedTexts as texts
+use Rattle.edf_header.proofs.DecidedSignals as rows
+
+-- the place that a fault names, or 0
+abbrev spot : HeaderFault → ℕ
+spot (Unprintable offset) = offset
+spot (UnprintableSignals offset) = offset
+spot (Physical signal) = signal
+spot (Digital signal) = signal
+spot (Samples signal) = signal
+spot e = 0
+
+-- the fault of a number, at a place
+abbrev made : ℕ → ℕ → HeaderFault
+made n at =
+    cond (eqb n 1) Cut (cond (eqb n 2) (Unprintable at) (cond (eqb n 3) Version (cond (eqb n 4) Patient (cond (eqb n 5) Recording
+    (cond (eqb n 6) Startdate (cond (eqb n 7) Starttime (cond (eqb n 8) DatesDiffer (cond (eqb n 9) NotPlus (cond (eqb n 10) Count
+    (cond (eqb n 11) Duration (cond (eqb n 12) Signals (cond (eqb n 13) HeaderBytes (cond (eqb n 14) CutSignals (cond (eqb n 15) (UnprintableSignals at)
+    (cond (eqb n 16) Annotations (cond (eqb n 17) (Physical at) (cond (eqb n 18) (Digital at) (cond (eqb n 19) (Samples at) (cond (eqb n 20) Size
+    Memory)))))))))))))))))))
+
+made-is : (e : HeaderFault) → e ≡ made (header_fault_number e) (spot e)
+made-is Cut = refl
+made-is (Unprintable at) = refl
+made-is Version = refl
+made-is Patient = refl
+made-is Recording = refl
+made-is Startdate = refl
+made-is Starttime = refl
+made-is DatesDiffer = refl
+made-is NotPlus = refl
+made-is Count = refl
+made-is Duration = refl
+made-is Signals = refl
+made-is HeaderBytes = refl
+made-is CutSignals = refl
+made-is (UnprintableSignals at) = refl
+made-is Annotations = refl
+made-is (Physical at) = refl
+made-is (Digital at) = refl
+made-is (Samples at) = refl
+made-is Size = refl
+made-is Memory = refl
+
+-- the fault of a number is true at some place
+abbrev IsTrueAt : (HeaderFault → Type 0) → ℕ → Type 0
+IsTrueAt Holds n = (at : ℕ) × Holds (made n at)
+
+abbrev IsCleanOrFirst : (HeaderFault → Type 0) → ℕ → Type 0
+IsCleanOrFirst Holds n = IsClean Holds n ⊎ ((fault : HeaderFault) × IsFirst Holds fault)
+
+none-here : (Holds : HeaderFault → Type 0) (n : ℕ) → (¬ IsTrueAt Holds n) → (e : HeaderFault) → header_fault_number e ≡ n → ¬ Holds e
+none-here Holds n none e is holds = none (spot e, subst Holds (made-is e ∙ ap (λ (k : ℕ). made k (spot e)) is) holds)
+
+-- one row more
+row : (Holds : HeaderFault → Type 0) (n : ℕ) → ((at : ℕ) → header_fault_number (made n at) ≡ n) → Decided (IsTrueAt Holds n) → IsCleanOrFirst Holds n → IsCleanOrFirst Holds (suc n)
+row Holds n named here before =
+    elim before [
+      | inl clean ↦ elim here [
+        | inl is ↦ inr (made n is.0, (is.1, λ e lt. clean e (omega (arith, named is.0))))
+        | inr none ↦ inl (clean-more Holds n clean (none-here Holds n none))
+      ]
+      | inr first ↦ inr first
+    ]
+
+-- a fault that names no place
+plain : {P : Type 0} → Decided P → Decided ((at : ℕ) × P)
+plain d = like d (λ p. (0, p)) (λ p. p.1)
+
+none-of : {X : Type 0} (P : X → Type 0) → Decided ((x : X) × P x) → Decided ((x : X) → ¬ P x)
+none-of P d = like (negated d) (λ none x p. none (x, p)) (λ none p. none p.0 p.1)
+
+unprintable : (b : List ℕ) → Decided ((at : ℕ) × IsFirstBad IsPrintable b at)
+unprintable b =
+    elim (first-bad IsPrintable fields.printable b) [
+      | inl all ↦ inr (λ bad. not-bad IsPrintable 0 b bad.0 all bad.1)
+      | inr bad ↦ inl bad
+    ]
+
+no-recording : (text : List ℕ) → Decided ((startdate : Option ℤ) (after : List ℕ) → ¬ IsRecording text startdate after)
+no-recording text = like (negated (texts.recording text)) (λ none s after is. none (s, after, is)) (λ none r. none r.0 r.1 r.2)
+
+pub same-day : (startdate : Option ℤ) (days : ℕ) → Decided (IsSameDay startdate days)
+same-day None days = inl tt
+same-day (Some day) days = same-int day (pos days)
+
+other-dates : (b : List ℕ) → Decided (DatesAreOther b)
+other-dates b =
+    elim (texts.recording (field b 88 80)) [
+      | inl r ↦ elim (dates.date (field b 168 8)) [
+        | inl d ↦ elim (same-day r.0 d.0) [
+          | inl is ↦ inr (λ o.
+              let startdate = (one-after (field b 88 80) r.0 o.startdate r.1 o.after r.2.front o.recording.front).0 in
+              let days = one-date_day (field b 168 8) d.0 o.days d.1 o.date in
+              o.other (subst (λ (s : Option ℤ). IsSameDay s o.days) startdate (subst (λ (n : ℕ). IsSameDay r.0 n) days is)))
+          | inr other ↦ inl (record { startdate = r.0; after = r.1; days = d.0; recording = r.2; date = d.1; other = other })
+        ]
+        | inr none ↦ inr (λ o. none (o.days, o.date))
+      ]
+      | inr none ↦ inr (λ o. none (o.startdate, o.after, o.recording))
+    ]
+
+other-bytes : (b : List ℕ) → Decided ((n : ℕ) × HasSignals b n × ¬ IsNumber (field b 184 8) (256 + 256 * n))
+other-bytes b =
+    elim (fields.signals b) [
+      | inl s ↦ elim (fields.number (field b 184 8) (256 + 256 * s.0)) [
+        | inl is ↦ inr (λ o. let same : s.0 ≡ o.0 = s.1.0.value ∙ sym o.1.0.value in o.2 (subst (λ (n : ℕ). IsNumber (field b 184 8) (256 + 256 * n)) same is))
+        | inr other ↦ inl (s.0, s.1, other)
+      ]
+      | inr none ↦ inr (λ o. none (o.0, o.1))
+    ]
+
+no-number : (b : List ℕ) → IsClean (FixedPartFails b) 1
+no-number b Cut lt fails = omega arith
+no-number b e lt fails = omega arith
+
+-- the faults E1 to E13
+pub fixed-rows : (b : List ℕ) → IsCleanOrFirst (FixedPartFails b) 14
+fixed-rows b =
+    row (FixedPartFails b) 13 (λ at. refl) (plain (other-bytes b))
+    (row (FixedPartFails b) 12 (λ at. refl) (plain (none-of (HasSignals b) (fields.signals b)))
+    (row (FixedPartFails b) 11 (λ at. refl) (plain (none-of (IsDuration (field b 244 8)) (texts.duration (field b 244 8))))
+    (row (FixedPartFails b) 10 (λ at. refl) (plain (negated (fields.count b)))
+    (row (FixedPartFails b) 9 (λ at. refl) (plain (negated (fields.plus (field b 192 44))))
+    (row (FixedPartFails b) 8 (λ at. refl) (plain (other-dates b))
+    (row (FixedPartFails b) 7 (λ at. refl) (plain (none-of (IsTimeText (field b 176 8)) (dates.time (field b 176 8))))
+    (row (FixedPartFails b) 6 (λ at. refl) (plain (none-of (IsDateText (field b 168 8)) (dates.date (field b 168 8))))
+    (row (FixedPartFails b) 5 (λ at. refl) (plain (no-recording (field b 88 80)))
+    (row (FixedPartFails b) 4 (λ at. refl) (plain (negated (texts.patient (field b 8 80))))
+    (row (FixedPartFails b) 3 (λ at. refl) (plain (negated (same-bytes (field b 0 8) (codes "0       "))))
+    (row (FixedPartFails b) 2 (λ at. refl) (unprintable b)
+    (row (FixedPartFails b) 1 (λ at. refl) (plain (less (length b) 256)) (inl (no-number b))))))))))))))
+
+-- and E14 to E20
+unprintable-signals : (s : List ℕ) → Decided ((offset : ℕ) × ((at : ℕ) × IsFirstBad IsPrintable s at × (offset ≡ 256 + at)))
+unprintable-signals s = like (unprintable s) (λ b. (256 + b.0, (b.0, b.1, refl))) (λ b. (b.1.0, b.1.1))
+
+no-annotations : (ss : List (List ℕ)) → Decided (¬ HasAnnotations ss)
+no-annotations ss =
+    elim (rows.split ss) [
+      | inl at ↦ inr (λ none. none (has-annotations ss at.0 at.1))
+      | inr none ↦ inl none
+    ]
+
+bad-signal : (check : Check) (ss : List (List ℕ)) → Decided ((signal : ℕ) × IsBadSignal check ss signal)
+bad-signal check ss =
+    elim (rows.checked check ss) [
+      | inl all ↦ inr (λ bad. not-bad (Passes check) [] ss bad.1.0 all bad.1.1)
+      | inr bad ↦ inl (bad.0 + 1, (bad.0, bad.1, refl))
+    ]
+
+clean-14 : (s : List ℕ) (n : ℕ) → IsClean (SignalsFail s n) 14
+clean-14 s n CutSignals lt fails = omega arith
+clean-14 s n (UnprintableSignals at) lt fails = omega arith
+clean-14 s n Annotations lt fails = omega arith
+clean-14 s n (Physical at) lt fails = omega arith
+clean-14 s n (Digital at) lt fails = omega arith
+clean-14 s n (Samples at) lt fails = omega arith
+clean-14 s n Size lt fails = omega arith
+clean-14 s n e lt fails = fails
+
+pub signal-rows : (s : List ℕ) (n : ℕ) → IsCleanOrFirst (SignalsFail s n) 21
+signal-rows s n =
+    row (SignalsFail s n) 20 (λ at. refl) (plain (rows.too-large (signals_of s n)))
+    (row (SignalsFail s n) 19 (λ at. refl) (bad-signal checks.Samples (signals_of s n))
+    (row (SignalsFail s n) 18 (λ at. refl) (bad-signal checks.Digital (signals_of s n))
+    (row (SignalsFail s n) 17 (λ at. refl) (bad-signal checks.Physical (signals_of s n))
+    (row (SignalsFail s n) 16 (λ at. refl) (plain (no-annotations (signals_of s n)))
+    (row (SignalsFail s n) 15 (λ at. refl) (unprintable-signals s)
+    (row (SignalsFail s n) 14 (λ at. refl) (plain (less (length s) (256 * n))) (inl (clean-14 s n))))))))

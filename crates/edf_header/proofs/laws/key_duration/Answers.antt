@@ -1,0 +1,5 @@
+use Rattle.edf_header.proofs.KeyLaws.{key-duration-some, key-duration-bound}
+use Rattle.edf_header.proofs.laws.key_duration.Goals as goal
+
+pub returns : goal.returns
+returns c = record { some = key-duration-some; bound = key-duration-bound }

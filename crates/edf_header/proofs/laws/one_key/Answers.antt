@@ -1,0 +1,5 @@
+use Rattle.edf_header.proofs.KeyLaws.{one-key}
+use Rattle.edf_header.proofs.laws.one_key.Goals as goal
+
+pub returns : goal.returns
+returns c = one-key

@@ -1,6 +1,0 @@
-use Rattle.std.proofs.Common.{◌≡◌, ◌<◌, ◌^◌, take}
-use Rattle.std.specs.Str.Parse.{digits_value}
-use Rattle.edf_header.proofs.number.read_digits.Given as goal
-
-abbrev pub invariant-loop-d : goal.invariant-loop-d
-invariant-loop-d l = (l.number ≡ digits_value 10 (take l.d-index l.text)) × (l.number < 10 ^ l.d-index)
