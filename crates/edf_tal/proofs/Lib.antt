@@ -11,3 +11,5 @@ pub mod Totals
 pub mod Judge
 pub mod Lists
 pub mod Lengths
+pub mod Decide
+pub mod AtLeast

@@ -34,7 +34,7 @@ not-both c [] (d ∷ b) y p e = absurd cc
 not-both c (x ∷ a) [] y p e = p.0 (let z : x ≡ c = cc in z)
 not-both c (x ∷ a) (d ∷ b) y p e = not-both c a b y p.1 (let z : a ≡ b ++ c ∷ y = cc in z)
 
-Lacks-digits : (c : ℕ) (ds : List ℕ) → (c < 48) → AllDigits 10 ds → Lacks c ds
+pub Lacks-digits : (c : ℕ) (ds : List ℕ) → (c < 48) → AllDigits 10 ds → Lacks c ds
 Lacks-digits c [] low p = tt
 Lacks-digits c (d ∷ ds) low p = ((λ e. let b = (digit_only d p.0).0 in absurd (omega arith)), Lacks-digits c ds low p.1)
 

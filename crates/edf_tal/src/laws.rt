@@ -1,5 +1,5 @@
 //! Laws of blocks: each function has a law for a contract, and does nothing.
-ghost use Rattle.std.specs.Prelude.{◌≡◌, ℕ, ◌+◌, ◌^◌, ◌≤◌, ◌<◌, ◌++◌, List, replicate};
+ghost use Rattle.std.specs.Prelude.{◌≡◌, ◌⊎◌, ℕ, ◌+◌, ◌^◌, ◌≤◌, ◌<◌, ◌++◌, List, replicate};
 ghost use Rattle.std.specs.List.{AllByRecursion};
 ghost use Rattle.edf_time.specs.Civil.{window};
 ghost use Rattle.edf_tal.specs.Tal.{Tal, Annotation, IsTal, AreTalsAndZeros};
@@ -7,6 +7,7 @@ ghost use Rattle.edf_tal.specs.Note.{IsNote};
 ghost use Rattle.edf_tal.specs.Block.{IsRead, IsBlockFault, IsWithinLimits};
 ghost use Rattle.edf_tal.specs.Canonical.{block_text};
 ghost use Rattle.edf_tal.specs.declared.place.TalFault.{TalFault};
+ghost use Rattle.edf_tal.specs.declared.place.TalFault.TheVariants.{Memory};
 ghost use Rattle.edf_tal.specs.declared.place.Place.{Place};
 ghost use Rattle.edf_tal.specs.declared.place.Place.TheVariants.{First, After, Any};
 
@@ -28,6 +29,13 @@ pub fn one_answer()
         IsRead b s p m l → ¬ IsBlockFault b s p e }
     ensures one_fault { (b : List ℕ) (s : ℕ) (p : Place) (e f : TalFault) →
         IsBlockFault b s p e → IsBlockFault b s p f → e ≡ f }
+{}
+
+/// A block has an answer at each place: a start and a list, or a fault.
+pub fn some_answer()
+    ensures some { (b : List ℕ) (s : ℕ) (p : Place) →
+        ((start : ℕ) × (list : List Annotation) × IsRead b s p start list) ⊎ ((e : TalFault) × IsBlockFault b s p e) }
+    ensures not_memory { (b : List ℕ) (s : ℕ) (p : Place) → ¬ IsBlockFault b s p Memory }
 {}
 
 /// A canonical block, with any fill of zeros, is read again as what was written.

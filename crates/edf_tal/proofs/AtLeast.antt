@@ -1,0 +1,269 @@
+-- Each block is read, or has a fault.
+use Rattle.std.proofs.Common.{◌≡◌, ℕ, zero, suc, ◌+◌, ◌-◌, ◌^◌, ◌≤◌, ◌<◌, ◌⊎◌, inl, inr, Bool, true, false, ◌&&◌, List, [], ◌∷◌, ◌++◌, length, take, arith, refl, sym, ap, ◌∙◌, subst, append-nil, append_assoc, ℤ, pos, negsuc, ◌≤ℤ◌, ◌<ℤ◌, ◌+ℤ◌, Option, Some, None}
+use Rattle.std.specs.Prelude.{IsTrue, IsUtf8, IfSome, ◌↔◌}
+use Rattle.std.specs.Str.{is_utf8}
+use Rattle.std.specs.List.{AllByRecursion}
+use Rattle.std.proofs.lemmas.Bool.{cases_eq, cases_lt}
+use Rattle.std.proofs.lemmas.Int.{ints}
+use Rattle.std.proofs.lemmas.Str.{IsUtf8-from_is_utf8, is_utf8-from_IsUtf8}
+use Rattle.edf_time.specs.Civil.{window}
+use Rattle.edf_tal.specs.Tal.{Tal, Annotation, IsText, ended, IsTalInWindow, instant, notes}
+use Rattle.edf_tal.specs.Block.{IsRead, IsBadText, IsBlockFault}
+use Rattle.edf_tal.specs.Scan.{Lacks, NoTal, AreZeros, IsFront, IsBadAmong, AreGoodTexts, IsBehind, IsSurvey, KeepsSecond, KeepsOrder, IsChecked}
+use Rattle.edf_tal.specs.declared.place.Place.{Place}
+use Rattle.edf_tal.specs.declared.place.Place.TheVariants.{First, After, Any}
+use Rattle.edf_tal.specs.declared.place.TalFault.{TalFault}
+use Rattle.edf_tal.specs.declared.place.TalFault.TheVariants.{Tal as NotTals, Text, NotTimed, FirstOnset, Window, Order, TooMany, Memory}
+use Rattle.edf_tal.proofs.Unique.{Lacks-text}
+use Rattle.edf_tal.proofs.Decide.{Front, front}
+use Rattle.edf_tal.proofs.Totals.{behind-none, behind-more, behind-behind, front-shorter, good-count, survey-none, survey-more, survey-bad, survey-behind, both-true}
+use Rattle.edf_tal.proofs.Judge.{Known, known, timed, checked, fault-tal, fault-text, fault-none, fault-untimed, fault-second, fault-window, fault-order, fault-many}
+
+-- ---- what is decided
+
+utf8 : (text : List ℕ) → IsUtf8 text ⊎ (¬ IsUtf8 text)
+utf8 text = go (is_utf8 text) refl
+  where
+    go : (b : Bool) → is_utf8 text ≡ b → IsUtf8 text ⊎ (¬ IsUtf8 text)
+    go true e = inl (IsUtf8-from_is_utf8 text e)
+    go false e = inr (λ u. let both : false ≡ true = sym e ∙ is_utf8-from_IsUtf8 text u in absurd cc)
+
+zeros : (bytes : List ℕ) → AreZeros bytes ⊎ (¬ AreZeros bytes)
+zeros [] = inl tt
+zeros (b ∷ bytes) =
+    elim (cases_eq b 0) [
+      | inl is ↦ elim (zeros bytes) [ inl all ↦ inl (is, all) | inr never ↦ inr (λ all. never all.1) ]
+      | inr isnt ↦ inr (λ all. isnt all.0)
+    ]
+
+-- a number of the numbers from 0 on, below another
+below : (z : ℤ) (n : ℕ) → ((pos 0 ≤ℤ z) × (z <ℤ pos n)) ⊎ (¬ ((pos 0 ≤ℤ z) × (z <ℤ pos n)))
+below (pos m) n =
+    elim (cases_lt m n) [
+      | inl low ↦ inl (omega (arith, ints), omega (arith, ints))
+      | inr high ↦ inr (λ h. let lt : pos m <ℤ pos n = h.1 in absurd (omega (arith, ints)))
+    ]
+below (negsuc m) n = inr (λ h. let le : pos 0 ≤ℤ negsuc m = h.0 in absurd (omega (arith, ints)))
+
+short-duration : (d : Option ℕ) → IfSome d (λ n. n < window) ⊎ (¬ IfSome d (λ n. n < window))
+short-duration None = inl tt
+short-duration (Some n) =
+    elim (cases_lt n window) [ inl low ↦ inl low | inr high ↦ inr (λ low. let l : n < window = low in absurd (omega arith)) ]
+
+in-window : (s : ℕ) (t : Tal) → IsTalInWindow s t ⊎ (¬ IsTalInWindow s t)
+in-window s t =
+    elim (below (pos s +ℤ t.onset) window) [
+      | inl o ↦ elim (short-duration t.duration) [
+        | inl d ↦ inl (record { onset = record { from = o.0; to = o.1 }; duration = d })
+        | inr never ↦ inr (λ w. never w.duration)
+      ]
+      | inr never ↦ inr (λ w. never (w.onset.from, w.onset.to))
+    ]
+
+-- as a bit
+bit : {P : Type 0} → P ⊎ (¬ P) → (b : Bool) × (IsTrue b ↔ P)
+bit (inl p) = (true, (λ h. p, λ h. refl))
+bit (inr never) = (false, (λ h. absurd (let e : false ≡ true = h in cc), λ p. absurd (never p)))
+
+-- the texts of a TAL
+texts-of : (xs : List (List ℕ)) → AllByRecursion IsText xs → AllByRecursion (λ x. Lacks 20 x × IsUtf8 x) xs ⊎ ((at : ℕ) × IsBadAmong (ended xs) at)
+texts-of [] a = inl tt
+texts-of (x ∷ xs) a =
+    elim (utf8 x) [
+      | inl u ↦ elim (texts-of xs a.1) [
+        | inl good ↦ inl ((Lacks-text x a.0, u), good)
+        | inr bad ↦ inr (
+          length (ended (x ∷ bad.1.good)),
+          record {
+            good = x ∷ bad.1.good;
+            text = bad.1.text;
+            back = bad.1.back;
+            parts = ap (λ (w : List ℕ). (x ++ 20 ∷ []) ++ w) bad.1.parts ∙ sym (append_assoc (x ++ 20 ∷ []) (ended bad.1.good) (bad.1.text ++ 20 ∷ bad.1.back));
+            good_texts = ((Lacks-text x a.0, u), bad.1.good_texts);
+            is_text = bad.1.is_text;
+            bad = bad.1.bad;
+            place = refl;
+          },
+        )
+      ]
+      | inr never ↦ inr (
+        0,
+        record { good = []; text = x; back = ended xs; parts = append_assoc x (20 ∷ []) (ended xs); good_texts = tt; is_text = Lacks-text x a.0; bad = never; place = refl },
+      )
+    ]
+
+front-texts : (bytes texts rest : List ℕ) (t : Tal) → IsFront bytes texts rest t → AreGoodTexts texts (length t.texts) ⊎ ((at : ℕ) × IsBadAmong texts at)
+front-texts bytes texts rest t f =
+    elim (texts-of t.texts f.tal.are_texts) [
+      | inl good ↦ inl (record { list = t.texts; rest = []; parts = f.texts_are ∙ sym (append-nil (ended t.texts)); good = good; is_rest = tt; count_is = refl })
+      | inr bad ↦ inr (bad.0, subst (λ (w : List ℕ). IsBadAmong w bad.0) (sym f.texts_are) bad.1)
+    ]
+
+-- ---- the walk over the TALs
+
+-- what stands behind the TALs
+behind : (fuel : ℕ) (bytes : List ℕ) → length bytes < fuel → (rest : List ℕ) × IsBehind bytes rest × NoTal rest
+behind zero bytes short = absurd (omega arith)
+behind (suc fuel) bytes short =
+    elim (front bytes) [
+      | inl f ↦
+          let less = front-shorter bytes f.texts f.rest f.tal f.is_front in
+          let more = behind fuel f.rest (omega arith) in
+          (more.0, behind-behind bytes f.rest more.0 (behind-more bytes bytes f.texts f.rest f.tal (behind-none bytes) f.is_front) more.1, more.2)
+      | inr none ↦ (bytes, behind-none bytes, none)
+    ]
+
+-- TALs with good texts, or a text that is no UTF-8
+pub record Surveyed (block : List ℕ) (s : ℕ) : Type 0 where
+  pub rest : List ℕ
+  pub in_window : Bool
+  pub count : ℕ
+  pub bytes : ℕ
+  pub is_survey : IsSurvey block s rest in_window count bytes
+  pub last : NoTal rest
+
+pub record IsBadSurvey (block : List ℕ) : Type 0 where
+  pub rest : List ℕ
+  pub at : ℕ
+  pub is_behind : IsBehind block rest
+  pub last : NoTal rest
+  pub bad : IsBadText block at
+
+bad-survey : (block rest : List ℕ) (s : ℕ) (in_window : Bool) (count bytes : ℕ) (f : Front rest) (at : ℕ) → IsSurvey block s rest in_window count bytes
+    → IsBadAmong f.texts at → IsBadSurvey block
+bad-survey block rest s in_window count bytes f at v b =
+    let more = behind (suc (length f.rest)) f.rest (omega arith) in
+    record {
+      rest = more.0;
+      at = length block - length f.rest - 1 - length f.texts + at;
+      is_behind = behind-behind block f.rest more.0 (behind-more block rest f.texts f.rest f.tal (survey-behind block rest s in_window count bytes v) f.is_front) more.1;
+      last = more.2;
+      bad = survey-bad block rest f.texts f.rest s f.tal in_window count bytes at v f.is_front b;
+    }
+
+walk : (fuel : ℕ) (block rest : List ℕ) (s : ℕ) (in_window : Bool) (count bytes : ℕ) → length rest < fuel → IsSurvey block s rest in_window count bytes
+    → Surveyed block s ⊎ IsBadSurvey block
+walk zero block rest s in_window count bytes short v = absurd (omega arith)
+walk (suc fuel) block rest s in_window count bytes short v =
+    elim (front rest) [
+      | inl f ↦ elim (front-texts rest f.texts f.rest f.tal f.is_front) [
+        | inl good ↦
+            let less = front-shorter rest f.texts f.rest f.tal f.is_front in
+            let few = good-count f.texts (length f.tal.texts) good in
+            let here = bit (in-window s f.tal) in
+            let sum : length f.tal.texts + (length f.texts - length f.tal.texts) ≡ length f.texts = omega arith in
+            walk fuel block f.rest s (in_window && here.0) (count + length f.tal.texts) (bytes + (length f.texts - length f.tal.texts)) (omega arith)
+            (survey-more block rest f.texts f.rest s f.tal in_window (in_window && here.0) here.0 count bytes (length f.tal.texts) (length f.texts - length f.tal.texts)
+            v f.is_front good here.1 (both-true in_window here.0) sum)
+        | inr bad ↦ inr (bad-survey block rest s in_window count bytes f bad.0 v bad.1)
+      ]
+      | inr none ↦ inl (record { rest = rest; in_window = in_window; count = count; bytes = bytes; is_survey = v; last = none })
+    ]
+
+survey : (block : List ℕ) (s : ℕ) → Surveyed block s ⊎ IsBadSurvey block
+survey block s = walk (suc (length block)) block block s true 0 0 (omega arith) (survey-none block s)
+
+-- ---- the first TAL's rules
+
+keeps-second : (p : Place) (z : ℤ) → KeepsSecond p z ⊎ (¬ KeepsSecond p z)
+keeps-second First z = below z (10 ^ 9)
+keeps-second (After before duration) z = inl tt
+keeps-second Any z = inl tt
+
+keeps-order : (p : Place) (start : ℕ) → KeepsOrder p start ⊎ (¬ KeepsOrder p start)
+keeps-order First start = inl tt
+keeps-order (After before duration) start =
+    elim (cases_lt start (before + duration)) [ inl low ↦ inr (λ h. let le : before + duration ≤ start = h in absurd (omega arith)) | inr high ↦ inl high ]
+keeps-order Any start = inl tt
+
+true-or-not : (b : Bool) → IsTrue b ⊎ (¬ IsTrue b)
+true-or-not true = inl refl
+true-or-not false = inr (λ h. absurd (let e : false ≡ true = h in cc))
+
+limits : (count bytes : ℕ) → ((count ≤ 10_001) × (bytes ≤ 1_000_000)) ⊎ (¬ ((count ≤ 10_001) × (bytes ≤ 1_000_000)))
+limits count bytes =
+    elim (cases_lt 10_001 count) [
+      | inl many ↦ inr (λ h. let le = h.0 in absurd (omega arith))
+      | inr few ↦ elim (cases_lt 1_000_000 bytes) [ inl many ↦ inr (λ h. let le = h.1 in absurd (omega arith)) | inr short ↦ inl (few, short) ]
+    ]
+
+first-empty : (texts : List ℕ) → ((rest : List ℕ) × (texts ≡ 20 ∷ rest)) ⊎ (¬ ((rest : List ℕ) × (texts ≡ 20 ∷ rest)))
+first-empty [] = inr (λ (rest, e). absurd cc)
+first-empty (b ∷ texts) =
+    elim (cases_eq b 20) [
+      | inl is ↦ inl (texts, ap (λ (x : ℕ). x ∷ texts) is)
+      | inr isnt ↦ inr (λ (rest, e). isnt (let z : b ≡ 20 = cc in z))
+    ]
+
+-- ---- the answer
+
+-- a start and a list, or a fault
+abbrev pub HasAnswer : List ℕ → ℕ → Place → Type 0
+HasAnswer b s p = ((start : ℕ) × (list : List Annotation) × IsRead b s p start list) ⊎ ((e : TalFault) × IsBlockFault b s p e)
+
+read-checked : (b front : List ℕ) (s : ℕ) (p : Place) (start count : ℕ) → IsChecked b s p front start count → HasAnswer b s p
+read-checked b front s p start count c = inl (
+  start,
+  notes s c.tals,
+  record {
+    tals = c.tals;
+    block = ((front, c.zeros, c.parts, c.whole, c.are_zeros), c.good);
+    timed = c.timed;
+    keeps = c.keeps;
+    window = c.window;
+    limits = c.limits;
+    start_is = c.start_is;
+    list_is = refl;
+  },
+)
+
+-- of TALs and zeros, the first of which is known
+module _ (b rest : List ℕ) (s : ℕ) (p : Place) (w : Bool) (count bytes : ℕ) (t : Tal) (k : Known b s rest w count bytes t) (empty : (xs : List (List ℕ)) × (t.texts ≡ [] ∷ xs)) where
+  by-limits : KeepsSecond p t.onset → IsTrue w → KeepsOrder p (instant s t.onset) → HasAnswer b s p
+  by-limits second window order =
+      elim (limits count bytes) [
+        | inl few ↦ read-checked b (take (length b - length rest) b) s p (instant s t.onset) (count - 1) (checked b rest s p w count bytes t (instant s t.onset) k empty second window refl order few)
+        | inr many ↦ inr (TooMany, fault-many b rest s p w count bytes t k empty second window order many)
+      ]
+
+  by-rules : HasAnswer b s p
+  by-rules =
+      elim (keeps-second p t.onset) [
+        | inl second ↦ elim (true-or-not w) [
+          | inl window ↦ elim (keeps-order p (instant s t.onset)) [
+            | inl order ↦ by-limits second window order
+            | inr fails ↦ inr (Order, fault-order b rest s p w count bytes t k empty second window fails)
+          ]
+          | inr fails ↦ inr (Window, fault-window b rest s p w count bytes t k empty second fails)
+        ]
+        | inr fails ↦ inr (FirstOnset, fault-second b rest s p w count bytes t k empty fails)
+      ]
+
+-- of TALs and zeros
+judged : (b : List ℕ) (s : ℕ) (p : Place) (v : Surveyed b s) → AreZeros v.rest → HasAnswer b s p
+judged b s p v z =
+    elim (front b) [
+      | inl f ↦
+          let k = known b v.rest f.texts f.rest s v.in_window v.count v.bytes f.tal v.is_survey z f.is_front in
+          elim (first-empty f.texts) [
+            | inl e ↦ by-rules b v.rest s p v.in_window v.count v.bytes f.tal k (timed b f.texts f.rest f.tal f.is_front e)
+            | inr never ↦ inr (NotTimed, fault-untimed b v.rest f.texts f.rest s p v.in_window v.count v.bytes f.tal k f.is_front never)
+          ]
+      | inr none ↦ inr (NotTimed, fault-none b v.rest s p v.in_window v.count v.bytes v.is_survey z none)
+    ]
+
+pub some-answer : (b : List ℕ) (s : ℕ) (p : Place) → HasAnswer b s p
+some-answer b s p =
+    elim (survey b s) [
+      | inl v ↦ elim (zeros v.rest) [
+        | inl z ↦ judged b s p v z
+        | inr never ↦ inr (NotTals (length b - length v.rest), fault-tal b v.rest s p (survey-behind b v.rest s v.in_window v.count v.bytes v.is_survey) v.last never)
+      ]
+      | inr x ↦ elim (zeros x.rest) [
+        | inl z ↦ inr (Text x.at, fault-text b x.rest s p x.at x.is_behind z x.bad)
+        | inr never ↦ inr (NotTals (length b - length x.rest), fault-tal b x.rest s p x.is_behind x.last never)
+      ]
+    ]
+
+pub no-memory : (b : List ℕ) (s : ℕ) (p : Place) → ¬ IsBlockFault b s p Memory
+no-memory b s p f = f.holds

@@ -1,0 +1,8 @@
+use Rattle.edf_tal.proofs.AtLeast.{some-answer, no-memory}
+use Rattle.edf_tal.proofs.laws.some_answer.Goals as goal
+
+pub returns-clause-some : goal.returns-clause-some
+returns-clause-some c = some-answer
+
+pub returns-clause-not_memory : goal.returns-clause-not_memory
+returns-clause-not_memory c = no-memory
