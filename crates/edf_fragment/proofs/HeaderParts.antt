@@ -6,7 +6,7 @@ use Rattle.std.proofs.KnownBytes.{Consumes-trans}
 use Rattle.edf_header.proofs.FixedLaws.{fixed-clean}
 use Rattle.edf_field.specs.Number.{field, IsNumber}
 use Rattle.edf_header.specs.Header.{FixedPart, IsFixedHeader, IsHeader, Layout}
-use Rattle.edf_header.specs.Fault.{FixedPartFails, SignalsFail, HasSignals, IsHeaderFault, IsFirst, IsClean, header_fault_number}
+use Rattle.edf_header.specs.Fault.{FixedPartFails, SignalsFail, HasSignals, IsHeaderFault, IsFirst, IsClean, IsSignalsRefusal, header_fault_number}
 use Rattle.edf_header.specs.declared.fault.HeaderFault.{HeaderFault}
 use Rattle.edf_header.specs.declared.fault.HeaderFault.TheVariants.{Cut, Unprintable, Version, Patient, Recording, Startdate, Starttime, DatesDiffer, NotPlus, Count, Duration, Signals, HeaderBytes, CutSignals, UnprintableSignals, Annotations, Physical, Digital, Samples, Size, Memory}
 use Rattle.edf_fragment.specs.Reading.{ReadsWithin, ReadsInHeader, ReadsHeader, ReadsHeaderFault, IsOpenFault, CountsAnswer}
@@ -88,8 +88,8 @@ told_first left rest b e told len read memory other (inr first) =
 pub told_second : (left rest : Option (List ℕ)) (n : ℕ) (b : List ℕ) (e : HeaderFault) (told : FragmentFault) → length b ≤ 256 * n → Consumes left rest b
     → (length b < 256 * n → IsAtEnd rest)
     → (e ≡ Memory → told ≡ NoMemory) → ((e ≡ Memory → ⊥) → told ≡ BadHeader e)
-    → (e ≡ Memory) ⊎ IsFirst (SignalsFail b n) e → IsSignalsFault left rest n told
-told_second left rest n b e told within read short memory other (inl is) = subst (IsSignalsFault left rest n) (sym (memory is)) (record { bytes = b; read = read; within = within })
+    → IsSignalsRefusal b n e → IsSignalsFault left rest n told
+told_second left rest n b e told within read short memory other (inl (is, clean)) = subst (IsSignalsFault left rest n) (sym (memory is)) (record { bytes = b; read = read; within = within })
 told_second left rest n b e told within read short memory other (inr first) =
     let no : e ≡ Memory → ⊥ = λ is. subst (SignalsFail b n) is first.0 in
     let r : ReadsSignalsFault left rest n e =

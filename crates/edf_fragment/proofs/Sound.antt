@@ -6,7 +6,7 @@ use Rattle.edf_header.specs.Signal.{samples_in_all}
 use Rattle.edf_header.specs.Key.{Key, IsKey}
 use Rattle.edf_header.specs.Rows.{IsLayout}
 use Rattle.edf_header.specs.Header.{HeaderRecord, IsHeader, Layout, layout_of}
-use Rattle.edf_field.proofs.Durations.{duration-value}
+use Rattle.edf_header.proofs.KeyLaws.{key-duration-some}
 use Rattle.edf_header.proofs.SignalLaws.{header-has-layout}
 use Rattle.edf_header.proofs.SpelledOnce.{one-header}
 use Rattle.edf_tal.specs.Tal.{Annotation}
@@ -14,7 +14,7 @@ use Rattle.edf_tal.specs.Block.{IsRead}
 use Rattle.edf_tal.specs.declared.place.Place.{Place}
 use Rattle.edf_tal.specs.declared.place.Place.TheVariants.{First, After, Any}
 use Rattle.edf_tal.proofs.ReadNotes.{read-start, read-notes}
-use Rattle.edf_fragment.specs.Fragment.{DataRecord, IsDataRecord, AreDataRecords, behind, ordinary_bytes, Spells}
+use Rattle.edf_fragment.specs.Fragment.{DataRecord, IsDataRecord, AreDataRecords, place_behind, ordinary_bytes, Spells}
 use Rattle.edf_fragment.specs.Sound.{IsKept, IsSoundRecord, AreSound}
 use Rattle.edf_fragment.specs.Reading.{ReadsHeader, IsNext}
 use Rattle.edf_fragment.specs.Whole.{HasRead}
@@ -82,7 +82,7 @@ are-sound l place bytes [] last rest in_layout are = tt
 are-sound l place bytes (r ∷ rs) last rest in_layout (front, back, parts, is, more) = (
   sound-record l place front r in_layout is,
   low-start _ _ _ _ _ is.read,
-  are-sound l (behind l r.start) back rs last rest in_layout more,
+  are-sound l (place_behind l r.start) back rs last rest in_layout more,
 )
 
 -- the bounds of the header that bytes spell
@@ -92,13 +92,8 @@ spelled-layout bytes k rs s = header-has-layout bytes s.header s.rest s.is_heade
 pub spelled-key : (bytes : List ℕ) (k : Key) (rs : List DataRecord) → Spells bytes k rs → IsKey k
 spelled-key bytes k rs s = subst IsKey (sym s.key) (spelled-layout bytes k rs s).key
 
-pub key-lasts : (k : Key) → IsKey k → 0 < duration_of k.duration
-key-lasts k is =
-    let d = is.duration in
-    omega (arith, d.1.some, duration-value k.duration d.0 d.1)
-
 pub spelled-lasts : (bytes : List ℕ) (k : Key) (rs : List DataRecord) → Spells bytes k rs → 0 < duration_of k.duration
-spelled-lasts bytes k rs s = key-lasts k (spelled-key bytes k rs s)
+spelled-lasts bytes k rs s = key-duration-some k (spelled-key bytes k rs s)
 
 pub spelled-some : (bytes : List ℕ) (k : Key) (rs : List DataRecord) → Spells bytes k rs → 1 ≤ length rs
 spelled-some bytes k rs s = omega (arith, s.count, (spelled-layout bytes k rs s).some)

@@ -57,11 +57,11 @@ IsFirstFault bytes (Tal nth fault) = IsRefusedBlock bytes nth fault
 IsFirstFault bytes Trailing = IsTrailing bytes
 IsFirstFault bytes fault = ⊥
 
-abbrev pub number : FragmentFault → ℕ
-number (BadHeader fault) = header_fault_number fault
-number (CutRecord nth) = 21
-number (Tal nth fault) = tal_number fault
-number Trailing = 29
-number Read = 40
-number Memory = 41
-number Failed = 0
+abbrev pub fragment_fault_number : FragmentFault → ℕ
+fragment_fault_number (BadHeader fault) = header_fault_number fault
+fragment_fault_number (CutRecord nth) = 21
+fragment_fault_number (Tal nth fault) = tal_number fault
+fragment_fault_number Trailing = 29
+fragment_fault_number Read = 40
+fragment_fault_number Memory = 41
+fragment_fault_number Failed = 0

@@ -9,7 +9,7 @@ use Rattle.edf_tal.specs.Block.{IsBlockFault}
 use Rattle.edf_tal.specs.declared.place.Place.TheVariants.{First}
 use Rattle.edf_tal.specs.declared.place.TalFault.{TalFault}
 use Rattle.edf_fragment.specs.Failures.{one_more}
-use Rattle.edf_fragment.specs.Fragment.{DataRecord, IsDataRecord, block, behind}
+use Rattle.edf_fragment.specs.Fragment.{DataRecord, IsDataRecord, block, place_behind}
 use Rattle.edf_fragment.specs.declared.progress.Progress.{Progress}
 use Rattle.edf_fragment.specs.declared.progress.Status.{Status}
 use Rattle.edf_fragment.specs.declared.progress.Status.TheVariants.{Reading, Ended, Stopped}
@@ -67,7 +67,7 @@ at_first = record { given = 0; place = First; status = Reading }
 
 -- how far it is behind one more record, behind the end, behind a fault
 abbrev pub progress_after : Layout → Progress → Result (Option DataRecord) FragmentFault → Progress
-progress_after l from (Ok (Some r)) = record { given = from.given + 1; place = behind l r.start; status = Reading }
+progress_after l from (Ok (Some r)) = record { given = from.given + 1; place = place_behind l r.start; status = Reading }
 progress_after l from (Ok None) = record from { status = Ended }
 progress_after l from (Err fault) = record from { status = Stopped }
 

@@ -5,6 +5,7 @@ ghost use Rattle.edf_header.specs.Key.{Key, IsKey};
 ghost use Rattle.edf_header.specs.Header.{Layout};
 ghost use Rattle.edf_fragment.specs.Fragment.{DataRecord, Spells};
 ghost use Rattle.edf_fragment.specs.Fault.{IsFirstFault};
+ghost use Rattle.edf_fragment.specs.Told.{Told, Tells};
 ghost use Rattle.edf_fragment.specs.Sound.{AreSound};
 ghost use Rattle.edf_fragment.specs.Reading.{ReadsHeader, IsOpenFault, IsAnswer, at_first};
 ghost use Rattle.edf_fragment.specs.Whole.{HasRead, ReadsFragment, IsFragmentFault};
@@ -31,6 +32,12 @@ pub fn one_fault()
         IsFirstFault bytes fault → IsFirstFault bytes other → fault ≡ other }
 {}
 
+/// Each list of bytes tells one thing: a key with its data records, or a first fault.
+pub fn each_tells_one()
+    ensures some { (bytes : List ℕ) → (told : Told) × Tells bytes told }
+    ensures one { (bytes : List ℕ) (told other : Told) → Tells bytes told → Tells bytes other → told ≡ other }
+{}
+
 /// What bytes that spell a fragment give it: a key that headers name, with a duration above 0; and 1 to 99,999,999 data
 /// records that lie in the window, at least a duration apart, and keep the limits.
 pub fn records_are_sound()
@@ -42,11 +49,6 @@ pub fn records_are_sound()
         Spells bytes key records → length records ≤ 99_999_999 }
     ensures sound { (bytes : List ℕ) (key : Key) (records : List DataRecord) →
         Spells bytes key records → AreSound key 0 records }
-{}
-
-/// The duration of a key lasts.
-pub fn keys_last()
-    ensures { (key : Key) → IsKey key → 0 < duration_of key.duration }
 {}
 
 /// The data records that were read so far are sound under a key that headers name; and they are the first of those that all

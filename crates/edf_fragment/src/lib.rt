@@ -4,7 +4,8 @@
 //! Each reads no byte that it isn't asked for, and tells the first fault of the bytes by its number and place.
 //! `Input` and `Output` are readers and writers whose contracts also count the calls that failed, so that a refusal for
 //! a failed read or write is told only where one failed; `Counted` makes one of any reader or writer of std.
-//! The laws say that bytes spell one fragment at most, or have one first fault at most, and never both.
+//! The laws say that each list of bytes spells one fragment or has one first fault, and never both; and that what is read record
+//! by record is what they say of the whole.
 #![tactic(auto)]
 
 mod advance;
@@ -22,7 +23,7 @@ mod whole;
 
 pub use fault::FragmentFault;
 pub use laws::{
-    answers_join, keys_last, known_bytes, no_fault_where_spelled, one_fault, one_fragment,
+    answers_join, each_tells_one, known_bytes, no_fault_where_spelled, one_fault, one_fragment,
     records_are_sound, records_so_far,
 };
 pub use open_fragment::OpenFragment;
