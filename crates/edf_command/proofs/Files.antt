@@ -69,13 +69,16 @@ canonical file k r rs is-key are count laid =
     } in
     (subst (λ (x : List ℕ). Spells x k (r ∷ rs)) (sym parts) spells, laid)
 
-pub one-file : (a b : List ℕ) (k : Key) (rs : List DataRecord) → IsCanonicalFile a k rs → IsCanonicalFile b k rs → a ≡ b
-one-file a b k [] x y = absurd x
-one-file a b k (r ∷ rs) (sa, x) (sb, y) =
+pub one-laid-out : (a b : List ℕ) (k : Key) (first : DataRecord) (rs : List DataRecord) → IsLaidOut a k first rs → IsLaidOut b k first rs → a ≡ b
+one-laid-out a b k first rs x y =
     let low : x.samples ≤ y.samples = x.least y.samples y.holds in
     let high : y.samples ≤ x.samples = y.least x.samples x.holds in
     let same : y.samples ≡ x.samples = omega arith in
-    let other : IsExportHeader y.header k r.start (length (r ∷ rs)) x.samples = subst (λ (n : ℕ). IsExportHeader y.header k r.start (length (r ∷ rs)) n) same y.is_header in
-    let headers : x.header ≡ y.header = one-export x.header y.header k r.start (length (r ∷ rs)) x.samples x.is_header other in
-    x.parts ∙ ap (λ (h : List ℕ). h ++ flat_map (record_text (second_of r.start) (2 * x.samples)) (r ∷ rs)) headers
-    ∙ ap (λ n. y.header ++ flat_map (record_text (second_of r.start) (2 * n)) (r ∷ rs)) (sym same) ∙ sym y.parts
+    let other : IsExportHeader y.header k first.start (length rs) x.samples = subst (λ (n : ℕ). IsExportHeader y.header k first.start (length rs) n) same y.is_header in
+    let headers : x.header ≡ y.header = one-export x.header y.header k first.start (length rs) x.samples x.is_header other in
+    x.parts ∙ ap (λ (h : List ℕ). h ++ flat_map (record_text (second_of first.start) (2 * x.samples)) rs) headers
+    ∙ ap (λ n. y.header ++ flat_map (record_text (second_of first.start) (2 * n)) rs) (sym same) ∙ sym y.parts
+
+pub one-file : (a b : List ℕ) (k : Key) (rs : List DataRecord) → IsCanonicalFile a k rs → IsCanonicalFile b k rs → a ≡ b
+one-file a b k [] x y = absurd x
+one-file a b k (r ∷ rs) (sa, x) (sb, y) = one-laid-out a b k r (r ∷ rs) x y

@@ -24,16 +24,16 @@ pub record Writes (before after : Buffered) (bytes left : List ℕ) : Type 0 whe
   pub parts : before.held ++ bytes ≡ front ++ left
 
 -- a write failed where one is told, and none failed before another end
-abbrev pub CountsFault : ℕ → ℕ → OutputFault → Type 0
-CountsFault old new Write = new ≡ one_more old
-CountsFault old new Memory = new ≡ old
+abbrev pub CountsOutputFault : ℕ → ℕ → OutputFault → Type 0
+CountsOutputFault old new Write = new ≡ one_more old
+CountsOutputFault old new Memory = new ≡ old
 
 -- the bytes were put: written, or held back; or a front was written before the fault
 abbrev pub IsPut : Buffered → Buffered → List ℕ → Result Unit OutputFault → Type 0
 IsPut before after bytes result =
     MatchResult result
     (λ _. Writes before after bytes after.held × (after.failures ≡ before.failures))
-    (λ fault. ((left : List ℕ) × Writes before after bytes left) × CountsFault before.failures after.failures fault)
+    (λ fault. ((left : List ℕ) × Writes before after bytes left) × CountsOutputFault before.failures after.failures fault)
 
 -- all that was held back is written; or a front of it
 abbrev pub IsFlushed : Buffered → Buffered → Result Unit OutputFault → Type 0
@@ -64,7 +64,7 @@ abbrev pub IsSent : Option (List ℕ) → Option (List ℕ) → ℕ → ℕ → 
 IsSent before after failed_before failed_after bytes result =
     MatchResult result
     (λ _. Appends before after bytes × (failed_after ≡ failed_before))
-    (λ fault. WritesFront before after bytes × CountsFault failed_before failed_after fault)
+    (λ fault. WritesFront before after bytes × CountsOutputFault failed_before failed_after fault)
 
 -- a front of the file of the records was written
 abbrev pub IsFileBegun : Option (List ℕ) → Option (List ℕ) → Key → List DataRecord → Type 0
@@ -75,4 +75,4 @@ abbrev pub IsWritten : Option (List ℕ) → Option (List ℕ) → ℕ → ℕ �
 IsWritten before after failed_before failed_after k records result =
     MatchResult result
     (λ len. IsFileWritten before after k records len × (failed_after ≡ failed_before))
-    (λ fault. IsFileBegun before after k records × CountsFault failed_before failed_after fault)
+    (λ fault. IsFileBegun before after k records × CountsOutputFault failed_before failed_after fault)
