@@ -1,29 +1,22 @@
--- What is written of a fragment's records is their canonical file, and no other bytes are.
+-- What is written of sound records is their canonical file, and no other bytes are.
 use Rattle.std.proofs.Common.{◌≡◌, ℕ, ◌+◌, ◌*◌, ◌^◌, ◌≤◌, ◌<◌, List, [], ◌∷◌, ◌++◌, length, refl, sym, ap, ◌∙◌, subst, arith, All}
 use Rattle.std.specs.List.{flat_map}
 use Rattle.std.proofs.lemmas.List.Elements.{All-head, All-cons, All-nil}
 use Rattle.edf_header.specs.Spelled.{spelled_layout}
-use Rattle.edf_header.specs.Header.{IsLayout}
-use Rattle.edf_header.proofs.Headers.{header-layout}
-use Rattle.edf_header.proofs.FixedLaws.{is-fixed}
-use Rattle.edf_header.proofs.ExportOne.{one-export}
-use Rattle.edf_header.proofs.ExportHeader.{export-reads}
+use Rattle.edf_header.proofs.Cited.{one-export}
+use Rattle.edf_header.proofs.Cited.{export-reads}
 use Rattle.edf_command.proofs.BlockLength.{block-length}
 use Rattle.edf_time.specs.Civil.{window}
 use Rattle.edf_field.specs.Number.{duration_of}
 use Rattle.edf_header.specs.Key.{Key, IsKey}
-use Rattle.edf_header.specs.Header.{HeaderRecord, Layout, layout_of, IsHeader}
+use Rattle.edf_header.specs.Header.{Layout}
 use Rattle.edf_header.specs.Canonical.{IsExportHeader}
 use Rattle.edf_tal.specs.declared.place.Place.TheVariants.{First}
 use Rattle.edf_fragment.specs.Fragment.{DataRecord, AreDataRecords, Spells}
 use Rattle.edf_command.specs.File.{second_of, block_of, record_text, IsLaidOut, IsCanonicalFile}
 use Rattle.edf_command.proofs.Records.{records-read}
-use Rattle.edf_command.specs.Sound.{AreSound}
-use Rattle.edf_command.proofs.Exported.{IsExportLayout, are-sound, are-readable}
-
--- what a header says is within the bounds of an export
-header-bounds : (bytes : List ℕ) (h : HeaderRecord) (rest : List ℕ) → IsHeader bytes h rest → IsLayout (layout_of h)
-header-bounds bytes h rest is = header-layout is.second h (is-fixed is.first h.fixed is.fixed) is.signals
+use Rattle.edf_fragment.specs.Sound.{AreSound}
+use Rattle.edf_command.proofs.Exported.{IsExportLayout, are-readable}
 
 second-of-low : (n : ℕ) → second_of n ≤ n
 second-of-low n = omega arith
@@ -45,9 +38,10 @@ export-layout-is : (k : Key) (start count samples : ℕ) → start < window → 
 export-layout-is k start count samples lt =
     record { start = refl; in_window = omega (arith, second-of-low start); block_at = refl; block_bytes = refl; record_bytes = omega arith }
 
-pub canonical : (bytes file : List ℕ) (k : Key) (r : DataRecord) (rs : List DataRecord) → Spells bytes k (r ∷ rs) → IsLaidOut file k r (r ∷ rs)
+-- what is laid out so is read again, and so is the records' file
+pub canonical : (file : List ℕ) (k : Key) (r : DataRecord) (rs : List DataRecord) → IsKey k → AreSound k 0 (r ∷ rs) → length (r ∷ rs) ≤ 99_999_999 → IsLaidOut file k r (r ∷ rs)
     → IsCanonicalFile file k (r ∷ rs)
-canonical bytes file k r rs s laid =
+canonical file k r rs is-key are count laid =
     let samples = laid.samples in
     let header = laid.header in
     let is-header = laid.is_header in
@@ -55,16 +49,13 @@ canonical bytes file k r rs s laid =
     let least = laid.least in
     let parts = laid.parts in
     let base = second_of r.start in
-    let bounded = header-bounds bytes s.header s.rest s.is_header in
-    let is-key : IsKey k = subst IsKey (sym s.key) bounded.key in
-    let are : AreSound k 0 (r ∷ rs) = subst (λ (x : Key). AreSound x 0 (r ∷ rs)) (sym s.key) (are-sound s.header First s.rest (r ∷ rs) s.last [] s.are_records) in
     let in-window : r.start < window = are.0.start in
     let base-in : second_of r.start < window = omega (arith, second-of-low r.start) in
     let few : samples ≤ 725_023 = least 725_023 (all-bounded k 0 base (r ∷ rs) base-in are) in
     let some : 1 ≤ samples = some-samples base samples r (All-head (λ x. length (block_of base x) ≤ 2 * samples) r rs holds) in
     let body = flat_map (record_text base (2 * samples)) (r ∷ rs) in
     let l = spelled_layout k (second_of r.start) (length (r ∷ rs)) samples in
-    let again = export-reads header k r.start (length (r ∷ rs)) samples is-key (omega arith) (omega (arith, s.count, bounded.few)) some (omega arith) is-header in
+    let again = export-reads header k r.start (length (r ∷ rs)) samples is-key (omega arith) (count) some (omega arith) is-header in
     let read = records-read l First base (2 * samples) (r ∷ rs)
     (are-readable l base (2 * samples) 0 r rs (export-layout-is k r.start (length (r ∷ rs)) samples in-window) are (second-of-low r.start, second-of-high r.start) holds) in
     let spells : Spells (header ++ body) k (r ∷ rs) = record {
@@ -78,13 +69,16 @@ canonical bytes file k r rs s laid =
     } in
     (subst (λ (x : List ℕ). Spells x k (r ∷ rs)) (sym parts) spells, laid)
 
-pub one-file : (a b : List ℕ) (k : Key) (rs : List DataRecord) → IsCanonicalFile a k rs → IsCanonicalFile b k rs → a ≡ b
-one-file a b k [] x y = absurd x
-one-file a b k (r ∷ rs) (sa, x) (sb, y) =
+pub one-laid-out : (a b : List ℕ) (k : Key) (first : DataRecord) (rs : List DataRecord) → IsLaidOut a k first rs → IsLaidOut b k first rs → a ≡ b
+one-laid-out a b k first rs x y =
     let low : x.samples ≤ y.samples = x.least y.samples y.holds in
     let high : y.samples ≤ x.samples = y.least x.samples x.holds in
     let same : y.samples ≡ x.samples = omega arith in
-    let other : IsExportHeader y.header k r.start (length (r ∷ rs)) x.samples = subst (λ (n : ℕ). IsExportHeader y.header k r.start (length (r ∷ rs)) n) same y.is_header in
-    let headers : x.header ≡ y.header = one-export x.header y.header k r.start (length (r ∷ rs)) x.samples x.is_header other in
-    x.parts ∙ ap (λ (h : List ℕ). h ++ flat_map (record_text (second_of r.start) (2 * x.samples)) (r ∷ rs)) headers
-    ∙ ap (λ n. y.header ++ flat_map (record_text (second_of r.start) (2 * n)) (r ∷ rs)) (sym same) ∙ sym y.parts
+    let other : IsExportHeader y.header k first.start (length rs) x.samples = subst (λ (n : ℕ). IsExportHeader y.header k first.start (length rs) n) same y.is_header in
+    let headers : x.header ≡ y.header = one-export x.header y.header k first.start (length rs) x.samples x.is_header other in
+    x.parts ∙ ap (λ (h : List ℕ). h ++ flat_map (record_text (second_of first.start) (2 * x.samples)) rs) headers
+    ∙ ap (λ n. y.header ++ flat_map (record_text (second_of first.start) (2 * n)) rs) (sym same) ∙ sym y.parts
+
+pub one-file : (a b : List ℕ) (k : Key) (rs : List DataRecord) → IsCanonicalFile a k rs → IsCanonicalFile b k rs → a ≡ b
+one-file a b k [] x y = absurd x
+one-file a b k (r ∷ rs) (sa, x) (sb, y) = one-laid-out a b k r (r ∷ rs) x y

@@ -3,5 +3,6 @@ pub mod Exported
 pub mod BlockLength
 pub mod Files
 pub mod Longest
+pub mod Puts
 pub mod Written
 pub mod Conversions

@@ -1,11 +1,11 @@
 -- The records of an export are read again as they were.
-use Rattle.std.proofs.Common.{◌≡◌, ℕ, ◌+◌, ◌-◌, ◌≤◌, List, [], ◌∷◌, ◌++◌, length, take, drop, refl, sym, ap, ◌∙◌, subst, arith, length-append, replicate}
+use Rattle.std.proofs.Common.{◌≡◌, ℕ, zero, suc, ◌+◌, ◌-◌, ◌≤◌, ◌<◌, List, get_or, append_assoc, [], ◌∷◌, ◌++◌, length, take, drop, refl, sym, ap, ◌∙◌, subst, arith, length-append, replicate}
 use Rattle.std.proofs.lemmas.List.{take_at, drop_at, take_all, drop_all, length-replicate, append-nil}
 use Rattle.std.specs.List.{flat_map}
 use Rattle.edf_header.specs.Header.{Layout}
 use Rattle.edf_tal.specs.Block.{IsRead}
 use Rattle.edf_tal.specs.declared.place.Place.{Place}
-use Rattle.edf_fragment.specs.Fragment.{DataRecord, IsDataRecord, AreDataRecords, block, ordinary_bytes, behind}
+use Rattle.edf_fragment.specs.Fragment.{DataRecord, IsDataRecord, AreDataRecords, block, ordinary_bytes, place_behind}
 use Rattle.edf_command.specs.File.{block_of, record_text}
 
 -- samples and then a block of the layout's size
@@ -37,11 +37,27 @@ record-read l place base size r at is-size whole fits read =
 -- each record, at its place, is read from its text
 abbrev pub AreReadable : Layout → Place → ℕ → ℕ → List DataRecord → Type 0
 AreReadable l place base size [] = Unit {0}
-AreReadable l place base size (r ∷ rs) = IsDataRecord l place (record_text base size r) r × AreReadable l (behind l r.start) base size rs
+AreReadable l place base size (r ∷ rs) = IsDataRecord l place (record_text base size r) r × AreReadable l (place_behind l r.start) base size rs
 
 pub records-read : (l : Layout) (place : Place) (base size : ℕ) (rs : List DataRecord) → AreReadable l place base size rs
     → (last : Place) × AreDataRecords l place (flat_map (record_text base size) rs) rs last []
 records-read l place base size [] each = (place, (refl, refl))
 records-read l place base size (r ∷ rs) each =
-    let rest = records-read l (behind l r.start) base size rs each.1 in
+    let rest = records-read l (place_behind l r.start) base size rs each.1 in
     (rest.0, (record_text base size r, flat_map (record_text base size) rs, refl, each.0, rest.1))
+
+-- the texts of the records so far, and of one more
+texts-more : (base size : ℕ) (rs : List DataRecord) (i : ℕ) (r : DataRecord) → i < length rs → r ≡ get_or rs i r
+    → flat_map (record_text base size) (take i rs) ++ record_text base size r ≡ flat_map (record_text base size) (take (suc i) rs)
+texts-more base size [] i r low is = absurd (omega arith)
+texts-more base size (x ∷ rs) zero r low is =
+    ap (λ (y : DataRecord). record_text base size y) is ∙ sym (append-nil (record_text base size x))
+texts-more base size (x ∷ rs) (suc i) r low is =
+    append_assoc (record_text base size x) (flat_map (record_text base size) (take i rs)) (record_text base size r)
+    ∙ ap (λ (l : List ℕ). record_text base size x ++ l) (texts-more base size rs i r (omega arith) is)
+
+pub one-more-text : (base size : ℕ) (rs : List DataRecord) (i : ℕ) (r : DataRecord) → i < length rs → r ≡ get_or rs i r
+    → flat_map (record_text base size) (take i rs) ++ record_text base size r ≡ flat_map (record_text base size) (take (i + 1) rs)
+one-more-text base size rs i r low is =
+    let next : suc i ≡ i + 1 = omega arith in
+    texts-more base size rs i r low is ∙ ap (λ (n : ℕ). flat_map (record_text base size) (take n rs)) next

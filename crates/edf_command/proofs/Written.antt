@@ -1,18 +1,19 @@
 -- The file of some records, put out piece by piece.
-use Rattle.std.proofs.Common.{◌≡◌, ℕ, ◌+◌, ◌-◌, ◌*◌, ◌≤◌, ◌<◌, List, [], ◌∷◌, ◌++◌, length, get_or, refl, ap, ◌∙◌, subst, arith, length-append, All, replicate}
+use Rattle.std.proofs.Common.{◌≡◌, ℕ, ◌+◌, ◌-◌, ◌*◌, ◌≤◌, ◌<◌, List, [], ◌∷◌, ◌++◌, length, get_or, refl, sym, ap, ◌∙◌, subst, arith, length-append, All, replicate}
 use Rattle.std.specs.List.{flat_map}
 use Rattle.std.proofs.lemmas.List.Elements.{All-head, All-tail, All-cons, All-nil}
 use Rattle.edf_header.specs.Key.{Key}
 use Rattle.edf_header.specs.Signal.{samples_in_all}
-use Rattle.edf_header.proofs.Strides.{length-parts}
+use Rattle.edf_header.proofs.Cited.{length-parts}
 use Rattle.edf_fragment.specs.Fragment.{DataRecord}
 use Rattle.edf_header.specs.Canonical.{IsExportHeader}
-use Rattle.edf_command.specs.File.{second_of, block_of, record_text, Hold}
-use Rattle.edf_command.specs.Output.{IsFileWritten}
+use Rattle.edf_command.specs.File.{second_of, block_of, record_text, Hold, IsLaidOut, IsCanonicalFile}
+use Rattle.edf_command.specs.Inside.Output.{IsFileWritten, WritesFront, IsFileBegun}
+use Rattle.edf_command.proofs.Files.{one-laid-out}
 use Rattle.edf_command.proofs.Records.{length-filled}
-use Rattle.std.specs.Prelude.{Option, None, Some}
-use Rattle.std.specs.Io.KnownBytes.{Appends, append_known}
-use Rattle.std.proofs.lemmas.List.{append-nil}
+use Rattle.std.specs.Prelude.{Option}
+use Rattle.std.specs.Io.KnownBytes.{Appends}
+use Rattle.std.proofs.KnownBytes.{Appends-nil}
 
 -- every record's text has the samples' bytes and the block's
 text-lengths : (base size bytes : ℕ) (rs : List DataRecord) → All (λ r. length r.samples ≡ bytes) rs → All (λ r. length (block_of base r) ≤ size) rs
@@ -35,35 +36,49 @@ pub first-of : (rs : List DataRecord) (d : DataRecord) → 0 < length rs → (ot
 first-of [] d some = absurd (omega arith)
 first-of (r ∷ rs) d some = (rs, refl)
 
--- from an empty buffer, through it, and out of it
-pub put-and-flushed : (before middle after : Option (List ℕ)) (held bytes : List ℕ) → Appends (append_known before []) (append_known middle held) bytes
-    → Appends middle after held → Appends before after bytes
-put-and-flushed None middle after held bytes put flushed = tt
-put-and-flushed (Some x) None after held bytes put flushed = absurd put
-put-and-flushed (Some x) (Some y) None held bytes put flushed = absurd flushed
-put-and-flushed (Some x) (Some y) (Some z) held bytes put flushed = flushed ∙ put ∙ ap (λ (l : List ℕ). l ++ bytes) (append-nil x)
-
-pub written : (before after : Option (List ℕ)) (k : Key) (records : List DataRecord) (first : DataRecord) (others : List DataRecord) (base start samples ordinary : ℕ)
-    (header : List ℕ) → records ≡ first ∷ others → start ≡ first.start → base ≡ second_of first.start
+-- what is put out is laid out as the records' file
+pub laid-out : (k : Key) (records : List DataRecord) (first : DataRecord) (base start samples : ℕ) (header : List ℕ) → start ≡ first.start → base ≡ second_of first.start
     → IsExportHeader header k start (length records) samples → Hold base samples records → ((fewer : ℕ) → Hold base fewer records → samples ≤ fewer)
+    → IsLaidOut (header ++ flat_map (record_text base (2 * samples)) records) k first records
+laid-out k records first base start samples header start-is base-is is-header holds least = record {
+  samples = samples;
+  header = header;
+  is_header = subst (λ (n : ℕ). IsExportHeader header k n (length records) samples) start-is is-header;
+  holds = subst (λ (n : ℕ). Hold n samples records) base-is holds;
+  least = subst (λ (n : ℕ). (fewer : ℕ) → Hold n fewer records → samples ≤ fewer) base-is least;
+  parts = ap (λ (n : ℕ). header ++ flat_map (record_text n (2 * samples)) records) base-is;
+}
+
+pub written : (before after : Option (List ℕ)) (k : Key) (records : List DataRecord) (first : DataRecord) (others : List DataRecord) (base samples ordinary : ℕ)
+    (header : List ℕ) → records ≡ first ∷ others → IsLaidOut (header ++ flat_map (record_text base (2 * samples)) records) k first records → Hold base samples records
     → All (λ r. length r.samples ≡ 2 * samples_in_all k.signals) records → ordinary ≡ 2 * samples_in_all k.signals
     → Appends before after (header ++ flat_map (record_text base (2 * samples)) records)
     → IsFileWritten before after k records (length header + length records * (ordinary + 2 * samples))
-written before after k records first others base start samples ordinary header records-are start-is base-is is-header holds least sizes ordinary-is wrote =
+written before after k records first others base samples ordinary header records-are laid holds sizes ordinary-is wrote =
     record {
       file = header ++ flat_map (record_text base (2 * samples)) records;
       first = first;
       others = others;
       records_are = records-are;
-      laid_out = record {
-        samples = samples;
-        header = header;
-        is_header = subst (λ (n : ℕ). IsExportHeader header k n (length records) samples) start-is is-header;
-        holds = subst (λ (n : ℕ). Hold n samples records) base-is holds;
-        least = subst (λ (n : ℕ). (fewer : ℕ) → Hold n fewer records → samples ≤ fewer) base-is least;
-        parts = ap (λ (n : ℕ). header ++ flat_map (record_text n (2 * samples)) records) base-is;
-      };
+      laid_out = laid;
       wrote = wrote;
       len_is = ap (λ n. length header + length records * (n + 2 * samples)) ordinary-is
           ∙ file-length header base (2 * samples) (2 * samples_in_all k.signals) records sizes holds;
     }
+
+-- nothing was written yet
+pub none-begun : (known : Option (List ℕ)) (k : Key) (records : List DataRecord) → IsFileBegun known known k records
+none-begun known k records = λ file first others are laid. record { front = []; left = file; parts = refl; wrote = Appends-nil known }
+
+-- a front of a text that is laid out as the records' file
+pub begun : (before after : Option (List ℕ)) (k : Key) (records : List DataRecord) (first : DataRecord) (others : List DataRecord) (text : List ℕ) → records ≡ first ∷ others
+    → IsLaidOut text k first records → WritesFront before after text → IsFileBegun before after k records
+begun before after k records first others text are laid w = λ file one more is other.
+    let same : one ≡ first = ap (λ (rs : List DataRecord). get_or rs 0 one) (sym is ∙ are) in
+    subst (λ (b : List ℕ). WritesFront before after b) (one-laid-out text file k first records laid (subst (λ (x : DataRecord). IsLaidOut file k x records) same other)) w
+
+-- of the records' file, whichever it is
+pub front-of-file : (before after : Option (List ℕ)) (k : Key) (records : List DataRecord) → IsFileBegun before after k records → (file : List ℕ) → IsCanonicalFile file k records
+    → (front : List ℕ) × (back : List ℕ) × (file ≡ front ++ back) × Appends before after front
+front-of-file before after k [] b file is = absurd is
+front-of-file before after k (r ∷ rs) b file is = let w = b file r rs refl is.1 in (w.front, w.left, w.parts, w.wrote)

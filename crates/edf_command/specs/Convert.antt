@@ -1,10 +1,13 @@
 -- What converting one file does: what it reads of its input, and what it writes.
-use Rattle.std.specs.Prelude.{◌≡◌, ℕ, List, Option, length, IfSome}
+use Rattle.std.specs.Prelude.{◌≡◌, ℕ, ◌++◌, ◌⊎◌, List, Option, length, IfSome}
 use Rattle.std.specs.Io.KnownBytes.{Consumes, IsAtEnd, Appends, Keeps}
 use Rattle.edf_header.specs.Key.{Key}
+use Rattle.edf_header.specs.Header.{Layout}
 use Rattle.edf_fragment.specs.Failures.{one_more}
 use Rattle.edf_fragment.specs.Fragment.{DataRecord, Spells}
-use Rattle.edf_fragment.specs.Fault.{IsFirstFault, number as fragment_number}
+use Rattle.edf_fragment.specs.Fault.{fragment_fault_number}
+use Rattle.edf_fragment.specs.Reading.{CountsFault}
+use Rattle.edf_fragment.specs.Whole.{ReadsFragment, IsFragmentFault}
 use Rattle.edf_fragment.specs.declared.fault.FragmentFault.{FragmentFault}
 use Rattle.edf_fragment.specs.declared.fault.FragmentFault.TheVariants.{Read, Memory as NoMemory}
 use Rattle.edf_command.specs.File.{IsCanonicalFile}
@@ -25,16 +28,11 @@ pub record IsConverted (left rest before after : Option (List ℕ)) (len : ℕ) 
   pub wrote : Appends before after file
   pub len_is : len ≡ length file
 
--- where a fault other than a failed read is told of the input's form, it is the input's first, and the input spells nothing
-pub record IsFormFault (left : Option (List ℕ)) (fault : FragmentFault) : Type 0 where
-  pub first : IfSome left (λ all. IsFirstFault all fault)
-  pub none : IfSome left (λ all. (k : Key) (records : List DataRecord) → ¬ Spells all k records)
-
 -- the number of a fault, by which the program names it
-abbrev pub number : ConvertFault → ℕ
-number (Form fault) = fragment_number fault
-number Memory = 41
-number Write = 43
+abbrev pub convert_fault_number : ConvertFault → ℕ
+convert_fault_number (Form fault) = fragment_fault_number fault
+convert_fault_number Memory = 41
+convert_fault_number Write = 43
 
 -- want of memory is told as such, and any other fault as one of the input
 abbrev pub refusal_of : FragmentFault → ConvertFault
@@ -46,13 +44,32 @@ pub record Counts : Type 0 where
   pub reads : ℕ
   pub writes : ℕ
 
--- what a fault of the form says: a read failed, or the form is faulty
-abbrev pub IsReadOrForm : Option (List ℕ) → Counts → Counts → FragmentFault → Type 0
-IsReadOrForm left old new Read = new.reads ≡ one_more old.reads
-IsReadOrForm left old new fault = IsFormFault left fault × (new.reads ≡ old.reads)
+-- where a fault is one of the form, the input spells nothing
+abbrev pub SpellsNothing : Option (List ℕ) → FragmentFault → Type 0
+SpellsNothing left Read = Unit {0}
+SpellsNothing left NoMemory = Unit {0}
+SpellsNothing left fault = IfSome left (λ all. (k : Key) (records : List DataRecord) → ¬ Spells all k records)
 
--- a refused conversion: nothing was written before the form was found good, and a write failed where one is told
-abbrev pub IsNotConverted : Option (List ℕ) → Option (List ℕ) → Option (List ℕ) → Counts → Counts → ConvertFault → Type 0
-IsNotConverted left before after old new (Form fault) = Keeps before after × (new.writes ≡ old.writes) × IsReadOrForm left old new fault
-IsNotConverted left before after old new Memory = new ≡ old
-IsNotConverted left before after old new Write = (new.reads ≡ old.reads) × (new.writes ≡ one_more old.writes)
+-- the input gives no fragment, of which nothing was read behind the fault; and nothing was written
+pub record RefusesInput (left rest before after : Option (List ℕ)) (old new : Counts) (fault : FragmentFault) : Type 0 where
+  pub is_fault : IsFragmentFault left rest fault
+  pub none : SpellsNothing left fault
+  pub kept : Keeps before after
+  pub reads : CountsFault old.reads new.reads fault
+  pub writes : new.writes ≡ old.writes
+
+-- the whole input spells a fragment, and a front of its canonical file was written, whichever bytes these are
+pub record StopsWriting (left rest before after : Option (List ℕ)) : Type 0 where
+  pub layout : Layout
+  pub records : List DataRecord
+  pub read : ReadsFragment left rest layout records
+  pub wrote : (file : List ℕ) → IsCanonicalFile file layout.key records → (front : List ℕ) × (back : List ℕ) × (file ≡ front ++ back) × Appends before after front
+
+-- a refused conversion: nothing was written before the form was found good; memory ran out while it was read or while the
+-- file was written; a write failed where one is told
+abbrev pub IsNotConverted : Option (List ℕ) → Option (List ℕ) → Option (List ℕ) → Option (List ℕ) → Counts → Counts → ConvertFault → Type 0
+IsNotConverted left rest before after old new (Form fault) = RefusesInput left rest before after old new fault
+IsNotConverted left rest before after old new Memory =
+    RefusesInput left rest before after old new NoMemory ⊎ (StopsWriting left rest before after × (new ≡ old))
+IsNotConverted left rest before after old new Write =
+    StopsWriting left rest before after × (new.reads ≡ old.reads) × (new.writes ≡ one_more old.writes)

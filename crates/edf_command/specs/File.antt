@@ -14,10 +14,13 @@ second_of instant = instant / 10 ^ 9 * 10 ^ 9
 abbrev pub block_of : ℕ → DataRecord → List ℕ
 block_of file_start r = block_text file_start r.start r.annotations
 
--- a record: its ordinary samples, then its block, which zeros fill
+-- the block, and zeros behind it up to this size
+abbrev pub filled_block : ℕ → ℕ → DataRecord → List ℕ
+filled_block file_start size r = block_of file_start r ++ replicate (size - length (block_of file_start r)) 0
+
+-- a record: its ordinary samples, then its filled block
 abbrev pub record_text : ℕ → ℕ → DataRecord → List ℕ
-record_text file_start size r =
-    r.samples ++ (block_of file_start r ++ replicate (size - length (block_of file_start r)) 0)
+record_text file_start size r = r.samples ++ filled_block file_start size r
 
 -- so many samples, two bytes each, hold the block of every record
 abbrev pub Hold : ℕ → ℕ → List DataRecord → Type 0

@@ -19,11 +19,11 @@ pub enum ConvertFault {
 
 impl ConvertFault {
     ghost use Rattle.std.specs.Prelude.{◌≡◌};
-    ghost use Rattle.edf_command.specs.Convert.{number};
+    ghost use Rattle.edf_command.specs.Convert.{convert_fault_number};
 
     /// The refusal's number.
     pub fn number(&self) -> u8
-        ensures { result ≡ number self.now }
+        ensures { result ≡ convert_fault_number self.now }
     {
         match self {
             ConvertFault::Form(fault) => fault.number(),

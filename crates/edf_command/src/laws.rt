@@ -4,12 +4,6 @@ ghost use Rattle.std.specs.Prelude.{◌≡◌, ℕ, List};
 ghost use Rattle.edf_header.specs.Key.{Key};
 ghost use Rattle.edf_fragment.specs.Fragment.{DataRecord, Spells};
 ghost use Rattle.edf_command.specs.File.{IsCanonicalFile};
-ghost use Rattle.edf_command.specs.Sound.{AreSound};
-
-/// The data records of a fragment lie in the window, at least a duration apart, and keep the limits.
-pub fn records_are_sound()
-    ensures { (bytes : List ℕ) (key : Key) (records : List DataRecord) → Spells bytes key records → AreSound key 0 records }
-{}
 
 /// Records have one canonical file at most.
 pub fn one_canonical_file()

@@ -10,7 +10,7 @@ use crate::fault::ConvertFault;
 use edf_fragment::{Counted, FragmentFault};
 use edf_header::HeaderFault;
 use edf_tal::TalFault;
-use files::{Header, Q, Q_RECORD, file, patched};
+use files::{Header, Q_RECORD, file, patched, q};
 use std::alloc::{AllocError, Global};
 use std::io;
 use std::process::Abort;
@@ -37,58 +37,72 @@ fn converted(alloc: Global, bytes: &[u8], step: usize) -> (Answer, Vec<u8>) {
 const ZEROS: &[u8] = &[0; 128];
 
 /// Two records of one second, with more samples for annotations than they need and an onset spelled longer than it needs.
-const U: Header = Header {
-    patient: "X X X X",
-    recording: "Startdate 02-MAR-2002 X X X",
-    starttime: "22.00.00",
-    reserved: "EDF+C",
-    count: "2",
-    physical: ["-3276.8", "3276.7"],
-    digital: ["-32768", "32767"],
-    annotations_samples: "57",
-    ..Q
-};
+fn u_header() -> Header {
+    Header {
+        patient: "X X X X",
+        recording: "Startdate 02-MAR-2002 X X X",
+        starttime: "22.00.00",
+        reserved: "EDF+C",
+        count: "2",
+        physical: ["-3276.8", "3276.7"],
+        digital: ["-32768", "32767"],
+        annotations_samples: "57",
+        ..q()
+    }
+}
 
 fn u(alloc: Global) -> Result<Vec<u8>, AllocError> {
     let first = b"\x01\0\x02\0+0\x14\x14\0+0.5000000\x14Lights off\x14\0";
     let second = b"\x03\0\x04\0+1\x14\x14\0";
-    file(alloc, &U, &[first, &ZEROS[..86], second, &ZEROS[..109]])
+    file(
+        alloc,
+        &u_header(),
+        &[first, &ZEROS[..86], second, &ZEROS[..109]],
+    )
 }
 
 /// The header of its canonical file.
-const CANONICAL_U: Header = Header {
-    reserved: "EDF+D",
-    annotations_samples: "11",
-    ..U
-};
+fn canonical_u_header() -> Header {
+    Header {
+        reserved: "EDF+D",
+        annotations_samples: "11",
+        ..u_header()
+    }
+}
 
 fn canonical_u(alloc: Global) -> Result<Vec<u8>, AllocError> {
     let first = b"\x01\0\x02\0+0\x14\x14\0+0.5\x14Lights off\x14\0";
     let second = b"\x03\0\x04\0+1\x14\x14\0";
-    file(alloc, &CANONICAL_U, &[first, second, &ZEROS[..17]])
+    file(alloc, &canonical_u_header(), &[first, second, &ZEROS[..17]])
 }
 
 /// One record that starts a nanosecond before its file's second ends.
-const LATE: Header = Header {
-    annotations_samples: "8",
-    ..Q
-};
+fn late() -> Header {
+    Header {
+        annotations_samples: "8",
+        ..q()
+    }
+}
 
 /// One record in the last second of the window.
-const LAST_SECOND: Header = Header {
-    recording: "Startdate 31-DEC-2084 N1 T3 REC5",
-    startdate: "31.12.84",
-    starttime: "23.59.59",
-    annotations_samples: "4",
-    ..Q
-};
+fn last_second() -> Header {
+    Header {
+        recording: "Startdate 31-DEC-2084 N1 T3 REC5",
+        startdate: "31.12.84",
+        starttime: "23.59.59",
+        annotations_samples: "4",
+        ..q()
+    }
+}
 
 /// One record of an `EDF+C` file with samples to spare for annotations.
-const SPARE: Header = Header {
-    reserved: "EDF+C",
-    annotations_samples: "57",
-    ..Q
-};
+fn spare() -> Header {
+    Header {
+        reserved: "EDF+C",
+        annotations_samples: "57",
+        ..q()
+    }
+}
 
 /// What is written for a file, and how many bytes it has, whatever the pieces in which the file is read.
 fn check(rt: &impl Abort, alloc: Global, bytes: &[u8], wanted: &[u8]) {
@@ -101,10 +115,11 @@ fn check(rt: &impl Abort, alloc: Global, bytes: &[u8], wanted: &[u8]) {
 
 #[test]
 fn a_canonical_file_stays_as_it_is(rt: HostRuntime) -> Result<(), Fail> {
+    let (plain, late, last) = (q(), late(), last_second());
     let rows: [(&Header, &[u8]); 3] = [
-        (&Q, Q_RECORD),
-        (&LATE, b"\x01\0\xff\xff+0.999999999\x14\x14\0\0"),
-        (&LAST_SECOND, b"\x01\0\xff\xff+0.5\x14\x14\0\0"),
+        (&plain, Q_RECORD),
+        (&late, b"\x01\0\xff\xff+0.999999999\x14\x14\0\0"),
+        (&last, b"\x01\0\xff\xff+0.5\x14\x14\0\0"),
     ];
     for (header, record) in rows {
         let bytes = file(rt.alloc(), header, &[record])?;
@@ -117,8 +132,8 @@ fn a_canonical_file_stays_as_it_is(rt: HostRuntime) -> Result<(), Fail> {
 
 #[test]
 fn spare_samples_and_long_numbers_go(rt: HostRuntime) -> Result<(), Fail> {
-    let spare = file(rt.alloc(), &SPARE, &[Q_RECORD, &ZEROS[..108]])?;
-    let q = file(rt.alloc(), &Q, &[Q_RECORD])?;
+    let spare = file(rt.alloc(), &spare(), &[Q_RECORD, &ZEROS[..108]])?;
+    let q = file(rt.alloc(), &q(), &[Q_RECORD])?;
     check(&rt, rt.alloc(), spare.as_slice(), q.as_slice());
     check(
         &rt,
@@ -130,21 +145,25 @@ fn spare_samples_and_long_numbers_go(rt: HostRuntime) -> Result<(), Fail> {
 }
 
 /// Two records, five seconds apart, the annotations signal first.
-const ANNOTATIONS_FIRST: Header = Header {
-    recording: "Startdate 03-MAR-2002 N1 T3 REC5",
-    startdate: "03.03.02",
-    starttime: "00.00.00",
-    count: "2",
-    annotations_samples: "12",
-    annotations_first: true,
-    ..Q
-};
+fn annotations_first() -> Header {
+    Header {
+        recording: "Startdate 03-MAR-2002 N1 T3 REC5",
+        startdate: "03.03.02",
+        starttime: "00.00.00",
+        count: "2",
+        annotations_samples: "12",
+        annotations_first: true,
+        ..q()
+    }
+}
 
-const ANNOTATIONS_LAST: Header = Header {
-    annotations_samples: "14",
-    annotations_first: false,
-    ..ANNOTATIONS_FIRST
-};
+fn annotations_last() -> Header {
+    Header {
+        annotations_samples: "14",
+        annotations_first: false,
+        ..annotations_first()
+    }
+}
 
 #[test]
 fn annotations_move_last_and_stand_alone(rt: HostRuntime) -> Result<(), Fail> {
@@ -161,8 +180,8 @@ fn annotations_move_last_and_stand_alone(rt: HostRuntime) -> Result<(), Fail> {
         &ZEROS[..23],
         alone,
     ];
-    let bytes = file(rt.alloc(), &ANNOTATIONS_FIRST, &given)?;
-    let canonical = file(rt.alloc(), &ANNOTATIONS_LAST, &wanted)?;
+    let bytes = file(rt.alloc(), &annotations_first(), &given)?;
+    let canonical = file(rt.alloc(), &annotations_last(), &wanted)?;
     assert_eq!(rt; canonical.len(), 832);
     check(&rt, rt.alloc(), bytes.as_slice(), canonical.as_slice());
     Ok(())
@@ -177,7 +196,7 @@ fn check_refused(rt: &impl Abort, alloc: Global, bytes: &[u8], fault: FragmentFa
 
 #[test]
 fn a_header_at_fault_is_named(rt: HostRuntime) -> Result<(), Fail> {
-    let q = file(rt.alloc(), &Q, &[Q_RECORD])?;
+    let q = file(rt.alloc(), &q(), &[Q_RECORD])?;
     let rows: [(usize, &[u8], HeaderFault); 18] = [
         (7, b"\x1f", HeaderFault::Unprintable { offset: 7 }),
         (0, b"1", HeaderFault::Version),
@@ -229,38 +248,52 @@ fn a_header_at_fault_is_named(rt: HostRuntime) -> Result<(), Fail> {
     Ok(())
 }
 
-const TWO: Header = Header { count: "2", ..Q };
+fn two() -> Header {
+    Header { count: "2", ..q() }
+}
 
-const THREE: Header = Header { count: "3", ..Q };
+fn three() -> Header {
+    Header { count: "3", ..q() }
+}
 
-const TWO_IN_THE_LAST_SECOND: Header = Header {
-    count: "2",
-    ..LAST_SECOND
-};
+fn two_in_the_last_second() -> Header {
+    Header {
+        count: "2",
+        ..last_second()
+    }
+}
 
-const TWO_CLOSE: Header = Header {
-    annotations_samples: "4",
-    ..TWO
-};
+fn two_close() -> Header {
+    Header {
+        annotations_samples: "4",
+        ..two()
+    }
+}
 
 #[test]
 fn a_record_at_fault_is_named(rt: HostRuntime) -> Result<(), Fail> {
+    let (one, late, close) = (q(), two_in_the_last_second(), two_close());
     let rows: [(&Header, &[u8], u32, TalFault); 4] = [
         (
-            &Q,
+            &one,
             b"\x01\0\xff\xff+0\x14\x14\0\x01",
             1,
             TalFault::Tal { offset: 5 },
         ),
-        (&Q, b"\x01\0\xff\xff+1\x14\x14\0\0", 1, TalFault::FirstOnset),
         (
-            &TWO_IN_THE_LAST_SECOND,
+            &one,
+            b"\x01\0\xff\xff+1\x14\x14\0\0",
+            1,
+            TalFault::FirstOnset,
+        ),
+        (
+            &late,
             b"\x01\0\xff\xff+0.5\x14\x14\0\0\x01\0\xff\xff+1.5\x14\x14\0\0",
             2,
             TalFault::Window,
         ),
         (
-            &TWO_CLOSE,
+            &close,
             b"\x01\0\xff\xff+0\x14\x14\0\0\0\0\x01\0\xff\xff+0.5\x14\x14\0\0",
             2,
             TalFault::Order,
@@ -280,14 +313,14 @@ fn a_record_at_fault_is_named(rt: HostRuntime) -> Result<(), Fail> {
 
 #[test]
 fn a_record_that_is_cut_or_followed_is_named(rt: HostRuntime) -> Result<(), Fail> {
-    let trailing = file(rt.alloc(), &Q, &[Q_RECORD, b"\0"])?;
+    let trailing = file(rt.alloc(), &q(), &[Q_RECORD, b"\0"])?;
     check_refused(
         &rt,
         rt.alloc(),
         trailing.as_slice(),
         FragmentFault::Trailing,
     );
-    let second = file(rt.alloc(), &TWO, &[Q_RECORD, b"\x01\0\xff"])?;
+    let second = file(rt.alloc(), &two(), &[Q_RECORD, b"\x01\0\xff"])?;
     check_refused(
         &rt,
         rt.alloc(),
@@ -295,7 +328,7 @@ fn a_record_that_is_cut_or_followed_is_named(rt: HostRuntime) -> Result<(), Fail
         FragmentFault::CutRecord { nth: 2 },
     );
     let later = b"\x01\0\xff\xff+1\x14\x14\0\0\x01";
-    let third = file(rt.alloc(), &THREE, &[Q_RECORD, later])?;
+    let third = file(rt.alloc(), &three(), &[Q_RECORD, later])?;
     check_refused(
         &rt,
         rt.alloc(),
@@ -318,7 +351,7 @@ fn cut_at(len: usize) -> FragmentFault {
 
 #[test]
 fn a_cut_file_is_refused_where_it_ends(rt: HostRuntime) -> Result<(), Fail> {
-    let bytes = file(rt.alloc(), &Q, &[Q_RECORD])?;
+    let bytes = file(rt.alloc(), &q(), &[Q_RECORD])?;
     for len in 0..bytes.len() {
         let (answer, got) = converted(rt.alloc(), &bytes[..len], 100);
         assert_eq!(rt; answer, Err(ConvertFault::Form(cut_at(len))), "{len} bytes");

@@ -11,8 +11,9 @@ use Rattle.edf_tal.specs.declared.place.TalFault.{TalFault}
 use Rattle.edf_tal.specs.Block.{IsBlockFault}
 use Rattle.edf_fragment.specs.Fragment.{DataRecord, AreDataRecords, block, Spells}
 use Rattle.edf_fragment.specs.Fault.{ReadsUpTo, IsCutRecord, IsRefusedBlock, IsTrailing, IsFirstFault}
-use Rattle.edf_fragment.specs.Reading.{ReadsHeader, ReadsHeaderFault, IsOpenFault, EndsThere, EndsInRecord, RefusesBlock, FindsMore, IsNextFault, IsNext, at_first, progress_after, AnswersIn, IsAnswer, ReadsFragment, IsFragmentFault}
-use Rattle.edf_fragment.specs.Steps.{ReadsRecords, HasRead, FailsBehind}
+use Rattle.edf_fragment.specs.Reading.{ReadsHeader, ReadsHeaderFault, IsOpenFault, EndsThere, EndsInRecord, RefusesBlock, FindsMore, IsNextFault, IsNext, at_first, progress_after, AnswersIn, IsAnswer}
+use Rattle.edf_fragment.specs.Whole.{HasRead, FailsBehind, ReadsFragment, IsFirstWhereKnown, IsFragmentFault}
+use Rattle.edf_fragment.specs.Inside.Steps.{ReadsRecords}
 use Rattle.edf_fragment.specs.declared.progress.Progress.{Progress}
 use Rattle.edf_fragment.specs.declared.progress.Status.{Status}
 use Rattle.edf_fragment.specs.declared.progress.Status.TheVariants.{Reading}
@@ -49,14 +50,14 @@ header_of_all None rest e f = tt
 header_of_all (Some all) None e f = absurd f.read
 header_of_all (Some all) (Some more) e f = subst (λ (x : List ℕ). IsHeaderFault x e) (sym f.read) (IsHeaderFault-more f.bytes more e f.ended f.is_fault)
 
+first_in_header : (left rest : Option (List ℕ)) (e : FragmentFault) → IsOpenFault left rest e → IsFirstWhereKnown left e
+first_in_header left rest (BadHeader e) f = header_of_all left rest e f
+first_in_header left rest Read f = tt
+first_in_header left rest Memory f = tt
+first_in_header left rest e f = absurd f
+
 pub open_refused : (left rest : Option (List ℕ)) (e : FragmentFault) → IsOpenFault left rest e → IsFragmentFault left rest e
-open_refused left rest (BadHeader e) f = record { bytes = f.bytes; read = f.read; is_fault = header_of_all left rest e f }
-open_refused left rest (CutRecord nth) f = absurd f
-open_refused left rest (Tal nth e) f = absurd f
-open_refused left rest Trailing f = absurd f
-open_refused left rest Read f = f
-open_refused left rest Memory f = f
-open_refused left rest Failed f = f
+open_refused left rest e f = record { place = inl f; first = first_in_header left rest e f }
 
 -- ---- a fault behind some data records
 
@@ -120,41 +121,28 @@ more_of_all (Some all) (Some one) (Some two) (Some rest) a b h rs p x y is are g
       more = omega (arith, len);
     }
 
-reads_all : (left mid two rest : Option (List ℕ)) (a b c : List ℕ) → Consumes left mid a → Consumes mid two b → Consumes two rest c → Consumes left rest (a ++ (b ++ c))
-reads_all left mid two rest a b c x y z = Consumes-trans left mid rest a (b ++ c) x (Consumes-trans mid two rest b c y z)
-
 behind_header : (left mid two rest : Option (List ℕ)) (a b : List ℕ) (h : HeaderRecord) (rs : List DataRecord) (p : Progress) (e : FragmentFault) → Consumes left mid a → Consumes mid two b
-    → IsHeader a h [] → AreDataRecords (layout_of h) First b rs p.place [] → p.given ≡ length rs → IsNextFault (layout_of h) p two rest e → IsFragmentFault left rest e
-behind_header left mid two rest a b h rs p (BadHeader e) x y is are given f = absurd f
-behind_header left mid two rest a b h rs p (CutRecord nth) x y is are given f = record {
-  bytes = a ++ (b ++ f.bytes);
-  read = reads_all left mid two rest a b f.bytes x y f.read;
-  is_fault = cut_of_all left mid two rest a b h rs p nth x y is are given f;
-}
-behind_header left mid two rest a b h rs p (Tal nth e) x y is are given f = record {
-  bytes = a ++ (b ++ f.bytes);
-  read = reads_all left mid two rest a b f.bytes x y f.read;
-  is_fault = block_of_all left mid two rest a b h rs p nth e x y is are given f;
-}
-behind_header left mid two rest a b h rs p Trailing x y is are given f = record {
-  bytes = a ++ (b ++ f.byte ∷ []);
-  read = reads_all left mid two rest a b (f.byte ∷ []) x y f.read;
-  is_fault = more_of_all left mid two rest a b h rs p x y is are given f;
-}
-behind_header left mid two rest a b h rs p Read x y is are given (c, f) = (a ++ (b ++ c), reads_all left mid two rest a b c x y f)
-behind_header left mid two rest a b h rs p Memory x y is are given (c, f) = (a ++ (b ++ c), reads_all left mid two rest a b c x y f)
-behind_header left mid two rest a b h rs p Failed x y is are given f = f
+    → IsHeader a h [] → AreDataRecords (layout_of h) First b rs p.place [] → p.given ≡ length rs → IsNextFault (layout_of h) p two rest e → IsFirstWhereKnown left e
+behind_header left mid two rest a b h rs p (CutRecord nth) x y is are given f = cut_of_all left mid two rest a b h rs p nth x y is are given f
+behind_header left mid two rest a b h rs p (Tal nth e) x y is are given f = block_of_all left mid two rest a b h rs p nth e x y is are given f
+behind_header left mid two rest a b h rs p Trailing x y is are given f = more_of_all left mid two rest a b h rs p x y is are given f
+behind_header left mid two rest a b h rs p Read x y is are given f = tt
+behind_header left mid two rest a b h rs p Memory x y is are given f = tt
+behind_header left mid two rest a b h rs p e x y is are given f = absurd f
 
 pub records_refused : (left mid rest : Option (List ℕ)) (l : Layout) (e : FragmentFault) → ReadsHeader left mid l → FailsBehind l mid rest e → IsFragmentFault left rest e
 records_refused left mid rest l e a b =
     let are = subst (λ (x : Layout). AreDataRecords x First b.before.bytes b.records b.progress.place []) a.layout_is b.before.are_records in
     let fault = subst (λ (x : Layout). IsNextFault x b.progress b.mid rest e) a.layout_is b.is_fault in
-    behind_header left mid b.mid rest a.bytes b.before.bytes a.header b.records b.progress e a.read b.before.read a.is_header are b.before.given fault
+    record {
+      place = inr (record { layout = l; mid = mid; header = a; behind = b });
+      first = behind_header left mid b.mid rest a.bytes b.before.bytes a.header b.records b.progress e a.read b.before.read a.is_header are b.before.given fault;
+    }
 
 -- ---- step by step
 
 pub reads_none : (l : Layout) (left : Option (List ℕ)) → HasRead l left left [] at_first
-reads_none l left = record { bytes = []; read = Consumes-nil left; are_records = (refl, refl); given = refl }
+reads_none l left = record { bytes = []; read = Consumes-nil left; are_records = (refl, refl); given = refl; within = omega arith }
 
 reads_end : (l : Layout) (left mid rest : Option (List ℕ)) (rs : List DataRecord) (p : Progress) → HasRead l left mid rs p → EndsThere l p mid rest → ReadsRecords l left rest rs
 reads_end l left mid rest rs p before ends = record {
@@ -197,11 +185,14 @@ fragment_of_all all (Some rest) l rs f =
     let same : all ≡ f.bytes = f.read ∙ ap (λ (x : List ℕ). f.bytes ++ x) f.end ∙ append-nil f.bytes in
     subst (λ (x : List ℕ). Spells x l.key rs) (sym same) f.spells
 
+told_of_all : (all : List ℕ) (e : FragmentFault) → IsFirstWhereKnown (Some all) e → (e ≡ Read) ⊎ ((e ≡ Memory) ⊎ IsFirstFault all e)
+told_of_all all (BadHeader e) f = inr (inr f)
+told_of_all all (CutRecord nth) f = inr (inr f)
+told_of_all all (Tal nth e) f = inr (inr f)
+told_of_all all Trailing f = inr (inr f)
+told_of_all all Read f = inl refl
+told_of_all all Memory f = inr (inl refl)
+told_of_all all Failed f = absurd f
+
 pub fault_of_all : (all : List ℕ) (rest : Option (List ℕ)) (e : FragmentFault) → IsFragmentFault (Some all) rest e → (e ≡ Read) ⊎ ((e ≡ Memory) ⊎ IsFirstFault all e)
-fault_of_all all rest (BadHeader e) f = inr (inr f.is_fault)
-fault_of_all all rest (CutRecord nth) f = inr (inr f.is_fault)
-fault_of_all all rest (Tal nth e) f = inr (inr f.is_fault)
-fault_of_all all rest Trailing f = inr (inr f.is_fault)
-fault_of_all all rest Read f = inl refl
-fault_of_all all rest Memory f = inr (inl refl)
-fault_of_all all rest Failed f = absurd f
+fault_of_all all rest e f = told_of_all all e f.first

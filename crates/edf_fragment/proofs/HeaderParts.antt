@@ -3,14 +3,14 @@ use Rattle.std.proofs.Common.{◌≡◌, ℕ, ◌+◌, ◌*◌, ◌≤◌, ◌<�
 use Rattle.std.proofs.lemmas.List.{take_all, length-take, length-drop, drop-append-le, take-append-le}
 use Rattle.std.specs.Io.KnownBytes.{Consumes, IsAtEnd}
 use Rattle.std.proofs.KnownBytes.{Consumes-trans}
-use Rattle.edf_header.proofs.FixedLaws.{fixed-clean}
+use Rattle.edf_header.proofs.Cited.{fixed-clean}
 use Rattle.edf_field.specs.Number.{field, IsNumber}
 use Rattle.edf_header.specs.Header.{FixedPart, IsFixedHeader, IsHeader, Layout}
-use Rattle.edf_header.specs.Fault.{FixedPartFails, SignalsFail, HasSignals, IsHeaderFault, IsFirst, IsClean, header_fault_number}
+use Rattle.edf_header.specs.Fault.{FixedPartFails, SignalsFail, HasSignals, IsHeaderFault, IsFirst, IsClean, IsSignalsRefusal, header_fault_number}
 use Rattle.edf_header.specs.declared.fault.HeaderFault.{HeaderFault}
 use Rattle.edf_header.specs.declared.fault.HeaderFault.TheVariants.{Cut, Unprintable, Version, Patient, Recording, Startdate, Starttime, DatesDiffer, NotPlus, Count, Duration, Signals, HeaderBytes, CutSignals, UnprintableSignals, Annotations, Physical, Digital, Samples, Size, Memory}
-use Rattle.edf_fragment.specs.Reading.{Reads, ReadsHeader, ReadsHeaderFault, IsOpenFault, CountsAnswer}
-use Rattle.edf_fragment.specs.Steps.{ReadsFixed, ReadsSignals, ReadsSignalsFault, IsSignalsFault}
+use Rattle.edf_fragment.specs.Reading.{ReadsWithin, ReadsInHeader, ReadsHeader, ReadsHeaderFault, IsOpenFault, CountsAnswer}
+use Rattle.edf_fragment.specs.Inside.Steps.{ReadsFixed, ReadsSignals, ReadsSignalsFault, IsSignalsFault}
 use Rattle.edf_fragment.specs.declared.fault.FragmentFault.{FragmentFault}
 use Rattle.edf_fragment.specs.declared.fault.FragmentFault.TheVariants.{Header as BadHeader, CutRecord, Tal, Trailing, Read, Memory as NoMemory, Failed}
 
@@ -67,14 +67,14 @@ second_fault a b f e fixed within first =
     )
 
 -- what is told where memory was wanted
-pub told_memory : (left rest : Option (List ℕ)) (told : FragmentFault) → told ≡ NoMemory → Reads left rest → IsOpenFault left rest told
+pub told_memory : (left rest : Option (List ℕ)) (told : FragmentFault) → told ≡ NoMemory → ReadsInHeader left rest → IsOpenFault left rest told
 told_memory left rest told is reads = subst (IsOpenFault left rest) (sym is) reads
 
 -- the fault of a whole fixed part
 pub told_first : (left rest : Option (List ℕ)) (b : List ℕ) (e : HeaderFault) (told : FragmentFault) → length b ≡ 256 → Consumes left rest b
     → (e ≡ Memory → told ≡ NoMemory) → ((e ≡ Memory → ⊥) → told ≡ BadHeader e)
     → (e ≡ Memory) ⊎ IsFirst (FixedPartFails b) e → IsOpenFault left rest told
-told_first left rest b e told len read memory other (inl is) = told_memory left rest told (memory is) (b, read)
+told_first left rest b e told len read memory other (inl is) = told_memory left rest told (memory is) (record { bytes = b; read = read; within = inl (omega (arith, len)) })
 told_first left rest b e told len read memory other (inr first) =
     let no : e ≡ Memory → ⊥ = λ is. subst (FixedPartFails b) is first.0 in
     let ended : (e ≡ Cut) ⊎ (e ≡ CutSignals) → IsAtEnd rest = elim [
@@ -88,8 +88,8 @@ told_first left rest b e told len read memory other (inr first) =
 pub told_second : (left rest : Option (List ℕ)) (n : ℕ) (b : List ℕ) (e : HeaderFault) (told : FragmentFault) → length b ≤ 256 * n → Consumes left rest b
     → (length b < 256 * n → IsAtEnd rest)
     → (e ≡ Memory → told ≡ NoMemory) → ((e ≡ Memory → ⊥) → told ≡ BadHeader e)
-    → ((e ≡ Memory) × IsClean (SignalsFail b n) 16) ⊎ IsFirst (SignalsFail b n) e → IsSignalsFault left rest n told
-told_second left rest n b e told within read short memory other (inl is) = subst (IsSignalsFault left rest n) (sym (memory is.0)) (b, read)
+    → IsSignalsRefusal b n e → IsSignalsFault left rest n told
+told_second left rest n b e told within read short memory other (inl (is, clean)) = subst (IsSignalsFault left rest n) (sym (memory is)) (record { bytes = b; read = read; within = within })
 told_second left rest n b e told within read short memory other (inr first) =
     let no : e ≡ Memory → ⊥ = λ is. subst (SignalsFail b n) is first.0 in
     let r : ReadsSignalsFault left rest n e =
@@ -122,8 +122,33 @@ count-of a b f n fixed has =
     let is : IsNumber (field a 252 4) n = subst (λ (x : List ℕ). IsNumber x n) there has.0 in
     is.value ∙ sym fixed.signals.value
 
-reads-trans : (left mid rest : Option (List ℕ)) (a : List ℕ) → Consumes left mid a → Reads mid rest → Reads left rest
-reads-trans left mid rest a read (b, more) = (a ++ b, Consumes-trans left mid rest a b read more)
+-- a fixed part counts its signals, whatever follows it
+counts-signals : (a b : List ℕ) (f : FixedPart) → IsFixedHeader a f → HasSignals (a ++ b) f.signal_count
+counts-signals a b f fixed =
+    let there : field (a ++ b) 252 4 ≡ field a 252 4 = field_front a b 252 4 (omega (arith, fixed.len)) in
+    (subst (λ (x : List ℕ). IsNumber x f.signal_count) (sym there) fixed.signals, fixed.signals_from, fixed.signals_to)
+
+-- a header was read
+pub in-header : (left rest : Option (List ℕ)) (l : Layout) → ReadsHeader left rest l → ReadsInHeader left rest
+in-header left rest l h =
+    let i = h.is_header in
+    record {
+      bytes = h.bytes;
+      read = h.read;
+      within = inr (
+        h.header.fixed.signal_count,
+        subst (λ (x : List ℕ). HasSignals x h.header.fixed.signal_count) (sym i.parts) (counts-signals i.first (i.second ++ []) h.header.fixed i.fixed),
+        omega (arith, ap (λ (x : List ℕ). length x) i.parts, length-append i.first (i.second ++ []), length-append {A = ℕ} i.second [], i.fixed.len, i.signals.len),
+      );
+    }
+
+-- the fixed part was read, and some bytes of the signals
+in-signals : (left mid rest : Option (List ℕ)) (f : FixedPart) → ReadsFixed left mid f → ReadsWithin (256 * f.signal_count) mid rest → ReadsInHeader left rest
+in-signals left mid rest f a b = record {
+  bytes = a.bytes ++ b.bytes;
+  read = Consumes-trans left mid rest a.bytes b.bytes a.read b.read;
+  within = inr (f.signal_count, counts-signals a.bytes b.bytes f a.is_fixed, omega (arith, length-append a.bytes b.bytes, a.is_fixed.len, b.within));
+}
 
 -- the fixed part and no signals
 pub header_fault : (left mid rest : Option (List ℕ)) (f : FixedPart) (told : FragmentFault) → ReadsFixed left mid f → IsSignalsFault mid rest f.signal_count told → IsOpenFault left rest told
@@ -146,8 +171,8 @@ header_fault left mid rest f (BadHeader e) a b =
 header_fault left mid rest f (CutRecord nth) a b = b
 header_fault left mid rest f (Tal nth e) a b = b
 header_fault left mid rest f Trailing a b = b
-header_fault left mid rest f Read a b = reads-trans left mid rest a.bytes a.read b
-header_fault left mid rest f NoMemory a b = reads-trans left mid rest a.bytes a.read b
+header_fault left mid rest f Read a b = in-signals left mid rest f a b
+header_fault left mid rest f NoMemory a b = in-signals left mid rest f a b
 header_fault left mid rest f Failed a b = b
 
 -- the answer of the second part, as that of the whole

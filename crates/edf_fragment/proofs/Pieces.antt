@@ -3,15 +3,19 @@ use Rattle.std.proofs.Common.{◌≡◌, ℕ, ◌+◌, ◌≤◌, ◌<◌, List,
 use Rattle.std.specs.Io.KnownBytes.{Consumes}
 use Rattle.std.proofs.KnownBytes.{Consumes-trans}
 use Rattle.edf_header.specs.Header.{Layout}
-use Rattle.edf_tal.specs.Block.{IsRead, IsBlockFault, IsBlockRefusal as IsRefusal}
+use Rattle.edf_tal.specs.Block.{IsRead, IsBlockFault, IsBlockRefusal as IsBlockRefusal}
 use Rattle.edf_tal.specs.declared.place.TalFault.{TalFault}
 use Rattle.edf_tal.specs.declared.place.TalFault.TheVariants.{Tal as NotTals, Text, NotTimed, FirstOnset, Window, Order, TooMany, Memory as TalMemory}
 use Rattle.edf_fragment.specs.Fragment.{DataRecord, IsDataRecord, block, ordinary_bytes}
-use Rattle.edf_fragment.specs.Reading.{GivesRecord, RefusesBlock, IsNextFault}
+use Rattle.edf_fragment.specs.Reading.{ReadsWithin, GivesRecord, RefusesBlock, IsNextFault}
 use Rattle.edf_fragment.specs.declared.progress.Progress.{Progress}
-use Rattle.edf_fragment.specs.Steps.{IsCutShort, IsPartFault}
+use Rattle.edf_fragment.specs.Inside.Steps.{IsCutShort, IsPartFault}
 use Rattle.edf_fragment.specs.declared.fault.FragmentFault.{FragmentFault}
 use Rattle.edf_fragment.specs.declared.fault.FragmentFault.TheVariants.{Header, CutRecord, Tal, Trailing, Read, Memory, Failed}
+
+-- fewer bytes are within more
+pub fewer : (n m : ℕ) (left rest : Option (List ℕ)) → n ≤ m → ReadsWithin n left rest → ReadsWithin m left rest
+fewer n m left rest low r = record { bytes = r.bytes; read = r.read; within = omega (arith, r.within) }
 
 -- the part before was read
 pub part_fault : (left mid rest : Option (List ℕ)) (a : List ℕ) (wanted all nth : ℕ) (e : FragmentFault) → Consumes left mid a
@@ -26,7 +30,11 @@ part_fault left mid rest a wanted all nth (CutRecord k) read fits (same, f) =
     } in (same, r)
 part_fault left mid rest a wanted all nth (Tal k e) read fits f = f
 part_fault left mid rest a wanted all nth Trailing read fits f = f
-part_fault left mid rest a wanted all nth Read read fits (b, more) = (a ++ b, Consumes-trans left mid rest a b read more)
+part_fault left mid rest a wanted all nth Read read fits f = record {
+  bytes = a ++ f.bytes;
+  read = Consumes-trans left mid rest a f.bytes read f.read;
+  within = omega (arith, length-append a f.bytes, f.within);
+}
 part_fault left mid rest a wanted all nth Memory read fits f = f
 part_fault left mid rest a wanted all nth Failed read fits f = f
 
@@ -102,7 +110,11 @@ pub told_block : (l : Layout) (p : Progress) (left rest : Option (List ℕ)) (sa
     → HasPieces l p left rest samples blk → s ≡ l.start → nth ≡ p.given + 1 → (e ≡ TalMemory → told ≡ Memory) → ((e ≡ TalMemory → ⊥) → told ≡ Tal nth e)
     → IsRefusal blk s p.place e → IsNextFault l p left rest told
 told_block l p left rest samples blk s nth TalMemory told h from is memory other refusal =
-    subst (IsNextFault l p left rest) (sym (memory refl)) (around l.block_at samples blk, h.read)
+    subst (IsNextFault l p left rest) (sym (memory refl)) (record {
+      bytes = around l.block_at samples blk;
+      read = h.read;
+      within = omega (arith, length-around l.block_at samples blk, h.total, h.len);
+    })
 told_block l p left rest samples blk s nth (NotTals at) told h from is memory other refusal =
     subst (IsNextFault l p left rest) (sym (other (λ no. cc))) (refused_block l p left rest samples blk nth (NotTals at) h is (subst (λ (n : ℕ). IsBlockFault blk n p.place (NotTals at)) from refusal))
 told_block l p left rest samples blk s nth (Text at) told h from is memory other refusal =

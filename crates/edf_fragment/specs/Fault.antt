@@ -2,7 +2,7 @@
 use Rattle.std.specs.Prelude.{◌≡◌, ℕ, ◌+◌, ◌≤◌, ◌<◌, List, length}
 use Rattle.edf_header.specs.Header.{HeaderRecord, IsHeader, Layout, layout_of}
 use Rattle.edf_header.specs.Fault.{IsHeaderFault, header_fault_number}
-use Rattle.edf_tal.specs.Block.{IsBlockFault, tal_fault_number as tal_number}
+use Rattle.edf_tal.specs.Block.{IsBlockFault, tal_fault_number as tal_fault_number}
 use Rattle.edf_tal.specs.declared.place.Place.{Place}
 use Rattle.edf_tal.specs.declared.place.Place.TheVariants.{First}
 use Rattle.edf_tal.specs.declared.place.TalFault.{TalFault}
@@ -55,15 +55,13 @@ IsFirstFault bytes (BadHeader fault) = IsHeaderFault bytes fault
 IsFirstFault bytes (CutRecord nth) = IsCutRecord bytes nth
 IsFirstFault bytes (Tal nth fault) = IsRefusedBlock bytes nth fault
 IsFirstFault bytes Trailing = IsTrailing bytes
-IsFirstFault bytes Read = ⊥
-IsFirstFault bytes Memory = ⊥
-IsFirstFault bytes Failed = ⊥
+IsFirstFault bytes fault = ⊥
 
-abbrev pub number : FragmentFault → ℕ
-number (BadHeader fault) = header_fault_number fault
-number (CutRecord nth) = 21
-number (Tal nth fault) = tal_number fault
-number Trailing = 29
-number Read = 40
-number Memory = 41
-number Failed = 0
+abbrev pub fragment_fault_number : FragmentFault → ℕ
+fragment_fault_number (BadHeader fault) = header_fault_number fault
+fragment_fault_number (CutRecord nth) = 21
+fragment_fault_number (Tal nth fault) = tal_fault_number fault
+fragment_fault_number Trailing = 29
+fragment_fault_number Read = 40
+fragment_fault_number Memory = 41
+fragment_fault_number Failed = 0

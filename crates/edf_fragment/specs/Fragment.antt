@@ -33,15 +33,15 @@ pub record IsDataRecord (l : Layout) (place : Place) (bytes : List ℕ) (r : Dat
   pub samples_are : r.samples ≡ ordinary_bytes l bytes
 
 -- the place of the record behind one that starts there
-abbrev pub behind : Layout → ℕ → Place
-behind l start = After start (duration_of l.key.duration)
+abbrev pub place_behind : Layout → ℕ → Place
+place_behind l start = After start (duration_of l.key.duration)
 
 -- the bytes begin with these data records, the first at `place`; the next would stand at `last`, and the rest is left
 abbrev pub AreDataRecords : Layout → Place → List ℕ → List DataRecord → Place → List ℕ → Type 0
 AreDataRecords l place bytes [] last rest = (last ≡ place) × (rest ≡ bytes)
 AreDataRecords l place bytes (r ∷ rs) last rest =
     (front : List ℕ) × (back : List ℕ) × (bytes ≡ front ++ back) × IsDataRecord l place front r
-    × AreDataRecords l (behind l r.start) back rs last rest
+    × AreDataRecords l (place_behind l r.start) back rs last rest
 
 -- the bytes spell a key and a list of data records, as many as the header says, and nothing follows them
 pub record Spells (bytes : List ℕ) (k : Key) (records : List DataRecord) : Type 0 where

@@ -1,5 +1,8 @@
 pub mod Failures
 pub mod Fragment
+pub mod Sound
 pub mod Fault
+pub mod Told
 pub mod Reading
-pub mod Steps
+pub mod Whole
+pub mod Inside

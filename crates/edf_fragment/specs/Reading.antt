@@ -9,27 +9,23 @@ use Rattle.edf_tal.specs.Block.{IsBlockFault}
 use Rattle.edf_tal.specs.declared.place.Place.TheVariants.{First}
 use Rattle.edf_tal.specs.declared.place.TalFault.{TalFault}
 use Rattle.edf_fragment.specs.Failures.{one_more}
-use Rattle.edf_fragment.specs.Fragment.{DataRecord, IsDataRecord, block, behind, Spells}
-use Rattle.edf_fragment.specs.Fault.{IsFirstFault}
+use Rattle.edf_fragment.specs.Fragment.{DataRecord, IsDataRecord, block, place_behind}
 use Rattle.edf_fragment.specs.declared.progress.Progress.{Progress}
 use Rattle.edf_fragment.specs.declared.progress.Status.{Status}
 use Rattle.edf_fragment.specs.declared.progress.Status.TheVariants.{Reading, Ended, Stopped}
 use Rattle.edf_fragment.specs.declared.fault.FragmentFault.{FragmentFault}
 use Rattle.edf_fragment.specs.declared.fault.FragmentFault.TheVariants.{Header as BadHeader, CutRecord, Tal, Trailing, Read, Memory, Failed}
 
--- what was left begins with some bytes, and the rest is left
-abbrev pub Reads : Option (List ℕ) → Option (List ℕ) → Type 0
-Reads left rest = (bytes : List ℕ) × Consumes left rest bytes
+-- what was left begins with some bytes, at most so many, and the rest is left
+pub record ReadsWithin (most : ℕ) (left rest : Option (List ℕ)) : Type 0 where
+  pub bytes : List ℕ
+  pub read : Consumes left rest bytes
+  pub within : length bytes ≤ most
 
 -- a call that answers this made one failed read, or none
 abbrev pub CountsFault : ℕ → ℕ → FragmentFault → Type 0
-CountsFault old new (BadHeader fault) = new ≡ old
-CountsFault old new (CutRecord nth) = new ≡ old
-CountsFault old new (Tal nth fault) = new ≡ old
-CountsFault old new Trailing = new ≡ old
 CountsFault old new Read = new ≡ one_more old
-CountsFault old new Memory = new ≡ old
-CountsFault old new Failed = new ≡ old
+CountsFault old new fault = new ≡ old
 
 abbrev pub CountsAnswer : {X : Type 0} → ℕ → ℕ → Result X FragmentFault → Type 0
 CountsAnswer old new result = MatchResult result (λ x. new ≡ old) (CountsFault old new)
@@ -52,15 +48,18 @@ pub record ReadsHeaderFault (left rest : Option (List ℕ)) (fault : HeaderFault
   pub no_signals : header_fault_number fault < 14 → length bytes ≤ 256
   pub no_records : (n : ℕ) → HasSignals bytes n → length bytes ≤ 256 + 256 * n
 
+-- no byte was read but those of the fixed part, and of the signals that it counts
+pub record ReadsInHeader (left rest : Option (List ℕ)) : Type 0 where
+  pub bytes : List ℕ
+  pub read : Consumes left rest bytes
+  pub within : (length bytes ≤ 256) ⊎ ((n : ℕ) × HasSignals bytes n × (length bytes ≤ 256 + 256 * n))
+
 -- why there is no header, and what of the input was read
 abbrev pub IsOpenFault : Option (List ℕ) → Option (List ℕ) → FragmentFault → Type 0
 IsOpenFault left rest (BadHeader fault) = ReadsHeaderFault left rest fault
-IsOpenFault left rest (CutRecord nth) = ⊥
-IsOpenFault left rest (Tal nth fault) = ⊥
-IsOpenFault left rest Trailing = ⊥
-IsOpenFault left rest Read = Reads left rest
-IsOpenFault left rest Memory = Reads left rest
-IsOpenFault left rest Failed = ⊥
+IsOpenFault left rest Read = ReadsInHeader left rest
+IsOpenFault left rest Memory = ReadsInHeader left rest
+IsOpenFault left rest fault = ⊥
 
 -- how far a reader is that gave no record yet
 abbrev pub at_first : Progress
@@ -68,7 +67,7 @@ at_first = record { given = 0; place = First; status = Reading }
 
 -- how far it is behind one more record, behind the end, behind a fault
 abbrev pub progress_after : Layout → Progress → Result (Option DataRecord) FragmentFault → Progress
-progress_after l from (Ok (Some r)) = record { given = from.given + 1; place = behind l r.start; status = Reading }
+progress_after l from (Ok (Some r)) = record { given = from.given + 1; place = place_behind l r.start; status = Reading }
 progress_after l from (Ok None) = record from { status = Ended }
 progress_after l from (Err fault) = record from { status = Stopped }
 
@@ -111,13 +110,12 @@ pub record FindsMore (l : Layout) (from : Progress) (left rest : Option (List �
 
 -- why there is no next record, and what of the input was read
 abbrev pub IsNextFault : Layout → Progress → Option (List ℕ) → Option (List ℕ) → FragmentFault → Type 0
-IsNextFault l from left rest (BadHeader fault) = ⊥
 IsNextFault l from left rest (CutRecord nth) = EndsInRecord l from left rest nth
 IsNextFault l from left rest (Tal nth fault) = RefusesBlock l from left rest nth fault
 IsNextFault l from left rest Trailing = FindsMore l from left rest
-IsNextFault l from left rest Read = Reads left rest
-IsNextFault l from left rest Memory = Reads left rest
-IsNextFault l from left rest Failed = ⊥
+IsNextFault l from left rest Read = ReadsWithin l.record_bytes left rest
+IsNextFault l from left rest Memory = ReadsWithin l.record_bytes left rest
+IsNextFault l from left rest fault = ⊥
 
 -- what comes next: a record, the end or a fault
 abbrev pub IsNext : Layout → Progress → Option (List ℕ) → Option (List ℕ) → Result (Option DataRecord) FragmentFault → Type 0
@@ -138,27 +136,3 @@ AnswersIn Stopped l from to left rest result = (result ≡ Err Failed) × Rests 
 -- the answer of a reader that is so far, and how far it is then
 abbrev pub IsAnswer : Layout → Progress → Progress → Option (List ℕ) → Option (List ℕ) → Result (Option DataRecord) FragmentFault → Type 0
 IsAnswer l from to left rest result = AnswersIn from.status l from to left rest result
-
--- the whole input spells these records under a header that says this
-pub record ReadsFragment (left rest : Option (List ℕ)) (layout : Layout) (records : List DataRecord) : Type 0 where
-  pub bytes : List ℕ
-  pub read : Consumes left rest bytes
-  pub end : IsAtEnd rest
-  pub spells : Spells bytes layout.key records
-  pub layout_is : layout ≡ layout_of spells.header
-
--- the input was read as far as a fault, which is the first of its bytes where these are known
-pub record ReadsFault (left rest : Option (List ℕ)) (fault : FragmentFault) : Type 0 where
-  pub bytes : List ℕ
-  pub read : Consumes left rest bytes
-  pub is_fault : IfSome left (λ all. IsFirstFault all fault)
-
--- why an input gives no fragment
-abbrev pub IsFragmentFault : Option (List ℕ) → Option (List ℕ) → FragmentFault → Type 0
-IsFragmentFault left rest (BadHeader fault) = ReadsFault left rest (BadHeader fault)
-IsFragmentFault left rest (CutRecord nth) = ReadsFault left rest (CutRecord nth)
-IsFragmentFault left rest (Tal nth fault) = ReadsFault left rest (Tal nth fault)
-IsFragmentFault left rest Trailing = ReadsFault left rest Trailing
-IsFragmentFault left rest Read = Reads left rest
-IsFragmentFault left rest Memory = Reads left rest
-IsFragmentFault left rest Failed = ⊥

@@ -1,9 +1,9 @@
-ghost use Rattle.std.specs.Prelude.{◌≡◌, ◌≢◌, ℕ, ◌+◌, ◌-◌, ◌^◌, ◌<◌, ◌≤◌, length, IfOk, IfSome, MatchResult};
+ghost use Rattle.std.specs.Prelude.{◌≡◌, ◌≢◌, ℕ, ◌+◌, ◌-◌, ◌^◌, ◌<◌, ◌≤◌, ◌++◌, length, take, drop, IfOk, IfSome, MatchResult};
+ghost use Rattle.std.specs.Io.KnownBytes.{Consumes};
 ghost use Rattle.edf_fragment.specs.Reading.{GivesRecord, IsNextFault, IsNext, CountsAnswer, progress_after};
-ghost use Rattle.edf_fragment.specs.Steps.{ReadsEnd, IsEndFault};
+ghost use Rattle.edf_fragment.specs.Inside.Steps.{IsPartFault, ReadsEnd, IsEndFault};
 
 use crate::fault::FragmentFault;
-use crate::filling::read_bytes;
 use crate::progress::{Progress, Status};
 use crate::record::Record;
 use crate::streams::{Filled, Input, fill};
@@ -32,6 +32,60 @@ fn sample_bytes(header: &Header) -> usize
     header.record_bytes() - header.block_bytes()
 }
 
+/// Fills a part of the nth data record.
+fn fill_part<R: Input>(input: &mut R, part: &mut [u8], nth: u32) -> Result<(), FragmentFault>
+    ensures step { MatchResult result (λ _. Consumes (R.remaining input.old) (R.remaining input.new) part.new)
+        (IsPartFault (R.remaining input.old) (R.remaining input.new) (length part.new) nth) }
+    ensures counted { CountsAnswer (R.failures input.old) (R.failures input.new) result }
+{
+    match fill(input, part) {
+        Filled::Full => Ok(()),
+        Filled::Cut { .. } => Err(FragmentFault::CutRecord { nth }),
+        Filled::Failed => Err(FragmentFault::Read),
+    }
+}
+
+/// Fills the front of the samples, the block, and the samples behind it.
+fn fill_around<R: Input>(
+    input: &mut R,
+    front: &mut [u8],
+    block: &mut [u8],
+    back: &mut [u8],
+    nth: u32,
+) -> Result<(), FragmentFault>
+    ensures step { MatchResult result
+        (λ _. Consumes (R.remaining input.old) (R.remaining input.new) (front.new ++ (block.new ++ back.new)))
+        (IsPartFault (R.remaining input.old) (R.remaining input.new)
+        (length front.new + length block.new + length back.new) nth) }
+    ensures counted { CountsAnswer (R.failures input.old) (R.failures input.new) result }
+{
+    fill_part(input, front, nth)?;
+    match fill_part(input, block, nth) {
+        Ok(()) => fill_part(input, back, nth),
+        Err(fault) => Err(fault),
+    }
+}
+
+/// Fills a data record's buffers: its samples, and its block, which stands behind so many of their bytes.
+fn fill_record<R: Input>(
+    input: &mut R,
+    samples: &mut [u8],
+    block_at: usize,
+    block: &mut [u8],
+    nth: u32,
+) -> Result<(), FragmentFault>
+    requires { block_at ≤ length samples.old }
+    ensures step { MatchResult result
+        (λ _. Consumes (R.remaining input.old) (R.remaining input.new)
+        (take block_at samples.new ++ (block.new ++ drop block_at samples.new)))
+        (IsPartFault (R.remaining input.old) (R.remaining input.new)
+        (length samples.new + length block.new) nth) }
+    ensures counted { CountsAnswer (R.failures input.old) (R.failures input.new) result }
+{
+    let (front, back) = samples.split_at_mut(block_at);
+    fill_around(input, front, block, back, nth)
+}
+
 /// Reads the next data record, through a buffer for its block.
 fn read_record<R: Input>(
     alloc: Global,
@@ -51,10 +105,7 @@ fn read_record<R: Input>(
     let Ok(mut samples) = vec![in alloc; 0u8; sample_bytes(header)] else {
         return Err(FragmentFault::Memory);
     };
-    match read_bytes(input, samples.as_mut_slice(), header.block_at(), block, nth) {
-        Ok(()) => {}
-        Err(fault) => return Err(fault),
-    }
+    fill_record(input, samples.as_mut_slice(), header.block_at(), block, nth)?;
     match read_block(alloc, block, header.start(), progress.place) {
         Ok((start, notes)) => Ok(Record::within_limits(start, samples, notes)),
         Err(fault) => Err(block_refusal(nth, fault)),
@@ -62,7 +113,7 @@ fn read_record<R: Input>(
 }
 
 /// Tells whether nothing follows the last data record.
-fn read_end<R: Input>(input: &mut R) -> Result<(), FragmentFault>
+fn find_end<R: Input>(input: &mut R) -> Result<(), FragmentFault>
     ensures step { MatchResult result (λ _. ReadsEnd (R.remaining input.old) (R.remaining input.new))
         (IsEndFault (R.remaining input.old) (R.remaining input.new)) }
     ensures counted { CountsAnswer (R.failures input.old) (R.failures input.new) result }
@@ -76,7 +127,7 @@ fn read_end<R: Input>(input: &mut R) -> Result<(), FragmentFault>
 }
 
 /// Reads the next data record, or the end behind the last.
-pub(crate) fn read_next<R: Input>(
+pub(crate) fn record_or_end<R: Input>(
     alloc: Global,
     input: &mut R,
     header: &Header,
@@ -89,15 +140,11 @@ pub(crate) fn read_next<R: Input>(
     ensures counted { CountsAnswer (R.failures input.old) (R.failures input.new) result }
 {
     if progress.given < header.count() {
-        match read_record(alloc, input, header, progress, block) {
-            Ok(record) => Ok(Some(record)),
-            Err(fault) => Err(fault),
-        }
+        let record = read_record(alloc, input, header, progress, block)?;
+        Ok(Some(record))
     } else {
-        match read_end(input) {
-            Ok(()) => Ok(None),
-            Err(fault) => Err(fault),
-        }
+        find_end(input)?;
+        Ok(None)
     }
 }
 

@@ -1,11 +1,14 @@
 //! Laws of fragments: each function has a law for a contract, and does nothing.
-ghost use Rattle.std.specs.Prelude.{◌≡◌, ℕ, ◌++◌, ◌∷◌, [], ◌⊎◌, List, Option, Some, None, Ok, Err};
-ghost use Rattle.edf_header.specs.Key.{Key};
+ghost use Rattle.std.specs.Prelude.{◌≡◌, ℕ, ◌++◌, ◌∷◌, [], ◌⊎◌, ◌≤◌, ◌<◌, List, length, Option, Some, None, Ok, Err};
+ghost use Rattle.edf_field.specs.Number.{duration_of};
+ghost use Rattle.edf_header.specs.Key.{Key, IsKey};
 ghost use Rattle.edf_header.specs.Header.{Layout};
 ghost use Rattle.edf_fragment.specs.Fragment.{DataRecord, Spells};
 ghost use Rattle.edf_fragment.specs.Fault.{IsFirstFault};
-ghost use Rattle.edf_fragment.specs.Reading.{ReadsHeader, IsAnswer, at_first, ReadsFragment, IsFragmentFault};
-ghost use Rattle.edf_fragment.specs.Steps.{HasRead};
+ghost use Rattle.edf_fragment.specs.Told.{Told, Tells};
+ghost use Rattle.edf_fragment.specs.Sound.{AreSound};
+ghost use Rattle.edf_fragment.specs.Reading.{ReadsHeader, IsOpenFault, IsAnswer, at_first};
+ghost use Rattle.edf_fragment.specs.Whole.{HasRead, ReadsFragment, IsFragmentFault};
 ghost use Rattle.edf_fragment.specs.declared.progress.Progress.{Progress};
 ghost use Rattle.edf_fragment.specs.declared.progress.Status.TheVariants.{Reading};
 ghost use Rattle.edf_fragment.specs.declared.fault.FragmentFault.{FragmentFault};
@@ -29,6 +32,37 @@ pub fn one_fault()
         IsFirstFault bytes fault → IsFirstFault bytes other → fault ≡ other }
 {}
 
+/// Each list of bytes tells one thing: a key with its data records, or a first fault.
+pub fn each_tells_one()
+    ensures some { (bytes : List ℕ) → (told : Told) × Tells bytes told }
+    ensures one { (bytes : List ℕ) (told other : Told) → Tells bytes told → Tells bytes other → told ≡ other }
+{}
+
+/// What bytes that spell a fragment give it: a key that headers name, with a duration above 0; and 1 to 99,999,999 data
+/// records that lie in the window, at least a duration apart, and keep the limits.
+pub fn records_are_sound()
+    ensures key { (bytes : List ℕ) (key : Key) (records : List DataRecord) → Spells bytes key records → IsKey key }
+    ensures lasting { (bytes : List ℕ) (key : Key) (records : List DataRecord) →
+        Spells bytes key records → 0 < duration_of key.duration }
+    ensures some { (bytes : List ℕ) (key : Key) (records : List DataRecord) → Spells bytes key records → 1 ≤ length records }
+    ensures few { (bytes : List ℕ) (key : Key) (records : List DataRecord) →
+        Spells bytes key records → length records ≤ 99_999_999 }
+    ensures sound { (bytes : List ℕ) (key : Key) (records : List DataRecord) →
+        Spells bytes key records → AreSound key 0 records }
+{}
+
+/// The data records that were read so far are sound under a key that headers name; and they are the first of those that all
+/// the bytes spell, where these are known and spell a fragment.
+pub fn records_so_far()
+    ensures key { (left rest : Option (List ℕ)) (l : Layout) → ReadsHeader left rest l → IsKey l.key }
+    ensures sound { (left one two : Option (List ℕ)) (l : Layout) (records : List DataRecord) (p : Progress) →
+        ReadsHeader left one l → HasRead l one two records p → AreSound l.key 0 records }
+    ensures front { (bytes : List ℕ) (one two : Option (List ℕ)) (l : Layout) (records : List DataRecord) (p : Progress)
+        (key : Key) (spelled : List DataRecord) →
+        ReadsHeader (Some bytes) one l → HasRead l one two records p → Spells bytes key spelled →
+        (key ≡ l.key) × ((later : List DataRecord) × (spelled ≡ records ++ later)) }
+{}
+
 /// The answers of a reader, one after another, are those of the whole: data records that were read one by one are in
 /// their order what the bytes begin with, and `None` and each fault mean behind them what they mean for the whole input.
 pub fn answers_join()
@@ -42,6 +76,8 @@ pub fn answers_join()
     ensures fault { (l : Layout) (left one two rest : Option (List ℕ)) (records : List DataRecord) (p q : Progress) (fault : FragmentFault) →
         ReadsHeader left one l → HasRead l one two records p → p.status ≡ Reading → IsAnswer l p q two rest (Err fault) →
         IsFragmentFault left rest fault }
+    ensures refused { (left rest : Option (List ℕ)) (fault : FragmentFault) →
+        IsOpenFault left rest fault → IsFragmentFault left rest fault }
 {}
 
 /// What was read is what all the bytes spell, or have for their first fault, where these are known.

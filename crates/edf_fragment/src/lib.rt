@@ -4,12 +4,12 @@
 //! Each reads no byte that it isn't asked for, and tells the first fault of the bytes by its number and place.
 //! `Input` and `Output` are readers and writers whose contracts also count the calls that failed, so that a refusal for
 //! a failed read or write is told only where one failed; `Counted` makes one of any reader or writer of std.
-//! The laws say that bytes spell one fragment at most, or have one first fault at most, and never both.
+//! The laws say that each list of bytes spells one fragment or has one first fault, and never both; and that what is read record
+//! by record is what they say of the whole.
 #![tactic(auto)]
 
 mod advance;
 mod fault;
-mod filling;
 mod laws;
 mod open_fragment;
 mod opening;
@@ -18,16 +18,17 @@ mod reader;
 mod record;
 #[cfg(test)]
 mod sample;
-mod sending;
 mod streams;
 mod whole;
 
 pub use fault::FragmentFault;
-pub use laws::{answers_join, known_bytes, no_fault_where_spelled, one_fault, one_fragment};
+pub use laws::{
+    answers_join, each_tells_one, known_bytes, no_fault_where_spelled, one_fault, one_fragment,
+    records_are_sound, records_so_far,
+};
 pub use open_fragment::OpenFragment;
 pub use progress::{Progress, Status};
 pub use reader::FragmentReader;
 pub use record::Record;
-pub use sending::send;
-pub use streams::{Counted, Filled, Input, Output, fill};
+pub use streams::{Counted, Filled, Input, Output, fill, send};
 pub use whole::read_fragment;

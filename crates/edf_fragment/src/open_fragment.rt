@@ -1,7 +1,8 @@
-ghost use Rattle.std.specs.Prelude.{◌≡◌, ℕ, ◌≤◌, vec_len, MatchResult};
+ghost use Rattle.std.specs.Prelude.{◌≡◌, ℕ, ◌≤◌, vec_len, MatchResult, IfOk, IfSome};
+ghost use Rattle.edf_fragment.specs.Sound.{IsSoundRecord};
 ghost use Rattle.edf_fragment.specs.Reading.{ReadsHeader, IsOpenFault, IsAnswer, IsNext, CountsAnswer, at_first, progress_after};
 
-use crate::advance::{progress_behind, read_next};
+use crate::advance::{progress_behind, record_or_end};
 use crate::fault::FragmentFault;
 use crate::opening::read_header;
 use crate::progress::{Progress, Status};
@@ -12,7 +13,9 @@ use std::alloc::Global;
 
 /// A fragment whose header was read, and how far its data records were read.
 ///
-/// It doesn't hold the input: each call takes the one that the header was read from. `FragmentReader` holds both.
+/// It doesn't hold the input: each call takes the one that the header was read from. Use it where the input is wanted again
+/// behind the last record or behind a fault, or where a proof follows it there; `FragmentReader` holds both, and suits
+/// callers that read a fragment and nothing else.
 #[derive(Drop)]
 pub struct OpenFragment {
     alloc: Global,
@@ -35,10 +38,8 @@ impl OpenFragment {
             (IsOpenFault (R.remaining input.old) (R.remaining input.new)) }
         ensures counted { CountsAnswer (R.failures input.old) (R.failures input.new) result }
     {
-        let header = match read_header(alloc, input) {
-            Ok(header) => header,
-            Err(fault) => return Err(fault),
-        };
+        let header = read_header(alloc, input)?;
+        // contracts learn from this call what bounds the header keeps
         let _some = header.count();
         let Ok(block) = vec![in alloc; 0u8; header.block_bytes()] else {
             return Err(FragmentFault::Memory);
@@ -80,6 +81,7 @@ impl OpenFragment {
         ensures header { self.new.header ≡ self.old.header }
         ensures answer { IsAnswer self.old.header self.old.progress self.new.progress
             (R.remaining input.old) (R.remaining input.new) result }
+        ensures sound { IfOk result (λ next. IfSome next (λ r. IsSoundRecord self.old.header.key r)) }
         ensures counted { CountsAnswer (R.failures input.old) (R.failures input.new) result }
     {
         match self.progress.status {
@@ -95,10 +97,12 @@ impl OpenFragment {
         ensures progress { self.new.progress ≡ progress_after self.old.header self.old.progress result }
         ensures step { IsNext self.old.header self.old.progress
             (R.remaining input.old) (R.remaining input.new) result }
+        ensures sound { IfOk result (λ next. IfSome next (λ r. IsSoundRecord self.old.header.key r)) }
         ensures counted { CountsAnswer (R.failures input.old) (R.failures input.new) result }
     {
+        // contracts learn from this call what bounds the header keeps
         let _few = self.header.count();
-        let answer = read_next(
+        let answer = record_or_end(
             self.alloc,
             input,
             &self.header,

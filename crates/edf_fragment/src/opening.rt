@@ -1,6 +1,6 @@
 ghost use Rattle.std.specs.Prelude.{◌≡◌, ◌≢◌, ℕ, length, MatchResult};
 ghost use Rattle.edf_fragment.specs.Reading.{ReadsHeader, IsOpenFault, CountsAnswer};
-ghost use Rattle.edf_fragment.specs.Steps.{ReadsFixed, ReadsSignals, IsSignalsFault};
+ghost use Rattle.edf_fragment.specs.Inside.Steps.{ReadsFixed, ReadsSignals, IsSignalsFault};
 
 use crate::fault::FragmentFault;
 use crate::streams::{Filled, Input, fill};
@@ -19,7 +19,7 @@ fn header_refusal(fault: HeaderFault) -> FragmentFault
 }
 
 /// Reads the fixed part, 256 bytes.
-fn read_first_part<R: Input>(input: &mut R) -> Result<Fixed, FragmentFault>
+fn read_fixed_part<R: Input>(input: &mut R) -> Result<Fixed, FragmentFault>
     ensures step { MatchResult result (ReadsFixed (R.remaining input.old) (R.remaining input.new))
         (IsOpenFault (R.remaining input.old) (R.remaining input.new)) }
     ensures counted { CountsAnswer (R.failures input.old) (R.failures input.new) result }
@@ -37,7 +37,7 @@ fn read_first_part<R: Input>(input: &mut R) -> Result<Fixed, FragmentFault>
 }
 
 /// Reads the signals, 256 bytes each.
-fn read_second_part<R: Input>(
+fn read_signal_headers<R: Input>(
     alloc: Global,
     input: &mut R,
     fixed: Fixed,
@@ -66,8 +66,6 @@ pub(crate) fn read_header<R: Input>(alloc: Global, input: &mut R) -> Result<Head
         (IsOpenFault (R.remaining input.old) (R.remaining input.new)) }
     ensures counted { CountsAnswer (R.failures input.old) (R.failures input.new) result }
 {
-    match read_first_part(input) {
-        Ok(fixed) => read_second_part(alloc, input, fixed),
-        Err(fault) => Err(fault),
-    }
+    let fixed = read_fixed_part(input)?;
+    read_signal_headers(alloc, input, fixed)
 }

@@ -1,4 +1,5 @@
-ghost use Rattle.std.specs.Prelude.{◌≡◌, ℕ, List, Option, IfOk, IfErr};
+ghost use Rattle.std.specs.Prelude.{◌≡◌, ℕ, List, Option, IfOk, IfErr, IfSome};
+ghost use Rattle.edf_fragment.specs.Sound.{IsSoundRecord};
 ghost use Rattle.edf_fragment.specs.Reading.{ReadsHeader, IsOpenFault, IsAnswer, CountsAnswer, at_first};
 
 use crate::fault::FragmentFault;
@@ -13,7 +14,8 @@ use std::alloc::Global;
 /// It reads no byte before it is asked for what the byte belongs to: `open` the header's, `next` those of one data
 /// record, and behind the last one more, to find that nothing follows. It holds one data record at a time.
 ///
-/// Where a proof is to follow the input past the reader's end, use `OpenFragment`, which leaves it with the caller.
+/// Use it where a fragment is read and nothing else. Where the input is wanted again behind a fault or the end, or a proof
+/// is to follow it there, use `OpenFragment`, which leaves it with the caller.
 pub struct FragmentReader<'a, R> {
     input: &'a mut R,
     fragment: OpenFragment,
@@ -29,6 +31,16 @@ impl<R> Drop for FragmentReader<'_, R> {
 }
 
 impl<'a, R: Input> FragmentReader<'a, R> {
+    /// The data records that a fragment has left, from the reader that it was read from so far.
+    pub fn of(input: &'a mut R, fragment: OpenFragment) -> FragmentReader<'a, R>
+        ensures same_reference { result.input.ghost_name ≡ input.entry.ghost_name }
+        ensures left { R.remaining result.input.now ≡ R.remaining input.old }
+        ensures counted { R.failures result.input.now ≡ R.failures input.old }
+        ensures fragment { result.fragment ≡ fragment }
+    {
+        FragmentReader { input, fragment }
+    }
+
     /// Reads the header, and no byte more.
     ///
     /// # Errors
@@ -43,10 +55,8 @@ impl<'a, R: Input> FragmentReader<'a, R> {
         ensures refused { IfErr result
             (λ fault. (rest : Option (List ℕ)) × IsOpenFault (R.remaining input.old) rest fault) }
     {
-        match OpenFragment::read(alloc, input) {
-            Ok(fragment) => Ok(FragmentReader { input, fragment }),
-            Err(fault) => Err(fault),
-        }
+        let fragment = OpenFragment::read(alloc, input)?;
+        Ok(FragmentReader::of(input, fragment))
     }
 
     /// The header.
@@ -74,6 +84,7 @@ impl<'a, R: Input> FragmentReader<'a, R> {
         ensures header { self.new.fragment.header ≡ self.old.fragment.header }
         ensures answer { IsAnswer self.old.fragment.header self.old.fragment.progress self.new.fragment.progress
             (R.remaining self.old.input.now) (R.remaining self.new.input.now) result }
+        ensures sound { IfOk result (λ next. IfSome next (λ r. IsSoundRecord self.old.fragment.header.key r)) }
         ensures counted { CountsAnswer (R.failures self.old.input.now)
             (R.failures self.new.input.now) result }
     {

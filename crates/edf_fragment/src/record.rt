@@ -1,6 +1,9 @@
 ghost use Rattle.std.specs.Prelude.{◌≡◌, ◌≤◌, ◌+◌, ◌↔◌, length, take, sum_by, MatchOption, IsTrue};
+ghost use Rattle.std.specs.List.{AllByRecursion};
 ghost use Rattle.edf_tal.specs.Block.{IsWithinLimits};
+ghost use Rattle.edf_tal.specs.Tal.{IsAnnotation};
 ghost use Rattle.edf_fragment.specs.Fragment.{DataRecord, IsWithinSize};
+ghost use Rattle.edf_fragment.specs.Sound.{IsKept};
 
 use edf_tal::{Note, same_notes};
 use edf_time::Instant;
@@ -18,18 +21,20 @@ pub struct Record {
 }
 
 impl Model for Record {
-    ghost use Rattle.edf_fragment.specs.Fragment.{DataRecord, IsWithinSize};
+    ghost use Rattle.edf_fragment.specs.Fragment.{DataRecord};
+    ghost use Rattle.edf_fragment.specs.Sound.{IsKept};
 
     ghost Value = { DataRecord };
 
     ghost view = { λ r. record { start = r.start; samples = r.samples.items; annotations = r.notes.items } };
 
-    ghost invariant = { λ r. IsWithinSize (record { start = r.start; samples = r.samples.items; annotations = r.notes.items }) };
+    ghost invariant = { λ r. IsKept (record { start = r.start; samples = r.samples.items; annotations = r.notes.items }) };
 }
 
 /// Whether there are at most 10,000 annotations, and 1,000,000 bytes of their texts.
 fn are_within_limits(notes: &[Note]) -> bool
-    ensures { IsTrue result ↔ IsWithinLimits notes.now }
+    ensures limits { IsTrue result ↔ IsWithinLimits notes.now }
+    ensures notes { IsTrue result → AllByRecursion IsAnnotation notes.now }
 {
     if notes.len() > 10_000 {
         return false;
@@ -49,8 +54,10 @@ impl Record {
     /// The data record of these parts, or `None` where they are past its limits.
     pub fn new(start: Instant, samples: Vec<u8>, notes: Vec<Note>) -> Option<Record>
         ensures { let parts : DataRecord = record { start = start; samples = samples.items; annotations = notes.items } in
-            MatchOption result (¬ IsWithinSize parts) (λ r. IsWithinSize r × (r ≡ parts)) }
+            MatchOption result (¬ IsWithinSize parts) (λ r. IsKept r × (r ≡ parts)) }
     {
+        // contracts learn from this call that the start lies in the window
+        let _in_window = start.nanos();
         if samples.len() <= 4_194_304 && are_within_limits(notes.as_slice()) {
             Some(Record::within_limits(start, samples, notes))
         } else {
@@ -60,7 +67,7 @@ impl Record {
 
     /// The data record of parts that are known to keep its limits.
     pub(crate) fn within_limits(start: Instant, samples: Vec<u8>, notes: Vec<Note>) -> Record
-        requires { IsWithinSize (record { start = start; samples = samples.items; annotations = notes.items }) }
+        requires { IsKept (record { start = start; samples = samples.items; annotations = notes.items }) }
         ensures { result ≡ record { start = start; samples = samples.items; annotations = notes.items } }
     {
         Record {
@@ -72,7 +79,8 @@ impl Record {
 
     /// Its start.
     pub fn start(&self) -> Instant
-        ensures { result ≡ self.now.start }
+        ensures value { result ≡ self.now.start }
+        ensures kept { IsKept self.now }
     {
         self.start
     }
@@ -81,6 +89,7 @@ impl Record {
     pub fn samples(&self) -> &[u8]
         ensures value { result.now ≡ self.now.samples }
         ensures limit { length result.now ≤ 4_194_304 }
+        ensures kept { IsKept self.now }
     {
         self.samples.as_slice()
     }
@@ -89,6 +98,7 @@ impl Record {
     pub fn notes(&self) -> &[Note]
         ensures value { result.now ≡ self.now.annotations }
         ensures limits { IsWithinLimits result.now }
+        ensures kept { IsKept self.now }
     {
         self.notes.as_slice()
     }

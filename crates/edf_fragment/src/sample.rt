@@ -16,34 +16,38 @@ pub(crate) struct Night<'a> {
 }
 
 /// A night of one second with no annotation: 778 bytes.
-pub(crate) const QUIET: Night<'static> = Night {
-    mark: "EDF+D",
-    patient: "P7 F 02-MAY-1951 X",
-    recording: "Startdate 02-MAR-2002 N1 T3 REC5",
-    start: ["02.03.02", "23.59.50"],
-    physical: ["-440", "510"],
-    digital: ["-2048", "2047"],
-    annotations: 3,
-    records: &[([1, 0, 255, 255], "+0\x14\x14\0")],
-};
+pub(crate) fn quiet_night() -> Night<'static> {
+    Night {
+        mark: "EDF+D",
+        patient: "P7 F 02-MAY-1951 X",
+        recording: "Startdate 02-MAR-2002 N1 T3 REC5",
+        start: ["02.03.02", "23.59.50"],
+        physical: ["-440", "510"],
+        digital: ["-2048", "2047"],
+        annotations: 3,
+        records: &[([1, 0, 255, 255], "+0\x14\x14\0")],
+    }
+}
 
 /// A night of two seconds, with spare annotation samples and an onset that is spelled longer than needed: 1,004 bytes.
-pub(crate) const SPARE: Night<'static> = Night {
-    mark: "EDF+C",
-    patient: "X X X X",
-    recording: "Startdate 02-MAR-2002 X X X",
-    start: ["02.03.02", "22.00.00"],
-    physical: ["-3276.8", "3276.7"],
-    digital: ["-32768", "32767"],
-    annotations: 57,
-    records: &[
-        ([1, 0, 2, 0], "+0\x14\x14\0+0.5000000\x14Lights off\x14\0"),
-        ([3, 0, 4, 0], "+1\x14\x14\0"),
-    ],
-};
+pub(crate) fn spare_night() -> Night<'static> {
+    Night {
+        mark: "EDF+C",
+        patient: "X X X X",
+        recording: "Startdate 02-MAR-2002 X X X",
+        start: ["02.03.02", "22.00.00"],
+        physical: ["-3276.8", "3276.7"],
+        digital: ["-32768", "32767"],
+        annotations: 57,
+        records: &[
+            ([1, 0, 2, 0], "+0\x14\x14\0+0.5000000\x14Lights off\x14\0"),
+            ([3, 0, 4, 0], "+1\x14\x14\0"),
+        ],
+    }
+}
 
 /// Writes a text over the bytes from an offset on.
-fn put(bytes: &mut [u8], at: usize, text: &str) {
+pub(crate) fn put(bytes: &mut [u8], at: usize, text: &str) {
     for (i, byte) in text.as_bytes().iter().enumerate() {
         if at < bytes.len() && i < bytes.len() - at {
             bytes[at + i] = *byte;
@@ -152,5 +156,39 @@ impl<'a> Read for Pieces<'a> {
             count = count.saturating_add(1);
         }
         Ok(count.min(buf.len()))
+    }
+}
+
+/// Gives its bytes one a read. At `stop` it gives none or fails, once, and then goes on. It counts its reads.
+#[derive(Drop)]
+pub(crate) struct StopsOnce<'a> {
+    pub(crate) bytes: &'a [u8],
+    pub(crate) at: usize,
+    pub(crate) stop: usize,
+    pub(crate) fails: bool,
+    pub(crate) stopped: bool,
+    pub(crate) reads: &'a mut usize,
+}
+
+impl Read for StopsOnce<'_> {
+    fn read(&mut self, buf: &mut [u8]) -> io::Result<usize> {
+        *self.reads = self.reads.saturating_add(1);
+        if self.at == self.stop && !self.stopped {
+            self.stopped = true;
+            return if self.fails {
+                Err(io::Error::from(io::ErrorKind::Interrupted))
+            } else {
+                Ok(0)
+            };
+        }
+        let Some(byte) = self.bytes.get(self.at) else {
+            return Ok(0);
+        };
+        if buf.is_empty() {
+            return Ok(0);
+        }
+        buf[0] = *byte;
+        self.at = self.at.saturating_add(1);
+        Ok(1)
     }
 }

@@ -1,6 +1,7 @@
 ghost use Rattle.std.specs.Prelude.{◌≡◌, ℕ, MatchResult};
-ghost use Rattle.edf_fragment.specs.Reading.{ReadsFragment, IsFragmentFault, CountsAnswer, at_first};
-ghost use Rattle.edf_fragment.specs.Steps.{ReadsRecords, FailsBehind};
+ghost use Rattle.edf_fragment.specs.Reading.{CountsAnswer, at_first};
+ghost use Rattle.edf_fragment.specs.Whole.{ReadsFragment, FailsBehind, IsFragmentFault};
+ghost use Rattle.edf_fragment.specs.Inside.Steps.{ReadsRecords};
 
 use crate::fault::FragmentFault;
 use crate::open_fragment::OpenFragment;

@@ -26,26 +26,28 @@ pub(super) struct Header {
 }
 
 /// The header of file Q: one record of two EEG samples from 2002-03-02 23:59:50.
-pub(super) const Q: Header = Header {
-    version: "0",
-    patient: "P7 F 02-MAY-1951 X",
-    recording: "Startdate 02-MAR-2002 N1 T3 REC5",
-    startdate: "02.03.02",
-    starttime: "23.59.50",
-    header_bytes: "768",
-    reserved: "EDF+D",
-    count: "1",
-    duration: "1",
-    signals: "2",
-    label: "EEG Fpz-Cz",
-    dimension: b"uV",
-    physical: ["-440", "510"],
-    digital: ["-2048", "2047"],
-    samples: "2",
-    annotations_label: "EDF Annotations ",
-    annotations_samples: "3",
-    annotations_first: false,
-};
+pub(super) fn q() -> Header {
+    Header {
+        version: "0",
+        patient: "P7 F 02-MAY-1951 X",
+        recording: "Startdate 02-MAR-2002 N1 T3 REC5",
+        startdate: "02.03.02",
+        starttime: "23.59.50",
+        header_bytes: "768",
+        reserved: "EDF+D",
+        count: "1",
+        duration: "1",
+        signals: "2",
+        label: "EEG Fpz-Cz",
+        dimension: b"uV",
+        physical: ["-440", "510"],
+        digital: ["-2048", "2047"],
+        samples: "2",
+        annotations_label: "EDF Annotations ",
+        annotations_samples: "3",
+        annotations_first: false,
+    }
+}
 
 /// The data record of file Q.
 pub(super) const Q_RECORD: &[u8] = b"\x01\x00\xff\xff+0\x14\x14\0\0";

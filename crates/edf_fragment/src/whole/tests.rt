@@ -1,5 +1,5 @@
 use super::*;
-use crate::sample::{Night, Pieces, QUIET, SPARE, fragment};
+use crate::sample::{Night, Pieces, fragment, quiet_night, spare_night};
 use crate::streams::Counted;
 use edf_header::HeaderFault;
 use edf_tal::TalFault;
@@ -12,7 +12,7 @@ fn read(alloc: Global, bytes: &[u8]) -> Result<(Header, Vec<Record>), FragmentFa
 
 #[test]
 fn a_whole_fragment_is_read(rt: HostRuntime) -> Result<(), Fail> {
-    let bytes = fragment(rt.alloc(), &SPARE)?;
+    let bytes = fragment(rt.alloc(), &spare_night())?;
     let (header, records) = read(rt.alloc(), &bytes)?;
     assert_eq!(rt; header.count(), 2);
     assert_eq!(rt; records.len(), 2);
@@ -25,7 +25,7 @@ fn a_whole_fragment_is_read(rt: HostRuntime) -> Result<(), Fail> {
 fn bytes_that_are_no_fragment_are_refused_with_their_first_fault(
     rt: HostRuntime,
 ) -> Result<(), Fail> {
-    let quiet = fragment(rt.alloc(), &QUIET)?;
+    let quiet = fragment(rt.alloc(), &quiet_night())?;
     for (len, fault) in [
         (0usize, FragmentFault::Header(HeaderFault::Cut)),
         (255, FragmentFault::Header(HeaderFault::Cut)),
@@ -56,7 +56,7 @@ fn bytes_that_are_no_fragment_are_refused_with_their_first_fault(
     let late = [([0u8; 4], "+1\x14\x14\0")];
     let night = Night {
         records: &late,
-        ..QUIET
+        ..quiet_night()
     };
     let told = read(rt.alloc(), &fragment(rt.alloc(), &night)?).err();
     let fault = FragmentFault::Tal {
@@ -69,7 +69,7 @@ fn bytes_that_are_no_fragment_are_refused_with_their_first_fault(
 
 #[test]
 fn a_cut_second_record_is_told_by_its_number(rt: HostRuntime) -> Result<(), Fail> {
-    let bytes = fragment(rt.alloc(), &SPARE)?;
+    let bytes = fragment(rt.alloc(), &spare_night())?;
     for len in [886usize, 887, 1_003] {
         let front = bytes.get(..len).ok_or("bytes")?;
         let told = read(rt.alloc(), front).err();

@@ -13,7 +13,7 @@ loop-record-preserved c =
     let fs = c.args.file_start in
     let item = c.record-item.result in
     let value : length (block_of fs (get_or c.args.records.now c.loop-record.record-index item)) ≡ c.block_len.result =
-    ap (λ (r : DataRecord). length (block_of fs r)) (sym c.record-item.is) ∙ ap (λ n. length (block_text fs n item.annotations)) (sym c.start.ensures)
+    ap (λ (r : DataRecord). length (block_of fs r)) (sym c.record-item.is) ∙ ap (λ n. length (block_text fs n item.annotations)) (sym c.start.ensures.value)
     ∙ ap (λ (l : List Annotation). length (block_text fs c.start.result l)) (sym c.notes.ensures.value) ∙ sym c.block_len.ensures.value in
     record {
       holds = subst (λ n. All (λ r. length (block_of fs r) ≤ n) (take (c.loop-record.record-index + 1) c.args.records.now)) (sym c.max-longest.ensures)

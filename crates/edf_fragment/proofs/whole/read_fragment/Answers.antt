@@ -1,6 +1,6 @@
 use Rattle.std.proofs.Common.{◌≡◌, ◌∙◌, sym, subst}
 use Rattle.edf_header.specs.Header.{Layout}
-use Rattle.edf_fragment.specs.Reading.{ReadsFragment}
+use Rattle.edf_fragment.specs.Whole.{ReadsFragment}
 use Rattle.edf_fragment.proofs.Fragments.{open_refused, fragment_read, records_refused}
 use Rattle.edf_fragment.proofs.whole.read_fragment.Goals as goal
 

@@ -1,6 +1,6 @@
 use Rattle.std.proofs.Common.{◌≡◌, ◌-◌}
 use Rattle.edf_fragment.specs.declared.progress.Status.TheVariants.{Reading}
-use Rattle.edf_fragment.specs.Steps.{HasRead}
+use Rattle.edf_fragment.specs.Whole.{HasRead}
 use Rattle.edf_fragment.proofs.whole.read_records.Given as goal
 
 abbrev pub invariant-records : goal.invariant-records

@@ -1,0 +1,145 @@
+-- What the data records of a fragment have, and those that were read so far.
+use Rattle.std.proofs.Common.{◌≡◌, ℕ, ◌+◌, ◌*◌, ◌≤◌, ◌<◌, List, [], ◌∷◌, ◌++◌, length, take, drop, arith, sym, ap, ◌∙◌, subst, append-nil, length-append, Option, None, Some, Result, Ok, Err, IfOk, IfSome}
+use Rattle.std.proofs.lemmas.List.{length-take, length-drop}
+use Rattle.edf_field.specs.Number.{duration_of}
+use Rattle.edf_header.specs.Signal.{samples_in_all}
+use Rattle.edf_header.specs.Key.{Key, IsKey}
+use Rattle.edf_header.specs.Rows.{IsLayout}
+use Rattle.edf_header.specs.Header.{HeaderRecord, IsHeader, Layout, layout_of}
+use Rattle.edf_header.proofs.Cited.{key-duration-some}
+use Rattle.edf_header.proofs.Cited.{header-has-layout}
+use Rattle.edf_header.proofs.Cited.{one-header}
+use Rattle.edf_tal.specs.Tal.{Annotation}
+use Rattle.edf_tal.specs.Block.{IsRead}
+use Rattle.edf_tal.specs.declared.place.Place.{Place}
+use Rattle.edf_tal.specs.declared.place.Place.TheVariants.{First, After, Any}
+use Rattle.edf_tal.proofs.Cited.{read-start, read-notes}
+use Rattle.edf_fragment.specs.Fragment.{DataRecord, IsDataRecord, AreDataRecords, place_behind, ordinary_bytes, Spells}
+use Rattle.edf_fragment.specs.Sound.{IsKept, IsSoundRecord, AreSound}
+use Rattle.edf_fragment.specs.Reading.{ReadsHeader, IsNext}
+use Rattle.edf_fragment.specs.Whole.{HasRead}
+use Rattle.edf_fragment.specs.declared.progress.Progress.{Progress}
+use Rattle.edf_fragment.specs.declared.fault.FragmentFault.{FragmentFault}
+use Rattle.edf_fragment.proofs.OneFragment.{goes_on}
+use Rattle.edf_fragment.proofs.Runs.{AreDataRecords-more, IsHeader-more}
+
+-- ---- one data record
+
+-- from where on records at a place start
+abbrev least_start : Place → ℕ
+least_start First = 0
+least_start (After before duration) = before + duration
+least_start Any = 0
+
+low-start : (bytes : List ℕ) (file_start : ℕ) (place : Place) (start : ℕ) (list : List Annotation) → IsRead bytes file_start place start list → least_start place ≤ start
+low-start bytes file_start First start list read = omega arith
+low-start bytes file_start Any start list read = omega arith
+low-start bytes file_start (After before duration) start list read = omega (arith, read.keeps, read.start_is)
+
+samples-len : (l : Layout) (place : Place) (bytes : List ℕ) (r : DataRecord) → IsLayout l → IsDataRecord l place bytes r → length r.samples ≡ 2 * samples_in_all l.key.signals
+samples-len l place bytes r in_layout is =
+    let all : length r.samples ≡ length (take l.block_at bytes ++ drop (l.block_at + l.block_bytes) bytes) = ap (λ (x : List ℕ). length x) is.samples_are in
+    omega (
+      arith,
+      all,
+      is.len,
+      in_layout.inside,
+      in_layout.parts,
+      length-append (take l.block_at bytes) (drop (l.block_at + l.block_bytes) bytes),
+      length-take l.block_at bytes,
+      length-drop (l.block_at + l.block_bytes) bytes,
+    )
+
+sound-record : (l : Layout) (place : Place) (bytes : List ℕ) (r : DataRecord) → IsLayout l → IsDataRecord l place bytes r → IsSoundRecord l.key r
+sound-record l place bytes r in_layout is = record {
+  samples_len = samples-len l place bytes r in_layout is;
+  start = read-start _ _ _ _ _ is.read;
+  limits = is.read.limits;
+  notes = read-notes _ _ _ _ _ is.read;
+}
+
+-- such a record may be kept in memory
+pub read-kept : (bytes : List ℕ) (file_start : ℕ) (place : Place) (start : ℕ) (samples : List ℕ) (list : List Annotation) → length samples ≤ 4_194_304
+    → IsRead bytes file_start place start list → IsKept (record { start = start; samples = samples; annotations = list })
+read-kept bytes file_start place start samples list few read = record {
+  size = record { samples = few; annotations = read.limits };
+  start = read-start _ _ _ _ _ read;
+  notes = read-notes _ _ _ _ _ read;
+}
+
+-- the next record, where one is given
+pub sound-next : (l : Layout) (from : Progress) (left rest : Option (List ℕ)) (result : Result (Option DataRecord) FragmentFault) → IsLayout l → IsNext l from left rest result
+    → IfOk result (λ next. IfSome next (λ r. IsSoundRecord l.key r))
+sound-next l from left rest (Ok (Some r)) in_layout gives = sound-record l from.place gives.bytes r in_layout gives.is_record
+sound-next l from left rest (Ok None) in_layout ends = tt
+sound-next l from left rest (Err fault) in_layout is = tt
+
+-- ---- all of them
+
+are-sound : (l : Layout) (place : Place) (bytes : List ℕ) (rs : List DataRecord) (last : Place) (rest : List ℕ) → IsLayout l
+    → AreDataRecords l place bytes rs last rest → AreSound l.key (least_start place) rs
+are-sound l place bytes [] last rest in_layout are = tt
+are-sound l place bytes (r ∷ rs) last rest in_layout (front, back, parts, is, more) = (
+  sound-record l place front r in_layout is,
+  low-start _ _ _ _ _ is.read,
+  are-sound l (place_behind l r.start) back rs last rest in_layout more,
+)
+
+-- the bounds of the header that bytes spell
+spelled-layout : (bytes : List ℕ) (k : Key) (rs : List DataRecord) (s : Spells bytes k rs) → IsLayout (layout_of s.header)
+spelled-layout bytes k rs s = header-has-layout bytes s.header s.rest s.is_header
+
+pub spelled-key : (bytes : List ℕ) (k : Key) (rs : List DataRecord) → Spells bytes k rs → IsKey k
+spelled-key bytes k rs s = subst IsKey (sym s.key) (spelled-layout bytes k rs s).key
+
+pub spelled-lasts : (bytes : List ℕ) (k : Key) (rs : List DataRecord) → Spells bytes k rs → 0 < duration_of k.duration
+spelled-lasts bytes k rs s = key-duration-some k (spelled-key bytes k rs s)
+
+pub spelled-some : (bytes : List ℕ) (k : Key) (rs : List DataRecord) → Spells bytes k rs → 1 ≤ length rs
+spelled-some bytes k rs s = omega (arith, s.count, (spelled-layout bytes k rs s).some)
+
+pub spelled-few : (bytes : List ℕ) (k : Key) (rs : List DataRecord) → Spells bytes k rs → length rs ≤ 99_999_999
+spelled-few bytes k rs s = omega (arith, s.count, (spelled-layout bytes k rs s).few)
+
+pub spelled-sound : (bytes : List ℕ) (k : Key) (rs : List DataRecord) → Spells bytes k rs → AreSound k 0 rs
+spelled-sound bytes k rs s =
+    subst (λ (x : Key). AreSound x 0 rs) (sym s.key) (are-sound (layout_of s.header) First s.rest rs s.last [] (spelled-layout bytes k rs s) s.are_records)
+
+-- ---- those that were read so far
+
+read-layout : (left rest : Option (List ℕ)) (l : Layout) → ReadsHeader left rest l → IsLayout l
+read-layout left rest l h = subst IsLayout (sym h.layout_is) (header-has-layout h.bytes h.header [] h.is_header)
+
+pub read-key : (left rest : Option (List ℕ)) (l : Layout) → ReadsHeader left rest l → IsKey l.key
+read-key left rest l h = (read-layout left rest l h).key
+
+pub read-sound : (left one two : Option (List ℕ)) (l : Layout) (rs : List DataRecord) (p : Progress) → ReadsHeader left one l → HasRead l one two rs p → AreSound l.key 0 rs
+read-sound left one two l rs p h b = are-sound l First b.bytes rs p.place [] (read-layout left one l h) b.are_records
+
+-- a list that begins with another
+abbrev pub Begins : List DataRecord → List DataRecord → Type 0
+Begins all rs = (later : List DataRecord) × (all ≡ rs ++ later)
+
+-- behind the same header, in the same bytes
+front-of : (a b c : List ℕ) (h g : HeaderRecord) (rest : List ℕ) (rs all : List DataRecord) (p q : Place) → IsHeader (a ++ (b ++ c)) g rest → IsHeader a h []
+    → AreDataRecords (layout_of h) First b rs p [] → AreDataRecords (layout_of g) First rest all q [] → length rs ≤ length all
+    → ((layout_of g).key ≡ (layout_of h).key) × Begins all rs
+front-of a b c h g rest rs all p q is read are spelled few =
+    let one = one-header (a ++ (b ++ c)) g h rest (b ++ c) is (IsHeader-more a (b ++ c) h read) in
+    let here = AreDataRecords-more (layout_of h) First p b [] c rs are in
+    let there = subst (λ (x : HeaderRecord). AreDataRecords (layout_of x) First (b ++ c) all q []) one.0 (subst (λ (x : List ℕ). AreDataRecords (layout_of g) First x all q []) one.1 spelled) in
+    let on = goes_on (layout_of h) First p q (b ++ c) c [] rs all few here there in
+    (ap (λ (x : HeaderRecord). (layout_of x).key) one.0, (on.others, on.all))
+
+pub read-front : (all : List ℕ) (one two : Option (List ℕ)) (l : Layout) (rs : List DataRecord) (p : Progress) (k : Key) (others : List DataRecord)
+    → ReadsHeader (Some all) one l → HasRead l one two rs p → Spells all k others → (k ≡ l.key) × Begins others rs
+read-front all None two l rs p k others h b s = absurd h.read
+read-front all (Some one) None l rs p k others h b s = absurd b.read
+read-front all (Some one) (Some two) l rs p k others h b s =
+    let parts : all ≡ h.bytes ++ (b.bytes ++ two) = h.read ∙ ap (λ (x : List ℕ). h.bytes ++ x) b.read in
+    let are = subst (λ (x : Layout). AreDataRecords x First b.bytes rs p.place []) h.layout_is b.are_records in
+    let is = subst (λ (x : List ℕ). IsHeader x s.header s.rest) parts s.is_header in
+    let same = (one-header (h.bytes ++ (b.bytes ++ two)) s.header h.header s.rest (b.bytes ++ two) is (IsHeader-more h.bytes (b.bytes ++ two) h.header h.is_header)).0 in
+    let counts : (layout_of s.header).count ≡ l.count = ap (λ (x : HeaderRecord). (layout_of x).count) same ∙ ap (λ (x : Layout). x.count) (sym h.layout_is) in
+    let front = front-of h.bytes b.bytes two h.header s.header s.rest rs others p.place s.last is h.is_header are s.are_records (omega (arith, b.given, b.within, s.count, counts)) in
+    (s.key ∙ front.0 ∙ ap (λ (x : Layout). x.key) (sym h.layout_is), front.1)

@@ -1,0 +1,92 @@
+-- Each list of bytes spells a fragment or has a first fault.
+use Rattle.std.proofs.Common.{◌≡◌, ℕ, zero, suc, ◌+◌, ◌≤◌, ◌⊎◌, inl, inr, List, [], ◌∷◌, ◌++◌, length, take, drop, arith, refl, sym, ap, ◌∙◌, subst, length-append}
+use Rattle.std.proofs.lemmas.Bool.{cases_lt}
+use Rattle.std.proofs.lemmas.List.{length-take, take-append-drop}
+use Rattle.edf_header.specs.Key.{Key}
+use Rattle.edf_header.specs.Header.{HeaderRecord, IsHeader, Layout, layout_of}
+use Rattle.edf_header.proofs.Cited.{header-or-fault}
+use Rattle.edf_tal.specs.Tal.{Annotation}
+use Rattle.edf_tal.specs.Block.{IsRead}
+use Rattle.edf_tal.specs.declared.place.Place.{Place}
+use Rattle.edf_tal.specs.declared.place.Place.TheVariants.{First}
+use Rattle.edf_tal.proofs.Cited.{some-answer as some-block}
+use Rattle.edf_fragment.specs.Fragment.{DataRecord, IsDataRecord, AreDataRecords, place_behind, block, ordinary_bytes, Spells}
+use Rattle.edf_fragment.specs.Fault.{ReadsUpTo, IsFirstFault}
+use Rattle.edf_fragment.specs.declared.fault.FragmentFault.{FragmentFault}
+use Rattle.edf_fragment.specs.declared.fault.FragmentFault.TheVariants.{Header as BadHeader, CutRecord, Tal, Trailing}
+use Rattle.edf_fragment.proofs.HeaderParts.{field_front}
+use Rattle.edf_fragment.specs.Told.{Told, Fragment, Fault, Tells}
+use Rattle.edf_fragment.proofs.Runs.{layout-fits}
+use Rattle.edf_fragment.proofs.OneFragment.{one-fragment, spelled-no-fault, one-first-fault}
+
+-- one more data record, at the front of what is left
+AreDataRecords-next : (l : Layout) (p q : Place) (b left front back : List ℕ) (rs : List DataRecord) (r : DataRecord)
+    → AreDataRecords l p b rs q left → left ≡ front ++ back → IsDataRecord l q front r → AreDataRecords l p b (rs ++ r ∷ []) (place_behind l r.start) back
+AreDataRecords-next l p q b left front back [] r (place, rest) parts is =
+    (front, back, sym rest ∙ parts, subst (λ (x : Place). IsDataRecord l x front r) place is, (refl, refl))
+AreDataRecords-next l p q b left front back (x ∷ rs) r (first, others, halves, one, more) parts is =
+    (first, others, halves, one, AreDataRecords-next l (place_behind l x.start) q others left front back rs r more parts is)
+
+-- a key and data records, or a fault
+abbrev pub HasAnswer : List ℕ → Type 0
+HasAnswer b = ((k : Key) × (rs : List DataRecord) × Spells b k rs) ⊎ ((e : FragmentFault) × IsFirstFault b e)
+
+module _ (b : List ℕ) (h : HeaderRecord) (rest : List ℕ) (is : IsHeader b h rest) where
+  -- so far
+  abbrev up-to : (rs : List DataRecord) (last : Place) (left : List ℕ) → AreDataRecords (layout_of h) First rest rs last left → ReadsUpTo b
+  up-to rs last left are = record { header = h; rest = rest; records = rs; last = last; left = left; is_header = is; are_records = are }
+
+  at-end : (rs : List DataRecord) (last : Place) (left : List ℕ) → AreDataRecords (layout_of h) First rest rs last left → length rs ≡ (layout_of h).count → HasAnswer b
+  at-end rs last [] are all =
+      inl ((layout_of h).key, rs, record { header = h; rest = rest; last = last; is_header = is; key = refl; are_records = are; count = all })
+  at-end rs last (x ∷ left) are all = inr (Trailing, record { up_to = up-to rs last (x ∷ left) are; all = all; more = omega arith })
+
+  -- the data record at the front of enough bytes
+  next-record : (last : Place) (left : List ℕ) (start : ℕ) (list : List Annotation) → (layout_of h).record_bytes ≤ length left
+      → IsRead (block (layout_of h) left) (layout_of h).start last start list
+      → IsDataRecord (layout_of h) last (take (layout_of h).record_bytes left) (record { start = start; samples = ordinary_bytes (layout_of h) (take (layout_of h).record_bytes left); annotations = list })
+  next-record last left start list whole read =
+      let l = layout_of h in
+      let n = (layout_of h).record_bytes in
+      let len : length (take n left) ≡ n = omega (arith, length-take n left) in
+      let parts : left ≡ take n left ++ drop n left = sym (take-append-drop n left) in
+      let same : block l left ≡ block l (take n left) = ap (block l) parts ∙ field_front (take n left) (drop n left) l.block_at l.block_bytes (omega (arith, layout-fits h)) in
+      record { len = len; read = subst (λ (x : List ℕ). IsRead x l.start last start list) same read; samples_are = refl }
+
+  walk : (n : ℕ) (rs : List DataRecord) (last : Place) (left : List ℕ) → AreDataRecords (layout_of h) First rest rs last left → length rs + n ≡ (layout_of h).count → HasAnswer b
+  walk zero rs last left are all = at-end rs last left are (omega arith)
+  walk (suc n) rs last left are all =
+      elim (cases_lt (length left) (layout_of h).record_bytes) [
+        | inl cut ↦ inr (CutRecord (length rs + 1), record { up_to = up-to rs last left are; is_nth = refl; wanted = omega arith; cut = cut })
+        | inr whole ↦ elim (some-block (block (layout_of h) left) (layout_of h).start last) [
+          | inl r ↦
+              let size = (layout_of h).record_bytes in
+              let one = next-record last left r.0 r.1 whole r.2 in
+              let new : DataRecord = record { start = r.0; samples = ordinary_bytes (layout_of h) (take size left); annotations = r.1 } in
+              walk n (rs ++ new ∷ []) (place_behind (layout_of h) r.0) (drop size left)
+              (AreDataRecords-next (layout_of h) First last rest left (take size left) (drop size left) rs new are (sym (take-append-drop size left)) one)
+              (omega (arith, length-append rs (new ∷ [])))
+          | inr f ↦ inr (Tal (length rs + 1) f.0, record { up_to = up-to rs last left are; is_nth = refl; wanted = omega arith; whole = whole; refused = f.1 })
+        ]
+      ]
+
+some-answer : (b : List ℕ) → HasAnswer b
+some-answer b = elim (header-or-fault b) [
+  | inl h ↦ walk b h.0 h.1 h.2 (layout_of h.0).count [] First h.1 (refl, refl) (omega arith)
+  | inr f ↦ inr (BadHeader f.0, f.1)
+]
+
+-- what bytes tell, and that they tell no other
+pub some-telling : (b : List ℕ) → (t : Told) × Tells b t
+some-telling b = elim (some-answer b) [
+  | inl s ↦ (Fragment s.0 s.1, s.2)
+  | inr f ↦ (Fault f.0, f.1)
+]
+
+pub one-telling : (b : List ℕ) (t u : Told) → Tells b t → Tells b u → t ≡ u
+one-telling b (Fragment k rs) (Fragment j ss) x y =
+    let same = one-fragment b k j rs ss x y in
+    ap (λ (z : Key). Fragment z rs) same.key ∙ ap (λ (z : List DataRecord). Fragment j z) same.records
+one-telling b (Fragment k rs) (Fault f) x y = absurd (spelled-no-fault b k rs f x y)
+one-telling b (Fault e) (Fragment j ss) x y = absurd (spelled-no-fault b j ss e y x)
+one-telling b (Fault e) (Fault f) x y = ap (λ (z : FragmentFault). Fault z) (one-first-fault b e f x y)

@@ -1,0 +1,5 @@
+use Rattle.edf_fragment.proofs.Sound.{read-key, read-sound, read-front}
+use Rattle.edf_fragment.proofs.laws.records_so_far.Goals as goal
+
+pub returns : goal.returns
+returns c = record { key = read-key; sound = read-sound; front = read-front }
