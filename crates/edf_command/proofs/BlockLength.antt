@@ -6,10 +6,10 @@ use Rattle.std.specs.Prelude.{Option, None, Some, unsigned_abs, pos, ◌-ℤ◌}
 use Rattle.std.proofs.lemmas.List.Sums.{sum_by-cons}
 use Rattle.std.proofs.lemmas.Int.{ints}
 use Rattle.std.proofs.lemmas.Str.{IsUtf8-nil}
-use Rattle.edf_tal.proofs.Lengths.{length-short-window}
+use Rattle.edf_time.proofs.Cited.{length-short-window}
 use Rattle.edf_time.specs.Civil.{window}
 use Rattle.edf_tal.specs.Tal.{Annotation}
-use Rattle.edf_tal.specs.Note.{IsNote}
+use Rattle.edf_tal.specs.Tal.{IsAnnotation}
 use Rattle.edf_tal.specs.Block.{IsWithinLimits}
 use Rattle.edf_tal.specs.Canonical.{onset_text, duration_text, tal_text, time_keeping, block_text}
 
@@ -20,7 +20,7 @@ duration-length : (d : Option ℕ) → IfSome d (λ n. n < window) → length (d
 duration-length None h = omega arith
 duration-length (Some n) h = omega (arith, length-short-window n h)
 
-tal-length : (base : ℕ) (a : Annotation) → base < window → IsNote a → length (tal_text base a) ≤ 45 + length a.text
+tal-length : (base : ℕ) (a : Annotation) → base < window → IsAnnotation a → length (tal_text base a) ≤ 45 + length a.text
 tal-length base a low is =
     omega (
       arith,
@@ -31,17 +31,17 @@ tal-length base a low is =
       duration-length a.duration is.duration,
     )
 
-tals-length : (base : ℕ) (list : List Annotation) → base < window → AllByRecursion IsNote list
+tals-length : (base : ℕ) (list : List Annotation) → base < window → AllByRecursion IsAnnotation list
     → length (flat_map (tal_text base) list) ≤ 45 * length list + sum_by (λ a. length a.text) list
 tals-length base [] low all = omega arith
 tals-length base (a ∷ list) low (is, all) =
     omega (arith, length-append (tal_text base a) (flat_map (tal_text base) list), tal-length base a low is, tals-length base list low all, sum_by-cons (λ (x : Annotation). length x.text) a list)
 
 -- a canonical block within the limits has at most this many bytes
-pub block-length : (base start : ℕ) (list : List Annotation) → base < window → start < window → IsWithinLimits list → AllByRecursion IsNote list
+pub block-length : (base start : ℕ) (list : List Annotation) → base < window → start < window → IsWithinLimits list → AllByRecursion IsAnnotation list
     → length (block_text base start list) ≤ 1_450_045
 block-length base start list low start-in limits all =
-    let keeps : IsNote (time_keeping start) = record { onset = start-in; duration = tt; text = tt; utf8 = IsUtf8-nil } in
+    let keeps : IsAnnotation (time_keeping start) = record { onset = start-in; duration = tt; text = tt; utf8 = IsUtf8-nil } in
     omega (
       arith,
       length-append (tal_text base (time_keeping start)) (flat_map (tal_text base) list),

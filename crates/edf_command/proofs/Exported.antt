@@ -2,13 +2,13 @@
 use Rattle.std.proofs.Common.{◌≡◌, ℕ, ◌+◌, ◌-◌, ◌*◌, ◌^◌, ◌≤◌, ◌<◌, List, [], ◌∷◌, ◌++◌, length, sym, ◌∙◌, subst, replicate, All}
 use Rattle.std.proofs.lemmas.List.Elements.{All-head, All-tail}
 use Rattle.std.specs.List.{AllByRecursion}
-use Rattle.edf_tal.proofs.Again.{read-first, read-after, read-any}
+use Rattle.edf_tal.proofs.Cited.{read-first, read-after, read-any}
 use Rattle.edf_time.specs.Civil.{window}
 use Rattle.edf_field.specs.Number.{duration_of}
 use Rattle.edf_header.specs.Signal.{samples_in_all}
 use Rattle.edf_header.specs.Header.{Layout}
 use Rattle.edf_tal.specs.Tal.{Annotation}
-use Rattle.edf_tal.specs.Note.{IsNote}
+use Rattle.edf_tal.specs.Tal.{IsAnnotation}
 use Rattle.edf_tal.specs.Block.{IsRead, IsWithinLimits}
 use Rattle.edf_tal.specs.Canonical.{block_text}
 use Rattle.edf_tal.specs.declared.place.Place.{Place}
@@ -26,7 +26,7 @@ MayStand Any base start = Unit {0}
 
 -- a written block is read again
 again : (place : Place) (base start zeros : ℕ) (list : List Annotation) → MayStand place base start → start < window → base < window
-    → IsWithinLimits list → AllByRecursion IsNote list → IsRead (block_text base start list ++ replicate zeros 0) base place start list
+    → IsWithinLimits list → AllByRecursion IsAnnotation list → IsRead (block_text base start list ++ replicate zeros 0) base place start list
 again First base start zeros list stands start-in base-in limits notes = read-first base start zeros list base-in start-in notes limits stands.0 stands.1
 again (After before duration) base start zeros list stands start-in base-in limits notes = read-after base start zeros before duration list base-in start-in notes limits stands
 again Any base start zeros list stands start-in base-in limits notes = read-any base start zeros list base-in start-in notes limits

@@ -3,8 +3,8 @@ use Rattle.std.proofs.Common.{◌≡◌, ℕ, ◌+◌, ◌*◌, ◌^◌, ◌≤�
 use Rattle.std.specs.List.{flat_map}
 use Rattle.std.proofs.lemmas.List.Elements.{All-head, All-cons, All-nil}
 use Rattle.edf_header.specs.Spelled.{spelled_layout}
-use Rattle.edf_header.proofs.ExportOne.{one-export}
-use Rattle.edf_header.proofs.ExportHeader.{export-reads}
+use Rattle.edf_header.proofs.Cited.{one-export}
+use Rattle.edf_header.proofs.Cited.{export-reads}
 use Rattle.edf_command.proofs.BlockLength.{block-length}
 use Rattle.edf_time.specs.Civil.{window}
 use Rattle.edf_field.specs.Number.{duration_of}

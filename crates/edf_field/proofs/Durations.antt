@@ -9,7 +9,7 @@ use Rattle.std.specs.Prelude.{IsTrue, replicate}
 use Rattle.std.specs.Option.{unwrap_or}
 use Rattle.std.specs.Char.{is_ascii_digit, digit_value}
 use Rattle.std.specs.Str.Parse.{AllDigits, digits_value}
-use Rattle.edf_time.specs.Decimal.{IsDecimal, IsFine, IsSeconds, IsDecimalFault, places}
+use Rattle.edf_time.specs.Decimal.{IsDecimal, IsFine, IsSeconds, IsDecimalFault, fraction_value as places}
 use Rattle.edf_time.specs.declared.decimal.DecimalFault.{DecimalFault}
 use Rattle.edf_time.specs.declared.decimal.DecimalFault.TheVariants.{Syntax, TooFine, TooLarge}
 use Rattle.edf_field.specs.Number.{AreSpaces, digits, behind_digits, fraction, front_len, IsDuration, duration_of}
@@ -19,27 +19,27 @@ use Rattle.edf_field.proofs.Grammar.{front, after, tail-off, fraction-is, spaces
 is-digit : (c : ℕ) → digit_value c < 10 → IsTrue (is_ascii_digit c)
 is-digit c h = grind (arith, nat_tests)
 
-digits-are : (ds : List ℕ) → AllDigits 10 ds → AreDigits ds
+pub digits-are : (ds : List ℕ) → AllDigits 10 ds → AreDigits ds
 digits-are [] h = tt
 digits-are (d ∷ ds) h = (is-digit d h.0, digits-are ds h.1)
 
-abbrev point : List ℕ → Option (List ℕ)
+abbrev pub point : List ℕ → Option (List ℕ)
 point [] = None
 point (d ∷ ds) = Some (d ∷ ds)
 
-unpoint : (f : List ℕ) → unwrap_or (point f) [] ≡ f
+pub unpoint : (f : List ℕ) → unwrap_or (point f) [] ≡ f
 unpoint [] = refl
 unpoint (d ∷ ds) = refl
 
-shape : (t w f : List ℕ) → IsDecimal t w f → t ≡ w ++ point_text (point f)
+pub shape : (t w f : List ℕ) → IsDecimal t w f → t ≡ w ++ point_text (point f)
 shape t w [] d = d.1 ∙ sym (append-nil w)
 shape t w (c ∷ f) d = d.2
 
-whole-digits : (t w f : List ℕ) → IsDecimal t w f → AllDigits 10 w
+pub whole-digits : (t w f : List ℕ) → IsDecimal t w f → AllDigits 10 w
 whole-digits t w [] d = d.0.1
 whole-digits t w (c ∷ f) d = d.0.1
 
-fraction-digits : (t w f : List ℕ) → IsDecimal t w f → AllDigits 10 f
+pub fraction-digits : (t w f : List ℕ) → IsDecimal t w f → AllDigits 10 f
 fraction-digits t w [] d = tt
 fraction-digits t w (c ∷ f) d = d.1.1
 

@@ -25,7 +25,7 @@ after ds rest all off = rw (len-at ds rest all off) (drop_at ds rest (length ds)
 no-sign : (d : ℕ) → IsTrue (is_ascii_digit d) → ((d == 43) || (d == 45)) ≡ false
 no-sign d h = grind (arith, nat_tests)
 
-unsigned-is : (sign : Option Bool) (d : ℕ) (ds rest : List ℕ) → IsTrue (is_ascii_digit d) → unsigned (sign_text sign ++ (d ∷ ds ++ rest)) ≡ d ∷ ds ++ rest
+pub unsigned-is : (sign : Option Bool) (d : ℕ) (ds rest : List ℕ) → IsTrue (is_ascii_digit d) → unsigned (sign_text sign ++ (d ∷ ds ++ rest)) ≡ d ∷ ds ++ rest
 unsigned-is None d ds rest h = rw (no-sign d h) refl
 unsigned-is (Some true) d ds rest h = refl
 unsigned-is (Some false) d ds rest h = refl
@@ -47,7 +47,7 @@ pub fraction-is : (point : Option (List ℕ)) (n : ℕ) → AreDigits (unwrap_or
 fraction-is None n all = rw (padding n).1 refl
 fraction-is (Some ds) n all = front ds (replicate n 32) all (padding n).0
 
-rest-is : (point : Option (List ℕ)) (n : ℕ) → AreDigits (unwrap_or point []) → behind_fraction (point_text point ++ replicate n 32) ≡ replicate n 32
+pub rest-is : (point : Option (List ℕ)) (n : ℕ) → AreDigits (unwrap_or point []) → behind_fraction (point_text point ++ replicate n 32) ≡ replicate n 32
 rest-is None n all = rw (padding n).1 refl
 rest-is (Some ds) n all = after ds (replicate n 32) all (padding n).0
 

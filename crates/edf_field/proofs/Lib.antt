@@ -3,3 +3,10 @@ pub mod Grammar
 pub mod Durations
 pub mod Recordings
 pub mod Subfields
+pub mod WrittenNumbers
+pub mod Decimals
+pub mod DecimalDigits
+pub mod NumberTexts
+pub mod PhysicalNumbers
+pub mod DurationTexts
+pub mod Cited

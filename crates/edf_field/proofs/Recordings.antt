@@ -2,8 +2,7 @@
 use Rattle.std.proofs.Common.{◌≡◌, ◌≢◌, ℕ, ◌+◌, ◌/◌, List, get_or, take, drop, arith, refl, sym, ap, ◌∙◌, subst, ℤ, Option, Some, None}
 use Rattle.std.specs.Prelude.{codes}
 use Rattle.std.proofs.lemmas.List.{get_or-take, take-take, get_or-drop}
-use Rattle.edf_time.proofs.OneDay.{in-bounds}
-use Rattle.edf_time.proofs.IdDates.{one-id_day}
+use Rattle.edf_time.proofs.Cited.{in-bounds, one-id_day}
 use Rattle.edf_field.specs.Number.{field}
 use Rattle.edf_field.specs.Text.{IsStartdate, IsRecording, IsBehindStartdate}
 use Rattle.edf_time.specs.Civil.{IsIdDate}

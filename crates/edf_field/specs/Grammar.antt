@@ -1,9 +1,10 @@
--- How a physical value is spelled: a sign or none, digits, maybe a dot and digits, and spaces.
-use Rattle.std.specs.Prelude.{◌≡◌, ℕ, ◌+◌, ◌*◌, ◌^◌, Bool, List, [], ◌∷◌, ◌++◌, length, replicate, Option, Some, None, IsTrue, if◌then◌else◌}
+-- The grammar of number texts: a sign or none, digits, maybe a dot and digits, and spaces.
+use Rattle.std.specs.Prelude.{◌≡◌, ◌≢◌, ℕ, ◌+◌, ◌-◌, ◌*◌, ◌^◌, ◌<◌, ◌≤◌, Bool, false, List, [], ◌∷◌, ◌++◌, length, replicate, Option, Some, None, IsTrue, if◌then◌else◌, ℤ}
+use Rattle.std.specs.Option.{unwrap_or}
 use Rattle.std.specs.List.{AllByRecursion}
 use Rattle.std.specs.Char.{is_ascii_digit}
 use Rattle.std.specs.Str.Parse.{digits_value}
-use Rattle.edf_field.specs.Number.{IsPhysical, fraction_len, unscaled}
+use Rattle.edf_field.specs.Number.{IsPhysical, fraction_len, unscaled, signed}
 
 abbrev pub sign_text : Option Bool → List ℕ
 sign_text None = []
@@ -24,3 +25,57 @@ pub record IsSpelledAs (field whole part : List ℕ) : Type 0 where
   pub is_physical : IsPhysical field
   pub places_are : fraction_len field ≡ length part
   pub size_is : unscaled field ≡ digits_value 10 whole * 10 ^ length part + digits_value 10 part
+
+-- a text is a sign or none, one digit or more, maybe a dot and zero or more digits, and then only spaces
+pub record IsNumberText (text : List ℕ) (sign : Option Bool) (whole : List ℕ) (point : Option (List ℕ)) : Type 0 where
+  pub some : 0 < length whole
+  pub whole_digits : AreDigits whole
+  pub part_digits : AreDigits (unwrap_or point [])
+  pub spaces : ℕ
+  pub spelling : text ≡ spelled sign whole point spaces
+
+-- a whole number: no sign and no dot
+abbrev pub IsWholeText : List ℕ → ℕ → Type 0
+IsWholeText text n = (whole : List ℕ) × IsNumberText text None whole None × (n ≡ digits_value 10 whole)
+
+-- only a minus makes it negative
+abbrev pub with_sign : Option Bool → ℕ → ℤ
+with_sign sign n = signed (unwrap_or sign false) n
+
+-- a signed whole number: no dot
+abbrev pub IsSignedText : List ℕ → ℤ → Type 0
+IsSignedText text z = (sign : Option Bool) × (whole : List ℕ) × IsNumberText text sign whole None × (z ≡ with_sign sign (digits_value 10 whole))
+
+-- the digits of a decimal that is written to so many places behind its dot, zeros at the end
+abbrev pub filled : List ℕ → List ℕ → ℕ → List ℕ
+filled whole part at = whole ++ (part ++ replicate (at - length part) 48)
+
+-- and with so many digits before it, zeros at the front
+abbrev pub widened : List ℕ → List ℕ → ℕ → ℕ → List ℕ
+widened whole part wide at = replicate (wide - length whole) 48 ++ filled whole part at
+
+-- a physical value that is z where it counts in the last of `at` places behind the dot
+pub record IsPhysicalText (text : List ℕ) (at : ℕ) (z : ℤ) : Type 0 where
+  pub sign : Option Bool
+  pub whole : List ℕ
+  pub point : Option (List ℕ)
+  pub number : IsNumberText text sign whole point
+  pub places_in : length (unwrap_or point []) ≤ at
+  pub value : z ≡ with_sign sign (digits_value 10 (filled whole (unwrap_or point []) at))
+
+-- a duration: a decimal without a sign, and with a digit behind its dot; its seconds, the number of all its digits over so many
+-- places, are these nanoseconds, more than none
+pub record IsDurationText (text : List ℕ) (nanos : ℕ) : Type 0 where
+  pub whole : List ℕ
+  pub point : Option (List ℕ)
+  pub number : IsNumberText text None whole point
+  pub behind_dot : point ≢ Some []
+  pub value : nanos * 10 ^ length (unwrap_or point []) ≡ digits_value 10 (whole ++ unwrap_or point []) * 10 ^ 9
+  pub some : 0 < nanos
+
+-- a decimal's digits, of which so many at most stand before its dot and behind it
+pub record AreDecimalDigits (whole part : List ℕ) (wide at : ℕ) : Type 0 where
+  pub whole_digits : AreDigits whole
+  pub part_digits : AreDigits part
+  pub whole_in : length whole ≤ wide
+  pub part_in : length part ≤ at

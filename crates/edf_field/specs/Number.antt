@@ -3,7 +3,7 @@ use Rattle.std.specs.Prelude.{◌≡◌, ◌≢◌, ℕ, ◌+◌, ◌*◌, ◌^�
 use Rattle.std.specs.List.{prefix_len}
 use Rattle.std.specs.Char.{is_ascii_digit}
 use Rattle.std.specs.Str.Parse.{digits_value}
-use Rattle.edf_time.specs.Decimal.{IsSeconds, places as decimal_places}
+use Rattle.edf_time.specs.Decimal.{IsSeconds, fraction_value as decimal_places}
 
 -- so many bytes from this place on
 abbrev pub field : List ℕ → ℕ → ℕ → List ℕ

@@ -4,10 +4,12 @@
 //! - [`read_duration`]: the duration of a data record.
 //! - [`next_subfield`]: the subfields of an identification, one after the other.
 //! - [`is_patient`], [`read_recording`], [`is_behind_startdate`]: the patient and the recording identification.
+//! - [`laws_grammar`]: number texts are read exactly where the grammar has them.
 //! - [`laws`]: what the definitions of these texts come to; functions that do nothing, each with a law for a contract.
 #![tactic(auto)]
 
 pub mod laws;
+pub mod laws_grammar;
 mod number;
 mod patient;
 mod physical;

@@ -3,7 +3,7 @@ use Rattle.std.proofs.Common.{◌≡◌, ℕ, ◌+◌, ◌*◌, ◌≤◌, ◌<�
 use Rattle.std.proofs.lemmas.List.{take_all, length-take, length-drop, drop-append-le, take-append-le}
 use Rattle.std.specs.Io.KnownBytes.{Consumes, IsAtEnd}
 use Rattle.std.proofs.KnownBytes.{Consumes-trans}
-use Rattle.edf_header.proofs.FixedLaws.{fixed-clean}
+use Rattle.edf_header.proofs.Cited.{fixed-clean}
 use Rattle.edf_field.specs.Number.{field, IsNumber}
 use Rattle.edf_header.specs.Header.{FixedPart, IsFixedHeader, IsHeader, Layout}
 use Rattle.edf_header.specs.Fault.{FixedPartFails, SignalsFail, HasSignals, IsHeaderFault, IsFirst, IsClean, IsSignalsRefusal, header_fault_number}

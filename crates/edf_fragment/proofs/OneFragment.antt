@@ -7,7 +7,7 @@ use Rattle.edf_tal.specs.Block.{IsBlockFault}
 use Rattle.edf_tal.specs.declared.place.Place.{Place}
 use Rattle.edf_tal.specs.declared.place.Place.TheVariants.{First}
 use Rattle.edf_tal.specs.declared.place.TalFault.{TalFault}
-use Rattle.edf_tal.proofs.OneAnswer.{one-read, read-no-fault, one-fault}
+use Rattle.edf_tal.proofs.Cited.{one-read, read-no-fault, one-fault}
 use Rattle.edf_fragment.specs.Fragment.{DataRecord, IsDataRecord, AreDataRecords, place_behind, block, Spells}
 use Rattle.edf_fragment.specs.Fault.{ReadsUpTo, IsCutRecord, IsRefusedBlock, IsTrailing, IsFirstFault}
 use Rattle.edf_fragment.specs.declared.fault.FragmentFault.{FragmentFault}
@@ -15,7 +15,7 @@ use Rattle.edf_fragment.specs.declared.fault.FragmentFault.TheVariants.{Header a
 use Rattle.edf_header.specs.declared.fault.HeaderFault.{HeaderFault}
 use Rattle.edf_fragment.proofs.HeaderParts.{field_front}
 use Rattle.edf_fragment.proofs.Runs.{layout-fits}
-use Rattle.edf_header.proofs.SpelledOnce.{one-header, header-no-fault, one-header-fault}
+use Rattle.edf_header.proofs.Cited.{one-header, header-no-fault, one-header-fault}
 use Rattle.edf_fragment.proofs.Fronts.{same_front}
 
 -- ---- one data record

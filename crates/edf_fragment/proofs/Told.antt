@@ -4,12 +4,12 @@ use Rattle.std.proofs.lemmas.Bool.{cases_lt}
 use Rattle.std.proofs.lemmas.List.{length-take, take-append-drop}
 use Rattle.edf_header.specs.Key.{Key}
 use Rattle.edf_header.specs.Header.{HeaderRecord, IsHeader, Layout, layout_of}
-use Rattle.edf_header.proofs.HeaderOrFault.{header-or-fault}
+use Rattle.edf_header.proofs.Cited.{header-or-fault}
 use Rattle.edf_tal.specs.Tal.{Annotation}
 use Rattle.edf_tal.specs.Block.{IsRead}
 use Rattle.edf_tal.specs.declared.place.Place.{Place}
 use Rattle.edf_tal.specs.declared.place.Place.TheVariants.{First}
-use Rattle.edf_tal.proofs.AtLeast.{some-answer as some-block}
+use Rattle.edf_tal.proofs.Cited.{some-answer as some-block}
 use Rattle.edf_fragment.specs.Fragment.{DataRecord, IsDataRecord, AreDataRecords, place_behind, block, ordinary_bytes, Spells}
 use Rattle.edf_fragment.specs.Fault.{ReadsUpTo, IsFirstFault}
 use Rattle.edf_fragment.specs.declared.fault.FragmentFault.{FragmentFault}

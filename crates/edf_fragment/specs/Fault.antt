@@ -2,7 +2,7 @@
 use Rattle.std.specs.Prelude.{◌≡◌, ℕ, ◌+◌, ◌≤◌, ◌<◌, List, length}
 use Rattle.edf_header.specs.Header.{HeaderRecord, IsHeader, Layout, layout_of}
 use Rattle.edf_header.specs.Fault.{IsHeaderFault, header_fault_number}
-use Rattle.edf_tal.specs.Block.{IsBlockFault, number as tal_number}
+use Rattle.edf_tal.specs.Block.{IsBlockFault, tal_fault_number}
 use Rattle.edf_tal.specs.declared.place.Place.{Place}
 use Rattle.edf_tal.specs.declared.place.Place.TheVariants.{First}
 use Rattle.edf_tal.specs.declared.place.TalFault.{TalFault}
@@ -60,7 +60,7 @@ IsFirstFault bytes fault = ⊥
 abbrev pub fragment_fault_number : FragmentFault → ℕ
 fragment_fault_number (BadHeader fault) = header_fault_number fault
 fragment_fault_number (CutRecord nth) = 21
-fragment_fault_number (Tal nth fault) = tal_number fault
+fragment_fault_number (Tal nth fault) = tal_fault_number fault
 fragment_fault_number Trailing = 29
 fragment_fault_number Read = 40
 fragment_fault_number Memory = 41

@@ -1,7 +1,7 @@
 ghost use Rattle.std.specs.Prelude.{◌≡◌, ◌≤◌, ◌+◌, ◌↔◌, length, take, sum_by, MatchOption, IsTrue};
 ghost use Rattle.std.specs.List.{AllByRecursion};
 ghost use Rattle.edf_tal.specs.Block.{IsWithinLimits};
-ghost use Rattle.edf_tal.specs.Note.{IsNote};
+ghost use Rattle.edf_tal.specs.Tal.{IsAnnotation};
 ghost use Rattle.edf_fragment.specs.Fragment.{DataRecord, IsWithinSize};
 ghost use Rattle.edf_fragment.specs.Sound.{IsKept};
 
@@ -34,7 +34,7 @@ impl Model for Record {
 /// Whether there are at most 10,000 annotations, and 1,000,000 bytes of their texts.
 fn are_within_limits(notes: &[Note]) -> bool
     ensures limits { IsTrue result ↔ IsWithinLimits notes.now }
-    ensures notes { IsTrue result → AllByRecursion IsNote notes.now }
+    ensures notes { IsTrue result → AllByRecursion IsAnnotation notes.now }
 {
     if notes.len() > 10_000 {
         return false;

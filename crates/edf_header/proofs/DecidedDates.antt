@@ -6,7 +6,7 @@ use Rattle.jiff_core.proofs.SignedLemmas.{signed_arith}
 use Rattle.edf_time.specs.Civil.{IsDay, IsDateText, IsTimeText, IsIdDate, two_digits, four_digits, month_name}
 use Rattle.edf_time.proofs.Days.{number-in-window}
 use Rattle.edf_time.proofs.FieldTexts.{dotted}
-use Rattle.edf_time.proofs.OneDay.{in-bounds}
+use Rattle.edf_time.proofs.Cited.{in-bounds}
 use Rattle.edf_header.proofs.Decided.{Decided, like, both, at-most, at-most-int, same-bytes, some-below}
 
 -- hh.mm.ss

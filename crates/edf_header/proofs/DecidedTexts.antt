@@ -5,7 +5,7 @@ use Rattle.std.specs.Char.{digit_value}
 use Rattle.std.specs.Str.Parse.{AllDigits, IsNumeral, digits_value}
 use Rattle.std.proofs.lemmas.List.{take_at, take_all, drop_all}
 use Rattle.edf_time.specs.Civil.{IsIdDate}
-use Rattle.edf_time.specs.Decimal.{IsDecimal, IsFine, places}
+use Rattle.edf_time.specs.Decimal.{IsDecimal, IsFine, fraction_value as places}
 use Rattle.edf_field.specs.Number.{field, AreSpaces, IsDuration, front_len}
 use Rattle.edf_field.specs.Text.{IsBehindStartdate, IsBirthdate, IsPatient, IsRecording, IsSex, subfields}
 use Rattle.edf_header.proofs.Decided.{Decided, like, both, either, less, same, same-bytes, every, some-below}

@@ -3,8 +3,7 @@ use Rattle.std.proofs.Common.{◌≡◌, ℕ, ◌+◌, ◌*◌, List, ◌++◌, 
 use Rattle.std.specs.Prelude.{codes}
 use Rattle.std.specs.Fmt.{decimal}
 use Rattle.edf_time.specs.Civil.{day_of, second_of_day}
-use Rattle.edf_time.proofs.FieldTexts.{one-date_text, one-time_text}
-use Rattle.edf_time.proofs.IdDates.{one-id_text}
+use Rattle.edf_time.proofs.Cited.{one-date_text, one-time_text, one-id_text}
 use Rattle.edf_field.specs.Text.{padded_to}
 use Rattle.edf_header.specs.Signal.{columns}
 use Rattle.edf_header.specs.Key.{Key}

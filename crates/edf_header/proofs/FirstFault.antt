@@ -2,7 +2,7 @@
 use Rattle.std.proofs.Common.{◌≡◌, ℕ, suc, ◌+◌, ◌*◌, List, [], length, arith, refl, sym, ap, ◌∙◌, subst, inl, inr, cond, eqb, Option, ℤ, pos, None, Some}
 use Rattle.std.specs.Prelude.{◌⊎◌, codes}
 use Rattle.edf_time.specs.Civil.{IsDateText, IsTimeText}
-use Rattle.edf_time.proofs.FieldTexts.{one-date_day}
+use Rattle.edf_time.proofs.Cited.{one-date_day}
 use Rattle.edf_field.specs.Number.{field, IsDuration, IsNumber}
 use Rattle.edf_field.specs.Text.{IsPrintable, IsRecording}
 use Rattle.edf_header.specs.Signal.{IsFirstBad, Passes, signals_of}

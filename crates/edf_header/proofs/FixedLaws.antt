@@ -10,8 +10,7 @@ use Rattle.std.proofs.lemmas.Int.Digits.{digits_value-lt}
 use Rattle.std.proofs.lemmas.List.{length-take, length-drop}
 use Rattle.std.proofs.lemmas.List.Elements.{All-take, All-drop}
 use Rattle.std.proofs.Math.Nat.{pow-le-pow_right}
-use Rattle.edf_time.proofs.IdDates.{one-id_day}
-use Rattle.edf_time.proofs.Starts.{start-parts, one-start}
+use Rattle.edf_time.proofs.Cited.{one-id_day, start-parts, one-start}
 use Rattle.edf_field.proofs.Recordings.{x-no-date, one-after}
 use Rattle.edf_field.specs.Number.{field, whole_value, digits, digits_len, IsNumber}
 use Rattle.edf_field.specs.Text.{IsPrintable, IsStartdate}

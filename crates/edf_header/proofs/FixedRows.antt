@@ -4,8 +4,7 @@ use Rattle.std.proofs.lemmas.Bool.{cases_lt}
 use Rattle.edf_time.specs.Civil.{IsCivil, IsDateText, IsTimeText, IsStartFault, day_of}
 use Rattle.edf_time.specs.declared.civil.StartFault.{StartFault}
 use Rattle.edf_time.specs.declared.civil.StartFault.TheVariants as why
-use Rattle.edf_time.proofs.FieldTexts.{one-date_day}
-use Rattle.edf_time.proofs.Starts.{start-parts}
+use Rattle.edf_time.proofs.Cited.{one-date_day, start-parts}
 use Rattle.edf_field.proofs.Recordings.{one-after}
 use Rattle.edf_field.specs.Number.{field, IsDuration}
 use Rattle.edf_field.specs.Text.{IsStartdate, IsRecording, after_of}

@@ -16,7 +16,7 @@ use Rattle.edf_header.specs.Rows.{AreExtents, IsLayout, IsSound, annotations_at,
 use Rattle.edf_header.specs.declared.signals.Extents.{Extents}
 use Rattle.edf_header.specs.declared.checks.Check.TheVariants.{Physical, Digital}
 use Rattle.edf_header.proofs.RowSteps.{sized-signals}
-use Rattle.edf_header.proofs.RowFaults.{parts-are, ordinary-is}
+use Rattle.edf_header.proofs.RowFaults.{parts-are, ordinary-is, samples-parts}
 
 -- one of the members left out
 without : {X : Type 0} (P : X → Type 0) (front : List X) (x : X) (back : List X) → All P (front ++ x ∷ back) → All P (front ++ back)
@@ -135,12 +135,14 @@ are-signals b f at len printable s =
 pub rows-are : (d items b : List ℕ) (n m : ℕ) → d ≡ items → rows_of items ≡ signals_of b n → n ≡ m → rows_of d ≡ signals_of b m
 rows-are d items b n m is rows e = ap rows_of is ∙ rows ∙ ap (signals_of b) e
 
--- the key of the parts that were read
-pub key-made : (f : FixedPart) (ss : List (List ℕ)) (at : ℕ) (p a du rows : List ℕ) (dated : Bool) → IsSound ss at → rows_of rows ≡ ss
-    → p ≡ f.patient → dated ≡ is_dated f.startdate → a ≡ f.after → du ≡ f.duration → key_from p dated a du (ordinary (rows_of rows)) ≡ key_of (header_of f ss at)
-key-made f ss at p a du rows dated s is patient dated-is after duration =
-    let signals : ordinary (rows_of rows) ≡ others_at ss at = ap ordinary is ∙ ordinary-is ss at s.split in
-    λ i. record { patient = patient i; dated = dated-is i; after = after i; duration = duration i; signals = signals i }
+-- the key that was read
+pub key-made : (f : FixedPart) (ss : List (List ℕ)) (at : ℕ) (rows : List ℕ) → IsSound ss at → rows_of rows ≡ ss → key_from f (ordinary (rows_of rows)) ≡ key_of (header_of f ss at)
+key-made f ss at rows s is = ap (key_from f) (ap ordinary is ∙ ordinary-is ss at s.split)
+
+-- the bytes of the ordinary samples are what the block leaves of a data record
+pub ordinary-left : (ss : List (List ℕ)) (at : ℕ) (p : Extents) → IsSound ss at → AreExtents ss at p → p.record_bytes ≡ 2 * samples_in_all (ordinary ss) + p.block_bytes
+ordinary-left ss at p s are =
+    omega (arith, are.record_bytes, are.block_bytes, samples-parts ss at s.split.within, ap samples_in_all (ordinary-is ss at s.split))
 
 pub layout-made : (f : FixedPart) (ss : List (List ℕ)) (at : ℕ) (k : Key) (start count : ℕ) (p : Extents) → IsSound ss at → k ≡ key_of (header_of f ss at) → start ≡ f.start → count ≡ f.count → AreExtents ss at p
     → record { key = k; start = start; count = count; block_at = p.block_at; block_bytes = p.block_bytes; record_bytes = p.record_bytes } ≡ layout_of (header_of f ss at)

@@ -13,7 +13,7 @@ use Rattle.edf_field.specs.Text.{spaces, subfields}
 use Rattle.std.specs.Prelude.{All, codes, slice_index, ◌==◌}
 use Rattle.std.specs.List.{flat_map}
 use Rattle.edf_header.specs.declared.checks.Check.TheVariants.{Label, Samples}
-use Rattle.edf_field.proofs.Durations.{duration-value}
+use Rattle.edf_field.proofs.Cited.{duration-value}
 use Rattle.edf_field.proofs.Grammar.{spaces-are}
 use Rattle.edf_header.proofs.Strides.{length-field, length-parts}
 use Rattle.edf_header.proofs.Keys.{key-back, field-at}

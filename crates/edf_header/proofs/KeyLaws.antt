@@ -1,7 +1,7 @@
 -- Laws of keys.
 use Rattle.std.proofs.Common.{◌≡◌, ℕ, ◌≤◌, ◌<◌, ◌^◌, ◌∙◌, sym, ap, subst, arith}
 use Rattle.edf_field.specs.Number.{duration_of}
-use Rattle.edf_field.proofs.Durations.{duration-value, duration-bound}
+use Rattle.edf_field.proofs.Cited.{duration-value, duration-bound}
 use Rattle.edf_header.specs.Key.{Key, IsKey, key_at, key_bytes}
 use Rattle.edf_header.proofs.Keys.{key-back}
 

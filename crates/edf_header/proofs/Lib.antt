@@ -30,3 +30,4 @@ pub mod ExportWritten
 pub mod ExportOne
 pub mod KeyOnce
 pub mod KeyLaws
+pub mod Cited

@@ -14,7 +14,7 @@ use Rattle.edf_header.specs.Header.{HeaderRecord, FixedPart, IsFixedHeader, AreS
 use Rattle.edf_header.specs.Spelled.{Texts, IsSpelledBy, IsSpelledHeader, IsReadAs, spelled_bytes, startdate_text, spelled_layout}
 use Rattle.edf_header.proofs.Strides.{signals-back}
 use Rattle.edf_header.proofs.SpelledTexts.{date-printed, time-printed, id_date-printed, printable-by}
-use Rattle.edf_time.proofs.FieldTexts.{one-date_day}
+use Rattle.edf_time.proofs.Cited.{one-date_day}
 use Rattle.edf_header.proofs.SpelledParts.{all-left, all-right, parts-all, all-columns, length-columns, IsPartAt, part-here}
 
 -- the Startdate subfield's day

@@ -1,9 +1,11 @@
 -- Words for single steps: the label test, a key from its parts, the bytes that stand for a key, and where a check comes in the order of faults.
 use Rattle.std.specs.Prelude.{◌≡◌, ℕ, ◌+◌, ◌*◌, ◌⊎◌, Bool, List, length, codes, slice_index, All}
 use Rattle.std.specs.Str.{bytes_eq}
-use Rattle.edf_field.specs.Number.{field, IsDuration}
+use Rattle.edf_field.specs.Number.{field, IsDuration, duration_of}
 use Rattle.edf_field.specs.Text.{IsPrintable, IsPatient, IsBehindStartdate, spaces}
-use Rattle.edf_header.specs.Key.{Key, key_at}
+use Rattle.edf_header.specs.Key.{Key, IsKey, key_at, key_bytes}
+use Rattle.edf_header.specs.Signal.{samples_in_all}
+use Rattle.edf_header.specs.Header.{FixedPart, is_dated}
 use Rattle.edf_header.specs.Identity.{HasLength, HasMark}
 use Rattle.edf_header.specs.declared.checks.Check.{Check}
 use Rattle.edf_header.specs.declared.checks.Check.TheVariants.{Label, Physical, Digital, Samples}
@@ -11,8 +13,16 @@ use Rattle.edf_header.specs.declared.checks.Check.TheVariants.{Label, Physical, 
 abbrev pub has_label : List ℕ → Bool
 has_label row = bytes_eq (field row 0 16) (codes "EDF Annotations ")
 
-abbrev pub key_from : List ℕ → Bool → List ℕ → List ℕ → List (List ℕ) → Key
-key_from p b a d ss = record { patient = p; dated = b; after = a; duration = d; signals = ss }
+-- the key of a fixed part and ordinary signals
+abbrev pub key_from : FixedPart → List (List ℕ) → Key
+key_from f ss = record { patient = f.patient; dated = is_dated f.startdate; after = f.after; duration = f.duration; signals = ss }
+
+-- what an identity keeps: its bytes, the duration of a data record in nanoseconds, the bytes of a data record's ordinary samples
+pub record IsIdentity (bytes : List ℕ) (duration ordinary_bytes : ℕ) : Type 0 where
+  pub back : key_bytes (key_at bytes) ≡ bytes
+  pub key : IsKey (key_at bytes)
+  pub duration_is : duration ≡ duration_of (key_at bytes).duration
+  pub ordinary_is : ordinary_bytes ≡ 2 * samples_in_all (key_at bytes).signals
 
 -- byte 80 is D, with 10 spaces at the end of its part, or X
 pub record IsShaped (bytes : List ℕ) : Type 0 where

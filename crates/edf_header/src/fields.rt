@@ -149,15 +149,15 @@ pub(crate) fn read_count(bytes: &[u8; 256]) -> Result<u32, HeaderFault>
     }
 }
 
-/// The duration of a data record, bytes 244 to 251, is a decimal above 0; or E11 is the first fault.
-pub(crate) fn check_duration(bytes: &[u8; 256]) -> Result<(), HeaderFault>
+/// The duration of a data record in nanoseconds, bytes 244 to 251; or E11 is the first fault.
+pub(crate) fn read_nanos(bytes: &[u8; 256]) -> Result<u64, HeaderFault>
     requires { IsClean (FixedPartFails bytes.now) 11 }
     ensures { MatchResult result
-        (λ _. ((nanos : ℕ) × IsDuration (field bytes.now 244 8) nanos) × IsClean (FixedPartFails bytes.now) 12)
+        (λ nanos. IsDuration (field bytes.now 244 8) nanos × ((n : ℕ) × IsDuration (field bytes.now 244 8) n) × IsClean (FixedPartFails bytes.now) 12)
         (IsFirst (FixedPartFails bytes.now)) }
 {
     match read_duration(&bytes[244..252]) {
-        Some(_) => Ok(()),
+        Some(nanos) => Ok(nanos),
         None => Err(HeaderFault::Duration),
     }
 }

@@ -1,11 +1,12 @@
 ghost use Rattle.std.specs.Prelude.{◌≡◌, ◌≤◌, MatchResult};
+ghost use Rattle.edf_field.specs.Number.{field, IsDuration, duration_of};
 ghost use Rattle.edf_header.specs.Header.{IsFixed, IsFixedHeader, fixed_at, is_dated};
 ghost use Rattle.edf_header.specs.Fault.{FixedPartFails, IsFirst};
 
 use crate::fault::HeaderFault;
 use crate::fields::{
-    check_duration, check_header_bytes, check_patient, check_plus, check_printable, check_same_day,
-    check_version, field_at, read_count, read_signal_count, read_start, read_startdate,
+    check_header_bytes, check_patient, check_plus, check_printable, check_same_day, check_version,
+    field_at, read_count, read_nanos, read_signal_count, read_start, read_startdate,
 };
 use edf_time::{Day, Instant};
 use std::marker::Model;
@@ -23,17 +24,21 @@ pub struct Fixed {
     start: Instant,
     count: u32,
     duration: [u8; 8],
+    nanos: u64,
     signals: usize,
 }
 
 impl Model for Fixed {
+    ghost use Rattle.std.specs.Prelude.{◌≡◌};
+    ghost use Rattle.edf_field.specs.Number.{duration_of};
     ghost use Rattle.edf_header.specs.Header.{FixedPart, IsFixed, fixed_from};
 
     ghost Value = { FixedPart };
 
     ghost view = { λ f. fixed_from f.patient f.recording f.startdate f.start f.count f.duration f.signals };
 
-    ghost invariant = { λ f. IsFixed (fixed_from f.patient f.recording f.startdate f.start f.count f.duration f.signals) };
+    ghost invariant = { λ f. IsFixed (fixed_from f.patient f.recording f.startdate f.start f.count f.duration f.signals)
+        × (f.nanos ≡ duration_of f.duration) };
 }
 
 impl Fixed {
@@ -42,6 +47,7 @@ impl Fixed {
         ensures value { result ≡ self.now.signal_count }
         ensures from { 2 ≤ result }
         ensures to { result ≤ 640 }
+        ensures fixed { IsFixed self.now }
     {
         self.signals
     }
@@ -55,8 +61,7 @@ impl Fixed {
 
     /// Whether the Startdate subfield is a date.
     pub(crate) fn dated(&self) -> bool
-        ensures value { result ≡ is_dated self.now.startdate }
-        ensures fixed { IsFixed self.now }
+        ensures { result ≡ is_dated self.now.startdate }
     {
         self.startdate.is_some()
     }
@@ -91,6 +96,13 @@ impl Fixed {
     {
         self.duration.as_slice()
     }
+
+    /// The duration in nanoseconds.
+    pub(crate) fn nanos(&self) -> u64
+        ensures { result ≡ duration_of self.now.duration }
+    {
+        self.nanos
+    }
 }
 
 /// The fixed part of bytes that spell one, with what was read of them.
@@ -99,9 +111,11 @@ fn fixed_of(
     startdate: Option<Day>,
     start: Instant,
     count: u32,
+    nanos: u64,
     signals: u32,
 ) -> Fixed
-    requires { IsFixedHeader bytes.now (fixed_at bytes.now startdate start count signals) }
+    requires spelled { IsFixedHeader bytes.now (fixed_at bytes.now startdate start count signals) }
+    requires duration { IsDuration (field bytes.now 244 8) nanos }
     ensures { IsFixedHeader bytes.now result }
 {
     let patient = field_at(bytes, 8);
@@ -114,6 +128,7 @@ fn fixed_of(
         start,
         count,
         duration,
+        nanos,
         signals: signals as usize,
     }
 }
@@ -139,10 +154,10 @@ pub fn read_fixed(bytes: &[u8; 256]) -> Result<Fixed, HeaderFault>
     check_same_day(bytes, &startdate, start)?;
     check_plus(bytes)?;
     let count = read_count(bytes)?;
-    check_duration(bytes)?;
+    let nanos = read_nanos(bytes)?;
     let signals = read_signal_count(bytes)?;
     check_header_bytes(bytes, signals)?;
-    Ok(fixed_of(bytes, startdate, start, count, signals))
+    Ok(fixed_of(bytes, startdate, start, count, nanos, signals))
 }
 
 #[cfg(test)]

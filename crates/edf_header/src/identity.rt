@@ -6,9 +6,10 @@ ghost use Rattle.edf_header.specs.Key.{Key, IsKey, dated_bytes, key_bytes, key_a
 ghost use Rattle.edf_header.specs.Identity.{HasLength, HasMark, signals_at, IsCleanKey, IsFirstKeyFault};
 ghost use Rattle.edf_header.specs.Shape.{key_from, place_of_check};
 
-use crate::key::{after, check_key};
-use crate::ordinary::{ordinary_samples, push_ordinary};
-use edf_field::{next_subfield, read_duration};
+use crate::fixed::Fixed;
+use crate::key::{KeyNumbers, after, check_key};
+use crate::ordinary::push_ordinary;
+use edf_field::next_subfield;
 use std::alloc::{AllocError, Global};
 use std::marker::Model;
 use thiserror::Error;
@@ -61,17 +62,19 @@ pub enum IdentityFault {
 #[derive(Drop)]
 pub struct Identity {
     pub(crate) bytes: Vec<u8>,
+    duration: u64,
+    ordinary_bytes: usize,
 }
 
 impl Model for Identity {
-    ghost use Rattle.std.specs.Prelude.{◌≡◌};
-    ghost use Rattle.edf_header.specs.Key.{Key, IsKey, key_bytes, key_at};
+    ghost use Rattle.edf_header.specs.Key.{Key, key_at};
+    ghost use Rattle.edf_header.specs.Shape.{IsIdentity};
 
     ghost Value = { Key };
 
     ghost view = { λ i. key_at i.bytes.items };
 
-    ghost invariant = { λ i. (key_bytes (key_at i.bytes.items) ≡ i.bytes.items) × IsKey (key_at i.bytes.items) };
+    ghost invariant = { λ i. IsIdentity i.bytes.items i.duration i.ordinary_bytes };
 }
 
 /// Writes the mark of the Startdate subfield, what follows it and the fill.
@@ -89,21 +92,14 @@ fn push_mark(out: &mut Vec<u8>, dated: bool, after: &[u8]) -> Result<(), AllocEr
     Ok(())
 }
 
-/// The bytes of an identity, from the parts of a header.
-fn bytes_from(
-    alloc: Global,
-    patient: &[u8],
-    dated: bool,
-    after: &[u8],
-    duration: &[u8],
-    rows: &[u8],
-) -> Result<Vec<u8>, AllocError>
-    ensures { IfOk result (λ v. v.items ≡ key_bytes (key_from patient.now dated after.now duration.now (ordinary (rows_of rows.now)))) }
+/// The bytes of an identity, from a header's fixed part and the rows of all its signals.
+fn bytes_from(alloc: Global, fixed: &Fixed, rows: &[u8]) -> Result<Vec<u8>, AllocError>
+    ensures { IfOk result (λ v. v.items ≡ key_bytes (key_from fixed.now (ordinary (rows_of rows.now)))) }
 {
     let mut bytes = Vec::with_capacity(alloc, 158)?;
-    bytes.extend_from_slice(patient)?;
-    push_mark(&mut bytes, dated, after)?;
-    bytes.extend_from_slice(duration)?;
+    bytes.extend_from_slice(fixed.patient())?;
+    push_mark(&mut bytes, fixed.dated(), fixed.after())?;
+    bytes.extend_from_slice(fixed.duration())?;
     push_ordinary(&mut bytes, rows)?;
     Ok(bytes)
 }
@@ -116,27 +112,39 @@ impl Identity {
     pub fn from_bytes(alloc: Global, bytes: &[u8]) -> Result<Identity, IdentityFault>
         ensures { MatchResult result (λ i. (key_bytes i ≡ bytes.now) × IsKey i) (IsFirstKeyFault bytes.now) }
     {
-        check_key(bytes)?;
+        let KeyNumbers {
+            duration,
+            ordinary_bytes,
+        } = check_key(bytes)?;
         let Ok(copy) = Vec::from_slice(alloc, bytes) else {
             return Err(IdentityFault::Memory);
         };
-        Ok(Identity { bytes: copy })
+        Ok(Identity {
+            bytes: copy,
+            duration,
+            ordinary_bytes,
+        })
     }
 
-    /// The identity of a header, from its parts and the rows of all its signals.
-    pub(crate) fn from_parts(
+    /// The identity of a header, from its fixed part, the rows of all its signals, and the bytes of a data record's ordinary
+    /// samples.
+    pub(crate) fn from_header(
         alloc: Global,
-        patient: &[u8],
-        dated: bool,
-        after: &[u8],
-        duration: &[u8],
+        fixed: &Fixed,
         rows: &[u8],
+        ordinary_bytes: usize,
     ) -> Result<Identity, AllocError>
-        requires { IsKey (key_from patient.now dated after.now duration.now (ordinary (rows_of rows.now))) }
-        ensures { IfOk result (λ i. i ≡ key_from patient.now dated after.now duration.now (ordinary (rows_of rows.now))) }
+        requires key { IsKey (key_from fixed.now (ordinary (rows_of rows.now))) }
+        requires ordinary { ordinary_bytes ≡ 2 * samples_in_all (ordinary (rows_of rows.now)) }
+        ensures { IfOk result (λ i. i ≡ key_from fixed.now (ordinary (rows_of rows.now))) }
     {
-        let bytes = bytes_from(alloc, patient, dated, after, duration, rows)?;
-        Ok(Identity { bytes })
+        let bytes = bytes_from(alloc, fixed, rows)?;
+        let duration = fixed.nanos();
+        Ok(Identity {
+            bytes,
+            duration,
+            ordinary_bytes,
+        })
     }
 
     /// The bytes of the identity.
@@ -144,14 +152,16 @@ impl Identity {
     /// # Errors
     /// Where memory runs out.
     pub fn to_bytes(&self, alloc: Global) -> Result<Vec<u8>, AllocError>
-        ensures { IfOk result (λ v. v.items ≡ key_bytes self.now) }
+        ensures bytes { IfOk result (λ v. v.items ≡ key_bytes self.now) }
+        ensures key { IsKey self.now }
     {
         Vec::from_slice(alloc, self.bytes.as_slice())
     }
 
     /// Whether two identities are the same, byte for byte: two spellings of one value are two identities.
     pub fn same(&self, other: &Identity) -> bool
-        ensures { IsTrue result ↔ (self.now ≡ other.now) }
+        ensures same { IsTrue result ↔ (self.now ≡ other.now) }
+        ensures key { IsKey self.now × IsKey other.now }
     {
         self.bytes.as_slice() == other.bytes.as_slice()
     }
@@ -175,19 +185,19 @@ impl Identity {
     pub fn ordinary_bytes(&self) -> usize
         ensures value { result ≡ 2 * samples_in_all self.now.signals }
         ensures bound { result ≤ 4_194_304 }
+        ensures key { IsKey self.now }
     {
-        2 * ordinary_samples(&self.bytes[158..]) as usize
+        self.ordinary_bytes
     }
 
     /// The duration of a data record in nanoseconds.
     pub fn duration(&self) -> u64
         ensures value { result ≡ duration_of self.now.duration }
         ensures positive { 0 < result }
+        ensures bound { result ≤ 10 ^ 17 }
+        ensures key { IsKey self.now }
     {
-        match read_duration(&self.bytes[150..158]) {
-            Some(nanos) => nanos,
-            None => unreachable!(),
-        }
+        self.duration
     }
 
     /// The patient code: the first subfield of the patient identification.

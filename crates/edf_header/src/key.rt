@@ -1,9 +1,10 @@
 ghost use Rattle.std.specs.Prelude.{◌≡◌, ◌≤◌, ◌+◌, ◌*◌, ◌↔◌, IsTrue, MatchResult, All, length};
+ghost use Rattle.edf_field.specs.Number.{duration_of};
 ghost use Rattle.edf_field.specs.Text.{IsBehindStartdate};
 ghost use Rattle.edf_header.specs.Signal.{samples_in_all, Passes};
-ghost use Rattle.edf_header.specs.Key.{IsKey, key_bytes, key_at};
+ghost use Rattle.edf_header.specs.Key.{key_at};
 ghost use Rattle.edf_header.specs.Identity.{HasLength, HasMark, signals_at, IsCleanKey, IsFirstKeyFault};
-ghost use Rattle.edf_header.specs.Shape.{IsKeyFront, place_of_check};
+ghost use Rattle.edf_header.specs.Shape.{IsIdentity, IsKeyFront, place_of_check};
 
 use crate::checks::{Check, first_bad, first_unprintable};
 use crate::identity::IdentityFault;
@@ -50,9 +51,18 @@ fn has_recording(bytes: &[u8]) -> bool
     has_mark(bytes) && is_behind_startdate(after(bytes))
 }
 
-/// Checks what stands before the signals.
-fn check_front(bytes: &[u8]) -> Result<(), IdentityFault>
-    ensures { MatchResult result (λ _. IsKeyFront bytes.now) (IsFirstKeyFault bytes.now) }
+/// What is read of an identity's bytes: the duration of a data record in nanoseconds, and the bytes of its ordinary samples.
+#[derive(Clone, Copy)]
+pub(crate) struct KeyNumbers {
+    pub(crate) duration: u64,
+    pub(crate) ordinary_bytes: usize,
+}
+
+/// Checks what stands before the signals, and reads the duration of a data record in nanoseconds.
+fn check_front(bytes: &[u8]) -> Result<u64, IdentityFault>
+    ensures { MatchResult result
+        (λ nanos. IsKeyFront bytes.now × (nanos ≡ duration_of (key_at bytes.now).duration))
+        (IsFirstKeyFault bytes.now) }
 {
     if !has_length(bytes) {
         return Err(IdentityFault::Length);
@@ -67,7 +77,7 @@ fn check_front(bytes: &[u8]) -> Result<(), IdentityFault>
         return Err(IdentityFault::Recording);
     }
     match read_duration(&bytes[150..158]) {
-        Some(_) => Ok(()),
+        Some(nanos) => Ok(nanos),
         None => Err(IdentityFault::Duration),
     }
 }
@@ -92,33 +102,37 @@ fn check_signals(check: Check, bytes: &[u8]) -> Result<(), IdentityFault>
     })
 }
 
-/// Checks the size of a data record's ordinary samples.
-fn check_size(bytes: &[u8]) -> Result<(), IdentityFault>
+/// How many bytes a data record's ordinary samples have, unless it is too large.
+fn check_size(bytes: &[u8]) -> Result<usize, IdentityFault>
     requires length { HasLength bytes.now }
     requires label { All (Passes Check.Label) (signals_at bytes.now) }
     requires samples { All (Passes Check.Samples) (signals_at bytes.now) }
     requires clean { IsCleanKey bytes.now 10 }
     ensures { MatchResult result
-        (λ _. (2 * samples_in_all (signals_at bytes.now) ≤ 4_194_304) × IsCleanKey bytes.now 11)
+        (λ size. (size ≡ 2 * samples_in_all (signals_at bytes.now)) × (size ≤ 4_194_304) × IsCleanKey bytes.now 11)
         (IsFirstKeyFault bytes.now) }
 {
-    if 2 * ordinary_samples(&bytes[158..]) > 4_194_304 {
+    let size = 2 * ordinary_samples(&bytes[158..]);
+    if size > 4_194_304 {
         return Err(IdentityFault::Size);
     }
-    Ok(())
+    Ok(size as usize)
 }
 
-/// Checks bytes that may be an identity's.
-pub(crate) fn check_key(bytes: &[u8]) -> Result<(), IdentityFault>
+/// Checks bytes that may be an identity's, and reads what is kept of them.
+pub(crate) fn check_key(bytes: &[u8]) -> Result<KeyNumbers, IdentityFault>
     ensures { MatchResult result
-        (λ _. (key_bytes (key_at bytes.now) ≡ bytes.now) × IsKey (key_at bytes.now) × IsCleanKey bytes.now 11)
+        (λ kept. IsIdentity bytes.now kept.duration kept.ordinary_bytes × IsCleanKey bytes.now 11)
         (IsFirstKeyFault bytes.now) }
 {
-    check_front(bytes)?;
+    let duration = check_front(bytes)?;
     check_signals(Check::Label, bytes)?;
     check_signals(Check::Physical, bytes)?;
     check_signals(Check::Digital, bytes)?;
     check_signals(Check::Samples, bytes)?;
-    check_size(bytes)?;
-    Ok(())
+    let ordinary_bytes = check_size(bytes)?;
+    Ok(KeyNumbers {
+        duration,
+        ordinary_bytes,
+    })
 }

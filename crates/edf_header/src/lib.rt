@@ -8,6 +8,7 @@
 //! - [`write_header`]: the one header that an export has.
 //! - [`laws`], [`laws_fixed`], [`laws_export`]: a header says one thing, and what is written is read again; functions that do
 //!   nothing, each with a law for a contract.
+//! - [`laws_grammar`]: number texts are read exactly where the grammar has them.
 #![tactic(auto)]
 
 mod checks;

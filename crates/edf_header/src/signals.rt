@@ -140,14 +140,8 @@ pub fn read_signals(alloc: Global, fixed: Fixed, bytes: &[u8]) -> Result<Header,
         Ok(extents) => extents,
         Err(fault) => return Err(fault),
     };
-    let Ok(identity) = Identity::from_parts(
-        alloc,
-        fixed.patient(),
-        fixed.dated(),
-        fixed.after(),
-        fixed.duration(),
-        &rows,
-    ) else {
+    let ordinary_bytes = extents.record_bytes - extents.block_bytes;
+    let Ok(identity) = Identity::from_header(alloc, &fixed, &rows, ordinary_bytes) else {
         return Err(HeaderFault::Memory);
     };
     Ok(Header {

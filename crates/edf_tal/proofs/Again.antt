@@ -9,14 +9,14 @@ use Rattle.std.proofs.lemmas.List.{append-nil}
 use Rattle.std.proofs.lemmas.Str.{IsUtf8-nil}
 use Rattle.edf_time.specs.Decimal.{IsSeconds, short}
 use Rattle.edf_time.specs.Civil.{window, IsInWindow}
-use Rattle.edf_time.proofs.Short.{IsSeconds-short}
-use Rattle.edf_tal.specs.Tal.{Tal, Annotation, IsTal, IsOnset, IsDurationPart, ended, AreTals, IsTalInWindow, instant, annotations_of}
-use Rattle.edf_tal.specs.Note.{IsNote}
+use Rattle.edf_time.proofs.Cited.{IsSeconds-short}
+use Rattle.edf_tal.specs.Tal.{Tal, Annotation, IsTal, IsOnset, IsDurationPart, ended, AreTals, IsTalInWindow, instant, tal_annotations}
+use Rattle.edf_tal.specs.Tal.{IsAnnotation}
 use Rattle.edf_tal.specs.Block.{IsRead, IsWithinLimits, KeepsPlace}
 use Rattle.edf_tal.specs.Canonical.{onset_text, duration_text, tal_text, time_keeping, block_text}
 use Rattle.edf_tal.specs.declared.place.Place.{Place}
 use Rattle.edf_tal.specs.declared.place.Place.TheVariants.{First, After, Any}
-use Rattle.edf_tal.specs.Scan.{AreZeros}
+use Rattle.edf_tal.specs.Inside.Scan.{AreZeros}
 use Rattle.edf_tal.proofs.BadText.{AreGood}
 use Rattle.edf_tal.proofs.OneAnswer.{SameAnswer, one-read}
 
@@ -64,7 +64,7 @@ tal_of base a = record { onset = pos a.onset -ℤ pos base; duration = a.duratio
 in-parts : (o d x : List ℕ) → o ++ (d ++ (20 ∷ (x ++ (20 ∷ 0 ∷ [])))) ≡ o ++ d ++ 20 ∷ ended (x ∷ []) ++ 0 ∷ []
 in-parts o d x = simp (append_assoc, append-nil)
 
-IsTal-text : (base : ℕ) (a : Annotation) → base < window → IsNote a → IsTal (tal_text base a) (tal_of base a)
+IsTal-text : (base : ℕ) (a : Annotation) → base < window → IsAnnotation a → IsTal (tal_text base a) (tal_of base a)
 IsTal-text base a low h = record {
   onset = onset_text base a.onset;
   duration = duration_text a.duration;
@@ -74,11 +74,11 @@ IsTal-text base a low h = record {
   are_texts = (h.text, tt);
 }
 
-AreTals-text : (base : ℕ) (list : List Annotation) → base < window → AllByRecursion IsNote list → AreTals (flat_map (tal_text base) list) (map (tal_of base) list)
+AreTals-text : (base : ℕ) (list : List Annotation) → base < window → AllByRecursion IsAnnotation list → AreTals (flat_map (tal_text base) list) (map (tal_of base) list)
 AreTals-text base [] low h = refl
 AreTals-text base (a ∷ list) low h = (tal_text base a, flat_map (tal_text base) list, refl, IsTal-text base a low h.0, AreTals-text base list low h.1)
 
-AreGood-text : (base : ℕ) (list : List Annotation) → AllByRecursion IsNote list → AreGood (map (tal_of base) list)
+AreGood-text : (base : ℕ) (list : List Annotation) → AllByRecursion IsAnnotation list → AreGood (map (tal_of base) list)
 AreGood-text base [] h = tt
 AreGood-text base (a ∷ list) h = ((h.0.utf8, tt), AreGood-text base list h.1)
 
@@ -95,29 +95,29 @@ instant-back base onset = ap unsigned_abs (onset-back base onset)
 in-window : (base onset : ℕ) → onset < window → IsInWindow (pos base +ℤ (pos onset -ℤ pos base))
 in-window base onset h = rw (onset-back base onset) (record { from = omega (arith, ints); to = omega (arith, ints) })
 
-AreInWindow-text : (base : ℕ) (list : List Annotation) → AllByRecursion IsNote list → AllByRecursion (IsTalInWindow base) (map (tal_of base) list)
+AreInWindow-text : (base : ℕ) (list : List Annotation) → AllByRecursion IsAnnotation list → AllByRecursion (IsTalInWindow base) (map (tal_of base) list)
 AreInWindow-text base [] h = tt
 AreInWindow-text base (a ∷ list) h = (record { onset = in-window base a.onset h.0.onset; duration = h.0.duration }, AreInWindow-text base list h.1)
 
-notes-back : (base : ℕ) (list : List Annotation) → flat_map (annotations_of base) (map (tal_of base) list) ≡ list
-notes-back base [] = refl
-notes-back base (a ∷ list) =
+list-back : (base : ℕ) (list : List Annotation) → flat_map (tal_annotations base) (map (tal_of base) list) ≡ list
+list-back base [] = refl
+list-back base (a ∷ list) =
     let first : a ≡ record { onset = instant base (pos a.onset -ℤ pos base); duration = a.duration; text = a.text } =
     ap (λ (o : ℕ). record a { onset = o }) (sym (instant-back base a.onset)) in
-    let more = notes-back base list in
+    let more = list-back base list in
     cc
 
-IsNote-time_keeping : (start : ℕ) → start < window → IsNote (time_keeping start)
-IsNote-time_keeping start h = record { onset = h; duration = tt; text = tt; utf8 = IsUtf8-nil }
+IsAnnotation-time_keeping : (start : ℕ) → start < window → IsAnnotation (time_keeping start)
+IsAnnotation-time_keeping start h = record { onset = h; duration = tt; text = tt; utf8 = IsUtf8-nil }
 
 abbrev written : ℕ → ℕ → List Annotation → List Tal
 written base start list = map (tal_of base) (time_keeping start ∷ list)
 
 -- a written block, with any fill, where the first onset keeps its place
-pub read-again : (p : Place) (base start n : ℕ) (list : List Annotation) → base < window → start < window → AllByRecursion IsNote list → IsWithinLimits list
+pub read-again : (p : Place) (base start n : ℕ) (list : List Annotation) → base < window → start < window → AllByRecursion IsAnnotation list → IsWithinLimits list
     → KeepsPlace p base (map (tal_of base) (time_keeping start ∷ list)) → IsRead (block_text base start list ++ replicate n 0) base p start list
 read-again p base start n list low in-window' all limits keeps =
-    let whole : AllByRecursion IsNote (time_keeping start ∷ list) = (IsNote-time_keeping start in-window', all) in
+    let whole : AllByRecursion IsAnnotation (time_keeping start ∷ list) = (IsAnnotation-time_keeping start in-window', all) in
     record {
       tals = map (tal_of base) (time_keeping start ∷ list);
       block = ((block_text base start list, replicate n 0, refl, AreTals-text base (time_keeping start ∷ list) low whole, AreZeros-replicate n), AreGood-text base (time_keeping start ∷ list) whole);
@@ -126,25 +126,30 @@ read-again p base start n list low in-window' all limits keeps =
       window = AreInWindow-text base (time_keeping start ∷ list) whole;
       limits = limits;
       start_is = sym (instant-back base start);
-      list_is = sym (notes-back base list);
+      list_is = sym (list-back base list);
     }
 
 keeps-first : (base start : ℕ) → base ≤ start → start < base + 10 ^ 9 → (pos 0 ≤ℤ (pos start -ℤ pos base)) × ((pos start -ℤ pos base) <ℤ pos (10 ^ 9))
 keeps-first base start low high = (omega (arith, ints), omega (arith, ints))
 
-pub read-first : (base start n : ℕ) (list : List Annotation) → base < window → start < window → AllByRecursion IsNote list → IsWithinLimits list
+pub read-first : (base start n : ℕ) (list : List Annotation) → base < window → start < window → AllByRecursion IsAnnotation list → IsWithinLimits list
     → base ≤ start → start < base + 10 ^ 9 → IsRead (block_text base start list ++ replicate n 0) base First start list
 read-first base start n list low in-window' all limits from to =
     read-again First base start n list low in-window' all limits (keeps-first base start from to)
 
-pub read-after : (base start n before duration : ℕ) (list : List Annotation) → base < window → start < window → AllByRecursion IsNote list → IsWithinLimits list
+pub read-after : (base start n before duration : ℕ) (list : List Annotation) → base < window → start < window → AllByRecursion IsAnnotation list → IsWithinLimits list
     → before + duration ≤ start → IsRead (block_text base start list ++ replicate n 0) base (After before duration) start list
 read-after base start n before duration list low in-window' all limits later =
     read-again (After before duration) base start n list low in-window' all limits (rw (instant-back base start) later)
 
-pub read-any : (base start n : ℕ) (list : List Annotation) → base < window → start < window → AllByRecursion IsNote list → IsWithinLimits list
+pub read-any : (base start n : ℕ) (list : List Annotation) → base < window → start < window → AllByRecursion IsAnnotation list → IsWithinLimits list
     → IsRead (block_text base start list ++ replicate n 0) base Any start list
 read-any base start n list low in-window' all limits = read-again Any base start n list low in-window' all limits tt
+
+pub read-alone : (base start : ℕ) (list : List Annotation) → base < window → start < window → AllByRecursion IsAnnotation list → IsWithinLimits list
+    → IsRead (block_text base start list) base Any start list
+read-alone base start list low in-window' all limits =
+    subst (λ (x : List ℕ). IsRead x base Any start list) (append-nil (block_text base start list)) (read-any base start 0 list low in-window' all limits)
 
 -- what is read at a place is read without one
 pub read-elsewhere : (b : List ℕ) (s : ℕ) (p : Place) (start : ℕ) (list : List Annotation) → IsRead b s p start list → IsRead b s Any start list
@@ -160,8 +165,8 @@ read-elsewhere b s p start list r = record {
 }
 
 -- a canonical block is written of one start and list
-pub one-writing : (base m n : ℕ) (k l : List Annotation) → base < window → m < window → n < window → AllByRecursion IsNote k → AllByRecursion IsNote l
+pub one-writing : (base m n : ℕ) (k l : List Annotation) → base < window → m < window → n < window → AllByRecursion IsAnnotation k → AllByRecursion IsAnnotation l
     → IsWithinLimits k → IsWithinLimits l → block_text base m k ≡ block_text base n l → SameAnswer m n k l
 one-writing base m n k l low p q a b c d e =
-    one-read (block_text base m k ++ replicate 0 0) base Any m n k l (read-any base m 0 k low p a c)
-    (subst (λ (x : List ℕ). IsRead (x ++ replicate 0 0) base Any n l) (sym e) (read-any base n 0 l low q b d))
+    one-read (block_text base m k) base Any m n k l (read-alone base m k low p a c)
+    (subst (λ (x : List ℕ). IsRead x base Any n l) (sym e) (read-alone base n l low q b d))

@@ -7,9 +7,9 @@ use Rattle.std.proofs.lemmas.Bool.{cases_eq, cases_lt}
 use Rattle.std.proofs.lemmas.Int.{ints}
 use Rattle.std.proofs.lemmas.Str.{IsUtf8-from_is_utf8, is_utf8-from_IsUtf8}
 use Rattle.edf_time.specs.Civil.{window}
-use Rattle.edf_tal.specs.Tal.{Tal, Annotation, IsText, ended, IsTalInWindow, instant, notes}
+use Rattle.edf_tal.specs.Tal.{Tal, Annotation, IsText, ended, IsTalInWindow, instant, annotations}
 use Rattle.edf_tal.specs.Block.{IsRead, IsBadText, IsBlockFault}
-use Rattle.edf_tal.specs.Scan.{Lacks, NoTal, AreZeros, IsFront, IsBadAmong, AreGoodTexts, IsBehind, IsSurvey, KeepsSecond, KeepsOrder, IsChecked}
+use Rattle.edf_tal.specs.Inside.Scan.{Lacks, NoTal, AreZeros, IsTalAtFront, IsBadAmong, AreGoodTexts, IsBehind, IsSurvey, KeepsSecond, KeepsOrder, IsChecked}
 use Rattle.edf_tal.specs.declared.place.Place.{Place}
 use Rattle.edf_tal.specs.declared.place.Place.TheVariants.{First, After, Any}
 use Rattle.edf_tal.specs.declared.place.TalFault.{TalFault}
@@ -92,7 +92,7 @@ texts-of (x ∷ xs) a =
       )
     ]
 
-front-texts : (bytes texts rest : List ℕ) (t : Tal) → IsFront bytes texts rest t → AreGoodTexts texts (length t.texts) ⊎ ((at : ℕ) × IsBadAmong texts at)
+front-texts : (bytes texts rest : List ℕ) (t : Tal) → IsTalAtFront bytes texts rest t → AreGoodTexts texts (length t.texts) ⊎ ((at : ℕ) × IsBadAmong texts at)
 front-texts bytes texts rest t f =
     elim (texts-of t.texts f.tal.are_texts) [
       | inl good ↦ inl (record { list = t.texts; rest = []; parts = f.texts_are ∙ sym (append-nil (ended t.texts)); good = good; is_rest = tt; count_is = refl })
@@ -201,10 +201,11 @@ first-empty (b ∷ texts) =
 abbrev pub HasAnswer : List ℕ → ℕ → Place → Type 0
 HasAnswer b s p = ((start : ℕ) × (list : List Annotation) × IsRead b s p start list) ⊎ ((e : TalFault) × IsBlockFault b s p e)
 
-read-checked : (b front : List ℕ) (s : ℕ) (p : Place) (start count : ℕ) → IsChecked b s p front start count → HasAnswer b s p
-read-checked b front s p start count c = inl (
+pub read-checked : (b front : List ℕ) (s : ℕ) (p : Place) (start count : ℕ) → IsChecked b s p front start count
+    → (begin : ℕ) × (list : List Annotation) × IsRead b s p begin list
+read-checked b front s p start count c = (
   start,
-  notes s c.tals,
+  annotations s c.tals,
   record {
     tals = c.tals;
     block = ((front, c.zeros, c.parts, c.whole, c.are_zeros), c.good);
@@ -222,7 +223,7 @@ module _ (b rest : List ℕ) (s : ℕ) (p : Place) (w : Bool) (count bytes : ℕ
   by-limits : KeepsSecond p t.onset → IsTrue w → KeepsOrder p (instant s t.onset) → HasAnswer b s p
   by-limits second window order =
       elim (limits count bytes) [
-        | inl few ↦ read-checked b (take (length b - length rest) b) s p (instant s t.onset) (count - 1) (checked b rest s p w count bytes t (instant s t.onset) k empty second window refl order few)
+        | inl few ↦ inl (read-checked b (take (length b - length rest) b) s p (instant s t.onset) (count - 1) (checked b rest s p w count bytes t (instant s t.onset) k empty second window refl order few))
         | inr many ↦ inr (TooMany, fault-many b rest s p w count bytes t k empty second window order many)
       ]
 

@@ -3,7 +3,7 @@ use Rattle.std.proofs.Common.{◌≡◌, ℕ, ◌≤◌, List, [], ◌∷◌, �
 use Rattle.std.specs.List.{AllByRecursion}
 use Rattle.std.proofs.lemmas.List.{length-append, append-nil}
 use Rattle.edf_tal.specs.Tal.{Tal, IsTal, IsDurationPart, IsText, ended, AreTals}
-use Rattle.edf_tal.specs.Scan.{Lacks, NoTal}
+use Rattle.edf_tal.specs.Inside.Scan.{Lacks, NoTal}
 use Rattle.edf_tal.proofs.Unique.{SameSides, same-sides, Lacks-append, Lacks-onset, Lacks-seconds}
 
 NoZero-duration : (bytes : List ℕ) (d : Option ℕ) → IsDurationPart bytes d → Lacks 0 bytes

@@ -6,13 +6,14 @@ use Rattle.std.proofs.lemmas.Bool.{cases_eq}
 use Rattle.std.proofs.lemmas.List.{append-nil, length-append, take_all}
 use Rattle.edf_time.specs.Decimal.{IsDecimal, IsFine, IsSeconds}
 use Rattle.edf_tal.specs.Tal.{Tal, IsTal, IsOnset, IsDurationPart, IsText, ended}
-use Rattle.edf_tal.specs.Scan.{Lacks, NoTal, IsTimes, IsHead, IsEnded, IsFront, capped}
-use Rattle.edf_tal.proofs.Unique.{same-sides, not-both, same-parts, Lacks-append, Lacks-onset, Lacks-duration, Lacks-seconds}
+use Rattle.edf_tal.specs.Inside.Scan.{Lacks, NoTal, IsTimes, IsHead, IsEnded, IsTalAtFront, capped}
+use Rattle.edf_time.proofs.Cited.{same-parts}
+use Rattle.edf_tal.proofs.Unique.{same-sides, not-both, Lacks-append, Lacks-onset, Lacks-duration, Lacks-seconds}
 use Rattle.edf_tal.proofs.Fronts.{NoZero-tal}
 
 -- a decimal that is too fine has no value
 pub too-fine : (text w f : List ℕ) (n : ℕ) → IsDecimal text w f → ¬ IsFine f → ¬ IsSeconds text n
-too-fine text w f n d bad s = bad (subst (λ (x : List ℕ). IsFine x) (sym (same-parts text w f s.whole s.fraction d s.parts).back) s.fine)
+too-fine text w f n d bad s = bad (subst (λ (x : List ℕ). IsFine x) (sym (same-parts text w f s.whole s.fraction d s.parts).fraction) s.fine)
 
 pub capped-small : (n : ℕ) → n < 2 ^ 63 → n ≡ capped n
 capped-small n h = omega arith
@@ -183,7 +184,7 @@ Lacks-back c [] b p = p
 Lacks-back c (x ∷ a) b p = Lacks-back c a b p.1
 
 pub front-made : (bytes body rest head texts : List ℕ) (z : ℤ) (d : Option ℕ) → Lacks 0 body → bytes ≡ body ++ 0 ∷ rest → body ≡ head ++ 20 ∷ texts → IsHead head z d → IsEnded texts
-    → (x : Texts texts) × IsFront bytes texts rest (record { onset = z; duration = d; texts = x.texts })
+    → (x : Texts texts) × IsTalAtFront bytes texts rest (record { onset = z; duration = d; texts = x.texts })
 front-made bytes body rest head texts z d lacks e f h ends =
     let none : Lacks 0 texts = (Lacks-back 0 head (20 ∷ texts) (subst (λ (w : List ℕ). Lacks 0 w) f lacks)).1 in
     let x = texts-of texts none ends in (

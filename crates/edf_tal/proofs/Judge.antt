@@ -4,9 +4,9 @@ use Rattle.std.specs.Prelude.{IsTrue, ◌↔◌}
 use Rattle.std.specs.List.{AllByRecursion, flat_map}
 use Rattle.std.proofs.lemmas.List.{length-append, length-take, take-append-drop, take_at}
 use Rattle.std.proofs.lemmas.List.Sums.{sum_by-cons}
-use Rattle.edf_tal.specs.Tal.{Tal, Annotation, IsTal, IsText, ended, AreTals, AreTalsAndZeros, IsTimed, IsTalInWindow, instant, annotations_of, notes, begin}
-use Rattle.edf_tal.specs.Block.{IsBadText, IsLongestFront, IsWithinLimits, KeepsPlace, Fails, number, IsBlockFault}
-use Rattle.edf_tal.specs.Scan.{NoTal, AreZeros, IsFront, IsBehind, IsSurvey, KeepsSecond, KeepsOrder, IsChecked}
+use Rattle.edf_tal.specs.Tal.{Tal, Annotation, IsTal, IsText, ended, AreTals, AreTalsAndZeros, IsTimed, IsTalInWindow, instant, tal_annotations, annotations, begin}
+use Rattle.edf_tal.specs.Block.{IsBadText, IsLongestFront, IsWithinLimits, KeepsPlace, BlockFails, tal_fault_number, IsBlockFault}
+use Rattle.edf_tal.specs.Inside.Scan.{NoTal, AreZeros, IsTalAtFront, IsBehind, IsSurvey, KeepsSecond, KeepsOrder, IsChecked}
 use Rattle.edf_tal.specs.declared.place.Place.{Place}
 use Rattle.edf_tal.specs.declared.place.Place.TheVariants.{First, After, Any}
 use Rattle.edf_tal.specs.declared.place.TalFault.{TalFault}
@@ -35,7 +35,7 @@ longest-front block rest b last =
           omega (arith, s, length-take m block);
     })
 
-lowest : (e : TalFault) → number e < 22 → ⊥
+lowest : (e : TalFault) → tal_fault_number e < 22 → ⊥
 lowest (NotTals offset) h = omega arith
 lowest (Text offset) h = omega arith
 lowest NotTimed h = omega arith
@@ -61,7 +61,7 @@ pub record IsClear (b : List ℕ) (s : ℕ) (p : Place) (n : ℕ) (ts : List Tal
   pub window : 26 < n → AllByRecursion (IsTalInWindow s) ts
   pub order : 27 < n → KeepsOrder p (begin s ts)
 
-clear : (b : List ℕ) (s : ℕ) (p : Place) (n : ℕ) (ts : List Tal) → IsClear b s p n ts → (e : TalFault) → number e < n → ¬ Fails b s p e
+clear : (b : List ℕ) (s : ℕ) (p : Place) (n : ℕ) (ts : List Tal) → IsClear b s p n ts → (e : TalFault) → tal_fault_number e < n → ¬ BlockFails b s p e
 clear b s p n ts h (NotTals offset) low f = f.0 ts (h.whole low)
 clear b s p n ts h (Text offset) low f = good-block b ts offset (h.whole (omega arith)) (h.good low) f.1
 clear b s p n ts h NotTimed low (us, w, fails) = on-tals IsTimed b ts us (h.whole (omega arith)) w (h.timed low) fails
@@ -100,8 +100,8 @@ pub record Known (b : List ℕ) (s : ℕ) (rest : List ℕ) (in_window : Bool) (
   pub good : AreGood (t ∷ more)
   pub zeros : AreZeros rest
   pub window : IsTrue in_window ↔ AllByRecursion (IsTalInWindow s) (t ∷ more)
-  pub count_is : count ≡ length (flat_map (annotations_of s) (t ∷ more))
-  pub bytes_is : bytes ≡ text_bytes (flat_map (annotations_of s) (t ∷ more))
+  pub count_is : count ≡ length (flat_map (tal_annotations s) (t ∷ more))
+  pub bytes_is : bytes ≡ text_bytes (flat_map (tal_annotations s) (t ∷ more))
 
 first-of : (front rest : List ℕ) (ts : List Tal) (f more : List ℕ) (t : Tal) → AreTals front ts → AreZeros rest → IsTal f t → front ++ rest ≡ f ++ more
     → (us : List Tal) × (ts ≡ t ∷ us)
@@ -111,7 +111,7 @@ first-of front rest (u ∷ us) f more t (g, r, parts, is, others) z s e =
     (us, ap (λ (x : Tal). x ∷ us) (one-tal g u t is (rw (same.front) s)))
 
 pub known : (b rest texts more : List ℕ) (s : ℕ) (in_window : Bool) (count bytes : ℕ) (t : Tal) → IsSurvey b s rest in_window count bytes → AreZeros rest
-    → IsFront b texts more t → Known b s rest in_window count bytes t
+    → IsTalAtFront b texts more t → Known b s rest in_window count bytes t
 known b rest texts more s in_window count bytes t v z f =
     let first = first-of v.front rest v.tals f.front more t v.whole z f.tal (sym v.parts ∙ f.parts) in
     record {
@@ -122,8 +122,8 @@ known b rest texts more s in_window count bytes t v z f =
       good = subst AreGood first.1 v.good;
       zeros = z;
       window = subst (λ (ts : List Tal). IsTrue in_window ↔ AllByRecursion (IsTalInWindow s) ts) first.1 v.window;
-      count_is = v.count_is ∙ ap (λ (ts : List Tal). length (flat_map (annotations_of s) ts)) first.1;
-      bytes_is = v.bytes_is ∙ ap (λ (ts : List Tal). text_bytes (flat_map (annotations_of s) ts)) first.1;
+      count_is = v.count_is ∙ ap (λ (ts : List Tal). length (flat_map (tal_annotations s) ts)) first.1;
+      bytes_is = v.bytes_is ∙ ap (λ (ts : List Tal). text_bytes (flat_map (tal_annotations s) ts)) first.1;
     }
 
 -- there is no TAL
@@ -158,10 +158,10 @@ first-empty [] rest a e = absurd cc
 first-empty ([] ∷ xs) rest a e = (xs, refl)
 first-empty ((b ∷ x) ∷ xs) rest a e = absurd (a.0.0.1 (let z : b ≡ 20 = cc in z))
 
-pub timed : (b texts more : List ℕ) (t : Tal) → IsFront b texts more t → ((rest : List ℕ) × (texts ≡ 20 ∷ rest)) → (xs : List (List ℕ)) × (t.texts ≡ [] ∷ xs)
+pub timed : (b texts more : List ℕ) (t : Tal) → IsTalAtFront b texts more t → ((rest : List ℕ) × (texts ≡ 20 ∷ rest)) → (xs : List (List ℕ)) × (t.texts ≡ [] ∷ xs)
 timed b texts more t f (rest, e) = first-empty t.texts rest f.tal.are_texts (sym f.texts_are ∙ e)
 
-untimed : (b texts more : List ℕ) (t : Tal) → IsFront b texts more t → ¬ ((rest : List ℕ) × (texts ≡ 20 ∷ rest)) → ¬ ((xs : List (List ℕ)) × (t.texts ≡ [] ∷ xs))
+untimed : (b texts more : List ℕ) (t : Tal) → IsTalAtFront b texts more t → ¬ ((rest : List ℕ) × (texts ≡ 20 ∷ rest)) → ¬ ((xs : List (List ℕ)) × (t.texts ≡ [] ∷ xs))
 untimed b texts more t f fails (xs, e) = fails (ended xs, f.texts_are ∙ ap ended e)
 
 whole-of : (b rest : List ℕ) (s : ℕ) (in_window : Bool) (count bytes : ℕ) (t : Tal) (k : Known b s rest in_window count bytes t) → AreTalsAndZeros b (t ∷ k.more)
@@ -180,7 +180,7 @@ clear-known b rest s p in_window count bytes t k n low timed second window order
   order = order;
 }
 
-pub fault-untimed : (b rest texts more : List ℕ) (s : ℕ) (p : Place) (in_window : Bool) (count bytes : ℕ) (t : Tal) → Known b s rest in_window count bytes t → IsFront b texts more t
+pub fault-untimed : (b rest texts more : List ℕ) (s : ℕ) (p : Place) (in_window : Bool) (count bytes : ℕ) (t : Tal) → Known b s rest in_window count bytes t → IsTalAtFront b texts more t
     → ¬ ((rest : List ℕ) × (texts ≡ 20 ∷ rest)) → IsBlockFault b s p NotTimed
 fault-untimed b rest texts more s p in_window count bytes t k f fails = record {
   holds = (t ∷ k.more, whole-of b rest s in_window count bytes t k, untimed b texts more t f fails);
@@ -224,26 +224,26 @@ dropped a list e = record {
   bytes = sum_by-cons (λ (x : Annotation). length x.text) a list ∙ ap (λ (x : List ℕ). length x + text_bytes list) e ∙ (let z : 0 + text_bytes list ≡ text_bytes list = omega arith in z);
 }
 
-pub dropped-first : (s : ℕ) (t : Tal) (ts : List Tal) (xs : List (List ℕ)) → t.texts ≡ [] ∷ xs → Dropped (flat_map (annotations_of s) (t ∷ ts))
+pub dropped-first : (s : ℕ) (t : Tal) (ts : List Tal) (xs : List (List ℕ)) → t.texts ≡ [] ∷ xs → Dropped (flat_map (tal_annotations s) (t ∷ ts))
 dropped-first s t ts xs e =
-    let same : flat_map (annotations_of s) (t ∷ ts) ≡ note_of (instant s t.onset) t.duration [] ∷ (map (note_of (instant s t.onset) t.duration) xs ++ flat_map (annotations_of s) ts) =
-    ap (λ (w : List (List ℕ)). map (note_of (instant s t.onset) t.duration) w ++ flat_map (annotations_of s) ts) e in
-    rw same (dropped (note_of (instant s t.onset) t.duration []) (map (note_of (instant s t.onset) t.duration) xs ++ flat_map (annotations_of s) ts) refl)
+    let same : flat_map (tal_annotations s) (t ∷ ts) ≡ note_of (instant s t.onset) t.duration [] ∷ (map (note_of (instant s t.onset) t.duration) xs ++ flat_map (tal_annotations s) ts) =
+    ap (λ (w : List (List ℕ)). map (note_of (instant s t.onset) t.duration) w ++ flat_map (tal_annotations s) ts) e in
+    rw same (dropped (note_of (instant s t.onset) t.duration []) (map (note_of (instant s t.onset) t.duration) xs ++ flat_map (tal_annotations s) ts) refl)
 
 within : (b rest : List ℕ) (s : ℕ) (in_window : Bool) (count bytes : ℕ) (t : Tal) (k : Known b s rest in_window count bytes t)
-    → ((xs : List (List ℕ)) × (t.texts ≡ [] ∷ xs)) → count ≤ 10_001 → bytes ≤ 1_000_000 → IsWithinLimits (notes s (t ∷ k.more))
+    → ((xs : List (List ℕ)) × (t.texts ≡ [] ∷ xs)) → count ≤ 10_001 → bytes ≤ 1_000_000 → IsWithinLimits (annotations s (t ∷ k.more))
 within b rest s in_window count bytes t k (xs, e) few short =
     let d = dropped-first s t k.more xs e in
-    let c : count ≡ length (flat_map (annotations_of s) (t ∷ k.more)) = k.count_is in
-    let n : bytes ≡ text_bytes (flat_map (annotations_of s) (t ∷ k.more)) = k.bytes_is in
+    let c : count ≡ length (flat_map (tal_annotations s) (t ∷ k.more)) = k.count_is in
+    let n : bytes ≡ text_bytes (flat_map (tal_annotations s) (t ∷ k.more)) = k.bytes_is in
     record { count = omega (arith, d.count); bytes = omega (arith, d.bytes) }
 
 beyond : (b rest : List ℕ) (s : ℕ) (in_window : Bool) (count bytes : ℕ) (t : Tal) (k : Known b s rest in_window count bytes t)
-    → ((xs : List (List ℕ)) × (t.texts ≡ [] ∷ xs)) → IsWithinLimits (notes s (t ∷ k.more)) → (count ≤ 10_001) × (bytes ≤ 1_000_000)
+    → ((xs : List (List ℕ)) × (t.texts ≡ [] ∷ xs)) → IsWithinLimits (annotations s (t ∷ k.more)) → (count ≤ 10_001) × (bytes ≤ 1_000_000)
 beyond b rest s in_window count bytes t k (xs, e) w =
     let d = dropped-first s t k.more xs e in
-    let c : count ≡ length (flat_map (annotations_of s) (t ∷ k.more)) = k.count_is in
-    let n : bytes ≡ text_bytes (flat_map (annotations_of s) (t ∷ k.more)) = k.bytes_is in
+    let c : count ≡ length (flat_map (tal_annotations s) (t ∷ k.more)) = k.count_is in
+    let n : bytes ≡ text_bytes (flat_map (tal_annotations s) (t ∷ k.more)) = k.bytes_is in
     (omega (arith, d.count, w.count), omega (arith, d.bytes, w.bytes))
 
 pub fault-many : (b rest : List ℕ) (s : ℕ) (p : Place) (in_window : Bool) (count bytes : ℕ) (t : Tal) → Known b s rest in_window count bytes t
@@ -263,7 +263,7 @@ pub some-count : (b rest : List ℕ) (s : ℕ) (in_window : Bool) (count bytes :
     → ((xs : List (List ℕ)) × (t.texts ≡ [] ∷ xs)) → 1 ≤ count
 some-count b rest s in_window count bytes t k (xs, e) =
     let d = dropped-first s t k.more xs e in
-    let c : count ≡ length (flat_map (annotations_of s) (t ∷ k.more)) = k.count_is in
+    let c : count ≡ length (flat_map (tal_annotations s) (t ∷ k.more)) = k.count_is in
     omega (arith, d.count)
 
 pub checked : (b rest : List ℕ) (s : ℕ) (p : Place) (in_window : Bool) (count bytes : ℕ) (t : Tal) (start : ℕ) → Known b s rest in_window count bytes t
@@ -273,7 +273,7 @@ checked b rest s p in_window count bytes t start k (xs, e) second window start-i
     let len : length b - length rest ≡ length k.front = omega (arith, ap length k.parts, length-append k.front rest) in
     let cut : take (length b - length rest) b ≡ k.front = ap (λ (n : ℕ). take n b) len ∙ ap (take (length k.front)) k.parts ∙ take_at k.front rest (length k.front) refl in
     let d = dropped-first s t k.more xs e in
-    let c : count ≡ length (flat_map (annotations_of s) (t ∷ k.more)) = k.count_is in
+    let c : count ≡ length (flat_map (tal_annotations s) (t ∷ k.more)) = k.count_is in
     rw cut (record {
       tals = t ∷ k.more;
       zeros = rest;

@@ -4,12 +4,13 @@ pub mod OneBlock
 pub mod BadText
 pub mod OneAnswer
 pub mod Again
-pub mod ReadNotes
+pub mod ReadAnnotations
 pub mod Heads
 pub mod Surveys
 pub mod Totals
 pub mod Judge
 pub mod Lists
-pub mod Lengths
+pub mod BlockLength
 pub mod Decide
 pub mod AtLeast
+pub mod Cited

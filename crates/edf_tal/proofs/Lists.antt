@@ -4,9 +4,9 @@ use Rattle.std.specs.Prelude.{IsUtf8, IfSome}
 use Rattle.std.specs.List.{AllByRecursion, flat_map}
 use Rattle.std.proofs.lemmas.List.{append-nil}
 use Rattle.edf_time.specs.Civil.{window}
-use Rattle.edf_tal.specs.Tal.{Tal, Annotation, IsText, ended, AreTals, IsTimed, IsTalInWindow, instant, annotations_of, notes}
-use Rattle.edf_tal.specs.Block.{IsBlockFault, IsRefusal}
-use Rattle.edf_tal.specs.Scan.{Lacks, NoTal, IsFront, TellsOnset, TellsDuration, AreTexts, TellsTal, AreSoundTals}
+use Rattle.edf_tal.specs.Tal.{Tal, Annotation, IsText, ended, AreTals, IsTimed, IsTalInWindow, instant, tal_annotations, annotations}
+use Rattle.edf_tal.specs.Block.{IsBlockFault, IsBlockRefusal}
+use Rattle.edf_tal.specs.Inside.Scan.{Lacks, NoTal, IsTalAtFront, TellsOnset, TellsDuration, AreTexts, TellsTal, AreSoundTals}
 use Rattle.edf_tal.specs.declared.place.Place.{Place}
 use Rattle.edf_tal.specs.declared.place.TalFault.{TalFault}
 use Rattle.edf_tal.specs.declared.place.TalFault.TheVariants.{Tal as NotTals, Text, NotTimed, FirstOnset, Window, Order, TooMany, Memory}
@@ -96,7 +96,7 @@ pub record HasPushedTals (file_start : ℕ) (tals rest : List ℕ) (old new : Li
   pub left : List Tal
   pub are_all : AreSoundTals tals file_start all
   pub are_left : AreSoundTals rest file_start left
-  pub items : old ++ flat_map (annotations_of file_start) all ≡ new ++ flat_map (annotations_of file_start) left
+  pub items : old ++ flat_map (tal_annotations file_start) all ≡ new ++ flat_map (tal_annotations file_start) left
 
 pub tals-none : (s : ℕ) (tals : List ℕ) (old : List Annotation) → ((ts : List Tal) × AreSoundTals tals s ts) → HasPushedTals s tals tals old old
 tals-none s tals old (ts, a) = record { all = ts; left = ts; are_all = a; are_left = a; items = refl }
@@ -111,7 +111,7 @@ pub record NextTal (s : ℕ) (rest texts : List ℕ) (t : Tal) (left : List Tal)
   pub texts_are : texts ≡ ended t.texts
   pub sound : AreSoundTals rest s others
 
-pub next-tal : (s : ℕ) (bytes texts more : List ℕ) (t : Tal) (ts : List Tal) → AreSoundTals bytes s ts → IsFront bytes texts more t → NextTal s more texts t ts
+pub next-tal : (s : ℕ) (bytes texts more : List ℕ) (t : Tal) (ts : List Tal) → AreSoundTals bytes s ts → IsTalAtFront bytes texts more t → NextTal s more texts t ts
 next-tal s bytes texts more t ts a f = at ts a.whole a.good a.window
   where
     at : (us : List Tal) → AreTals bytes us → AllByRecursion (λ t. AllByRecursion IsUtf8 t.texts) us → AllByRecursion (IsTalInWindow s) us → NextTal s more texts t us
@@ -140,8 +140,8 @@ tells s rest texts t left ahead onset duration n o d = record {
   window = n.window;
 }
 
-pub tals-more : (s : ℕ) (tals rest texts more : List ℕ) (old new newer : List Annotation) (t : Tal) → HasPushedTals s tals rest old new → IsFront rest texts more t
-    → newer ≡ new ++ annotations_of s t → HasPushedTals s tals more old newer
+pub tals-more : (s : ℕ) (tals rest texts more : List ℕ) (old new newer : List Annotation) (t : Tal) → HasPushedTals s tals rest old new → IsTalAtFront rest texts more t
+    → newer ≡ new ++ tal_annotations s t → HasPushedTals s tals more old newer
 tals-more s tals rest texts more old new newer t h f is =
     let n = next-tal s rest texts more t h.left h.are_left f in
     record {
@@ -149,8 +149,8 @@ tals-more s tals rest texts more old new newer t h f is =
       left = n.others;
       are_all = h.are_all;
       are_left = n.sound;
-      items = h.items ∙ ap (λ (w : List Tal). new ++ flat_map (annotations_of s) w) n.left_is
-          ∙ sym (ap (λ (w : List Annotation). w ++ flat_map (annotations_of s) n.others) is ∙ append_assoc new (annotations_of s t) (flat_map (annotations_of s) n.others));
+      items = h.items ∙ ap (λ (w : List Tal). new ++ flat_map (tal_annotations s) w) n.left_is
+          ∙ sym (ap (λ (w : List Annotation). w ++ flat_map (tal_annotations s) n.others) is ∙ append_assoc new (tal_annotations s t) (flat_map (tal_annotations s) n.others));
     }
 
 no-tal-left : (rest : List ℕ) (ts : List Tal) → AreTals rest ts → NoTal rest → ts ≡ []
@@ -161,13 +161,13 @@ pub one-list : (bytes : List ℕ) (ts us : List Tal) → AreTals bytes ts → Ar
 one-list bytes ts us a b = (same-tals ts us bytes [] bytes [] a b (zeros-no-tal [] tt) (zeros-no-tal [] tt) refl).tals
 
 pub tals-all : (s : ℕ) (tals rest : List ℕ) (old new : List Annotation) → HasPushedTals s tals rest old new → NoTal rest
-    → (ts : List Tal) → AreSoundTals tals s ts → new ≡ old ++ flat_map (annotations_of s) ts
+    → (ts : List Tal) → AreSoundTals tals s ts → new ≡ old ++ flat_map (tal_annotations s) ts
 tals-all s tals rest old new h last ts a =
     let none = no-tal-left rest h.left h.are_left.whole last in
     let same = one-list tals h.all ts h.are_all.whole a.whole in
-    sym (append-nil new) ∙ sym (ap (λ (w : List Tal). new ++ flat_map (annotations_of s) w) none) ∙ sym h.items ∙ ap (λ (w : List Tal). old ++ flat_map (annotations_of s) w) same
+    sym (append-nil new) ∙ sym (ap (λ (w : List Tal). new ++ flat_map (tal_annotations s) w) none) ∙ sym h.items ∙ ap (λ (w : List Tal). old ++ flat_map (tal_annotations s) w) same
 
-pub refusal : (b : List ℕ) (s : ℕ) (p : Place) (e : TalFault) → IsBlockFault b s p e → IsRefusal b s p e
+pub refusal : (b : List ℕ) (s : ℕ) (p : Place) (e : TalFault) → IsBlockFault b s p e → IsBlockRefusal b s p e
 refusal b s p (NotTals offset) h = h
 refusal b s p (Text offset) h = h
 refusal b s p NotTimed h = h
@@ -175,7 +175,7 @@ refusal b s p FirstOnset h = h
 refusal b s p Window h = h
 refusal b s p Order h = h
 refusal b s p TooMany h = h
-refusal b s p Memory h = tt
+refusal b s p Memory h = absurd h.holds
 
 -- the TALs of a timed block have a first
 pub some-tal : (s : ℕ) (tals : List ℕ) (ts : List Tal) → AreSoundTals tals s ts → IsTimed ts → NoTal tals → ⊥
@@ -200,11 +200,11 @@ tells-rest s rest texts t ts xs ahead onset duration behind n e b o d = record {
 }
 
 pub whole-list : (s : ℕ) (rest texts : List ℕ) (t : Tal) (ts : List Tal) (xs : List (List ℕ)) (none first all : List Annotation) → (n : NextTal s rest texts t ts) → t.texts ≡ [] ∷ xs
-    → none ≡ [] → first ≡ none ++ annotations_of s (record t { texts = xs }) → all ≡ first ++ flat_map (annotations_of s) n.others → all ≡ notes s ts
+    → none ≡ [] → first ≡ none ++ tal_annotations s (record t { texts = xs }) → all ≡ first ++ flat_map (tal_annotations s) n.others → all ≡ annotations s ts
 whole-list s rest texts t ts xs none first all n e f g h =
-    h ∙ ap (λ (w : List Annotation). w ++ flat_map (annotations_of s) n.others) (g ∙ ap (λ (w : List Annotation). w ++ annotations_of s (record t { texts = xs })) f)
-    ∙ sym (ap (notes s) n.left_is ∙ ap (λ (w : List (List ℕ)). drop 1 (map (note_of (instant s t.onset) t.duration) w ++ flat_map (annotations_of s) n.others)) e)
+    h ∙ ap (λ (w : List Annotation). w ++ flat_map (tal_annotations s) n.others) (g ∙ ap (λ (w : List Annotation). w ++ tal_annotations s (record t { texts = xs })) f)
+    ∙ sym (ap (annotations s) n.left_is ∙ ap (λ (w : List (List ℕ)). drop 1 (map (note_of (instant s t.onset) t.duration) w ++ flat_map (tal_annotations s) n.others)) e)
 
 -- the list may be told by any TALs of the bytes
-pub same-notes : (s : ℕ) (tals : List ℕ) (ts us : List Tal) (list : List Annotation) → AreSoundTals tals s ts → AreSoundTals tals s us → list ≡ notes s ts → list ≡ notes s us
-same-notes s tals ts us list a b e = e ∙ ap (notes s) (one-list tals ts us a.whole b.whole)
+pub same-notes : (s : ℕ) (tals : List ℕ) (ts us : List Tal) (list : List Annotation) → AreSoundTals tals s ts → AreSoundTals tals s us → list ≡ annotations s ts → list ≡ annotations s us
+same-notes s tals ts us list a b e = e ∙ ap (annotations s) (one-list tals ts us a.whole b.whole)

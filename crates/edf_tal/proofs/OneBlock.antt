@@ -1,7 +1,7 @@
 -- A block is TALs and zeros in one way.
 use Rattle.std.proofs.Common.{◌≡◌, ℕ, List, [], ◌∷◌, ◌++◌, arith, refl, sym, ap, ◌∙◌, append_assoc, inl, inr, ℤ}
 use Rattle.edf_tal.specs.Tal.{Tal, IsTal, IsOnset, ended, AreTals, AreTalsAndZeros}
-use Rattle.edf_tal.specs.Scan.{NoTal, AreZeros}
+use Rattle.edf_tal.specs.Inside.Scan.{NoTal, AreZeros}
 use Rattle.edf_tal.proofs.Unique.{one-tal}
 use Rattle.edf_tal.proofs.Fronts.{same-front, HasEnd-tal}
 

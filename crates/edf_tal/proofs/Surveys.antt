@@ -4,7 +4,7 @@ use Rattle.std.specs.Prelude.{IsUtf8}
 use Rattle.std.specs.List.{AllByRecursion}
 use Rattle.std.proofs.lemmas.List.{append-nil, length-append}
 use Rattle.edf_tal.specs.Tal.{ended}
-use Rattle.edf_tal.specs.Scan.{Lacks, IsBadAmong, AreGoodTexts}
+use Rattle.edf_tal.specs.Inside.Scan.{Lacks, IsBadAmong, AreGoodTexts}
 
 -- the texts so far
 pub record HasChecked (texts rest : List ℕ) (count : ℕ) : Type 0 where

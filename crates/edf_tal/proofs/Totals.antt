@@ -6,9 +6,9 @@ use Rattle.std.proofs.lemmas.List.{append-nil, length-append, length-map}
 use Rattle.std.proofs.lemmas.List.Sums.{sum_by-append, sum_by-cons}
 use Rattle.std.proofs.lemmas.Int.{ints}
 use Rattle.edf_time.specs.Civil.{window, IsInWindow}
-use Rattle.edf_tal.specs.Tal.{Tal, Annotation, IsText, ended, AreTals, IsTalInWindow, instant, annotations_of}
+use Rattle.edf_tal.specs.Tal.{Tal, Annotation, IsText, ended, AreTals, IsTalInWindow, instant, tal_annotations}
 use Rattle.edf_tal.specs.Block.{IsBadText}
-use Rattle.edf_tal.specs.Scan.{Lacks, capped, TellsDuration, IsFront, IsBadAmong, AreGoodTexts, IsBehind, IsSurvey}
+use Rattle.edf_tal.specs.Inside.Scan.{Lacks, capped, TellsDuration, IsTalAtFront, IsBadAmong, AreGoodTexts, IsBehind, IsSurvey}
 use Rattle.edf_tal.proofs.Unique.{same-sides, not-both, Lacks-text}
 use Rattle.edf_tal.proofs.Fronts.{AreTals-more, NoZero-ended}
 use Rattle.edf_tal.proofs.OneBlock.{tal-sides}
@@ -47,7 +47,7 @@ duration-told (Some n) None t h = absurd t
 pub behind-none : (bytes : List ℕ) → IsBehind bytes bytes
 behind-none bytes = record { front = []; tals = []; parts = refl; whole = refl }
 
-pub behind-more : (bytes rest texts more : List ℕ) (t : Tal) → IsBehind bytes rest → IsFront rest texts more t → IsBehind bytes more
+pub behind-more : (bytes rest texts more : List ℕ) (t : Tal) → IsBehind bytes rest → IsTalAtFront rest texts more t → IsBehind bytes more
 behind-more bytes rest texts more t b f = record {
   front = b.front ++ f.front;
   tals = b.tals ++ t ∷ [];
@@ -68,7 +68,7 @@ behind-behind bytes rest more b c = record {
   whole = AreTals-append b.front c.front b.tals c.tals b.whole c.whole;
 }
 
-pub front-shorter : (bytes texts rest : List ℕ) (t : Tal) → IsFront bytes texts rest t → length rest + length texts + 2 ≤ length bytes
+pub front-shorter : (bytes texts rest : List ℕ) (t : Tal) → IsTalAtFront bytes texts rest t → length rest + length texts + 2 ≤ length bytes
 front-shorter bytes texts rest t f =
     omega (
       arith,
@@ -100,7 +100,7 @@ pub record Counted (t : Tal) (count : ℕ) : Type 0 where
   pub good : AllByRecursion IsUtf8 t.texts
   pub count_is : count ≡ length t.texts
 
-pub counted : (texts rest bytes : List ℕ) (t : Tal) (count : ℕ) → IsFront bytes texts rest t → AreGoodTexts texts count → Counted t count
+pub counted : (texts rest bytes : List ℕ) (t : Tal) (count : ℕ) → IsTalAtFront bytes texts rest t → AreGoodTexts texts count → Counted t count
 counted texts rest bytes t count f g =
     let same = same-list g.list t.texts g.rest g.good g.is_rest f.tal.are_texts (sym g.parts ∙ f.texts_are) in
     record { good = subst (AllByRecursion IsUtf8) same (all-utf8 g.list g.good); count_is = g.count_is ∙ ap length same }
@@ -123,14 +123,14 @@ sum-texts onset duration (x ∷ xs) =
     sum_by-cons (λ (a : Annotation). length a.text) (note_of onset duration x) (map (note_of onset duration) xs)
     ∙ ap (λ (n : ℕ). length x + n) (sum-texts onset duration xs) ∙ sym (sum_by-cons length x xs)
 
-flat_map-append : (s : ℕ) (ts : List Tal) (t : Tal) → flat_map (annotations_of s) (ts ++ t ∷ []) ≡ flat_map (annotations_of s) ts ++ annotations_of s t
-flat_map-append s [] t = append-nil (annotations_of s t)
-flat_map-append s (u ∷ ts) t = ap (λ (w : List Annotation). annotations_of s u ++ w) (flat_map-append s ts t) ∙ sym (append_assoc (annotations_of s u) (flat_map (annotations_of s) ts) (annotations_of s t))
+flat_map-append : (s : ℕ) (ts : List Tal) (t : Tal) → flat_map (tal_annotations s) (ts ++ t ∷ []) ≡ flat_map (tal_annotations s) ts ++ tal_annotations s t
+flat_map-append s [] t = append-nil (tal_annotations s t)
+flat_map-append s (u ∷ ts) t = ap (λ (w : List Annotation). tal_annotations s u ++ w) (flat_map-append s ts t) ∙ sym (append_assoc (tal_annotations s u) (flat_map (tal_annotations s) ts) (tal_annotations s t))
 
-length-annotations : (s : ℕ) (t : Tal) → length (annotations_of s t) ≡ length t.texts
+length-annotations : (s : ℕ) (t : Tal) → length (tal_annotations s t) ≡ length t.texts
 length-annotations s t = length-map t.texts (note_of (instant s t.onset) t.duration)
 
-bytes-annotations : (s : ℕ) (t : Tal) → text_bytes (annotations_of s t) ≡ sum_by length t.texts
+bytes-annotations : (s : ℕ) (t : Tal) → text_bytes (tal_annotations s t) ≡ sum_by length t.texts
 bytes-annotations s t = sum-texts (instant s t.onset) t.duration t.texts
 
 -- all of them keep the window, where those before do and this one does
@@ -151,14 +151,14 @@ survey-none block s = record {
 }
 
 pub survey-more : (block rest texts more : List ℕ) (s : ℕ) (t : Tal) (in_window next is : Bool) (count bytes n m : ℕ) → IsSurvey block s rest in_window count bytes
-    → IsFront rest texts more t → AreGoodTexts texts n → (IsTrue is ↔ IsTalInWindow s t) → (IsTrue next ↔ (IsTrue in_window × IsTrue is)) → n + m ≡ length texts
+    → IsTalAtFront rest texts more t → AreGoodTexts texts n → (IsTrue is ↔ IsTalInWindow s t) → (IsTrue next ↔ (IsTrue in_window × IsTrue is)) → n + m ≡ length texts
     → IsSurvey block s more next (count + n) (bytes + m)
 survey-more block rest texts more s t in_window next is count bytes n m v f g one both sum =
     let c = counted texts more rest t n f g in
     let b = behind-more block rest texts more t (record { front = v.front; tals = v.tals; parts = v.parts; whole = v.whole }) f in
     let list = flat_map-append s v.tals t in
-    let before : count ≡ length (flat_map (annotations_of s) v.tals) = v.count_is in
-    let bytes-before : bytes ≡ text_bytes (flat_map (annotations_of s) v.tals) = v.bytes_is in
+    let before : count ≡ length (flat_map (tal_annotations s) v.tals) = v.count_is in
+    let bytes-before : bytes ≡ text_bytes (flat_map (tal_annotations s) v.tals) = v.bytes_is in
     let here : n ≡ length t.texts = c.count_is in
     let texts-are : length texts ≡ length t.texts + sum_by length t.texts = ap length f.texts_are ∙ length-ended-is t.texts in
     record {
@@ -171,11 +171,11 @@ survey-more block rest texts more s t in_window next is count bytes n m v f g on
         λ h. let p = both.0 h in all-more (IsTalInWindow s) v.tals t (v.window.0 p.0) (one.0 p.1),
         λ a. let r = window-more s v.tals t a in both.1 (v.window.1 r.0, one.1 r.1),
       );
-      count_is = rw list (omega (arith, length-append (flat_map (annotations_of s) v.tals) (annotations_of s t), length-annotations s t));
-      bytes_is = rw list (omega (arith, sum_by-append (λ (a : Annotation). length a.text) (flat_map (annotations_of s) v.tals) (annotations_of s t), bytes-annotations s t));
+      count_is = rw list (omega (arith, length-append (flat_map (tal_annotations s) v.tals) (tal_annotations s t), length-annotations s t));
+      bytes_is = rw list (omega (arith, sum_by-append (λ (a : Annotation). length a.text) (flat_map (tal_annotations s) v.tals) (tal_annotations s t), bytes-annotations s t));
     }
 
-length-tals : (s : ℕ) (front : List ℕ) (ts : List Tal) → AreTals front ts → length (flat_map (annotations_of s) ts) + text_bytes (flat_map (annotations_of s) ts) ≤ length front
+length-tals : (s : ℕ) (front : List ℕ) (ts : List Tal) → AreTals front ts → length (flat_map (tal_annotations s) ts) + text_bytes (flat_map (tal_annotations s) ts) ≤ length front
 length-tals s front [] a = omega arith
 length-tals s front (t ∷ ts) (f, r, parts, is, more) =
     omega (
@@ -187,16 +187,16 @@ length-tals s front (t ∷ ts) (f, r, parts, is, more) =
       length-ended-is t.texts,
       length-append ((is.onset ++ is.duration) ++ 20 ∷ ended t.texts) (0 ∷ []),
       length-append (is.onset ++ is.duration) (20 ∷ ended t.texts),
-      length-append (annotations_of s t) (flat_map (annotations_of s) ts),
+      length-append (tal_annotations s t) (flat_map (tal_annotations s) ts),
       length-annotations s t,
-      sum_by-append (λ (a : Annotation). length a.text) (annotations_of s t) (flat_map (annotations_of s) ts),
+      sum_by-append (λ (a : Annotation). length a.text) (tal_annotations s t) (flat_map (tal_annotations s) ts),
       bytes-annotations s t,
     )
 
 pub survey-room : (block rest : List ℕ) (s : ℕ) (in_window : Bool) (count bytes : ℕ) → IsSurvey block s rest in_window count bytes → count + bytes + length rest ≤ length block
 survey-room block rest s in_window count bytes v =
-    let c : count ≡ length (flat_map (annotations_of s) v.tals) = v.count_is in
-    let b : bytes ≡ text_bytes (flat_map (annotations_of s) v.tals) = v.bytes_is in
+    let c : count ≡ length (flat_map (tal_annotations s) v.tals) = v.count_is in
+    let b : bytes ≡ text_bytes (flat_map (tal_annotations s) v.tals) = v.bytes_is in
     omega (arith, length-tals s v.front v.tals v.whole, ap length v.parts, length-append v.front rest)
 
 pub good-count : (texts : List ℕ) (n : ℕ) → AreGoodTexts texts n → n ≤ length texts
@@ -227,7 +227,7 @@ good-texts [] p a = tt
 good-texts (x ∷ xs) p a =
     ((is-text x (Lacks-front 0 x (20 ∷ []) (Lacks-front 0 (x ++ 20 ∷ []) (ended xs) p)) a.0.0, a.0.1), good-texts xs (Lacks-back 0 (x ++ 20 ∷ []) (ended xs) p) a.1)
 
-bad-front : (rest texts more : List ℕ) (t : Tal) (at : ℕ) (f : IsFront rest texts more t) → IsBadAmong texts at
+bad-front : (rest texts more : List ℕ) (t : Tal) (at : ℕ) (f : IsTalAtFront rest texts more t) → IsBadAmong texts at
     → IsBadFront rest (length f.tal.onset + length f.tal.duration + 1 + at)
 bad-front rest texts more t at f b =
     let none : Lacks 0 (ended b.good ++ (b.text ++ 20 ∷ b.back)) = subst (Lacks 0) b.parts (rw (f.texts_are) (NoZero-ended t.texts f.tal.are_texts)) in
@@ -249,7 +249,7 @@ bad-front rest texts more t at f b =
 
 -- the place of the first bad text in the block
 pub survey-bad : (block rest texts more : List ℕ) (s : ℕ) (t : Tal) (in_window : Bool) (count bytes at : ℕ) → IsSurvey block s rest in_window count bytes
-    → IsFront rest texts more t → IsBadAmong texts at → IsBadText block (length block - length more - 1 - length texts + at)
+    → IsTalAtFront rest texts more t → IsBadAmong texts at → IsBadText block (length block - length more - 1 - length texts + at)
 survey-bad block rest texts more s t in_window count bytes at v f b =
     bad-join block v.front rest v.tals (length block - length more - 1 - length texts + at) (length f.tal.onset + length f.tal.duration + 1 + at) v.parts v.whole v.good
     (bad-front rest texts more t at f b)

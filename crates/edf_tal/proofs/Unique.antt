@@ -4,8 +4,8 @@ use Rattle.std.specs.List.{AllByRecursion}
 use Rattle.std.proofs.lemmas.List.{append-nil}
 use Rattle.std.specs.Str.Parse.{AllDigits}
 use Rattle.edf_time.specs.Decimal.{IsDecimal, IsSeconds}
-use Rattle.edf_time.proofs.Digits.{digit_only}
-use Rattle.edf_tal.specs.Scan.{Lacks}
+use Rattle.edf_time.proofs.Cited.{digit_only, one-value}
+use Rattle.edf_tal.specs.Inside.Scan.{Lacks}
 use Rattle.edf_tal.specs.Tal.{Tal, IsTal, IsOnset, IsDurationPart, IsText, ended}
 
 pub Lacks-append : (c : ℕ) (a b : List ℕ) → Lacks c a → Lacks c b → Lacks c (a ++ b)
@@ -34,7 +34,7 @@ not-both c [] (d ∷ b) y p e = absurd cc
 not-both c (x ∷ a) [] y p e = p.0 (let z : x ≡ c = cc in z)
 not-both c (x ∷ a) (d ∷ b) y p e = not-both c a b y p.1 (let z : a ≡ b ++ c ∷ y = cc in z)
 
-pub Lacks-digits : (c : ℕ) (ds : List ℕ) → (c < 48) → AllDigits 10 ds → Lacks c ds
+Lacks-digits : (c : ℕ) (ds : List ℕ) → (c < 48) → AllDigits 10 ds → Lacks c ds
 Lacks-digits c [] low p = tt
 Lacks-digits c (d ∷ ds) low p = ((λ e. let b = (digit_only d p.0).0 in absurd (omega arith)), Lacks-digits c ds low p.1)
 
@@ -45,20 +45,6 @@ Lacks-decimal c text w (x ∷ f) low d =
 
 pub Lacks-seconds : (c : ℕ) (text : List ℕ) (n : ℕ) → c < 46 → IsSeconds text n → Lacks c text
 Lacks-seconds c text n low s = Lacks-decimal c text s.whole s.fraction low s.parts
-
--- the digits of a decimal
-pub same-parts : (text w f v g : List ℕ) → IsDecimal text w f → IsDecimal text v g → SameSides w v f g
-same-parts text w [] v [] p q = record { front = sym p.1 ∙ q.1; back = refl }
-same-parts text w [] v (d ∷ g) p q = absurd (not-both 46 w v (d ∷ g) (Lacks-digits 46 w (omega arith) p.0.1) (sym p.1 ∙ q.2))
-same-parts text w (c ∷ f) v [] p q = absurd (not-both 46 v w (c ∷ f) (Lacks-digits 46 v (omega arith) q.0.1) (sym q.1 ∙ p.2))
-same-parts text w (c ∷ f) v (d ∷ g) p q =
-    same-sides 46 w v (c ∷ f) (d ∷ g) (Lacks-digits 46 w (omega arith) p.0.1) (Lacks-digits 46 v (omega arith) q.0.1) (sym p.2 ∙ q.2)
-
--- a decimal has one value
-pub one-value : (text : List ℕ) (m n : ℕ) → IsSeconds text m → IsSeconds text n → m ≡ n
-one-value text m n p q =
-    let s = same-parts text p.whole p.fraction q.whole q.fraction p.parts q.parts in
-    p.value ∙ rw (s.front, s.back) (sym q.value)
 
 pub one-onset : (text : List ℕ) (y z : ℤ) → IsOnset text y → IsOnset text z → y ≡ z
 one-onset [] y z p q = absurd p

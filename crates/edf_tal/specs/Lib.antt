@@ -1,5 +1,4 @@
 pub mod Tal
-pub mod Note
 pub mod Block
 pub mod Canonical
-pub mod Scan
+pub mod Inside

@@ -64,8 +64,8 @@ abbrev pub instant : ℕ → ℤ → ℕ
 instant file_start onset = unsigned_abs (pos file_start +ℤ onset)
 
 -- the annotations of a TAL share its onset and duration
-abbrev pub annotations_of : ℕ → Tal → List Annotation
-annotations_of file_start t = map (λ text. record { onset = instant file_start t.onset; duration = t.duration; text = text }) t.texts
+abbrev pub tal_annotations : ℕ → Tal → List Annotation
+tal_annotations file_start t = map (λ text. record { onset = instant file_start t.onset; duration = t.duration; text = text }) t.texts
 
 -- the first TAL keeps time: its first text is empty
 abbrev pub IsTimed : List Tal → Type 0
@@ -73,8 +73,8 @@ IsTimed [] = ⊥
 IsTimed (t ∷ ts) = (texts : List (List ℕ)) × (t.texts ≡ [] ∷ texts)
 
 -- the data record's list: all annotations but the time-keeping one
-abbrev pub notes : ℕ → List Tal → List Annotation
-notes file_start ts = drop 1 (flat_map (annotations_of file_start) ts)
+abbrev pub annotations : ℕ → List Tal → List Annotation
+annotations file_start ts = drop 1 (flat_map (tal_annotations file_start) ts)
 
 -- the data record's start
 abbrev pub begin : ℕ → List Tal → ℕ
@@ -85,3 +85,10 @@ begin file_start (t ∷ ts) = instant file_start t.onset
 pub record IsTalInWindow (file_start : ℕ) (t : Tal) : Type 0 where
   pub onset : IsInWindow (pos file_start +ℤ t.onset)
   pub duration : IfSome t.duration (λ d. d < window)
+
+-- an annotation of a data record: an instant of the window, a duration shorter than it or none, and a text that a TAL can hold
+pub record IsAnnotation (a : Annotation) : Type 0 where
+  pub onset : a.onset < window
+  pub duration : IfSome a.duration (λ d. d < window)
+  pub text : IsText a.text
+  pub utf8 : IsUtf8 a.text

@@ -1,7 +1,7 @@
 ghost use Rattle.std.specs.Prelude.{◌≡◌, ℕ, ◌+◌, ◌^◌, ◌≤◌, ◌<◌, ◌↔◌, ◌∷◌, ℤ, List, MatchResult, IsTrue};
 ghost use Rattle.edf_tal.specs.Tal.{Tal};
 ghost use Rattle.edf_tal.specs.Block.{IsBlockFault};
-ghost use Rattle.edf_tal.specs.Scan.{TellsOnset, AreZeros, IsSurvey, KeepsSecond, KeepsOrder, IsChecked};
+ghost use Rattle.edf_tal.specs.Inside.Scan.{TellsOnset, AreZeros, IsSurvey, KeepsSecond, KeepsOrder, IsChecked};
 ghost use Rattle.edf_tal.specs.declared.place.Place.{Place};
 
 use crate::place::{Place, TalFault};
@@ -71,7 +71,8 @@ fn is_within_limits(count: usize, text_bytes: usize) -> bool
 /// The TALs of a block that is TALs and zeros, with UTF-8 texts.
 fn tals_of(block: &[u8], file_start: Instant) -> Result<Totals<'_>, TalFault>
     ensures { MatchResult result
-        (λ s. IsSurvey block.now file_start s.rest.now s.in_window s.count s.text_bytes × AreZeros s.rest.now)
+        (λ s. IsSurvey block.now file_start s.rest.now s.in_window s.count s.text_bytes
+        × AreZeros s.rest.now)
         (λ fault. (place : Place) → IsBlockFault block.now file_start place fault) }
 {
     match survey(block, file_start) {
@@ -101,7 +102,8 @@ fn check_tals<'a>(
     file_start: Instant,
     place: Place,
 ) -> Result<Checked<'a>, TalFault>
-    requires survey { IsSurvey block.now file_start totals.rest.now totals.in_window totals.count totals.text_bytes }
+    requires survey { IsSurvey block.now file_start totals.rest.now
+        totals.in_window totals.count totals.text_bytes }
     requires zeros { AreZeros totals.rest.now }
     ensures { MatchResult result
         (λ c. IsChecked block.now file_start place c.tals.now c.start c.count)
@@ -145,8 +147,6 @@ pub(crate) fn check_block(
         (λ c. IsChecked block.now file_start place c.tals.now c.start c.count)
         (IsBlockFault block.now file_start place) }
 {
-    match tals_of(block, file_start) {
-        Ok(totals) => check_tals(block, totals, file_start, place),
-        Err(fault) => Err(fault),
-    }
+    let totals = tals_of(block, file_start)?;
+    check_tals(block, totals, file_start, place)
 }

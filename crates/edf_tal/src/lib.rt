@@ -5,8 +5,8 @@
 //! - [`Note`]: an annotation. [`Place`]: where the data record stands. [`TalFault`]: why a block is refused, E22 to E28.
 //! - [`write_block`], [`block_len`]: the one block that an export has, and its length.
 //! - [`same_notes`]: whether two lists have the same annotations.
-//! - [`laws`]: a block has one answer, and a written block is read again; functions that do nothing, each with a law for a
-//!   contract.
+//! - [`laws`]: each block has one answer at each place, and a written block is read again; functions that do nothing, each
+//!   with a law for a contract.
 #![tactic(auto)]
 
 mod check;

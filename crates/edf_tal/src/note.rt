@@ -2,7 +2,7 @@ ghost use Rattle.std.specs.Prelude.{◌≡◌, ◌≢◌, ℕ, ◌*◌, ◌^◌,
 ghost use Rattle.std.specs.Option.{ForSome};
 ghost use Rattle.std.specs.List.{AllByRecursion};
 ghost use Rattle.edf_tal.specs.Tal.{Annotation, IsText};
-ghost use Rattle.edf_tal.specs.Note.{IsNote};
+ghost use Rattle.edf_tal.specs.Tal.{IsAnnotation};
 ghost use Rattle.edf_time.specs.Civil.{window};
 
 use edf_time::Instant;
@@ -21,13 +21,15 @@ pub struct Note {
 impl Model for Note {
     ghost use Rattle.std.specs.Prelude.{string_bytes};
     ghost use Rattle.edf_tal.specs.Tal.{Annotation};
-    ghost use Rattle.edf_tal.specs.Note.{IsNote};
+    ghost use Rattle.edf_tal.specs.Tal.{IsAnnotation};
 
     ghost Value = { Annotation };
 
-    ghost view = { λ n. record { onset = n.onset; duration = n.duration; text = string_bytes n.text } };
+    ghost view = { λ n.
+        record { onset = n.onset; duration = n.duration; text = string_bytes n.text } };
 
-    ghost invariant = { λ n. IsNote (record { onset = n.onset; duration = n.duration; text = string_bytes n.text }) };
+    ghost invariant = { λ n.
+        IsAnnotation (record { onset = n.onset; duration = n.duration; text = string_bytes n.text }) };
 }
 
 /// Whether no byte is 0 or 20.
@@ -54,25 +56,37 @@ impl Note {
     /// `duration` counts nanoseconds and is to be below 3,155,760,000,000,000,000, the length of the years 1985 to 2084;
     /// `text` is to have no byte 0 or 20.
     pub fn new(onset: Instant, duration: Option<u64>, text: String) -> Option<Note>
-        ensures found { IsSome result ↔ (ForSome duration (λ d. d < window) × IsText (string_bytes text)) }
-        ensures value { IfSome result (λ n. n ≡ record { onset = onset; duration = duration; text = string_bytes text }) }
+        ensures found { IsSome result
+            ↔ (ForSome duration (λ d. d < window) × IsText (string_bytes text)) }
+        ensures value { IfSome result
+            (λ n. n ≡ record { onset = onset; duration = duration; text = string_bytes text }) }
     {
         if is_duration(duration) && is_text(text.as_bytes()) {
-            let _in_window = onset.nanos();
-            Some(Note {
-                onset,
-                duration,
-                text,
-            })
+            Some(Note::of_parts(onset, duration, text))
         } else {
             None
+        }
+    }
+
+    /// The annotation of parts that a TAL can hold.
+    pub(crate) fn of_parts(onset: Instant, duration: Option<u64>, text: String) -> Note
+        requires duration { IfSome duration (λ d. d < window) }
+        requires text { IsText (string_bytes text) }
+        ensures { result ≡ record { onset = onset; duration = duration; text = string_bytes text } }
+    {
+        // the call tells the prover that the instant lies in the window
+        let _in_window = onset.nanos();
+        Note {
+            onset,
+            duration,
+            text,
         }
     }
 
     /// Its onset as an instant.
     pub fn onset(&self) -> Instant
         ensures value { result ≡ self.now.onset }
-        ensures note { IsNote self.now }
+        ensures note { IsAnnotation self.now }
     {
         self.onset
     }
@@ -80,7 +94,7 @@ impl Note {
     /// Its duration in nanoseconds, or none.
     pub fn duration(&self) -> Option<u64>
         ensures value { result ≡ self.now.duration }
-        ensures note { IsNote self.now }
+        ensures note { IsAnnotation self.now }
     {
         self.duration
     }
@@ -88,7 +102,7 @@ impl Note {
     /// Its text.
     pub fn text(&self) -> &str
         ensures value { result.now ≡ self.now.text }
-        ensures note { IsNote self.now }
+        ensures note { IsAnnotation self.now }
     {
         self.text.as_str()
     }

@@ -1,9 +1,9 @@
 ghost use Rattle.std.specs.Prelude.{◌≡◌, ℕ, ◌++◌, ◌<◌, List, [], ◌∷◌, map, IfOk, IfSome, OnOk, IsUtf8, MatchResult};
 ghost use Rattle.std.specs.List.{flat_map};
 ghost use Rattle.edf_time.specs.Civil.{window};
-ghost use Rattle.edf_tal.specs.Tal.{Tal, IsText, IsTimed, annotations_of, notes};
-ghost use Rattle.edf_tal.specs.Block.{IsRead, IsRefusal};
-ghost use Rattle.edf_tal.specs.Scan.{AreTexts, TellsTal, AreSoundTals};
+ghost use Rattle.edf_tal.specs.Tal.{Tal, IsText, IsTimed, tal_annotations, annotations};
+ghost use Rattle.edf_tal.specs.Block.{IsRead, IsBlockRefusal};
+ghost use Rattle.edf_tal.specs.Inside.Scan.{AreTexts, TellsTal, AreSoundTals};
 
 use crate::check::check_block;
 use crate::note::Note;
@@ -12,6 +12,7 @@ use crate::scan::{Times, first_tal, split_first};
 use crate::survey::onset_instant;
 use edf_time::Instant;
 use std::alloc::{AllocError, Global};
+use std::str::from_utf8_unchecked;
 
 /// The annotation with this text.
 fn make_note(
@@ -23,16 +24,13 @@ fn make_note(
     requires duration { IfSome duration (λ d. d < window) }
     requires text { IsText text.now }
     requires utf8 { IsUtf8 text.now }
-    ensures { IfOk result (λ n. n ≡ record { onset = onset; duration = duration; text = text.now }) }
+    ensures { IfOk result
+        (λ n. n ≡ record { onset = onset; duration = duration; text = text.now }) }
 {
-    let Ok(text) = simdutf8::basic::from_utf8(text) else {
-        unreachable!()
-    };
+    // the survey of the block told that its texts are UTF-8
+    let text = unsafe { from_utf8_unchecked(text) };
     let copy = String::from_str(alloc, text)?;
-    let Some(note) = Note::new(onset, duration, copy) else {
-        unreachable!()
-    };
-    Ok(note)
+    Ok(Note::of_parts(onset, duration, copy))
 }
 
 /// Appends an annotation for each text.
@@ -46,7 +44,8 @@ fn push_texts(
     requires duration { IfSome duration (λ d. d < window) }
     requires texts { (xs : List (List ℕ)) × AreTexts texts.now xs }
     ensures { (xs : List (List ℕ)) → AreTexts texts.now xs → OnOk result (list.new.items
-        ≡ list.old.items ++ map (λ text. record { onset = onset; duration = duration; text = text }) xs) }
+        ≡ list.old.items
+        ++ map (λ text. record { onset = onset; duration = duration; text = text }) xs) }
 {
     let mut rest = texts;
     while let Some((text, more)) = split_first(rest, 20) {
@@ -67,7 +66,7 @@ fn push_tal(
 ) -> Result<(), AllocError>
     requires { (t : Tal) × TellsTal texts.now times.ahead times.onset times.duration file_start t }
     ensures { (t : Tal) → TellsTal texts.now times.ahead times.onset times.duration file_start t →
-        OnOk result (list.new.items ≡ list.old.items ++ annotations_of file_start t) }
+        OnOk result (list.new.items ≡ list.old.items ++ tal_annotations file_start t) }
 {
     let Some(onset) = onset_instant(times.ahead, times.onset, file_start) else {
         unreachable!()
@@ -84,7 +83,7 @@ fn push_tals(
 ) -> Result<(), AllocError>
     requires { (ts : List Tal) × AreSoundTals tals.now file_start ts }
     ensures { (ts : List Tal) → AreSoundTals tals.now file_start ts →
-        OnOk result (list.new.items ≡ list.old.items ++ flat_map (annotations_of file_start) ts) }
+        OnOk result (list.new.items ≡ list.old.items ++ flat_map (tal_annotations file_start) ts) }
 {
     let mut rest = tals;
     while let Some(tal) = first_tal(rest) {
@@ -114,7 +113,7 @@ fn list_notes(
 ) -> Result<Vec<Note>, AllocError>
     requires { (ts : List Tal) × AreSoundTals tals.now file_start ts × IsTimed ts }
     ensures { (ts : List Tal) → AreSoundTals tals.now file_start ts → IsTimed ts →
-        IfOk result (λ v. v.items ≡ notes file_start ts) }
+        IfOk result (λ v. v.items ≡ annotations file_start ts) }
 {
     let mut list = Vec::with_capacity(alloc, count)?;
     let Some(first) = first_tal(tals) else {
@@ -135,7 +134,7 @@ fn list_notes(
 ///
 /// # Errors
 /// The first of E22 to E28 that is true, as `TalFault` tells them: `FirstOnset` only at `Place::First`, `Order` only at
-/// `Place::After`. `Memory` where an allocation was refused.
+/// `Place::After`. `Memory` where an allocation was refused; the block then has no fault.
 pub fn read_block(
     alloc: Global,
     block: &[u8],
@@ -144,7 +143,7 @@ pub fn read_block(
 ) -> Result<(Instant, Vec<Note>), TalFault>
     ensures { MatchResult result
         (λ r. IsRead block.now file_start place r.0 r.1.items)
-        (IsRefusal block.now file_start place) }
+        (IsBlockRefusal block.now file_start place) }
 {
     match check_block(block, file_start, place) {
         Ok(checked) => match list_notes(alloc, checked.tals, checked.count, file_start) {

@@ -1,7 +1,7 @@
 ghost use Rattle.std.specs.Prelude.{◌≡◌, ◌≢◌, ℕ, ◌+◌, ◌^◌, ◌≤◌, ◌<◌, ◌↔◌, ◌∷◌, ◌++◌, ℤ, List, Option, length, MatchOption, MatchResult, IsTrue, IsUtf8};
 ghost use Rattle.edf_time.specs.Decimal.{IsSeconds};
 ghost use Rattle.edf_tal.specs.Tal.{Tal, IsTal};
-ghost use Rattle.edf_tal.specs.Scan.{Lacks, NoTal, capped, IsTimes, IsHead, TellsOnset, TellsDuration, IsEnded, IsFront, IsBadAmong, AreGoodTexts};
+ghost use Rattle.edf_tal.specs.Inside.Scan.{Lacks, NoTal, capped, IsTimes, IsHead, TellsOnset, TellsDuration, IsEnded, IsTalAtFront, IsBadAmong, AreGoodTexts};
 
 use edf_time::{DecimalFault, read_seconds};
 
@@ -52,22 +52,17 @@ fn capped_seconds(text: &[u8]) -> Option<u64>
 /// A decimal, and a duration or none.
 fn spans(bytes: &[u8]) -> Option<(u64, Option<u64>)>
     ensures { MatchOption result ((n : ℕ) (d : Option ℕ) → ¬ IsTimes bytes.now n d)
-        (λ r. (n : ℕ) × (d : Option ℕ) × IsTimes bytes.now n d × (r.0 ≡ capped n) × TellsDuration r.1 d) }
+        (λ r. (n : ℕ) × (d : Option ℕ) × IsTimes bytes.now n d
+        × (r.0 ≡ capped n) × TellsDuration r.1 d) }
 {
     match split_first(bytes, 21) {
         None => {
-            let Some(onset) = capped_seconds(bytes) else {
-                return None;
-            };
+            let onset = capped_seconds(bytes)?;
             Some((onset, None))
         }
         Some((front, back)) => {
-            let Some(onset) = capped_seconds(front) else {
-                return None;
-            };
-            let Some(duration) = capped_seconds(back) else {
-                return None;
-            };
+            let onset = capped_seconds(front)?;
+            let duration = capped_seconds(back)?;
             Some((onset, Some(duration)))
         }
     }
@@ -79,24 +74,17 @@ fn signed_times(sign: u8, unsigned: &[u8]) -> Option<Times>
         (λ t. (z : ℤ) × (d : Option ℕ) × IsHead (sign ∷ unsigned.now) z d
         × TellsOnset t.ahead t.onset z × TellsDuration t.duration d) }
 {
-    let Some((onset, duration)) = spans(unsigned) else {
-        return None;
+    let (onset, duration) = spans(unsigned)?;
+    let ahead = match sign {
+        b'+' => true,
+        b'-' => false,
+        _ => return None,
     };
-    if sign == b'+' {
-        Some(Times {
-            ahead: true,
-            onset,
-            duration,
-        })
-    } else if sign == b'-' {
-        Some(Times {
-            ahead: false,
-            onset,
-            duration,
-        })
-    } else {
-        None
-    }
+    Some(Times {
+        ahead,
+        onset,
+        duration,
+    })
 }
 
 /// The times before a TAL's first byte 20.
@@ -121,21 +109,16 @@ fn is_ended(bytes: &[u8]) -> bool
 /// The TAL at the front.
 pub(crate) fn first_tal(bytes: &[u8]) -> Option<FrontTal<'_>>
     ensures { MatchOption result (NoTal bytes.now)
-        (λ f. (t : Tal) × IsFront bytes.now f.texts.now f.rest.now t
-        × TellsOnset f.times.ahead f.times.onset t.onset × TellsDuration f.times.duration t.duration) }
+        (λ f. (t : Tal) × IsTalAtFront bytes.now f.texts.now f.rest.now t
+        × TellsOnset f.times.ahead f.times.onset t.onset
+        × TellsDuration f.times.duration t.duration) }
 {
-    let Some((body, rest)) = split_first(bytes, 0) else {
-        return None;
-    };
-    let Some((head, texts)) = split_first(body, 20) else {
-        return None;
-    };
+    let (body, rest) = split_first(bytes, 0)?;
+    let (head, texts) = split_first(body, 20)?;
     if !is_ended(texts) {
         return None;
     }
-    let Some(times) = head_times(head) else {
-        return None;
-    };
+    let times = head_times(head)?;
     Some(FrontTal { times, texts, rest })
 }
 

@@ -2,7 +2,7 @@ ghost use Rattle.std.specs.Prelude.{◌≡◌, ℕ, ◌+◌, ◌^◌, ◌≤◌,
 ghost use Rattle.edf_time.specs.Civil.{window, IsInWindow};
 ghost use Rattle.edf_tal.specs.Tal.{Tal, IsTalInWindow, instant};
 ghost use Rattle.edf_tal.specs.Block.{IsBadText};
-ghost use Rattle.edf_tal.specs.Scan.{NoTal, TellsOnset, TellsDuration, IsBehind, IsSurvey};
+ghost use Rattle.edf_tal.specs.Inside.Scan.{NoTal, TellsOnset, TellsDuration, IsBehind, IsSurvey};
 
 use crate::note::is_duration;
 use crate::scan::{Times, check_texts, first_tal};
@@ -47,7 +47,8 @@ pub(crate) fn onset_instant(ahead: bool, onset: u64, file_start: Instant) -> Opt
 
 /// Whether an onset and a duration keep the window.
 pub(crate) fn is_in_window(times: Times, file_start: Instant) -> bool
-    ensures { (t : Tal) → TellsOnset times.ahead times.onset t.onset → TellsDuration times.duration t.duration →
+    ensures { (t : Tal) →
+        TellsOnset times.ahead times.onset t.onset → TellsDuration times.duration t.duration →
         (IsTrue result ↔ IsTalInWindow file_start t) }
 {
     match onset_instant(times.ahead, times.onset, file_start) {
@@ -71,7 +72,8 @@ pub(crate) fn behind_tals(bytes: &[u8]) -> &[u8]
 /// Goes over the TALs at the front.
 pub(crate) fn survey(block: &[u8], file_start: Instant) -> Result<Totals<'_>, BadText<'_>>
     ensures { MatchResult result
-        (λ s. IsSurvey block.now file_start s.rest.now s.in_window s.count s.text_bytes × NoTal s.rest.now)
+        (λ s. IsSurvey block.now file_start s.rest.now s.in_window s.count s.text_bytes
+        × NoTal s.rest.now)
         (λ b. IsBehind block.now b.rest.now × NoTal b.rest.now × IsBadText block.now b.offset) }
 {
     let mut rest = block;

@@ -3,7 +3,7 @@ ghost use Rattle.edf_time.specs.Decimal.{short};
 ghost use Rattle.edf_time.specs.Civil.{window};
 ghost use Rattle.std.specs.List.{AllByRecursion};
 ghost use Rattle.edf_tal.specs.Tal.{Annotation};
-ghost use Rattle.edf_tal.specs.Note.{IsNote};
+ghost use Rattle.edf_tal.specs.Tal.{IsAnnotation};
 ghost use Rattle.edf_tal.specs.Block.{IsWithinLimits};
 ghost use Rattle.edf_tal.specs.Canonical.{onset_text, duration_text, tal_text, block_text};
 
@@ -106,7 +106,8 @@ fn duration_len(duration: Option<u64>) -> usize
 fn annotation_len(base: Instant, onset: Instant, duration: Option<u64>, text: &[u8]) -> usize
     requires duration { IfSome duration (λ d. d < window) }
     requires text { length text.now ≤ 1_000_000 }
-    ensures value { result ≡ length (tal_text base (record { onset = onset; duration = duration; text = text.now })) }
+    ensures value { result
+        ≡ length (tal_text base (record { onset = onset; duration = duration; text = text.now })) }
     ensures bound { result ≤ 45 + length text.now }
 {
     1 + short_len(distance(base, onset)) + duration_len(duration) + 3 + text.len()
@@ -118,7 +119,7 @@ pub fn block_len(start: Instant, notes: &[Note], base: Instant) -> usize
     requires { IsWithinLimits notes.now }
     ensures value { result ≡ length (block_text base start notes.now) }
     ensures bound { result ≤ 1_450_045 }
-    ensures notes { AllByRecursion IsNote notes.now }
+    ensures annotations { AllByRecursion IsAnnotation notes.now }
 {
     let mut len = annotation_len(base, start, None, b"");
     for note in notes {

@@ -1,8 +1,8 @@
 -- The text of an instant names it, and it has no other.
 use Rattle.std.proofs.Common.{◌≡◌, ℕ, zero, suc, ◌+◌, ◌/◌, ◌%◌, ◌^◌, ◌≤◌, ◌<◌, List, ◌∷◌, ◌++◌, take, drop, arith, refl, sym, ap, ◌∙◌, pos}
 use Rattle.edf_time.specs.Civil.{IsInstantText, day_of, second_of_day, two_digits, four_digits}
-use Rattle.edf_time.specs.Decimal.{fraction_text, places_text, places}
-use Rattle.edf_time.proofs.Short.{places-text}
+use Rattle.edf_time.specs.Decimal.{fraction_text, fraction_digits, fraction_value}
+use Rattle.edf_time.proofs.Short.{fraction_value-text}
 use Rattle.edf_time.proofs.FieldTexts.{instant-parts}
 use Rattle.edf_time.proofs.OneDay.{in-bounds, SameDate, IsDay-same, one-number, one-date, SameClock, one-clock, one-second}
 use Rattle.jiff_core.proofs.SignedLemmas.{signed_arith}
@@ -13,8 +13,8 @@ fraction_text-injective zero zero p q e = refl
 fraction_text-injective zero (suc b) p q e = absurd cc
 fraction_text-injective (suc a) zero p q e = absurd cc
 fraction_text-injective (suc a) (suc b) p q e =
-    let digits : places_text 9 (suc a) ≡ places_text 9 (suc b) = cc in
-    sym (places-text 9 (suc a) p) ∙ ap (places (10 ^ 8)) digits ∙ places-text 9 (suc b) q
+    let digits : fraction_digits 9 (suc a) ≡ fraction_digits 9 (suc b) = cc in
+    sym (fraction_value-text 9 (suc a) p) ∙ ap (fraction_value (10 ^ 8)) digits ∙ fraction_value-text 9 (suc b) q
 
 -- the text to the second, and what follows
 abbrev pub stamp : ℕ → ℕ → ℕ → ℕ → ℕ → ℕ → List ℕ → List ℕ

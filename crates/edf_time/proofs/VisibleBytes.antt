@@ -2,9 +2,9 @@
 use Rattle.std.proofs.Common.{◌≡◌, ℕ, zero, suc, ◌+◌, ◌%◌, ◌^◌, ◌≤◌, ◌<◌, List, [], ◌∷◌, length, arith, rules, ap, ◌∙◌, ℤ, pos}
 use Rattle.std.specs.List.{AllByRecursion}
 use Rattle.std.specs.Str.Parse.{AllDigits}
-use Rattle.edf_time.specs.Bytes.{IsVisible}
+use Rattle.edf_time.specs.Civil.{IsVisible}
 use Rattle.edf_time.specs.Civil.{IsDateText, IsTimeText, IsIdDate, IsInstantText}
-use Rattle.edf_time.specs.Decimal.{fraction_text, places_text}
+use Rattle.edf_time.specs.Decimal.{fraction_text, fraction_digits}
 use Rattle.edf_time.proofs.Digits.{digit_only}
 use Rattle.edf_time.proofs.Short.{AllDigits-text}
 use Rattle.edf_time.proofs.MonthNames.{AreCapitals, month_name-capitals}
@@ -56,7 +56,7 @@ digits-visible (d ∷ ds) p = let b = digit_only d p.0 in ((omega (arith, b), om
 
 fraction-visible : (part : ℕ) → part < 10 ^ 9 → AreVisible (fraction_text part)
 fraction-visible zero lt = tt
-fraction-visible (suc p) lt = ((omega arith, omega arith), digits-visible (places_text 9 (suc p)) (AllDigits-text 9 (suc p) lt))
+fraction-visible (suc p) lt = ((omega arith, omega arith), digits-visible (fraction_digits 9 (suc p)) (AllDigits-text 9 (suc p) lt))
 
 stamp-visible : (year month day hour minute second : ℕ) (fraction : List ℕ) → AreLow year month day hour minute second → AreVisible fraction
     → AreVisible (stamp year month day hour minute second fraction)

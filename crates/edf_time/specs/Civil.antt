@@ -96,3 +96,7 @@ pub record IsInstantText (text : List ℕ) (instant : ℕ) : Type 0 where
   pub to : year ≤ 9999
   pub is_day : IsDay year month day (pos (day_of instant))
   pub is_clock : IsClock hour minute second (second_of_day instant)
+
+-- a printable byte that is no space
+abbrev pub IsVisible : ℕ → Type 0
+IsVisible b = (33 ≤ b) × (b ≤ 126)

@@ -11,9 +11,9 @@ IsDecimal text whole [] = IsNumeral 10 whole × (text ≡ whole)
 IsDecimal text whole (d ∷ ds) = IsNumeral 10 whole × IsNumeral 10 (d ∷ ds) × (text ≡ whole ++ 46 ∷ d ∷ ds)
 
 -- what digits are worth where the first counts `unit`, and each other a tenth of the one before
-abbrev pub places : ℕ → List ℕ → ℕ
-places unit [] = 0
-places unit (d ∷ ds) = (d - 48) * unit + places (unit / 10) ds
+abbrev pub fraction_value : ℕ → List ℕ → ℕ
+fraction_value unit [] = 0
+fraction_value unit (d ∷ ds) = (d - 48) * unit + fraction_value (unit / 10) ds
 
 -- the digits past the ninth are zeros: none counts less than a nanosecond
 abbrev pub IsFine : List ℕ → Type 0
@@ -25,7 +25,7 @@ pub record IsSeconds (text : List ℕ) (nanos : ℕ) : Type 0 where
   pub fraction : List ℕ
   pub parts : IsDecimal text whole fraction
   pub fine : IsFine fraction
-  pub value : nanos ≡ digits_value 10 whole * 10 ^ 9 + places (10 ^ 8) fraction
+  pub value : nanos ≡ digits_value 10 whole * 10 ^ 9 + fraction_value (10 ^ 8) fraction
 
 -- why a text is not read: no decimal, else one too fine, else one too large for 63 bits
 abbrev pub IsDecimalFault : List ℕ → DecimalFault → Type 0
@@ -39,16 +39,20 @@ pub record IsShortest (text : List ℕ) (nanos : ℕ) : Type 0 where
   pub least : (other : List ℕ) → IsSeconds other nanos → length text ≤ length other
 
 -- the digits of a part below 10 ^ j, from the jth place on to the last that is not 0
-abbrev pub places_text : ℕ → ℕ → List ℕ
-places_text zero part = []
-places_text (suc j) zero = []
-places_text (suc j) (suc p) = (48 + suc p / 10 ^ j) ∷ places_text j (suc p % 10 ^ j)
+abbrev pub fraction_digits : ℕ → ℕ → List ℕ
+fraction_digits zero part = []
+fraction_digits (suc j) zero = []
+fraction_digits (suc j) (suc p) = (48 + suc p / 10 ^ j) ∷ fraction_digits j (suc p % 10 ^ j)
 
 -- a dot and the digits of a part of a second in nanoseconds, where it is not 0
 abbrev pub fraction_text : ℕ → List ℕ
 fraction_text zero = []
-fraction_text (suc p) = 46 ∷ places_text 9 (suc p)
+fraction_text (suc p) = 46 ∷ fraction_digits 9 (suc p)
 
 -- the shortest decimal; a law says of each number below 10 ^ 73 that this is the shortest, and the only one
 unfoldable pub short : ℕ → List ℕ
 short nanos = decimal (nanos / 10 ^ 9) ++ fraction_text (nanos % 10 ^ 9)
+
+-- a digit or a dot
+abbrev pub IsDecimalByte : ℕ → Type 0
+IsDecimalByte b = (46 ≤ b) × (b ≤ 57) × ¬ (b ≡ 47)

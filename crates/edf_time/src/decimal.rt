@@ -1,6 +1,6 @@
 ghost use Rattle.std.specs.Prelude.{◌≡◌, ℕ, ◌+◌, ◌-◌, ◌*◌, ◌/◌, ◌^◌, ◌≤◌, ◌<◌, ◌↔◌, List, length, min, slice_index, ◌≢◌, IsTrue, MatchResult, MatchOption};
 ghost use Rattle.std.specs.Str.Parse.{IsNumeral, AllDigits, digits_value};
-ghost use Rattle.edf_time.specs.Decimal.{IsDecimal, IsFine, IsSeconds, IsDecimalFault, places};
+ghost use Rattle.edf_time.specs.Decimal.{IsDecimal, IsFine, IsSeconds, IsDecimalFault, fraction_value};
 
 use thiserror::Error;
 
@@ -52,7 +52,7 @@ const DECIMALS: usize = 9;
 fn fraction_nanos(digits: &[u8]) -> Result<u64, DecimalFault>
     requires { AllDigits 10 digits.now }
     ensures { MatchResult result
-        (λ n. IsFine digits.now × (n ≡ places (10 ^ 8) digits.now) × (n < 10 ^ 9))
+        (λ n. IsFine digits.now × (n ≡ fraction_value (10 ^ 8) digits.now) × (n < 10 ^ 9))
         (λ e. (e ≡ DecimalFault.TooFine) × ¬ IsFine digits.now) }
 {
     let mut nanos = 0;
@@ -111,15 +111,14 @@ fn parts(text: &[u8]) -> Option<(&[u8], &[u8])>
 /// `Syntax` where the text is no decimal, else `TooFine` where a digit past the ninth after the dot is not 0, else `TooLarge`
 /// where it is worth more than 9,223,372,036,854,775,807 nanoseconds.
 pub fn read_seconds(text: &[u8]) -> Result<u64, DecimalFault>
-    ensures { MatchResult result (λ nanos. IsSeconds text.now nanos × (nanos < 2 ^ 63)) (IsDecimalFault text.now) }
+    ensures { MatchResult result
+        (λ nanos. IsSeconds text.now nanos × (nanos < 2 ^ 63))
+        (IsDecimalFault text.now) }
 {
     let Some((whole, fraction)) = parts(text) else {
         return Err(DecimalFault::Syntax);
     };
-    let nanos = match fraction_nanos(fraction) {
-        Ok(nanos) => nanos,
-        Err(fault) => return Err(fault),
-    };
+    let nanos = fraction_nanos(fraction)?;
     let seconds = capped_number(whole);
     if seconds > 9_223_372_036 {
         return Err(DecimalFault::TooLarge);

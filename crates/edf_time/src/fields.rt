@@ -3,10 +3,8 @@ ghost use Rattle.edf_time.specs.Civil.{day_of, second_of_day, IsClock, IsDateTex
 ghost use Rattle.edf_time.specs.Decimal.{fraction_text};
 
 use crate::calendar::{date_of, day_number};
-use crate::civil::Instant;
-use crate::day::Day;
-use crate::months::{letters_of, month_of};
-use crate::pairs::{pair, tens, units};
+use crate::civil::{Day, Instant};
+use crate::pieces::{letters_of, month_of, pair, tens, units};
 use crate::shortest::push_fraction;
 use std::alloc::{AllocError, Global};
 
@@ -102,9 +100,7 @@ pub fn id_date(text: &[u8]) -> Option<Day>
     let month = month_of([text[3], text[4], text[5]])?;
     let century = pair(text[7], text[8])?;
     let short = pair(text[9], text[10])?;
-    let Some(days) = day_number(u16::from(century) * 100 + u16::from(short), month, day) else {
-        return None;
-    };
+    let days = day_number(u16::from(century) * 100 + u16::from(short), month, day)?;
     Some(Day::from_days(days))
 }
 

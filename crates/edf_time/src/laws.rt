@@ -1,21 +1,40 @@
 //! Laws of the texts: each function has a law for a contract, and does nothing.
-ghost use Rattle.std.specs.Prelude.{◌≡◌, ℕ, ℤ, pos, ◌+◌, ◌*◌, ◌/◌, ◌%◌, ◌^◌, ◌≤◌, ◌<◌, List, length, All};
-ghost use Rattle.edf_time.specs.Bytes.{IsVisible, IsDecimalByte};
-ghost use Rattle.edf_time.specs.Civil.{window, day_of, second_of_day, IsCivil, IsStartFault, IsDateText, IsTimeText, IsIdDate, IsInstantText};
-ghost use Rattle.edf_time.specs.Decimal.{IsDecimal, IsSeconds, IsDecimalFault, IsShortest, short, fraction_text};
+ghost use Rattle.std.specs.Prelude.{◌≡◌, ◌⊎◌, ℕ, ℤ, pos, ◌+◌, ◌-◌, ◌*◌, ◌/◌, ◌%◌, ◌^◌, ◌≤◌, ◌<◌, List, Some, length, All};
+ghost use Rattle.std.specs.Char.{digit_value};
+ghost use Rattle.std.specs.Ordering.{nat_cmp, int_cmp};
+ghost use Rattle.edf_time.specs.Civil.{window, day_of, second_of_day, IsDay, IsCivil, IsStartFault, IsDateText, IsTimeText, IsIdDate, IsInstantText, IsVisible};
+ghost use Rattle.edf_time.specs.Decimal.{IsDecimal, IsSeconds, IsDecimalFault, IsShortest, IsDecimalByte, short, fraction_text};
 ghost use Rattle.edf_time.specs.declared.civil.StartFault.{StartFault};
 ghost use Rattle.edf_time.specs.declared.decimal.DecimalFault.{DecimalFault};
+
+use crate::civil::{Day, Instant};
+
+/// Instants and days are ordered as their numbers are: `<`, `cmp` and their like tell the earlier from the later.
+pub fn in_order()
+    ensures instants { (a b : ℕ) → ⟦<Instant as Ord>⟧.cmp a b ≡ nat_cmp a b }
+    ensures instants_partly { (a b : ℕ) →
+        ⟦<Instant as PartialOrd>⟧.partial_cmp a b ≡ Some (nat_cmp a b) }
+    ensures days { (a b : ℤ) → ⟦<Day as Ord>⟧.cmp a b ≡ int_cmp a b }
+    ensures days_partly { (a b : ℤ) → ⟦<Day as PartialOrd>⟧.partial_cmp a b ≡ Some (int_cmp a b) }
+{}
+
+/// A digit is one of the bytes 48 to 57, and is worth what it lies above the first of them.
+pub fn digits()
+    ensures bytes { (b : ℕ) → digit_value b < 10 → (48 ≤ b) × (b ≤ 57) }
+    ensures value { (b : ℕ) → 48 ≤ b → b ≤ 57 → digit_value b ≡ b - 48 }
+{}
 
 /// A number has one shortest text. Past 10 ^ 73 nanoseconds `decimal` does not write every digit.
 pub fn one_shortest()
     ensures { (n : ℕ) (text : List ℕ) → n < 10 ^ 73 → IsShortest text n → text ≡ short n }
 {}
 
-/// What `write_seconds` writes is that text, and has at most 21 bytes.
+/// What `write_seconds` writes is that text; it has at most 21 bytes, and at most 20 in the window.
 pub fn is_shortest()
     ensures shortest { (n : ℕ) → n < 10 ^ 73 → IsShortest (short n) n }
     ensures some { (n : ℕ) → n < 10 ^ 73 → 1 ≤ length (short n) }
     ensures most { (n : ℕ) → n < 2 ^ 64 → length (short n) ≤ 21 }
+    ensures in_window { (n : ℕ) → n < window → length (short n) ≤ 20 }
 {}
 
 /// A decimal has its digits in one way, and so one value.
@@ -32,8 +51,27 @@ pub fn decimal_bytes()
 
 /// A text that is read has no fault, and no text has two.
 pub fn one_fault()
-    ensures none { (text : List ℕ) (n : ℕ) (fault : DecimalFault) → IsSeconds text n → n < 2 ^ 63 → ¬ IsDecimalFault text fault }
-    ensures one { (text : List ℕ) (a b : DecimalFault) → IsDecimalFault text a → IsDecimalFault text b → a ≡ b }
+    ensures none { (text : List ℕ) (n : ℕ) (fault : DecimalFault) →
+        IsSeconds text n → n < 2 ^ 63 → ¬ IsDecimalFault text fault }
+    ensures one { (text : List ℕ) (a b : DecimalFault) →
+        IsDecimalFault text a → IsDecimalFault text b → a ≡ b }
+{}
+
+/// Each text is a decimal or has a fault.
+pub fn some_decimal()
+    ensures value { (text : List ℕ) →
+        ((n : ℕ) × IsSeconds text n) ⊎ ((n : ℕ) → ¬ IsSeconds text n) }
+    ensures fault { (text : List ℕ) →
+        ((n : ℕ) × IsSeconds text n × (n < 2 ^ 63))
+        ⊎ ((fault : DecimalFault) × IsDecimalFault text fault) }
+{}
+
+/// The months of the calendar are 1 to 12, and its days of a month lie between 1 and 31.
+pub fn day_bounds()
+    ensures month { (year month day : ℕ) (days : ℤ) →
+        IsDay year month day days → (1 ≤ month) × (month ≤ 12) }
+    ensures day { (year month day : ℕ) (days : ℤ) →
+        IsDay year month day days → (1 ≤ day) × (day ≤ 31) }
 {}
 
 /// A text `dd.mm.yy` and its day are one to one.
@@ -46,7 +84,8 @@ pub fn one_date()
 /// A text `hh.mm.ss` and its second of the day are one to one.
 pub fn one_time()
     ensures second { (text : List ℕ) (a b : ℕ) → IsTimeText text a → IsTimeText text b → a ≡ b }
-    ensures text { (s t : List ℕ) (seconds : ℕ) → IsTimeText s seconds → IsTimeText t seconds → s ≡ t }
+    ensures text { (s t : List ℕ) (seconds : ℕ) →
+        IsTimeText s seconds → IsTimeText t seconds → s ≡ t }
     ensures bound { (text : List ℕ) (seconds : ℕ) → IsTimeText text seconds → seconds < 86_400 }
 {}
 
@@ -58,29 +97,51 @@ pub fn one_id_date()
 
 /// A text `yyyy-mm-ddThh:mm:ss` with its decimals and its instant are one to one.
 pub fn one_instant_text()
-    ensures instant { (text : List ℕ) (a b : ℕ) → IsInstantText text a → IsInstantText text b → a ≡ b }
-    ensures text { (s t : List ℕ) (instant : ℕ) → IsInstantText s instant → IsInstantText t instant → s ≡ t }
+    ensures instant { (text : List ℕ) (a b : ℕ) →
+        IsInstantText text a → IsInstantText text b → a ≡ b }
+    ensures text { (s t : List ℕ) (instant : ℕ) →
+        IsInstantText s instant → IsInstantText t instant → s ≡ t }
+{}
+
+/// Each text names a day or a second, or it names none.
+pub fn some_date()
+    ensures date { (text : List ℕ) →
+        ((days : ℕ) × IsDateText text days) ⊎ (¬ ((days : ℕ) × IsDateText text days)) }
+    ensures time { (text : List ℕ) →
+        ((seconds : ℕ) × IsTimeText text seconds) ⊎ (¬ ((seconds : ℕ) × IsTimeText text seconds)) }
+    ensures id_date { (text : List ℕ) →
+        ((days : ℤ) × IsIdDate text days) ⊎ (¬ ((days : ℤ) × IsIdDate text days)) }
 {}
 
 /// The texts of a start name its day and the second of its day; it lies in the window and begins a second.
 pub fn start_parts()
-    ensures date { (date time : List ℕ) (start : ℕ) → IsCivil date time start → IsDateText date (day_of start) }
-    ensures time { (date time : List ℕ) (start : ℕ) → IsCivil date time start → IsTimeText time (second_of_day start) }
+    ensures date { (date time : List ℕ) (start : ℕ) →
+        IsCivil date time start → IsDateText date (day_of start) }
+    ensures time { (date time : List ℕ) (start : ℕ) →
+        IsCivil date time start → IsTimeText time (second_of_day start) }
     ensures bound { (date time : List ℕ) (start : ℕ) → IsCivil date time start → start < window }
-    ensures second { (date time : List ℕ) (start : ℕ) → IsCivil date time start → start / 10 ^ 9 * 10 ^ 9 ≡ start }
+    ensures second { (date time : List ℕ) (start : ℕ) →
+        IsCivil date time start → start / 10 ^ 9 * 10 ^ 9 ≡ start }
 {}
 
 /// The texts of an instant's day and second name the start of its second.
 pub fn start_of_parts()
-    ensures { (date time : List ℕ) (instant : ℕ) → IsDateText date (day_of instant) → IsTimeText time (second_of_day instant)
-        → IsCivil date time (instant / 10 ^ 9 * 10 ^ 9) }
+    ensures { (date time : List ℕ) (instant : ℕ) →
+        IsDateText date (day_of instant) → IsTimeText time (second_of_day instant) →
+        IsCivil date time (instant / 10 ^ 9 * 10 ^ 9) }
 {}
 
 /// A date and a time name one instant or have one fault, and not both.
 pub fn one_start()
-    ensures start { (date time : List ℕ) (a b : ℕ) → IsCivil date time a → IsCivil date time b → a ≡ b }
-    ensures none { (date time : List ℕ) (start : ℕ) (fault : StartFault) → IsCivil date time start → ¬ IsStartFault date time fault }
-    ensures fault { (date time : List ℕ) (a b : StartFault) → IsStartFault date time a → IsStartFault date time b → a ≡ b }
+    ensures start { (date time : List ℕ) (a b : ℕ) →
+        IsCivil date time a → IsCivil date time b → a ≡ b }
+    ensures none { (date time : List ℕ) (start : ℕ) (fault : StartFault) →
+        IsCivil date time start → ¬ IsStartFault date time fault }
+    ensures fault { (date time : List ℕ) (a b : StartFault) →
+        IsStartFault date time a → IsStartFault date time b → a ≡ b }
+    ensures some { (date time : List ℕ) →
+        ((start : ℕ) × IsCivil date time start)
+        ⊎ ((fault : StartFault) × IsStartFault date time fault) }
 {}
 
 /// How long the texts are.
@@ -88,7 +149,8 @@ pub fn text_lengths()
     ensures date { (text : List ℕ) (days : ℕ) → IsDateText text days → length text ≡ 8 }
     ensures time { (text : List ℕ) (seconds : ℕ) → IsTimeText text seconds → length text ≡ 8 }
     ensures id_date { (text : List ℕ) (days : ℤ) → IsIdDate text days → length text ≡ 11 }
-    ensures instant { (text : List ℕ) (instant : ℕ) → IsInstantText text instant → length text ≡ 19 + length (fraction_text (instant % 10 ^ 9)) }
+    ensures instant { (text : List ℕ) (instant : ℕ) →
+        IsInstantText text instant → length text ≡ 19 + length (fraction_text (instant % 10 ^ 9)) }
 {}
 
 /// Each byte of the texts is printable, and none is a space.
@@ -96,5 +158,6 @@ pub fn text_bytes()
     ensures date { (text : List ℕ) (days : ℕ) → IsDateText text days → All IsVisible text }
     ensures time { (text : List ℕ) (seconds : ℕ) → IsTimeText text seconds → All IsVisible text }
     ensures id_date { (text : List ℕ) (days : ℤ) → IsIdDate text days → All IsVisible text }
-    ensures instant { (text : List ℕ) (instant : ℕ) → IsInstantText text instant → All IsVisible text }
+    ensures instant { (text : List ℕ) (instant : ℕ) →
+        IsInstantText text instant → All IsVisible text }
 {}

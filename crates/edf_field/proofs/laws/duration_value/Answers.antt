@@ -1,4 +1,4 @@
-use Rattle.edf_field.proofs.Durations.{duration-value, duration-bound}
+use Rattle.edf_field.proofs.Cited.{duration-value, duration-bound}
 use Rattle.edf_field.proofs.laws.duration_value.Goals as goal
 
 pub returns : goal.returns

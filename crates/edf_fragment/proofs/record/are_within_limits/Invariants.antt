@@ -1,12 +1,12 @@
 use Rattle.std.proofs.Common.{◌≡◌, ◌≤◌, length, take}
 use Rattle.std.specs.Prelude.{sum_by}
 use Rattle.std.specs.List.{AllByRecursion}
-use Rattle.edf_tal.specs.Note.{IsNote}
+use Rattle.edf_tal.specs.Tal.{IsAnnotation}
 use Rattle.edf_fragment.proofs.record.are_within_limits.Given as goal
 
 abbrev pub invariant-loop-note : goal.invariant-loop-note
 invariant-loop-note l = record {
   sum : l.bytes ≡ sum_by (λ a. length a.text) (take l.note-index l.notes);
   low : l.bytes ≤ 1_000_000;
-  each : AllByRecursion IsNote (take l.note-index l.notes);
+  each : AllByRecursion IsAnnotation (take l.note-index l.notes);
 }

@@ -3,15 +3,15 @@ use Rattle.edf_header.proofs.Faults.{clean-11}
 use Rattle.edf_header.proofs.Held.{sliced-each, sliced-samples}
 use Rattle.edf_header.proofs.key.check_size.Goals as goal
 
-pub ordinary_samples-requires-clause-each : goal.ordinary_samples-requires-clause-each
-ordinary_samples-requires-clause-each c = sliced-each c.args.bytes.now c.requires.samples
+pub ordinary_samples-size-requires-clause-each : goal.ordinary_samples-size-requires-clause-each
+ordinary_samples-size-requires-clause-each c = sliced-each c.args.bytes.now c.requires.samples
 
-pub returns-then-ordinary_samples-gt4194304 : goal.returns-then-ordinary_samples-gt4194304
-returns-then-ordinary_samples-gt4194304 c =
-    let e = c.ordinary_samples.ensures.value ∙ sliced-samples c.args.bytes.now c.requires.label in
+pub returns-then-size-gt4194304 : goal.returns-then-size-gt4194304
+returns-then-size-gt4194304 c =
+    let e = c.ordinary_samples-size.ensures.value ∙ sliced-samples c.args.bytes.now c.requires.label in
     (omega (arith, e), c.requires.clean)
 
 pub returns : goal.returns
 returns c =
-    let e = c.ordinary_samples.ensures.value ∙ sliced-samples c.args.bytes.now c.requires.label in
-    (omega (arith, e), clean-11 c.args.bytes.now c.requires.clean (omega (arith, e)))
+    let e = c.ordinary_samples-size.ensures.value ∙ sliced-samples c.args.bytes.now c.requires.label in
+    (omega (arith, e), omega arith, clean-11 c.args.bytes.now c.requires.clean (omega (arith, e)))

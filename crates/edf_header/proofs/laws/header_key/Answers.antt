@@ -1,4 +1,4 @@
-use Rattle.edf_header.proofs.SignalLaws.{header-has-key, header-has-layout}
+use Rattle.edf_header.proofs.Cited.{header-has-key, header-has-layout}
 use Rattle.edf_header.proofs.laws.header_key.Goals as goal
 
 pub returns : goal.returns

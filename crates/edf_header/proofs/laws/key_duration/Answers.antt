@@ -1,4 +1,4 @@
-use Rattle.edf_header.proofs.KeyLaws.{key-duration-some, key-duration-bound}
+use Rattle.edf_header.proofs.Cited.{key-duration-some, key-duration-bound}
 use Rattle.edf_header.proofs.laws.key_duration.Goals as goal
 
 pub returns : goal.returns

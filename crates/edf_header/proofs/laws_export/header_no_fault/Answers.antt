@@ -1,4 +1,4 @@
-use Rattle.edf_header.proofs.SpelledOnce.{header-no-fault}
+use Rattle.edf_header.proofs.Cited.{header-no-fault}
 use Rattle.edf_header.proofs.laws_export.header_no_fault.Goals as goal
 
 pub returns : goal.returns

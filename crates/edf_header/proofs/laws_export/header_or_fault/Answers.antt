@@ -1,4 +1,4 @@
-use Rattle.edf_header.proofs.HeaderOrFault.{header-or-fault}
+use Rattle.edf_header.proofs.Cited.{header-or-fault}
 use Rattle.edf_header.proofs.laws_export.header_or_fault.Goals as goal
 
 pub returns : goal.returns

@@ -1,4 +1,4 @@
-use Rattle.edf_header.proofs.SpelledOnce.{one-header}
+use Rattle.edf_header.proofs.Cited.{one-header}
 use Rattle.edf_header.proofs.laws_export.is_header_one.Goals as goal
 
 pub returns : goal.returns

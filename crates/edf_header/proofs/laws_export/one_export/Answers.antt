@@ -1,4 +1,4 @@
-use Rattle.edf_header.proofs.ExportOne.{one-export}
+use Rattle.edf_header.proofs.Cited.{one-export}
 use Rattle.edf_header.proofs.laws_export.one_export.Goals as goal
 
 pub returns : goal.returns

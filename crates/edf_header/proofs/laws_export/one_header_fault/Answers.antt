@@ -1,4 +1,4 @@
-use Rattle.edf_header.proofs.SpelledOnce.{one-header-fault}
+use Rattle.edf_header.proofs.Cited.{one-header-fault}
 use Rattle.edf_header.proofs.laws_export.one_header_fault.Goals as goal
 
 pub returns : goal.returns

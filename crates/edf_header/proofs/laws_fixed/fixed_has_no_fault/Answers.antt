@@ -1,4 +1,4 @@
-use Rattle.edf_header.proofs.FixedLaws.{fixed-clean}
+use Rattle.edf_header.proofs.Cited.{fixed-clean}
 use Rattle.edf_header.proofs.laws_fixed.fixed_has_no_fault.Goals as goal
 
 pub returns : goal.returns

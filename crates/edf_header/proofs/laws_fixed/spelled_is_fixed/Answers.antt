@@ -1,4 +1,4 @@
-use Rattle.edf_header.proofs.FixedLaws.{is-fixed}
+use Rattle.edf_header.proofs.Cited.{is-fixed}
 use Rattle.edf_header.proofs.laws_fixed.spelled_is_fixed.Goals as goal
 
 pub returns : goal.returns

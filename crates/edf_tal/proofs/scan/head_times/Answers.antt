@@ -1,6 +1,6 @@
 use Rattle.std.proofs.Common.{ℕ, ℤ, List, subst, Option}
 use Rattle.std.specs.Prelude.{MatchOption}
-use Rattle.edf_tal.specs.Scan.{IsHead, TellsOnset, TellsDuration}
+use Rattle.edf_tal.specs.Inside.Scan.{IsHead, TellsOnset, TellsDuration}
 use Rattle.edf_tal.specs.declared.scan.Times.{Times}
 use Rattle.edf_tal.proofs.Heads.{head-apart}
 use Rattle.edf_tal.proofs.scan.head_times.Goals as goal

@@ -1,5 +1,5 @@
 use Rattle.std.proofs.Common.{take}
-use Rattle.edf_tal.specs.Scan.{Lacks}
+use Rattle.edf_tal.specs.Inside.Scan.{Lacks}
 use Rattle.edf_tal.proofs.scan.split_first.Given as goal
 
 abbrev pub invariant-loop-i : goal.invariant-loop-i

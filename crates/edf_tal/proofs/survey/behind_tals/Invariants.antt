@@ -1,5 +1,5 @@
 use Rattle.std.proofs.Common.{length}
-use Rattle.edf_tal.specs.Scan.{IsBehind}
+use Rattle.edf_tal.specs.Inside.Scan.{IsBehind}
 use Rattle.edf_tal.proofs.survey.behind_tals.Given as goal
 
 abbrev pub invariant-loop-tal : goal.invariant-loop-tal

@@ -1,5 +1,5 @@
 use Rattle.std.proofs.Common.{length}
-use Rattle.edf_tal.specs.Scan.{IsSurvey}
+use Rattle.edf_tal.specs.Inside.Scan.{IsSurvey}
 use Rattle.edf_tal.proofs.survey.survey.Given as goal
 
 abbrev pub invariant-loop-tal : goal.invariant-loop-tal

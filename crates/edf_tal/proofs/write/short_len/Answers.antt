@@ -1,5 +1,5 @@
 use Rattle.std.proofs.Common.{subst, sym, ◌≤◌, ℕ}
-use Rattle.edf_tal.proofs.Lengths.{length-short-window}
+use Rattle.edf_time.proofs.Cited.{length-short-window}
 use Rattle.edf_tal.proofs.write.short_len.Goals as goal
 
 pub returns-clause-bound : goal.returns-clause-bound

@@ -14,15 +14,15 @@ reads c =
 year-to : (c : After-day_number) → c.from.result * 100 + c.from-2.result ≤ 9999
 year-to c = omega (arith, c.from.ensures, c.from-2.ensures, c.in_ok-century.ensures, c.in_ok-short.ensures)
 
-pub returns-in_default : goal.returns-in_default
-returns-in_default c days t =
-    let a = (goal.at.returns-in_default c).After-day_number in
-    c.in_default.ensures days
-    (IsDay-id_text c.args.text.now (c.from.result * 100 + c.from-2.result) c.in_ok-month.month c.in_ok-day.day days (year-to a) c.in_ok-month.ensures.0 c.in_ok-month.ensures.1 c.in_ok-day.ensures.0 (reads a) t)
+pub returns-in_err-days : goal.returns-in_err-days
+returns-in_err-days c =
+    let a = (goal.at.returns-in_err-days c).After-day_number in
+    rw (c.from_residual-in_err-days.ensures) (λ days t. c.in_err-days.ensures days
+    (IsDay-id_text c.args.text.now (c.from.result * 100 + c.from-2.result) c.in_ok-month.month c.in_ok-day.day days (year-to a) c.in_ok-month.ensures.0 c.in_ok-month.ensures.1 c.in_ok-day.ensures.0 (reads a) t))
 
 pub returns : goal.returns
 returns c =
     let a = (goal.at.returns c).After-day_number in
-    let fits : FitsSigned w32 c.in-Some.days = search rules in
+    let fits : FitsSigned w32 c.in_ok-days.days = search rules in
     rw (c.from_days.ensures ∙ to_z-of_z fits)
-    (IsIdDate-is c.args.text.now (c.from.result * 100 + c.from-2.result) c.in_ok-month.month c.in_ok-day.day c.in-Some.days (year-to a) (reads a) c.in-Some.ensures)
+    (IsIdDate-is c.args.text.now (c.from.result * 100 + c.from-2.result) c.in_ok-month.month c.in_ok-day.day c.in_ok-days.days (year-to a) (reads a) c.in_ok-days.ensures)

@@ -1,5 +1,5 @@
 use Rattle.std.proofs.lemmas.List.Elements.{All-from_recursion}
-use Rattle.edf_time.specs.Bytes.{IsDecimalByte}
+use Rattle.edf_time.specs.Decimal.{IsDecimalByte}
 use Rattle.edf_time.proofs.OneValue.{bytes-of-seconds}
 use Rattle.edf_time.proofs.laws.decimal_bytes.Goals as goal
 

@@ -1,4 +1,4 @@
-use Rattle.edf_time.proofs.Starts.{start-of-parts}
+use Rattle.edf_time.proofs.FieldTexts.{start-of-parts}
 use Rattle.edf_time.proofs.laws.start_of_parts.Goals as goal
 
 pub returns : goal.returns

@@ -1,4 +1,4 @@
-use Rattle.edf_time.proofs.Starts.{start-parts}
+use Rattle.edf_time.proofs.FieldTexts.{start-parts}
 use Rattle.edf_time.proofs.laws.start_parts.Goals as goal
 
 pub returns : goal.returns

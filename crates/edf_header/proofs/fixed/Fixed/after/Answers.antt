@@ -17,9 +17,9 @@ behind-x r s e len =
 pub returns-in-Some : goal.returns-in-Some
 returns-in-Some c =
     let i = c.self.inside in
-    behind-day i.recording i.startdate c.in-Some.field-0 c.in-Some.is c.self.invariant.after_len ∙ ap (λ (f : FixedPart). f.after) c.self.view_is
+    behind-day i.recording i.startdate c.in-Some.field-0 c.in-Some.is c.self.invariant.0.after_len ∙ ap (λ (f : FixedPart). f.after) c.self.view_is
 
 pub returns-in-None : goal.returns-in-None
 returns-in-None c =
     let i = c.self.inside in
-    behind-x i.recording i.startdate c.in-None.is c.self.invariant.after_len ∙ ap (λ (f : FixedPart). f.after) c.self.view_is
+    behind-x i.recording i.startdate c.in-None.is c.self.invariant.0.after_len ∙ ap (λ (f : FixedPart). f.after) c.self.view_is

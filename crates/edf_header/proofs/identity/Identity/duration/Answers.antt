@@ -1,8 +1,10 @@
-use Rattle.edf_header.proofs.Held.{duration-read, duration-none}
+use Rattle.std.proofs.Common.{arith}
+use Rattle.edf_header.specs.Key.{key_at}
+use Rattle.edf_header.proofs.KeyLaws.{key-duration-some, key-duration-bound}
 use Rattle.edf_header.proofs.identity.Identity.duration.Goals as goal
 
-pub unreachable-requires : goal.unreachable-requires
-unreachable-requires c = duration-none c.deref.result.now c.self.inside.bytes.items c.deref.ensures.value c.self.invariant.1 c.in-None.ensures
+pub returns-clause-positive : goal.returns-clause-positive
+returns-clause-positive c = omega (arith, c.self.invariant.duration_is, key-duration-some (key_at c.self.inside.bytes.items) c.self.invariant.key)
 
-pub returns-clause-value : goal.returns-clause-value
-returns-clause-value c = duration-read c.deref.result.now c.self.inside.bytes.items c.args.self.now c.in-Some.nanos c.deref.ensures.value c.self.view_is c.in-Some.ensures
+pub returns-clause-bound : goal.returns-clause-bound
+returns-clause-bound c = omega (arith, c.self.invariant.duration_is, key-duration-bound (key_at c.self.inside.bytes.items) c.self.invariant.key)

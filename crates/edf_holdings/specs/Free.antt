@@ -1,0 +1,37 @@
+-- Lists of submissions that are free of conflicts, and lists that hold the same records.
+use Rattle.std.specs.Prelude.{◌≡◌, ℕ, ◌≤◌, ◌↔◌, List, [], ◌∷◌, length, Contains, Any}
+use Rattle.std.specs.List.{AllByRecursion}
+use Rattle.edf_header.specs.Number.{duration_of}
+use Rattle.edf_header.specs.Key.{Key}
+use Rattle.edf_fragment.specs.Fragment.{DataRecord}
+use Rattle.edf_holdings.specs.Told.{Told, Fragment, Fault}
+use Rattle.edf_holdings.specs.Clash.{NoClash}
+use Rattle.edf_holdings.specs.Holdings.{Holdings, put}
+
+abbrev pub IsFragment : Told → Type 0
+IsFragment (Fragment key records) = Unit {0}
+IsFragment (Fault fault) = ⊥
+
+-- the holdings with all records that are told, whether or not they clash
+abbrev pub with_one : Holdings → Told → Holdings
+with_one h (Fragment key records) = put key records h
+with_one h (Fault fault) = h
+
+abbrev pub with_all : Holdings → List Told → Holdings
+with_all h [] = h
+with_all h (told ∷ tolds) = with_all (with_one h told) tolds
+
+-- each is a fragment, and in the holdings with all their records no two of a key clash and none has more than the cap
+pub record IsFree (cap : ℕ) (h : Holdings) (tolds : List Told) : Type 0 where
+  pub fragments : AllByRecursion IsFragment tolds
+  pub no_clash : (k : Key) → NoClash (duration_of k.duration) (with_all h tolds k)
+  pub few : (k : Key) → length (with_all h tolds k) ≤ cap
+
+-- the record occurs under this key in what is told
+abbrev pub Has : Key → DataRecord → Told → Type 0
+Has k r (Fragment key records) = (key ≡ k) × Contains records r
+Has k r (Fault fault) = ⊥
+
+-- the same records occur under the same keys in both lists, however cut, ordered or repeated
+abbrev pub SameRecords : List Told → List Told → Type 0
+SameRecords tolds others = (k : Key) (r : DataRecord) → Any (Has k r) tolds ↔ Any (Has k r) others

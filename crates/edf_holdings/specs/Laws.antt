@@ -1,0 +1,65 @@
+-- What is true of lists of submissions: repeats add nothing, and where nothing conflicts the order and the cuts don't count.
+use Rattle.std.specs.Prelude.{◌≡◌, ℕ, ◌+◌, List, ◌∷◌, ◌++◌, length, All, Contains, remove}
+use Rattle.std.specs.List.{AllByRecursion}
+use Rattle.edf_header.specs.Key.{Key}
+use Rattle.edf_fragment.specs.Fragment.{DataRecord}
+use Rattle.edf_fragment.specs.declared.fault.FragmentFault.{FragmentFault}
+use Rattle.edf_holdings.specs.Told.{Told, Fragment}
+use Rattle.edf_holdings.specs.Holdings.{Holdings, IsSound}
+use Rattle.edf_holdings.specs.Reply.{IsSoundTold, after_one, after, Form, Accepted, IsAccepted, reply, replies}
+use Rattle.edf_holdings.specs.Free.{with_all, IsFree, SameRecords}
+
+abbrev pub AreSoundTold : List Told → Type 0
+AreSoundTold tolds = AllByRecursion IsSoundTold tolds
+
+-- after any list the holdings are sound
+abbrev pub StaysSound : Type 0
+StaysSound = (cap : ℕ) (h : Holdings) (tolds : List Told) → IsSound cap h → AreSoundTold tolds → IsSound cap (after cap h tolds)
+
+-- a fragment whose records are all held is accepted with nothing new, and changes nothing
+abbrev pub HeldIsKnown : Type 0
+HeldIsKnown = (cap : ℕ) (h : Holdings) (key : Key) (records : List DataRecord) →
+    IsSound cap h → IsSoundTold (Fragment key records) → All (Contains (h key)) records →
+    (reply cap h (Fragment key records) ≡ Accepted key 0 (length records)) × (after_one cap h (Fragment key records) ≡ h)
+
+-- a list with one member named: those earlier, the member, and those that follow
+abbrev pub with_member : List Told → Told → List Told → List Told
+with_member earlier told between = earlier ++ (told ∷ between)
+
+-- a later repeat of an accepted member is accepted with nothing new
+abbrev pub AcceptedAgain : Type 0
+AcceptedAgain = (cap : ℕ) (h : Holdings) (earlier : List Told) (told : Told) (between : List Told) →
+    IsSound cap h → AreSoundTold (with_member earlier told between) → (key : Key) (new known : ℕ) →
+    reply cap (after cap h earlier) told ≡ Accepted key new known →
+    reply cap (after cap h (with_member earlier told between)) told ≡ Accepted key 0 (new + known)
+
+-- a later repeat of a refused member is refused again, with the same fault of form where it had one
+abbrev pub RefusedAgain : Type 0
+RefusedAgain = (cap : ℕ) (h : Holdings) (earlier : List Told) (told : Told) (between : List Told) →
+    IsSound cap h → AreSoundTold (with_member earlier told between) → ¬ IsAccepted (reply cap (after cap h earlier) told) →
+    (¬ IsAccepted (reply cap (after cap h (with_member earlier told between)) told)) ×
+    ((fault : FragmentFault) → reply cap (after cap h earlier) told ≡ Form fault →
+        reply cap (after cap h (with_member earlier told between)) told ≡ Form fault)
+
+-- without the repeat the holdings at the end and all other replies are the same
+abbrev pub RepeatTakenOut : Type 0
+RepeatTakenOut = (cap : ℕ) (h : Holdings) (earlier : List Told) (told : Told) (between later : List Told) →
+    IsSound cap h → AreSoundTold (with_member earlier told between) →
+    (after cap h (with_member earlier told between ++ (told ∷ later)) ≡ after cap h (with_member earlier told between ++ later)) ×
+    (remove (replies cap h (with_member earlier told between ++ (told ∷ later))) (length (with_member earlier told between))
+        ≡ replies cap h (with_member earlier told between ++ later))
+
+-- a list broken off after `front` and sent again from its front ends as the list sent once
+abbrev pub FromTheFront : Type 0
+FromTheFront = (cap : ℕ) (h : Holdings) (front rest : List Told) → IsSound cap h → AreSoundTold front →
+    after cap (after cap h front) (front ++ rest) ≡ after cap h (front ++ rest)
+
+-- in a free list each member is accepted, and the holdings at the end have all its records beside those at the start
+abbrev pub AnyOrder : Type 0
+AnyOrder = (cap : ℕ) (h : Holdings) (tolds : List Told) → IsSound cap h → AreSoundTold tolds → IsFree cap h tolds →
+    All IsAccepted (replies cap h tolds) × (after cap h tolds ≡ with_all h tolds)
+
+-- two free lists with the same records end alike
+abbrev pub Recut : Type 0
+Recut = (cap : ℕ) (h : Holdings) (tolds others : List Told) → IsSound cap h → AreSoundTold tolds → AreSoundTold others →
+    IsFree cap h tolds → IsFree cap h others → SameRecords tolds others → after cap h tolds ≡ after cap h others

@@ -1,0 +1,11 @@
+pub mod Told
+pub mod Sound
+pub mod Same
+pub mod Clash
+pub mod Rising
+pub mod Holdings
+pub mod Reply
+pub mod Free
+pub mod Laws
+pub mod Meaning
+pub mod Keys

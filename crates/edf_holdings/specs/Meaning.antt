@@ -1,0 +1,115 @@
+-- What the definitions say in the words of sets, so that their recursions need no belief.
+use Rattle.std.specs.Prelude.{◌≡◌, ◌≢◌, ℕ, ◌+◌, ◌<◌, ◌≤◌, ◌↔◌, ◌⊎◌, List, [], ◌∷◌, ◌++◌, length, Contains, Any, IsTrue, cond}
+use Rattle.edf_header.specs.Number.{duration_of}
+use Rattle.edf_header.specs.Key.{Key}
+use Rattle.edf_fragment.specs.Fragment.{DataRecord}
+use Rattle.edf_holdings.specs.Told.{Told, Fragment}
+use Rattle.edf_holdings.specs.Same.{same_key, same_record}
+use Rattle.edf_holdings.specs.Clash.{Clash, clashes, near_of}
+use Rattle.edf_holdings.specs.Rising.{IsRising, holds, joined}
+use Rattle.edf_holdings.specs.Holdings.{Holdings, IsSound, nothing_held}
+use Rattle.edf_holdings.specs.Reply.{IsSoundTold, fits, after_one, after, Overlap, Differs, Accepted, reply, IsAccepted}
+use Rattle.edf_holdings.specs.Free.{with_all, Has}
+use Rattle.edf_holdings.specs.Laws.{AreSoundTold}
+
+-- the tests are what they are named for
+abbrev pub SameKeyIsEqual : Type 0
+SameKeyIsEqual = (k q : Key) → IsTrue (same_key k q) ↔ (k ≡ q)
+
+abbrev pub SameRecordIsEqual : Type 0
+SameRecordIsEqual = (r s : DataRecord) → IsTrue (same_record r s) ↔ (r ≡ s)
+
+abbrev pub TestIsClash : Type 0
+TestIsClash = (d : ℕ) (r s : DataRecord) → IsTrue (clashes d r s) ↔ Clash d r s
+
+abbrev pub HoldsIsContains : Type 0
+HoldsIsContains = (xs : List DataRecord) (r : DataRecord) → IsTrue (holds xs r) ↔ Contains xs r
+
+-- the same records, in whatever order
+abbrev pub SameMembers : List DataRecord → List DataRecord → Type 0
+SameMembers xs ys = (r : DataRecord) → Contains xs r ↔ Contains ys r
+
+-- a rising list is determined by its members
+abbrev pub ListIsSet : Type 0
+ListIsSet = (xs ys : List DataRecord) → IsRising xs → IsRising ys → SameMembers xs ys → xs ≡ ys
+
+-- and so are sound holdings
+abbrev pub HoldingsAreSets : Type 0
+HoldingsAreSets = (cap : ℕ) (h other : Holdings) → IsSound cap h → IsSound cap other → ((k : Key) → SameMembers (h k) (other k)) → h ≡ other
+
+-- a joined list has the records of both, and no others
+abbrev pub JoinedHasBoth : Type 0
+JoinedHasBoth = (xs records : List DataRecord) (r : DataRecord) → Contains (joined xs records) r ↔ (Contains xs r ⊎ Contains records r)
+
+-- holdings with all that is told have what was held and what is told, and nothing else
+abbrev pub AllHasBoth : Type 0
+AllHasBoth = (h : Holdings) (tolds : List Told) (k : Key) (r : DataRecord) →
+    Contains (with_all h tolds k) r ↔ (Contains (h k) r ⊎ Any (Has k r) tolds)
+
+-- none of the records clashes with one of the key, and joined with them it is what it was or has at most the cap
+pub record Fits (cap : ℕ) (key : Key) (records : List DataRecord) (h : Holdings) : Type 0 where
+  pub no_clash : (r s : DataRecord) → Contains records r → Contains (h key) s → ¬ Clash (duration_of key.duration) r s
+  pub room : (joined (h key) records ≡ h key) ⊎ (length (joined (h key) records) ≤ cap)
+
+abbrev pub FitsIsTold : Type 0
+FitsIsTold = (cap : ℕ) (h : Holdings) (key : Key) (records : List DataRecord) → IsSound cap h → IsSoundTold (Fragment key records) →
+    IsTrue (fits cap key records h) ↔ Fits cap key records h
+
+-- exactly what fits is accepted
+abbrev pub AcceptedWhereFits : Type 0
+AcceptedWhereFits = (cap : ℕ) (h : Holdings) (key : Key) (records : List DataRecord) → IsSound cap h → IsSoundTold (Fragment key records) →
+    IsAccepted (reply cap h (Fragment key records)) ↔ IsTrue (fits cap key records h)
+
+-- r is the first record of the second list that clashes with one of the first, and s the earliest that it clashes with
+pub record IsFirstClash (d : ℕ) (xs records : List DataRecord) (r s : DataRecord) : Type 0 where
+  pub before : List DataRecord
+  pub behind : List DataRecord
+  pub splits : records ≡ before ++ (r ∷ behind)
+  pub none_before : (q x : DataRecord) → Contains before q → Contains xs x → ¬ Clash d q x
+  pub held : Contains xs s
+  pub clash : Clash d r s
+  pub earliest : (x : DataRecord) → Contains xs x → Clash d r x → s.start ≤ x.start
+
+-- the answer names that clash
+abbrev pub ClashIsNamed : Type 0
+ClashIsNamed = (cap : ℕ) (h : Holdings) (key : Key) (records : List DataRecord) (r s : DataRecord) → IsSound cap h →
+    IsFirstClash (duration_of key.duration) (h key) records r s →
+    (r.start ≡ s.start → reply cap h (Fragment key records) ≡ Differs r.start) ×
+    (r.start ≢ s.start → reply cap h (Fragment key records) ≡ Overlap r.start s.start)
+
+-- a member of the list that was accepted when it came has the record under the key
+pub record FromAccepted (cap : ℕ) (h : Holdings) (tolds : List Told) (k : Key) (r : DataRecord) : Type 0 where
+  pub before : List Told
+  pub member : Told
+  pub behind : List Told
+  pub splits : tolds ≡ before ++ (member ∷ behind)
+  pub accepted : IsAccepted (reply cap (after cap h before) member)
+  pub has : Has k r member
+
+-- what is held after a list is what was held, and every record of an accepted member, and nothing else
+abbrev pub AfterHasAccepted : Type 0
+AfterHasAccepted = (cap : ℕ) (h : Holdings) (tolds : List Told) (k : Key) (r : DataRecord) → IsSound cap h → AreSoundTold tolds →
+    Contains (after cap h tolds k) r ↔ (Contains (h k) r ⊎ FromAccepted cap h tolds k r)
+
+abbrev pub RefusedChangesNothing : Type 0
+RefusedChangesNothing = (cap : ℕ) (h : Holdings) (told : Told) → IsSound cap h → IsSoundTold told →
+    ¬ IsAccepted (reply cap h told) → after_one cap h told ≡ h
+
+-- A recording's own records are accepted by its holdings with nothing new.
+-- Where nothing is held they are all new, and leave exactly that recording.
+abbrev pub OwnList : Type 0
+OwnList = (cap : ℕ) (h : Holdings) (k : Key) → IsSound cap h → h k ≢ [] →
+    (reply cap h (Fragment k (h k)) ≡ Accepted k 0 (length (h k))) ×
+    (reply cap nothing_held (Fragment k (h k)) ≡ Accepted k (length (h k)) 0) ×
+    (after_one cap nothing_held (Fragment k (h k)) ≡ (λ q. cond (same_key k q) (h k) []))
+
+-- never more than two records lie near a start
+abbrev pub NearTwo : Type 0
+NearTwo = (cap : ℕ) (h : Holdings) (k : Key) (start : ℕ) → IsSound cap h → length (near_of (duration_of k.duration) start (h k)) ≤ 2
+
+-- a rising list that has exactly the held records whose intervals meet that of the start is `near_of`
+abbrev pub NearIsSelected : Type 0
+NearIsSelected = (cap : ℕ) (h : Holdings) (k : Key) (start : ℕ) (ys : List DataRecord) → IsSound cap h → IsRising ys →
+    ((r : DataRecord) → Contains ys r
+        ↔ (Contains (h k) r × (r.start < start + duration_of k.duration) × (start < r.start + duration_of k.duration))) →
+    ys ≡ near_of (duration_of k.duration) start (h k)

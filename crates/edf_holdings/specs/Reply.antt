@@ -1,0 +1,85 @@
+-- What is answered to a submission, and what it leaves: functions of what its bytes tell and of the holdings that it meets.
+use Rattle.std.specs.Prelude.{ℕ, ◌+◌, ◌-◌, Bool, not, ◌&&◌, ◌||◌, cond, nat_eq, nat_lt, nat_le, List, [], ◌∷◌, length, Option, Some, None, find}
+use Rattle.std.specs.List.{list_all}
+use Rattle.edf_header.specs.Number.{duration_of}
+use Rattle.edf_header.specs.Key.{Key, IsKey}
+use Rattle.edf_fragment.specs.Fragment.{DataRecord}
+use Rattle.edf_fragment.specs.declared.fault.FragmentFault.{FragmentFault}
+use Rattle.edf_holdings.specs.Told.{Told, Fragment, Fault}
+use Rattle.edf_holdings.specs.Sound.{AreSound}
+use Rattle.edf_holdings.specs.Clash.{clashes}
+use Rattle.edf_holdings.specs.Rising.{joined, new_of}
+use Rattle.edf_holdings.specs.Holdings.{Holdings, put}
+
+-- a fragment as bytes spell them: by a law nothing else is told
+abbrev pub IsSoundTold : Told → Type 0
+IsSoundTold (Fragment key records) = IsKey key × AreSound key 0 records
+IsSoundTold (Fault fault) = Unit {0}
+
+-- no record of the second list clashes with one of the first: a test of all pairs
+abbrev pub is_free_of : ℕ → List DataRecord → List DataRecord → Bool
+is_free_of d xs records = list_all (λ r. list_all (λ s. not (clashes d r s)) xs) records
+
+-- the key may take the records: none clashes with one that it holds, and they are all held or it then has at most `cap`
+abbrev pub fits : ℕ → Key → List DataRecord → Holdings → Bool
+fits cap key records h =
+    is_free_of (duration_of key.duration) (h key) records
+    && (nat_eq (new_of (h key) records) 0 || nat_le (length (joined (h key) records)) cap)
+
+-- what one submission leaves: the records of a fragment that fits join those of its key, and nothing else changes anything
+unfoldable pub after_one : ℕ → Holdings → Told → Holdings
+after_one cap h (Fragment key records) = cond (fits cap key records h) (put key records h) h
+after_one cap h (Fault fault) = h
+
+-- what a list of submissions leaves: each meets what those before it left
+abbrev pub after : ℕ → Holdings → List Told → Holdings
+after cap h [] = h
+after cap h (told ∷ tolds) = after cap (after_one cap h told) tolds
+
+-- an answer: a fault of form; a clash, with the starts of the record and of the stored one; another record at the same start;
+-- no room, with how many are held, how many would be new, and the cap; or accepted, with how many were new and how many known
+pub data Reply : Type 0 where
+  Form : FragmentFault → Reply
+  Overlap : ℕ → ℕ → Reply
+  Differs : ℕ → Reply
+  Full : ℕ → ℕ → ℕ → Reply
+  Accepted : Key → ℕ → ℕ → Reply
+
+abbrev pub IsAccepted : Reply → Type 0
+IsAccepted (Form fault) = ⊥
+IsAccepted (Overlap start stored) = ⊥
+IsAccepted (Differs start) = ⊥
+IsAccepted (Full held new cap) = ⊥
+IsAccepted (Accepted key new known) = Unit {0}
+
+abbrev pub clash_or : DataRecord → Option DataRecord → Option (DataRecord × DataRecord) → Option (DataRecord × DataRecord)
+clash_or r None later = later
+clash_or r (Some s) later = Some (r, s)
+
+-- the first record of the second list that clashes with one of the first, and the first of that list that it clashes with
+abbrev pub first_clash : ℕ → List DataRecord → List DataRecord → Option (DataRecord × DataRecord)
+first_clash d xs [] = None
+first_clash d xs (r ∷ rs) = clash_or r (find (clashes d r) xs) (first_clash d xs rs)
+
+-- some are new, and there is no room for them
+abbrev pub is_past : ℕ → ℕ → ℕ → Bool
+is_past cap held new = nat_lt 0 new && nat_lt cap (held + new)
+
+-- the answer where so many are held and so many would be new, of so many
+abbrev pub reply_to_counts : ℕ → Key → ℕ → ℕ → ℕ → Reply
+reply_to_counts cap key held new all = cond (is_past cap held new) (Full held new cap) (Accepted key new (all - new))
+
+-- the answer where the key holds xs, and this is the first clash or there is none
+abbrev pub reply_to_clash : ℕ → Key → List DataRecord → List DataRecord → Option (DataRecord × DataRecord) → Reply
+reply_to_clash cap key records xs (Some p) = cond (nat_eq p.0.start p.1.start) (Differs p.0.start) (Overlap p.0.start p.1.start)
+reply_to_clash cap key records xs None = reply_to_counts cap key (length xs) (new_of xs records) (length records)
+
+-- what is answered to one submission: its fault of form, else its first clash, else want of room, else that it is accepted
+unfoldable pub reply : ℕ → Holdings → Told → Reply
+reply cap h (Fragment key records) = reply_to_clash cap key records (h key) (first_clash (duration_of key.duration) (h key) records)
+reply cap h (Fault fault) = Form fault
+
+-- what is answered to a list of submissions, each of which meets what those before it left
+abbrev pub replies : ℕ → Holdings → List Told → List Reply
+replies cap h [] = []
+replies cap h (told ∷ tolds) = reply cap h told ∷ replies cap (after_one cap h told) tolds

@@ -1,0 +1,23 @@
+-- What the data records of a fragment have, told of all of them at once.
+use Rattle.std.specs.Prelude.{◌≡◌, ℕ, ◌+◌, ◌*◌, ◌≤◌, ◌<◌, List, [], ◌∷◌, length}
+use Rattle.std.specs.List.{AllByRecursion}
+use Rattle.edf_time.specs.Civil.{window}
+use Rattle.edf_header.specs.Number.{duration_of}
+use Rattle.edf_header.specs.Key.{Key}
+use Rattle.edf_header.specs.Signal.{samples_in_all}
+use Rattle.edf_tal.specs.Note.{IsNote}
+use Rattle.edf_tal.specs.Block.{IsWithinLimits}
+use Rattle.edf_fragment.specs.Fragment.{DataRecord}
+
+-- a data record of a recording: the samples that its key says, a start in the window, and annotations within the limits, each
+-- with an onset and a duration in the window and a text of UTF-8 that a TAL can hold
+pub record IsSoundRecord (k : Key) (r : DataRecord) : Type 0 where
+  pub samples_len : length r.samples ≡ 2 * samples_in_all k.signals
+  pub start : r.start < window
+  pub limits : IsWithinLimits r.annotations
+  pub notes : AllByRecursion IsNote r.annotations
+
+-- records that start from `low` on, each at least a duration of a data record behind the one before
+abbrev pub AreSound : Key → ℕ → List DataRecord → Type 0
+AreSound k low [] = Unit {0}
+AreSound k low (r ∷ rs) = IsSoundRecord k r × (low ≤ r.start) × AreSound k (r.start + duration_of k.duration) rs

@@ -1,0 +1,9 @@
+mod Answers
+mod FewValues
+mod Found
+mod Levels
+mod Made
+mod ManyValues
+mod Places
+mod Told
+mod Values

@@ -1,0 +1,13 @@
+use Rattle.std.proofs.Common.{◌∙◌, arith, sym}
+use Rattle.clap.specs.Simple.{app_of}
+use Rattle.edf_order.proofs.Answers.{fails_asked, matches_asked}
+use Rattle.edf_order.proofs.command_line.read.Goals as goal
+
+pub returns-in-Err-clause-refuses : goal.returns-in-Err-clause-refuses
+returns-in-Err-clause-refuses c = λ v other.
+    fails_asked (app_of c.args.command.now) c.args.words.now c.in-Err.error c.requires.command.0 v c.requires.some (omega arith) c.in-Err.ensures.kinds (λ oom. other (c.fault_by.ensures oom))
+
+pub returns-clause-reads : goal.returns-clause-reads
+returns-clause-reads c = λ v.
+    c.in_ok-order_in.ensures
+    ∙ sym (matches_asked (app_of c.args.command.now) c.args.words.now c.in-Ok.matches c.requires.command.0 v c.requires.some (omega arith) c.in-Ok.ensures.kinds c.in-Ok.ensures.ok.2)

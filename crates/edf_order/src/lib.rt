@@ -1,0 +1,22 @@
+//! The command line of `edfstore`: the words after the program's name, read as what they ask for.
+//!
+//! - [`parse`]: the words to an [`Order`], by `clap`, or the [`CommandFault`] that says why they ask for nothing.
+//! - [`Order`]: `take`, `list`, `export` or `convert`, with its values.
+//! - [`CommandFault`]: help that was asked for, words that ask for nothing, or want of memory.
+//!
+//! No file is opened and nothing is printed here.
+#![tactic(auto)]
+
+mod command_line;
+mod commands;
+mod fault;
+mod help;
+mod matches;
+mod order;
+mod place;
+#[cfg(test)]
+mod tests;
+
+pub use command_line::parse;
+pub use fault::CommandFault;
+pub use order::Order;

@@ -1,0 +1,16 @@
+pub mod AnswerLemmas
+pub mod ApartLemmas
+pub mod CommitLemmas
+pub mod CreateLemmas
+pub mod HeldLemmas
+pub mod KeepLemmas
+pub mod Queries
+pub mod QueryTexts
+pub mod ReadLemmas
+pub mod ShownLemmas
+pub mod SortLemmas
+pub mod StepLemmas
+pub mod TablesLemmas
+pub mod TermLemmas
+pub mod TextLemmas
+pub mod WriteLemmas

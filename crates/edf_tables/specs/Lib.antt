@@ -1,0 +1,6 @@
+pub mod Cells
+pub mod Made
+pub mod Recordings
+pub mod Records
+pub mod Row
+pub mod Schema

@@ -1,0 +1,27 @@
+//! The statements of a store of recordings, over rows of SQL values.
+//!
+//! One SQL text is one function, over any store that `sqlite` takes; it knows nothing of EDF. Two tables are kept: `recording`
+//! has an id and the bytes of an identity, `record` the id of its recording, a start, samples and a block.
+//!
+//! - [`create_tables`], [`create_recording`], [`create_records`]: the tables, made where they are missing.
+//! - [`begin`], [`commit`], [`roll_back`]: a transaction.
+//! - [`insert_recording`], [`insert_record`]: one row more.
+//! - [`near_rows`], [`page_rows`], [`count_rows`], [`first_start`], [`last_start`]: the records of one recording, as
+//!   [`RecordRow`].
+//! - [`select_recording`], [`identities`], [`recordings`], [`count_all_rows`]: all recordings.
+#![tactic(auto)]
+
+mod create;
+mod list;
+mod query;
+mod records;
+mod row;
+mod transaction;
+mod write;
+
+pub use create::{create_recording, create_records, create_tables};
+pub use list::{count_all_rows, identities, recordings, select_recording};
+pub use records::{count_rows, first_start, last_start, near_rows, page_rows};
+pub use row::RecordRow;
+pub use transaction::{begin, commit, roll_back};
+pub use write::{insert_record, insert_recording};

@@ -1,0 +1,2 @@
+-- Words of private contracts: no promise cites one.
+pub mod Scan

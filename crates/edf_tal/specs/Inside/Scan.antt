@@ -1,0 +1,147 @@
+-- Words of the scan's helpers.
+use Rattle.std.specs.Prelude.{◌≡◌, ◌≢◌, ℕ, ◌+◌, ◌^◌, ◌≤◌, min, List, [], ◌∷◌, ◌++◌, length, sum_by, ℤ, pos, neg_ℤ, ◌≤ℤ◌, ◌<ℤ◌, Bool, Option, Some, None, IsTrue, IsUtf8, ◌↔◌, if◌then◌else◌}
+use Rattle.std.specs.List.{AllByRecursion, flat_map}
+use Rattle.edf_time.specs.Decimal.{IsSeconds}
+use Rattle.edf_tal.specs.Tal.{Tal, IsTal, IsOnset, IsDurationPart, IsText, ended, AreTals, IsTimed, IsTalInWindow, tal_annotations, annotations, begin}
+use Rattle.edf_tal.specs.Block.{KeepsPlace, IsWithinLimits}
+use Rattle.edf_tal.specs.declared.place.Place.{Place}
+use Rattle.edf_tal.specs.declared.place.Place.TheVariants.{First, After}
+
+-- the byte does not occur
+abbrev pub Lacks : ℕ → List ℕ → Type 0
+Lacks c bytes = AllByRecursion (λ b. b ≢ c) bytes
+
+-- zeros alone
+abbrev pub AreZeros : List ℕ → Type 0
+AreZeros bytes = AllByRecursion (λ b. b ≡ 0) bytes
+
+-- no TAL stands at the front
+abbrev pub NoTal : List ℕ → Type 0
+NoTal bytes = (front rest : List ℕ) (t : Tal) → bytes ≡ front ++ rest → ¬ IsTal front t
+
+-- a number that is counted as 2 ^ 63 from there on
+abbrev pub capped : ℕ → ℕ
+capped n = min n (2 ^ 63)
+
+-- a decimal, and a duration or none
+pub record IsTimes (bytes : List ℕ) (n : ℕ) (d : Option ℕ) : Type 0 where
+  pub onset : List ℕ
+  pub duration : List ℕ
+  pub parts : bytes ≡ onset ++ duration
+  pub is_seconds : IsSeconds onset n
+  pub is_duration : IsDurationPart duration d
+
+-- an onset, and a duration or none
+pub record IsHead (bytes : List ℕ) (z : ℤ) (d : Option ℕ) : Type 0 where
+  pub onset : List ℕ
+  pub duration : List ℕ
+  pub parts : bytes ≡ onset ++ duration
+  pub is_onset : IsOnset onset z
+  pub is_duration : IsDurationPart duration d
+
+-- the sign and the capped nanoseconds of an onset
+abbrev pub TellsOnset : Bool → ℕ → ℤ → Type 0
+TellsOnset ahead onset z = (m : ℕ) × (onset ≡ capped m) × (z ≡ (if ahead then pos m else neg_ℤ (pos m)))
+
+-- the capped nanoseconds of a duration
+abbrev pub TellsDuration : Option ℕ → Option ℕ → Type 0
+TellsDuration None None = Unit {0}
+TellsDuration (Some n) (Some m) = n ≡ capped m
+TellsDuration d e = ⊥
+
+-- nothing, or bytes of which the last is 20
+abbrev pub IsEnded : List ℕ → Type 0
+IsEnded [] = Unit {0}
+IsEnded (b ∷ []) = b ≡ 20
+IsEnded (b ∷ c ∷ bytes) = IsEnded (c ∷ bytes)
+
+-- the TAL at the front, its texts and what is behind it
+pub record IsTalAtFront (bytes texts rest : List ℕ) (t : Tal) : Type 0 where
+  pub front : List ℕ
+  pub parts : bytes ≡ front ++ rest
+  pub tal : IsTal front t
+  pub texts_are : texts ≡ ended t.texts
+
+-- the first of the texts that is no UTF-8
+pub record IsBadAmong (texts : List ℕ) (at : ℕ) : Type 0 where
+  pub good : List (List ℕ)
+  pub text : List ℕ
+  pub back : List ℕ
+  pub parts : texts ≡ ended good ++ (text ++ 20 ∷ back)
+  pub good_texts : AllByRecursion (λ x. Lacks 20 x × IsUtf8 x) good
+  pub is_text : Lacks 20 text
+  pub bad : ¬ IsUtf8 text
+  pub place : at ≡ length (ended good)
+
+-- this many texts, all of them UTF-8
+pub record AreGoodTexts (texts : List ℕ) (count : ℕ) : Type 0 where
+  pub list : List (List ℕ)
+  pub rest : List ℕ
+  pub parts : texts ≡ ended list ++ rest
+  pub good : AllByRecursion (λ x. Lacks 20 x × IsUtf8 x) list
+  pub is_rest : Lacks 20 rest
+  pub count_is : count ≡ length list
+
+-- TALs, and then this rest
+pub record IsBehind (bytes rest : List ℕ) : Type 0 where
+  pub front : List ℕ
+  pub tals : List Tal
+  pub parts : bytes ≡ front ++ rest
+  pub whole : AreTals front tals
+
+-- TALs with UTF-8 texts, and then this rest; whether they keep the window, and how many annotations and bytes of texts they have
+pub record IsSurvey (bytes : List ℕ) (file_start : ℕ) (rest : List ℕ) (in_window : Bool) (count text_bytes : ℕ) : Type 0 where
+  pub front : List ℕ
+  pub tals : List Tal
+  pub parts : bytes ≡ front ++ rest
+  pub whole : AreTals front tals
+  pub good : AllByRecursion (λ t. AllByRecursion IsUtf8 t.texts) tals
+  pub window : IsTrue in_window ↔ AllByRecursion (IsTalInWindow file_start) tals
+  pub count_is : count ≡ length (flat_map (tal_annotations file_start) tals)
+  pub bytes_is : text_bytes ≡ sum_by (λ a. length a.text) (flat_map (tal_annotations file_start) tals)
+
+-- the first data record starts in the second that the header names
+abbrev pub KeepsSecond : Place → ℤ → Type 0
+KeepsSecond First onset = (pos 0 ≤ℤ onset) × (onset <ℤ pos (10 ^ 9))
+KeepsSecond place onset = Unit {0}
+
+-- a later one starts at least a duration behind the one before
+abbrev pub KeepsOrder : Place → ℕ → Type 0
+KeepsOrder (After before duration) start = before + duration ≤ start
+KeepsOrder place start = Unit {0}
+
+-- the block has no fault at this place: its TALs, its start and how many annotations its list has
+pub record IsChecked (bytes : List ℕ) (file_start : ℕ) (place : Place) (front : List ℕ) (start count : ℕ) : Type 0 where
+  pub tals : List Tal
+  pub zeros : List ℕ
+  pub parts : bytes ≡ front ++ zeros
+  pub whole : AreTals front tals
+  pub are_zeros : AreZeros zeros
+  pub good : AllByRecursion (λ t. AllByRecursion IsUtf8 t.texts) tals
+  pub timed : IsTimed tals
+  pub keeps : KeepsPlace place file_start tals
+  pub window : AllByRecursion (IsTalInWindow file_start) tals
+  pub limits : IsWithinLimits (annotations file_start tals)
+  pub start_is : start ≡ begin file_start tals
+  pub count_is : count ≡ length (annotations file_start tals)
+
+-- TALs without a fault, but for the first one's rules
+pub record AreSoundTals (bytes : List ℕ) (file_start : ℕ) (tals : List Tal) : Type 0 where
+  pub whole : AreTals bytes tals
+  pub good : AllByRecursion (λ t. AllByRecursion IsUtf8 t.texts) tals
+  pub window : AllByRecursion (IsTalInWindow file_start) tals
+
+-- the texts of a TAL without a fault, and its times
+pub record TellsTal (texts : List ℕ) (ahead : Bool) (onset : ℕ) (duration : Option ℕ) (file_start : ℕ) (t : Tal) : Type 0 where
+  pub texts_are : texts ≡ ended t.texts
+  pub are_texts : AllByRecursion IsText t.texts
+  pub good : AllByRecursion IsUtf8 t.texts
+  pub is_onset : TellsOnset ahead onset t.onset
+  pub is_duration : TellsDuration duration t.duration
+  pub window : IsTalInWindow file_start t
+
+-- texts that make annotations
+pub record AreTexts (bytes : List ℕ) (texts : List (List ℕ)) : Type 0 where
+  pub bytes_are : bytes ≡ ended texts
+  pub are_texts : AllByRecursion IsText texts
+  pub good : AllByRecursion IsUtf8 texts

@@ -1,0 +1,11 @@
+-- What the proofs of other crates may cite: each lemma is the proof of a law.
+pub use Rattle.edf_time.proofs.Digits.{digit_is, digit_only}
+pub use Rattle.edf_time.proofs.OneValue.{SameParts, same-parts, one-value, one-fault, no-fault}
+pub use Rattle.edf_time.proofs.Short.{IsSeconds-short, IsShortest-short, length-short-some, length-short-most, length-short-window}
+pub use Rattle.edf_time.proofs.OneShortest.{one-shortest}
+pub use Rattle.edf_time.proofs.OneDay.{IsInBounds, in-bounds}
+pub use Rattle.edf_time.proofs.FieldTexts.{one-date_day, one-date_text, date-in-window, one-time_second, one-time_text, time-in-day, IsStart, start-parts, start-of-parts, one-start, no-start_fault, one-start_fault}
+pub use Rattle.edf_time.proofs.IdDates.{one-id_day, one-id_text}
+pub use Rattle.edf_time.proofs.InstantTexts.{one-instant, one-instant_text}
+pub use Rattle.edf_time.proofs.VisibleBytes.{date-length, time-length, id_date-length, instant-length, date-visible, time-visible, id_date-visible, instant-visible}
+pub use Rattle.edf_time.proofs.SomeReading.{some-value, some-decimal, some-date, some-time, some-id_date, some-start}
