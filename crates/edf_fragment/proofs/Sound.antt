@@ -13,7 +13,7 @@ use Rattle.edf_tal.specs.Tal.{Annotation}
 use Rattle.edf_tal.specs.Block.{IsRead}
 use Rattle.edf_tal.specs.declared.place.Place.{Place}
 use Rattle.edf_tal.specs.declared.place.Place.TheVariants.{First, After, Any}
-use Rattle.edf_tal.proofs.Cited.{read-start, read-notes}
+use Rattle.edf_tal.proofs.Cited.{read-start, read-annotations}
 use Rattle.edf_fragment.specs.Fragment.{DataRecord, IsDataRecord, AreDataRecords, place_behind, ordinary_bytes, Spells}
 use Rattle.edf_fragment.specs.Sound.{IsKept, IsSoundRecord, AreSound}
 use Rattle.edf_fragment.specs.Reading.{ReadsHeader, IsNext}
@@ -55,7 +55,7 @@ sound-record l place bytes r in_layout is = record {
   samples_len = samples-len l place bytes r in_layout is;
   start = read-start _ _ _ _ _ is.read;
   limits = is.read.limits;
-  notes = read-notes _ _ _ _ _ is.read;
+  notes = read-annotations _ _ _ _ _ is.read;
 }
 
 -- such a record may be kept in memory
@@ -64,7 +64,7 @@ pub read-kept : (bytes : List ℕ) (file_start : ℕ) (place : Place) (start : �
 read-kept bytes file_start place start samples list few read = record {
   size = record { samples = few; annotations = read.limits };
   start = read-start _ _ _ _ _ read;
-  notes = read-notes _ _ _ _ _ read;
+  notes = read-annotations _ _ _ _ _ read;
 }
 
 -- the next record, where one is given

@@ -2,7 +2,7 @@
 use Rattle.std.specs.Prelude.{◌≡◌, ℕ, ◌+◌, ◌≤◌, ◌<◌, List, length}
 use Rattle.edf_header.specs.Header.{HeaderRecord, IsHeader, Layout, layout_of}
 use Rattle.edf_header.specs.Fault.{IsHeaderFault, header_fault_number}
-use Rattle.edf_tal.specs.Block.{IsBlockFault, tal_fault_number as tal_fault_number}
+use Rattle.edf_tal.specs.Block.{IsBlockFault, tal_fault_number}
 use Rattle.edf_tal.specs.declared.place.Place.{Place}
 use Rattle.edf_tal.specs.declared.place.Place.TheVariants.{First}
 use Rattle.edf_tal.specs.declared.place.TalFault.{TalFault}

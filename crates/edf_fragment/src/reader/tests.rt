@@ -200,7 +200,7 @@ fn nothing_is_read_behind_a_refusal(rt: HostRuntime) -> Result<(), Fail> {
     for (at, text, reads) in [
         (176usize, "24.00.00", 256usize),
         (272, "EDF annotations", 768),
-        (772, "-", 778),
+        (772, "?", 778),
         (778, "-", 779),
     ] {
         let mut bytes = Vec::from_slice(rt.alloc(), &quiet)?;
