@@ -1,5 +1,5 @@
 -- What the answers of the queries are.
-use Rattle.std.proofs.Common.{◌≡◌, ℕ, ℤ, Bool, true, false, cond, List, [], ◌∷◌, ◌++◌, map, filter, flat_map, length, reverse, take, slice_get, Option, Some, None, refl, sym, ap, subst, subst₂, ◌∙◌, Ordering, Less, Equal, Greater, IsPermutation, IsSorted}
+use Rattle.std.proofs.Common.{◌≡◌, ℕ, Bool, true, false, cond, List, [], ◌∷◌, map, filter, flat_map, length, reverse, take, Option, Some, refl, sym, ap, subst, subst₂, ◌∙◌, Ordering, Less, Equal, Greater, IsPermutation}
 use Rattle.std.specs.List.{list_all, AllZip}
 use Rattle.std.proofs.lemmas.List.{length-map}
 use Rattle.std.proofs.lemmas.List.Sorted.{length_permutation, IsPermutation-map, IsPermutation-reverse, IsPermutation-trans, IsPermutation-sym}
@@ -9,7 +9,7 @@ use Rattle.sqlite.specs.Tree.{Trees}
 use Rattle.sqlite_value.specs.Order.{column, value_cmp}
 use Rattle.sqlite_trees.specs.Tree.{IsAscending}
 use Rattle.sqlite_sql.specs.Term.{Term, Env, holds, eval, eval_all}
-use Rattle.sqlite_sql.specs.Query.{Query, IsAnswer, output, output_cmp, Output, page, limited, as_count}
+use Rattle.sqlite_sql.specs.Query.{IsAnswer, output, output_cmp, Output, page, limited, as_count}
 use Rattle.sqlite_sql.specs.Group.{Grouping, Aggregate, IsSummary, value_over}
 use Rattle.sqlite_sql.specs.Aggregate.{count}
 use Rattle.sqlite_sql.proofs.QueryLemmas.{output_cmp_total}

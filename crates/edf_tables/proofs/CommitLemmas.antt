@@ -1,15 +1,14 @@
 -- What each statement of a transaction may commit, and what BEGIN, COMMIT and ROLLBACK do.
-use Rattle.std.proofs.Common.{◌≡◌, ◌≢◌, ◌⊎◌, inl, inr, ℕ, List, [], codes, Bool, true, false, not, IsTrue, Some, None, Ok, Err, Result, IfOk, OnOk, refl, sym, ap, subst, subst₂, ◌∙◌, append-nil, arith, true≢false}
+use Rattle.std.proofs.Common.{◌≡◌, inl, inr, ℕ, List, [], codes, true, false, IsTrue, None, Ok, refl, sym, ap, subst, subst₂, ◌∙◌, append-nil, arith, true≢false}
 use Rattle.sqlite.specs.Order.{Row}
 use Rattle.sqlite.specs.Tree.{Trees}
 use Rattle.sqlite.specs.Schema.{Schema}
 use Rattle.sqlite_schema.specs.declared.command.Command.{Command}
-use Rattle.sqlite_schema.specs.declared.command.Command.TheVariants.{Insert, Begin, Commit, Rollback, Release}
+use Rattle.sqlite_schema.specs.declared.command.Command.TheVariants.{Insert, Begin, Commit, Rollback}
 use Rattle.sqlite_schema.specs.declared.command.Source.{Source}
 use Rattle.sqlite_tied.specs.Compute.{everything}
-use Rattle.sqlite.specs.declared.error.Error.{Error}
 use Rattle.sqlite.specs.Listing.{understood}
-use Rattle.sqlite.specs.State.{State, HasCleanDisk, Survives, MayCommit, CommitsBy, Executes, Shows, IsRolledBack, text_of}
+use Rattle.sqlite.specs.State.{State, HasCleanDisk, Survives, MayCommit, CommitsBy, Executes, Shows, IsRolledBack}
 use Rattle.sqlite.proofs.StateLemmas.{survives_weaker, survives_then}
 use Rattle.sqlite.proofs.Callers.{IsPlain, command_of, statement_of, runs_as}
 use Rattle.edf_tables.specs.Schema.{both_schema}

@@ -1,21 +1,20 @@
 -- What one row more makes of the sorted rows, in the words of the statements.
-use Rattle.std.proofs.Common.{◌≡◌, ◌≢◌, ℕ, ℤ, Bool, true, false, List, [], ◌∷◌, filter, refl, sym, ap, subst, ◌∙◌, Ordering, Less, Equal, Greater, is_eq, is_gt, true≢false, IsTrue}
+use Rattle.std.proofs.Common.{◌≡◌, ℕ, ℤ, true, false, List, [], ◌∷◌, filter, refl, sym, ap, ◌∙◌, Ordering, Less, Equal, Greater, is_eq, true≢false}
 use Rattle.std.specs.List.{AllByRecursion}
 use Rattle.std.specs.Ordering.{int_cmp, ordering_reverse}
-use Rattle.std.specs.Cmp.{IsTotalOrder}
 use Rattle.std.proofs.lemmas.Cmp.{tied_itself}
-use Rattle.sqlite.specs.declared.types.Value.TheVariants.{Null, Int, Blob}
+use Rattle.sqlite.specs.declared.types.Value.TheVariants.{Int}
 use Rattle.sqlite.specs.Order.{Row}
 use Rattle.sqlite.specs.State.{State, KeepsCommit}
-use Rattle.sqlite_value.specs.Order.{column, value_cmp}
+use Rattle.sqlite_value.specs.Order.{value_cmp}
 use Rattle.sqlite_value.proofs.OrderLemmas.{value_cmp_total, value_cmp-Int}
 use Rattle.sqlite_trees.specs.Tree.{IsAscending, rowid, put_row}
 use Rattle.sqlite_trees.proofs.ListLemmas.{all-permutation}
-use Rattle.sqlite_keyed.specs.Lists.{insert_sorted, sort_by}
+use Rattle.sqlite_keyed.specs.Lists.{insert_sorted}
 use Rattle.sqlite_keyed.proofs.ListLemmas.{all_weaker, all_kept, none_from_any}
 use Rattle.sqlite_keyed.proofs.SortLemmas.{IsPermutation-sort_by}
 use Rattle.edf_tables.specs.Row.{cells, named_cells, new_row, IsInside, HasRecord, HasRecording}
-use Rattle.edf_tables.specs.Records.{by_column, is_of, records_of, IsRising}
+use Rattle.edf_tables.specs.Records.{by_column, is_of, records_of}
 use Rattle.edf_tables.specs.Recordings.{by_identity}
 use Rattle.edf_tables.proofs.AnswerLemmas.{column_total}
 use Rattle.edf_tables.proofs.KeepLemmas.{shows_keeps}

@@ -1,7 +1,6 @@
 -- What any query leaves of a connection.
-use Rattle.std.proofs.Common.{◌≡◌, ◌⊎◌, inl, inr, List, ℕ, [], Option, Some, None, Result, Ok, Err, IfOk, OnOk, OnErr, IfErr, Vec, Global, refl, sym, ap, subst, ◌∙◌, arith}
+use Rattle.std.proofs.Common.{inl, inr, List, ℕ, Result, Ok, Err, IfOk, OnOk, IfErr, Vec, Global, subst, arith}
 use Rattle.sqlite.specs.Order.{Row}
-use Rattle.sqlite.specs.Tree.{Trees}
 use Rattle.sqlite.specs.declared.error.Error.{Error}
 use Rattle.sqlite.specs.Listing.{understood}
 use Rattle.sqlite.specs.State.{State, HasCleanDisk, Survives, Shown, FailsToQuery, IsNotRun, IsUnchanged, KeepsCommit, CommitsShowing, FailsToShow, ShowsRows}

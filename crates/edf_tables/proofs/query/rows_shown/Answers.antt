@@ -1,6 +1,5 @@
-use Rattle.std.proofs.Common.{arith, IfOk, IfErr, OnOk, Ok, Err, Result, Vec, Global}
+use Rattle.std.proofs.Common.{arith}
 use Rattle.sqlite.specs.Held.{state}
-use Rattle.sqlite.specs.State.{HasCleanDisk}
 use Rattle.edf_tables.proofs.ReadLemmas.{query_same, query_keeps, query_quiet}
 use Rattle.edf_tables.proofs.query.rows_shown.Goals as goal
 

@@ -1,8 +1,7 @@
-use Rattle.std.proofs.Common.{◌≡◌, ap, ◌∙◌, w64, arith}
+use Rattle.std.proofs.Common.{ap, ◌∙◌, w64, arith}
 use Rattle.std.proofs.lemmas.Int.{to_z-of_z}
 use Rattle.sqlite.specs.declared.types.Value.TheVariants.{Int}
 use Rattle.sqlite.specs.Held.{state}
-use Rattle.edf_tables.specs.Row.{cells}
 use Rattle.edf_tables.proofs.TextLemmas.{insert_record_text, insert_record_is}
 use Rattle.edf_tables.proofs.CommitLemmas.{insert_survives}
 use Rattle.edf_tables.proofs.KeepLemmas.{write_refused}
