@@ -11,3 +11,11 @@ pub mod InSets
 pub mod Accepted
 pub mod KeyLists
 pub mod Selected
+pub mod Walked
+pub mod Added
+pub mod Recut
+pub mod TwoRecords
+pub mod SpelledSound
+pub mod ToldSound
+pub mod Worked
+pub mod Clashes
