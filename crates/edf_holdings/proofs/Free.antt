@@ -156,7 +156,7 @@ any_order_law cap h ts s w i = let a = whole_of_free cap h ts w (IsGood-from_sou
 
 -- free lists with the same records end alike
 
-all_within : (h : Holdings) (ts us : List Told) (k : Key) → ((y : DataRecord) → IsAmong k y ts → IsAmong k y us) → Within (with_all h ts k) (with_all h us k)
+pub all_within : (h : Holdings) (ts us : List Told) (k : Key) → ((y : DataRecord) → IsAmong k y ts → IsAmong k y us) → Within (with_all h ts k) (with_all h us k)
 all_within h ts us k w y m = elim (in_all h ts k y m) [ inl n ↦ all_grows h us k y n | inr n ↦ all_has h us k y (w y n) ]
 
 pub recut_law : Recut

@@ -60,7 +60,7 @@ all_has_both h ts k r = (
 
 MayJoin-from_Fits : (cap : ℕ) (h : Holdings) (key : Key) (records : List DataRecord) → Fits cap key records h → MayJoin cap key records h
 MayJoin-from_Fits cap h key records f = record {
-  free = λ r s m n. false_from_ne_true _ (λ t. f.no_clash r s (Contains-from_In records r m) (Contains-from_In (h key) s n) (Clash-from_test (duration_of key.duration) r s t));
+  free = λ r s m n. false_from_ne_true _ (λ t. f.clear r s (Contains-from_In records r m) (Contains-from_In (h key) s n) (Clash-from_test (duration_of key.duration) r s t));
   room = elim f.room [
     | inl e ↦ inl (λ y m. subst (λ (l : List DataRecord). In y l) e (joined_has (h key) records y m))
     | inr l ↦ inr l
@@ -69,7 +69,7 @@ MayJoin-from_Fits cap h key records f = record {
 
 Fits-from_MayJoin : (cap : ℕ) (h : Holdings) (key : Key) (records : List DataRecord) → IsKey key → IsGood cap h → MayJoin cap key records h → Fits cap key records h
 Fits-from_MayJoin cap h key records w g m = record {
-  no_clash = λ r s n k c. both_ways _ (m.free r s (In-from_Contains records r n) (In-from_Contains (h key) s k)) (test_from_Clash (duration_of key.duration) r s c);
+  clear = λ r s n k c. both_ways _ (m.free r s (In-from_Contains records r n) (In-from_Contains (h key) s k)) (test_from_Clash (duration_of key.duration) r s c);
   room = elim m.room [
     | inl i ↦ inl (joined_held (duration_of key.duration) 0 (h key) records (lasting key w) (g.apart key) i)
     | inr l ↦ inr l
@@ -130,7 +130,7 @@ clash_is_named cap h key records r s t i = (
 none_held : (cap : ℕ) → IsGood cap nothing_held
 none_held cap = record { rising = λ k. tt; apart = λ k. tt; few = λ k. omega arith }
 
-from_nothing : (d low : ℕ) (rs : List DataRecord) → 0 < d → IsApart d low rs → IsApart d 0 rs → joined [] rs ≡ rs
+pub from_nothing : (d low : ℕ) (rs : List DataRecord) → 0 < d → IsApart d low rs → IsApart d 0 rs → joined [] rs ≡ rs
 from_nothing d low rs z a b =
     same_lists d 0 0 (joined [] rs) rs z (apart_joined d low [] rs tt a (λ r x m n. absurd n)) b
     (λ y m. elim (in_joined y [] rs m) [ inl n ↦ absurd n | inr n ↦ n ])

@@ -11,3 +11,10 @@ pub mod InSets
 pub mod Accepted
 pub mod KeyLists
 pub mod Selected
+pub mod Walked
+pub mod Added
+pub mod Recut
+pub mod SpelledSound
+pub mod ToldSound
+pub mod Worked
+pub mod Clashes

@@ -13,7 +13,7 @@ use Rattle.edf_holdings.specs.Reply.{IsSoundTold, fits, after_one, after, Reply,
 use Rattle.edf_holdings.proofs.Members.{In, Within, AreFree, joined_has, length_joined, none_new, within_from_none_new}
 use Rattle.edf_holdings.proofs.Joining.{IsGood, Grows, MayJoin, fits_from_MayJoin, MayJoin-smaller, MayJoin-from_held, put_here, lasting, apart-sound}
 
-find_none : (d : ℕ) (r : DataRecord) (xs : List DataRecord) → find (clashes d r) xs ≡ None → (x : DataRecord) → In x xs → clashes d r x ≡ false
+pub find_none : (d : ℕ) (r : DataRecord) (xs : List DataRecord) → find (clashes d r) xs ≡ None → (x : DataRecord) → In x xs → clashes d r x ≡ false
 find_none d r [] e x m = absurd m
 find_none d r (y ∷ ys) e x m =
     elim (cases_Bool (clashes d r y)) [

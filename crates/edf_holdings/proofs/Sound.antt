@@ -34,14 +34,14 @@ each-sound k low (r ∷ rs) s y (inl p) = subst (IsSoundRecord k) p s.0
 each-sound k low (r ∷ rs) s y (inr m) = each-sound k (r.start + duration_of k.duration) rs s.2 y m
 
 -- what soundness asks beside what `IsGood` has
-pub record IsKept (h : Holdings) : Type 0 where
+pub record HasHolders (h : Holdings) : Type 0 where
   pub records : (k : Key) → Each (IsSoundRecord k) (h k)
   pub holders : (k : Key) → h k ≢ [] → IsKey k
   pub finite : List Key
   pub all : (k : Key) → h k ≢ [] → Contains finite k
 
-IsKept-put : (key : Key) (records : List DataRecord) (h : Holdings) → IsSoundTold (Fragment key records) → IsKept h → IsKept (put key records h)
-IsKept-put key records h w p = record {
+pub HasHolders-put : (key : Key) (records : List DataRecord) (h : Holdings) → IsSoundTold (Fragment key records) → HasHolders h → HasHolders (put key records h)
+HasHolders-put key records h w p = record {
   records = put_cases key records h (λ q l. Each (IsSoundRecord q) l)
       (λ y m. elim (in_joined y (h key) records m) [ inl n ↦ p.records key y n | inr n ↦ each-sound key 0 records w.1 y n ])
       p.records;
@@ -52,12 +52,12 @@ IsKept-put key records h w p = record {
       (λ _ n. let c = p.all k n in (suc c.0, omega (arith, c.1), c.2));
 }
 
-IsKept-one : (cap : ℕ) (h : Holdings) (t : Told) → IsSoundTold t → IsKept h → IsKept (after_one cap h t)
+HasHolders-one : (cap : ℕ) (h : Holdings) (t : Told) → IsSoundTold t → HasHolders h → HasHolders (after_one cap h t)
 unfolding after_one
-IsKept-one cap h (Fault fault) w p = p
-IsKept-one cap h (Fragment key records) w p = cond_both (fits cap key records h) (put key records h) h IsKept (λ _. IsKept-put key records h w p) (λ _. p)
+HasHolders-one cap h (Fault fault) w p = p
+HasHolders-one cap h (Fragment key records) w p = cond_both (fits cap key records h) (put key records h) h HasHolders (λ _. HasHolders-put key records h w p) (λ _. p)
 
-pub IsSound-from : (cap : ℕ) (h : Holdings) → IsGood cap h → IsKept h → IsSound cap h
+pub IsSound-from : (cap : ℕ) (h : Holdings) → IsGood cap h → HasHolders h → IsSound cap h
 IsSound-from cap h good kept = record {
   rising = good.rising;
   no_clash = λ k r t m n c. both_ways _
@@ -69,8 +69,8 @@ IsSound-from cap h good kept = record {
   finite = (kept.finite, kept.all);
 }
 
-pub IsKept-from_sound : (cap : ℕ) (h : Holdings) → IsSound cap h → IsKept h
-IsKept-from_sound cap h s = record {
+pub HasHolders-from_sound : (cap : ℕ) (h : Holdings) → IsSound cap h → HasHolders h
+HasHolders-from_sound cap h s = record {
   records = λ k. Each-from_All (IsSoundRecord k) (h k) (s.records k);
   holders = s.keys;
   finite = s.finite.0;
@@ -78,7 +78,7 @@ IsKept-from_sound cap h s = record {
 }
 
 pub IsSound-one : (cap : ℕ) (h : Holdings) (t : Told) → IsSoundTold t → IsSound cap h → IsSound cap (after_one cap h t)
-IsSound-one cap h t w s = IsSound-from cap (after_one cap h t) (IsGood-one cap h t w (IsGood-from_sound cap h s)) (IsKept-one cap h t w (IsKept-from_sound cap h s))
+IsSound-one cap h t w s = IsSound-from cap (after_one cap h t) (IsGood-one cap h t w (IsGood-from_sound cap h s)) (HasHolders-one cap h t w (HasHolders-from_sound cap h s))
 
 pub stays_sound : StaysSound
 stays_sound cap h [] s w = s

@@ -1,13 +1,16 @@
 -- What is true of lists of submissions: repeats add nothing, and where nothing conflicts the order and the cuts don't count.
-use Rattle.std.specs.Prelude.{◌≡◌, ℕ, ◌+◌, List, ◌∷◌, ◌++◌, length, All, Contains, remove}
+use Rattle.std.specs.Prelude.{◌≡◌, ℕ, ◌+◌, ◌<◌, ◌≤◌, ◌↔◌, List, [], ◌∷◌, ◌++◌, length, All, Contains, remove}
 use Rattle.std.specs.List.{AllByRecursion}
-use Rattle.edf_header.specs.Key.{Key}
+use Rattle.edf_header.specs.Number.{duration_of}
+use Rattle.edf_header.specs.Key.{Key, IsKey}
 use Rattle.edf_fragment.specs.Fragment.{DataRecord}
 use Rattle.edf_fragment.specs.declared.fault.FragmentFault.{FragmentFault}
-use Rattle.edf_holdings.specs.Told.{Told, Fragment}
-use Rattle.edf_holdings.specs.Holdings.{Holdings, IsSound}
+use Rattle.edf_holdings.specs.Told.{Told, Fragment, Tells}
+use Rattle.edf_holdings.specs.Clash.{near_of}
+use Rattle.edf_holdings.specs.Sound.{IsSoundRecord}
+use Rattle.edf_holdings.specs.Holdings.{Holdings, IsSound, nothing_held, put}
 use Rattle.edf_holdings.specs.Reply.{IsSoundTold, after_one, after, Form, Accepted, IsAccepted, reply, replies}
-use Rattle.edf_holdings.specs.Free.{with_all, IsFree, SameRecords}
+use Rattle.edf_holdings.specs.Free.{IsFragment, with_all, IsFree, SameRecords}
 
 abbrev pub AreSoundTold : List Told → Type 0
 AreSoundTold tolds = AllByRecursion IsSoundTold tolds
@@ -15,6 +18,19 @@ AreSoundTold tolds = AllByRecursion IsSoundTold tolds
 -- after any list the holdings are sound
 abbrev pub StaysSound : Type 0
 StaysSound = (cap : ℕ) (h : Holdings) (tolds : List Told) → IsSound cap h → AreSoundTold tolds → IsSound cap (after cap h tolds)
+
+-- what bytes tell
+abbrev pub ToldIsSound : Type 0
+ToldIsSound = (bytes : List ℕ) (told : Told) → Tells bytes told → IsSoundTold told
+
+-- nothing at all is sound
+abbrev pub NothingIsSound : Type 0
+NothingIsSound = (cap : ℕ) → IsSound cap nothing_held
+
+-- one record more, near which nothing is held, where there is room
+abbrev pub AddStaysSound : Type 0
+AddStaysSound = (cap : ℕ) (h : Holdings) (key : Key) (r : DataRecord) → IsSound cap h → IsKey key → IsSoundRecord key r →
+    near_of (duration_of key.duration) r.start (h key) ≡ [] → length (h key) < cap → IsSound cap (put key (r ∷ []) h)
 
 -- a fragment whose records are all held is accepted with nothing new, and changes nothing
 abbrev pub HeldIsKnown : Type 0
@@ -58,6 +74,21 @@ FromTheFront = (cap : ℕ) (h : Holdings) (front rest : List Told) → IsSound c
 abbrev pub AnyOrder : Type 0
 AnyOrder = (cap : ℕ) (h : Holdings) (tolds : List Told) → IsSound cap h → AreSoundTold tolds → IsFree cap h tolds →
     All IsAccepted (replies cap h tolds) × (after cap h tolds ≡ with_all h tolds)
+
+-- the same submissions in another order, or more often or less, are free too and end alike
+abbrev pub Reordered : Type 0
+Reordered = (cap : ℕ) (h : Holdings) (tolds others : List Told) → IsSound cap h → AreSoundTold tolds → IsFree cap h tolds →
+    ((told : Told) → Contains tolds told ↔ Contains others told) → IsFree cap h others × (after cap h others ≡ after cap h tolds)
+
+-- whether fragments are free is said by their records alone, so a free list may be cut anew
+abbrev pub FreeOfSame : Type 0
+FreeOfSame = (cap : ℕ) (h : Holdings) (tolds others : List Told) → IsSound cap h → AreSoundTold tolds → AreSoundTold others →
+    IsFree cap h tolds → AllByRecursion IsFragment others → SameRecords tolds others → IsFree cap h others
+
+-- a fragment alone is free where nothing is held and there is room for it
+abbrev pub AloneIsFree : Type 0
+AloneIsFree = (cap : ℕ) (key : Key) (records : List DataRecord) → IsSoundTold (Fragment key records) → length records ≤ cap →
+    IsFree cap nothing_held (Fragment key records ∷ [])
 
 -- two free lists with the same records end alike
 abbrev pub Recut : Type 0

@@ -9,3 +9,4 @@ pub mod Free
 pub mod Laws
 pub mod Meaning
 pub mod Keys
+pub mod Kind

@@ -1,14 +1,14 @@
 -- What the definitions say in the words of sets, so that their recursions need no belief.
-use Rattle.std.specs.Prelude.{◌≡◌, ◌≢◌, ℕ, ◌+◌, ◌<◌, ◌≤◌, ◌↔◌, ◌⊎◌, List, [], ◌∷◌, ◌++◌, length, Contains, Any, IsTrue, cond}
+use Rattle.std.specs.Prelude.{◌≡◌, ◌≢◌, ℕ, ◌+◌, ◌-◌, ◌<◌, ◌≤◌, ◌↔◌, ◌⊎◌, List, [], ◌∷◌, ◌++◌, length, Contains, Any, IsTrue, cond}
 use Rattle.edf_header.specs.Number.{duration_of}
 use Rattle.edf_header.specs.Key.{Key}
 use Rattle.edf_fragment.specs.Fragment.{DataRecord}
 use Rattle.edf_holdings.specs.Told.{Told, Fragment}
 use Rattle.edf_holdings.specs.Same.{same_key, same_record}
 use Rattle.edf_holdings.specs.Clash.{Clash, clashes, near_of}
-use Rattle.edf_holdings.specs.Rising.{IsRising, holds, joined}
+use Rattle.edf_holdings.specs.Rising.{IsRising, holds, joined, new_of}
 use Rattle.edf_holdings.specs.Holdings.{Holdings, IsSound, nothing_held}
-use Rattle.edf_holdings.specs.Reply.{IsSoundTold, fits, after_one, after, Overlap, Differs, Accepted, reply, IsAccepted}
+use Rattle.edf_holdings.specs.Reply.{IsSoundTold, fits, after_one, after, Overlap, Differs, Full, Accepted, reply, IsAccepted}
 use Rattle.edf_holdings.specs.Free.{with_all, Has}
 use Rattle.edf_holdings.specs.Laws.{AreSoundTold}
 
@@ -46,9 +46,13 @@ abbrev pub AllHasBoth : Type 0
 AllHasBoth = (h : Holdings) (tolds : List Told) (k : Key) (r : DataRecord) →
     Contains (with_all h tolds k) r ↔ (Contains (h k) r ⊎ Any (Has k r) tolds)
 
--- none of the records clashes with one of the key, and joined with them it is what it was or has at most the cap
+-- none of the records clashes with one of the key
+abbrev pub IsClear : Holdings → Key → List DataRecord → Type 0
+IsClear h key records = (r s : DataRecord) → Contains records r → Contains (h key) s → ¬ Clash (duration_of key.duration) r s
+
+-- so, and joined with them the key has what it had, or at most the cap
 pub record Fits (cap : ℕ) (key : Key) (records : List DataRecord) (h : Holdings) : Type 0 where
-  pub no_clash : (r s : DataRecord) → Contains records r → Contains (h key) s → ¬ Clash (duration_of key.duration) r s
+  pub clear : IsClear h key records
   pub room : (joined (h key) records ≡ h key) ⊎ (length (joined (h key) records) ≤ cap)
 
 abbrev pub FitsIsTold : Type 0
@@ -76,6 +80,25 @@ ClashIsNamed = (cap : ℕ) (h : Holdings) (key : Key) (records : List DataRecord
     IsFirstClash (duration_of key.duration) (h key) records r s →
     (r.start ≡ s.start → reply cap h (Fragment key records) ≡ Differs r.start) ×
     (r.start ≢ s.start → reply cap h (Fragment key records) ≡ Overlap r.start s.start)
+
+-- and there is a first one wherever records clash
+abbrev pub ClashIsThere : Type 0
+ClashIsThere = (cap : ℕ) (h : Holdings) (key : Key) (records : List DataRecord) (r s : DataRecord) → IsSound cap h →
+    Contains records r → Contains (h key) s → Clash (duration_of key.duration) r s →
+    (q : DataRecord) × (x : DataRecord) × IsFirstClash (duration_of key.duration) (h key) records q x
+
+-- where nothing clashes, the answer is want of room exactly where some are new and are too many, else that it is accepted
+abbrev pub CountsAreNamed : Type 0
+CountsAreNamed = (cap : ℕ) (h : Holdings) (key : Key) (records : List DataRecord) → IsClear h key records →
+    (0 < new_of (h key) records → cap < length (h key) + new_of (h key) records →
+        reply cap h (Fragment key records) ≡ Full (length (h key)) (new_of (h key) records) cap) ×
+    ((new_of (h key) records ≡ 0) ⊎ (length (h key) + new_of (h key) records ≤ cap) →
+        reply cap h (Fragment key records) ≡ Accepted key (new_of (h key) records) (length records - new_of (h key) records))
+
+-- and the new ones are those by which the recording grows
+abbrev pub NewIsCounted : Type 0
+NewIsCounted = (cap : ℕ) (h : Holdings) (key : Key) (records : List DataRecord) → IsSound cap h → IsSoundTold (Fragment key records) →
+    IsClear h key records → length (joined (h key) records) ≡ length (h key) + new_of (h key) records
 
 -- a member of the list that was accepted when it came has the record under the key
 pub record FromAccepted (cap : ℕ) (h : Holdings) (tolds : List Told) (k : Key) (r : DataRecord) : Type 0 where

@@ -1,10 +1,14 @@
 //! Laws of lists of submissions: each function has laws for a contract, and does nothing.
 
-ghost use Rattle.edf_holdings.specs.Laws.{StaysSound, HeldIsKnown, AcceptedAgain, RefusedAgain, RepeatTakenOut, FromTheFront, AnyOrder, Recut};
+ghost use Rattle.edf_holdings.specs.Laws.{ToldIsSound, NothingIsSound, StaysSound, AddStaysSound, HeldIsKnown, AcceptedAgain, RefusedAgain, RepeatTakenOut, FromTheFront, AnyOrder, Reordered, AloneIsFree, Recut, FreeOfSame};
 
-/// Holdings stay sound.
+/// What bytes tell is sound, and nothing held; what any list of submissions leaves of sound holdings is sound, and so is one
+/// record more.
 pub fn stays_sound()
-    ensures { StaysSound }
+    ensures told { ToldIsSound }
+    ensures none { NothingIsSound }
+    ensures after { StaysSound }
+    ensures add { AddStaysSound }
 {}
 
 /// A list acts once: repeats add nothing, and a list broken off and sent again ends alike.
@@ -16,12 +20,15 @@ pub fn once()
     ensures front { FromTheFront }
 {}
 
-/// A list that is free of conflicts is accepted whole, in any order.
+/// A list that is free of conflicts is accepted whole; reordered, or with repeats, it is as free and ends alike.
 pub fn any_order()
-    ensures { AnyOrder }
+    ensures accepted { AnyOrder }
+    ensures reordered { Reordered }
+    ensures alone { AloneIsFree }
 {}
 
-/// Lists that are free of conflicts and hold the same records end alike.
+/// Lists that are free of conflicts and hold the same records end alike; and if one is free, so is the other.
 pub fn recut()
-    ensures { Recut }
+    ensures same { Recut }
+    ensures free { FreeOfSame }
 {}

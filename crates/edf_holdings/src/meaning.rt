@@ -1,6 +1,6 @@
 //! What the definitions say in the words of sets: each function has laws for a contract, and does nothing.
 
-ghost use Rattle.edf_holdings.specs.Meaning.{SameKeyIsEqual, SameRecordIsEqual, TestIsClash, HoldsIsContains, ListIsSet, HoldingsAreSets, JoinedHasBoth, AllHasBoth, FitsIsTold, AcceptedWhereFits, ClashIsNamed, AfterHasAccepted, RefusedChangesNothing, OwnList, NearTwo, NearIsSelected};
+ghost use Rattle.edf_holdings.specs.Meaning.{SameKeyIsEqual, SameRecordIsEqual, TestIsClash, HoldsIsContains, ListIsSet, HoldingsAreSets, JoinedHasBoth, AllHasBoth, FitsIsTold, AcceptedWhereFits, ClashIsNamed, ClashIsThere, CountsAreNamed, NewIsCounted, AfterHasAccepted, RefusedChangesNothing, OwnList, NearTwo, NearIsSelected};
 ghost use Rattle.edf_holdings.specs.Keys.{KeysAreOne};
 
 /// The tests are what they are named for.
@@ -25,6 +25,9 @@ pub fn intake()
     ensures fits { FitsIsTold }
     ensures accepted { AcceptedWhereFits }
     ensures named { ClashIsNamed }
+    ensures there { ClashIsThere }
+    ensures counts { CountsAreNamed }
+    ensures new { NewIsCounted }
     ensures after { AfterHasAccepted }
     ensures refused { RefusedChangesNothing }
     ensures own { OwnList }

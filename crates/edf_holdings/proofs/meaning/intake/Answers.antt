@@ -1,4 +1,5 @@
 use Rattle.edf_holdings.proofs.Accepted.{after_has_accepted, refused_changes_nothing}
+use Rattle.edf_holdings.proofs.Clashes.{clash_is_there, counts_are_named, new_is_counted}
 use Rattle.edf_holdings.proofs.InSets.{fits_is_told, accepted_where_fits, clash_is_named, own_list}
 use Rattle.edf_holdings.proofs.meaning.intake.Goals as goal
 
@@ -19,3 +20,12 @@ returns-clause-refused c = refused_changes_nothing
 
 pub returns-clause-own : goal.returns-clause-own
 returns-clause-own c = own_list
+
+pub returns-clause-there : goal.returns-clause-there
+returns-clause-there c = clash_is_there
+
+pub returns-clause-counts : goal.returns-clause-counts
+returns-clause-counts c = counts_are_named
+
+pub returns-clause-new : goal.returns-clause-new
+returns-clause-new c = new_is_counted
