@@ -4,7 +4,7 @@ use Rattle.std.specs.List.{flat_map}
 use Rattle.std.proofs.lemmas.List.Elements.{All-head, All-tail, All-cons, All-nil}
 use Rattle.edf_header.specs.Key.{Key}
 use Rattle.edf_header.specs.Signal.{samples_in_all}
-use Rattle.edf_header.proofs.Cited.{length-parts}
+use Rattle.edf_header.proofs.Strides.{length-parts}
 use Rattle.edf_fragment.specs.Fragment.{DataRecord}
 use Rattle.edf_header.specs.Canonical.{IsExportHeader}
 use Rattle.edf_command.specs.File.{second_of, block_of, record_text, Hold, IsLaidOut, IsCanonicalFile}

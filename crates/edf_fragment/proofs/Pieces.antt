@@ -3,7 +3,7 @@ use Rattle.std.proofs.Common.{◌≡◌, ℕ, ◌+◌, ◌≤◌, ◌<◌, List,
 use Rattle.std.specs.Io.KnownBytes.{Consumes}
 use Rattle.std.proofs.KnownBytes.{Consumes-trans}
 use Rattle.edf_header.specs.Header.{Layout}
-use Rattle.edf_tal.specs.Block.{IsRead, IsBlockFault, IsBlockRefusal as IsBlockRefusal}
+use Rattle.edf_tal.specs.Block.{IsRead, IsBlockFault, IsBlockRefusal}
 use Rattle.edf_tal.specs.declared.place.TalFault.{TalFault}
 use Rattle.edf_tal.specs.declared.place.TalFault.TheVariants.{Tal as NotTals, Text, NotTimed, FirstOnset, Window, Order, TooMany, Memory as TalMemory}
 use Rattle.edf_fragment.specs.Fragment.{DataRecord, IsDataRecord, block, ordinary_bytes}
@@ -108,7 +108,7 @@ refused_block l p left rest samples blk nth e h is fault = record {
 -- what is told of a refused block
 pub told_block : (l : Layout) (p : Progress) (left rest : Option (List ℕ)) (samples blk : List ℕ) (s nth : ℕ) (e : TalFault) (told : FragmentFault)
     → HasPieces l p left rest samples blk → s ≡ l.start → nth ≡ p.given + 1 → (e ≡ TalMemory → told ≡ Memory) → ((e ≡ TalMemory → ⊥) → told ≡ Tal nth e)
-    → IsRefusal blk s p.place e → IsNextFault l p left rest told
+    → IsBlockRefusal blk s p.place e → IsNextFault l p left rest told
 told_block l p left rest samples blk s nth TalMemory told h from is memory other refusal =
     subst (IsNextFault l p left rest) (sym (memory refl)) (record {
       bytes = around l.block_at samples blk;

@@ -4,7 +4,7 @@ use Rattle.std.proofs.lemmas.List.{length-take, length-drop}
 use Rattle.edf_field.specs.Number.{duration_of}
 use Rattle.edf_header.specs.Signal.{samples_in_all}
 use Rattle.edf_header.specs.Key.{Key, IsKey}
-use Rattle.edf_header.specs.Rows.{IsLayout}
+use Rattle.edf_header.specs.Header.{IsLayout}
 use Rattle.edf_header.specs.Header.{HeaderRecord, IsHeader, Layout, layout_of}
 use Rattle.edf_header.proofs.Cited.{key-duration-some}
 use Rattle.edf_header.proofs.Cited.{header-has-layout}

@@ -17,7 +17,7 @@ returns-in-Ok-read_block-clause-step g c =
     subst (λ (n : ℕ). Consumes left rest (take n samples ++ (blk ++ drop n samples))) c.block_at.ensures.value c.in_ok-fill_record.ensures.step in
     let pieces : HasPieces l c.args.progress left rest samples blk =
     record { wanted = c.requires.wanted; total = omega arith; len = omega arith; room = omega arith; read = read } in
-    given_record l c.args.progress left rest samples blk c.start.result c.within_limits.result _ pieces c.start.ensures.value c.in-Ok-read_block.ensures
+    given_record l c.args.progress left rest samples blk c.start.result c.within_limits.result _ pieces c.start.ensures c.in-Ok-read_block.ensures
     c.within_limits.ensures (take_at samples _ c.in-Ok.samples.len (omega arith))
 
 pub returns-in-Err-clause-step : goal.returns-in-Err-clause-step
@@ -32,7 +32,7 @@ returns-in-Err-clause-step g c =
     subst (λ (n : ℕ). Consumes left rest (take n samples ++ (blk ++ drop n samples))) c.block_at.ensures.value c.in_ok-fill_record.ensures.step in
     let pieces : HasPieces l c.args.progress left rest samples blk =
     record { wanted = c.requires.wanted; total = omega arith; len = omega arith; room = omega arith; read = read } in
-    told_block l c.args.progress left rest samples blk c.start.result (c.args.progress.given + 1) c.in-Err.fault c.block_refusal.result pieces c.start.ensures.value refl
+    told_block l c.args.progress left rest samples blk c.start.result (c.args.progress.given + 1) c.in-Err.fault c.block_refusal.result pieces c.start.ensures refl
     c.block_refusal.ensures.memory c.block_refusal.ensures.other c.in-Err.ensures
 
 pub within_limits-requires : goal.within_limits-requires
