@@ -1,9 +1,9 @@
 -- One record more keeps holdings sound.
 use Rattle.std.proofs.Common.{◌≡◌, ℕ, ◌+◌, ◌≤◌, true, false, nat_lt, List, [], ◌∷◌, length, refl, sym, subst, ◌∙◌, inl, inr, arith, cond}
 use Rattle.std.proofs.lemmas.Bool.{cond_both, cond-true, false_from_ne_true, and_from, lt-ltb}
-use Rattle.edf_header.specs.Number.{duration_of}
+use Rattle.edf_field.specs.Number.{duration_of}
 use Rattle.edf_fragment.specs.Fragment.{DataRecord}
-use Rattle.edf_holdings.specs.Told.{Fragment}
+use Rattle.edf_fragment.specs.Told.{Fragment}
 use Rattle.edf_holdings.specs.Same.{same_record}
 use Rattle.edf_holdings.specs.Clash.{clashes, meets, near_of}
 use Rattle.edf_holdings.specs.Rising.{inserted}

@@ -1,7 +1,7 @@
 -- The first clash is there wherever records clash, and the counts are named where none do.
 use Rattle.std.proofs.Common.{◌≡◌, ℕ, ◌+◌, ◌≤◌, true, List, [], ◌∷◌, length, Contains, Option, Some, None, refl, sym, ap, subst, ◌∙◌, inl, inr, arith, find}
 use Rattle.std.proofs.lemmas.Bool.{cond-true, cond-false, cases_Bool, both_ways, false_from_ne_true, and_from, and_left, and_right, lt-ltb, le-ltb}
-use Rattle.edf_header.specs.Number.{duration_of}
+use Rattle.edf_field.specs.Number.{duration_of}
 use Rattle.edf_fragment.specs.Fragment.{DataRecord}
 use Rattle.edf_holdings.specs.Clash.{Clash, clashes}
 use Rattle.edf_holdings.specs.Rising.{new_of, IsApart, IsRising}

@@ -3,14 +3,14 @@ use Rattle.std.proofs.Common.{◌≡◌, ◌≢◌, ℕ, ◌+◌, ◌-◌, ◌<�
 use Rattle.std.specs.Option.{option_or}
 use Rattle.std.proofs.lemmas.Bool.{cond-true, cond-false, cases_Bool, false_from_ne_true, both_ways}
 use mathlib.Core.Path.{fun_ext}
-use Rattle.edf_header.specs.Number.{duration_of}
+use Rattle.edf_field.specs.Number.{duration_of}
 use Rattle.edf_header.specs.Key.{Key, IsKey}
 use Rattle.edf_fragment.specs.Fragment.{DataRecord}
-use Rattle.edf_holdings.specs.Told.{Fragment}
+use Rattle.edf_fragment.specs.Told.{Fragment}
 use Rattle.edf_holdings.specs.Same.{same_key}
 use Rattle.edf_holdings.specs.Clash.{clashes}
 use Rattle.edf_holdings.specs.Rising.{joined, new_of, IsApart, IsRising}
-use Rattle.edf_holdings.specs.Sound.{IsSoundRecord, AreSound}
+use Rattle.edf_fragment.specs.Sound.{IsSoundRecord, AreSound}
 use Rattle.edf_holdings.specs.Holdings.{Holdings, IsSound, put, nothing_held}
 use Rattle.edf_holdings.specs.Reply.{IsSoundTold, fits, after_one, Accepted, Differs, Overlap, clash_or, first_clash, reply_to_clash, reply, IsAccepted}
 use Rattle.edf_holdings.specs.Free.{with_all}

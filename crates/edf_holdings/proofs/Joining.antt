@@ -3,14 +3,14 @@ use Rattle.std.proofs.Common.{◌≡◌, ℕ, zero, suc, ◌+◌, ◌<◌, ◌�
 use Rattle.std.proofs.lemmas.Bool.{cond_both, cond-true, both_ways, or_cases, or_left, or_right, and_parts, and_from, not-true, not_from_false, leb-true, le-leb, false_from_ne_true}
 use Rattle.std.specs.List.{list_all}
 use mathlib.Core.Path.{fun_ext}
-use Rattle.edf_header.specs.Number.{duration_of}
+use Rattle.edf_field.specs.Number.{duration_of}
 use Rattle.edf_header.specs.Key.{Key, IsKey}
 use Rattle.edf_fragment.specs.Fragment.{DataRecord}
-use Rattle.edf_header.proofs.Durations.{duration-value}
+use Rattle.edf_field.proofs.Durations.{duration-value}
 use Rattle.edf_holdings.specs.Same.{same_key}
 use Rattle.edf_holdings.specs.Clash.{clashes}
 use Rattle.edf_holdings.specs.Rising.{joined, IsApart, IsRising}
-use Rattle.edf_holdings.specs.Sound.{AreSound}
+use Rattle.edf_fragment.specs.Sound.{AreSound}
 use Rattle.edf_holdings.specs.Holdings.{Holdings, IsSound, put}
 use Rattle.edf_holdings.specs.Reply.{is_free_of, fits}
 use Rattle.edf_holdings.proofs.Same.{same_key-true, same_key-refl, clashes-true, clashes_near, clashes-false, Clash-from_test}

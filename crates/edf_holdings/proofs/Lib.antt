@@ -14,7 +14,6 @@ pub mod Selected
 pub mod Walked
 pub mod Added
 pub mod Recut
-pub mod SpelledSound
 pub mod ToldSound
 pub mod Worked
 pub mod Clashes

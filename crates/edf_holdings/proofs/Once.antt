@@ -4,7 +4,7 @@ use Rattle.std.proofs.lemmas.List.Edits.{remove-append_right}
 use Rattle.std.proofs.lemmas.Bool.{cond_both}
 use Rattle.edf_header.specs.Key.{Key}
 use Rattle.edf_fragment.specs.Fragment.{DataRecord}
-use Rattle.edf_holdings.specs.Told.{Told, Fragment}
+use Rattle.edf_fragment.specs.Told.{Told, Fragment}
 use Rattle.edf_holdings.specs.Holdings.{Holdings, put}
 use Rattle.edf_holdings.specs.Reply.{IsSoundTold, fits, after_one, after, reply, replies}
 use Rattle.edf_holdings.specs.Laws.{HeldIsKnown, AcceptedAgain, RefusedAgain, RepeatTakenOut, FromTheFront, with_member}

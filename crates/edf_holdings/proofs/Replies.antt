@@ -1,11 +1,11 @@
 -- What is answered: exactly what may join is accepted, and what a later repeat is answered.
 use Rattle.std.proofs.Common.{◌≡◌, ℕ, suc, ◌+◌, ◌-◌, ◌≤◌, ◌⊎◌, false, nat_eq, List, [], ◌∷◌, ◌++◌, length, Option, Some, None, refl, sym, ap, subst, ◌∙◌, inl, inr, arith, find}
 use Rattle.std.proofs.lemmas.Bool.{cond_both, cond-true, cond-false, cases_Bool, and_cases, ltb-false, and_left, and_right, le-ltb}
-use Rattle.edf_header.specs.Number.{duration_of}
+use Rattle.edf_field.specs.Number.{duration_of}
 use Rattle.edf_header.specs.Key.{Key}
 use Rattle.edf_fragment.specs.Fragment.{DataRecord}
 use Rattle.edf_fragment.specs.declared.fault.FragmentFault.{FragmentFault}
-use Rattle.edf_holdings.specs.Told.{Told, Fragment, Fault}
+use Rattle.edf_fragment.specs.Told.{Told, Fragment, Fault}
 use Rattle.edf_holdings.specs.Clash.{clashes}
 use Rattle.edf_holdings.specs.Rising.{holds, joined, new_of}
 use Rattle.edf_holdings.specs.Holdings.{Holdings, put}

@@ -1,7 +1,7 @@
 -- A rising list of the records whose intervals meet that of a start is the one of those near it.
 use Rattle.std.proofs.Common.{◌≡◌, ℕ, ◌+◌, ◌⊎◌, Bool, true, nat_lt, List, [], ◌∷◌, sym, subst, inl, inr, arith, filter}
 use Rattle.std.proofs.lemmas.Bool.{cond_both, cond-true, cond-false, cases_Bool, and_parts, and_from, ltb-true, lt-ltb}
-use Rattle.edf_header.specs.Number.{duration_of}
+use Rattle.edf_field.specs.Number.{duration_of}
 use Rattle.edf_fragment.specs.Fragment.{DataRecord}
 use Rattle.edf_holdings.specs.Clash.{meets, near_of}
 use Rattle.edf_holdings.specs.Rising.{IsApart}

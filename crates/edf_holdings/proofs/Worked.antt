@@ -4,7 +4,7 @@ use Rattle.std.specs.Prelude.{codes}
 use Rattle.edf_header.specs.Key.{Key}
 use Rattle.edf_fragment.specs.Fragment.{DataRecord}
 use Rattle.edf_fragment.specs.declared.fault.FragmentFault.TheVariants.{Trailing}
-use Rattle.edf_holdings.specs.Told.{Told, Fragment, Fault}
+use Rattle.edf_fragment.specs.Told.{Told, Fragment, Fault}
 use Rattle.edf_holdings.specs.Same.{same_key, same_record}
 use Rattle.edf_holdings.specs.Clash.{clashes}
 use Rattle.edf_holdings.specs.Holdings.{nothing_held}

@@ -1,10 +1,10 @@
 -- Lists of submissions that are free of conflicts, and lists that hold the same records.
 use Rattle.std.specs.Prelude.{◌≡◌, ℕ, ◌≤◌, ◌↔◌, List, [], ◌∷◌, length, Contains, Any}
 use Rattle.std.specs.List.{AllByRecursion}
-use Rattle.edf_header.specs.Number.{duration_of}
+use Rattle.edf_field.specs.Number.{duration_of}
 use Rattle.edf_header.specs.Key.{Key}
 use Rattle.edf_fragment.specs.Fragment.{DataRecord}
-use Rattle.edf_holdings.specs.Told.{Told, Fragment, Fault}
+use Rattle.edf_fragment.specs.Told.{Told, Fragment, Fault}
 use Rattle.edf_holdings.specs.Clash.{NoClash}
 use Rattle.edf_holdings.specs.Holdings.{Holdings, put}
 

@@ -1,12 +1,12 @@
 -- The holdings: the data records that are kept, key by key.
 use Rattle.std.specs.Prelude.{◌≢◌, ℕ, ◌≤◌, cond, List, [], length, All, Contains}
-use Rattle.edf_header.specs.Number.{duration_of}
+use Rattle.edf_field.specs.Number.{duration_of}
 use Rattle.edf_header.specs.Key.{Key, IsKey}
 use Rattle.edf_fragment.specs.Fragment.{DataRecord}
 use Rattle.edf_holdings.specs.Same.{same_key}
 use Rattle.edf_holdings.specs.Clash.{NoClash}
 use Rattle.edf_holdings.specs.Rising.{IsRising, joined}
-use Rattle.edf_holdings.specs.Sound.{IsSoundRecord}
+use Rattle.edf_fragment.specs.Sound.{IsSoundRecord}
 
 -- each key's data records by rising starts, none where nothing is held
 abbrev pub Holdings : Type 0

@@ -1,13 +1,13 @@
 -- What is true of lists of submissions: repeats add nothing, and where nothing conflicts the order and the cuts don't count.
 use Rattle.std.specs.Prelude.{◌≡◌, ℕ, ◌+◌, ◌<◌, ◌≤◌, ◌↔◌, List, [], ◌∷◌, ◌++◌, length, All, Contains, remove}
 use Rattle.std.specs.List.{AllByRecursion}
-use Rattle.edf_header.specs.Number.{duration_of}
+use Rattle.edf_field.specs.Number.{duration_of}
 use Rattle.edf_header.specs.Key.{Key, IsKey}
 use Rattle.edf_fragment.specs.Fragment.{DataRecord}
 use Rattle.edf_fragment.specs.declared.fault.FragmentFault.{FragmentFault}
-use Rattle.edf_holdings.specs.Told.{Told, Fragment, Tells}
+use Rattle.edf_fragment.specs.Told.{Told, Fragment, Tells}
 use Rattle.edf_holdings.specs.Clash.{near_of}
-use Rattle.edf_holdings.specs.Sound.{IsSoundRecord}
+use Rattle.edf_fragment.specs.Sound.{IsSoundRecord}
 use Rattle.edf_holdings.specs.Holdings.{Holdings, IsSound, nothing_held, put}
 use Rattle.edf_holdings.specs.Reply.{IsSoundTold, after_one, after, Form, Accepted, IsAccepted, reply, replies}
 use Rattle.edf_holdings.specs.Free.{IsFragment, with_all, IsFree, SameRecords}

@@ -1,5 +1,3 @@
-pub mod Told
-pub mod Sound
 pub mod Same
 pub mod Clash
 pub mod Rising

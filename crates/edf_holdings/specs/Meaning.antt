@@ -1,9 +1,9 @@
 -- What the definitions say in the words of sets, so that their recursions need no belief.
 use Rattle.std.specs.Prelude.{◌≡◌, ◌≢◌, ℕ, ◌+◌, ◌-◌, ◌<◌, ◌≤◌, ◌↔◌, ◌⊎◌, List, [], ◌∷◌, ◌++◌, length, Contains, Any, IsTrue, cond}
-use Rattle.edf_header.specs.Number.{duration_of}
+use Rattle.edf_field.specs.Number.{duration_of}
 use Rattle.edf_header.specs.Key.{Key}
 use Rattle.edf_fragment.specs.Fragment.{DataRecord}
-use Rattle.edf_holdings.specs.Told.{Told, Fragment}
+use Rattle.edf_fragment.specs.Told.{Told, Fragment}
 use Rattle.edf_holdings.specs.Same.{same_key, same_record}
 use Rattle.edf_holdings.specs.Clash.{Clash, clashes, near_of}
 use Rattle.edf_holdings.specs.Rising.{IsRising, holds, joined, new_of}

@@ -1,12 +1,12 @@
 -- What is answered to a submission, and what it leaves: functions of what its bytes tell and of the holdings that it meets.
 use Rattle.std.specs.Prelude.{ℕ, ◌+◌, ◌-◌, Bool, not, ◌&&◌, ◌||◌, cond, nat_eq, nat_lt, nat_le, List, [], ◌∷◌, length, Option, Some, None, find}
 use Rattle.std.specs.List.{list_all}
-use Rattle.edf_header.specs.Number.{duration_of}
+use Rattle.edf_field.specs.Number.{duration_of}
 use Rattle.edf_header.specs.Key.{Key, IsKey}
 use Rattle.edf_fragment.specs.Fragment.{DataRecord}
 use Rattle.edf_fragment.specs.declared.fault.FragmentFault.{FragmentFault}
-use Rattle.edf_holdings.specs.Told.{Told, Fragment, Fault}
-use Rattle.edf_holdings.specs.Sound.{AreSound}
+use Rattle.edf_fragment.specs.Told.{Told, Fragment, Fault}
+use Rattle.edf_fragment.specs.Sound.{AreSound}
 use Rattle.edf_holdings.specs.Clash.{clashes}
 use Rattle.edf_holdings.specs.Rising.{joined, new_of}
 use Rattle.edf_holdings.specs.Holdings.{Holdings, put}
