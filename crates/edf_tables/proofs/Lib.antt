@@ -1,0 +1,11 @@
+pub mod AnswerLemmas
+pub mod CommitLemmas
+pub mod CreateLemmas
+pub mod NearLemmas
+pub mod QueryTexts
+pub mod RangeLemmas
+pub mod ReadLemmas
+pub mod StepLemmas
+pub mod TextLemmas
+pub mod WalkLemmas
+pub mod WriteLemmas

@@ -1,0 +1,16 @@
+use Rattle.std.proofs.Common.{[], arith}
+use Rattle.sqlite.specs.Held.{state}
+use Rattle.sqlite.proofs.StateLemmas.{survives_weaker}
+use Rattle.edf_tables.proofs.CreateLemmas.{second_if, second_crash}
+use Rattle.edf_tables.proofs.WriteLemmas.{write_refused}
+use Rattle.edf_tables.proofs.create.create_records.Goals as goal
+
+pub returns-clause-made : goal.returns-clause-made
+returns-clause-made g c clean = second_if (state g.S.Store c.args.conn.now) (state g.S.Store c.execute.new.self) c.execute.result (c.requires (omega (arith, c.execute.ensures.survives.clean))) (c.execute.ensures.runs clean)
+
+pub returns-clause-survives : goal.returns-clause-survives
+returns-clause-survives g c =
+    survives_weaker (state g.S.Store c.args.conn.now) (state g.S.Store c.execute.new.self) _ _ (λ clean db. second_crash (state g.S.Store c.args.conn.now) db (c.requires (omega (arith, c.execute.ensures.survives.clean)))) c.execute.ensures.survives
+
+pub returns-clause-refused : goal.returns-clause-refused
+returns-clause-refused g c clean = write_refused _ _ (state g.S.Store c.args.conn.now) (state g.S.Store c.execute.new.self) c.execute.result (c.execute.ensures.runs clean)

@@ -1,0 +1,52 @@
+//! A transaction, as the texts that begin and end it.
+
+ghost use Rattle.std.specs.Prelude.{◌≡◌, false, true, OnOk, OnErr};
+ghost use Rattle.sqlite.specs.Held.{state};
+ghost use Rattle.sqlite.specs.State.{HasCleanDisk, Shows, Survives, IsRolledBack, KeepsCommit};
+
+use sqlite::{Alter, Connection, Error};
+
+/// Begins a transaction.
+///
+/// # Errors
+/// `sqlite`'s, also where one is open; what is committed stays.
+pub fn begin<S: Alter>(conn: &mut Connection<S>) -> Result<(), Error>
+    ensures begun { HasCleanDisk (state S.Store conn.new) → OnOk result (Shows (state S.Store conn.old) (state S.Store conn.new) (state S.Store conn.old).now (state S.Store conn.old).committed true) }
+    ensures refused { HasCleanDisk (state S.Store conn.new) → OnErr result (KeepsCommit (state S.Store conn.old) (state S.Store conn.new)) }
+    ensures survives { Survives (state S.Store conn.old) (state S.Store conn.new) (λ _. ⊥) }
+{
+    match conn.execute("BEGIN", &[]) {
+        Ok(_) => Ok(()),
+        Err(error) => Err(error),
+    }
+}
+
+/// Commits the transaction: what it shows is what is held.
+///
+/// # Errors
+/// `sqlite`'s, also where none is open; what was committed before stays. A crash leaves that, or all of the transaction.
+pub fn commit<S: Alter>(conn: &mut Connection<S>) -> Result<(), Error>
+    ensures committed { HasCleanDisk (state S.Store conn.new) → OnOk result (Shows (state S.Store conn.old) (state S.Store conn.new) (state S.Store conn.old).now (state S.Store conn.old).now false) }
+    ensures refused { HasCleanDisk (state S.Store conn.new) → OnErr result (KeepsCommit (state S.Store conn.old) (state S.Store conn.new)) }
+    ensures survives { Survives (state S.Store conn.old) (state S.Store conn.new) (λ db. db ≡ (state S.Store conn.old).now.trees) }
+{
+    match conn.execute("COMMIT", &[]) {
+        Ok(_) => Ok(()),
+        Err(error) => Err(error),
+    }
+}
+
+/// Undoes the transaction: what is held is as before it began.
+///
+/// # Errors
+/// `sqlite`'s, also where none is open; what is committed stays.
+pub fn roll_back<S: Alter>(conn: &mut Connection<S>) -> Result<(), Error>
+    ensures undone { HasCleanDisk (state S.Store conn.new) → OnOk result (IsRolledBack (state S.Store conn.old) (state S.Store conn.new)) }
+    ensures kept { HasCleanDisk (state S.Store conn.new) → KeepsCommit (state S.Store conn.old) (state S.Store conn.new) }
+    ensures survives { Survives (state S.Store conn.old) (state S.Store conn.new) (λ _. ⊥) }
+{
+    match conn.execute("ROLLBACK", &[]) {
+        Ok(_) => Ok(()),
+        Err(error) => Err(error),
+    }
+}

@@ -1,0 +1,51 @@
+//! One row more.
+
+ghost use Rattle.std.specs.Prelude.{◌≡◌, ◌∷◌, [], OnOk, OnErr, IfOk};
+ghost use Rattle.sqlite.specs.Held.{state};
+ghost use Rattle.sqlite.specs.State.{HasCleanDisk, Survives, KeepsCommit};
+ghost use Rattle.sqlite.specs.declared.types.Value.TheVariants.{Null, Blob};
+ghost use Rattle.sqlite_rules.specs.Edit.{next_rowid};
+ghost use Rattle.edf_tables.specs.Row.{cells, added, HasRecords, HasRecordings, IsInside};
+
+use sqlite::{Alter, Connection, Error, params};
+
+/// Adds a row to `recording`, and answers its id.
+///
+/// # Errors
+/// `sqlite`'s, also where the identity is there; what is committed stays, and the transaction may be undone.
+pub fn insert_recording<S: Alter>(conn: &mut Connection<S>, identity: &[u8]) -> Result<i64, Error>
+    requires { HasCleanDisk (state S.Store conn.old) → IsInside (state S.Store conn.old) }
+    ensures added { HasCleanDisk (state S.Store conn.new) → IfOk result (λ id. HasRecordings (state S.Store conn.old) (state S.Store conn.new) (added ((state S.Store conn.old).now.trees 0) (Null ∷ Blob identity.now ∷ [])) × (id ≡ next_rowid ((state S.Store conn.old).now.trees 0))) }
+    ensures refused { HasCleanDisk (state S.Store conn.new) → OnErr result (KeepsCommit (state S.Store conn.old) (state S.Store conn.new)) }
+    ensures survives { Survives (state S.Store conn.old) (state S.Store conn.new) (λ _. ⊥) }
+{
+    match conn.execute(
+        "INSERT INTO recording (identity) VALUES (?1)",
+        params![identity],
+    ) {
+        Ok(_) => Ok(conn.last_insert_rowid()),
+        Err(error) => Err(error),
+    }
+}
+
+/// Adds a row to `record`.
+///
+/// # Errors
+/// `sqlite`'s, also where the recording has a record of this start; what is committed stays, and the transaction may be undone.
+pub fn insert_record<S: Alter>(
+    conn: &mut Connection<S>,
+    recording: i64,
+    start: i64,
+    samples: &[u8],
+    block: &[u8],
+) -> Result<usize, Error>
+    requires { HasCleanDisk (state S.Store conn.old) → IsInside (state S.Store conn.old) }
+    ensures added { HasCleanDisk (state S.Store conn.new) → OnOk result (HasRecords (state S.Store conn.old) (state S.Store conn.new) (added ((state S.Store conn.old).now.trees 2) (cells recording start samples.now block.now))) }
+    ensures refused { HasCleanDisk (state S.Store conn.new) → OnErr result (KeepsCommit (state S.Store conn.old) (state S.Store conn.new)) }
+    ensures survives { Survives (state S.Store conn.old) (state S.Store conn.new) (λ _. ⊥) }
+{
+    conn.execute(
+        "INSERT INTO record VALUES (?1, ?2, ?3, ?4)",
+        params![recording, start, samples, block],
+    )
+}
