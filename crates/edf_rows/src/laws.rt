@@ -1,0 +1,1 @@
+//! Laws of the rows: each function has a law for a contract, and does nothing.
