@@ -1,16 +1,12 @@
 -- The cells of one row.
-use Rattle.std.proofs.Common.{◌≡◌, ◌≢◌, ℕ, ◌*◌, ◌+◌, ◌≤◌, ◌<◌, pos, ℤ, List, [], ◌∷◌, ◌++◌, length, ◌^◌, of_z, to_z, w64, FitsSigned, refl, sym, ap, ap₂, subst, ◌∙◌, arith, replicate}
-use Rattle.std.specs.List.{AllByRecursion}
-use Rattle.std.proofs.lemmas.List.{append-nil}
+use Rattle.std.proofs.Common.{◌≡◌, ◌≢◌, ℕ, ◌*◌, ◌≤◌, ◌<◌, pos, ℤ, List, [], ◌∷◌, length, ◌^◌, of_z, to_z, w64, FitsSigned, refl, sym, ap, ap₂, subst, ◌∙◌, arith}
 use Rattle.sqlite_value.specs.declared.value.Value.{Value}
 use Rattle.sqlite_value.specs.declared.value.Value.TheVariants.{Int, Blob}
-use Rattle.sqlite_value.specs.Order.{Row, column}
-use Rattle.edf_time.specs.Civil.{window}
-use Rattle.edf_header.specs.Key.{Key, IsKey}
+use Rattle.sqlite_value.specs.Order.{Row}
+use Rattle.edf_header.specs.Key.{Key}
 use Rattle.edf_header.specs.Signal.{samples_in_all}
 use Rattle.edf_tal.specs.Tal.{Annotation}
-use Rattle.edf_tal.specs.Note.{IsNote}
-use Rattle.edf_tal.specs.Block.{IsRead, IsBlockFault, IsRefusal, IsWithinLimits}
+use Rattle.edf_tal.specs.Block.{IsRead, IsBlockFault, IsRefusal}
 use Rattle.edf_tal.specs.declared.place.Place.TheVariants.{Any}
 use Rattle.edf_tal.specs.declared.place.TalFault.{TalFault}
 use Rattle.edf_tal.specs.declared.place.TalFault.TheVariants.{Tal as NotTals, Text, NotTimed, FirstOnset, Window, Order, TooMany, Memory}
@@ -19,9 +15,7 @@ use Rattle.edf_tal.specs.Canonical.{block_text}
 use Rattle.edf_tal.proofs.OneAnswer.{one-read, read-no-fault}
 use Rattle.edf_tal.proofs.ReadNotes.{read-start, read-notes}
 use Rattle.edf_fragment.specs.Fragment.{DataRecord, IsWithinSize}
-use Rattle.edf_holdings.specs.Sound.{IsSoundRecord}
-use Rattle.edf_rows.specs.Cells.{record_cells}
-use Rattle.edf_rows.specs.Foreign.{IsBadRow, bad_start, bad_samples, bad_block, AreSamples, IsOwnBlock, IsStart}
+use Rattle.edf_rows.specs.Foreign.{IsBadRow, bad_samples, bad_block}
 use Rattle.edf_rows.specs.Shape.{OwnBlock, NoOwnBlock, IsRowOf}
 
 -- a block that is not written for what it gives is written for nothing

@@ -1,4 +1,4 @@
-use Rattle.std.proofs.Common.{rules, ◌≡◌}
+use Rattle.std.proofs.Common.{rules}
 use Rattle.edf_rows.proofs.CellLemmas.{other-block, refused-block, fault-of}
 use Rattle.edf_rows.proofs.cells.read_own_block.Goals as goal
 

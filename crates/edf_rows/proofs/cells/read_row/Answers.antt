@@ -1,5 +1,5 @@
 use Rattle.std.proofs.Common.{rules, ◌≡◌, ◌∙◌, of_z, w64, pos, sym, ap}
-use Rattle.sqlite_value.specs.declared.value.Value.TheVariants.{Int, Blob}
+use Rattle.sqlite_value.specs.declared.value.Value.TheVariants.{Blob}
 use Rattle.edf_rows.proofs.CellLemmas.{row-of, bad-starts, same-cell}
 use Rattle.edf_rows.proofs.cells.read_row.Goals as goal
 

@@ -1,4 +1,4 @@
-use Rattle.std.proofs.Common.{rules, ◌≡◌}
+use Rattle.std.proofs.Common.{rules}
 use Rattle.edf_rows.proofs.CellLemmas.{within-size}
 use Rattle.edf_rows.proofs.cells.record_of.Goals as goal
 
