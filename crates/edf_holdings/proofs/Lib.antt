@@ -1,0 +1,13 @@
+pub mod Same
+pub mod Members
+pub mod Joining
+pub mod Near
+pub mod Settled
+pub mod Replies
+pub mod Sound
+pub mod Once
+pub mod Free
+pub mod InSets
+pub mod Accepted
+pub mod KeyLists
+pub mod Selected
