@@ -1,11 +1,13 @@
 pub mod AnswerLemmas
 pub mod CommitLemmas
 pub mod CreateLemmas
-pub mod NearLemmas
+pub mod KeepLemmas
+pub mod Queries
 pub mod QueryTexts
-pub mod RangeLemmas
 pub mod ReadLemmas
+pub mod ShownLemmas
+pub mod SortLemmas
 pub mod StepLemmas
+pub mod TermLemmas
 pub mod TextLemmas
-pub mod WalkLemmas
 pub mod WriteLemmas

@@ -8,9 +8,7 @@ use Rattle.sqlite.specs.State.{State, HasCleanDisk, Survives, Shown, FailsToQuer
 use Rattle.sqlite.specs.Clock.{timed}
 use Rattle.sqlite.proofs.StateLemmas.{survives_weaker}
 use Rattle.sqlite.proofs.Callers.{IsPlain, never_commits}
-use Rattle.edf_tables.specs.Schema.{both_schema}
-use Rattle.edf_tables.specs.Row.{IsLeft}
-use Rattle.edf_tables.proofs.WriteLemmas.{left_keeps}
+use Rattle.edf_tables.proofs.KeepLemmas.{IsLeft, left_keeps}
 
 module _ (sql : List ℕ) (params : Row) (old new : State) (plain : IsPlain (understood old.now.schema sql)) where
   pub shown_same : (rows : List Row) → Shown sql params old new rows → IsUnchanged old new
@@ -26,6 +24,10 @@ module _ (sql : List ℕ) (params : Row) (old new : State) (plain : IsPlain (und
   query_left e (inr h) =
       let bare = (subst IsPlain h.1.is plain).0 in
       inl (subst (FailsToShow old new sql h.0 (timed params h.0.formats h.1.now) e) bare h.2).3
+
+  pub query_same : (r : Result (Vec Row Global) Error) → IfOk r (λ rows. Shown sql params old new rows.items) → OnOk r (IsUnchanged old new)
+  query_same (Ok rows) h = shown_same rows.items h
+  query_same (Err e) h = tt
 
   pub query_keeps : (r : Result (Vec Row Global) Error) → IfOk r (λ rows. Shown sql params old new rows.items) → IfErr r (FailsToQuery sql params old new) → KeepsCommit old new
   query_keeps (Ok rows) h f = left_keeps old new (inl (shown_same rows.items h))

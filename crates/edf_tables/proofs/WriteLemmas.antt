@@ -26,7 +26,7 @@ use Rattle.sqlite.specs.Effect.{Database}
 use Rattle.sqlite.specs.State.{State, mode_of, Executes, ExecutesIn, IsNotRun, shows_rows, FailsToQuery, IsUnchanged, IsRolledBack, KeepsCommit, Shows}
 use Rattle.sqlite.proofs.Callers.{statement_of, runs_as, one_step}
 use Rattle.edf_tables.specs.Schema.{recording, records, both_schema}
-use Rattle.edf_tables.specs.Row.{cells, added, HasRecords, HasRecordings, Adds, IsLeft}
+use Rattle.edf_tables.specs.Row.{cells, named_cells, added, new_row, HasRecord, HasRecording, IsInside}
 use Rattle.edf_tables.proofs.TextLemmas.{insert_record_text, insert_record_is, record_terms, insert_recording_text, insert_recording_is, recording_terms}
 
 either : (b : Bool) (x : Value) → cond b x x ≡ x
@@ -52,9 +52,14 @@ same_value e = cc
 apart : ◌≡◌ {A = ℕ} 0 2 → ⊥
 apart e = omega arith
 
-pub record_added : (old new : State) (n start : ℤ) (samples block : List ℕ) (count : ℕ) → old.now.schema ≡ both_schema → Executes insert_record_text (cells n start samples block) old new (Ok count)
-    → HasRecords old new (added (old.now.trees 2) (cells n start samples block))
-record_added old new n start samples block count has h =
+not_taken : (b : Bool) → not b && true ≡ true → b ≡ false
+not_taken true h = absurd (true≢false (sym h))
+not_taken false h = refl
+
+pub record_added : (old new : State) (n start : ℤ) (samples block : List ℕ) (count : ℕ) → IsInside old → Executes insert_record_text (cells n start samples block) old new (Ok count)
+    → HasRecord old new (cells n start samples block)
+record_added old new n start samples block count inside h =
+    let has = inside.schema in
     let params = cells n start samples block in
     let db = old.now.trees in
     let command = Insert 1 (Values record_terms 5) in
@@ -67,53 +72,24 @@ record_added old new n start samples block count has h =
     let counted = went written.2 in
     let trees : done.0.trees ≡ written.0 = ap (λ (it : Written). it.trees) (same_value counted.2) ∙ same_value counted.1 in
     let applied = one_step both_schema _ db written.0 (edit_of db records [] Chosen 0 given.0) refl written.1 in
-    let edit : edited db (edit_of db records [] Chosen 0 given.0) ≡ added (db 2) params = ap (λ all. edited db (edit_of db records [] Chosen 0 all)) given.1.1 ∙ rw (cast_null, cast_int n, cast_int start) in
+    let news : (edit_of db records [] Chosen 0 given.0).news ≡ new_row (db 2) params ∷ [] = ap (λ all. (edit_of db records [] Chosen 0 all).news) given.1.1 ∙ rw (cast_null, cast_int n, cast_int start) in
     record {
       schema = ap (λ (d : Database). d.schema) now;
       recordings = ap (λ (d : Database). d.trees 0) now ∙ ap (λ (t : Trees). t 0) trees ∙ applied.tables.0 apart;
-      records = ap (λ (d : Database). d.trees 2) now ∙ ap (λ (t : Trees). t 2) trees ∙ applied.rows ∙ edit;
-      shown = w.shown;
+      records = ap (λ (d : Database). d.trees 2) now ∙ ap (λ (t : Trees). t 2) trees ∙ applied.rows ∙ ap (λ (n : List Row). edited db (record { table = records; gone = []; news = n })) news;
+      fresh = not_taken _ (subst (λ (xs : List Row). are_fresh (db 2) xs ≡ true) news applied.fresh);
+      shown = subst (λ (b : Bool). Shows old new new.now (cond b old.committed new.now) b) inside.mode w.shown;
     }
 
-pub record_added_if : (old new : State) (n start : ℤ) (samples block : List ℕ) (r : Result ℕ Error) → old.now.schema ≡ both_schema → Executes insert_record_text (cells n start samples block) old new r
-    → OnOk r (HasRecords old new (added (old.now.trees 2) (cells n start samples block)))
-record_added_if old new n start samples block (Ok count) has h = record_added old new n start samples block count has h
-record_added_if old new n start samples block (Err e) has h = tt
+pub record_added_if : (old new : State) (n start : ℤ) (samples block : List ℕ) (r : Result ℕ Error) → IsInside old → Executes insert_record_text (cells n start samples block) old new r
+    → OnOk r (HasRecord old new (cells n start samples block))
+record_added_if old new n start samples block (Ok count) inside h = record_added old new n start samples block count inside h
+record_added_if old new n start samples block (Err e) inside h = tt
 
--- Whatever the text is, a write that is refused leaves the transaction or undoes it.
-pub left_keeps : (old new : State) → IsLeft old new → KeepsCommit old new
-left_keeps old new (inl same) = record { was_open = λ _. same.0.was_open; committed = λ _. same.0.committed_is }
-left_keeps old new (inr undone) = record { was_open = undone.was_open; committed = λ h. (undone.undone h).1 }
-
-refused_left : (sql : List ℕ) (params : Row) (old new : State) (r : Result ℕ Error) → Executes sql params old new r → OnErr r (IsLeft old new)
-unfolding ExecutesIn IsNotRun
-refused_left sql params old new (Ok count) h = tt
-refused_left sql params old new (Err e) (inl (inl h)) = inl h.1
-refused_left sql params old new (Err e) (inl (inr h)) = inr h.3
-refused_left sql params old new (Err e) (inr h) = elim (cases_Bool (shows_rows false h.0)) [
-  | inl shows ↦ inl (rw shows at h.2).1
-  | inr runs ↦ elim (rw runs at h.2) [ inl same ↦ inl same.1 | inr fails ↦ inr fails.3 ]
-]
-
-pub write_refused : (sql : List ℕ) (params : Row) (old new : State) (r : Result ℕ Error) → Executes sql params old new r → OnErr r (KeepsCommit old new)
-write_refused sql params old new (Ok count) h = tt
-write_refused sql params old new (Err e) h = left_keeps old new (refused_left sql params old new (Err e) h)
-
-pub keeps_then : (a b c : State) → KeepsCommit a b → KeepsCommit b c → KeepsCommit a c
-keeps_then a b c p q = record { was_open = λ h. p.was_open (q.was_open h); committed = λ h. q.committed h ∙ p.committed (q.was_open h) }
-
-pub shows_keeps : (old new : State) (now : Database) (mode : Bool) → Shows old new now old.committed mode → KeepsCommit old new
-shows_keeps old new now mode h = record { was_open = λ _. h.was_open; committed = λ _. h.committed_is }
-
-pub undone_keeps : (old new : State) → IsRolledBack old new → KeepsCommit old new
-undone_keeps old new h = left_keeps old new (inr h)
-
-pub same_keeps : (old : State) → KeepsCommit old old
-same_keeps old = record { was_open = λ h. h; committed = λ _. refl }
-
-pub recording_added : (old new : State) (identity : List ℕ) (count : ℕ) → old.now.schema ≡ both_schema → Executes insert_recording_text (Blob identity ∷ []) old new (Ok count)
-    → HasRecordings old new (added (old.now.trees 0) (Null ∷ Blob identity ∷ [])) × (new.last_rowid ≡ next_rowid (old.now.trees 0))
-recording_added old new identity count has h =
+pub recording_added : (old new : State) (identity : List ℕ) (count : ℕ) → IsInside old → Executes insert_recording_text (Blob identity ∷ []) old new (Ok count)
+    → HasRecording old new (named_cells identity) × (new.last_rowid ≡ next_rowid (old.now.trees 0))
+recording_added old new identity count inside h =
+    let has = inside.schema in
     let params = Blob identity ∷ [] in
     let db = old.now.trees in
     let command = Insert 0 (Values recording_terms 3) in
@@ -128,35 +104,13 @@ recording_added old new identity count has h =
     let trees : done.0.trees ≡ written.0 = ap (λ (it : Written). it.trees) (same_value counted.2) ∙ same_value counted.1 in
     let last = ap (λ (p : Tally × Database). p.0.last) told ∙ ap (λ (it : Written). it.last) (same_value counted.2) in
     let applied = one_step both_schema _ db written.0 (edit_of db recording [] Chosen 0 given.0) refl written.1 in
-    let news : (edit_of db recording [] Chosen 0 given.0).news ≡ (Int (next_rowid (db 0)) ∷ Null ∷ Blob identity ∷ []) ∷ [] = ap (λ all. (edit_of db recording [] Chosen 0 all).news) given.1.1 ∙ rw cast_null in (
+    let news : (edit_of db recording [] Chosen 0 given.0).news ≡ new_row (db 0) (named_cells identity) ∷ [] = ap (λ all. (edit_of db recording [] Chosen 0 all).news) given.1.1 ∙ rw cast_null in (
       record {
         schema = ap (λ (d : Database). d.schema) now;
         recordings = ap (λ (d : Database). d.trees 0) now ∙ ap (λ (t : Trees). t 0) trees ∙ applied.rows ∙ ap (λ (n : List Row). edited db (record { table = recording; gone = []; news = n })) news;
+        fresh = not_taken _ (subst (λ (xs : List Row). are_fresh (db 0) xs ≡ true) news applied.fresh);
         records = ap (λ (d : Database). d.trees 2) now ∙ ap (λ (t : Trees). t 2) trees ∙ applied.tables.1.0 (λ e. apart (sym e));
-        shown = w.shown;
+        shown = subst (λ (b : Bool). Shows old new new.now (cond b old.committed new.now) b) inside.mode w.shown;
       },
       w.last_rowid ∙ ap (λ last. unwrap_or last old.last_rowid) (last ∙ ap last_id news),
     )
-
-pub same_left : (old new : State) → IsUnchanged old new → KeepsCommit old new
-same_left old new same = left_keeps old new (inl same)
-
-not_taken : (b : Bool) → not b && true ≡ true → b ≡ false
-not_taken true h = absurd (true≢false (sym h))
-not_taken false h = refl
-
--- the new rowid is one that no row has
-pub record_fresh : (old new : State) (n start : ℤ) (samples block : List ℕ) (count : ℕ) → old.now.schema ≡ both_schema → Executes insert_record_text (cells n start samples block) old new (Ok count)
-    → Adds old new (cells n start samples block)
-record_fresh old new n start samples block count has h =
-    let params = cells n start samples block in
-    let db = old.now.trees in
-    let command = Insert 1 (Values record_terms 5) in
-    let w = runs_as insert_record_text params old new both_schema has command insert_record_is.0 insert_record_is.1 count h in
-    let text = statement_of insert_record_text (understood both_schema insert_record_text) in
-    let done = went (subst (λ s. Does old.step_limit (mode_of old) params (record old.now { schema = s }) text None command (Ok (w.tally, new.now))) has w.changed) in
-    let given = went done.1 in
-    let written = went (went given.2).2 in
-    let applied = one_step both_schema _ db written.0 (edit_of db records [] Chosen 0 given.0) refl written.1 in
-    let news : (edit_of db records [] Chosen 0 given.0).news ≡ (Int (next_rowid (db 2)) ∷ params) ∷ [] = ap (λ all. (edit_of db records [] Chosen 0 all).news) given.1.1 ∙ rw (cast_null, cast_int n, cast_int start) in
-    record { fresh = not_taken _ (subst (λ (xs : List Row). are_fresh (db 2) xs ≡ true) news applied.fresh) }

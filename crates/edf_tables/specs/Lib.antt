@@ -1,7 +1,6 @@
-pub mod Holdings
+pub mod Cells
 pub mod Made
-pub mod Next
-pub mod Query
+pub mod Recordings
+pub mod Records
 pub mod Row
 pub mod Schema
-pub mod Text

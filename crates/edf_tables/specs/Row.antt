@@ -1,49 +1,44 @@
--- Rows of the two tables.
-use Rattle.std.specs.Prelude.{◌≡◌, ℕ, ℤ, Bool, not, false, List, [], ◌∷◌, filter, map, IsPermutation, if◌then◌else◌, ◌⊎◌, IsTrue}
-use Rattle.std.specs.Ordering.{is_eq}
-use Rattle.sqlite.specs.declared.types.Value.{Value}
+-- What a statement that adds a row makes of the tables.
+use Rattle.std.specs.Prelude.{◌≡◌, ℕ, ℤ, false, true, List, [], ◌∷◌, IsTrue}
 use Rattle.sqlite.specs.declared.types.Value.TheVariants.{Null, Int, Blob}
 use Rattle.sqlite.specs.Order.{Row}
-use Rattle.sqlite.specs.Tree.{Trees}
 use Rattle.sqlite_trees.specs.Tree.{put_row}
 use Rattle.sqlite_rules.specs.Edit.{next_rowid, is_taken}
-use Rattle.sqlite.specs.State.{State, Shows, IsUnchanged, IsRolledBack}
+use Rattle.sqlite.specs.State.{State, Shows}
 use Rattle.edf_tables.specs.Schema.{both_schema}
+
+-- the cells with the rowid that is taken for a new row
+abbrev pub new_row : List Row → Row → Row
+new_row rows cells = Int (next_rowid rows) ∷ cells
+
+abbrev pub added : List Row → Row → List Row
+added rows cells = put_row (new_row rows cells) rows
 
 -- what is bound for a record, in the order of the columns
 abbrev pub cells : ℤ → ℤ → List ℕ → List ℕ → Row
 cells recording start samples block = Int recording ∷ Int start ∷ Blob samples ∷ Blob block ∷ []
 
--- a row with the next rowid
-abbrev pub added : List Row → Row → List Row
-added rows cells = put_row (Int (next_rowid rows) ∷ cells) rows
-
--- what INSERT makes of the records
-pub record Adds (old new : State) (cells : Row) : Type 0 where
-  pub fresh : is_taken (old.now.trees 2) (Int (next_rowid (old.now.trees 2)) ∷ cells) ≡ false
-
--- the records are these, and nothing else of the two tables is changed
-pub record HasRecords (old new : State) (rows : List Row) : Type 0 where
-  pub schema : new.now.schema ≡ both_schema
-  pub recordings : new.now.trees 0 ≡ old.now.trees 0
-  pub records : new.now.trees 2 ≡ rows
-  pub shown : Shows old new new.now (if old.in_transaction then old.committed else new.now) old.in_transaction
-
-abbrev pub range_cells : ℤ → ℤ → ℤ → Row
-range_cells recording after before = Int recording ∷ Int after ∷ Int before ∷ []
-
--- a call that is refused changes nothing, or the transaction is undone
-abbrev pub IsLeft : State → State → Type 0
-IsLeft old new = IsUnchanged old new ⊎ IsRolledBack old new
+-- and for a recording, whose id is the rowid
+abbrev pub named_cells : List ℕ → Row
+named_cells identity = Null ∷ Blob identity ∷ []
 
 -- the tables stand, and a transaction is open
 pub record IsInside (s : State) : Type 0 where
   pub schema : s.now.schema ≡ both_schema
   pub mode : IsTrue s.in_transaction
 
--- the recordings are these, and nothing else of the two tables is changed
-pub record HasRecordings (old new : State) (rows : List Row) : Type 0 where
+-- in the transaction there is one record more, and all else is as it was
+pub record HasRecord (old new : State) (cells : Row) : Type 0 where
   pub schema : new.now.schema ≡ both_schema
-  pub recordings : new.now.trees 0 ≡ rows
+  pub recordings : new.now.trees 0 ≡ old.now.trees 0
+  pub records : new.now.trees 2 ≡ added (old.now.trees 2) cells
+  pub fresh : is_taken (old.now.trees 2) (new_row (old.now.trees 2) cells) ≡ false
+  pub shown : Shows old new new.now old.committed true
+
+-- in the transaction there is one recording more, and all else is as it was
+pub record HasRecording (old new : State) (cells : Row) : Type 0 where
+  pub schema : new.now.schema ≡ both_schema
+  pub recordings : new.now.trees 0 ≡ added (old.now.trees 0) cells
+  pub fresh : is_taken (old.now.trees 0) (new_row (old.now.trees 0) cells) ≡ false
   pub records : new.now.trees 2 ≡ old.now.trees 2
-  pub shown : Shows old new new.now (if old.in_transaction then old.committed else new.now) old.in_transaction
+  pub shown : Shows old new new.now old.committed true

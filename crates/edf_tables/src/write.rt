@@ -1,11 +1,10 @@
 //! One row more.
 
-ghost use Rattle.std.specs.Prelude.{◌≡◌, ◌∷◌, [], OnOk, OnErr, IfOk};
+ghost use Rattle.std.specs.Prelude.{◌≡◌, OnOk, OnErr, IfOk};
 ghost use Rattle.sqlite.specs.Held.{state};
 ghost use Rattle.sqlite.specs.State.{HasCleanDisk, Survives, KeepsCommit};
-ghost use Rattle.sqlite.specs.declared.types.Value.TheVariants.{Null, Blob};
 ghost use Rattle.sqlite_rules.specs.Edit.{next_rowid};
-ghost use Rattle.edf_tables.specs.Row.{cells, added, HasRecords, HasRecordings, IsInside};
+ghost use Rattle.edf_tables.specs.Row.{cells, named_cells, HasRecord, HasRecording, IsInside};
 
 use sqlite::{Alter, Connection, Error, params};
 
@@ -15,7 +14,7 @@ use sqlite::{Alter, Connection, Error, params};
 /// `sqlite`'s, also where the identity is there; what is committed stays, and the transaction may be undone.
 pub fn insert_recording<S: Alter>(conn: &mut Connection<S>, identity: &[u8]) -> Result<i64, Error>
     requires { HasCleanDisk (state S.Store conn.old) → IsInside (state S.Store conn.old) }
-    ensures added { HasCleanDisk (state S.Store conn.new) → IfOk result (λ id. HasRecordings (state S.Store conn.old) (state S.Store conn.new) (added ((state S.Store conn.old).now.trees 0) (Null ∷ Blob identity.now ∷ [])) × (id ≡ next_rowid ((state S.Store conn.old).now.trees 0))) }
+    ensures added { HasCleanDisk (state S.Store conn.new) → IfOk result (λ id. HasRecording (state S.Store conn.old) (state S.Store conn.new) (named_cells identity.now) × (id ≡ next_rowid ((state S.Store conn.old).now.trees 0))) }
     ensures refused { HasCleanDisk (state S.Store conn.new) → OnErr result (KeepsCommit (state S.Store conn.old) (state S.Store conn.new)) }
     ensures survives { Survives (state S.Store conn.old) (state S.Store conn.new) (λ _. ⊥) }
 {
@@ -40,7 +39,7 @@ pub fn insert_record<S: Alter>(
     block: &[u8],
 ) -> Result<usize, Error>
     requires { HasCleanDisk (state S.Store conn.old) → IsInside (state S.Store conn.old) }
-    ensures added { HasCleanDisk (state S.Store conn.new) → OnOk result (HasRecords (state S.Store conn.old) (state S.Store conn.new) (added ((state S.Store conn.old).now.trees 2) (cells recording start samples.now block.now))) }
+    ensures added { HasCleanDisk (state S.Store conn.new) → OnOk result (HasRecord (state S.Store conn.old) (state S.Store conn.new) (cells recording start samples.now block.now)) }
     ensures refused { HasCleanDisk (state S.Store conn.new) → OnErr result (KeepsCommit (state S.Store conn.old) (state S.Store conn.new)) }
     ensures survives { Survives (state S.Store conn.old) (state S.Store conn.new) (λ _. ⊥) }
 {

@@ -2,7 +2,7 @@ use Rattle.std.proofs.Common.{[], arith}
 use Rattle.sqlite.specs.Held.{state}
 use Rattle.sqlite.proofs.StateLemmas.{survives_weaker}
 use Rattle.edf_tables.proofs.CreateLemmas.{first_if, first_crash}
-use Rattle.edf_tables.proofs.WriteLemmas.{write_refused}
+use Rattle.edf_tables.proofs.KeepLemmas.{write_refused}
 use Rattle.edf_tables.proofs.create.create_recording.Goals as goal
 
 pub returns-clause-made : goal.returns-clause-made

@@ -1,6 +1,6 @@
 use Rattle.sqlite.specs.Held.{state}
 use Rattle.edf_tables.proofs.CommitLemmas.{committed, commit_survives}
-use Rattle.edf_tables.proofs.WriteLemmas.{write_refused}
+use Rattle.edf_tables.proofs.KeepLemmas.{write_refused}
 use Rattle.edf_tables.proofs.transaction.commit.Goals as goal
 
 pub returns-in-Ok-clause-committed : goal.returns-in-Ok-clause-committed

@@ -1,6 +1,6 @@
 use Rattle.sqlite.specs.Held.{state}
 use Rattle.edf_tables.proofs.CommitLemmas.{rolled_back, rollback_survives}
-use Rattle.edf_tables.proofs.WriteLemmas.{write_refused, undone_keeps}
+use Rattle.edf_tables.proofs.KeepLemmas.{write_refused, undone_keeps}
 use Rattle.edf_tables.proofs.transaction.roll_back.Goals as goal
 
 pub returns-in-Ok-clause-undone : goal.returns-in-Ok-clause-undone

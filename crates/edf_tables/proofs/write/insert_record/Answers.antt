@@ -5,12 +5,13 @@ use Rattle.sqlite.specs.Held.{state}
 use Rattle.edf_tables.specs.Row.{cells}
 use Rattle.edf_tables.proofs.TextLemmas.{insert_record_text, insert_record_is}
 use Rattle.edf_tables.proofs.CommitLemmas.{insert_survives}
-use Rattle.edf_tables.proofs.WriteLemmas.{record_added_if, write_refused}
+use Rattle.edf_tables.proofs.KeepLemmas.{write_refused}
+use Rattle.edf_tables.proofs.WriteLemmas.{record_added_if}
 use Rattle.edf_tables.proofs.write.insert_record.Goals as goal
 
 pub returns-clause-added : goal.returns-clause-added
 returns-clause-added g c clean =
-    record_added_if (state g.S.Store c.args.conn.now) (state g.S.Store c.execute.new.self) c.args.recording c.args.start c.args.samples.now c.args.block.now c.execute.result (c.requires (omega (arith, c.execute.ensures.survives.clean))).schema
+    record_added_if (state g.S.Store c.args.conn.now) (state g.S.Store c.execute.new.self) c.args.recording c.args.start c.args.samples.now c.args.block.now c.execute.result (c.requires (omega (arith, c.execute.ensures.survives.clean)))
     (rw (c.params-to_sql.ensures ∙ ap Int (to_z-of_z w64 c.args.recording c.ranges.recording), c.params-to_sql-2.ensures ∙ ap Int (to_z-of_z w64 c.args.start c.ranges.start), c.params-to_sql-3.ensures, c.params-to_sql-4.ensures) at (c.execute.ensures.runs clean))
 
 pub returns-clause-refused : goal.returns-clause-refused

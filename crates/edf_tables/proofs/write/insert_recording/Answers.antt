@@ -4,12 +4,13 @@ use Rattle.std.proofs.lemmas.Int.{to_z-of_z}
 use Rattle.sqlite.specs.Held.{state}
 use Rattle.edf_tables.proofs.TextLemmas.{insert_recording_text, insert_recording_is}
 use Rattle.edf_tables.proofs.CommitLemmas.{insert_survives}
-use Rattle.edf_tables.proofs.WriteLemmas.{recording_added, write_refused}
+use Rattle.edf_tables.proofs.KeepLemmas.{write_refused}
+use Rattle.edf_tables.proofs.WriteLemmas.{recording_added}
 use Rattle.edf_tables.proofs.write.insert_recording.Goals as goal
 
 pub returns-in-Ok-clause-added : goal.returns-in-Ok-clause-added
 returns-in-Ok-clause-added g c clean =
-    let all = recording_added (state g.S.Store c.args.conn.now) (state g.S.Store c.execute.new.self) c.args.identity.now _ (c.requires (omega (arith, c.execute.ensures.survives.clean))).schema (rw c.params-to_sql.ensures at (c.in-Ok.ensures.runs clean)) in
+    let all = recording_added (state g.S.Store c.args.conn.now) (state g.S.Store c.execute.new.self) c.args.identity.now _ (c.requires (omega (arith, c.execute.ensures.survives.clean))) (rw c.params-to_sql.ensures at (c.in-Ok.ensures.runs clean)) in
     let fits = c.last_insert_rowid.type_inv in
     (all.0, to_z-of_z w64 c.last_insert_rowid.result (record { sfits = fits }) ∙ c.last_insert_rowid.ensures ∙ all.1)
 

@@ -1,0 +1,14 @@
+use Rattle.std.proofs.Common.{◌≡◌, ap, ◌∙◌, w64, arith}
+use Rattle.std.proofs.lemmas.Int.{to_z-of_z}
+use Rattle.sqlite.specs.declared.types.Value.TheVariants.{Int}
+use Rattle.sqlite.specs.Held.{state}
+use Rattle.sqlite_exec.proofs.MarkLemmas.{if_ok_then}
+use Rattle.edf_tables.proofs.QueryTexts.{count_all_text, count_all_is}
+use Rattle.edf_tables.proofs.ShownLemmas.{plain_at, count_all_shown}
+use Rattle.edf_tables.proofs.list.count_all_rows.Goals as goal
+
+pub rows_shown-requires : goal.rows_shown-requires
+rows_shown-requires g c clean = plain_at count_all_text _ _ count_all_is (state g.S.Store c.args.conn.now) (c.requires.schema clean)
+
+pub returns-in-Ok-clause-count : goal.returns-in-Ok-clause-count
+returns-in-Ok-clause-count g c clean = if_ok_then c.first_count.result c.first_count.ensures (λ found e. count_all_shown found (state g.S.Store c.args.conn.now) (state g.S.Store c.rows_shown.new.conn) c.in-Ok.rows.items (c.requires.schema (omega (arith, c.rows_shown.ensures.survives.clean))) (c.in-Ok.ensures.shown clean) e)

@@ -1,0 +1,12 @@
+use Rattle.std.proofs.Common.{arith}
+use Rattle.sqlite.specs.Held.{state}
+use Rattle.sqlite_exec.proofs.MarkLemmas.{if_ok_then}
+use Rattle.edf_tables.proofs.QueryTexts.{recordings_text, recordings_is}
+use Rattle.edf_tables.proofs.ShownLemmas.{plain_at, recordings_shown}
+use Rattle.edf_tables.proofs.list.recordings.Goals as goal
+
+pub rows_shown-requires : goal.rows_shown-requires
+rows_shown-requires g c clean = plain_at recordings_text _ _ recordings_is (state g.S.Store c.args.conn.now) (c.requires.schema clean)
+
+pub returns-clause-listed : goal.returns-clause-listed
+returns-clause-listed g c clean = if_ok_then c.rows_shown.result (c.rows_shown.ensures.shown clean) (λ rows h. recordings_shown (state g.S.Store c.args.conn.now) (state g.S.Store c.rows_shown.new.conn) rows.items (c.requires.schema (omega (arith, c.rows_shown.ensures.survives.clean))) h)

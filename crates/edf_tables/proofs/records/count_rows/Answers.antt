@@ -1,0 +1,14 @@
+use Rattle.std.proofs.Common.{◌≡◌, ap, ◌∙◌, w64, arith}
+use Rattle.std.proofs.lemmas.Int.{to_z-of_z}
+use Rattle.sqlite.specs.declared.types.Value.TheVariants.{Int}
+use Rattle.sqlite.specs.Held.{state}
+use Rattle.sqlite_exec.proofs.MarkLemmas.{if_ok_then}
+use Rattle.edf_tables.proofs.QueryTexts.{count_text, count_is}
+use Rattle.edf_tables.proofs.ShownLemmas.{plain_at, count_shown}
+use Rattle.edf_tables.proofs.records.count_rows.Goals as goal
+
+pub rows_shown-requires : goal.rows_shown-requires
+rows_shown-requires g c clean = plain_at count_text _ _ count_is (state g.S.Store c.args.conn.now) (c.requires.schema clean)
+
+pub returns-in-Ok-clause-count : goal.returns-in-Ok-clause-count
+returns-in-Ok-clause-count g c clean = if_ok_then c.first_count.result c.first_count.ensures (λ found e. count_shown c.args.recording found (state g.S.Store c.args.conn.now) (state g.S.Store c.rows_shown.new.conn) c.in-Ok.rows.items (c.requires.schema (omega (arith, c.rows_shown.ensures.survives.clean))) (rw (c.params-to_sql.ensures ∙ ap Int (to_z-of_z w64 c.args.recording c.ranges.recording)) at (c.in-Ok.ensures.shown clean)) e)

@@ -1,0 +1,42 @@
+-- The rows of the table `record`, by recording and start.
+use Rattle.std.specs.Prelude.{◌≡◌, ◌&&◌, ℕ, ℤ, Bool, List, [], ◌∷◌, filter}
+use Rattle.std.specs.declared.cmp.Ordering.{Ordering}
+use Rattle.std.specs.declared.cmp.Ordering.TheVariants.{Less}
+use Rattle.std.specs.Ordering.{is_eq, is_lt, is_gt}
+use Rattle.sqlite.specs.declared.types.Value.TheVariants.{Int}
+use Rattle.sqlite.specs.Order.{Row}
+use Rattle.sqlite.specs.State.{State}
+use Rattle.sqlite_value.specs.Order.{column, value_cmp}
+use Rattle.sqlite_trees.specs.Tree.{IsAscending}
+use Rattle.sqlite_keyed.specs.Lists.{sort_by}
+use Rattle.edf_tables.specs.Schema.{both_schema}
+
+abbrev pub by_column : ℕ → Row → Row → Ordering
+by_column at a b = value_cmp (column a at) (column b at)
+
+-- the row is of this recording
+abbrev pub is_of : ℤ → Row → Bool
+is_of n row = is_eq (value_cmp (column row 1) (Int n))
+
+-- the rows of a recording, by their starts
+abbrev pub records_of : ℤ → List Row → List Row
+records_of n rows = sort_by (by_column 2) (filter (is_of n) rows)
+
+-- each starts after the one before it
+abbrev pub IsRising : List Row → Type 0
+IsRising = IsAscending (λ a b. by_column 2 a b ≡ Less)
+
+abbrev pub starts_after : ℤ → Row → Bool
+starts_after after row = is_gt (value_cmp (column row 2) (Int after))
+
+abbrev pub starts_between : ℤ → ℤ → Row → Bool
+starts_between after before row = starts_after after row && is_lt (value_cmp (column row 2) (Int before))
+
+-- start, samples and block
+abbrev pub record_cells : Row → Row
+record_cells row = column row 2 ∷ column row 3 ∷ column row 4 ∷ []
+
+-- the tables stand, and no two records of this recording start together
+pub record IsReady (recording : ℤ) (s : State) : Type 0 where
+  pub schema : s.now.schema ≡ both_schema
+  pub rising : IsRising (records_of recording (s.now.trees 2))

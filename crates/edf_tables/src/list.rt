@@ -1,0 +1,91 @@
+//! All recordings.
+
+ghost use Rattle.std.specs.Prelude.{◌≡◌, OnOk, IfOk, IsPermutation, length, map, min};
+ghost use Rattle.sqlite.specs.Held.{state};
+ghost use Rattle.sqlite.specs.State.{HasCleanDisk, Survives, KeepsCommit, IsUnchanged};
+ghost use Rattle.sqlite.specs.declared.types.Value.TheVariants.{Blob};
+ghost use Rattle.sqlite_value.specs.Order.{column};
+ghost use Rattle.edf_tables.specs.Schema.{both_schema};
+ghost use Rattle.edf_tables.specs.Recordings.{AreNamedApart, IsIdIn, by_identity, named, recording_cells};
+
+use crate::query::rows_shown;
+use crate::row::{first_count, first_number, identities_in};
+use sqlite::{Alter, Connection, Error, Row, params};
+
+/// The id of a recording with this identity.
+///
+/// # Errors
+/// `sqlite`'s, and that of a cell of another type; what is committed stays.
+pub fn select_recording<S: Alter>(
+    conn: &mut Connection<S>,
+    identity: &[u8],
+) -> Result<Option<i64>, Error>
+    requires schema { HasCleanDisk (state S.Store conn.old) → (state S.Store conn.old).now.schema ≡ both_schema }
+    ensures id { HasCleanDisk (state S.Store conn.new) → IfOk result (IsIdIn (named identity.now ((state S.Store conn.old).now.trees 0))) }
+    ensures same { HasCleanDisk (state S.Store conn.new) → OnOk result (IsUnchanged (state S.Store conn.old) (state S.Store conn.new)) }
+    ensures kept { HasCleanDisk (state S.Store conn.new) → KeepsCommit (state S.Store conn.old) (state S.Store conn.new) }
+    ensures survives { Survives (state S.Store conn.old) (state S.Store conn.new) (λ _. ⊥) }
+{
+    match rows_shown(
+        conn,
+        "SELECT id FROM recording WHERE identity = ?1",
+        params![identity],
+    ) {
+        Ok(rows) => first_number(rows),
+        Err(error) => Err(error),
+    }
+}
+
+/// The identities of all recordings, by their bytes.
+///
+/// # Errors
+/// `sqlite`'s, and that of a cell of another type; what is committed stays.
+pub fn identities<S: Alter>(conn: &mut Connection<S>) -> Result<Vec<Vec<u8>>, Error>
+    requires apart { HasCleanDisk (state S.Store conn.old) → AreNamedApart (state S.Store conn.old) }
+    ensures identities { HasCleanDisk (state S.Store conn.new) → IfOk result (λ all. map (λ b. Blob b.items) all.items ≡ map (λ row. column row 2) (by_identity ((state S.Store conn.old).now.trees 0))) }
+    ensures same { HasCleanDisk (state S.Store conn.new) → OnOk result (IsUnchanged (state S.Store conn.old) (state S.Store conn.new)) }
+    ensures kept { HasCleanDisk (state S.Store conn.new) → KeepsCommit (state S.Store conn.old) (state S.Store conn.new) }
+    ensures survives { Survives (state S.Store conn.old) (state S.Store conn.new) (λ _. ⊥) }
+{
+    match rows_shown(
+        conn,
+        "SELECT identity FROM recording ORDER BY identity",
+        &[],
+    ) {
+        Ok(rows) => identities_in(rows),
+        Err(error) => Err(error),
+    }
+}
+
+/// The id and the identity of all recordings, as they stand, also where a cell has another type.
+///
+/// They come by their ids; without ORDER BY they would come in the order of the index of identities.
+///
+/// # Errors
+/// `sqlite`'s, and that of a cell of another type; what is committed stays.
+pub fn recordings<S: Alter>(conn: &mut Connection<S>) -> Result<Vec<Row>, Error>
+    requires schema { HasCleanDisk (state S.Store conn.old) → (state S.Store conn.old).now.schema ≡ both_schema }
+    ensures listed { HasCleanDisk (state S.Store conn.new) → IfOk result (λ rows. IsPermutation (map recording_cells ((state S.Store conn.old).now.trees 0)) rows.items) }
+    ensures same { HasCleanDisk (state S.Store conn.new) → OnOk result (IsUnchanged (state S.Store conn.old) (state S.Store conn.new)) }
+    ensures kept { HasCleanDisk (state S.Store conn.new) → KeepsCommit (state S.Store conn.old) (state S.Store conn.new) }
+    ensures survives { Survives (state S.Store conn.old) (state S.Store conn.new) (λ _. ⊥) }
+{
+    rows_shown(conn, "SELECT id, identity FROM recording ORDER BY id", &[])
+}
+
+/// The number of records of all recordings, and of those that have none; 2^63 - 1 where there are more.
+///
+/// # Errors
+/// `sqlite`'s, and that of a cell of another type; what is committed stays.
+pub fn count_all_rows<S: Alter>(conn: &mut Connection<S>) -> Result<u64, Error>
+    requires schema { HasCleanDisk (state S.Store conn.old) → (state S.Store conn.old).now.schema ≡ both_schema }
+    ensures count { HasCleanDisk (state S.Store conn.new) → IfOk result (λ count. count ≡ min (length ((state S.Store conn.old).now.trees 2)) 9223372036854775807) }
+    ensures same { HasCleanDisk (state S.Store conn.new) → OnOk result (IsUnchanged (state S.Store conn.old) (state S.Store conn.new)) }
+    ensures kept { HasCleanDisk (state S.Store conn.new) → KeepsCommit (state S.Store conn.old) (state S.Store conn.new) }
+    ensures survives { Survives (state S.Store conn.old) (state S.Store conn.new) (λ _. ⊥) }
+{
+    match rows_shown(conn, "SELECT count(*) FROM record", &[]) {
+        Ok(rows) => first_count(rows),
+        Err(error) => Err(error),
+    }
+}

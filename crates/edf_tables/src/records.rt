@@ -1,0 +1,130 @@
+//! The records of one recording.
+
+ghost use Rattle.std.specs.Prelude.{◌≡◌, OnOk, IfOk, filter, length, map, min, reverse, slice_get, take};
+ghost use Rattle.std.specs.Option.{option_map};
+ghost use Rattle.sqlite.specs.Held.{state};
+ghost use Rattle.sqlite.specs.State.{HasCleanDisk, Survives, KeepsCommit, IsUnchanged};
+ghost use Rattle.sqlite.specs.declared.types.Value.TheVariants.{Int};
+ghost use Rattle.sqlite_value.specs.Order.{column};
+ghost use Rattle.edf_tables.specs.Schema.{both_schema};
+ghost use Rattle.edf_tables.specs.Cells.{cells_of};
+ghost use Rattle.edf_tables.specs.Records.{IsReady, records_of, record_cells, starts_after, starts_between};
+
+use crate::query::rows_shown;
+use crate::row::{RecordRow, first_count, first_number, record_rows};
+use sqlite::{Alter, Connection, Error, params};
+
+/// The records of a recording that start after one instant and before another, by their starts.
+///
+/// # Errors
+/// `sqlite`'s, and that of a cell of another type; what is committed stays.
+pub fn near_rows<S: Alter>(
+    conn: &mut Connection<S>,
+    recording: i64,
+    after: i64,
+    before: i64,
+) -> Result<Vec<RecordRow>, Error>
+    requires ready { HasCleanDisk (state S.Store conn.old) → IsReady recording (state S.Store conn.old) }
+    ensures near { HasCleanDisk (state S.Store conn.new) → IfOk result (λ rows. map cells_of rows.items ≡ map record_cells (filter (starts_between after before) (records_of recording ((state S.Store conn.old).now.trees 2)))) }
+    ensures same { HasCleanDisk (state S.Store conn.new) → OnOk result (IsUnchanged (state S.Store conn.old) (state S.Store conn.new)) }
+    ensures kept { HasCleanDisk (state S.Store conn.new) → KeepsCommit (state S.Store conn.old) (state S.Store conn.new) }
+    ensures survives { Survives (state S.Store conn.old) (state S.Store conn.new) (λ _. ⊥) }
+{
+    match rows_shown(
+        conn,
+        "SELECT start, samples, block FROM record WHERE recording = ?1 AND start > ?2 AND start < ?3 ORDER BY start",
+        params![recording, after, before],
+    ) {
+        Ok(rows) => record_rows(rows),
+        Err(error) => Err(error),
+    }
+}
+
+/// The first `limit` records of a recording that start after an instant, by their starts.
+///
+/// # Errors
+/// `sqlite`'s, and that of a cell of another type; what is committed stays.
+pub fn page_rows<S: Alter>(
+    conn: &mut Connection<S>,
+    recording: i64,
+    after: i64,
+    limit: u32,
+) -> Result<Vec<RecordRow>, Error>
+    requires ready { HasCleanDisk (state S.Store conn.old) → IsReady recording (state S.Store conn.old) }
+    ensures page { HasCleanDisk (state S.Store conn.new) → IfOk result (λ rows. map cells_of rows.items ≡ map record_cells (take limit (filter (starts_after after) (records_of recording ((state S.Store conn.old).now.trees 2))))) }
+    ensures same { HasCleanDisk (state S.Store conn.new) → OnOk result (IsUnchanged (state S.Store conn.old) (state S.Store conn.new)) }
+    ensures kept { HasCleanDisk (state S.Store conn.new) → KeepsCommit (state S.Store conn.old) (state S.Store conn.new) }
+    ensures survives { Survives (state S.Store conn.old) (state S.Store conn.new) (λ _. ⊥) }
+{
+    match rows_shown(
+        conn,
+        "SELECT start, samples, block FROM record WHERE recording = ?1 AND start > ?2 ORDER BY start LIMIT ?3",
+        params![recording, after, limit],
+    ) {
+        Ok(rows) => record_rows(rows),
+        Err(error) => Err(error),
+    }
+}
+
+/// The number of records of a recording, 2^63 - 1 where there are more.
+///
+/// # Errors
+/// `sqlite`'s, and that of a cell of another type; what is committed stays.
+pub fn count_rows<S: Alter>(conn: &mut Connection<S>, recording: i64) -> Result<u64, Error>
+    requires schema { HasCleanDisk (state S.Store conn.old) → (state S.Store conn.old).now.schema ≡ both_schema }
+    ensures count { HasCleanDisk (state S.Store conn.new) → IfOk result (λ count. count ≡ min (length (records_of recording ((state S.Store conn.old).now.trees 2))) 9223372036854775807) }
+    ensures same { HasCleanDisk (state S.Store conn.new) → OnOk result (IsUnchanged (state S.Store conn.old) (state S.Store conn.new)) }
+    ensures kept { HasCleanDisk (state S.Store conn.new) → KeepsCommit (state S.Store conn.old) (state S.Store conn.new) }
+    ensures survives { Survives (state S.Store conn.old) (state S.Store conn.new) (λ _. ⊥) }
+{
+    match rows_shown(
+        conn,
+        "SELECT count(*) FROM record WHERE recording = ?1",
+        params![recording],
+    ) {
+        Ok(rows) => first_count(rows),
+        Err(error) => Err(error),
+    }
+}
+
+/// The first start of a recording's records.
+///
+/// # Errors
+/// `sqlite`'s, and that of a cell of another type; what is committed stays.
+pub fn first_start<S: Alter>(conn: &mut Connection<S>, recording: i64) -> Result<Option<i64>, Error>
+    requires ready { HasCleanDisk (state S.Store conn.old) → IsReady recording (state S.Store conn.old) }
+    ensures first { HasCleanDisk (state S.Store conn.new) → IfOk result (λ start. option_map Int start ≡ option_map (λ row. column row 2) (slice_get (records_of recording ((state S.Store conn.old).now.trees 2)) 0)) }
+    ensures same { HasCleanDisk (state S.Store conn.new) → OnOk result (IsUnchanged (state S.Store conn.old) (state S.Store conn.new)) }
+    ensures kept { HasCleanDisk (state S.Store conn.new) → KeepsCommit (state S.Store conn.old) (state S.Store conn.new) }
+    ensures survives { Survives (state S.Store conn.old) (state S.Store conn.new) (λ _. ⊥) }
+{
+    match rows_shown(
+        conn,
+        "SELECT start FROM record WHERE recording = ?1 ORDER BY start LIMIT 1",
+        params![recording],
+    ) {
+        Ok(rows) => first_number(rows),
+        Err(error) => Err(error),
+    }
+}
+
+/// The last start of a recording's records.
+///
+/// # Errors
+/// `sqlite`'s, and that of a cell of another type; what is committed stays.
+pub fn last_start<S: Alter>(conn: &mut Connection<S>, recording: i64) -> Result<Option<i64>, Error>
+    requires ready { HasCleanDisk (state S.Store conn.old) → IsReady recording (state S.Store conn.old) }
+    ensures last { HasCleanDisk (state S.Store conn.new) → IfOk result (λ start. option_map Int start ≡ option_map (λ row. column row 2) (slice_get (reverse (records_of recording ((state S.Store conn.old).now.trees 2))) 0)) }
+    ensures same { HasCleanDisk (state S.Store conn.new) → OnOk result (IsUnchanged (state S.Store conn.old) (state S.Store conn.new)) }
+    ensures kept { HasCleanDisk (state S.Store conn.new) → KeepsCommit (state S.Store conn.old) (state S.Store conn.new) }
+    ensures survives { Survives (state S.Store conn.old) (state S.Store conn.new) (λ _. ⊥) }
+{
+    match rows_shown(
+        conn,
+        "SELECT start FROM record WHERE recording = ?1 ORDER BY start DESC LIMIT 1",
+        params![recording],
+    ) {
+        Ok(rows) => first_number(rows),
+        Err(error) => Err(error),
+    }
+}

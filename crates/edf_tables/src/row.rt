@@ -1,0 +1,70 @@
+//! Rows of SQL values as typed values.
+
+ghost use Rattle.std.specs.Prelude.{◌≡◌, ◌∷◌, [], pos, ℕ, List, Some, IfOk, map, slice_get};
+ghost use Rattle.std.specs.Option.{option_map};
+ghost use Rattle.sqlite.specs.declared.types.Value.TheVariants.{Int, Blob};
+ghost use Rattle.sqlite_value.specs.Order.{column};
+ghost use Rattle.edf_tables.specs.Cells.{cells_of, first_three};
+
+use sqlite::{Error, Row};
+
+/// A row of the table `record`, without its recording.
+#[derive(Debug, PartialEq, Eq, Drop)]
+pub struct RecordRow {
+    pub start: i64,
+    pub samples: Vec<u8>,
+    pub block: Vec<u8>,
+}
+
+fn record_row(row: &Row) -> Result<RecordRow, Error>
+    ensures { IfOk result (λ r. cells_of r ≡ first_three row.now) }
+{
+    Ok(RecordRow {
+        start: row.get(0)?,
+        samples: row.get(1)?,
+        block: row.get(2)?,
+    })
+}
+
+pub(crate) fn record_rows(rows: Vec<Row>) -> Result<Vec<RecordRow>, Error>
+    ensures { IfOk result (λ found. map cells_of found.items ≡ map first_three rows.items) }
+{
+    let mut found = Vec::new(*rows.allocator());
+    for row in &rows {
+        found.push(record_row(row)?)?;
+    }
+    Ok(found)
+}
+
+pub(crate) fn identities_in(rows: Vec<Row>) -> Result<Vec<Vec<u8>>, Error>
+    ensures { IfOk result (λ found. map (λ b. Blob b.items) found.items ≡ map (λ row. column row 0) rows.items) }
+{
+    let mut found: Vec<Vec<u8>> = Vec::new(*rows.allocator());
+    for row in &rows {
+        found.push(row.get(0)?)?;
+    }
+    Ok(found)
+}
+
+/// The number in the first column of the first row, if there is a row.
+pub(crate) fn first_number(rows: Vec<Row>) -> Result<Option<i64>, Error>
+    ensures { IfOk result (λ found. option_map Int found ≡ option_map (λ row. column row 0) (slice_get rows.items 0)) }
+{
+    match rows.first() {
+        Some(row) => match row.get(0) {
+            Ok(number) => Ok(Some(number)),
+            Err(error) => Err(error),
+        },
+        None => Ok(None),
+    }
+}
+
+/// The count in the first column of the first row.
+pub(crate) fn first_count(rows: Vec<Row>) -> Result<u64, Error>
+    ensures { IfOk result (λ found. option_map (λ row. column row 0) (slice_get rows.items 0) ≡ Some (Int (pos found))) }
+{
+    match rows.first() {
+        Some(row) => row.get(0),
+        None => Err(Error::QueryReturnedNoRows),
+    }
+}
