@@ -1,7 +1,7 @@
 -- Rows whose recordings each have sound records stand for holdings.
-use Rattle.std.proofs.Common.{◌≡◌, ◌≢◌, ℕ, ◌+◌, ◌<◌, ◌≤◌, ◌⊎◌, inl, inr, ℤ, Bool, true, false, cond, List, [], ◌∷◌, map, length, Contains, All, IsPermutation, refl, sym, ap, subst, ◌∙◌, arith, true≢false}
+use Rattle.std.proofs.Common.{◌≡◌, ◌≢◌, ℕ, ◌+◌, ◌≤◌, ◌⊎◌, inl, inr, ℤ, Bool, true, false, cond, List, [], ◌∷◌, map, length, Contains, All, IsPermutation, refl, sym, ap, subst, ◌∙◌, arith, true≢false}
 use Rattle.std.specs.List.{AllByRecursion}
-use Rattle.std.proofs.lemmas.List.Elements.{All-from_recursion, recursion_from_All}
+use Rattle.std.proofs.lemmas.List.Elements.{All-from_recursion}
 use Rattle.std.proofs.lemmas.List.Sorted.{IsPermutation-cons, IsPermutation-trans, IsPermutation-sym, IsPermutation-middle, IsPermutation-refl}
 use Rattle.sqlite_value.specs.Order.{Row, column}
 use Rattle.sqlite_trees.specs.Tree.{Trees}
@@ -9,15 +9,14 @@ use Rattle.edf_header.specs.Number.{duration_of}
 use Rattle.edf_header.specs.Key.{Key, IsKey}
 use Rattle.edf_fragment.specs.Fragment.{DataRecord}
 use Rattle.edf_holdings.specs.Same.{same_key}
-use Rattle.edf_holdings.specs.Clash.{NoClash, Clash}
-use Rattle.edf_holdings.specs.Rising.{IsRising, IsApart}
+use Rattle.edf_holdings.specs.Clash.{NoClash}
+use Rattle.edf_holdings.specs.Rising.{IsRising}
 use Rattle.edf_holdings.specs.Sound.{IsSoundRecord, AreSound}
-use Rattle.edf_holdings.specs.Holdings.{Holdings, IsSound}
-use Rattle.edf_holdings.proofs.Same.{same_key-Decides, same_key-true, same_key-refl, test_from_Clash}
+use Rattle.edf_holdings.specs.Holdings.{Holdings}
+use Rattle.edf_holdings.proofs.Same.{same_key-Decides, same_key-true, test_from_Clash}
 use Rattle.edf_holdings.proofs.Joining.{apart-sound, rising_from_apart, free_from_apart, lasting, In-from_Contains}
-use Rattle.edf_rows.specs.Cells.{record_cells, recording_cells, recordings_in, is_of, records_in}
-use Rattle.edf_rows.specs.Rows.{IsThere, IsRecording, IsOwned, AreTwoOf, AreOther, StandFor, AreKept}
-use Rattle.edf_rows.specs.Foreign.{IsForeign}
+use Rattle.edf_rows.specs.Cells.{record_cells, recording_cells, recordings_in, records_in}
+use Rattle.edf_rows.specs.Rows.{IsRecording, IsOwned, AreTwoOf, AreOther, AreKept}
 use Rattle.edf_rows.specs.Shape.{HasRecords}
 use Rattle.edf_rows.proofs.RowsLemmas.{here, there, cases_first, no_member, same-recordings}
 

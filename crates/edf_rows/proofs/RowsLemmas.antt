@@ -4,14 +4,13 @@ use Rattle.std.specs.List.{AllByRecursion}
 use Rattle.std.proofs.Math.Path.{fun_ext}
 use Rattle.std.proofs.lemmas.Bool.Decides.{nat_tests}
 use Rattle.std.proofs.lemmas.List.{length-map, append-nil}
-use Rattle.std.proofs.lemmas.List.Elements.{All-contains, recursion_from_All, All-from_recursion}
+use Rattle.std.proofs.lemmas.List.Elements.{All-contains, recursion_from_All}
 use Rattle.std.proofs.lemmas.List.Sorted.{sum_by-IsPermutation}
 use Rattle.std.proofs.lemmas.List.Sums.{sum_by-cons}
 use Rattle.sqlite_value.specs.declared.value.Value.{Value}
 use Rattle.sqlite_value.specs.declared.value.Value.TheVariants.{Null, Int, Real, Text, Blob}
 use Rattle.sqlite_value.specs.Order.{Row, column}
 use Rattle.sqlite_trees.specs.Tree.{Trees}
-use Rattle.edf_time.specs.Civil.{window}
 use Rattle.edf_header.specs.Number.{duration_of}
 use Rattle.edf_header.specs.Key.{Key, IsKey, key_bytes, key_at}
 use Rattle.edf_header.proofs.Keys.{key-back}
@@ -24,11 +23,11 @@ use Rattle.edf_holdings.specs.Same.{same_key}
 use Rattle.edf_holdings.specs.Sound.{IsSoundRecord}
 use Rattle.edf_holdings.specs.Rising.{IsApart}
 use Rattle.edf_holdings.specs.Holdings.{Holdings, IsSound}
-use Rattle.edf_holdings.proofs.Same.{same_key-Decides, same_key-true, same_key-refl}
-use Rattle.edf_holdings.proofs.Joining.{IsGood, IsGood-from_sound}
-use Rattle.edf_rows.specs.Cells.{record_cells, recording_cells, recordings_in, is_of, records_in}
-use Rattle.edf_rows.specs.Rows.{IsThere, IsRecording, IsOwned, AreTwoOf, AreOther, StandFor, AreKept}
-use Rattle.edf_rows.specs.Foreign.{IsBadRow, bad_start, bad_samples, bad_block, AreSamples, IsOwnBlock, IsStart, AreNear, AreBadRecords, bad_row, too_near, too_few, too_many, IsForeign, bad_recording, bad_records, without_recording, twice}
+use Rattle.edf_holdings.proofs.Same.{same_key-Decides, same_key-true}
+use Rattle.edf_holdings.proofs.Joining.{IsGood-from_sound}
+use Rattle.edf_rows.specs.Cells.{record_cells, recording_cells, recordings_in}
+use Rattle.edf_rows.specs.Rows.{IsThere, IsRecording, IsOwned, StandFor, AreKept}
+use Rattle.edf_rows.specs.Foreign.{IsBadRow, bad_start, bad_samples, bad_block, AreNear, AreBadRecords, bad_row, too_near, too_few, too_many, IsForeign, bad_recording, bad_records, without_recording, twice}
 
 -- ---- members
 pub here : {X : Type 0} (x : X) (xs : List X) → Contains (x ∷ xs) x
@@ -70,9 +69,9 @@ same-keys a b p q e = sym (key-back a p.sized) ∙ ap key_at e ∙ key-back b q.
 
 pub same-recordings : (i j : ℤ) (a b : Key) → IsKey a → IsKey b → recording_cells i a ≡ recording_cells j b → (i ≡ j) × (a ≡ b)
 same-recordings i j a b p q e = (
-    int-number i j (ap (λ (r : Row). column r 0) e),
-    same-keys a b p q (blob-bytes (key_bytes a) (key_bytes b) (ap (λ (r : Row). column r 1) e)),
-  )
+  int-number i j (ap (λ (r : Row). column r 0) e),
+  same-keys a b p q (blob-bytes (key_bytes a) (key_bytes b) (ap (λ (r : Row). column r 1) e)),
+)
 
 pub same-records : (k : Key) (r s : DataRecord) → IsSoundRecord k r → IsSoundRecord k s → record_cells r ≡ record_cells s → r ≡ s
 same-records k r s p q e =
@@ -160,6 +159,7 @@ one_inside first d low (x ∷ xs) apart = go (nat_le first x.start) refl (one_in
     at_most : (b : Bool) → cond {A = ℕ} b 1 0 ≤ 1
     at_most true = omega arith
     at_most false = omega arith
+
     go : (b : Bool) → nat_le first x.start ≡ b → sum_by (row_hits first d) (map record_cells xs) ≤ 1 → sum_by (row_hits first d) (map record_cells (x ∷ xs)) ≤ 1
     go true e rest =
         let up : first ≤ x.start = grind (arith, nat_tests) in
