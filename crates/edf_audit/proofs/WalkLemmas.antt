@@ -1,0 +1,126 @@
+-- Rows that were given one at a time, against a recording's rows by rising starts.
+use Rattle.std.proofs.Common.{◌≡◌, ℕ, zero, suc, ◌+◌, ◌<◌, ◌≤◌, ℤ, pos, Bool, true, false, List, [], ◌∷◌, ◌++◌, map, filter, length, Option, Some, None, Contains, refl, sym, ap, subst, ◌∙◌, arith, Ordering, Less, Equal, Greater, is_lt, is_gt, true≢false, IsPermutation, IsSorted, append_assoc}
+use Rattle.std.specs.List.{AllByRecursion}
+use Rattle.std.specs.Cmp.{IsTotalOrder}
+use Rattle.std.specs.Ordering.{ordering_reverse}
+use Rattle.std.proofs.lemmas.Bool.Decides.{nat_tests}
+use Rattle.std.proofs.lemmas.List.Elements.{Contains-append_right}
+use Rattle.std.proofs.lemmas.List.Sorted.{Contains-permutation, IsPermutation-trans, IsPermutation-sym, IsPermutation-map, IsPermutation-append_comm}
+use Rattle.sqlite.specs.declared.types.Value.TheVariants.{Int}
+use Rattle.sqlite.specs.Order.{Row}
+use Rattle.sqlite.specs.Tree.{Trees}
+use Rattle.sqlite_value.specs.Order.{column, value_cmp}
+use Rattle.sqlite_value.proofs.OrderLemmas.{value_cmp-Int}
+use Rattle.sqlite_trees.specs.Tree.{IsAscending}
+use Rattle.sqlite_sql.specs.Query.{IsAnswer}
+use Rattle.sqlite_sql.specs.Program.{overlay}
+use Rattle.sqlite_keyed.specs.Lists.{sort_by}
+use Rattle.sqlite_keyed.proofs.SortLemmas.{sort_by-map, sorted_unique, IsPermutation-sort_by}
+use Rattle.edf_header.specs.Number.{duration_of}
+use Rattle.edf_header.specs.Key.{Key}
+use Rattle.edf_fragment.specs.Fragment.{DataRecord}
+use Rattle.edf_holdings.specs.Sound.{IsSoundRecord, AreSound}
+use Rattle.edf_tables.specs.Cells.{first_three}
+use Rattle.edf_tables.proofs.Queries.{ordered_query, of_recording, start_samples_block, passes}
+use Rattle.edf_tables.proofs.SortLemmas.{rising_sort}
+use Rattle.edf_tables.proofs.TermLemmas.{is_of_passes}
+use Rattle.edf_tables.proofs.AnswerLemmas.{column_total, some_order}
+use Rattle.edf_rows.specs.Cells.{record_cells, by_column, is_of, records_in}
+use Rattle.edf_rows.specs.Rows.{AreTwoOf}
+use Rattle.edf_rows.proofs.RowsLemmas.{here, mapped}
+use Rattle.edf_audit.specs.Walk.{IsBehind}
+
+-- ---- sorted lists
+module _ {X : Type 0} (cmp : X → X → Ordering) (total : IsTotalOrder cmp) where
+  not_below : (x y : X) → is_gt (cmp x y) ≡ false → is_lt (cmp y x) ≡ false
+  not_below x y h = go (cmp x y) refl h
+    where
+      go : (o : Ordering) → cmp x y ≡ o → is_gt (cmp x y) ≡ false → is_lt (cmp y x) ≡ false
+      go Less e h = ap is_lt (total.antisymm y x ∙ ap ordering_reverse e)
+      go Equal e h = ap is_lt (total.antisymm y x ∙ ap ordering_reverse e)
+      go Greater e h = absurd (true≢false (sym (ap is_gt e) ∙ h))
+
+  -- neighbours are in order where all are
+  sorted_from : (xs : List X) → IsAscending (λ a b. is_gt (cmp a b) ≡ false) xs → IsSorted cmp xs
+  sorted_from [] up k d low high = absurd (omega arith)
+  sorted_from (x ∷ []) up k d low high = absurd (omega arith)
+  sorted_from (x ∷ y ∷ ys) up zero d low high = not_below x y up.0.0
+  sorted_from (x ∷ y ∷ ys) up (suc k) d low high = rw Rattle.std.proofs.Common.add-one (rw Rattle.std.proofs.Common.add-one at (sorted_from (y ∷ ys) up.1 k d (omega arith) (omega arith)))
+
+  pub sort_by_sorted : (xs : List X) → IsSorted cmp (sort_by cmp xs)
+  sort_by_sorted xs = sorted_from (sort_by cmp xs) (rising_sort cmp total xs)
+
+-- ---- the last start
+abbrev pub last_start : List DataRecord → Option ℕ
+last_start [] = None
+last_start (r ∷ []) = Some r.start
+last_start (r ∷ s ∷ rs) = last_start (s ∷ rs)
+
+pub last_push : (rs : List DataRecord) (r : DataRecord) → last_start (rs ++ r ∷ []) ≡ Some r.start
+last_push [] r = refl
+last_push (x ∷ []) r = refl
+last_push (x ∷ y ∷ rs) r = last_push (y ∷ rs) r
+
+pub last_split : (rs : List DataRecord) (m : ℕ) → last_start rs ≡ Some m → (front : List DataRecord) × (l : DataRecord) × (rs ≡ front ++ l ∷ []) × (l.start ≡ m)
+last_split [] m h = absurd (cc)
+last_split (x ∷ []) m h = ([], x, refl, (let e : x.start ≡ m = cc in e))
+last_split (x ∷ y ∷ rs) m h = let more = last_split (y ∷ rs) m h in (x ∷ more.0, more.1, ap (λ l. x ∷ l) more.2, more.3)
+
+push_behind : (k : Key) (low : ℕ) (x : DataRecord) (rs : List DataRecord) (r : DataRecord) → AreSound k low (x ∷ rs) → IsSoundRecord k r → IsBehind (duration_of k.duration) (last_start (x ∷ rs)) r.start → AreSound k low ((x ∷ rs) ++ r ∷ [])
+push_behind k low x [] r s sound behind = (s.0, s.1, (sound, behind, tt))
+push_behind k low x (y ∷ rs) r s sound behind = (s.0, s.1, push_behind k (x.start + duration_of k.duration) y rs r s.2 sound behind)
+
+pub push_sound : (k : Key) (rs : List DataRecord) (r : DataRecord) → AreSound k 0 rs → IsSoundRecord k r → IsBehind (duration_of k.duration) (last_start rs) r.start → AreSound k 0 (rs ++ r ∷ [])
+push_sound k [] r s sound behind = (sound, omega arith, tt)
+push_sound k (x ∷ rs) r s sound behind = push_behind k 0 x rs r s sound behind
+
+-- ---- sound records rise
+starts_rise : (m n : ℕ) → m < n → value_cmp (Int (pos m)) (Int (pos n)) ≡ Less
+starts_rise m n h = value_cmp-Int (pos m) (pos n) ∙ grind (arith, nat_tests)
+
+all_later : (k : Key) (low n : ℕ) (rs : List DataRecord) → AreSound k low rs → n < low → AllByRecursion (λ b. value_cmp (Int (pos n)) (column b 0) ≡ Less) (map record_cells rs)
+all_later k low n [] s less = tt
+all_later k low n (r ∷ rs) s less = (starts_rise n r.start (let up = s.1 in omega (arith, less, up)), all_later k (r.start + duration_of k.duration) n rs s.2 (let up = s.1 in omega (arith, less, up)))
+
+rises : (k : Key) (low : ℕ) (rs : List DataRecord) → 0 < duration_of k.duration → AreSound k low rs → IsAscending (λ a b. by_column 0 a b ≡ Less) (map record_cells rs)
+rises k low [] long s = tt
+rises k low (r ∷ rs) long s = (all_later k (r.start + duration_of k.duration) r.start rs s.2 (omega (arith, long)), rises k (r.start + duration_of k.duration) rs long s.2)
+
+-- ---- the rows that a query gives
+abbrev shown : Row → Row
+shown row = column row 2 ∷ column row 3 ∷ column row 4 ∷ []
+
+abbrev kept : Trees → ℤ → List Row
+kept trees id = filter (is_of id) (trees 2)
+
+in_order : (trees : Trees) (id : ℤ) → IsPermutation (records_in trees id) (map shown (kept trees id))
+in_order trees id = IsPermutation-map shown (sort_by (by_column 2) (kept trees id)) (kept trees id) (IsPermutation-sort_by (by_column 2) (column_total 2) (kept trees id))
+
+pub answer_moved : (trees : Trees) (id : ℤ) (rows : List Row) → IsAnswer (ordered_query 2 (of_recording ∷ []) start_samples_block 2) (overlay trees []) (Int id ∷ []) rows → IsPermutation (records_in trees id) rows
+answer_moved trees id rows a =
+    let some = some_order 2 2 (of_recording ∷ []) start_samples_block (Int id ∷ []) (overlay trees []) rows a in
+    let same : filter (passes (Int id ∷ []) (of_recording ∷ [])) (trees 2) ≡ kept trees id = ap (λ (p : Row → Bool). filter p (trees 2)) (λ i r. is_of_passes id r i) in
+    IsPermutation-trans _ _ _ (in_order trees id) (subst (λ (l : List Row). IsPermutation (map shown l) rows) same some)
+
+-- sound records that a query gives are all that there are, in order
+pub only_sound : (trees : Trees) (id : ℤ) (k : Key) (rs : List DataRecord) → 0 < duration_of k.duration → AreSound k 0 rs → IsPermutation (records_in trees id) (map record_cells rs) → records_in trees id ≡ map record_cells rs
+only_sound trees id k rs long sound same =
+    let xs = map shown (kept trees id) in
+    let placed : sort_by (by_column 0) xs ≡ records_in trees id = sort_by-map (by_column 0) shown (kept trees id) in
+    let there : IsPermutation (map record_cells rs) (sort_by (by_column 0) xs) = subst (IsPermutation (map record_cells rs)) (sym placed) (IsPermutation-sym _ _ same) in
+    sym placed ∙ sorted_unique (by_column 0) (column_total 0) (map record_cells rs) (sort_by (by_column 0) xs) (rises k 0 rs long sound) there (sort_by_sorted (by_column 0) (column_total 0) xs)
+
+all_any : (xs : List Row) → AllByRecursion (λ (x : Row). Unit {0}) xs
+all_any [] = tt
+all_any (x ∷ xs) = (tt, all_any xs)
+
+pub is_three : (trees : Trees) (id : ℤ) (row : Row) → Contains (records_in trees id) row → row ≡ first_three row
+is_three trees id row c =
+    let it = mapped shown (λ (x : Row). Unit {0}) (sort_by (by_column 2) (kept trees id)) row (all_any (sort_by (by_column 2) (kept trees id))) c in
+    it.2 ∙ sym (ap first_three it.2)
+
+pub given_member : (trees : Trees) (id : ℤ) (front tail : List Row) (row : Row) → IsPermutation (records_in trees id) (front ++ row ∷ tail) → Contains (records_in trees id) row
+given_member trees id front tail row same = Contains-permutation (front ++ row ∷ tail) (records_in trees id) row (IsPermutation-sym _ _ same) (Contains-append_right front (row ∷ tail) row (here row tail))
+
+pub given_two : (trees : Trees) (id : ℤ) (front tail : List Row) (a b : Row) → IsPermutation (records_in trees id) (front ++ a ∷ b ∷ tail) → AreTwoOf (records_in trees id) a b
+given_two trees id front tail a b same = (tail ++ front, IsPermutation-trans _ _ _ same (IsPermutation-append_comm front (a ∷ b ∷ tail)))

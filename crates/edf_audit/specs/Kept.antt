@@ -1,0 +1,18 @@
+-- What reading leaves of a connection, and what a row of the table of recordings tells.
+use Rattle.std.specs.Prelude.{◌≡◌, ℕ, Option, Some, None, Contains, length}
+use Rattle.sqlite.specs.Order.{Row}
+use Rattle.sqlite.specs.Tree.{Trees}
+use Rattle.sqlite.specs.State.{State, KeepsCommit}
+use Rattle.edf_rows.specs.Cells.{recordings_in, records_in}
+use Rattle.edf_rows.specs.Foreign.{IsForeign}
+use Rattle.edf_rows.specs.Shape.{HasRecords}
+
+-- the rows are as they were, and nothing was committed
+pub record KeepsRows (old new : State) : Type 0 where
+  pub now_is : new.now ≡ old.now
+  pub commit : KeepsCommit old new
+
+-- the row is a recording's with so many records, or the rows are foreign
+abbrev pub Checks : ℕ → Trees → Row → Option ℕ → Type 0
+Checks cap trees row None = Contains (recordings_in trees) row → IsForeign cap trees
+Checks cap trees row (Some count) = Contains (recordings_in trees) row → (has : HasRecords cap trees row) × (count ≡ length (records_in trees has.id))

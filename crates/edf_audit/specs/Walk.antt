@@ -1,0 +1,56 @@
+-- What a walk over a recording's rows tells.
+use Rattle.std.specs.Prelude.{◌≡◌, ◌≢◌, ℕ, ◌+◌, ◌≤◌, ◌<◌, ◌⊎◌, pos, List, [], ◌∷◌, map, length, Option, Some, None}
+use Rattle.sqlite.specs.declared.types.Value.TheVariants.{Int}
+use Rattle.sqlite.specs.Order.{Row}
+use Rattle.sqlite_value.specs.Order.{column}
+use Rattle.edf_header.specs.Number.{duration_of}
+use Rattle.edf_header.specs.Key.{Key}
+use Rattle.edf_fragment.specs.Fragment.{DataRecord}
+use Rattle.edf_holdings.specs.Sound.{AreSound}
+use Rattle.edf_tables.specs.Cells.{first_three}
+use Rattle.edf_rows.specs.Cells.{record_cells}
+use Rattle.edf_rows.specs.Foreign.{IsBadRow, AreBadRecords}
+use Rattle.edf_rows.specs.Shape.{IsRowOf}
+
+-- the row is a data record's of the key, and starts there
+pub record IsStartOf (k : Key) (row : Row) (start : ℕ) : Type 0 where
+  pub data_record : DataRecord
+  pub start_is : start ≡ data_record.start
+  pub row_of : IsRowOf k data_record (first_three row)
+
+-- at least a duration behind the last start
+abbrev pub IsBehind : ℕ → Option ℕ → ℕ → Type 0
+IsBehind d None start = Unit {0}
+IsBehind d (Some last) start = last + d ≤ start
+
+-- the row is a data record's that may stand behind the last
+pub record IsNext (k : Key) (last : Option ℕ) (row : Row) (start : ℕ) : Type 0 where
+  pub is_start : IsStartOf k row start
+  pub behind : IsBehind (duration_of k.duration) last start
+
+-- the row starts less than a duration behind the last
+pub record IsNear (k : Key) (last : Option ℕ) (row : Row) : Type 0 where
+  pub first : ℕ
+  pub start : ℕ
+  pub last_is : last ≡ Some first
+  pub start_is : column row 0 ≡ Int (pos start)
+  pub order : first ≤ start
+  pub near : start < first + duration_of k.duration
+
+-- the row may not stand behind the last
+abbrev pub IsWrong : Key → Option ℕ → Row → Type 0
+IsWrong k last row = IsBadRow k row ⊎ IsNear k last row
+
+-- sound records, a duration apart, at least one and at most the cap
+pub record HasSound (cap : ℕ) (k : Key) (rows : List Row) (count : ℕ) : Type 0 where
+  pub records : List DataRecord
+  pub shown : rows ≡ map record_cells records
+  pub sound : AreSound k 0 records
+  pub some : rows ≢ []
+  pub few : length records ≤ cap
+  pub count_is : count ≡ length records
+
+-- how many records a recording has, or that they are bad
+abbrev pub Tells : ℕ → Key → List Row → Option ℕ → Type 0
+Tells cap k rows None = AreBadRecords cap k rows
+Tells cap k rows (Some count) = HasSound cap k rows count

@@ -1,0 +1,100 @@
+//! The rows of one recording, each read once.
+
+ghost use Rattle.std.specs.Prelude.{◌≡◌, ◌<◌, ◌^◌, ◌-◌, ℕ, IfOk, OnOk, OnErr, MatchOption};
+ghost use Rattle.sqlite.specs.Held.{state};
+ghost use Rattle.sqlite.specs.State.{HasCleanDisk, Survives, KeepsCommit, IsUnchanged};
+ghost use Rattle.edf_header.specs.Number.{duration_of};
+ghost use Rattle.edf_tables.specs.Schema.{both_schema};
+ghost use Rattle.edf_rows.specs.Cells.{records_in};
+ghost use Rattle.edf_rows.specs.Foreign.{IsBadRow};
+ghost use Rattle.edf_audit.specs.Walk.{IsStartOf, IsNext, IsWrong, Tells};
+
+use edf_header::Identity;
+use edf_rows::check_row;
+use edf_time::Instant;
+use sqlite::types::ValueRef;
+use sqlite::{Alter, Connection, Error, ErrorCode, Row, params};
+use std::alloc::{AllocError, Global};
+
+/// The start of a row that is a data record of the identity.
+fn start_in(alloc: Global, identity: &Identity, row: &Row) -> Result<Option<Instant>, AllocError>
+    ensures { IfOk result (λ o. MatchOption o (IsBadRow identity.now row.now) (IsStartOf identity.now row.now)) }
+{
+    let Ok(ValueRef::Int(start)) = row.get_ref(0) else {
+        return Ok(None);
+    };
+    let Ok(ValueRef::Blob(samples)) = row.get_ref(1) else {
+        return Ok(None);
+    };
+    let Ok(ValueRef::Blob(block)) = row.get_ref(2) else {
+        return Ok(None);
+    };
+    check_row(alloc, identity, start, samples, block)
+}
+
+/// The start of a row, if it may stand behind the last.
+///
+/// # Errors
+/// Where memory runs out, or where the row comes before the last.
+fn next_start(
+    alloc: Global,
+    identity: &Identity,
+    row: &Row,
+    last: Option<Instant>,
+) -> Result<Option<Instant>, Error>
+    ensures { IfOk result (λ o. MatchOption o (IsWrong identity.now last row.now) (IsNext identity.now last row.now)) }
+{
+    let start = match start_in(alloc, identity, row) {
+        Ok(Some(start)) => start,
+        Ok(None) => return Ok(None),
+        Err(_) => return Err(Error::SqliteFailure(ErrorCode::OutOfMemory)),
+    };
+    let Some(last) = last else {
+        return Ok(Some(start));
+    };
+    if start < last {
+        return Err(Error::QueryReturnedNoRows);
+    }
+    if start.nanos() - last.nanos() < identity.duration() {
+        Ok(None)
+    } else {
+        Ok(Some(start))
+    }
+}
+
+/// How many records a recording has, or `None` where they are not those of submissions: a row is no record of the
+/// identity, two lie less than a duration apart, there is none, or there are more than `cap`.
+///
+/// # Errors
+/// `sqlite`'s, and want of memory in its words.
+pub fn check_recording<S: Alter>(
+    alloc: Global,
+    conn: &mut Connection<S>,
+    recording: i64,
+    identity: &Identity,
+    cap: u32,
+) -> Result<Option<u32>, Error>
+    requires long { 0 < duration_of identity.now.duration }
+    requires cap { cap < 2 ^ 32 - 1 }
+    requires schema { HasCleanDisk (state S.Store conn.old) → (state S.Store conn.old).now.schema ≡ both_schema }
+    ensures told { HasCleanDisk (state S.Store conn.new) → IfOk result (Tells cap identity.now (records_in (state S.Store conn.old).now.trees recording)) }
+    ensures same { HasCleanDisk (state S.Store conn.new) → OnOk result (IsUnchanged (state S.Store conn.old) (state S.Store conn.new)) }
+    ensures refused { HasCleanDisk (state S.Store conn.new) → OnErr result (KeepsCommit (state S.Store conn.old) (state S.Store conn.new)) }
+    ensures survives { Survives (state S.Store conn.old) (state S.Store conn.new) (λ _. ⊥) }
+{
+    let mut rows = conn.query(
+        "SELECT start, samples, block FROM record WHERE recording = ?1 ORDER BY start",
+        params![recording],
+    )?;
+    let mut last = None;
+    'walk: for count in 0..cap + 1 {
+        let Some(row) = rows.next()? else {
+            return Ok(if count == 0 { None } else { Some(count) });
+        };
+        match next_start(alloc, identity, &row, last)? {
+            Some(start) => last = Some(start),
+            None => return Ok(None),
+        }
+    }
+    Ok(None)
+}

@@ -1,0 +1,78 @@
+-- The cells of one row.
+use Rattle.std.proofs.Common.{◌≡◌, ◌≢◌, ℕ, ◌*◌, ◌≤◌, ◌<◌, pos, ℤ, List, [], ◌∷◌, length, ◌^◌, of_z, to_z, w64, FitsSigned, refl, sym, ap, ap₂, subst, ◌∙◌, arith}
+use Rattle.sqlite_value.specs.declared.value.Value.{Value}
+use Rattle.sqlite_value.specs.declared.value.Value.TheVariants.{Int, Blob}
+use Rattle.sqlite_value.specs.Order.{Row}
+use Rattle.edf_header.specs.Key.{Key}
+use Rattle.edf_header.specs.Signal.{samples_in_all}
+use Rattle.edf_tal.specs.Tal.{Annotation}
+use Rattle.edf_tal.specs.Block.{IsRead, IsBlockFault, IsRefusal}
+use Rattle.edf_tal.specs.declared.place.Place.TheVariants.{Any}
+use Rattle.edf_tal.specs.declared.place.TalFault.{TalFault}
+use Rattle.edf_tal.specs.declared.place.TalFault.TheVariants.{Tal as NotTals, Text, NotTimed, FirstOnset, Window, Order, TooMany, Memory}
+use Rattle.std.proofs.lemmas.Int.{to_z-of_z}
+use Rattle.edf_tal.specs.Canonical.{block_text}
+use Rattle.edf_tal.proofs.OneAnswer.{one-read, read-no-fault}
+use Rattle.edf_tal.proofs.ReadNotes.{read-start, read-notes}
+use Rattle.edf_fragment.specs.Fragment.{DataRecord, IsWithinSize}
+use Rattle.edf_rows.specs.Foreign.{IsBadRow, bad_samples, bad_block}
+use Rattle.edf_rows.specs.Shape.{OwnBlock, NoOwnBlock, IsRowOf}
+
+-- a block that is not written for what it gives is written for nothing
+pub other-block : (block : List ℕ) (start : ℕ) (list : List Annotation) → IsRead block 0 Any start list → block ≢ block_text 0 start list → NoOwnBlock block
+other-block block start list read other s l own =
+    let same = one-read block 0 Any start s list l read own.read in
+    other (own.written ∙ sym (ap₂ (block_text 0) same.start same.list))
+
+pub refused-block : (block : List ℕ) (fault : TalFault) → IsBlockFault block 0 Any fault → NoOwnBlock block
+refused-block block fault refused s l own = read-no-fault block 0 Any s l fault own.read refused
+
+-- a row with an own block, its start and as many samples as the key says is a data record's
+pub row-of : (k : Key) (start : ℕ) (samples block : List ℕ) (list : List Annotation) → OwnBlock block start list → length samples ≡ 2 * samples_in_all k.signals
+    → IsRowOf k (record { start = start; samples = samples; annotations = list }) (Int (pos start) ∷ Blob samples ∷ Blob block ∷ [])
+row-of k start samples block list own len = record {
+  cells = ap (λ (b : List ℕ). Int (pos start) ∷ Blob samples ∷ Blob b ∷ []) own.written;
+  sound = record {
+    samples_len = len;
+    start = read-start block 0 Any start list own.read;
+    limits = own.read.limits;
+    notes = read-notes block 0 Any start list own.read;
+  };
+}
+
+blob-bytes : (a b : List ℕ) → ◌≡◌ {A = Value} (Blob a) (Blob b) → a ≡ b
+blob-bytes a b h = cc
+
+int-number : (a b : ℤ) → ◌≡◌ {A = Value} (Int a) (Int b) → a ≡ b
+int-number a b h = cc
+
+pub bad-len : (k : Key) (start : Value) (samples : List ℕ) (block : Value) → ¬ (length samples ≡ 2 * samples_in_all k.signals) → IsBadRow k (start ∷ Blob samples ∷ block ∷ [])
+bad-len k start samples block other = bad_samples (λ are. other (ap length (blob-bytes samples are.0 are.1) ∙ are.2))
+
+pub bad-own : (k : Key) (start samples : Value) (block : List ℕ) → NoOwnBlock block → IsBadRow k (start ∷ samples ∷ Blob block ∷ [])
+bad-own k start samples block none = bad_block (λ own.
+    let same : block ≡ own.block = blob-bytes block own.block own.is_block in
+    none own.start own.list (record { read = subst (λ b. IsRead b 0 Any own.start own.list) (sym same) own.read; written = same ∙ own.written }))
+
+pub bad-starts : (k : Key) (start : ℤ) (samples : Value) (block : List ℕ) (read : ℕ) (list : List Annotation) → OwnBlock block read list → ¬ (pos read ≡ start)
+    → IsBadRow k (Int start ∷ samples ∷ Blob block ∷ [])
+bad-starts k start samples block read list is other = bad_block (λ own.
+    let same : own.block ≡ block = sym (blob-bytes block own.block own.is_block) in
+    let one = one-read block 0 Any read own.start list own.list is.read (subst (λ b. IsRead b 0 Any own.start own.list) same own.read) in
+    other (ap pos one.start ∙ sym (int-number start (pos own.start) own.starts)))
+
+pub fault-of : (block : List ℕ) (fault : TalFault) → fault ≢ Memory → IsRefusal block 0 Any fault → IsBlockFault block 0 Any fault
+fault-of block (NotTals offset) other refused = refused
+fault-of block (Text offset) other refused = refused
+fault-of block NotTimed other refused = refused
+fault-of block FirstOnset other refused = refused
+fault-of block Window other refused = refused
+fault-of block Order other refused = refused
+fault-of block TooMany other refused = refused
+fault-of block Memory other refused = absurd (other refl)
+
+pub same-cell : (n : ℕ) (z : ℤ) → n < 2 ^ 63 → FitsSigned w64 z → of_z w64 (pos n) ≡ of_z w64 z → pos n ≡ z
+same-cell n z low fits same = sym (to_z-of_z w64 (pos n) (record { sfits = omega (arith, low) })) ∙ ap (to_z w64) same ∙ to_z-of_z w64 z fits
+
+pub within-size : (k : Key) (r : DataRecord) (row : Row) → IsRowOf k r row → length r.samples ≤ 4_194_304 → IsWithinSize r
+within-size k r row is small = record { samples = small; annotations = is.sound.limits }

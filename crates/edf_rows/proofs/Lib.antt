@@ -1,0 +1,3 @@
+pub mod CellLemmas
+pub mod RowsLemmas
+pub mod KeptLemmas

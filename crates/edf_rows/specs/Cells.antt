@@ -1,0 +1,34 @@
+-- The cells of a data record and of a recording, and where they stand in the rows of the two tables.
+use Rattle.std.specs.Prelude.{ℕ, ℤ, pos, Bool, List, [], ◌∷◌, map, filter}
+use Rattle.std.specs.declared.cmp.Ordering.{Ordering}
+use Rattle.std.specs.Ordering.{is_eq}
+use Rattle.sqlite_value.specs.declared.value.Value.TheVariants.{Int, Blob}
+use Rattle.sqlite_value.specs.Order.{Row, column, value_cmp}
+use Rattle.sqlite_trees.specs.Tree.{Trees}
+use Rattle.sqlite_keyed.specs.Lists.{sort_by}
+use Rattle.edf_header.specs.Key.{Key, key_bytes}
+use Rattle.edf_tal.specs.Canonical.{block_text}
+use Rattle.edf_fragment.specs.Fragment.{DataRecord}
+
+-- a data record: its start, its samples, and its block without fill, whose onsets count from 1985-01-01 00:00:00
+abbrev pub record_cells : DataRecord → Row
+record_cells r = Int (pos r.start) ∷ Blob r.samples ∷ Blob (block_text 0 r.start r.annotations) ∷ []
+
+-- a recording: its id and the bytes of its key
+abbrev pub recording_cells : ℤ → Key → Row
+recording_cells id k = Int id ∷ Blob (key_bytes k) ∷ []
+
+-- the ids and identities of all recordings
+abbrev pub recordings_in : Trees → List Row
+recordings_in trees = map (λ row. column row 0 ∷ column row 2 ∷ []) (trees 0)
+
+abbrev pub by_column : ℕ → Row → Row → Ordering
+by_column at a b = value_cmp (column a at) (column b at)
+
+-- the row is a record's, of the recording with this id
+abbrev pub is_of : ℤ → Row → Bool
+is_of id row = is_eq (value_cmp (column row 1) (Int id))
+
+-- starts, samples and blocks of the recording with this id, by rising starts
+abbrev pub records_in : Trees → ℤ → List Row
+records_in trees id = map (λ row. column row 2 ∷ column row 3 ∷ column row 4 ∷ []) (sort_by (by_column 2) (filter (is_of id) (trees 2)))

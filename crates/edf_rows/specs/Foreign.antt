@@ -1,0 +1,66 @@
+-- The rows that no submissions leave.
+use Rattle.std.specs.Prelude.{◌≡◌, ℕ, ◌+◌, ◌*◌, ◌≤◌, ◌<◌, ℤ, pos, ◌⊎◌, List, [], length, Contains, IsTrue}
+use Rattle.sqlite_value.specs.declared.value.Value.TheVariants.{Int, Blob}
+use Rattle.sqlite_value.specs.Order.{Row, column}
+use Rattle.sqlite_trees.specs.Tree.{Trees}
+use Rattle.edf_time.specs.Civil.{window}
+use Rattle.edf_header.specs.Number.{duration_of}
+use Rattle.edf_header.specs.Signal.{samples_in_all}
+use Rattle.edf_header.specs.Key.{Key}
+use Rattle.edf_tal.specs.Tal.{Annotation}
+use Rattle.edf_tal.specs.Block.{IsRead}
+use Rattle.edf_tal.specs.declared.place.Place.TheVariants.{Any}
+use Rattle.edf_tal.specs.Canonical.{block_text}
+use Rattle.edf_rows.specs.Cells.{recordings_in, is_of, records_in}
+use Rattle.edf_rows.specs.Rows.{IsThere, IsRecording, AreTwoOf}
+
+-- the cell is an instant of the window
+abbrev pub IsStart : Row → ℕ → Type 0
+IsStart row start = (column row 0 ≡ Int (pos start)) × (start < window)
+
+-- the cell is as many sample bytes as the key says
+abbrev pub AreSamples : Key → Row → Type 0
+AreSamples k row = (samples : List ℕ) × (column row 1 ≡ Blob samples) × (length samples ≡ 2 * samples_in_all k.signals)
+
+-- the cell is the block that is written for the list that is read from it, and the start that is read is the row's
+pub record IsOwnBlock (row : Row) : Type 0 where
+  pub block : List ℕ
+  pub start : ℕ
+  pub list : List Annotation
+  pub is_block : column row 2 ≡ Blob block
+  pub read : IsRead block 0 Any start list
+  pub written : block ≡ block_text 0 start list
+  pub starts : column row 0 ≡ Int (pos start)
+
+-- why a row is no record of the key: its start, its samples or its block
+pub data IsBadRow (k : Key) (row : Row) : Type 0 where
+  bad_start : ((start : ℕ) → ¬ IsStart row start) → IsBadRow k row
+  bad_samples : ¬ AreSamples k row → IsBadRow k row
+  bad_block : ¬ IsOwnBlock row → IsBadRow k row
+
+-- two records of a recording start less than its duration apart
+pub record AreNear (rows : List Row) (duration : ℕ) : Type 0 where
+  pub a : Row
+  pub b : Row
+  pub two : AreTwoOf rows a b
+  pub first : ℕ
+  pub second : ℕ
+  pub a_start : column a 0 ≡ Int (pos first)
+  pub b_start : column b 0 ≡ Int (pos second)
+  pub order : first ≤ second
+  pub near : second < first + duration
+
+-- a recording's records: one is bad, two are too near, there is none, or there are more than the cap
+pub data AreBadRecords (cap : ℕ) (k : Key) (rows : List Row) : Type 0 where
+  bad_row : (row : Row) → Contains rows row → IsBadRow k row → AreBadRecords cap k rows
+  too_near : AreNear rows (duration_of k.duration) → AreBadRecords cap k rows
+  too_few : rows ≡ [] → AreBadRecords cap k rows
+  too_many : cap < length rows → AreBadRecords cap k rows
+
+-- why the rows are not those that submissions leave under the cap: a row is no recording; a recording's records are bad; a
+-- record's recording is not there; or, which the tables themselves exclude, an id or an identity stands twice
+pub data IsForeign (cap : ℕ) (trees : Trees) : Type 0 where
+  bad_recording : (row : Row) → Contains (recordings_in trees) row → ¬ IsRecording row → IsForeign cap trees
+  bad_records : (id : ℤ) (k : Key) → IsThere trees id k → AreBadRecords cap k (records_in trees id) → IsForeign cap trees
+  without_recording : (row : Row) → Contains (trees 2) row → ((id : ℤ) (k : Key) → IsThere trees id k → ¬ IsTrue (is_of id row)) → IsForeign cap trees
+  twice : (a b : Row) → AreTwoOf (recordings_in trees) a b → (column a 0 ≡ column b 0) ⊎ (column a 1 ≡ column b 1) → IsForeign cap trees

@@ -1,0 +1,51 @@
+-- Which holdings the rows of the two tables stand for.
+use Rattle.std.specs.Prelude.{◌≡◌, ◌≢◌, ℕ, ℤ, List, [], ◌∷◌, map, All, Contains, IsTrue, IsPermutation}
+use Rattle.sqlite_value.specs.Order.{Row, column}
+use Rattle.sqlite_trees.specs.Tree.{Trees}
+use Rattle.edf_header.specs.Key.{Key, IsKey}
+use Rattle.edf_holdings.specs.Holdings.{Holdings, IsSound}
+use Rattle.edf_rows.specs.Cells.{record_cells, recording_cells, recordings_in, is_of, records_in}
+
+-- the key's recording is there, under this id
+pub record IsThere (trees : Trees) (id : ℤ) (k : Key) : Type 0 where
+  pub row : Contains (recordings_in trees) (recording_cells id k)
+  pub key : IsKey k
+
+-- the row is a recording's: an id and the bytes of a key
+pub record IsRecording (row : Row) : Type 0 where
+  pub id : ℤ
+  pub key : Key
+  pub cells : row ≡ recording_cells id key
+  pub is_key : IsKey key
+
+-- the record belongs to a recording that is there
+pub record IsOwned (trees : Trees) (row : Row) : Type 0 where
+  pub id : ℤ
+  pub key : Key
+  pub there : IsThere trees id key
+  pub owned : IsTrue (is_of id row)
+
+-- a and b stand at two places of the list
+abbrev pub AreTwoOf : List Row → Row → Row → Type 0
+AreTwoOf rows a b = (rest : List Row) × IsPermutation rows (a ∷ b ∷ rest)
+
+-- they have neither one id nor one identity
+pub record AreOther (a b : Row) : Type 0 where
+  pub id : column a 0 ≢ column b 0
+  pub identity : column a 1 ≢ column b 1
+
+-- the rows stand for these holdings: each row of a recording is an id and the bytes of a key, no id and no key stands twice,
+-- each record belongs to a recording, and a recording's records by rising starts are what its key holds. A key without a
+-- recording holds nothing; a recording without a record is possible inside a transaction
+pub record StandFor (trees : Trees) (h : Holdings) : Type 0 where
+  pub recordings : All IsRecording (recordings_in trees)
+  pub apart : (a b : Row) → AreTwoOf (recordings_in trees) a b → AreOther a b
+  pub owned : All (IsOwned trees) (trees 2)
+  pub held : (id : ℤ) (k : Key) → IsThere trees id k → records_in trees id ≡ map record_cells (h k)
+  pub others : (k : Key) → ((id : ℤ) → ¬ IsThere trees id k) → h k ≡ []
+
+-- the rows that are kept: they stand for sound holdings, and each recording has a record
+pub record AreKept (cap : ℕ) (trees : Trees) (h : Holdings) : Type 0 where
+  pub stand : StandFor trees h
+  pub sound : IsSound cap h
+  pub each : (id : ℤ) (k : Key) → IsThere trees id k → records_in trees id ≢ []

@@ -1,0 +1,38 @@
+-- Words of the test of one row.
+use Rattle.std.specs.Prelude.{◌≡◌, ◌≢◌, ℕ, ◌≤◌, ℤ, List, [], map, length}
+use Rattle.sqlite_trees.specs.Tree.{Trees}
+use Rattle.sqlite_value.specs.Order.{Row}
+use Rattle.edf_header.specs.Key.{Key, IsKey}
+use Rattle.edf_tal.specs.Tal.{Annotation}
+use Rattle.edf_tal.specs.Block.{IsRead}
+use Rattle.edf_tal.specs.declared.place.Place.TheVariants.{Any}
+use Rattle.edf_tal.specs.Canonical.{block_text}
+use Rattle.edf_fragment.specs.Fragment.{DataRecord}
+use Rattle.edf_holdings.specs.Sound.{IsSoundRecord, AreSound}
+use Rattle.edf_rows.specs.Cells.{record_cells, recording_cells, records_in}
+
+-- the block gives this start and list, and is the one that is written for them
+pub record OwnBlock (block : List ℕ) (start : ℕ) (list : List Annotation) : Type 0 where
+  pub read : IsRead block 0 Any start list
+  pub written : block ≡ block_text 0 start list
+
+-- the block is not written for what it gives
+abbrev pub NoOwnBlock : List ℕ → Type 0
+NoOwnBlock block = (start : ℕ) (list : List Annotation) → ¬ OwnBlock block start list
+
+-- the row is this data record's, which is a sound one of the key
+pub record IsRowOf (k : Key) (r : DataRecord) (row : Row) : Type 0 where
+  pub cells : row ≡ record_cells r
+  pub sound : IsSoundRecord k r
+
+-- the row is a recording's, and its records are sound ones that lie a duration apart, at least one and at most the cap
+pub record HasRecords (cap : ℕ) (trees : Trees) (row : Row) : Type 0 where
+  pub id : ℤ
+  pub key : Key
+  pub records : List DataRecord
+  pub cells : row ≡ recording_cells id key
+  pub is_key : IsKey key
+  pub sound : AreSound key 0 records
+  pub shown : records_in trees id ≡ map record_cells records
+  pub some : records_in trees id ≢ []
+  pub few : length records ≤ cap

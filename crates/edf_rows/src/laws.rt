@@ -1,0 +1,28 @@
+//! Laws of the rows: each function has a law for a contract, and does nothing.
+
+ghost use Rattle.std.specs.Prelude.{◌≡◌, ◌↔◌, ℕ};
+ghost use Rattle.sqlite_value.specs.Order.{Row};
+ghost use Rattle.sqlite_trees.specs.Tree.{Trees};
+ghost use Rattle.edf_header.specs.Key.{Key};
+ghost use Rattle.edf_fragment.specs.Fragment.{DataRecord};
+ghost use Rattle.edf_holdings.specs.Sound.{IsSoundRecord};
+ghost use Rattle.edf_holdings.specs.Holdings.{Holdings, IsSound};
+ghost use Rattle.edf_rows.specs.Cells.{record_cells};
+ghost use Rattle.edf_rows.specs.Rows.{StandFor, AreKept};
+ghost use Rattle.edf_rows.specs.Foreign.{IsBadRow, IsForeign};
+
+/// Rows stand for one sound holdings at most.
+pub fn one_holdings()
+    ensures { (trees : Trees) (h i : Holdings) (c d : ℕ) → StandFor trees h → IsSound c h → StandFor trees i → IsSound d i → h ≡ i }
+{}
+
+/// The cells of a sound data record are of no other, and are no bad row.
+pub fn one_record()
+    ensures one { (k : Key) (r s : DataRecord) → IsSoundRecord k r → IsSoundRecord k s → record_cells r ≡ record_cells s → r ≡ s }
+    ensures good { (k : Key) (r : DataRecord) → IsSoundRecord k r → ¬ IsBadRow k (record_cells r) }
+{}
+
+/// Rows that stand for sound holdings, each recording with a record, are not foreign.
+pub fn kept_is_not_foreign()
+    ensures { (cap : ℕ) (trees : Trees) (h : Holdings) → AreKept cap trees h → ¬ IsForeign cap trees }
+{}
