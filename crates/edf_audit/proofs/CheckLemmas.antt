@@ -13,7 +13,7 @@ use Rattle.edf_header.specs.Key.{Key, IsKey, key_bytes}
 use Rattle.edf_header.specs.Identity.{IsFirstKeyFault, IsCleanKey, place_in_order}
 use Rattle.edf_header.specs.declared.identity.IdentityFault.{IdentityFault}
 use Rattle.edf_header.specs.declared.identity.IdentityFault.TheVariants.{Length, Unprintable, Patient, Recording, Duration, Label, Physical, Digital, Samples, Size, Memory}
-use Rattle.edf_header.specs.Number.{duration_of}
+use Rattle.edf_field.specs.Number.{duration_of}
 use Rattle.edf_header.proofs.Faults.{key-clean}
 use Rattle.edf_holdings.proofs.Joining.{lasting}
 use Rattle.edf_rows.specs.Cells.{recording_cells, recordings_in, records_in}

@@ -13,10 +13,10 @@ use Rattle.sqlite.specs.Given.{HasGiven, Advances}
 use Rattle.sqlite.specs.State.{State, Shown, IsUnchanged}
 use Rattle.sqlite.specs.Listing.{understood}
 use Rattle.sqlite.proofs.Callers.{IsPlain}
-use Rattle.edf_header.specs.Number.{duration_of}
+use Rattle.edf_field.specs.Number.{duration_of}
 use Rattle.edf_header.specs.Key.{Key}
 use Rattle.edf_fragment.specs.Fragment.{DataRecord}
-use Rattle.edf_holdings.specs.Sound.{AreSound}
+use Rattle.edf_fragment.specs.Sound.{AreSound}
 use Rattle.edf_tables.specs.Schema.{both_schema}
 use Rattle.edf_tables.specs.Cells.{first_three}
 use Rattle.edf_tables.proofs.QueryTexts.{walk_text, walk_is}

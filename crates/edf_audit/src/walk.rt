@@ -3,7 +3,7 @@
 ghost use Rattle.std.specs.Prelude.{◌≡◌, ◌<◌, ◌^◌, ◌-◌, ℕ, IfOk, OnOk, OnErr, MatchOption};
 ghost use Rattle.sqlite.specs.Held.{state};
 ghost use Rattle.sqlite.specs.State.{HasCleanDisk, Survives, KeepsCommit, IsUnchanged};
-ghost use Rattle.edf_header.specs.Number.{duration_of};
+ghost use Rattle.edf_field.specs.Number.{duration_of};
 ghost use Rattle.edf_tables.specs.Schema.{both_schema};
 ghost use Rattle.edf_rows.specs.Cells.{records_in};
 ghost use Rattle.edf_rows.specs.Foreign.{IsBadRow};

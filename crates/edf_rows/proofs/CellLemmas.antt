@@ -6,14 +6,14 @@ use Rattle.sqlite_value.specs.Order.{Row}
 use Rattle.edf_header.specs.Key.{Key}
 use Rattle.edf_header.specs.Signal.{samples_in_all}
 use Rattle.edf_tal.specs.Tal.{Annotation}
-use Rattle.edf_tal.specs.Block.{IsRead, IsBlockFault, IsRefusal}
+use Rattle.edf_tal.specs.Block.{IsRead, IsBlockFault, IsBlockRefusal}
 use Rattle.edf_tal.specs.declared.place.Place.TheVariants.{Any}
 use Rattle.edf_tal.specs.declared.place.TalFault.{TalFault}
 use Rattle.edf_tal.specs.declared.place.TalFault.TheVariants.{Tal as NotTals, Text, NotTimed, FirstOnset, Window, Order, TooMany, Memory}
 use Rattle.std.proofs.lemmas.Int.{to_z-of_z}
 use Rattle.edf_tal.specs.Canonical.{block_text}
-use Rattle.edf_tal.proofs.OneAnswer.{one-read, read-no-fault}
-use Rattle.edf_tal.proofs.ReadNotes.{read-start, read-notes}
+use Rattle.edf_tal.proofs.Cited.{one-read, read-no-fault}
+use Rattle.edf_tal.proofs.Cited.{read-start, read-annotations}
 use Rattle.edf_fragment.specs.Fragment.{DataRecord, IsWithinSize}
 use Rattle.edf_rows.specs.Foreign.{IsBadRow, bad_samples, bad_block}
 use Rattle.edf_rows.specs.Shape.{OwnBlock, NoOwnBlock, IsRowOf}
@@ -36,7 +36,7 @@ row-of k start samples block list own len = record {
     samples_len = len;
     start = read-start block 0 Any start list own.read;
     limits = own.read.limits;
-    notes = read-notes block 0 Any start list own.read;
+    notes = read-annotations block 0 Any start list own.read;
   };
 }
 
@@ -61,7 +61,7 @@ bad-starts k start samples block read list is other = bad_block (λ own.
     let one = one-read block 0 Any read own.start list own.list is.read (subst (λ b. IsRead b 0 Any own.start own.list) same own.read) in
     other (ap pos one.start ∙ sym (int-number start (pos own.start) own.starts)))
 
-pub fault-of : (block : List ℕ) (fault : TalFault) → fault ≢ Memory → IsRefusal block 0 Any fault → IsBlockFault block 0 Any fault
+pub fault-of : (block : List ℕ) (fault : TalFault) → fault ≢ Memory → IsBlockRefusal block 0 Any fault → IsBlockFault block 0 Any fault
 fault-of block (NotTals offset) other refused = refused
 fault-of block (Text offset) other refused = refused
 fault-of block NotTimed other refused = refused

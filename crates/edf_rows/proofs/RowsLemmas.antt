@@ -11,16 +11,16 @@ use Rattle.sqlite_value.specs.declared.value.Value.{Value}
 use Rattle.sqlite_value.specs.declared.value.Value.TheVariants.{Null, Int, Real, Text, Blob}
 use Rattle.sqlite_value.specs.Order.{Row, column}
 use Rattle.sqlite_trees.specs.Tree.{Trees}
-use Rattle.edf_header.specs.Number.{duration_of}
+use Rattle.edf_field.specs.Number.{duration_of}
 use Rattle.edf_header.specs.Key.{Key, IsKey, key_bytes, key_at}
-use Rattle.edf_header.proofs.Keys.{key-back}
+use Rattle.edf_header.proofs.Cited.{key-back}
 use Rattle.edf_tal.specs.Canonical.{block_text}
 use Rattle.edf_tal.specs.Block.{IsRead}
 use Rattle.edf_tal.specs.declared.place.Place.TheVariants.{Any}
-use Rattle.edf_tal.proofs.Again.{one-writing, read-any}
+use Rattle.edf_tal.proofs.Cited.{one-writing, read-any}
 use Rattle.edf_fragment.specs.Fragment.{DataRecord}
 use Rattle.edf_holdings.specs.Same.{same_key}
-use Rattle.edf_holdings.specs.Sound.{IsSoundRecord}
+use Rattle.edf_fragment.specs.Sound.{IsSoundRecord}
 use Rattle.edf_holdings.specs.Rising.{IsApart}
 use Rattle.edf_holdings.specs.Holdings.{Holdings, IsSound}
 use Rattle.edf_holdings.proofs.Same.{same_key-Decides, same_key-true}

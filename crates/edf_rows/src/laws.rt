@@ -5,7 +5,7 @@ ghost use Rattle.sqlite_value.specs.Order.{Row};
 ghost use Rattle.sqlite_trees.specs.Tree.{Trees};
 ghost use Rattle.edf_header.specs.Key.{Key};
 ghost use Rattle.edf_fragment.specs.Fragment.{DataRecord};
-ghost use Rattle.edf_holdings.specs.Sound.{IsSoundRecord};
+ghost use Rattle.edf_fragment.specs.Sound.{IsSoundRecord};
 ghost use Rattle.edf_holdings.specs.Holdings.{Holdings, IsSound};
 ghost use Rattle.edf_rows.specs.Cells.{record_cells};
 ghost use Rattle.edf_rows.specs.Rows.{StandFor, AreKept};
