@@ -208,8 +208,13 @@ module _ (cap : ℕ) (key : Key) (h : Holdings) (is_key : IsKey key) (held : IsA
 pub taken_room : (cap : ℕ) (key : Key) (h : Holdings) (rs : List DataRecord) (t : Holdings) (new known : ℕ) → IsKey key → IsApart (duration_of key.duration) 0 (h key) → IsApart (duration_of key.duration) 0 rs
     → Taken cap key h rs t new known → length (h key) + new < cap → length (t key) < cap
 taken_room cap key h rs t new known is_key held a k l =
-    omega (arith, ap (λ (z : Holdings). length (z key)) (k.whole (omega arith)), ap (λ (y : List DataRecord). length y) (put_here key rs h),
-    length_joined (duration_of key.duration) 0 0 (h key) rs (lasting key is_key) a held (AreFree-from_first (duration_of key.duration) (h key) rs k.free), k.new_is)
+    omega (
+      arith,
+      ap (λ (z : Holdings). length (z key)) (k.whole (omega arith)),
+      ap (λ (y : List DataRecord). length y) (put_here key rs h),
+      length_joined (duration_of key.duration) 0 0 (h key) rs (lasting key is_key) a held (AreFree-from_first (duration_of key.duration) (h key) rs k.free),
+      k.new_is,
+    )
 
 -- the answers at the end
 

@@ -55,7 +55,7 @@ RefusedAgain = (cap : ℕ) (h : Holdings) (earlier : List Told) (told : Told) (b
     IsSound cap h → AreSoundTold (with_member earlier told between) → ¬ IsAccepted (reply cap (after cap h earlier) told) →
     (¬ IsAccepted (reply cap (after cap h (with_member earlier told between)) told)) ×
     ((fault : FragmentFault) → reply cap (after cap h earlier) told ≡ Form fault →
-        reply cap (after cap h (with_member earlier told between)) told ≡ Form fault)
+    reply cap (after cap h (with_member earlier told between)) told ≡ Form fault)
 
 -- without the repeat the holdings at the end and all other replies are the same
 abbrev pub RepeatTakenOut : Type 0
@@ -63,7 +63,7 @@ RepeatTakenOut = (cap : ℕ) (h : Holdings) (earlier : List Told) (told : Told) 
     IsSound cap h → AreSoundTold (with_member earlier told between) →
     (after cap h (with_member earlier told between ++ (told ∷ later)) ≡ after cap h (with_member earlier told between ++ later)) ×
     (remove (replies cap h (with_member earlier told between ++ (told ∷ later))) (length (with_member earlier told between))
-        ≡ replies cap h (with_member earlier told between ++ later))
+    ≡ replies cap h (with_member earlier told between ++ later))
 
 -- a list broken off after `front` and sent again from its front ends as the list sent once
 abbrev pub FromTheFront : Type 0

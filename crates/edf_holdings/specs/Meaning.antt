@@ -91,9 +91,9 @@ ClashIsThere = (cap : ℕ) (h : Holdings) (key : Key) (records : List DataRecord
 abbrev pub CountsAreNamed : Type 0
 CountsAreNamed = (cap : ℕ) (h : Holdings) (key : Key) (records : List DataRecord) → IsClear h key records →
     (0 < new_of (h key) records → cap < length (h key) + new_of (h key) records →
-        reply cap h (Fragment key records) ≡ Full (length (h key)) (new_of (h key) records) cap) ×
+    reply cap h (Fragment key records) ≡ Full (length (h key)) (new_of (h key) records) cap) ×
     ((new_of (h key) records ≡ 0) ⊎ (length (h key) + new_of (h key) records ≤ cap) →
-        reply cap h (Fragment key records) ≡ Accepted key (new_of (h key) records) (length records - new_of (h key) records))
+    reply cap h (Fragment key records) ≡ Accepted key (new_of (h key) records) (length records - new_of (h key) records))
 
 -- and the new ones are those by which the recording grows
 abbrev pub NewIsCounted : Type 0
@@ -134,5 +134,5 @@ NearTwo = (cap : ℕ) (h : Holdings) (k : Key) (start : ℕ) → IsSound cap h �
 abbrev pub NearIsSelected : Type 0
 NearIsSelected = (cap : ℕ) (h : Holdings) (k : Key) (start : ℕ) (ys : List DataRecord) → IsSound cap h → IsRising ys →
     ((r : DataRecord) → Contains ys r
-        ↔ (Contains (h k) r × (r.start < start + duration_of k.duration) × (start < r.start + duration_of k.duration))) →
+    ↔ (Contains (h k) r × (r.start < start + duration_of k.duration) × (start < r.start + duration_of k.duration))) →
     ys ≡ near_of (duration_of k.duration) start (h k)
