@@ -8,53 +8,8 @@ use Rattle.std.proofs.lemmas.Bool.Decides.{Decides-int_eq, not_from_Decides}
 use Rattle.std.proofs.lemmas.Int.{by_lt_z}
 use Rattle.std.proofs.lemmas.List.Elements.{All-nil, All-cons}
 use Rattle.std.proofs.lemmas.Slice.Eq.{bytes_eq-Decides}
-use Rattle.jiff_core.proofs.SignedLemmas.{signed_arith}
+pub use Rattle.edf_time.proofs.Decided.{Decided, of-test, like, both, either, less, at-most, at-most-int, less-int, same-bytes, some-below}
 use Rattle.edf_header.specs.Signal.{IsFirstBad}
-
--- it holds or it does not
-abbrev pub Decided : Type 0 → Type 0
-Decided P = P ⊎ (¬ P)
-
-pub of-test : {P : Type 0} (r : Bool) → Decides r P → Decided P
-of-test r d =
-    elim (cases_Bool r) [
-      | inl is ↦ inl (d.0 is)
-      | inr never ↦ inr (not_from_Decides r d never)
-    ]
-
-pub like : {P Q : Type 0} → Decided P → (P → Q) → (Q → P) → Decided Q
-like d to from =
-    elim d [
-      | inl p ↦ inl (to p)
-      | inr never ↦ inr (λ q. never (from q))
-    ]
-
-pub both : {P Q : Type 0} → Decided P → Decided Q → Decided (P × Q)
-both d e =
-    elim d [
-      | inl p ↦ elim e [
-        | inl q ↦ inl (p, q)
-        | inr never ↦ inr (λ pq. never pq.1)
-      ]
-      | inr never ↦ inr (λ pq. never pq.0)
-    ]
-
-either-no : {P Q : Type 0} → (¬ P) → (¬ Q) → ¬ (P ⊎ Q)
-either-no never none pq =
-    elim pq [
-      | inl p ↦ never p
-      | inr q ↦ none q
-    ]
-
-pub either : {P Q : Type 0} → Decided P → Decided Q → Decided (P ⊎ Q)
-either d e =
-    elim d [
-      | inl p ↦ inl (inl p)
-      | inr never ↦ elim e [
-        | inl q ↦ inl (inr q)
-        | inr none ↦ inr (either-no never none)
-      ]
-    ]
 
 pub negated : {P : Type 0} → Decided P → Decided (¬ P)
 negated d =
@@ -81,20 +36,6 @@ held d not-not =
       | inr never ↦ absurd (not-not never)
     ]
 
-pub less : (a b : ℕ) → Decided (a < b)
-less a b =
-    elim (cases_lt a b) [
-      | inl lt ↦ inl lt
-      | inr le ↦ inr (λ lt. absurd (omega arith))
-    ]
-
-pub at-most : (a b : ℕ) → Decided (a ≤ b)
-at-most a b =
-    elim (cases_lt b a) [
-      | inl lt ↦ inr (λ le. absurd (omega arith))
-      | inr le ↦ inl le
-    ]
-
 pub same : (a b : ℕ) → Decided (a ≡ b)
 same a b =
     elim (cases_eq a b) [
@@ -102,32 +43,8 @@ same a b =
       | inr never ↦ inr never
     ]
 
-pub same-bytes : (a b : List ℕ) → Decided (a ≡ b)
-same-bytes a b = of-test _ (bytes_eq-Decides a b)
-
 pub same-int : (a b : ℤ) → Decided (a ≡ b)
 same-int a b = of-test _ (Decides-int_eq a b)
-
-pub less-int : (a b : ℤ) → Decided (a <ℤ b)
-less-int a b = by_lt_z {P = Decided (a <ℤ b)} a b (λ lt. inl lt) (λ le. inr (λ lt. absurd (omega (arith, signed_arith))))
-
-pub at-most-int : (a b : ℤ) → Decided (a ≤ℤ b)
-at-most-int a b = by_lt_z {P = Decided (a ≤ℤ b)} b a (λ lt. inr (λ le. absurd (omega (arith, signed_arith)))) (λ le. inl le)
-
--- whether a number below a bound has it
-pub some-below : (P : ℕ → Type 0) → ((k : ℕ) → Decided (P k)) → (n : ℕ) → Decided ((k : ℕ) × (k < n) × P k)
-some-below P each zero = inr (λ s. absurd (omega (arith, s.1)))
-some-below P each (suc n) =
-    elim (some-below P each n) [
-      | inl s ↦ inl (s.0, omega (arith, s.1), s.2)
-      | inr none ↦ elim (each n) [
-        | inl p ↦ inl (n, omega arith, p)
-        | inr never ↦ inr (λ s. elim (cases_lt s.0 n) [
-          | inl lt ↦ none (s.0, lt, s.2)
-          | inr le ↦ let e : s.0 ≡ n = omega (arith, s.1) in never (subst P e s.2)
-        ])
-      ]
-    ]
 
 -- every member has it, or one is the first that has it not
 good-more : {X : Type 0} (P : X → Type 0) (x : X) (xs : List X) (at : ℕ) → P x → AllWithin P xs 0 at → AllWithin P (x ∷ xs) 0 (suc at)

@@ -10,7 +10,7 @@ use Rattle.edf_field.specs.Number.{field, AreSpaces, IsDuration, front_len}
 use Rattle.edf_field.specs.Text.{IsBehindStartdate, IsBirthdate, IsPatient, IsRecording, IsSex, subfields}
 use Rattle.edf_header.proofs.Decided.{Decided, like, both, either, less, same, same-bytes, every, some-below}
 use Rattle.edf_header.proofs.DecidedFields.{spaces, behind-startdate}
-use Rattle.edf_header.proofs.DecidedDates.{id-date}
+use Rattle.edf_time.proofs.Cited.{some-id_date}
 
 all-digits : (ds : List ℕ) → Decided (AllDigits 10 ds)
 all-digits [] = inl tt
@@ -81,7 +81,7 @@ sex : (text : List ℕ) → Decided (IsSex text)
 sex text = either (same-bytes text (codes "F")) (either (same-bytes text (codes "M")) (same-bytes text (codes "X")))
 
 birthdate : (text : List ℕ) → Decided (IsBirthdate text)
-birthdate text = either (same-bytes text (codes "X")) (id-date text)
+birthdate text = either (same-bytes text (codes "X")) (some-id_date text)
 
 patient-by : (text : List ℕ) (parts : List (List ℕ)) → subfields text ≡ parts → Decided (IsPatient text)
 patient-by text (c ∷ s ∷ b ∷ n ∷ more) e =
@@ -120,5 +120,5 @@ to-dated text (Some day) after r = inr ((r.front.0, (day, r.front.1)), subst IsB
 pub recording : (text : List ℕ) → Decided (HasRecording text)
 recording text =
     like (either (both (same-bytes (take 11 text) (codes "Startdate X")) (behind-startdate (drop 11 text)))
-    (both (both (same-bytes (take 10 text) (codes "Startdate ")) (id-date (field text 10 11))) (behind-startdate (drop 21 text))))
+    (both (both (same-bytes (take 10 text) (codes "Startdate ")) (some-id_date (field text 10 11))) (behind-startdate (drop 21 text))))
     (from-dated text) (λ r. to-dated text r.0 r.1 r.2)

@@ -18,7 +18,7 @@ use Rattle.edf_header.proofs.Faults.{not-bad}
 use Rattle.edf_header.proofs.RowFaults.{has-annotations}
 use Rattle.edf_header.proofs.Decided.{Decided, like, negated, less, same-bytes, same-int, first-bad}
 use Rattle.edf_header.proofs.DecidedFields as fields
-use Rattle.edf_header.proofs.DecidedDates as dates
+use Rattle.edf_time.proofs.Cited.{some-date, some-time}
 use Rattle.edf_header.proofs.DecidedTexts as texts
 use Rattle.edf_header.proofs.DecidedSignals as rows
 
@@ -108,7 +108,7 @@ same-day (Some day) days = same-int day (pos days)
 other-dates : (b : List ℕ) → Decided (DatesAreOther b)
 other-dates b =
     elim (texts.recording (field b 88 80)) [
-      | inl r ↦ elim (dates.date (field b 168 8)) [
+      | inl r ↦ elim (some-date (field b 168 8)) [
         | inl d ↦ elim (same-day r.0 d.0) [
           | inl is ↦ inr (λ o.
               let startdate = (one-after (field b 88 80) r.0 o.startdate r.1 o.after r.2.front o.recording.front).0 in
@@ -144,8 +144,8 @@ fixed-rows b =
     (row (FixedPartFails b) 10 (λ at. refl) (plain (negated (fields.count b)))
     (row (FixedPartFails b) 9 (λ at. refl) (plain (negated (fields.plus (field b 192 44))))
     (row (FixedPartFails b) 8 (λ at. refl) (plain (other-dates b))
-    (row (FixedPartFails b) 7 (λ at. refl) (plain (none-of (IsTimeText (field b 176 8)) (dates.time (field b 176 8))))
-    (row (FixedPartFails b) 6 (λ at. refl) (plain (none-of (IsDateText (field b 168 8)) (dates.date (field b 168 8))))
+    (row (FixedPartFails b) 7 (λ at. refl) (plain (none-of (IsTimeText (field b 176 8)) (some-time (field b 176 8))))
+    (row (FixedPartFails b) 6 (λ at. refl) (plain (none-of (IsDateText (field b 168 8)) (some-date (field b 168 8))))
     (row (FixedPartFails b) 5 (λ at. refl) (plain (no-recording (field b 88 80)))
     (row (FixedPartFails b) 4 (λ at. refl) (plain (negated (texts.patient (field b 8 80))))
     (row (FixedPartFails b) 3 (λ at. refl) (plain (negated (same-bytes (field b 0 8) (codes "0       "))))

@@ -18,7 +18,7 @@ use Rattle.edf_header.proofs.Headers.{are-signals, header_of}
 use Rattle.edf_header.proofs.SpelledOnce.{number-at}
 use Rattle.edf_header.proofs.Decided.{Decided, held, same-bytes, first-bad}
 use Rattle.edf_header.proofs.DecidedFields as fields
-use Rattle.edf_header.proofs.DecidedDates as dates
+use Rattle.edf_time.proofs.Cited.{some-date, some-time}
 use Rattle.edf_header.proofs.DecidedTexts as texts
 use Rattle.edf_header.proofs.DecidedSignals as rows
 use Rattle.edf_header.proofs.FirstFault.{fixed-rows, same-day, signal-rows}
@@ -36,8 +36,8 @@ some-of P d not-none = held d (λ none. not-none (λ x p. none (x, p)))
 fixed-part : (b : List ℕ) → length b ≤ 256 → IsClean (FixedPartFails b) 14 → (h : FixedPart) × IsFixedHeader b h
 fixed-part b le clean =
     let recording : texts.HasRecording (field b 88 80) = held (texts.recording (field b 88 80)) (λ none. clean Recording (omega arith) (λ s after is. none (s, after, is))) in
-    let date : (days : ℕ) × IsDateText (field b 168 8) days = some-of (IsDateText (field b 168 8)) (dates.date (field b 168 8)) (clean Startdate (omega arith)) in
-    let time : (seconds : ℕ) × IsTimeText (field b 176 8) seconds = some-of (IsTimeText (field b 176 8)) (dates.time (field b 176 8)) (clean Starttime (omega arith)) in
+    let date : (days : ℕ) × IsDateText (field b 168 8) days = some-of (IsDateText (field b 168 8)) (some-date (field b 168 8)) (clean Startdate (omega arith)) in
+    let time : (seconds : ℕ) × IsTimeText (field b 176 8) seconds = some-of (IsTimeText (field b 176 8)) (some-time (field b 176 8)) (clean Starttime (omega arith)) in
     let count = held (fields.count b) (clean Count (omega arith)) in
     let signals : (n : ℕ) × HasSignals b n = some-of (HasSignals b) (fields.signals b) (clean Signals (omega arith)) in (
       record {

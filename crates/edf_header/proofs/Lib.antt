@@ -1,6 +1,5 @@
 pub mod Decided
 pub mod DecidedFields
-pub mod DecidedDates
 pub mod DecidedTexts
 pub mod DecidedSignals
 pub mod FirstFault

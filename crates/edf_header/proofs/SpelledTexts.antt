@@ -4,8 +4,8 @@ use Rattle.std.specs.Prelude.{All, codes, Bool, true, nat_lt, ◌&&◌}
 use Rattle.std.proofs.lemmas.Bool.{and_parts, ltb-true}
 use Rattle.std.proofs.lemmas.List.{length-append, length-take, length-drop}
 use Rattle.std.proofs.lemmas.List.Elements.{All-nil, All-cons, All-append, All-take, All-drop}
-use Rattle.jiff_core.proofs.CalendarLemmas.{days_in_month_bounds}
-use Rattle.edf_time.specs.Civil.{IsDay, IsDateText, IsTimeText, IsIdDate, two_digits, four_digits, month_name}
+use Rattle.edf_time.proofs.Cited.{in-bounds}
+use Rattle.edf_time.specs.Civil.{IsDateText, IsTimeText, IsIdDate, two_digits, four_digits, month_name}
 use Rattle.edf_field.specs.Text.{IsPrintable}
 use Rattle.edf_header.specs.Spelled.{IsPrinted}
 
@@ -18,19 +18,9 @@ two-printable n low =
 between : (a b : List ℕ) (mark : ℕ) → 32 ≤ mark → mark ≤ 126 → All IsPrintable a → All IsPrintable b → All IsPrintable (a ++ mark ∷ b)
 between a b mark from to pa pb = All-append IsPrintable a (mark ∷ b) pa (All-cons IsPrintable mark b (record { from = from; to = to }) pb)
 
-record IsSmallDate (month day : ℕ) : Type 0 where
-  month_from : 1 ≤ month
-  month_to : month ≤ 12
-  day_to : day ≤ 31
-
-small-date : (year month day : ℕ) (days : ℤ) → IsDay year month day days → IsSmallDate month day
-small-date year month day days d =
-    let b = days_in_month_bounds (pos year) month in
-    record { month_from = d.exists.1.0; month_to = d.exists.1.1; day_to = omega (arith, b.0, d.exists.2.1) }
-
 pub date-printed : (text : List ℕ) (days : ℕ) → IsDateText text days → IsPrinted 8 text
 date-printed text days t =
-    let s = small-date t.year t.month t.day (pos days) t.is_day in
+    let s = in-bounds t.year t.month t.day (pos days) t.is_day in
     let printed : All IsPrintable (two_digits t.day ++ 46 ∷ two_digits t.month ++ 46 ∷ two_digits (t.year % 100)) =
     between (two_digits t.day ++ 46 ∷ two_digits t.month) (two_digits (t.year % 100)) 46 (omega arith) (omega arith)
     (between (two_digits t.day) (two_digits t.month) 46 (omega arith) (omega arith) (two-printable t.day (omega (arith, s.day_to))) (two-printable t.month (omega (arith, s.month_to))))
@@ -65,7 +55,7 @@ months-printable = printable-by (codes "JANFEBMARAPRMAYJUNJULAUGSEPOCTNOVDEC") r
 
 pub id_date-printed : (text : List ℕ) (days : ℤ) → IsIdDate text days → IsPrinted 11 text
 id_date-printed text days t =
-    let s = small-date t.year t.month t.day days t.is_day in
+    let s = in-bounds t.year t.month t.day days t.is_day in
     let months : List ℕ = codes "JANFEBMARAPRMAYJUNJULAUGSEPOCTNOVDEC" in
     let name : length (month_name t.month) ≡ 3 = omega (arith, length-take 3 (drop (3 * (t.month - 1)) months), length-drop (3 * (t.month - 1)) months, s.month_from, s.month_to) in
     let printed : All IsPrintable (two_digits t.day ++ 45 ∷ month_name t.month ++ 45 ∷ four_digits t.year) =

@@ -1,6 +1,6 @@
--- Facts that hold or do not.
+-- Facts that hold or do not; other crates' proofs may cite this file too.
 use Rattle.std.proofs.Common.{◌≡◌, ℕ, zero, suc, ◌≤◌, ◌<◌, ◌⊎◌, inl, inr, Bool, List, [], ◌∷◌, arith, subst, ℤ}
-use Rattle.std.specs.Prelude.{All, ◌≤ℤ◌}
+use Rattle.std.specs.Prelude.{All, ◌<ℤ◌, ◌≤ℤ◌}
 use Rattle.std.specs.Bool.{Decides}
 use Rattle.std.proofs.lemmas.Bool.{cases_lt, cases_eq, cases_Bool}
 use Rattle.std.proofs.lemmas.Bool.Decides.{not_from_Decides}
@@ -9,10 +9,11 @@ use Rattle.std.proofs.lemmas.List.Elements.{All-nil, All-cons, All-head, All-tai
 use Rattle.std.proofs.lemmas.Slice.Eq.{bytes_eq-Decides}
 use Rattle.jiff_core.proofs.SignedLemmas.{signed_arith}
 
+-- it holds or it does not
 abbrev pub Decided : Type 0 → Type 0
 Decided P = P ⊎ (¬ P)
 
-of-test : {P : Type 0} (r : Bool) → Decides r P → Decided P
+pub of-test : {P : Type 0} (r : Bool) → Decides r P → Decided P
 of-test r d = elim (cases_Bool r) [ inl is ↦ inl (d.0 is) | inr never ↦ inr (not_from_Decides r d never) ]
 
 pub like : {P Q : Type 0} → Decided P → (P → Q) → (Q → P) → Decided Q
@@ -40,6 +41,9 @@ less a b = elim (cases_lt a b) [ inl lt ↦ inl lt | inr le ↦ inr (λ lt. absu
 
 pub at-most : (a b : ℕ) → Decided (a ≤ b)
 at-most a b = elim (cases_lt b a) [ inl lt ↦ inr (λ le. absurd (omega arith)) | inr le ↦ inl le ]
+
+pub less-int : (a b : ℤ) → Decided (a <ℤ b)
+less-int a b = by_lt_z {P = Decided (a <ℤ b)} a b (λ lt. inl lt) (λ le. inr (λ lt. absurd (omega (arith, signed_arith))))
 
 pub at-most-int : (a b : ℤ) → Decided (a ≤ℤ b)
 at-most-int a b = by_lt_z {P = Decided (a ≤ℤ b)} b a (λ lt. inr (λ le. absurd (omega (arith, signed_arith)))) (λ le. inl le)
