@@ -1,14 +1,11 @@
 -- Sound records of a key have a canonical file.
-use Rattle.std.proofs.Common.{◌≡◌, ℕ, ◌+◌, ◌*◌, ◌/◌, ◌^◌, ◌≤◌, ◌<◌, max, List, [], ◌∷◌, ◌++◌, length, refl, arith, All, codes, if◌then◌else◌}
+use Rattle.std.proofs.Common.{ℕ, ◌+◌, ◌*◌, ◌/◌, ◌≤◌, ◌<◌, max, List, [], ◌∷◌, ◌++◌, length, refl, arith}
 use Rattle.std.specs.List.{flat_map}
-use Rattle.std.specs.Fmt.{decimal}
 use Rattle.std.proofs.lemmas.List.Elements.{All-head, All-tail, All-cons, All-nil, All-weaker}
 use Rattle.edf_time.specs.Civil.{window, day_of, second_of_day}
 use Rattle.edf_time.proofs.Cited.{date-text, time-text, id_date-text}
-use Rattle.edf_field.specs.Text.{padded_to}
-use Rattle.edf_header.specs.Signal.{columns}
 use Rattle.edf_header.specs.Key.{Key, IsKey}
-use Rattle.edf_header.specs.Canonical.{IsExportHeader, export_signals}
+use Rattle.edf_header.specs.Canonical.{IsExportHeader}
 use Rattle.edf_fragment.specs.Fragment.{DataRecord, Spells}
 use Rattle.edf_fragment.specs.Sound.{AreSound}
 use Rattle.edf_fragment.proofs.Sound.{spelled-key, spelled-sound, spelled-some, spelled-few}
