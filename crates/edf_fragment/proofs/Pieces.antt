@@ -1,5 +1,5 @@
 -- Data records that are read in pieces.
-use Rattle.std.proofs.Common.{◌≡◌, ℕ, ◌+◌, ◌≤◌, ◌<◌, List, [], ◌∷◌, ◌++◌, length, take, drop, arith, refl, sym, ap, ◌∙◌, subst, length-append, append_assoc, take_at, drop_at, take-append-drop, length-take-le, Option, Result, Ok, Err, MatchResult}
+use Rattle.std.proofs.Common.{◌≡◌, ℕ, ◌+◌, ◌≤◌, ◌<◌, inr, List, [], ◌∷◌, ◌++◌, length, take, drop, arith, refl, sym, ap, ◌∙◌, subst, length-append, append_assoc, take_at, drop_at, take-append-drop, length-take-le, Option, Result, Ok, Err, MatchResult}
 use Rattle.std.specs.Io.KnownBytes.{Consumes}
 use Rattle.std.proofs.KnownBytes.{Consumes-trans}
 use Rattle.edf_header.specs.Header.{Layout}
@@ -109,12 +109,9 @@ refused_block l p left rest samples blk nth e h is fault = record {
 pub told_block : (l : Layout) (p : Progress) (left rest : Option (List ℕ)) (samples blk : List ℕ) (s nth : ℕ) (e : TalFault) (told : FragmentFault)
     → HasPieces l p left rest samples blk → s ≡ l.start → nth ≡ p.given + 1 → (e ≡ TalMemory → told ≡ Memory) → ((e ≡ TalMemory → ⊥) → told ≡ Tal nth e)
     → IsBlockRefusal blk s p.place e → IsNextFault l p left rest told
-told_block l p left rest samples blk s nth TalMemory told h from is memory other refusal =
-    subst (IsNextFault l p left rest) (sym (memory refl)) (record {
-      bytes = around l.block_at samples blk;
-      read = h.read;
-      within = omega (arith, length-around l.block_at samples blk, h.total, h.len);
-    })
+told_block l p left rest samples blk s nth TalMemory told h from is memory other (start, list, read) =
+    let r : DataRecord = record { start = start; samples = samples; annotations = list } in
+    subst (IsNextFault l p left rest) (sym (memory refl)) (record { wanted = h.wanted; read = inr (r, given_record l p left rest samples blk s r r h from read refl refl) })
 told_block l p left rest samples blk s nth (NotTals at) told h from is memory other refusal =
     subst (IsNextFault l p left rest) (sym (other (λ no. cc))) (refused_block l p left rest samples blk nth (NotTals at) h is (subst (λ (n : ℕ). IsBlockFault blk n p.place (NotTals at)) from refusal))
 told_block l p left rest samples blk s nth (Text at) told h from is memory other refusal =

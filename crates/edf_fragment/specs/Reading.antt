@@ -1,8 +1,8 @@
 -- What a reader of fragments reads and answers, call by call. Each says which bytes were read, so pieces don't matter.
-use Rattle.std.specs.Prelude.{◌≡◌, ℕ, ◌+◌, ◌*◌, ◌≤◌, ◌<◌, ◌⊎◌, List, [], ◌∷◌, length, Option, Some, None, Result, Ok, Err, IfSome, MatchResult}
+use Rattle.std.specs.Prelude.{◌≡◌, ℕ, ◌+◌, ◌*◌, ◌≤◌, ◌<◌, ◌⊎◌, List, [], ◌∷◌, ◌++◌, length, Option, Some, None, Result, Ok, Err, IfSome, MatchResult}
 use Rattle.std.specs.Io.KnownBytes.{Consumes, IsAtEnd}
-use Rattle.edf_header.specs.Header.{HeaderRecord, IsHeader, Layout, layout_of}
-use Rattle.edf_header.specs.Fault.{HasSignals, IsHeaderFault, header_fault_number}
+use Rattle.edf_header.specs.Header.{HeaderRecord, FixedPart, IsFixedHeader, IsHeader, Layout, layout_of}
+use Rattle.edf_header.specs.Fault.{HasSignals, SignalsFail, IsClean, IsHeaderFault, header_fault_number}
 use Rattle.edf_header.specs.declared.fault.HeaderFault.{HeaderFault}
 use Rattle.edf_header.specs.declared.fault.HeaderFault.TheVariants.{Cut, CutSignals}
 use Rattle.edf_tal.specs.Block.{IsBlockFault}
@@ -54,11 +54,22 @@ pub record ReadsInHeader (left rest : Option (List ℕ)) : Type 0 where
   pub read : Consumes left rest bytes
   pub within : (length bytes ≤ 256) ⊎ ((n : ℕ) × HasSignals bytes n × (length bytes ≤ 256 + 256 * n))
 
+-- memory ran out behind a fixed part without a fault: before a byte of its signals was read, or behind signals that are
+-- as long as they must be and printable
+pub record LacksHeaderMemory (left rest : Option (List ℕ)) : Type 0 where
+  pub fixed : FixedPart
+  pub first : List ℕ
+  pub second : List ℕ
+  pub read : Consumes left rest (first ++ second)
+  pub is_fixed : IsFixedHeader first fixed
+  pub within : length second ≤ 256 * fixed.signal_count
+  pub clean : (second ≡ []) ⊎ IsClean (SignalsFail second fixed.signal_count) 16
+
 -- why there is no header, and what of the input was read
 abbrev pub IsOpenFault : Option (List ℕ) → Option (List ℕ) → FragmentFault → Type 0
 IsOpenFault left rest (BadHeader fault) = ReadsHeaderFault left rest fault
 IsOpenFault left rest Read = ReadsInHeader left rest
-IsOpenFault left rest Memory = ReadsInHeader left rest
+IsOpenFault left rest Memory = LacksHeaderMemory left rest
 IsOpenFault left rest fault = ⊥
 
 -- how far a reader is that gave no record yet
@@ -108,13 +119,18 @@ pub record FindsMore (l : Layout) (from : Progress) (left rest : Option (List �
   pub all : from.given ≡ l.count
   pub read : Consumes left rest (byte ∷ [])
 
+-- memory ran out before a byte of the next record was read, or behind a record whose block has no fault
+pub record LacksRecordMemory (l : Layout) (from : Progress) (left rest : Option (List ℕ)) : Type 0 where
+  pub wanted : from.given < l.count
+  pub read : Consumes left rest [] ⊎ ((r : DataRecord) × GivesRecord l from left rest r)
+
 -- why there is no next record, and what of the input was read
 abbrev pub IsNextFault : Layout → Progress → Option (List ℕ) → Option (List ℕ) → FragmentFault → Type 0
 IsNextFault l from left rest (CutRecord nth) = EndsInRecord l from left rest nth
 IsNextFault l from left rest (Tal nth fault) = RefusesBlock l from left rest nth fault
 IsNextFault l from left rest Trailing = FindsMore l from left rest
 IsNextFault l from left rest Read = ReadsWithin l.record_bytes left rest
-IsNextFault l from left rest Memory = ReadsWithin l.record_bytes left rest
+IsNextFault l from left rest Memory = LacksRecordMemory l from left rest
 IsNextFault l from left rest fault = ⊥
 
 -- what comes next: a record, the end or a fault

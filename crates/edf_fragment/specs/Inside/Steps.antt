@@ -1,8 +1,8 @@
 -- What the steps of a reader read: the two parts of a header, a part of a data record, the end.
-use Rattle.std.specs.Prelude.{◌≡◌, ℕ, ◌*◌, ◌≤◌, ◌<◌, List, [], ◌∷◌, length, Option}
+use Rattle.std.specs.Prelude.{◌≡◌, ℕ, ◌*◌, ◌≤◌, ◌<◌, ◌⊎◌, List, [], ◌∷◌, length, Option}
 use Rattle.std.specs.Io.KnownBytes.{Consumes, IsAtEnd}
 use Rattle.edf_header.specs.Header.{HeaderRecord, FixedPart, IsFixedHeader, AreSignals, Layout, layout_of}
-use Rattle.edf_header.specs.Fault.{IsFirst, SignalsFail}
+use Rattle.edf_header.specs.Fault.{IsClean, IsFirst, SignalsFail}
 use Rattle.edf_header.specs.declared.fault.HeaderFault.{HeaderFault}
 use Rattle.edf_header.specs.declared.fault.HeaderFault.TheVariants.{CutSignals}
 use Rattle.edf_tal.specs.declared.place.Place.{Place}
@@ -35,11 +35,18 @@ pub record ReadsSignalsFault (left rest : Option (List ℕ)) (n : ℕ) (fault : 
   pub is_fault : IsFirst (SignalsFail bytes n) fault
   pub ended : fault ≡ CutSignals → IsAtEnd rest
 
+-- memory ran out before a byte of n signals was read, or behind signals that are as long as they must be and printable
+pub record LacksSignalsMemory (left rest : Option (List ℕ)) (n : ℕ) : Type 0 where
+  pub bytes : List ℕ
+  pub read : Consumes left rest bytes
+  pub within : length bytes ≤ 256 * n
+  pub clean : (bytes ≡ []) ⊎ IsClean (SignalsFail bytes n) 16
+
 -- why there are no signals, and what of the input was read
 abbrev pub IsSignalsFault : Option (List ℕ) → Option (List ℕ) → ℕ → FragmentFault → Type 0
 IsSignalsFault left rest n (BadHeader fault) = ReadsSignalsFault left rest n fault
 IsSignalsFault left rest n Read = ReadsWithin (256 * n) left rest
-IsSignalsFault left rest n Memory = ReadsWithin (256 * n) left rest
+IsSignalsFault left rest n Memory = LacksSignalsMemory left rest n
 IsSignalsFault left rest n fault = ⊥
 
 -- fewer bytes were read than were wanted, and no more follow

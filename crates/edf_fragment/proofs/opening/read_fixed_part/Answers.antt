@@ -1,4 +1,4 @@
-use Rattle.std.proofs.Common.{◌<◌, length, take, arith, refl, inr, inl}
+use Rattle.std.proofs.Common.{◌<◌, length, take, arith, refl, inl}
 use Rattle.edf_fragment.proofs.HeaderParts.{cut_header, told_first}
 use Rattle.std.proofs.lemmas.List.{length-take}
 use Rattle.edf_fragment.proofs.opening.read_fixed_part.Goals as goal
@@ -10,7 +10,7 @@ returns-in-Cut-clause-step g c =
     record { bytes = take c.in-Cut.at c.fill.new.buf; read = cut.1; is_fault = cut_header _ few; ended = λ _. cut.2; no_signals = λ low. omega (arith, few); no_records = λ n has. omega (arith, few) }
 
 pub returns-in-Err-clause-step : goal.returns-in-Err-clause-step
-returns-in-Err-clause-step g c = told_first _ _ c.fill.new.buf _ _ (omega arith) (c.in-Full.ensures.full refl) c.header_refusal.ensures.memory c.header_refusal.ensures.other (inr c.in-Err.ensures)
+returns-in-Err-clause-step g c = told_first _ _ c.fill.new.buf _ _ (omega arith) (c.in-Full.ensures.full refl) c.header_refusal.ensures.other c.in-Err.ensures
 
 pub returns-in-Failed-clause-step : goal.returns-in-Failed-clause-step
 returns-in-Failed-clause-step g c =
