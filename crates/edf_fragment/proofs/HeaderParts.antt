@@ -9,7 +9,7 @@ use Rattle.edf_header.specs.Header.{FixedPart, IsFixedHeader, IsHeader, Layout}
 use Rattle.edf_header.specs.Fault.{FixedPartFails, SignalsFail, HasSignals, IsHeaderFault, IsFirst, IsClean, IsSignalsRefusal, header_fault_number}
 use Rattle.edf_header.specs.declared.fault.HeaderFault.{HeaderFault}
 use Rattle.edf_header.specs.declared.fault.HeaderFault.TheVariants.{Cut, Unprintable, Version, Patient, Recording, Startdate, Starttime, DatesDiffer, NotPlus, Count, Duration, Signals, HeaderBytes, CutSignals, UnprintableSignals, Annotations, Physical, Digital, Samples, Size, Memory}
-use Rattle.edf_fragment.specs.Reading.{ReadsWithin, ReadsInHeader, LacksHeaderMemory, ReadsHeader, ReadsHeaderFault, IsOpenFault, CountsAnswer}
+use Rattle.edf_fragment.specs.Reading.{ReadsFewer, ReadsInSignals, LacksHeaderMemory, ReadsHeader, ReadsHeaderFault, IsOpenFault, CountsAnswer}
 use Rattle.edf_fragment.specs.Inside.Steps.{ReadsFixed, ReadsSignals, ReadsSignalsFault, LacksSignalsMemory, IsSignalsFault}
 use Rattle.edf_fragment.specs.declared.fault.FragmentFault.{FragmentFault}
 use Rattle.edf_fragment.specs.declared.fault.FragmentFault.TheVariants.{Header as BadHeader, CutRecord, Tal, Trailing, Read, Memory as NoMemory, Failed}
@@ -117,12 +117,6 @@ count-of a b f n fixed has =
     let is : IsNumber (field a 252 4) n = subst (λ (x : List ℕ). IsNumber x n) there has.0 in
     is.value ∙ sym fixed.signals.value
 
--- a fixed part counts its signals, whatever follows it
-counts-signals : (a b : List ℕ) (f : FixedPart) → IsFixedHeader a f → HasSignals (a ++ b) f.signal_count
-counts-signals a b f fixed =
-    let there : field (a ++ b) 252 4 ≡ field a 252 4 = field_front a b 252 4 (omega (arith, fixed.len)) in
-    (subst (λ (x : List ℕ). IsNumber x f.signal_count) (sym there) fixed.signals, fixed.signals_from, fixed.signals_to)
-
 -- a header was read
 pub in-header : (left rest : Option (List ℕ)) (l : Layout) → ReadsHeader left rest l → LacksHeaderMemory left rest
 in-header left rest l h =
@@ -139,11 +133,14 @@ in-header left rest l h =
     }
 
 -- the fixed part was read, and some bytes of the signals
-in-signals : (left mid rest : Option (List ℕ)) (f : FixedPart) → ReadsFixed left mid f → ReadsWithin (256 * f.signal_count) mid rest → ReadsInHeader left rest
+in-signals : (left mid rest : Option (List ℕ)) (f : FixedPart) → ReadsFixed left mid f → ReadsFewer (256 * f.signal_count) mid rest → ReadsInSignals left rest
 in-signals left mid rest f a b = record {
-  bytes = a.bytes ++ b.bytes;
+  fixed = f;
+  first = a.bytes;
+  second = b.bytes;
   read = Consumes-trans left mid rest a.bytes b.bytes a.read b.read;
-  within = inr (f.signal_count, counts-signals a.bytes b.bytes f a.is_fixed, omega (arith, length-append a.bytes b.bytes, a.is_fixed.len, b.within));
+  is_fixed = a.is_fixed;
+  fewer = b.fewer;
 }
 
 -- the fixed part was read, and memory ran out at the signals
@@ -179,7 +176,7 @@ header_fault left mid rest f (BadHeader e) a b =
 header_fault left mid rest f (CutRecord nth) a b = b
 header_fault left mid rest f (Tal nth e) a b = b
 header_fault left mid rest f Trailing a b = b
-header_fault left mid rest f Read a b = in-signals left mid rest f a b
+header_fault left mid rest f Read a b = inr (in-signals left mid rest f a b)
 header_fault left mid rest f NoMemory a b = lacks-signals left mid rest f a b
 header_fault left mid rest f Failed a b = b
 

@@ -7,15 +7,23 @@ use Rattle.edf_tal.specs.Block.{IsRead, IsBlockFault, IsBlockRefusal}
 use Rattle.edf_tal.specs.declared.place.TalFault.{TalFault}
 use Rattle.edf_tal.specs.declared.place.TalFault.TheVariants.{Tal as NotTals, Text, NotTimed, FirstOnset, Window, Order, TooMany, Memory as TalMemory}
 use Rattle.edf_fragment.specs.Fragment.{DataRecord, IsDataRecord, block, ordinary_bytes}
-use Rattle.edf_fragment.specs.Reading.{ReadsWithin, GivesRecord, RefusesBlock, IsNextFault}
+use Rattle.edf_fragment.specs.Reading.{ReadsFewer, GivesRecord, RefusesBlock, IsNextFault}
 use Rattle.edf_fragment.specs.declared.progress.Progress.{Progress}
 use Rattle.edf_fragment.specs.Inside.Steps.{IsCutShort, IsPartFault}
 use Rattle.edf_fragment.specs.declared.fault.FragmentFault.{FragmentFault}
 use Rattle.edf_fragment.specs.declared.fault.FragmentFault.TheVariants.{Header, CutRecord, Tal, Trailing, Read, Memory, Failed}
 
 -- fewer bytes are within more
-pub fewer : (n m : ℕ) (left rest : Option (List ℕ)) → n ≤ m → ReadsWithin n left rest → ReadsWithin m left rest
-fewer n m left rest low r = record { bytes = r.bytes; read = r.read; within = omega (arith, r.within) }
+pub fewer : (n m : ℕ) (left rest : Option (List ℕ)) → n ≤ m → ReadsFewer n left rest → ReadsFewer m left rest
+fewer n m left rest low r = record { bytes = r.bytes; read = r.read; fewer = omega (arith, r.fewer) }
+
+no-bytes : (left rest : Option (List ℕ)) (bytes : List ℕ) → length bytes < 1 → Consumes left rest bytes → Consumes left rest []
+no-bytes left rest [] low read = read
+no-bytes left rest (x ∷ bytes) low read = absurd (omega arith)
+
+-- no byte, where fewer than one were read
+pub none-read : (n : ℕ) (left rest : Option (List ℕ)) → n ≤ 1 → ReadsFewer n left rest → Consumes left rest []
+none-read n left rest low r = no-bytes left rest r.bytes (omega (arith, r.fewer)) r.read
 
 -- the part before was read
 pub part_fault : (left mid rest : Option (List ℕ)) (a : List ℕ) (wanted all nth : ℕ) (e : FragmentFault) → Consumes left mid a
@@ -33,7 +41,7 @@ part_fault left mid rest a wanted all nth Trailing read fits f = f
 part_fault left mid rest a wanted all nth Read read fits f = record {
   bytes = a ++ f.bytes;
   read = Consumes-trans left mid rest a f.bytes read f.read;
-  within = omega (arith, length-append a f.bytes, f.within);
+  fewer = omega (arith, length-append a f.bytes, f.fewer);
 }
 part_fault left mid rest a wanted all nth Memory read fits f = f
 part_fault left mid rest a wanted all nth Failed read fits f = f
