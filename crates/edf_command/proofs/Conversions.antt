@@ -23,6 +23,7 @@ use Rattle.edf_command.specs.Convert.{IsConverted, IsNotConverted, RefusesInput,
 use Rattle.edf_fragment.specs.Sound.{AreSound}
 use Rattle.edf_fragment.proofs.Sound.{spelled-key, spelled-sound, spelled-few}
 use Rattle.edf_command.proofs.Files.{canonical, one-file}
+use Rattle.edf_command.proofs.SomeFile.{spelled-file}
 use Rattle.edf_command.proofs.Written.{front-of-file}
 
 sound-sizes : (k : Key) (low : ℕ) (rs : List DataRecord) → AreSound k low rs → All (λ r. length r.samples ≡ 2 * samples_in_all k.signals) rs
@@ -94,7 +95,10 @@ refused left rest contents old new writes Failed r counts = absurd r.first
 -- the file was written in part
 pub stopped : (left rest before after : Option (List ℕ)) (l : Layout) (records : List DataRecord) → ReadsFragment left rest l records → IsFileBegun before after l.key records
     → StopsWriting left rest before after
-stopped left rest before after l records read begun = record { layout = l; records = records; read = read; wrote = front-of-file before after l.key records begun }
+stopped left rest before after l records read begun =
+    let file = spelled-file read.bytes l.key records read.spells in
+    let w = front-of-file before after l.key records begun file.0 file.1 in
+    record { layout = l; records = records; file = file.0; front = w.front; back = w.left; read = read; canonical = file.1; parts = w.parts; wrote = w.wrote }
 
 pub not-written : (left rest before after : Option (List ℕ)) (l : Layout) (records : List DataRecord) (reads new-reads writes new-writes : ℕ) (fault : OutputFault) (told : ConvertFault)
     → ReadsFragment left rest l records → new-reads ≡ reads → IsFileBegun before after l.key records → CountsOutputFault writes new-writes fault

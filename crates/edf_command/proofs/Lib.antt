@@ -5,4 +5,5 @@ pub mod Files
 pub mod Longest
 pub mod Puts
 pub mod Written
+pub mod SomeFile
 pub mod Conversions

@@ -77,8 +77,8 @@ begun before after k records first others text are laid w = λ file one more is 
     let same : one ≡ first = ap (λ (rs : List DataRecord). get_or rs 0 one) (sym is ∙ are) in
     subst (λ (b : List ℕ). WritesFront before after b) (one-laid-out text file k first records laid (subst (λ (x : DataRecord). IsLaidOut file k x records) same other)) w
 
--- of the records' file, whichever it is
+-- of the records' canonical file
 pub front-of-file : (before after : Option (List ℕ)) (k : Key) (records : List DataRecord) → IsFileBegun before after k records → (file : List ℕ) → IsCanonicalFile file k records
-    → (front : List ℕ) × (back : List ℕ) × (file ≡ front ++ back) × Appends before after front
+    → WritesFront before after file
 front-of-file before after k [] b file is = absurd is
-front-of-file before after k (r ∷ rs) b file is = let w = b file r rs refl is.1 in (w.front, w.left, w.parts, w.wrote)
+front-of-file before after k (r ∷ rs) b file is = b file r rs refl is.1

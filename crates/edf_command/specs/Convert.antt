@@ -58,12 +58,17 @@ pub record RefusesInput (left rest before after : Option (List ℕ)) (old new : 
   pub reads : CountsFault old.reads new.reads fault
   pub writes : new.writes ≡ old.writes
 
--- the whole input spells a fragment, and a front of its canonical file was written, whichever bytes these are
+-- the whole input spells a fragment, and a front of its canonical file was written
 pub record StopsWriting (left rest before after : Option (List ℕ)) : Type 0 where
   pub layout : Layout
   pub records : List DataRecord
+  pub file : List ℕ
+  pub front : List ℕ
+  pub back : List ℕ
   pub read : ReadsFragment left rest layout records
-  pub wrote : (file : List ℕ) → IsCanonicalFile file layout.key records → (front : List ℕ) × (back : List ℕ) × (file ≡ front ++ back) × Appends before after front
+  pub canonical : IsCanonicalFile file layout.key records
+  pub parts : file ≡ front ++ back
+  pub wrote : Appends before after front
 
 -- a refused conversion: nothing was written before the form was found good; memory ran out while it was read or while the
 -- file was written; a write failed where one is told

@@ -2,7 +2,7 @@
 //!
 //! - [`convert`]: one EDF+ file in, its canonical EDF+D file out.
 //! - [`ConvertFault`]: why a file is not converted.
-//! - [`laws`]: canonical files are read again, and records have one; functions that do nothing, each with a law for a contract.
+//! - [`laws`]: sound records have one canonical file, which is read again; functions that do nothing, each with a law for a contract.
 #![tactic(auto)]
 
 mod blocks;

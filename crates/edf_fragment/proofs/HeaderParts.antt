@@ -3,14 +3,14 @@ use Rattle.std.proofs.Common.{◌≡◌, ℕ, ◌+◌, ◌*◌, ◌≤◌, ◌<�
 use Rattle.std.proofs.lemmas.List.{take_all, length-take, length-drop, drop-append-le, take-append-le}
 use Rattle.std.specs.Io.KnownBytes.{Consumes, IsAtEnd}
 use Rattle.std.proofs.KnownBytes.{Consumes-trans}
-use Rattle.edf_header.proofs.Cited.{fixed-clean}
+use Rattle.edf_header.proofs.Cited.{fixed-clean, signals-clean}
 use Rattle.edf_field.specs.Number.{field, IsNumber}
 use Rattle.edf_header.specs.Header.{FixedPart, IsFixedHeader, IsHeader, Layout}
 use Rattle.edf_header.specs.Fault.{FixedPartFails, SignalsFail, HasSignals, IsHeaderFault, IsFirst, IsClean, IsSignalsRefusal, header_fault_number}
 use Rattle.edf_header.specs.declared.fault.HeaderFault.{HeaderFault}
 use Rattle.edf_header.specs.declared.fault.HeaderFault.TheVariants.{Cut, Unprintable, Version, Patient, Recording, Startdate, Starttime, DatesDiffer, NotPlus, Count, Duration, Signals, HeaderBytes, CutSignals, UnprintableSignals, Annotations, Physical, Digital, Samples, Size, Memory}
-use Rattle.edf_fragment.specs.Reading.{ReadsWithin, ReadsInHeader, ReadsHeader, ReadsHeaderFault, IsOpenFault, CountsAnswer}
-use Rattle.edf_fragment.specs.Inside.Steps.{ReadsFixed, ReadsSignals, ReadsSignalsFault, IsSignalsFault}
+use Rattle.edf_fragment.specs.Reading.{ReadsFewer, ReadsInSignals, LacksHeaderMemory, ReadsHeader, ReadsHeaderFault, IsOpenFault, CountsAnswer}
+use Rattle.edf_fragment.specs.Inside.Steps.{ReadsFixed, ReadsSignals, ReadsSignalsFault, LacksSignalsMemory, IsSignalsFault}
 use Rattle.edf_fragment.specs.declared.fault.FragmentFault.{FragmentFault}
 use Rattle.edf_fragment.specs.declared.fault.FragmentFault.TheVariants.{Header as BadHeader, CutRecord, Tal, Trailing, Read, Memory as NoMemory, Failed}
 
@@ -66,16 +66,10 @@ second_fault a b f e fixed within first =
       subst (λ (x : List ℕ). IsFirst (SignalsFail x f.signal_count) e) (sym back) first,
     )
 
--- what is told where memory was wanted
-pub told_memory : (left rest : Option (List ℕ)) (told : FragmentFault) → told ≡ NoMemory → ReadsInHeader left rest → IsOpenFault left rest told
-told_memory left rest told is reads = subst (IsOpenFault left rest) (sym is) reads
-
 -- the fault of a whole fixed part
 pub told_first : (left rest : Option (List ℕ)) (b : List ℕ) (e : HeaderFault) (told : FragmentFault) → length b ≡ 256 → Consumes left rest b
-    → (e ≡ Memory → told ≡ NoMemory) → ((e ≡ Memory → ⊥) → told ≡ BadHeader e)
-    → (e ≡ Memory) ⊎ IsFirst (FixedPartFails b) e → IsOpenFault left rest told
-told_first left rest b e told len read memory other (inl is) = told_memory left rest told (memory is) (record { bytes = b; read = read; within = inl (omega (arith, len)) })
-told_first left rest b e told len read memory other (inr first) =
+    → ((e ≡ Memory → ⊥) → told ≡ BadHeader e) → IsFirst (FixedPartFails b) e → IsOpenFault left rest told
+told_first left rest b e told len read other first =
     let no : e ≡ Memory → ⊥ = λ is. subst (FixedPartFails b) is first.0 in
     let ended : (e ≡ Cut) ⊎ (e ≡ CutSignals) → IsAtEnd rest = elim [
       | inl is ↦ absurd (let low : length b < 256 = subst (FixedPartFails b) is first.0 in omega arith)
@@ -89,7 +83,8 @@ pub told_second : (left rest : Option (List ℕ)) (n : ℕ) (b : List ℕ) (e : 
     → (length b < 256 * n → IsAtEnd rest)
     → (e ≡ Memory → told ≡ NoMemory) → ((e ≡ Memory → ⊥) → told ≡ BadHeader e)
     → IsSignalsRefusal b n e → IsSignalsFault left rest n told
-told_second left rest n b e told within read short memory other (inl (is, clean)) = subst (IsSignalsFault left rest n) (sym (memory is)) (record { bytes = b; read = read; within = within })
+told_second left rest n b e told within read short memory other (inl (is, clean)) =
+    subst (IsSignalsFault left rest n) (sym (memory is)) (record { bytes = b; read = read; within = within; clean = inr clean })
 told_second left rest n b e told within read short memory other (inr first) =
     let no : e ≡ Memory → ⊥ = λ is. subst (SignalsFail b n) is first.0 in
     let r : ReadsSignalsFault left rest n e =
@@ -122,32 +117,42 @@ count-of a b f n fixed has =
     let is : IsNumber (field a 252 4) n = subst (λ (x : List ℕ). IsNumber x n) there has.0 in
     is.value ∙ sym fixed.signals.value
 
--- a fixed part counts its signals, whatever follows it
-counts-signals : (a b : List ℕ) (f : FixedPart) → IsFixedHeader a f → HasSignals (a ++ b) f.signal_count
-counts-signals a b f fixed =
-    let there : field (a ++ b) 252 4 ≡ field a 252 4 = field_front a b 252 4 (omega (arith, fixed.len)) in
-    (subst (λ (x : List ℕ). IsNumber x f.signal_count) (sym there) fixed.signals, fixed.signals_from, fixed.signals_to)
-
 -- a header was read
-pub in-header : (left rest : Option (List ℕ)) (l : Layout) → ReadsHeader left rest l → ReadsInHeader left rest
+pub in-header : (left rest : Option (List ℕ)) (l : Layout) → ReadsHeader left rest l → LacksHeaderMemory left rest
 in-header left rest l h =
     let i = h.is_header in
+    let parts : h.bytes ≡ i.first ++ i.second = i.parts ∙ ap (λ (x : List ℕ). i.first ++ x) (append-nil i.second) in
     record {
-      bytes = h.bytes;
-      read = h.read;
-      within = inr (
-        h.header.fixed.signal_count,
-        subst (λ (x : List ℕ). HasSignals x h.header.fixed.signal_count) (sym i.parts) (counts-signals i.first (i.second ++ []) h.header.fixed i.fixed),
-        omega (arith, ap (λ (x : List ℕ). length x) i.parts, length-append i.first (i.second ++ []), length-append {A = ℕ} i.second [], i.fixed.len, i.signals.len),
-      );
+      fixed = h.header.fixed;
+      first = i.first;
+      second = i.second;
+      read = subst (Consumes left rest) parts h.read;
+      is_fixed = i.fixed;
+      within = omega (arith, i.signals.len);
+      clean = inr (λ other low. signals-clean i.second h.header i.signals other (omega arith));
     }
 
 -- the fixed part was read, and some bytes of the signals
-in-signals : (left mid rest : Option (List ℕ)) (f : FixedPart) → ReadsFixed left mid f → ReadsWithin (256 * f.signal_count) mid rest → ReadsInHeader left rest
+in-signals : (left mid rest : Option (List ℕ)) (f : FixedPart) → ReadsFixed left mid f → ReadsFewer (256 * f.signal_count) mid rest → ReadsInSignals left rest
 in-signals left mid rest f a b = record {
-  bytes = a.bytes ++ b.bytes;
+  fixed = f;
+  first = a.bytes;
+  second = b.bytes;
   read = Consumes-trans left mid rest a.bytes b.bytes a.read b.read;
-  within = inr (f.signal_count, counts-signals a.bytes b.bytes f a.is_fixed, omega (arith, length-append a.bytes b.bytes, a.is_fixed.len, b.within));
+  is_fixed = a.is_fixed;
+  fewer = b.fewer;
+}
+
+-- the fixed part was read, and memory ran out at the signals
+lacks-signals : (left mid rest : Option (List ℕ)) (f : FixedPart) → ReadsFixed left mid f → LacksSignalsMemory mid rest f.signal_count → LacksHeaderMemory left rest
+lacks-signals left mid rest f a b = record {
+  fixed = f;
+  first = a.bytes;
+  second = b.bytes;
+  read = Consumes-trans left mid rest a.bytes b.bytes a.read b.read;
+  is_fixed = a.is_fixed;
+  within = b.within;
+  clean = b.clean;
 }
 
 -- the fixed part and no signals
@@ -171,8 +176,8 @@ header_fault left mid rest f (BadHeader e) a b =
 header_fault left mid rest f (CutRecord nth) a b = b
 header_fault left mid rest f (Tal nth e) a b = b
 header_fault left mid rest f Trailing a b = b
-header_fault left mid rest f Read a b = in-signals left mid rest f a b
-header_fault left mid rest f NoMemory a b = in-signals left mid rest f a b
+header_fault left mid rest f Read a b = inr (in-signals left mid rest f a b)
+header_fault left mid rest f NoMemory a b = lacks-signals left mid rest f a b
 header_fault left mid rest f Failed a b = b
 
 -- the answer of the second part, as that of the whole

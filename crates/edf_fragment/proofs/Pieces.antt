@@ -1,5 +1,5 @@
 -- Data records that are read in pieces.
-use Rattle.std.proofs.Common.{◌≡◌, ℕ, ◌+◌, ◌≤◌, ◌<◌, List, [], ◌∷◌, ◌++◌, length, take, drop, arith, refl, sym, ap, ◌∙◌, subst, length-append, append_assoc, take_at, drop_at, take-append-drop, length-take-le, Option, Result, Ok, Err, MatchResult}
+use Rattle.std.proofs.Common.{◌≡◌, ℕ, ◌+◌, ◌≤◌, ◌<◌, inr, List, [], ◌∷◌, ◌++◌, length, take, drop, arith, refl, sym, ap, ◌∙◌, subst, length-append, append_assoc, take_at, drop_at, take-append-drop, length-take-le, Option, Result, Ok, Err, MatchResult}
 use Rattle.std.specs.Io.KnownBytes.{Consumes}
 use Rattle.std.proofs.KnownBytes.{Consumes-trans}
 use Rattle.edf_header.specs.Header.{Layout}
@@ -7,15 +7,23 @@ use Rattle.edf_tal.specs.Block.{IsRead, IsBlockFault, IsBlockRefusal}
 use Rattle.edf_tal.specs.declared.place.TalFault.{TalFault}
 use Rattle.edf_tal.specs.declared.place.TalFault.TheVariants.{Tal as NotTals, Text, NotTimed, FirstOnset, Window, Order, TooMany, Memory as TalMemory}
 use Rattle.edf_fragment.specs.Fragment.{DataRecord, IsDataRecord, block, ordinary_bytes}
-use Rattle.edf_fragment.specs.Reading.{ReadsWithin, GivesRecord, RefusesBlock, IsNextFault}
+use Rattle.edf_fragment.specs.Reading.{ReadsFewer, GivesRecord, RefusesBlock, IsNextFault}
 use Rattle.edf_fragment.specs.declared.progress.Progress.{Progress}
 use Rattle.edf_fragment.specs.Inside.Steps.{IsCutShort, IsPartFault}
 use Rattle.edf_fragment.specs.declared.fault.FragmentFault.{FragmentFault}
 use Rattle.edf_fragment.specs.declared.fault.FragmentFault.TheVariants.{Header, CutRecord, Tal, Trailing, Read, Memory, Failed}
 
 -- fewer bytes are within more
-pub fewer : (n m : ℕ) (left rest : Option (List ℕ)) → n ≤ m → ReadsWithin n left rest → ReadsWithin m left rest
-fewer n m left rest low r = record { bytes = r.bytes; read = r.read; within = omega (arith, r.within) }
+pub fewer : (n m : ℕ) (left rest : Option (List ℕ)) → n ≤ m → ReadsFewer n left rest → ReadsFewer m left rest
+fewer n m left rest low r = record { bytes = r.bytes; read = r.read; fewer = omega (arith, r.fewer) }
+
+no-bytes : (left rest : Option (List ℕ)) (bytes : List ℕ) → length bytes < 1 → Consumes left rest bytes → Consumes left rest []
+no-bytes left rest [] low read = read
+no-bytes left rest (x ∷ bytes) low read = absurd (omega arith)
+
+-- no byte, where fewer than one were read
+pub none-read : (n : ℕ) (left rest : Option (List ℕ)) → n ≤ 1 → ReadsFewer n left rest → Consumes left rest []
+none-read n left rest low r = no-bytes left rest r.bytes (omega (arith, r.fewer)) r.read
 
 -- the part before was read
 pub part_fault : (left mid rest : Option (List ℕ)) (a : List ℕ) (wanted all nth : ℕ) (e : FragmentFault) → Consumes left mid a
@@ -33,7 +41,7 @@ part_fault left mid rest a wanted all nth Trailing read fits f = f
 part_fault left mid rest a wanted all nth Read read fits f = record {
   bytes = a ++ f.bytes;
   read = Consumes-trans left mid rest a f.bytes read f.read;
-  within = omega (arith, length-append a f.bytes, f.within);
+  fewer = omega (arith, length-append a f.bytes, f.fewer);
 }
 part_fault left mid rest a wanted all nth Memory read fits f = f
 part_fault left mid rest a wanted all nth Failed read fits f = f
@@ -109,12 +117,9 @@ refused_block l p left rest samples blk nth e h is fault = record {
 pub told_block : (l : Layout) (p : Progress) (left rest : Option (List ℕ)) (samples blk : List ℕ) (s nth : ℕ) (e : TalFault) (told : FragmentFault)
     → HasPieces l p left rest samples blk → s ≡ l.start → nth ≡ p.given + 1 → (e ≡ TalMemory → told ≡ Memory) → ((e ≡ TalMemory → ⊥) → told ≡ Tal nth e)
     → IsBlockRefusal blk s p.place e → IsNextFault l p left rest told
-told_block l p left rest samples blk s nth TalMemory told h from is memory other refusal =
-    subst (IsNextFault l p left rest) (sym (memory refl)) (record {
-      bytes = around l.block_at samples blk;
-      read = h.read;
-      within = omega (arith, length-around l.block_at samples blk, h.total, h.len);
-    })
+told_block l p left rest samples blk s nth TalMemory told h from is memory other (start, list, read) =
+    let r : DataRecord = record { start = start; samples = samples; annotations = list } in
+    subst (IsNextFault l p left rest) (sym (memory refl)) (record { wanted = h.wanted; read = inr (r, given_record l p left rest samples blk s r r h from read refl refl) })
 told_block l p left rest samples blk s nth (NotTals at) told h from is memory other refusal =
     subst (IsNextFault l p left rest) (sym (other (λ no. cc))) (refused_block l p left rest samples blk nth (NotTals at) h is (subst (λ (n : ℕ). IsBlockFault blk n p.place (NotTals at)) from refusal))
 told_block l p left rest samples blk s nth (Text at) told h from is memory other refusal =

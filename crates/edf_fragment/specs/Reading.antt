@@ -1,8 +1,8 @@
 -- What a reader of fragments reads and answers, call by call. Each says which bytes were read, so pieces don't matter.
-use Rattle.std.specs.Prelude.{◌≡◌, ℕ, ◌+◌, ◌*◌, ◌≤◌, ◌<◌, ◌⊎◌, List, [], ◌∷◌, length, Option, Some, None, Result, Ok, Err, IfSome, MatchResult}
+use Rattle.std.specs.Prelude.{◌≡◌, ℕ, ◌+◌, ◌*◌, ◌≤◌, ◌<◌, ◌⊎◌, List, [], ◌∷◌, ◌++◌, length, Option, Some, None, Result, Ok, Err, MatchResult}
 use Rattle.std.specs.Io.KnownBytes.{Consumes, IsAtEnd}
-use Rattle.edf_header.specs.Header.{HeaderRecord, IsHeader, Layout, layout_of}
-use Rattle.edf_header.specs.Fault.{HasSignals, IsHeaderFault, header_fault_number}
+use Rattle.edf_header.specs.Header.{HeaderRecord, FixedPart, IsFixedHeader, IsHeader, Layout, layout_of}
+use Rattle.edf_header.specs.Fault.{HasSignals, SignalsFail, IsClean, IsHeaderFault, header_fault_number}
 use Rattle.edf_header.specs.declared.fault.HeaderFault.{HeaderFault}
 use Rattle.edf_header.specs.declared.fault.HeaderFault.TheVariants.{Cut, CutSignals}
 use Rattle.edf_tal.specs.Block.{IsBlockFault}
@@ -16,11 +16,11 @@ use Rattle.edf_fragment.specs.declared.progress.Status.TheVariants.{Reading, End
 use Rattle.edf_fragment.specs.declared.fault.FragmentFault.{FragmentFault}
 use Rattle.edf_fragment.specs.declared.fault.FragmentFault.TheVariants.{Header as BadHeader, CutRecord, Tal, Trailing, Read, Memory, Failed}
 
--- what was left begins with some bytes, at most so many, and the rest is left
-pub record ReadsWithin (most : ℕ) (left rest : Option (List ℕ)) : Type 0 where
+-- what was left begins with some bytes, fewer than so many, and the rest is left
+pub record ReadsFewer (wanted : ℕ) (left rest : Option (List ℕ)) : Type 0 where
   pub bytes : List ℕ
   pub read : Consumes left rest bytes
-  pub within : length bytes ≤ most
+  pub fewer : length bytes < wanted
 
 -- a call that answers this made one failed read, or none
 abbrev pub CountsFault : ℕ → ℕ → FragmentFault → Type 0
@@ -48,17 +48,31 @@ pub record ReadsHeaderFault (left rest : Option (List ℕ)) (fault : HeaderFault
   pub no_signals : header_fault_number fault < 14 → length bytes ≤ 256
   pub no_records : (n : ℕ) → HasSignals bytes n → length bytes ≤ 256 + 256 * n
 
--- no byte was read but those of the fixed part, and of the signals that it counts
-pub record ReadsInHeader (left rest : Option (List ℕ)) : Type 0 where
-  pub bytes : List ℕ
-  pub read : Consumes left rest bytes
-  pub within : (length bytes ≤ 256) ⊎ ((n : ℕ) × HasSignals bytes n × (length bytes ≤ 256 + 256 * n))
+-- a fixed part without a fault was read, and fewer bytes than its signals have
+pub record ReadsInSignals (left rest : Option (List ℕ)) : Type 0 where
+  pub fixed : FixedPart
+  pub first : List ℕ
+  pub second : List ℕ
+  pub read : Consumes left rest (first ++ second)
+  pub is_fixed : IsFixedHeader first fixed
+  pub fewer : length second < 256 * fixed.signal_count
+
+-- memory ran out behind a fixed part without a fault: before a byte of its signals was read, or behind signals that are
+-- as long as they must be and printable
+pub record LacksHeaderMemory (left rest : Option (List ℕ)) : Type 0 where
+  pub fixed : FixedPart
+  pub first : List ℕ
+  pub second : List ℕ
+  pub read : Consumes left rest (first ++ second)
+  pub is_fixed : IsFixedHeader first fixed
+  pub within : length second ≤ 256 * fixed.signal_count
+  pub clean : (second ≡ []) ⊎ IsClean (SignalsFail second fixed.signal_count) 16
 
 -- why there is no header, and what of the input was read
 abbrev pub IsOpenFault : Option (List ℕ) → Option (List ℕ) → FragmentFault → Type 0
 IsOpenFault left rest (BadHeader fault) = ReadsHeaderFault left rest fault
-IsOpenFault left rest Read = ReadsInHeader left rest
-IsOpenFault left rest Memory = ReadsInHeader left rest
+IsOpenFault left rest Read = ReadsFewer 256 left rest ⊎ ReadsInSignals left rest
+IsOpenFault left rest Memory = LacksHeaderMemory left rest
 IsOpenFault left rest fault = ⊥
 
 -- how far a reader is that gave no record yet
@@ -108,13 +122,23 @@ pub record FindsMore (l : Layout) (from : Progress) (left rest : Option (List �
   pub all : from.given ≡ l.count
   pub read : Consumes left rest (byte ∷ [])
 
+-- a read failed before the last byte of the next record, or where none is wanted before any byte
+abbrev pub FailsThere : Layout → Progress → Option (List ℕ) → Option (List ℕ) → Type 0
+FailsThere l from left rest =
+    ((from.given < l.count) × ReadsFewer l.record_bytes left rest) ⊎ ((from.given ≡ l.count) × Consumes left rest [])
+
+-- memory ran out before a byte of the next record was read, or behind a record whose block has no fault
+pub record LacksRecordMemory (l : Layout) (from : Progress) (left rest : Option (List ℕ)) : Type 0 where
+  pub wanted : from.given < l.count
+  pub read : Consumes left rest [] ⊎ ((r : DataRecord) × GivesRecord l from left rest r)
+
 -- why there is no next record, and what of the input was read
 abbrev pub IsNextFault : Layout → Progress → Option (List ℕ) → Option (List ℕ) → FragmentFault → Type 0
 IsNextFault l from left rest (CutRecord nth) = EndsInRecord l from left rest nth
 IsNextFault l from left rest (Tal nth fault) = RefusesBlock l from left rest nth fault
 IsNextFault l from left rest Trailing = FindsMore l from left rest
-IsNextFault l from left rest Read = ReadsWithin l.record_bytes left rest
-IsNextFault l from left rest Memory = ReadsWithin l.record_bytes left rest
+IsNextFault l from left rest Read = FailsThere l from left rest
+IsNextFault l from left rest Memory = LacksRecordMemory l from left rest
 IsNextFault l from left rest fault = ⊥
 
 -- what comes next: a record, the end or a fault

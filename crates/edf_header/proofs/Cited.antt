@@ -2,8 +2,8 @@
 use Rattle.std.proofs.Common.{◌≡◌, ℕ, ◌+◌, ◌*◌, ◌/◌, ◌^◌, ◌≤◌, ◌<◌, List, ◌⊎◌}
 use Rattle.edf_field.specs.Number.{duration_of}
 use Rattle.edf_header.specs.Key.{Key, IsKey, IsSized, key_at, key_bytes}
-use Rattle.edf_header.specs.Header.{FixedPart, HeaderRecord, IsFixed, IsFixedHeader, IsHeader, key_of, layout_of, IsLayout}
-use Rattle.edf_header.specs.Fault.{FixedPartFails, IsClean, IsHeaderFault}
+use Rattle.edf_header.specs.Header.{FixedPart, HeaderRecord, IsFixed, IsFixedHeader, AreSignals, IsHeader, key_of, layout_of, IsLayout}
+use Rattle.edf_header.specs.Fault.{FixedPartFails, SignalsFail, IsClean, IsHeaderFault}
 use Rattle.edf_header.specs.Canonical.{IsExportHeader}
 use Rattle.edf_header.specs.Spelled.{IsReadAs, spelled_layout}
 use Rattle.edf_header.specs.declared.fault.HeaderFault.{HeaderFault}
@@ -35,6 +35,10 @@ fixed-clean = fixed_laws.fixed-clean
 
 pub is-fixed : (bytes : List ℕ) (fixed : FixedPart) → IsFixedHeader bytes fixed → IsFixed fixed
 is-fixed = fixed_laws.is-fixed
+
+-- the signals
+pub signals-clean : (bytes : List ℕ) (header : HeaderRecord) → AreSignals bytes header → IsClean (SignalsFail bytes header.fixed.signal_count) 21
+signals-clean = signal_laws.signals-clean
 
 -- headers
 pub header-has-key : (bytes : List ℕ) (header : HeaderRecord) (rest : List ℕ) → IsHeader bytes header rest → IsKey (key_of header)

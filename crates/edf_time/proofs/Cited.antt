@@ -9,3 +9,4 @@ pub use Rattle.edf_time.proofs.IdDates.{one-id_day, one-id_text}
 pub use Rattle.edf_time.proofs.InstantTexts.{one-instant, one-instant_text}
 pub use Rattle.edf_time.proofs.VisibleBytes.{date-length, time-length, id_date-length, instant-length, date-visible, time-visible, id_date-visible, instant-visible}
 pub use Rattle.edf_time.proofs.SomeReading.{some-value, some-decimal, some-date, some-time, some-id_date, some-start}
+pub use Rattle.edf_time.proofs.SomeText.{date-text, time-text, id_date-text}

@@ -1,14 +1,14 @@
 -- What the steps of a reader read: the two parts of a header, a part of a data record, the end.
-use Rattle.std.specs.Prelude.{◌≡◌, ℕ, ◌*◌, ◌≤◌, ◌<◌, List, [], ◌∷◌, length, Option}
+use Rattle.std.specs.Prelude.{◌≡◌, ℕ, ◌*◌, ◌≤◌, ◌<◌, ◌⊎◌, List, [], ◌∷◌, length, Option}
 use Rattle.std.specs.Io.KnownBytes.{Consumes, IsAtEnd}
 use Rattle.edf_header.specs.Header.{HeaderRecord, FixedPart, IsFixedHeader, AreSignals, Layout, layout_of}
-use Rattle.edf_header.specs.Fault.{IsFirst, SignalsFail}
+use Rattle.edf_header.specs.Fault.{IsClean, IsFirst, SignalsFail}
 use Rattle.edf_header.specs.declared.fault.HeaderFault.{HeaderFault}
 use Rattle.edf_header.specs.declared.fault.HeaderFault.TheVariants.{CutSignals}
 use Rattle.edf_tal.specs.declared.place.Place.{Place}
 use Rattle.edf_tal.specs.declared.place.Place.TheVariants.{First}
 use Rattle.edf_fragment.specs.Fragment.{DataRecord, AreDataRecords}
-use Rattle.edf_fragment.specs.Reading.{ReadsWithin}
+use Rattle.edf_fragment.specs.Reading.{ReadsFewer}
 use Rattle.edf_fragment.specs.declared.fault.FragmentFault.{FragmentFault}
 use Rattle.edf_fragment.specs.declared.fault.FragmentFault.TheVariants.{Header as BadHeader, CutRecord, Trailing, Read, Memory}
 
@@ -35,11 +35,18 @@ pub record ReadsSignalsFault (left rest : Option (List ℕ)) (n : ℕ) (fault : 
   pub is_fault : IsFirst (SignalsFail bytes n) fault
   pub ended : fault ≡ CutSignals → IsAtEnd rest
 
+-- memory ran out before a byte of n signals was read, or behind signals that are as long as they must be and printable
+pub record LacksSignalsMemory (left rest : Option (List ℕ)) (n : ℕ) : Type 0 where
+  pub bytes : List ℕ
+  pub read : Consumes left rest bytes
+  pub within : length bytes ≤ 256 * n
+  pub clean : (bytes ≡ []) ⊎ IsClean (SignalsFail bytes n) 16
+
 -- why there are no signals, and what of the input was read
 abbrev pub IsSignalsFault : Option (List ℕ) → Option (List ℕ) → ℕ → FragmentFault → Type 0
 IsSignalsFault left rest n (BadHeader fault) = ReadsSignalsFault left rest n fault
-IsSignalsFault left rest n Read = ReadsWithin (256 * n) left rest
-IsSignalsFault left rest n Memory = ReadsWithin (256 * n) left rest
+IsSignalsFault left rest n Read = ReadsFewer (256 * n) left rest
+IsSignalsFault left rest n Memory = LacksSignalsMemory left rest n
 IsSignalsFault left rest n fault = ⊥
 
 -- fewer bytes were read than were wanted, and no more follow
@@ -52,7 +59,7 @@ pub record IsCutShort (left rest : Option (List ℕ)) (wanted : ℕ) : Type 0 wh
 -- why so many bytes of a data record are not there
 abbrev pub IsPartFault : Option (List ℕ) → Option (List ℕ) → ℕ → ℕ → FragmentFault → Type 0
 IsPartFault left rest wanted nth (CutRecord k) = (k ≡ nth) × IsCutShort left rest wanted
-IsPartFault left rest wanted nth Read = ReadsWithin wanted left rest
+IsPartFault left rest wanted nth Read = ReadsFewer wanted left rest
 IsPartFault left rest wanted nth fault = ⊥
 
 -- nothing was read, and nothing is there
@@ -62,7 +69,7 @@ ReadsEnd left rest = Consumes left rest [] × IsAtEnd rest
 -- why the input does not end
 abbrev pub IsEndFault : Option (List ℕ) → Option (List ℕ) → FragmentFault → Type 0
 IsEndFault left rest Trailing = (byte : ℕ) × Consumes left rest (byte ∷ [])
-IsEndFault left rest Read = ReadsWithin 0 left rest
+IsEndFault left rest Read = Consumes left rest []
 IsEndFault left rest fault = ⊥
 
 -- all data records were read, and the input is at its end

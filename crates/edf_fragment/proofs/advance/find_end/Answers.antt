@@ -1,6 +1,6 @@
 use Rattle.std.proofs.Common.{◌≡◌, ℕ, [], take, arith, refl, subst, ap}
 use Rattle.std.specs.Io.KnownBytes.{Consumes}
-use Rattle.edf_fragment.proofs.Pieces.{one_byte, fewer}
+use Rattle.edf_fragment.proofs.Pieces.{one_byte, none-read}
 use Rattle.edf_fragment.proofs.advance.find_end.Goals as goal
 
 pub returns-in-Full-clause-step : goal.returns-in-Full-clause-step
@@ -14,4 +14,4 @@ returns-in-Cut-clause-step g c =
     (subst (Consumes _ _) nil cut.1, cut.2)
 
 pub returns-in-Failed-clause-step : goal.returns-in-Failed-clause-step
-returns-in-Failed-clause-step g c = fewer _ _ _ _ (omega arith) (c.in-Failed.ensures.stopped refl)
+returns-in-Failed-clause-step g c = none-read _ _ _ (omega arith) (c.in-Failed.ensures.stopped refl)

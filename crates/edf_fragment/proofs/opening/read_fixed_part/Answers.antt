@@ -1,6 +1,7 @@
-use Rattle.std.proofs.Common.{◌<◌, length, take, arith, refl, inr, inl}
+use Rattle.std.proofs.Common.{◌<◌, length, take, arith, refl, inl}
 use Rattle.edf_fragment.proofs.HeaderParts.{cut_header, told_first}
 use Rattle.std.proofs.lemmas.List.{length-take}
+use Rattle.edf_fragment.proofs.Pieces.{fewer}
 use Rattle.edf_fragment.proofs.opening.read_fixed_part.Goals as goal
 
 pub returns-in-Cut-clause-step : goal.returns-in-Cut-clause-step
@@ -10,9 +11,7 @@ returns-in-Cut-clause-step g c =
     record { bytes = take c.in-Cut.at c.fill.new.buf; read = cut.1; is_fault = cut_header _ few; ended = λ _. cut.2; no_signals = λ low. omega (arith, few); no_records = λ n has. omega (arith, few) }
 
 pub returns-in-Err-clause-step : goal.returns-in-Err-clause-step
-returns-in-Err-clause-step g c = told_first _ _ c.fill.new.buf _ _ (omega arith) (c.in-Full.ensures.full refl) c.header_refusal.ensures.memory c.header_refusal.ensures.other (inr c.in-Err.ensures)
+returns-in-Err-clause-step g c = told_first _ _ c.fill.new.buf _ _ (omega arith) (c.in-Full.ensures.full refl) c.header_refusal.ensures.other c.in-Err.ensures
 
 pub returns-in-Failed-clause-step : goal.returns-in-Failed-clause-step
-returns-in-Failed-clause-step g c =
-    let read = c.in-Failed.ensures.stopped refl in
-    record { bytes = read.bytes; read = read.read; within = inl (omega (arith, read.within)) }
+returns-in-Failed-clause-step g c = inl (fewer _ _ _ _ (omega arith) (c.in-Failed.ensures.stopped refl))

@@ -1,0 +1,93 @@
+-- Each day of the window has parts, and so texts; and each second of a day has one.
+use Rattle.std.proofs.Common.{◌≡◌, ℕ, zero, suc, ◌+◌, ◌/◌, ◌%◌, ◌≤◌, ◌<◌, inl, inr, List, ◌∷◌, ◌++◌, arith, refl, ap, ◌∙◌, pos}
+use Rattle.std.proofs.lemmas.Bool.{cases_lt}
+use Rattle.jiff_core.specs.Calendar.{day_count, days_in_month}
+use Rattle.jiff_core.proofs.SignedLemmas.{signed_arith}
+use Rattle.jiff_core.proofs.CalendarLemmas.{days_from_civil-day_count, days_in_month_bounds, day_count-day, day_count-next_month, day_count-next_year, day_count-last_of_year}
+use Rattle.edf_time.specs.Civil.{IsDay, IsDateText, IsTimeText, IsIdDate, two_digits, four_digits, month_name}
+use Rattle.edf_time.proofs.Days.{first_day, year-from, year-to}
+
+-- a day of the calendar that lies so many days behind 1985-01-01
+record IsFound (n : ℕ) : Type 0 where
+  year : ℕ
+  month : ℕ
+  day : ℕ
+  is-day : IsDay year month day (pos n)
+
+found : (n y m d : ℕ) → y ≤ 9999 → 1 ≤ m → m ≤ 12 → 1 ≤ d → d ≤ days_in_month (pos y) m → day_count (pos y) m d ≡ 4_377_432 + n → IsFound n
+found n y m d low month-from month-to day-from day-to e = record {
+  year = y;
+  month = m;
+  day = d;
+  is-day = record {
+    exists = ((omega (arith, signed_arith), omega (arith, signed_arith)), (month-from, month-to), (day-from, day-to));
+    count = omega (arith, signed_arith, days_from_civil-day_count (pos y) m d);
+  };
+}
+
+count-is : (n y m d : ℕ) → IsDay y m d (pos n) → day_count (pos y) m d ≡ 4_377_432 + n
+count-is n y m d is = omega (arith, signed_arith, is.count, days_from_civil-day_count (pos y) m d)
+
+-- the day behind the last of a year
+next-year : (n y m d : ℕ) → y ≤ 2084 → m ≡ 12 → d ≡ days_in_month (pos y) m → day_count (pos y) m d ≡ 4_377_432 + n → IsFound (suc n)
+next-year n y m d low month long e =
+    let last : d ≡ 31 = long ∙ ap (λ x. days_in_month (pos y) x) month in
+    let same : day_count (pos y) m d ≡ day_count (pos y) 12 31 = rw (month, last) refl in
+    found (suc n) (y + 1) 1 1 (omega arith) (omega arith) (omega arith) (omega arith) (omega (arith, days_in_month_bounds (pos (y + 1)) 1))
+    (omega (arith, e, same, day_count-last_of_year (pos y), day_count-next_year (pos y) (pos (y + 1)) (omega (arith, signed_arith)) (omega (arith, signed_arith))))
+
+-- the day behind a day
+next-day : (n y m d : ℕ) → y ≤ 2084 → IsDay y m d (pos n) → IsFound (suc n)
+next-day n y m d low is =
+    let e = count-is n y m d is in
+    let month = is.exists.1 in
+    let day = is.exists.2 in
+    elim (cases_lt d (days_in_month (pos y) m)) [
+      | inl lt ↦ found (suc n) y m (d + 1) (omega arith) month.0 month.1 (omega arith) (omega arith)
+          (omega (arith, e, day_count-day (pos y) m d (d + 1) day.0 (omega arith)))
+      | inr ge ↦ elim (cases_lt m 12) [
+        | inl lt ↦ found (suc n) y (m + 1) 1 (omega arith) (omega arith) (omega arith) (omega arith) (omega (arith, days_in_month_bounds (pos y) (m + 1)))
+            (omega (arith, e, day.1, day_count-next_month (pos y) m month.0, day_count-day (pos y) m d 1 day.0 (omega arith)))
+        | inr end ↦ next-year n y m d low (omega (arith, month.1)) (omega (arith, day.1)) e
+      ]
+    ]
+
+in-years : (n : ℕ) (f : IsFound n) → n < 36_525 → (1985 ≤ f.year) × (f.year ≤ 2084)
+in-years n f lt =
+    let e = count-is n f.year f.month f.day f.is-day in (
+      omega (arith, signed_arith, year-from (pos f.year) f.month f.day f.is-day.exists (omega (arith, e))),
+      omega (arith, signed_arith, year-to (pos f.year) f.month f.day f.is-day.exists (omega (arith, e))),
+    )
+
+day-at : (n : ℕ) → n < 36_525 → IsFound n
+day-at zero lt = found 0 1985 1 1 (omega arith) (omega arith) (omega arith) (omega arith) (omega (arith, days_in_month_bounds (pos 1985) 1)) (omega (arith, first_day))
+day-at (suc n) lt =
+    let f = day-at n (omega arith) in
+    next-day n f.year f.month f.day (in-years n f (omega arith)).1 f.is-day
+
+pub date-text : (days : ℕ) → days < 36_525 → (text : List ℕ) × IsDateText text days
+date-text days lt =
+    let f = day-at days lt in
+    let years = in-years days f lt in (
+      two_digits f.day ++ 46 ∷ two_digits f.month ++ 46 ∷ two_digits (f.year % 100),
+      record { year = f.year; month = f.month; day = f.day; is_text = refl; from = years.0; to = years.1; is_day = f.is-day },
+    )
+
+pub id_date-text : (days : ℕ) → days < 36_525 → (text : List ℕ) × IsIdDate text (pos days)
+id_date-text days lt =
+    let f = day-at days lt in (
+      two_digits f.day ++ 45 ∷ month_name f.month ++ 45 ∷ four_digits f.year,
+      record { year = f.year; month = f.month; day = f.day; is_text = refl; to = omega (arith, (in-years days f lt).1); is_day = f.is-day },
+    )
+
+pub time-text : (seconds : ℕ) → seconds < 86_400 → (text : List ℕ) × IsTimeText text seconds
+time-text seconds lt = (
+  two_digits (seconds / 3_600) ++ 46 ∷ two_digits (seconds / 60 % 60) ++ 46 ∷ two_digits (seconds % 60),
+  record {
+    hour = seconds / 3_600;
+    minute = seconds / 60 % 60;
+    second = seconds % 60;
+    is_text = refl;
+    is_clock = record { in_day = omega arith; in_hour = omega arith; in_minute = omega arith; count = omega arith };
+  },
+)
