@@ -16,7 +16,7 @@ use Rattle.edf_fragment.specs.Fragment.{DataRecord, AreDataRecords, Spells}
 use Rattle.edf_command.specs.File.{second_of, block_of, record_text, IsLaidOut, IsCanonicalFile}
 use Rattle.edf_command.proofs.Records.{records-read}
 use Rattle.edf_fragment.specs.Sound.{AreSound}
-use Rattle.edf_command.proofs.Exported.{IsExportLayout, are-readable}
+use Rattle.edf_command.proofs.CanonicalRecords.{IsCanonicalLayout, are-readable}
 
 second-of-low : (n : ℕ) → second_of n ≤ n
 second-of-low n = omega arith
@@ -34,8 +34,8 @@ all-bounded k low base (r ∷ rs) in_window (e, lower, more) =
 some-samples : (base samples : ℕ) (r : DataRecord) → length (block_of base r) ≤ 2 * samples → 1 ≤ samples
 some-samples base samples r fits = omega arith
 
-export-layout-is : (k : Key) (start count samples : ℕ) → start < window → IsExportLayout (spelled_layout k (second_of start) count samples) (second_of start) (2 * samples)
-export-layout-is k start count samples lt =
+canonical-layout-is : (k : Key) (start count samples : ℕ) → start < window → IsCanonicalLayout (spelled_layout k (second_of start) count samples) (second_of start) (2 * samples)
+canonical-layout-is k start count samples lt =
     record { start = refl; in_window = omega (arith, second-of-low start); block_at = refl; block_bytes = refl; record_bytes = omega arith }
 
 -- what is laid out so is read again, and so is the records' file
@@ -57,7 +57,7 @@ canonical file k r rs is-key are count laid =
     let l = spelled_layout k (second_of r.start) (length (r ∷ rs)) samples in
     let again = export-reads header k r.start (length (r ∷ rs)) samples is-key (omega arith) (count) some (omega arith) is-header in
     let read = records-read l First base (2 * samples) (r ∷ rs)
-    (are-readable l base (2 * samples) 0 r rs (export-layout-is k r.start (length (r ∷ rs)) samples in-window) are (second-of-low r.start, second-of-high r.start) holds) in
+    (are-readable l base (2 * samples) 0 r rs (canonical-layout-is k r.start (length (r ∷ rs)) samples in-window) are (second-of-low r.start, second-of-high r.start) holds) in
     let spells : Spells (header ++ body) k (r ∷ rs) = record {
       header = again.header;
       rest = body;

@@ -1,5 +1,5 @@
 pub mod Records
-pub mod Exported
+pub mod CanonicalRecords
 pub mod BlockLength
 pub mod Files
 pub mod Longest

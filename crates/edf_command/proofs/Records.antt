@@ -1,4 +1,4 @@
--- The records of an export are read again as they were.
+-- The records of a canonical file are read again as they were.
 use Rattle.std.proofs.Common.{◌≡◌, ℕ, zero, suc, ◌+◌, ◌-◌, ◌≤◌, ◌<◌, List, get_or, append_assoc, [], ◌∷◌, ◌++◌, length, take, drop, refl, sym, ap, ◌∙◌, subst, arith, length-append, replicate}
 use Rattle.std.proofs.lemmas.List.{take_at, drop_at, take_all, drop_all, length-replicate, append-nil}
 use Rattle.std.specs.List.{flat_map}

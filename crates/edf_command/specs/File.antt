@@ -26,7 +26,7 @@ record_text file_start size r = r.samples ++ filled_block file_start size r
 abbrev pub Hold : ℕ → ℕ → List DataRecord → Type 0
 Hold file_start samples records = All (λ r. length (block_of file_start r) ≤ 2 * samples) records
 
--- the bytes are laid out as an export of the records, which rise in time and of which `first` is the earliest
+-- the bytes are laid out as the file of the records, which rise in time and of which `first` is the earliest
 pub record IsLaidOut (bytes : List ℕ) (k : Key) (first : DataRecord) (records : List DataRecord) : Type 0 where
   pub samples : ℕ
   pub header : List ℕ

@@ -1,4 +1,4 @@
-//! The size of an export's annotations blocks.
+//! The size of a canonical file's annotations blocks.
 
 ghost use Rattle.std.specs.Prelude.{◌≡◌, ℕ, ◌*◌, ◌≤◌, All, length};
 ghost use Rattle.edf_command.specs.File.{block_of, Hold};

@@ -1,4 +1,4 @@
--- Sound records: their export is read again.
+-- Sound records: their canonical file is read again.
 use Rattle.std.proofs.Common.{◌≡◌, ℕ, ◌+◌, ◌-◌, ◌*◌, ◌^◌, ◌≤◌, ◌<◌, List, [], ◌∷◌, ◌++◌, length, sym, ◌∙◌, subst, replicate, All}
 use Rattle.std.proofs.lemmas.List.Elements.{All-head, All-tail}
 use Rattle.std.specs.List.{AllByRecursion}
@@ -31,22 +31,22 @@ again First base start zeros list stands start-in base-in limits notes = read-fi
 again (After before duration) base start zeros list stands start-in base-in limits notes = read-after base start zeros before duration list base-in start-in notes limits stands
 again Any base start zeros list stands start-in base-in limits notes = read-any base start zeros list base-in start-in notes limits
 
--- the layout of an export that starts at `base`
-pub record IsExportLayout (l : Layout) (base size : ℕ) : Type 0 where
+-- the layout of a canonical file that starts at `base`
+pub record IsCanonicalLayout (l : Layout) (base size : ℕ) : Type 0 where
   pub start : l.start ≡ base
   pub in_window : base < window
   pub block_at : l.block_at ≡ 2 * samples_in_all l.key.signals
   pub block_bytes : l.block_bytes ≡ size
   pub record_bytes : l.record_bytes ≡ l.block_at + size
 
-readable : (l : Layout) (place : Place) (base size : ℕ) (r : DataRecord) → IsExportLayout l base size → IsSoundRecord l.key r
+readable : (l : Layout) (place : Place) (base size : ℕ) (r : DataRecord) → IsCanonicalLayout l base size → IsSoundRecord l.key r
     → MayStand place base r.start → length (block_of base r) ≤ size → IsDataRecord l place (record_text base size r) r
 readable l place base size r is e stands fits =
     record-read l place base size r (e.samples_len ∙ sym is.block_at) is.block_bytes is.record_bytes fits
     (subst (λ (n : ℕ). IsRead (block_of base r ++ replicate (size - length (block_of base r)) 0) n place r.start r.annotations) (sym is.start)
     (again place base r.start (size - length (block_of base r)) r.annotations stands e.start is.in_window e.limits e.notes))
 
-readable-behind : (l : Layout) (before base size : ℕ) (rs : List DataRecord) → IsExportLayout l base size
+readable-behind : (l : Layout) (before base size : ℕ) (rs : List DataRecord) → IsCanonicalLayout l base size
     → AreSound l.key (before + duration_of l.key.duration) rs → All (λ r. length (block_of base r) ≤ size) rs → AreReadable l (place_behind l before) base size rs
 readable-behind l before base size [] is are fit = tt
 readable-behind l before base size (r ∷ rs) is (e, low, more) fit = (
@@ -54,7 +54,7 @@ readable-behind l before base size (r ∷ rs) is (e, low, more) fit = (
   readable-behind l r.start base size rs is more (All-tail (λ x. length (block_of base x) ≤ size) r rs fit),
 )
 
-pub are-readable : (l : Layout) (base size low : ℕ) (r : DataRecord) (rs : List DataRecord) → IsExportLayout l base size
+pub are-readable : (l : Layout) (base size low : ℕ) (r : DataRecord) (rs : List DataRecord) → IsCanonicalLayout l base size
     → AreSound l.key low (r ∷ rs) → (base ≤ r.start) × (r.start < base + 10 ^ 9) → All (λ x. length (block_of base x) ≤ size) (r ∷ rs)
     → AreReadable l First base size (r ∷ rs)
 are-readable l base size low r rs is (e, lower, more) stands fit = (
