@@ -1,9 +1,9 @@
 -- What one row of the table of recordings tells.
-use Rattle.std.proofs.Common.{◌≡◌, ◌≢◌, ℕ, ◌<◌, ◌≤◌, ℤ, List, [], ◌∷◌, map, length, Option, Some, None, Contains, Ok, Err, Result, OnOk, IfOk, refl, sym, ap, subst, ◌∙◌, arith}
+use Rattle.std.proofs.Common.{◌≡◌, ◌≢◌, ℕ, ◌<◌, ◌≤◌, ℤ, List, [], ◌∷◌, length, Option, Some, None, Contains, Ok, Err, Result, OnOk, IfOk, refl, sym, ap, subst, ◌∙◌, arith}
 use Rattle.std.proofs.lemmas.List.{length-map, get_or_past}
 use Rattle.std.specs.List.{AllByRecursion}
 use Rattle.sqlite.specs.declared.types.Value.{Value}
-use Rattle.sqlite.specs.declared.types.Value.TheVariants.{Null, Int, Real, Text, Blob}
+use Rattle.sqlite.specs.declared.types.Value.TheVariants.{Null, Int, Blob}
 use Rattle.sqlite.specs.declared.error.Error.{Error}
 use Rattle.sqlite.specs.Order.{Row}
 use Rattle.sqlite.specs.Tree.{Trees}
@@ -17,16 +17,14 @@ use Rattle.edf_field.specs.Number.{duration_of}
 use Rattle.edf_header.proofs.Faults.{key-clean}
 use Rattle.edf_holdings.proofs.Joining.{lasting}
 use Rattle.edf_rows.specs.Cells.{recording_cells, recordings_in, records_in}
-use Rattle.edf_rows.specs.Rows.{IsThere, IsRecording}
-use Rattle.edf_rows.specs.Foreign.{IsForeign, bad_recording, bad_records}
-use Rattle.edf_rows.specs.Shape.{HasRecords}
+use Rattle.edf_rows.specs.Foreign.{bad_recording, bad_records}
 use Rattle.edf_rows.proofs.RowsLemmas.{mapped}
 use Rattle.edf_tables.proofs.KeepLemmas.{same_left}
 use Rattle.edf_audit.specs.Walk.{Tells}
 use Rattle.edf_audit.specs.Kept.{KeepsRows, Checks}
 
 pub kept_if : {X E : Type 0} (r : Result X E) (a b : State) → OnOk r (IsUnchanged a b) → OnOk r (KeepsRows a b)
-kept_if (Ok x) a b h = record { now_is = h.0.now_is; commit = same_left a b h }
+kept_if (Ok x) a b h = record { now_is = h.0.now_is; commit = same_left a b h; stays = λ _. h.0.is_open }
 kept_if (Err e) a b h = tt
 
 all_any : (xs : List Row) → AllByRecursion (λ (x : Row). Unit {0}) xs

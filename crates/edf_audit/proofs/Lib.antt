@@ -1,3 +1,6 @@
 pub mod WalkLemmas
 pub mod StandLemmas
 pub mod CheckLemmas
+pub mod CountLemmas
+pub mod ApartLemmas
+pub mod AllLemmas

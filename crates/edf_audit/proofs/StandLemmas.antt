@@ -1,16 +1,14 @@
 -- Where a walk by `Rows` stands, and what it tells when it ends.
-use Rattle.std.proofs.Common.{◌≡◌, ℕ, ◌+◌, ◌<◌, ◌≤◌, ◌⊎◌, inl, inr, ℤ, pos, List, [], ◌∷◌, ◌++◌, map, length, Option, Some, None, refl, sym, ap, subst, ◌∙◌, arith, IsPermutation, append_assoc}
+use Rattle.std.proofs.Common.{◌≡◌, ℕ, ◌+◌, ◌<◌, ◌≤◌, inl, inr, ℤ, pos, List, [], ◌∷◌, ◌++◌, map, length, Option, Some, None, refl, sym, ap, subst, ◌∙◌, arith, IsPermutation, append_assoc}
 use Rattle.std.proofs.lemmas.List.{length-append, length-map, map-append, nil_from_length}
 use Rattle.std.proofs.lemmas.List.Sorted.{length_permutation}
-use Rattle.sqlite.specs.declared.types.Value.TheVariants.{Null, Int}
+use Rattle.sqlite.specs.declared.types.Value.TheVariants.{Int}
 use Rattle.sqlite.specs.Order.{Row}
-use Rattle.sqlite.specs.Tree.{Trees}
 use Rattle.sqlite.specs.Effect.{Database}
-use Rattle.sqlite_value.specs.Order.{column}
 use Rattle.sqlite_trees.specs.declared.store.Store.{Ghosts}
 use Rattle.sqlite.specs.Held.{Held, state}
 use Rattle.sqlite.specs.Given.{HasGiven, Advances}
-use Rattle.sqlite.specs.State.{State, Shown, IsUnchanged}
+use Rattle.sqlite.specs.State.{State, IsUnchanged}
 use Rattle.sqlite.specs.Listing.{understood}
 use Rattle.sqlite.proofs.Callers.{IsPlain}
 use Rattle.edf_field.specs.Number.{duration_of}
@@ -18,12 +16,11 @@ use Rattle.edf_header.specs.Key.{Key}
 use Rattle.edf_fragment.specs.Fragment.{DataRecord}
 use Rattle.edf_fragment.specs.Sound.{AreSound}
 use Rattle.edf_tables.specs.Schema.{both_schema}
-use Rattle.edf_tables.specs.Cells.{first_three}
 use Rattle.edf_tables.proofs.QueryTexts.{walk_text, walk_is}
 use Rattle.edf_tables.proofs.ShownLemmas.{plain_at, answer_of, answer_begun}
 use Rattle.edf_rows.specs.Cells.{record_cells, records_in}
 use Rattle.edf_rows.specs.Foreign.{AreBadRecords, bad_row, too_near, too_few, too_many}
-use Rattle.edf_audit.specs.Walk.{IsNext, IsNear, IsWrong, IsBehind, HasSound, Tells}
+use Rattle.edf_audit.specs.Walk.{IsNext, IsWrong, IsBehind, HasSound}
 use Rattle.edf_audit.proofs.WalkLemmas.{last_start, last_push, last_split, push_sound, answer_moved, only_sound, is_three, given_member, given_two}
 
 -- these records were given, sound and a duration apart, and this is the last start

@@ -1,5 +1,5 @@
 -- What reading leaves of a connection, and what a row of the table of recordings tells.
-use Rattle.std.specs.Prelude.{◌≡◌, ℕ, Option, Some, None, Contains, length}
+use Rattle.std.specs.Prelude.{◌≡◌, ℕ, Option, Some, None, Contains, length, IsTrue}
 use Rattle.sqlite.specs.Order.{Row}
 use Rattle.sqlite.specs.Tree.{Trees}
 use Rattle.sqlite.specs.State.{State, KeepsCommit}
@@ -11,6 +11,7 @@ use Rattle.edf_rows.specs.Shape.{HasRecords}
 pub record KeepsRows (old new : State) : Type 0 where
   pub now_is : new.now ≡ old.now
   pub commit : KeepsCommit old new
+  pub stays : IsTrue old.is_open → IsTrue new.is_open
 
 -- the row is a recording's with so many records, or the rows are foreign
 abbrev pub Checks : ℕ → Trees → Row → Option ℕ → Type 0

@@ -1,17 +1,15 @@
-use Rattle.std.proofs.Common.{rules, ◌≡◌, ◌⊎◌, ℕ, List, [], ◌∷◌, ◌<◌, Some, None, Option, refl, sym, ap, subst, ◌∙◌, arith, w64, IfErr, OnErr}
+use Rattle.std.proofs.Common.{rules, ◌≡◌, refl, ap, subst, ◌∙◌, arith, w64}
 use Rattle.std.proofs.lemmas.Int.{to_z-of_z}
 use Rattle.sqlite.specs.declared.types.Value.TheVariants.{Int}
-use Rattle.sqlite.specs.Order.{Row}
 use Rattle.sqlite.specs.Held.{Held, state}
-use Rattle.sqlite.specs.State.{State, HasCleanDisk, Survives, KeepsCommit, IsUnchanged, CommitsShowing, FailsToQuery}
-use Rattle.sqlite.specs.Given.{HasBegun, Advances}
+use Rattle.sqlite.specs.State.{HasCleanDisk, Survives, KeepsCommit, IsUnchanged}
 use Rattle.sqlite.proofs.Callers.{begun_plain, unchanged_then}
 use Rattle.edf_tables.proofs.QueryTexts.{walk_text, walk_is}
 use Rattle.edf_tables.proofs.ShownLemmas.{plain_at}
 use Rattle.edf_tables.proofs.ReadLemmas.{query_quiet, query_left}
-use Rattle.edf_tables.proofs.KeepLemmas.{left_keeps, same_left}
+use Rattle.edf_tables.proofs.KeepLemmas.{left_keeps}
 use Rattle.edf_tables.proofs.CommitLemmas.{quiet_then}
-use Rattle.edf_audit.proofs.StandLemmas.{Stands, starts, moves, stops, past_cap, ends, ends_empty}
+use Rattle.edf_audit.proofs.StandLemmas.{starts, moves, stops, past_cap, ends, ends_empty}
 use Rattle.edf_audit.proofs.walk.check_recording.Goals.{then-count-eq0, else-count-eq0}
 use Rattle.edf_audit.proofs.walk.check_recording.Goals as goal
 

@@ -1,0 +1,144 @@
+-- The answer of the check of all rows.
+use Rattle.std.proofs.Common.{◌≡◌, ◌≢◌, ◌⊎◌, inl, inr, ℕ, ◌+◌, ◌<◌, ◌≤◌, ℤ, Bool, true, false, min, nat_eq, List, [], ◌∷◌, filter, length, take, get_or, Option, Some, Contains, All, IsTrue, ◌++◌, IsPermutation, refl, sym, ap, subst, ◌∙◌, arith, is_eq, true≢false}
+use Rattle.std.specs.List.{AllByRecursion, list_any}
+use Rattle.std.proofs.lemmas.Bool.Decides.{nat_tests}
+use Rattle.std.proofs.lemmas.List.{take_more}
+use Rattle.std.proofs.lemmas.List.Elements.{All-from_recursion}
+use Rattle.std.proofs.lemmas.List.Sorted.{IsPermutation-trans, IsPermutation-sym, Contains-permutation}
+use Rattle.sqlite.specs.Order.{Row}
+use Rattle.sqlite.specs.Tree.{Trees}
+use Rattle.sqlite.specs.Effect.{Database, IsDatabase}
+use Rattle.sqlite.specs.State.{State, IsUnchanged}
+use Rattle.sqlite_value.specs.Order.{column, value_cmp}
+use Rattle.sqlite_schema.specs.Rules.{Obeys}
+use Rattle.sqlite_trees.proofs.ListLemmas.{all-permutation}
+use Rattle.edf_tables.specs.Schema.{both_schema}
+use Rattle.edf_tables.proofs.KeepLemmas.{same_left, same_keeps, keeps_then}
+use Rattle.edf_rows.specs.Cells.{recording_cells, recordings_in}
+use Rattle.edf_rows.specs.Rows.{IsOwned, AreTwoOf, AreOther}
+use Rattle.edf_rows.specs.Foreign.{IsForeign, without_recording}
+use Rattle.edf_rows.specs.Shape.{HasRecords}
+use Rattle.edf_rows.proofs.RowsLemmas.{here, there, cases_first, no_member}
+use Rattle.edf_rows.proofs.KeptLemmas.{held_of, are-kept}
+use Rattle.edf_audit.specs.All.{IsAfter, owns, AreCounted, Answers}
+use Rattle.edf_audit.specs.Kept.{KeepsRows, Checks}
+use Rattle.edf_audit.proofs.CountLemmas.{IsUpTo, counted_push, up_push}
+use Rattle.edf_audit.proofs.ApartLemmas.{other_ids, other_identities}
+
+pub rows_same : (a : State) → KeepsRows a a
+rows_same a = record { now_is = refl; commit = same_keeps a; stays = λ h. h }
+
+pub rows_left : (a b : State) → IsUnchanged a b → KeepsRows a b
+rows_left a b h = record { now_is = h.0.now_is; commit = same_left a b h; stays = λ _. h.0.is_open }
+
+pub rows_then : (a b c : State) → KeepsRows a b → KeepsRows b c → KeepsRows a c
+rows_then a b c p q = record { now_is = q.now_is ∙ p.now_is; commit = keeps_then a b c p.commit q.commit; stays = λ h. q.stays (p.stays h) }
+
+-- ---- the records that are owned
+any_here : (rows : List Row) (g r : Row) → Contains rows g → owns g r ≡ true → list_any (λ g. owns g r) rows ≡ true
+any_here [] g r c h = absurd (no_member g c)
+any_here (x ∷ rows) g r c h = go (owns x r) refl (cases_first x g rows c) (any_here rows g r)
+  where
+    go : (b : Bool) → owns x r ≡ b → (x ≡ g) ⊎ Contains rows g → (Contains rows g → owns g r ≡ true → list_any (λ g. owns g r) rows ≡ true) → list_any (λ g. owns g r) (x ∷ rows) ≡ true
+    go true e d more = rw e refl
+    go false e (inl s) more = absurd (true≢false (sym h ∙ ap (λ y. owns y r) (sym s) ∙ e))
+    go false e (inr c) more = rw e (more c h)
+
+owner : (cap : ℕ) (trees : Trees) (rows : List Row) (r : Row) → AllByRecursion (HasRecords cap trees) rows → list_any (λ g. owns g r) rows ≡ true → (g : Row) × HasRecords cap trees g × Contains rows g × (owns g r ≡ true)
+owner cap trees [] r has h = absurd (true≢false (sym h))
+owner cap trees (x ∷ rows) r has h = go (owns x r) refl (owner cap trees rows r has.1)
+  where
+    go : (b : Bool) → owns x r ≡ b → (list_any (λ g. owns g r) rows ≡ true → (g : Row) × HasRecords cap trees g × Contains rows g × (owns g r ≡ true))
+        → (g : Row) × HasRecords cap trees g × Contains (x ∷ rows) g × (owns g r ≡ true)
+    go true e more = (x, has.0, here x rows, e)
+    go false e more = let it = more (rw e at h) in (it.0, it.1, there x it.0 rows it.2, it.3)
+
+shorter : (p : Row → Bool) (xs : List Row) → length (filter p xs) ≤ length xs
+shorter p [] = omega arith
+shorter p (x ∷ xs) = go (p x) refl (shorter p xs)
+  where
+    go : (a : Bool) → p x ≡ a → length (filter p xs) ≤ length xs → length (filter p (x ∷ xs)) ≤ length (x ∷ xs)
+    go true e more = rw e (omega (arith, more))
+    go false e more = rw e (omega (arith, more))
+
+all_full : (p : Row → Bool) (xs : List Row) → length (filter p xs) ≡ length xs → AllByRecursion (λ x. p x ≡ true) xs
+all_full p [] same = tt
+all_full p (x ∷ xs) same = go (p x) refl (all_full p xs) (shorter p xs)
+  where
+    go : (a : Bool) → p x ≡ a → (length (filter p xs) ≡ length xs → AllByRecursion (λ x. p x ≡ true) xs) → length (filter p xs) ≤ length xs → AllByRecursion (λ x. p x ≡ true) (x ∷ xs)
+    go true e more less = let s : length (x ∷ filter p xs) ≡ length (x ∷ xs) = rw e at same in (e, more (omega (arith, s)))
+    go false e more less = absurd (let s : length (filter p xs) ≡ length (x ∷ xs) = rw e at same in omega (arith, s, less))
+
+one_missing : (p : Row → Bool) (xs : List Row) → length (filter p xs) ≢ length xs → (x : Row) × Contains xs x × (p x ≡ false)
+one_missing p [] other = absurd (other refl)
+one_missing p (x ∷ xs) other = go (p x) refl (one_missing p xs)
+  where
+    go : (a : Bool) → p x ≡ a → (length (filter p xs) ≢ length xs → (x : Row) × Contains xs x × (p x ≡ false)) → (y : Row) × Contains (x ∷ xs) y × (p y ≡ false)
+    go false e more = (x, here x xs, e)
+    go true e more =
+        let it = more (λ s. other (rw e (omega (arith, s)))) in
+        (it.0, there x it.0 xs it.1, it.2)
+
+module _ (cap : ℕ) (trees : Trees) (rows : List Row) (sum : ℕ) (same : IsPermutation (recordings_in trees) rows) (counted : AreCounted cap trees rows sum) where
+  back : (g : Row) → Contains rows g → Contains (recordings_in trees) g
+  back g c = Contains-permutation rows (recordings_in trees) g (IsPermutation-sym _ _ same) c
+
+  owned : (r : Row) → list_any (λ g. owns g r) rows ≡ true → IsOwned trees r
+  owned r h =
+      let it = owner cap trees rows r counted.has h in
+      let has = it.1 in
+      let id : column it.0 0 ≡ Rattle.sqlite.specs.declared.types.Value.TheVariants.Int has.id = ap (λ (r : Row). column r 0) has.cells in
+      record {
+        id = has.id;
+        key = has.key;
+        there = record { row = subst (Contains (recordings_in trees)) has.cells (back it.0 it.2); key = has.is_key };
+        owned = subst (λ v. IsTrue (is_eq (value_cmp (column r 1) v))) id it.3;
+      }
+
+  all_owned : (rs : List Row) → AllByRecursion (λ r. list_any (λ g. owns g r) rows ≡ true) rs → AllByRecursion (IsOwned trees) rs
+  all_owned [] all = tt
+  all_owned (r ∷ rs) all = (owned r all.0, all_owned rs all.1)
+
+  kept : Obeys both_schema trees → sum ≡ length (trees 2) → Answers cap trees true
+  kept obeys full =
+      let has : AllByRecursion (HasRecords cap trees) (recordings_in trees) = all-permutation (HasRecords cap trees) rows (recordings_in trees) (IsPermutation-sym _ _ same) counted.has in
+      let ids : (a b : Row) → AreTwoOf (recordings_in trees) a b → column a 0 ≢ column b 0 = λ a b two. other_ids rows a b counted.apart (two.0, IsPermutation-trans _ _ _ (IsPermutation-sym _ _ same) two.1) in
+      let first : (a b : Row) → AreTwoOf (recordings_in trees) a b → Contains (recordings_in trees) a = λ a b two. Contains-permutation _ _ a (IsPermutation-sym _ _ two.1) (here a (b ∷ two.0)) in
+      let second : (a b : Row) → AreTwoOf (recordings_in trees) a b → Contains (recordings_in trees) b = λ a b two. Contains-permutation _ _ b (IsPermutation-sym _ _ two.1) (there a b (b ∷ two.0) (here b two.0)) in
+      let apart : (a b : Row) → AreTwoOf (recordings_in trees) a b → AreOther a b = λ a b two. record { id = ids a b two; identity = other_identities cap trees obeys has a b (first a b two) (second a b two) (ids a b two) } in
+      let owners : All (IsOwned trees) (trees 2) = All-from_recursion (IsOwned trees) (trees 2) (all_owned (trees 2) (all_full (λ r. list_any (λ g. owns g r) rows) (trees 2) (sym counted.sums ∙ full))) in
+      (held_of cap trees (recordings_in trees) has, are-kept cap trees has apart owners)
+
+  foreign : sum ≢ length (trees 2) → IsForeign cap trees
+  foreign other =
+      let it = one_missing (λ r. list_any (λ g. owns g r) rows) (trees 2) (λ s. other (counted.sums ∙ s)) in
+      without_recording it.0 it.1 (λ id k is own.
+      true≢false (sym (any_here rows (recording_cells id k) it.0 (Contains-permutation (recordings_in trees) rows (recording_cells id k) same is.row) own) ∙ it.2))
+
+  pub answered : (b : Bool) (all : ℕ) → Obeys both_schema trees → sum < 9223372036854775807 → all ≡ min (length (trees 2)) 9223372036854775807 → b ≡ nat_eq sum all → Answers cap trees b
+  answered true all obeys low is e = kept obeys (let h : nat_eq sum all ≡ true = sym e in grind (arith, nat_tests, low, is))
+  answered false all obeys low is e = foreign (λ s. absurd (let h : nat_eq sum all ≡ false = sym e in grind (arith, nat_tests, low, is, s)))
+
+pub row_in : (listed rows : List Row) (i : ℕ) (row : Row) → IsPermutation listed rows → i < length rows → row ≡ get_or rows i row → Contains listed row
+row_in listed rows i row same low is = Contains-permutation rows listed row (IsPermutation-sym _ _ same) (i, low, sym is)
+
+pub told_all : (cap : ℕ) (old mid was now : Database) (rows : List Row) (sum all : ℕ) (b : Bool) → mid ≡ old → was ≡ old → now ≡ old → old.schema ≡ both_schema → IsPermutation (recordings_in old.trees) rows
+    → AreCounted cap mid.trees rows sum → IsDatabase now → sum < 9223372036854775807 → all ≡ min (length (was.trees 2)) 9223372036854775807 → b ≡ nat_eq sum all → Answers cap old.trees b
+told_all cap old mid was now rows sum all b m w n has same counted live low is e =
+    let obeys : Obeys old.schema old.trees = subst (λ (d : Database). Obeys d.schema d.trees) n live.obeys in
+    answered cap old.trees rows sum same (subst (λ (d : Database). AreCounted cap d.trees rows sum) m counted) b all (subst (λ s. Obeys s old.trees) has obeys) low
+    (is ∙ ap (λ (d : Database). min (length (d.trees 2)) 9223372036854775807) w) e
+
+-- ---- one row more
+more_rows : (rows : List Row) (i : ℕ) (row : Row) → i < length rows → row ≡ get_or rows i row → take i rows ++ row ∷ [] ≡ take (i + 1) rows
+more_rows rows i row low is = ap (λ (r : Row). take i rows ++ r ∷ []) is ∙ sym (take_more rows i row low)
+
+pub up_more : (rows : List Row) (i : ℕ) (row : Row) (last : Option ℤ) (id : ℤ) → i < length rows → row ≡ get_or rows i row → AllByRecursion (IsUpTo last) (take i rows) → IsAfter last row id → AllByRecursion (IsUpTo (Some id)) (take (i + 1) rows)
+up_more rows i row last id low is up after = subst (AllByRecursion (IsUpTo (Some id))) (more_rows rows i row low is) (up_push last id row (take i rows) up after)
+
+pub counted_more : (cap : ℕ) (old was : Database) (rows : List Row) (i : ℕ) (row : Row) (sum count more : ℕ) (last : Option ℤ) (id : ℤ) → was ≡ old → IsPermutation (recordings_in old.trees) rows → i < length rows → row ≡ get_or rows i row → more ≡ count
+    → AreCounted cap old.trees (take i rows) sum → AllByRecursion (IsUpTo last) (take i rows) → IsAfter last row id → Checks cap was.trees row (Some count) → AreCounted cap old.trees (take (i + 1) rows) (sum + more)
+counted_more cap old was rows i row sum count more last id same listed low is size counted up after told =
+    let has = subst (λ (d : Database). Checks cap d.trees row (Some count)) same told (row_in (recordings_in old.trees) rows i row listed low is) in
+    subst (λ n. AreCounted cap old.trees (take (i + 1) rows) (sum + n)) (sym size)
+    (subst (λ l. AreCounted cap old.trees l (sum + count)) (more_rows rows i row low is) (counted_push cap old.trees (take i rows) row sum count last id counted up after has))

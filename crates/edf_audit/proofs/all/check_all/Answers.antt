@@ -1,0 +1,36 @@
+use Rattle.std.proofs.Common.{rules, ◌≡◌, ◌<◌, ◌^◌, ◌-◌, IsPermutation, IfSome, refl, subst, ◌∙◌, arith}
+use Rattle.sqlite.specs.Effect.{Database}
+use Rattle.sqlite.specs.Held.{state}
+use Rattle.sqlite.specs.State.{HasCleanDisk}
+use Rattle.edf_rows.specs.Cells.{recordings_in}
+use Rattle.edf_rows.specs.Foreign.{IsForeign}
+use Rattle.edf_audit.specs.All.{AreCounted, Counts}
+use Rattle.edf_audit.proofs.AllLemmas.{told_all}
+use Rattle.edf_audit.proofs.all.check_all.Goals as goal
+
+pub returns-in_default-clause-answers : goal.returns-in_default-clause-answers
+returns-in_default-clause-answers g c clean =
+    let mid = state g.S.Store c.recordings.new.conn in
+    let early : HasCleanDisk mid = omega (arith, c.count_owned.ensures.survives.clean) in
+    let first = c.in_ok-found.ensures.same early in
+    let told : IsForeign c.args.cap mid.now.trees = subst (Counts c.args.cap mid.now.trees c.deref.result.now) c.in_default.is (c.in_ok-sum.ensures.counts clean) in
+    subst (λ (d : Database). IsForeign c.args.cap d.trees) first.0.now_is told
+
+pub returns-clause-answers : goal.returns-clause-answers
+returns-clause-answers g c clean =
+    let old = state g.S.Store c.args.conn.now in
+    let mid = state g.S.Store c.recordings.new.conn in
+    let was = state g.S.Store c.count_owned.new.conn in
+    let now = state g.S.Store c.count_all_rows.new.conn in
+    let late : HasCleanDisk was = omega (arith, c.count_all_rows.ensures.survives.clean) in
+    let early : HasCleanDisk mid = omega (arith, c.count_owned.ensures.survives.clean, late) in
+    let start : HasCleanDisk old = omega (arith, c.recordings.ensures.survives.clean, early) in
+    let first = c.in_ok-found.ensures.same early in
+    let second = c.in_ok-sum.ensures.same late in
+    let third = c.in_ok-all.ensures.same clean in
+    let counted : AreCounted c.args.cap mid.now.trees c.deref.result.now c.in-Some.sum = subst (Counts c.args.cap mid.now.trees c.deref.result.now) c.in-Some.is (c.in_ok-sum.ensures.counts late) in
+    let below : c.in-Some.sum < 2 ^ 63 - 1 = subst (λ o. IfSome o (λ s. s < 2 ^ 63 - 1)) c.in-Some.is c.in_ok-sum.ensures.low in
+    let value : c.in_ok-found.found.items ≡ c.deref.result.now = search rules in
+    let listed : IsPermutation (recordings_in old.now.trees) c.deref.result.now = subst (IsPermutation (recordings_in old.now.trees)) value (c.in_ok-found.ensures.listed early) in
+    told_all c.args.cap old.now mid.now was.now now.now c.deref.result.now c.in-Some.sum c.in_ok-all.all _ first.0.now_is (second.now_is ∙ first.0.now_is) (third.0.now_is ∙ second.now_is ∙ first.0.now_is) (c.requires.schema start)
+    listed counted (c.obey.ensures third.0.is_open).0 (omega (arith, below)) (c.in_ok-all.ensures.count clean) refl

@@ -1,0 +1,51 @@
+use Rattle.std.proofs.Common.{rules, None, w64, arith, subst}
+use Rattle.std.proofs.lemmas.Int.{to_z-of_z}
+use Rattle.sqlite.specs.Effect.{Database}
+use Rattle.sqlite.specs.Held.{state}
+use Rattle.sqlite.specs.State.{HasCleanDisk}
+use Rattle.edf_tables.proofs.CommitLemmas.{quiet_then, survives_same}
+use Rattle.edf_rows.specs.Cells.{recordings_in}
+use Rattle.edf_audit.specs.All.{IsAfter}
+use Rattle.edf_audit.specs.Kept.{Checks}
+use Rattle.edf_audit.proofs.CountLemmas.{counted_none}
+use Rattle.edf_audit.proofs.AllLemmas.{rows_same, rows_then, row_in, up_more, counted_more}
+use Rattle.edf_audit.proofs.all.count_owned.Goals as goal
+
+pub loop-row-init : goal.loop-row-init
+loop-row-init g c = record {
+  crash = survives_same (state g.S.Store c.args.conn.now) (λ _. ⊥);
+  same = λ clean. rows_same (state g.S.Store c.args.conn.now);
+  counted = λ clean. counted_none c.args.cap (state g.S.Store c.args.conn.now).now.trees;
+  up_to = tt;
+  low = omega arith;
+}
+
+pub returns-in_default-clause-counts : goal.returns-in_default-clause-counts
+returns-in_default-clause-counts g c clean =
+    let old = state g.S.Store c.args.conn.now in
+    let was = state g.S.Store c.loop-row.conn in
+    let inv = c.loop-row.invariant in
+    let late : HasCleanDisk was = omega (arith, c.check_row.ensures.survives.clean) in
+    let early : HasCleanDisk old = omega (arith, late, inv.crash.clean) in
+    let told = subst (Checks c.args.cap was.now.trees c.row-item.result) c.in_default.is (c.in_ok-count.ensures.told clean) in
+    let here = row_in (recordings_in old.now.trees) c.args.rows.now c.loop-row.row-index c.row-item.result (c.requires.listed early) (search rules) (search rules) in
+    subst (λ (d : Database). Checks c.args.cap d.trees c.row-item.result None) (inv.same late).now_is told here
+
+pub loop-row-preserved : goal.loop-row-preserved
+loop-row-preserved g c =
+    let old = state g.S.Store c.args.conn.now in
+    let was = state g.S.Store c.loop-row.conn in
+    let now = state g.S.Store c.check_row.new.conn in
+    let inv = c.loop-row.invariant in
+    let after : IsAfter c.loop-row.last c.row-item.result c.in-Some-next_id.id = c.in-Some-next_id.ensures in
+    record {
+      crash = quiet_then old was now _ inv.crash c.check_row.ensures.survives;
+      same = λ clean. rows_then old was now (inv.same (omega (arith, c.check_row.ensures.survives.clean))) (c.in_ok-count.ensures.same clean);
+      counted = λ clean.
+          let late : HasCleanDisk was = omega (arith, c.check_row.ensures.survives.clean) in
+          let early : HasCleanDisk old = omega (arith, late, inv.crash.clean) in
+          counted_more c.args.cap old.now was.now c.args.rows.now c.loop-row.row-index c.row-item.result c.loop-row.sum c.in-Some.count c.from.result c.loop-row.last c.in-Some-next_id.id (inv.same late).now_is (c.requires.listed early)
+          (search rules) (search rules) (search rules) (inv.counted late) inv.up_to after (subst (Checks c.args.cap was.now.trees c.row-item.result) c.in-Some.is (c.in_ok-count.ensures.told clean));
+      up_to = rw (to_z-of_z w64 c.in-Some-next_id.id (search rules)) (up_more c.args.rows.now c.loop-row.row-index c.row-item.result c.loop-row.last c.in-Some-next_id.id (search rules) (search rules) inv.up_to after);
+      low = search rules;
+    }

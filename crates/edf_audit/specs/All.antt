@@ -1,0 +1,43 @@
+-- What the check of all rows counts and answers.
+use Rattle.std.specs.Prelude.{◌≡◌, ℕ, ℤ, Bool, true, false, List, filter, length, Option, Some, None}
+use Rattle.std.specs.declared.cmp.Ordering.TheVariants.{Less}
+use Rattle.std.specs.Ordering.{int_cmp, is_eq}
+use Rattle.std.specs.List.{AllByRecursion, list_any}
+use Rattle.sqlite.specs.declared.types.Value.TheVariants.{Int}
+use Rattle.sqlite.specs.Order.{Row}
+use Rattle.sqlite.specs.Tree.{Trees}
+use Rattle.sqlite_value.specs.Order.{column, value_cmp}
+use Rattle.sqlite_trees.specs.Tree.{IsAscending}
+use Rattle.edf_holdings.specs.Holdings.{Holdings}
+use Rattle.edf_rows.specs.Rows.{AreKept}
+use Rattle.edf_rows.specs.Foreign.{IsForeign}
+use Rattle.edf_rows.specs.Shape.{HasRecords}
+
+-- the row's id, which comes after the last one
+abbrev pub IsAfter : Option ℤ → Row → ℤ → Type 0
+IsAfter None row id = column row 0 ≡ Int id
+IsAfter (Some last) row id = (column row 0 ≡ Int id) × (int_cmp last id ≡ Less)
+
+-- the record is of this recording
+abbrev pub owns : Row → Row → Bool
+owns recording row = is_eq (value_cmp (column row 1) (column recording 0))
+
+-- how many records belong to one of the recordings
+abbrev pub owned_by : Trees → List Row → ℕ
+owned_by trees rows = length (filter (λ r. list_any (λ g. owns g r) rows) (trees 2))
+
+-- each recording has sound records, no id stands twice, and so many records are theirs
+pub record AreCounted (cap : ℕ) (trees : Trees) (rows : List Row) (sum : ℕ) : Type 0 where
+  pub has : AllByRecursion (HasRecords cap trees) rows
+  pub apart : IsAscending (λ a b. value_cmp (column a 0) (column b 0) ≡ Less) rows
+  pub sums : sum ≡ owned_by trees rows
+
+-- so many records belong to the recordings, or the rows are foreign
+abbrev pub Counts : ℕ → Trees → List Row → Option ℕ → Type 0
+Counts cap trees rows None = IsForeign cap trees
+Counts cap trees rows (Some sum) = AreCounted cap trees rows sum
+
+-- the rows are kept for some holdings, or foreign
+abbrev pub Answers : ℕ → Trees → Bool → Type 0
+Answers cap trees true = (h : Holdings) × AreKept cap trees h
+Answers cap trees false = IsForeign cap trees

@@ -1,0 +1,96 @@
+//! All rows of both tables.
+
+ghost use Rattle.std.specs.Prelude.{◌≡◌, ◌<◌, ◌^◌, ◌-◌, IfOk, OnOk, OnErr, IfSome, IsPermutation, IsTrue};
+ghost use Rattle.sqlite.specs.Held.{state};
+ghost use Rattle.sqlite.specs.State.{HasCleanDisk, IsLive, Survives, KeepsCommit};
+ghost use Rattle.edf_tables.specs.Schema.{both_schema};
+ghost use Rattle.edf_rows.specs.Cells.{recordings_in};
+ghost use Rattle.edf_audit.specs.Kept.{KeepsRows};
+ghost use Rattle.edf_audit.specs.All.{IsAfter, Counts, Answers};
+
+use crate::check::check_row;
+use edf_tables::{count_all_rows, recordings};
+use sqlite::types::ValueRef;
+use sqlite::{Alter, Connection, Error, Row};
+use std::alloc::Global;
+
+/// The id of a row, if it comes after the last one.
+fn next_id(row: &Row, last: Option<i64>) -> Option<i64>
+    ensures { IfSome result (IsAfter last row.now) }
+{
+    let Ok(ValueRef::Int(id)) = row.get_ref(0) else {
+        return None;
+    };
+    let Some(last) = last else {
+        return Some(id);
+    };
+    if last.cmp(&id).is_lt() {
+        Some(id)
+    } else {
+        None
+    }
+}
+
+/// How many records the recordings have, or `None` where one of them may not stand.
+fn count_owned<S: Alter>(
+    alloc: Global,
+    conn: &mut Connection<S>,
+    rows: &[Row],
+    cap: u32,
+) -> Result<Option<u64>, Error>
+    requires cap { cap < 2 ^ 32 - 1 }
+    requires schema { HasCleanDisk (state S.Store conn.old) → (state S.Store conn.old).now.schema ≡ both_schema }
+    requires listed { HasCleanDisk (state S.Store conn.old) → IsPermutation (recordings_in (state S.Store conn.old).now.trees) rows.now }
+    ensures counts { HasCleanDisk (state S.Store conn.new) → IfOk result (Counts cap (state S.Store conn.old).now.trees rows.now) }
+    ensures low { IfOk result (λ o. IfSome o (λ sum. sum < 2 ^ 63 - 1)) }
+    ensures same { HasCleanDisk (state S.Store conn.new) → OnOk result (KeepsRows (state S.Store conn.old) (state S.Store conn.new)) }
+    ensures refused { HasCleanDisk (state S.Store conn.new) → OnErr result (KeepsCommit (state S.Store conn.old) (state S.Store conn.new)) }
+    ensures survives { Survives (state S.Store conn.old) (state S.Store conn.new) (λ _. ⊥) }
+{
+    let mut sum: u64 = 0;
+    let mut last = None;
+    for row in rows {
+        let Some(count) = check_row(alloc, conn, row, cap)? else {
+            return Ok(None);
+        };
+        let Some(id) = next_id(row, last) else {
+            return Err(Error::QueryReturnedNoRows);
+        };
+        let more = sum + u64::from(count);
+        if more >= 9_223_372_036_854_775_807 {
+            return Err(Error::QueryReturnedNoRows);
+        }
+        sum = more;
+        last = Some(id);
+    }
+    Ok(Some(sum))
+}
+
+/// The tables obey their schema, whose UNIQUE keeps identities apart.
+fn obey<S: Alter>(conn: &Connection<S>)
+    ensures { IsLive (state S.Store conn.now) }
+{
+    let _ = conn.schema();
+}
+
+/// Whether the rows are those of submissions under the cap.
+///
+/// # Errors
+/// `sqlite`'s, and want of memory in its words.
+pub fn check_all<S: Alter>(alloc: Global, conn: &mut Connection<S>, cap: u32) -> Result<bool, Error>
+    requires cap { cap < 2 ^ 32 - 1 }
+    requires schema { HasCleanDisk (state S.Store conn.old) → (state S.Store conn.old).now.schema ≡ both_schema }
+    ensures answers { HasCleanDisk (state S.Store conn.new) → IfOk result (Answers cap (state S.Store conn.old).now.trees) }
+    ensures same { HasCleanDisk (state S.Store conn.new) → OnOk result (KeepsRows (state S.Store conn.old) (state S.Store conn.new)) }
+    ensures is_open { HasCleanDisk (state S.Store conn.new) → OnOk result (IsTrue (state S.Store conn.new).is_open) }
+    ensures refused { HasCleanDisk (state S.Store conn.new) → OnErr result (KeepsCommit (state S.Store conn.old) (state S.Store conn.new)) }
+    ensures survives { Survives (state S.Store conn.old) (state S.Store conn.new) (λ _. ⊥) }
+{
+    let found = recordings(conn)?;
+    let Some(sum) = count_owned(alloc, conn, &found, cap)? else {
+        return Ok(false);
+    };
+    let all = count_all_rows(conn)?;
+    obey(conn);
+    Ok(sum == all)
+}
