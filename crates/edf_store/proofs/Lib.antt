@@ -1,0 +1,15 @@
+pub mod DecodeLemmas
+pub mod DurationLemmas
+pub mod FaultLemmas
+pub mod FoundLemmas
+pub mod HeldLemmas
+pub mod KeyLemmas
+pub mod KeysReadLemmas
+pub mod NearLemmas
+pub mod PutLemmas
+pub mod ReadyLemmas
+pub mod RowLemmas
+pub mod StandLemmas
+pub mod StepLemmas
+pub mod SummaryLemmas
+pub mod WalkLemmas

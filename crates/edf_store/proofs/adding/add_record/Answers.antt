@@ -1,0 +1,35 @@
+use Rattle.std.proofs.Common.{◌≡◌, List, ℕ, ℤ, pos, rules, w64, ap, subst, sym, ◌∙◌}
+use Rattle.std.proofs.lemmas.Int.{to_z-of_z}
+use Rattle.sqlite.specs.Held.{state}
+use Rattle.sqlite.specs.State.{HasCleanDisk}
+use Rattle.edf_tal.specs.Canonical.{block_text}
+use Rattle.edf_tables.specs.Row.{cells, HasRecord}
+use Rattle.edf_tables.proofs.HeldLemmas.{record_keeps}
+use Rattle.edf_store.proofs.DecodeLemmas.{start_fits}
+use Rattle.edf_store.proofs.HeldLemmas.{still_sound}
+use Rattle.edf_store.proofs.StepLemmas.{added_in, none_added}
+use Rattle.edf_store.proofs.adding.add_record.Goals as goal
+
+pub invariant_of-store : goal.invariant_of-store
+invariant_of-store g c = still_sound c.store.inside.cap (state g.S.Store c.store.inside.conn) (state g.S.Store c.insert_record.new.conn) _ c.insert_record.ensures.survives c.in-Err.ensures.refused c.store.invariant
+
+pub invariant_of-store-2 : goal.invariant_of-store-2
+invariant_of-store-2 g c =
+    still_sound c.store.inside.cap (state g.S.Store c.store.inside.conn) (state g.S.Store c.insert_record.new.conn) _ c.insert_record.ensures.survives
+    (λ clean. record_keeps (state g.S.Store c.store.inside.conn) (state g.S.Store c.insert_record.new.conn) _ (c.in_default-insert_record.ensures.added clean)) c.store.invariant
+
+pub returns-clause-added : goal.returns-clause-added
+returns-clause-added g c =
+    let old = state g.S.Store c.store.inside.conn in
+    let new = state g.S.Store c.insert_record.new.conn in
+    let r = c.args.data_record.now in
+    let running = rw (← c.store.view_is) at c.requires.running in
+    let room = rw (← c.store.view_is) at c.requires.room in
+    let start : c.start_of-start.result ≡ pos r.start = search rules in
+    let block : c.as_slice.result.now ≡ block_text 0 r.start r.annotations = search rules in
+    let has : HasCleanDisk new → HasRecord old new (cells c.args.id (pos r.start) r.samples (block_text 0 r.start r.annotations)) =
+    λ clean. rw (to_z-of_z w64 c.args.id c.ranges.id, start, start_fits r.start room.sound.start, c.samples.ensures.value, block) at (c.in_default-insert_record.ensures.added clean) in
+    rw (← c.store.view_is) (added_in c.store.inside.cap old new _ c.insert_record.ensures.survives c.args.id r has room running)
+
+pub returns-clause-only : goal.returns-clause-only
+returns-clause-only g c = rw (← c.store.view_is) (none_added (state g.S.Store c.store.inside.conn) (state g.S.Store c.insert_record.new.conn) _ c.in_default-insert_record.ensures.added)

@@ -1,0 +1,28 @@
+use Rattle.std.proofs.Common.{arith}
+use Rattle.sqlite.specs.Held.{state}
+use Rattle.sqlite.specs.State.{HasCleanDisk}
+use Rattle.edf_store.proofs.ReadyLemmas.{named_apart, held_now}
+use Rattle.edf_store.proofs.KeysReadLemmas.{keys_read, identities_of_keys, if_both, if_refused}
+use Rattle.edf_store.proofs.listing.list.Goals as goal
+
+pub identities-requires : goal.identities-requires
+identities-requires g c =
+    let settled = rw (← c.store.view_is) at c.requires.settled in
+    record { apart = λ clean. named_apart c.store.inside.cap (state g.S.Store c.store.inside.conn) (settled clean) }
+
+pub returns-clause-keys : goal.returns-clause-keys
+returns-clause-keys g c clean =
+    let a = state g.S.Store c.store.inside.conn in
+    let settled = rw (← c.store.view_is) at c.requires.settled in
+    let was_clean : HasCleanDisk a = omega (arith, c.identities.ensures.survives.clean) in
+    rw (← c.store.view_is)
+    (if_both c.identities_in.result c.identities_in.ensures.read c.identities_in.ensures.keys
+    (λ found read good h held. keys_read c.store.inside.cap a.now.trees h c.in-Ok.all.items found.items (held_now c.store.inside.cap a was_clean (settled was_clean) h held) (c.in-Ok.ensures.identities clean) read good))
+
+pub returns-clause-own : goal.returns-clause-own
+returns-clause-own g c clean =
+    let a = state g.S.Store c.store.inside.conn in
+    let settled = rw (← c.store.view_is) at c.requires.settled in
+    let was_clean : HasCleanDisk a = omega (arith, c.identities.ensures.survives.clean) in
+    let it = (settled was_clean).holdings in
+    if_refused c.identities_in.result c.identities_in.ensures.foreign (λ e own. own (identities_of_keys a.now.trees it.0 c.in-Ok.all.items it.1.stand (c.in-Ok.ensures.identities clean)))

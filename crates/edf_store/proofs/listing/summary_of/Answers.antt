@@ -1,0 +1,86 @@
+use Rattle.std.proofs.Common.{w64, arith}
+use Rattle.std.proofs.lemmas.Int.{to_z-of_z}
+use Rattle.sqlite.specs.Held.{state}
+use Rattle.sqlite.specs.State.{HasCleanDisk}
+use Rattle.sqlite_exec.proofs.MarkLemmas.{if_ok_then}
+use Rattle.edf_store.proofs.ReadyLemmas.{stays_so, still_settled, three_survive, three_keep}
+use Rattle.edf_store.proofs.SummaryLemmas.{ready_at, still_ready, summary_read, bounds_read}
+use Rattle.edf_store.proofs.KeysReadLemmas.{if_refused}
+use Rattle.edf_store.proofs.listing.summary_of.Goals as goal
+
+pub first_start-requires : goal.first_start-requires
+first_start-requires g c =
+    let a = state g.S.Store c.store.inside.conn in
+    let b = state g.S.Store c.count_rows.new.conn in
+    let settled = rw (← c.store.view_is) at c.requires.settled in
+    let there = rw (← c.store.view_is) at c.requires.there in
+    record {
+      ready = λ clean.
+          let was_clean : HasCleanDisk a = omega (arith, c.count_rows.ensures.survives.clean) in
+          rw (to_z-of_z w64 c.args.id c.ranges.id) (still_ready a b c.args.id (c.in-Ok.ensures.same clean) (ready_at c.store.inside.cap a c.args.id (there was_clean).0 (settled was_clean) (there was_clean).1));
+    }
+
+pub last_start-requires : goal.last_start-requires
+last_start-requires g c =
+    let a = state g.S.Store c.store.inside.conn in
+    let b = state g.S.Store c.count_rows.new.conn in
+    let d = state g.S.Store c.first_start.new.conn in
+    let settled = rw (← c.store.view_is) at c.requires.settled in
+    let there = rw (← c.store.view_is) at c.requires.there in
+    record {
+      ready = λ clean.
+          let clean_b : HasCleanDisk b = omega (arith, c.first_start.ensures.survives.clean) in
+          let was_clean : HasCleanDisk a = omega (arith, c.count_rows.ensures.survives.clean, clean_b) in
+          rw (to_z-of_z w64 c.args.id c.ranges.id)
+          (still_ready b d c.args.id (c.in-Ok-first_start.ensures.same clean) (still_ready a b c.args.id (c.in-Ok.ensures.same clean_b) (ready_at c.store.inside.cap a c.args.id (there was_clean).0 (settled was_clean) (there was_clean).1)));
+    }
+
+pub returns-in-Err-last_start-clause-stays : goal.returns-in-Err-last_start-clause-stays
+returns-in-Err-last_start-clause-stays g c =
+    let a = state g.S.Store c.store.inside.conn in
+    let b = state g.S.Store c.count_rows.new.conn in
+    let d = state g.S.Store c.first_start.new.conn in
+    let e = state g.S.Store c.last_start.new.conn in
+    rw (← c.store.view_is)
+    (stays_so g.S.Store c.store.inside.cap c.store.inside.conn c.last_start.new.conn
+    (three_survive a b d e c.count_rows.ensures.survives c.first_start.ensures.survives c.last_start.ensures.survives c.count_rows.ensures.kept c.first_start.ensures.kept c.last_start.ensures.kept)
+    (three_keep a b d e c.count_rows.ensures.survives c.first_start.ensures.survives c.last_start.ensures.survives c.count_rows.ensures.kept c.first_start.ensures.kept c.last_start.ensures.kept))
+
+pub returns-clause-stays : goal.returns-clause-stays
+returns-clause-stays g c =
+    let a = state g.S.Store c.store.inside.conn in
+    let b = state g.S.Store c.count_rows.new.conn in
+    let d = state g.S.Store c.first_start.new.conn in
+    let e = state g.S.Store c.last_start.new.conn in
+    rw (← c.store.view_is)
+    (stays_so g.S.Store c.store.inside.cap c.store.inside.conn c.last_start.new.conn
+    (three_survive a b d e c.count_rows.ensures.survives c.first_start.ensures.survives c.last_start.ensures.survives c.count_rows.ensures.kept c.first_start.ensures.kept c.last_start.ensures.kept)
+    (three_keep a b d e c.count_rows.ensures.survives c.first_start.ensures.survives c.last_start.ensures.survives c.count_rows.ensures.kept c.first_start.ensures.kept c.last_start.ensures.kept))
+
+pub returns-clause-summary : goal.returns-clause-summary
+returns-clause-summary g c clean =
+    let a = state g.S.Store c.store.inside.conn in
+    let b = state g.S.Store c.count_rows.new.conn in
+    let d = state g.S.Store c.first_start.new.conn in
+    let e = state g.S.Store c.last_start.new.conn in
+    let size = to_z-of_z w64 c.args.id c.ranges.id in
+    let settled = rw (← c.store.view_is) at c.requires.settled in
+    rw (← c.store.view_is)
+    (if_ok_then c.summary_from.result c.summary_from.ensures.summary (λ summary is.
+    summary_read c.store.inside.cap a b d e c.args.id c.in-Ok.count c.in-Ok-first_start.first c.in-Ok-last_start.last c.store.invariant.cap_to settled
+    c.count_rows.ensures.survives c.first_start.ensures.survives c.last_start.ensures.survives c.in-Ok.ensures.same c.in-Ok-first_start.ensures.same
+    (λ clean. rw size at (c.in-Ok.ensures.count clean)) (λ clean. rw size at (c.in-Ok-first_start.ensures.first clean)) (λ clean. rw size at (c.in-Ok-last_start.ensures.last clean)) clean summary is))
+
+pub returns-clause-own : goal.returns-clause-own
+returns-clause-own g c clean =
+    let a = state g.S.Store c.store.inside.conn in
+    let b = state g.S.Store c.count_rows.new.conn in
+    let d = state g.S.Store c.first_start.new.conn in
+    let e = state g.S.Store c.last_start.new.conn in
+    let size = to_z-of_z w64 c.args.id c.ranges.id in
+    let settled = rw (← c.store.view_is) at c.requires.settled in
+    let there = rw (← c.store.view_is) at c.requires.there in
+    if_refused c.summary_from.result c.summary_from.ensures.own (λ fault own.
+    bounds_read c.store.inside.cap a b d e c.args.id c.in-Ok.count c.in-Ok-first_start.first c.in-Ok-last_start.last c.store.invariant.cap_to settled
+    c.count_rows.ensures.survives c.first_start.ensures.survives c.last_start.ensures.survives c.in-Ok.ensures.same c.in-Ok-first_start.ensures.same
+    (λ clean. rw size at (c.in-Ok.ensures.count clean)) (λ clean. rw size at (c.in-Ok-first_start.ensures.first clean)) (λ clean. rw size at (c.in-Ok-last_start.ensures.last clean)) clean there _ own)

@@ -1,0 +1,20 @@
+use Rattle.std.proofs.Common.{rules, w64}
+use Rattle.std.proofs.lemmas.Int.{to_z-of_z}
+use Rattle.sqlite.specs.Held.{state}
+use Rattle.edf_store.proofs.HeldLemmas.{still_sound}
+use Rattle.edf_store.proofs.StepLemmas.{count_is}
+use Rattle.edf_store.proofs.reading.count_records.Goals as goal
+
+pub invariant_of-store : goal.invariant_of-store
+invariant_of-store g c = still_sound c.store.inside.cap (state g.S.Store c.store.inside.conn) (state g.S.Store c.count_rows.new.conn) _ c.count_rows.ensures.survives c.count_rows.ensures.kept c.store.invariant
+
+pub invariant_of-store-in_default : goal.invariant_of-store-in_default
+invariant_of-store-in_default g c = still_sound c.store.inside.cap (state g.S.Store c.store.inside.conn) (state g.S.Store c.count_rows.new.conn) _ c.count_rows.ensures.survives c.count_rows.ensures.kept c.store.invariant
+
+pub invariant_of-store-2 : goal.invariant_of-store-2
+invariant_of-store-2 g c = still_sound c.store.inside.cap (state g.S.Store c.store.inside.conn) (state g.S.Store c.count_rows.new.conn) _ c.count_rows.ensures.survives c.count_rows.ensures.kept c.store.invariant
+
+pub returns-clause-count : goal.returns-clause-count
+returns-clause-count g c clean =
+    let size = rw (to_z-of_z w64 c.args.id c.ranges.id) at (c.in-Ok.ensures.count clean) in
+    rw (← c.store.view_is) (count_is c.store.inside.cap (state g.S.Store c.store.inside.conn) (state g.S.Store c.count_rows.new.conn) _ c.count_rows.ensures.survives c.args.id c.in-Ok.count c.in-Ok-try_from.count clean c.store.invariant.cap_to size (search rules))

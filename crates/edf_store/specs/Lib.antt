@@ -1,0 +1,7 @@
+pub mod Fault
+pub mod Held
+pub mod Transaction
+pub mod Listed
+pub mod Walk
+pub mod Shape
+pub mod Open

@@ -1,0 +1,26 @@
+-- How a store is opened.
+use Rattle.std.specs.Prelude.{◌≡◌, ℕ, IsTrue}
+use Rattle.sqlite_trees.specs.declared.store.Store.{Ghosts}
+use Rattle.sqlite.specs.Held.{Held, state}
+use Rattle.sqlite.specs.State.{HasCleanDisk, Survives}
+use Rattle.edf_holdings.specs.Holdings.{Holdings}
+use Rattle.edf_tables.specs.Made.{HasTables, IsMadeOf}
+use Rattle.edf_rows.specs.Rows.{AreKept}
+use Rattle.edf_rows.specs.Foreign.{IsForeign}
+use Rattle.edf_store.specs.Held.{Kept, at}
+use Rattle.edf_store.specs.declared.fault.StoreFault.{StoreFault}
+use Rattle.edf_store.specs.declared.fault.StoreFault.TheVariants.{Foreign}
+
+-- the store has the rows that were there, which stand for holdings; a crash leaves missing tables made, and the rows as they were
+pub record IsOpened {S : Type 0} (g : Ghosts S) (conn : Held S) (store : Kept S) : Type 0 where
+  pub is_open : HasCleanDisk (at g store) → IsTrue (at g store).is_open
+  pub tables : HasCleanDisk (at g store) → HasTables (state g conn).now (at g store).committed
+  pub holdings : HasCleanDisk (at g store) → (h : Holdings) × AreKept store.cap (at g store).committed.trees h
+  pub crash : Survives (state g conn) (at g store) (IsMadeOf (state g conn).now)
+
+-- the connection is given up with the rows that were there; where they are told to be foreign on a clean disk, they are
+pub record IsGivenUp {S : Type 0} (g : Ghosts S) (conn : Held S) (cap : ℕ) (fault : StoreFault) : Type 0 where
+  pub end : Held S
+  pub tables : fault ≡ Foreign → HasCleanDisk (state g end) → HasTables (state g conn).now (state g end).now
+  pub foreign : fault ≡ Foreign → HasCleanDisk (state g end) → IsForeign cap (state g end).now.trees
+  pub crash : Survives (state g conn) (state g end) (IsMadeOf (state g conn).now)

@@ -1,0 +1,120 @@
+-- What a transaction sees.
+use Rattle.std.specs.Prelude.{◌≡◌, ◌≢◌, ◌⊎◌, ℕ, ℤ, ◌<◌, List, [], ◌∷◌, length, IsTrue}
+use Rattle.sqlite_trees.specs.declared.store.Store.{Ghosts}
+use Rattle.sqlite_trees.specs.Tree.{Trees}
+use Rattle.sqlite.specs.State.{State, HasCleanDisk}
+use Rattle.edf_field.specs.Number.{duration_of}
+use Rattle.edf_header.specs.Key.{Key, IsKey}
+use Rattle.edf_fragment.specs.Fragment.{DataRecord}
+use Rattle.edf_holdings.specs.Clash.{near_of}
+use Rattle.edf_fragment.specs.Sound.{IsSoundRecord}
+use Rattle.edf_holdings.specs.Holdings.{Holdings, IsSound, put}
+use Rattle.edf_tables.specs.Row.{IsInside}
+use Rattle.edf_rows.specs.Rows.{IsThere, StandFor, AreKept}
+use Rattle.edf_store.specs.Held.{Kept, at}
+
+-- a transaction is open, and its rows stand for these sound holdings
+pub record StandsInside (cap : ℕ) (s : State) (h : Holdings) : Type 0 where
+  pub is_open : IsTrue s.is_open
+  pub inside : IsInside s
+  pub stand : StandFor s.now.trees h
+  pub sound : IsSound cap h
+
+abbrev pub AreSeen : ℕ → State → Holdings → Type 0
+AreSeen cap s h = HasCleanDisk s → StandsInside cap s h
+
+abbrev pub SeesSome : ℕ → State → Type 0
+SeesSome cap s = HasCleanDisk s → (h : Holdings) × StandsInside cap s h
+
+-- the key's recording is there under this id
+pub record IsUnder (s : State) (id : ℤ) (k : Key) : Type 0 where
+  pub key : IsKey k
+  pub there : HasCleanDisk s → IsThere s.now.trees id k
+
+-- what was seen is seen, and the recordings are there under the ids that they had
+pub record SeesOn (cap : ℕ) (old new : State) : Type 0 where
+  pub running : SeesSome cap new
+  pub holdings : (h : Holdings) → AreSeen cap old h → AreSeen cap new h
+  pub ids : (id : ℤ) (k : Key) → IsUnder old id k → IsUnder new id k
+
+-- no recording is made
+abbrev pub MakesNone : State → State → Type 0
+MakesNone old new = HasCleanDisk new → (id : ℤ) (k : Key) → IsThere new.now.trees id k → IsThere old.now.trees id k
+
+-- no recording but this one is made
+abbrev pub MakesOnly : Key → State → State → Type 0
+MakesOnly made old new = HasCleanDisk new → (id : ℤ) (k : Key) → IsThere new.now.trees id k → IsThere old.now.trees id k ⊎ (k ≡ made)
+
+-- these are the records of the recording that lie near the start
+abbrev pub AreNearIn : ℕ → State → ℤ → ℕ → List DataRecord → Type 0
+AreNearIn cap s id start records = (h : Holdings) (k : Key) → AreSeen cap s h → IsUnder s id k → records ≡ near_of (duration_of k.duration) start (h k)
+
+-- the recording has so many
+abbrev pub IsCountIn : ℕ → State → ℤ → ℕ → Type 0
+IsCountIn cap s id count = (h : Holdings) (k : Key) → AreSeen cap s h → IsUnder s id k → count ≡ length (h k)
+
+-- there is room for the record: none is near it, and there are fewer than the cap
+pub record HasRoom (cap : ℕ) (k : Key) (r : DataRecord) (h : Holdings) : Type 0 where
+  pub none_near : near_of (duration_of k.duration) r.start (h k) ≡ []
+  pub few : length (h k) < cap
+
+-- the recording may take the record, which is a sound one of its key
+pub record MayTakeIn (cap : ℕ) (s : State) (id : ℤ) (r : DataRecord) : Type 0 where
+  pub key : Key
+  pub is_under : IsUnder s id key
+  pub sound : IsSoundRecord key r
+  pub room : HasCleanDisk s → (h : Holdings) → AreSeen cap s h → HasRoom cap key r h
+
+-- the recording has the record beside those that it had, and all else is as it was
+pub record IsAddedIn (cap : ℕ) (old new : State) (id : ℤ) (r : DataRecord) : Type 0 where
+  pub running : SeesSome cap new
+  pub holdings : (h : Holdings) (k : Key) → AreSeen cap old h → IsUnder old id k → AreSeen cap new (put k (r ∷ []) h)
+  pub ids : (id : ℤ) (k : Key) → IsUnder old id k → IsUnder new id k
+
+-- each recording holds a record
+abbrev pub IsWholeIn : ℕ → State → Type 0
+IsWholeIn cap s = HasCleanDisk s → (h : Holdings) (id : ℤ) (k : Key) → AreSeen cap s h → IsUnder s id k → h k ≢ []
+
+-- these rows are what a commit would leave
+abbrev pub AreSeenRows : ℕ → State → Trees → Type 0
+AreSeenRows cap s db = (h : Holdings) → AreSeen cap s h → AreKept cap db h
+
+module _ {S : Type 0} (g : Ghosts S) where
+  -- the transaction sees these holdings
+  abbrev pub Sees : Kept S → Holdings → Type 0
+  Sees store h = AreSeen store.cap (at g store) h
+
+  -- it sees some, as it does from its begin on until a call is refused
+  abbrev pub IsRunning : Kept S → Type 0
+  IsRunning store = SeesSome store.cap (at g store)
+
+  -- it has the key's recording under this id
+  abbrev pub IsOf : Kept S → ℤ → Key → Type 0
+  IsOf store id k = IsUnder (at g store) id k
+
+  abbrev pub SeesAsBefore : Kept S → Kept S → Type 0
+  SeesAsBefore old new = SeesOn new.cap (at g old) (at g new)
+
+  abbrev pub HasNoMore : Kept S → Kept S → Type 0
+  HasNoMore old new = MakesNone (at g old) (at g new)
+
+  abbrev pub HasAtMost : Key → Kept S → Kept S → Type 0
+  HasAtMost made old new = MakesOnly made (at g old) (at g new)
+
+  abbrev pub AreNear : Kept S → ℤ → ℕ → List DataRecord → Type 0
+  AreNear store = AreNearIn store.cap (at g store)
+
+  abbrev pub IsCountOf : Kept S → ℤ → ℕ → Type 0
+  IsCountOf store = IsCountIn store.cap (at g store)
+
+  abbrev pub MayTake : Kept S → ℤ → DataRecord → Type 0
+  MayTake store = MayTakeIn store.cap (at g store)
+
+  abbrev pub IsAdded : Kept S → Kept S → ℤ → DataRecord → Type 0
+  IsAdded old new = IsAddedIn new.cap (at g old) (at g new)
+
+  abbrev pub IsWhole : Kept S → Type 0
+  IsWhole store = IsWholeIn store.cap (at g store)
+
+  abbrev pub IsSeen : Kept S → Trees → Type 0
+  IsSeen store = AreSeenRows store.cap (at g store)

@@ -1,0 +1,27 @@
+//! Recordings in a store over SQL: what is held of them, read and added to in transactions.
+//!
+//! - [`Store`]: over a connection of any store that `sqlite` takes. `transaction` begins to add; `identities`, `summary` and
+//!   `records` read what is held.
+//! - [`StoreTx`]: `recording`, `near`, `count` and `add`, until `commit` or `give_up`.
+//! - [`Records`]: the data records of one recording, one at a time.
+//! - [`StoreFault`]: why a call was refused.
+#![tactic(auto)]
+
+mod adding;
+mod decode;
+mod ending;
+mod fault;
+mod listing;
+mod open;
+mod reading;
+mod ready;
+mod records;
+mod store;
+mod transaction;
+mod walk;
+
+pub use fault::StoreFault;
+pub use listing::Summary;
+pub use records::Records;
+pub use store::Store;
+pub use transaction::{RecordingId, StoreTx};

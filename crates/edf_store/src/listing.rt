@@ -1,0 +1,164 @@
+//! What is held, at a glance.
+
+ghost use Rattle.std.specs.Prelude.{◌≡◌, ◌≢◌, ◌≤◌, ◌<◌, ℕ, pos, Some, IfOk, IfErr, MatchOption, map};
+ghost use Rattle.std.specs.List.{AllByRecursion};
+ghost use Rattle.sqlite.specs.State.{HasCleanDisk};
+ghost use Rattle.edf_time.specs.Civil.{window};
+ghost use Rattle.edf_header.specs.Key.{Key, IsKey, key_bytes};
+ghost use Rattle.edf_holdings.specs.Holdings.{Holdings};
+ghost use Rattle.edf_rows.specs.Rows.{IsThere};
+ghost use Rattle.edf_store.specs.Held.{at, Holds, Stays};
+ghost use Rattle.edf_store.specs.Listed.{AreKeysHeld, IsSummary, IsSummaryOf};
+ghost use Rattle.edf_store.specs.Shape.{IsSettled};
+
+use crate::fault::{StoreFault, fault_of};
+use crate::ready::{find, ready};
+use crate::store::Store;
+use edf_header::{Identity, IdentityFault};
+use edf_tables::{count_rows, first_start, last_start};
+use edf_time::Instant;
+use sqlite::Alter;
+use std::alloc::Global;
+
+/// What is held of a recording: how many data records, and the first and the last start.
+#[derive(Clone, Copy, Debug, PartialEq, Eq, Drop)]
+pub struct Summary {
+    pub records: u32,
+    pub first: Instant,
+    pub last: Instant,
+}
+
+impl<S: Alter> Store<S> {
+    /// The identities that hold data records, in the order of their bytes.
+    ///
+    /// # Errors
+    /// E41 or E42.
+    pub fn identities(&mut self) -> Result<Vec<Identity>, StoreFault>
+        ensures stays { Stays S.Store self.old self.new }
+        ensures keys { HasCleanDisk (at S.Store self.new) → IfOk result (λ all. AreKeysHeld S.Store self.old all.items) }
+        ensures own { HasCleanDisk (at S.Store self.new) → IfErr result (λ e. e ≢ StoreFault.Foreign) }
+        ensures unfailed { IfErr result (λ e. e ≢ StoreFault.Failed) }
+    {
+        ready(self)?;
+        list(self)
+    }
+
+    /// How many data records an identity holds, and their first and last start; `None` where it holds nothing.
+    ///
+    /// # Errors
+    /// E41 or E42.
+    pub fn summary(&mut self, identity: &Identity) -> Result<Option<Summary>, StoreFault>
+        ensures stays { Stays S.Store self.old self.new }
+        ensures summary { HasCleanDisk (at S.Store self.new) → IfOk result (IsSummaryOf S.Store self.old identity.now) }
+        ensures own { HasCleanDisk (at S.Store self.new) → IfErr result (λ e. e ≢ StoreFault.Foreign) }
+        ensures unfailed { IfErr result (λ e. e ≢ StoreFault.Failed) }
+    {
+        ready(self)?;
+        let Some(id) = find(self, identity)? else {
+            return Ok(None);
+        };
+        let summary = summary_of(self, id)?;
+        Ok(Some(summary))
+    }
+}
+
+/// The identities that the tables have.
+fn list<S: Alter>(store: &mut Store<S>) -> Result<Vec<Identity>, StoreFault>
+    requires settled { HasCleanDisk (at S.Store store.old) → IsSettled store.old.cap (at S.Store store.old) }
+    ensures stays { Stays S.Store store.old store.new }
+    ensures keys { HasCleanDisk (at S.Store store.new) → IfOk result (λ all. AreKeysHeld S.Store store.old all.items) }
+    ensures own { HasCleanDisk (at S.Store store.new) → IfErr result (λ e. e ≢ StoreFault.Foreign) }
+    ensures unfailed { IfErr result (λ e. e ≢ StoreFault.Failed) }
+{
+    let all = match edf_tables::identities(&mut store.conn) {
+        Ok(all) => all,
+        Err(error) => return Err(fault_of(error)),
+    };
+    identities_in(store.alloc, all)
+}
+
+/// The identities of these bytes.
+fn identities_in(alloc: Global, all: Vec<Vec<u8>>) -> Result<Vec<Identity>, StoreFault>
+    ensures read { IfOk result (λ found. map key_bytes found.items ≡ map (λ b. b.items) all.items) }
+    ensures keys { IfOk result (λ found. AllByRecursion IsKey found.items) }
+    ensures unfailed { IfErr result (λ e. e ≢ StoreFault.Failed) }
+    ensures foreign { IfErr result (λ e. AllByRecursion (λ b. (k : Key) × IsKey k × (b.items ≡ key_bytes k)) all.items → e ≢ StoreFault.Foreign) }
+{
+    let mut found = Vec::new(alloc);
+    for bytes in &all {
+        let identity = match Identity::from_bytes(alloc, bytes.as_slice()) {
+            Ok(identity) => identity,
+            Err(fault) => return Err(refusal_of(fault)),
+        };
+        if found.push(identity).is_err() {
+            return Err(StoreFault::Memory);
+        }
+    }
+    Ok(found)
+}
+
+/// The refusal of bytes that should be an identity's.
+fn refusal_of(fault: IdentityFault) -> StoreFault
+    ensures memory { (fault ≡ IdentityFault.Memory) → (result ≡ StoreFault.Memory) }
+    ensures own { result ≢ StoreFault.Failed }
+{
+    match fault {
+        IdentityFault::Memory => StoreFault::Memory,
+        _ => StoreFault::Foreign,
+    }
+}
+
+/// The summary of a recording that is there.
+fn summary_of<S: Alter>(store: &mut Store<S>, id: i64) -> Result<Summary, StoreFault>
+    requires settled { HasCleanDisk (at S.Store store.old) → IsSettled store.old.cap (at S.Store store.old) }
+    requires there { HasCleanDisk (at S.Store store.old) → (k : Key) × IsThere (at S.Store store.old).now.trees id k }
+    ensures stays { Stays S.Store store.old store.new }
+    ensures summary { HasCleanDisk (at S.Store store.new) → IfOk result (λ summary. (h : Holdings) (k : Key) → Holds S.Store store.old h → IsThere (at S.Store store.old).now.trees id k → IsSummary (h k) (Some summary)) }
+    ensures own { HasCleanDisk (at S.Store store.new) → IfErr result (λ e. e ≢ StoreFault.Foreign) }
+    ensures unfailed { IfErr result (λ e. e ≢ StoreFault.Failed) }
+{
+    let count = match count_rows(&mut store.conn, id) {
+        Ok(count) => count,
+        Err(error) => return Err(fault_of(error)),
+    };
+    let first = match first_start(&mut store.conn, id) {
+        Ok(first) => first,
+        Err(error) => return Err(fault_of(error)),
+    };
+    let last = match last_start(&mut store.conn, id) {
+        Ok(last) => last,
+        Err(error) => return Err(fault_of(error)),
+    };
+    summary_from(count, first, last)
+}
+
+fn summary_from(count: u64, first: Option<i64>, last: Option<i64>) -> Result<Summary, StoreFault>
+    ensures summary { IfOk result (λ s. (s.records ≡ count) × (first ≡ Some (pos s.first)) × (last ≡ Some (pos s.last))) }
+    ensures unfailed { IfErr result (λ e. e ≢ StoreFault.Failed) }
+    ensures own { IfErr result (λ e. (a b : ℕ) → count ≤ 99_999_999 → a < window → b < window → first ≡ Some (pos a) → last ≡ Some (pos b) → e ≢ StoreFault.Foreign) }
+{
+    let Ok(records) = u32::try_from(count) else {
+        return Err(StoreFault::Foreign);
+    };
+    match (instant_in(first), instant_in(last)) {
+        (Some(first), Some(last)) => Ok(Summary {
+            records,
+            first,
+            last,
+        }),
+        _ => Err(StoreFault::Foreign),
+    }
+}
+
+/// The instant of a cell, if it is one.
+fn instant_in(cell: Option<i64>) -> Option<Instant>
+    ensures { MatchOption result ((n : ℕ) → n < window → cell ≢ Some (pos n)) (λ i. cell ≡ Some (pos i)) }
+{
+    match cell {
+        Some(nanos) => match u64::try_from(nanos) {
+            Ok(nanos) => Instant::at(nanos),
+            Err(_) => None,
+        },
+        None => None,
+    }
+}

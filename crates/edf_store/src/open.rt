@@ -1,0 +1,42 @@
+//! How a store is opened.
+
+ghost use Rattle.std.specs.Prelude.{◌≡◌, ◌≤◌, false, IfOk, IfErr};
+ghost use Rattle.sqlite.specs.Held.{state};
+ghost use Rattle.sqlite.specs.State.{HasCleanDisk};
+ghost use Rattle.edf_tables.specs.Made.{IsOurs};
+ghost use Rattle.edf_store.specs.Open.{IsOpened, IsGivenUp};
+
+use crate::fault::{StoreFault, fault_of};
+use crate::store::Store;
+use edf_audit::audit;
+use sqlite::{Alter, Connection};
+use std::alloc::Global;
+
+impl<S: Alter + Drop> Store<S> {
+    /// The store of a connection, whose tables are made where they are missing. Every row is read once.
+    ///
+    /// No recording has, or will have, more than `cap` data records; `cap` is 1 to 99,999,999.
+    ///
+    /// # Errors
+    /// E45 where the rows are not those that submissions leave under this cap, else E41 or E42. The connection is given up; its
+    /// rows are as they were, and a missing table may have been made.
+    pub fn open(alloc: Global, mut conn: Connection<S>, cap: u32) -> Result<Store<S>, StoreFault>
+        requires cap_from { 1 ≤ cap }
+        requires cap_to { cap ≤ 99_999_999 }
+        requires autocommit { (state S.Store conn).in_transaction ≡ false }
+        requires ours { HasCleanDisk (state S.Store conn) → IsOurs (state S.Store conn).now }
+        ensures cap { IfOk result (λ store. store.cap ≡ cap) }
+        ensures opened { IfOk result (IsOpened S.Store conn) }
+        ensures given_up { IfErr result (IsGivenUp S.Store conn cap) }
+    {
+        let kept = match audit(alloc, &mut conn, cap) {
+            Ok(kept) => kept,
+            Err(error) => return Err(fault_of(error)),
+        };
+        if kept {
+            Ok(Store { alloc, conn, cap })
+        } else {
+            Err(StoreFault::Foreign)
+        }
+    }
+}

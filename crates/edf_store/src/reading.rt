@@ -1,0 +1,61 @@
+//! What a transaction reads of a recording.
+
+ghost use Rattle.std.specs.Prelude.{◌≡◌, ◌≤◌, length, IfOk, IfErr};
+ghost use Rattle.sqlite.specs.State.{HasCleanDisk};
+ghost use Rattle.edf_field.specs.Number.{duration_of};
+ghost use Rattle.edf_header.specs.Key.{Key};
+ghost use Rattle.edf_store.specs.Fault.{IsStoreRefusal};
+ghost use Rattle.edf_store.specs.Held.{at, Stays};
+ghost use Rattle.edf_store.specs.Transaction.{IsRunning, IsOf, SeesAsBefore, HasNoMore, AreNear, IsCountOf};
+
+use crate::decode::records_in;
+use crate::fault::{StoreFault, fault_of};
+use crate::store::Store;
+use edf_fragment::Record;
+use edf_tables::{count_rows, near_rows};
+use edf_time::Instant;
+use sqlite::Alter;
+
+pub(crate) fn records_near<S: Alter>(
+    store: &mut Store<S>,
+    id: i64,
+    start: Instant,
+    duration: u64,
+) -> Result<Vec<Record>, StoreFault>
+    requires running { IsRunning S.Store store.old }
+    requires recording { (k : Key) × IsOf S.Store store.old id k × (duration ≡ duration_of k.duration) }
+    ensures stays { Stays S.Store store.old store.new }
+    ensures near { HasCleanDisk (at S.Store store.new) → IfOk result (λ records. AreNear S.Store store.old id start records.items) }
+    ensures two { HasCleanDisk (at S.Store store.new) → IfOk result (λ records. length records.items ≤ 2) }
+    ensures same { IfOk result (λ _. SeesAsBefore S.Store store.old store.new) }
+    ensures only { IfOk result (λ _. HasNoMore S.Store store.old store.new) }
+    ensures told { HasCleanDisk (at S.Store store.new) → IfErr result IsStoreRefusal }
+{
+    let begin = start.nanos() as i64;
+    let length = duration as i64;
+    let rows = match near_rows(&mut store.conn, id, begin - length, begin + length) {
+        Ok(rows) => rows,
+        Err(error) => return Err(fault_of(error)),
+    };
+    records_in(store.alloc, rows)
+}
+
+#[tactic(auto, using(crate::proofs::StepLemmas::none_made))]
+pub(crate) fn count_records<S: Alter>(store: &mut Store<S>, id: i64) -> Result<u32, StoreFault>
+    requires running { IsRunning S.Store store.old }
+    requires recording { (k : Key) × IsOf S.Store store.old id k }
+    ensures stays { Stays S.Store store.old store.new }
+    ensures count { HasCleanDisk (at S.Store store.new) → IfOk result (IsCountOf S.Store store.old id) }
+    ensures same { IfOk result (λ _. SeesAsBefore S.Store store.old store.new) }
+    ensures only { IfOk result (λ _. HasNoMore S.Store store.old store.new) }
+    ensures told { HasCleanDisk (at S.Store store.new) → IfErr result IsStoreRefusal }
+{
+    let count = match count_rows(&mut store.conn, id) {
+        Ok(count) => count,
+        Err(error) => return Err(fault_of(error)),
+    };
+    let Ok(count) = u32::try_from(count) else {
+        return Err(StoreFault::Store(None));
+    };
+    Ok(count)
+}

@@ -1,0 +1,67 @@
+//! What is true before a read outside a transaction.
+
+ghost use Rattle.std.specs.Prelude.{◌≢◌, OnOk, IfOk, IfErr};
+ghost use Rattle.sqlite.specs.Held.{state};
+ghost use Rattle.sqlite.specs.State.{HasCleanDisk, Survives, KeepsCommit, IsUnchanged};
+ghost use Rattle.edf_header.specs.Key.{IsKey};
+ghost use Rattle.edf_holdings.specs.Holdings.{Holdings};
+ghost use Rattle.edf_rows.specs.Rows.{AreKept};
+ghost use Rattle.edf_store.specs.Held.{at, Stays};
+ghost use Rattle.edf_store.specs.Shape.{IsSettled, IsFoundIn};
+
+use crate::fault::{StoreFault, fault_of};
+use crate::store::Store;
+use edf_header::Identity;
+use edf_tables::select_recording;
+use sqlite::{Alter, Connection, Error};
+
+/// Runs no statement, which an open connection alone can do.
+fn run_nothing<S: Alter>(conn: &mut Connection<S>) -> Result<(), Error>
+    ensures same { HasCleanDisk (state S.Store conn.new) → OnOk result (IsUnchanged (state S.Store conn.old) (state S.Store conn.new)) }
+    ensures kept { HasCleanDisk (state S.Store conn.new) → KeepsCommit (state S.Store conn.old) (state S.Store conn.new) }
+    ensures survives { Survives (state S.Store conn.old) (state S.Store conn.new) (λ _. ⊥) }
+{
+    match conn.execute("", &[]) {
+        Ok(_) => Ok(()),
+        Err(error) => Err(error),
+    }
+}
+
+/// Sees to it that the connection is open and in no transaction, so that its tables are what is held.
+pub(crate) fn ready<S: Alter>(store: &mut Store<S>) -> Result<(), StoreFault>
+    ensures stays { Stays S.Store store.old store.new }
+    ensures own { IfErr result (λ e. e ≢ StoreFault.Foreign) }
+    ensures unfailed { IfErr result (λ e. e ≢ StoreFault.Failed) }
+    ensures settled { HasCleanDisk (at S.Store store.new) → OnOk result (IsSettled store.new.cap (at S.Store store.new)) }
+{
+    if !store.conn.is_autocommit() {
+        return Err(StoreFault::Store(None));
+    }
+    match run_nothing(&mut store.conn) {
+        Ok(()) => Ok(()),
+        Err(error) => Err(fault_of(error)),
+    }
+}
+
+/// The id of the identity's recording, if it has one.
+pub(crate) fn find<S: Alter>(
+    store: &mut Store<S>,
+    identity: &Identity,
+) -> Result<Option<i64>, StoreFault>
+    requires settled { HasCleanDisk (at S.Store store.old) → IsSettled store.old.cap (at S.Store store.old) }
+    ensures stays { Stays S.Store store.old store.new }
+    ensures own { IfErr result (λ e. e ≢ StoreFault.Foreign) }
+    ensures unfailed { IfErr result (λ e. e ≢ StoreFault.Failed) }
+    ensures key { IsKey identity.now }
+    ensures settled { HasCleanDisk (at S.Store store.new) → OnOk result (IsSettled store.new.cap (at S.Store store.new)) }
+    ensures found { HasCleanDisk (at S.Store store.new) → IfOk result (λ id. (h : Holdings) → AreKept store.new.cap (at S.Store store.new).now.trees h → IsFoundIn (at S.Store store.new) identity.now h id) }
+{
+    let _ = identity.signals();
+    let Ok(bytes) = identity.to_bytes(store.alloc) else {
+        return Err(StoreFault::Memory);
+    };
+    match select_recording(&mut store.conn, bytes.as_slice()) {
+        Ok(id) => Ok(id),
+        Err(error) => Err(fault_of(error)),
+    }
+}

@@ -1,0 +1,109 @@
+//! The data records of one recording, one at a time.
+
+ghost use Rattle.std.specs.Prelude.{◌≡◌, ◌≢◌, ℕ, false, true, None, Ok, IfOk, IfErr};
+ghost use Rattle.std.specs.Borrow.{sem, RestsIfErr};
+ghost use Rattle.sqlite.specs.State.{HasCleanDisk};
+ghost use Rattle.edf_header.specs.Key.{Key};
+ghost use Rattle.edf_holdings.specs.Holdings.{Holdings};
+ghost use Rattle.edf_store.specs.Held.{at, Holds, Stays};
+ghost use Rattle.edf_store.specs.Walk.{IsBehind, StandsSomewhere, IsStep, moved};
+
+use crate::fault::StoreFault;
+use crate::ready::{find, ready};
+use crate::store::Store;
+use crate::walk::next_record;
+use edf_fragment::Record;
+use edf_header::Identity;
+use edf_rows::start_of;
+use sqlite::Alter;
+
+/// A walk over the data records of one recording, by their starts. It may be dropped at any of them.
+///
+/// One data record is in memory at a time.
+pub struct Records<'store, S: Alter> {
+    pub(crate) store: &'store mut Store<S>,
+    pub(crate) recording: Option<i64>,
+    pub(crate) after: i64,
+    pub(crate) failed: bool,
+}
+
+impl<S: Alter> Drop for Records<'_, S> {
+    fn drop(self) {
+        let Records {
+            store: _,
+            recording: _,
+            after: _,
+            failed: _,
+        } = self;
+    }
+}
+
+impl<S: Alter> Store<S> {
+    ghost use Rattle.edf_store.specs.contracts.store.Store.{the_row};
+
+    /// Begins a walk over the data records that an identity holds.
+    ///
+    /// # Errors
+    /// E41 or E42.
+    pub fn records(&mut self, identity: &Identity) -> Result<Records<'_, S>, StoreFault>
+        ensures* refused { sem 𝓛 (RestsIfErr (the_row S.row S.Store) self.entry (λ it. it.store.ghost_name) result (Stays S.Store self.old)) }
+        ensures same_reference { IfOk result (λ it. it.store.ghost_name ≡ self.entry.ghost_name) }
+        ensures stays { IfOk result (λ it. Stays S.Store self.old it.store.now) }
+        ensures own { IfErr result (λ e. e ≢ StoreFault.Foreign) }
+        ensures unfailed { IfErr result (λ e. e ≢ StoreFault.Failed) }
+        ensures ready { IfOk result (λ it. (it.failed ≡ false) × StandsSomewhere it.store.now.cap (at S.Store it.store.now) it.recording it.after) }
+        ensures at_first { IfOk result (λ it. (h : Holdings) → Holds S.Store self.old h → IsBehind it.store.now.cap (at S.Store it.store.now) it.recording it.after h identity.now 0) }
+    {
+        ready(self)?;
+        match find(self, identity) {
+            Ok(recording) => Ok(Records {
+                store: self,
+                recording,
+                after: -1,
+                failed: false,
+            }),
+            Err(fault) => Err(fault),
+        }
+    }
+}
+
+impl<S: Alter> Records<'_, S> {
+    /// The next data record; `None` where all were given, and at every later call.
+    ///
+    /// # Errors
+    /// E41 or E42, and `Failed` at every later call.
+    pub fn next(&mut self) -> Result<Option<Record>, StoreFault>
+        requires ready { self.old.failed ≡ false → StandsSomewhere self.old.store.now.cap (at S.Store self.old.store.now) self.old.recording self.old.after }
+        ensures same_reference { self.new.store.ghost_name ≡ self.old.store.ghost_name }
+        ensures stays { Stays S.Store self.old.store.now self.new.store.now }
+        ensures own { HasCleanDisk (at S.Store self.new.store.now) → IfErr result (λ e. e ≢ StoreFault.Foreign) }
+        ensures ends { IfOk result (λ o. o ≡ None → self.new.recording ≡ None) }
+        ensures ended { self.old.failed ≡ false → self.old.recording ≡ None → (result ≡ Ok None) × (self.new.recording ≡ None) }
+        ensures failed { self.old.failed ≡ true → result ≡ Err StoreFault.Failed }
+        ensures fails { IfErr result (λ _. self.new.failed ≡ true) }
+        ensures ready { IfOk result (λ _. (self.new.failed ≡ false) × StandsSomewhere self.new.store.now.cap (at S.Store self.new.store.now) self.new.recording self.new.after) }
+        ensures step { HasCleanDisk (at S.Store self.new.store.now) → IfOk result (λ o. (h : Holdings) (k : Key) (n : ℕ) → IsBehind self.old.store.now.cap (at S.Store self.old.store.now) self.old.recording self.old.after h k n → IsStep (h k) n o) }
+        ensures moved { IfOk result (λ o. (h : Holdings) (k : Key) (n : ℕ) → IsBehind self.old.store.now.cap (at S.Store self.old.store.now) self.old.recording self.old.after h k n → IsBehind self.new.store.now.cap (at S.Store self.new.store.now) self.new.recording self.new.after h k (moved n o)) }
+    {
+        if self.failed {
+            return Err(StoreFault::Failed);
+        }
+        let Some(recording) = self.recording else {
+            return Ok(None);
+        };
+        match next_record(self.store, recording, self.after) {
+            Ok(Some(data_record)) => {
+                self.after = start_of(data_record.start());
+                Ok(Some(data_record))
+            }
+            Ok(None) => {
+                self.recording = None;
+                Ok(None)
+            }
+            Err(fault) => {
+                self.failed = true;
+                Err(fault)
+            }
+        }
+    }
+}

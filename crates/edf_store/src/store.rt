@@ -1,0 +1,84 @@
+//! A store, and how a transaction of it begins.
+
+ghost use Rattle.std.specs.Prelude.{◌≡◌, false, None, Err, IsTrue, IfOk, IfErr};
+ghost use Rattle.std.specs.Borrow.{sem, RestsIfErr};
+ghost use Rattle.edf_holdings.specs.Holdings.{Holdings};
+ghost use Rattle.edf_store.specs.Fault.{IsStoreRefusal};
+ghost use Rattle.edf_store.specs.Held.{at, Holds, Stays};
+ghost use Rattle.edf_store.specs.Transaction.{Sees, IsRunning, IsWhole};
+
+use crate::ending::begin_all;
+use crate::fault::StoreFault;
+use crate::transaction::StoreTx;
+use sqlite::{Alter, Connection};
+use std::alloc::Global;
+use std::marker::Model;
+
+/// Recordings in the two tables of a connection, each with at most `cap` data records.
+///
+/// What is held of a recording are its data records, by rising starts. A call that reads or adds them is refused, E42
+/// without a cause, where an earlier refusal left the connection in a transaction; then the file is to be opened again.
+pub struct Store<S: Alter> {
+    pub(crate) alloc: Global,
+    pub(crate) conn: Connection<S>,
+    pub(crate) cap: u32,
+}
+
+impl<S: Alter> Model for Store<S> {
+    ghost use Rattle.edf_store.specs.Held.{Kept, kept_code, IsSoundStore};
+    ghost use Rattle.sqlite.specs.Held.{state};
+
+    ghost Value = { Kept S };
+
+    ghost coded = { kept_code S.code };
+
+    ghost view = { λ s. record { held = s.conn; cap = s.cap } };
+
+    ghost invariant = { λ s. IsSoundStore s.cap (state S.Store s.conn) };
+}
+
+impl<S: Alter> Store<S> {
+    ghost use Rattle.edf_store.specs.contracts.store.Store.{the_row};
+
+    /// How many data records a recording may have.
+    pub fn cap(&self) -> u32
+        ensures { result ≡ self.now.cap }
+    {
+        self.cap
+    }
+
+    /// The connection, as it is.
+    pub fn into_connection(self) -> Connection<S>
+        ensures { result ≡ self.held }
+    {
+        let Store {
+            alloc: _,
+            conn,
+            cap: _,
+        } = self;
+        conn
+    }
+
+    /// Begins a transaction, which sees what is held.
+    ///
+    /// # Errors
+    /// E41 or E42; what is held stays. E42 without a cause where the connection was left in a transaction.
+    pub fn transaction(&mut self) -> Result<StoreTx<'_, S>, StoreFault>
+        ensures* refused { sem 𝓛 (RestsIfErr (the_row S.row S.Store) self.entry (λ tx. tx.store.ghost_name) result (Stays S.Store self.old)) }
+        ensures same_reference { IfOk result (λ tx. tx.store.ghost_name ≡ self.entry.ghost_name) }
+        ensures stays { IfOk result (λ tx. Stays S.Store self.old tx.store.now) }
+        ensures running { IfOk result (λ tx. (tx.refused ≡ false) × IsRunning S.Store tx.store.now) }
+        ensures told { IfErr result IsStoreRefusal }
+        ensures whole { IfOk result (λ tx. IsWhole S.Store tx.store.now) }
+        ensures busy { IsTrue (at S.Store self.old).in_transaction → result ≡ Err (StoreFault.Store None) }
+        ensures sees { IfOk result (λ tx. (h : Holdings) → Holds S.Store self.old h → Sees S.Store tx.store.now h) }
+    {
+        if let Err(fault) = begin_all(self) {
+            return Err(fault);
+        }
+        Ok(StoreTx {
+            store: self,
+            refused: false,
+        })
+    }
+}

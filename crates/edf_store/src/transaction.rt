@@ -1,0 +1,177 @@
+//! What a transaction does.
+
+ghost use Rattle.std.specs.Prelude.{◌≡◌, ◌≤◌, false, true, length, OnOk, IfOk, IfErr};
+ghost use Rattle.sqlite.specs.State.{HasCleanDisk, Survives};
+ghost use Rattle.edf_field.specs.Number.{duration_of};
+ghost use Rattle.edf_header.specs.Key.{Key};
+ghost use Rattle.edf_holdings.specs.Holdings.{Holdings};
+ghost use Rattle.edf_store.specs.Fault.{IsStoreRefusal};
+ghost use Rattle.edf_store.specs.Held.{at, Holds, Stays};
+ghost use Rattle.edf_store.specs.Transaction.{Sees, IsRunning, IsOf, SeesAsBefore, HasNoMore, HasAtMost, AreNear, IsCountOf, MayTake, IsAdded, IsWhole, IsSeen};
+
+use crate::adding::{add_record, find_or_make};
+use crate::ending::{commit_all, undo};
+use crate::fault::StoreFault;
+use crate::reading::{count_records, records_near};
+use crate::store::Store;
+use edf_fragment::Record;
+use edf_header::Identity;
+use edf_time::Instant;
+use sqlite::Alter;
+
+/// A recording that a transaction found or made. It has a meaning in that transaction alone.
+#[derive(Clone, Copy, Debug, PartialEq, Eq, Drop)]
+pub struct RecordingId {
+    pub(crate) row: i64,
+}
+
+/// A transaction, to be spent by `commit` or `give_up`; where a call of it was refused, by `give_up`.
+///
+/// Until then what is held stays, and a crash leaves that.
+pub struct StoreTx<'store, S: Alter> {
+    pub(crate) store: &'store mut Store<S>,
+    pub(crate) refused: bool,
+}
+
+impl<S: Alter> StoreTx<'_, S> {
+    /// Finds the identity's recording, or makes it.
+    ///
+    /// # Errors
+    /// E41 or E42, and the transaction is to be given up.
+    pub fn recording(&mut self, identity: &Identity) -> Result<RecordingId, StoreFault>
+        requires spared { self.old.refused ≡ false }
+        requires running { IsRunning S.Store self.old.store.now }
+        ensures same_reference { self.new.store.ghost_name ≡ self.old.store.ghost_name }
+        ensures stays { Stays S.Store self.old.store.now self.new.store.now }
+        ensures refused { IfErr result (λ _. self.new.refused ≡ true) }
+        ensures spared { IfOk result (λ _. self.new.refused ≡ false) }
+        ensures found { IfOk result (λ id. IsOf S.Store self.new.store.now id.row identity.now) }
+        ensures same { IfOk result (λ _. SeesAsBefore S.Store self.old.store.now self.new.store.now) }
+        ensures only { IfOk result (λ _. HasAtMost S.Store identity.now self.old.store.now self.new.store.now) }
+        ensures told { IfErr result IsStoreRefusal }
+    {
+        match find_or_make(self.store, identity) {
+            Ok(row) => Ok(RecordingId { row }),
+            Err(fault) => {
+                self.refused = true;
+                Err(fault)
+            }
+        }
+    }
+
+    /// The data records of a recording whose intervals of this duration meet the one that begins at `start`, by their starts:
+    /// two at most. `duration` is the recording's, in nanoseconds.
+    ///
+    /// # Errors
+    /// E41 or E42, and the transaction is to be given up.
+    pub fn near(
+        &mut self,
+        id: RecordingId,
+        start: Instant,
+        duration: u64,
+    ) -> Result<Vec<Record>, StoreFault>
+        requires spared { self.old.refused ≡ false }
+        requires running { IsRunning S.Store self.old.store.now }
+        requires recording { (k : Key) × IsOf S.Store self.old.store.now id.row k × (duration ≡ duration_of k.duration) }
+        ensures same_reference { self.new.store.ghost_name ≡ self.old.store.ghost_name }
+        ensures stays { Stays S.Store self.old.store.now self.new.store.now }
+        ensures refused { IfErr result (λ _. self.new.refused ≡ true) }
+        ensures spared { IfOk result (λ _. self.new.refused ≡ false) }
+        ensures near { HasCleanDisk (at S.Store self.new.store.now) → IfOk result (λ records. AreNear S.Store self.old.store.now id.row start records.items) }
+        ensures two { HasCleanDisk (at S.Store self.new.store.now) → IfOk result (λ records. length records.items ≤ 2) }
+        ensures same { IfOk result (λ _. SeesAsBefore S.Store self.old.store.now self.new.store.now) }
+        ensures only { IfOk result (λ _. HasNoMore S.Store self.old.store.now self.new.store.now) }
+        ensures told { HasCleanDisk (at S.Store self.new.store.now) → IfErr result IsStoreRefusal }
+    {
+        match records_near(self.store, id.row, start, duration) {
+            Ok(records) => Ok(records),
+            Err(fault) => {
+                self.refused = true;
+                Err(fault)
+            }
+        }
+    }
+
+    /// How many data records a recording has.
+    ///
+    /// # Errors
+    /// E41 or E42, and the transaction is to be given up.
+    pub fn count(&mut self, id: RecordingId) -> Result<u32, StoreFault>
+        requires spared { self.old.refused ≡ false }
+        requires running { IsRunning S.Store self.old.store.now }
+        requires recording { (k : Key) × IsOf S.Store self.old.store.now id.row k }
+        ensures same_reference { self.new.store.ghost_name ≡ self.old.store.ghost_name }
+        ensures stays { Stays S.Store self.old.store.now self.new.store.now }
+        ensures refused { IfErr result (λ _. self.new.refused ≡ true) }
+        ensures spared { IfOk result (λ _. self.new.refused ≡ false) }
+        ensures count { HasCleanDisk (at S.Store self.new.store.now) → IfOk result (IsCountOf S.Store self.old.store.now id.row) }
+        ensures same { IfOk result (λ _. SeesAsBefore S.Store self.old.store.now self.new.store.now) }
+        ensures only { IfOk result (λ _. HasNoMore S.Store self.old.store.now self.new.store.now) }
+        ensures told { HasCleanDisk (at S.Store self.new.store.now) → IfErr result IsStoreRefusal }
+    {
+        match count_records(self.store, id.row) {
+            Ok(count) => Ok(count),
+            Err(fault) => {
+                self.refused = true;
+                Err(fault)
+            }
+        }
+    }
+
+    /// Adds a data record to a recording, which has none near it and fewer than the cap.
+    ///
+    /// # Errors
+    /// E41 or E42, and the transaction is to be given up.
+    pub fn add(&mut self, id: RecordingId, data_record: &Record) -> Result<(), StoreFault>
+        requires spared { self.old.refused ≡ false }
+        requires running { IsRunning S.Store self.old.store.now }
+        requires room { MayTake S.Store self.old.store.now id.row data_record.now }
+        ensures same_reference { self.new.store.ghost_name ≡ self.old.store.ghost_name }
+        ensures stays { Stays S.Store self.old.store.now self.new.store.now }
+        ensures refused { IfErr result (λ _. self.new.refused ≡ true) }
+        ensures spared { IfOk result (λ _. self.new.refused ≡ false) }
+        ensures added { IfOk result (λ _. IsAdded S.Store self.old.store.now self.new.store.now id.row data_record.now) }
+        ensures only { IfOk result (λ _. HasNoMore S.Store self.old.store.now self.new.store.now) }
+        ensures told { IfErr result IsStoreRefusal }
+    {
+        match add_record(self.store, id.row, data_record) {
+            Ok(()) => Ok(()),
+            Err(fault) => {
+                self.refused = true;
+                Err(fault)
+            }
+        }
+    }
+
+    /// Makes what the transaction sees what is held.
+    ///
+    /// # Errors
+    /// E41 or E42: what was held before stays. A crash leaves that, or all that the transaction saw, refused or not.
+    pub fn commit(self) -> Result<(), StoreFault>
+        requires spared { self.refused ≡ false }
+        requires running { IsRunning S.Store self.store.now }
+        requires whole { IsWhole S.Store self.store.now }
+        ensures cap { self.exit.0.now.cap ≡ self.entry.store.now.cap }
+        ensures committed { IfOk result (λ _. (h : Holdings) → Sees S.Store self.entry.store.now h → Holds S.Store self.exit.0.now h) }
+        ensures refused { IfErr result (λ _. (h : Holdings) → Holds S.Store self.entry.store.now h → Holds S.Store self.exit.0.now h) }
+        ensures survives { Survives (at S.Store self.entry.store.now) (at S.Store self.exit.0.now) (IsSeen S.Store self.entry.store.now) }
+        ensures ended { HasCleanDisk (at S.Store self.exit.0.now) → OnOk result ((at S.Store self.exit.0.now).in_transaction ≡ false) }
+        ensures told { IfErr result IsStoreRefusal }
+    {
+        let StoreTx { store, refused: _ } = self;
+        commit_all(store)
+    }
+
+    /// Undoes the transaction: what was held when it began stays, also where a fault is told.
+    ///
+    /// # Errors
+    /// E41 or E42.
+    pub fn give_up(self) -> Result<(), StoreFault>
+        ensures stays { Stays S.Store self.entry.store.now self.exit.0.now }
+        ensures ended { HasCleanDisk (at S.Store self.exit.0.now) → OnOk result ((at S.Store self.exit.0.now).in_transaction ≡ false) }
+        ensures told { IfErr result IsStoreRefusal }
+    {
+        let StoreTx { store, refused: _ } = self;
+        undo(store)
+    }
+}
