@@ -17,6 +17,11 @@ pub(crate) struct Night<'a> {
 
 /// A night of one second with no annotation: 778 bytes.
 pub(crate) fn quiet_night() -> Night<'static> {
+    night_of(3, &[([1, 0, 255, 255], "+0\x14\x14\0")])
+}
+
+/// A night of these data records, with so many annotation samples in each.
+pub(crate) fn night_of<'a>(annotations: usize, records: &'a [([u8; 4], &'a str)]) -> Night<'a> {
     Night {
         mark: "EDF+D",
         patient: "P7 F 02-MAY-1951 X",
@@ -24,8 +29,8 @@ pub(crate) fn quiet_night() -> Night<'static> {
         start: ["02.03.02", "23.59.50"],
         physical: ["-440", "510"],
         digital: ["-2048", "2047"],
-        annotations: 3,
-        records: &[([1, 0, 255, 255], "+0\x14\x14\0")],
+        annotations,
+        records,
     }
 }
 

@@ -1,5 +1,5 @@
 use super::*;
-use crate::sample::{Night, Pieces, StopsOnce, fragment, put, quiet_night, spare_night};
+use crate::sample::{Pieces, StopsOnce, fragment, night_of, put, quiet_night, spare_night};
 use crate::streams::Counted;
 use edf_header::HeaderFault;
 use edf_tal::TalFault;
@@ -48,11 +48,7 @@ fn a_record_that_begins_inside_the_one_before_is_refused(rt: HostRuntime) -> Res
         ("+1\x14\x14\0", None),
     ] {
         let records = [(samples, "+0\x14\x14\0"), (samples, second)];
-        let night = Night {
-            annotations: 8,
-            records: &records,
-            ..quiet_night()
-        };
+        let night = night_of(8, &records);
         let bytes = fragment(rt.alloc(), &night)?;
         let mut input = Counted::new(Pieces::whole(&bytes, 100));
         let mut reader = FragmentReader::open(rt.alloc(), &mut input)?;

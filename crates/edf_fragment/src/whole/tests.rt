@@ -1,5 +1,5 @@
 use super::*;
-use crate::sample::{Night, Pieces, fragment, quiet_night, spare_night};
+use crate::sample::{Pieces, fragment, night_of, quiet_night, spare_night};
 use crate::streams::Counted;
 use edf_header::HeaderFault;
 use edf_tal::TalFault;
@@ -54,10 +54,7 @@ fn bytes_that_are_no_fragment_are_refused_with_their_first_fault(
     assert_eq!(rt; read(rt.alloc(), &spoilt).err(), Some(fault));
 
     let late = [([0u8; 4], "+1\x14\x14\0")];
-    let night = Night {
-        records: &late,
-        ..quiet_night()
-    };
+    let night = night_of(3, &late);
     let told = read(rt.alloc(), &fragment(rt.alloc(), &night)?).err();
     let fault = FragmentFault::Tal {
         nth: 1,
