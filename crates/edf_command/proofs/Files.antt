@@ -3,14 +3,14 @@ use Rattle.std.proofs.Common.{◌≡◌, ℕ, ◌+◌, ◌*◌, ◌^◌, ◌≤�
 use Rattle.std.specs.List.{flat_map}
 use Rattle.std.proofs.lemmas.List.Elements.{All-head, All-cons, All-nil}
 use Rattle.edf_header.specs.Spelled.{spelled_layout}
-use Rattle.edf_header.proofs.Cited.{one-export}
-use Rattle.edf_header.proofs.Cited.{export-reads}
+use Rattle.edf_header.proofs.Cited.{one-canonical-header}
+use Rattle.edf_header.proofs.Cited.{canonical-header-reads}
 use Rattle.edf_command.proofs.BlockLength.{block-length}
 use Rattle.edf_time.specs.Civil.{window}
 use Rattle.edf_field.specs.Number.{duration_of}
 use Rattle.edf_header.specs.Key.{Key, IsKey}
 use Rattle.edf_header.specs.Header.{Layout}
-use Rattle.edf_header.specs.Canonical.{IsExportHeader}
+use Rattle.edf_header.specs.Canonical.{IsCanonicalHeader}
 use Rattle.edf_tal.specs.declared.place.Place.TheVariants.{First}
 use Rattle.edf_fragment.specs.Fragment.{DataRecord, AreDataRecords, Spells}
 use Rattle.edf_command.specs.File.{second_of, block_of, record_text, IsLaidOut, IsCanonicalFile}
@@ -55,7 +55,7 @@ canonical file k r rs is-key are count laid =
     let some : 1 ≤ samples = some-samples base samples r (All-head (λ x. length (block_of base x) ≤ 2 * samples) r rs holds) in
     let body = flat_map (record_text base (2 * samples)) (r ∷ rs) in
     let l = spelled_layout k (second_of r.start) (length (r ∷ rs)) samples in
-    let again = export-reads header k r.start (length (r ∷ rs)) samples is-key (omega arith) (count) some (omega arith) is-header in
+    let again = canonical-header-reads header k r.start (length (r ∷ rs)) samples is-key (omega arith) (count) some (omega arith) is-header in
     let read = records-read l First base (2 * samples) (r ∷ rs)
     (are-readable l base (2 * samples) 0 r rs (canonical-layout-is k r.start (length (r ∷ rs)) samples in-window) are (second-of-low r.start, second-of-high r.start) holds) in
     let spells : Spells (header ++ body) k (r ∷ rs) = record {
@@ -74,8 +74,8 @@ one-laid-out a b k first rs x y =
     let low : x.samples ≤ y.samples = x.least y.samples y.holds in
     let high : y.samples ≤ x.samples = y.least x.samples x.holds in
     let same : y.samples ≡ x.samples = omega arith in
-    let other : IsExportHeader y.header k first.start (length rs) x.samples = subst (λ (n : ℕ). IsExportHeader y.header k first.start (length rs) n) same y.is_header in
-    let headers : x.header ≡ y.header = one-export x.header y.header k first.start (length rs) x.samples x.is_header other in
+    let other : IsCanonicalHeader y.header k first.start (length rs) x.samples = subst (λ (n : ℕ). IsCanonicalHeader y.header k first.start (length rs) n) same y.is_header in
+    let headers : x.header ≡ y.header = one-canonical-header x.header y.header k first.start (length rs) x.samples x.is_header other in
     x.parts ∙ ap (λ (h : List ℕ). h ++ flat_map (record_text (second_of first.start) (2 * x.samples)) rs) headers
     ∙ ap (λ n. y.header ++ flat_map (record_text (second_of first.start) (2 * n)) rs) (sym same) ∙ sym y.parts
 

@@ -5,7 +5,7 @@ use Rattle.std.proofs.lemmas.List.Elements.{All-head, All-tail, All-cons, All-ni
 use Rattle.edf_time.specs.Civil.{window, day_of, second_of_day}
 use Rattle.edf_time.proofs.Cited.{date-text, time-text, id_date-text}
 use Rattle.edf_header.specs.Key.{Key, IsKey}
-use Rattle.edf_header.specs.Canonical.{IsExportHeader}
+use Rattle.edf_header.specs.Canonical.{IsCanonicalHeader}
 use Rattle.edf_fragment.specs.Fragment.{DataRecord, Spells}
 use Rattle.edf_fragment.specs.Sound.{AreSound}
 use Rattle.edf_fragment.proofs.Sound.{spelled-key, spelled-sound, spelled-some, spelled-few}
@@ -36,7 +36,7 @@ least-samples base (r ∷ rs) =
     }
 
 -- the header, for each start in the window
-some-header : (k : Key) (start count samples : ℕ) → start < window → (header : List ℕ) × IsExportHeader header k start count samples
+some-header : (k : Key) (start count samples : ℕ) → start < window → (header : List ℕ) × IsCanonicalHeader header k start count samples
 some-header k start count samples lt =
     let date = date-text (day_of start) (omega arith) in
     let time = time-text (second_of_day start) (omega arith) in

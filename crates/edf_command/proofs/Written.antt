@@ -6,7 +6,7 @@ use Rattle.edf_header.specs.Key.{Key}
 use Rattle.edf_header.specs.Signal.{samples_in_all}
 use Rattle.edf_header.proofs.Strides.{length-parts}
 use Rattle.edf_fragment.specs.Fragment.{DataRecord}
-use Rattle.edf_header.specs.Canonical.{IsExportHeader}
+use Rattle.edf_header.specs.Canonical.{IsCanonicalHeader}
 use Rattle.edf_command.specs.File.{second_of, block_of, record_text, Hold, IsLaidOut, IsCanonicalFile}
 use Rattle.edf_command.specs.Inside.Output.{IsFileWritten, WritesFront, IsFileBegun}
 use Rattle.edf_command.proofs.Files.{one-laid-out}
@@ -38,12 +38,12 @@ first-of (r ∷ rs) d some = (rs, refl)
 
 -- what is put out is laid out as the records' file
 pub laid-out : (k : Key) (records : List DataRecord) (first : DataRecord) (base start samples : ℕ) (header : List ℕ) → start ≡ first.start → base ≡ second_of first.start
-    → IsExportHeader header k start (length records) samples → Hold base samples records → ((fewer : ℕ) → Hold base fewer records → samples ≤ fewer)
+    → IsCanonicalHeader header k start (length records) samples → Hold base samples records → ((fewer : ℕ) → Hold base fewer records → samples ≤ fewer)
     → IsLaidOut (header ++ flat_map (record_text base (2 * samples)) records) k first records
 laid-out k records first base start samples header start-is base-is is-header holds least = record {
   samples = samples;
   header = header;
-  is_header = subst (λ (n : ℕ). IsExportHeader header k n (length records) samples) start-is is-header;
+  is_header = subst (λ (n : ℕ). IsCanonicalHeader header k n (length records) samples) start-is is-header;
   holds = subst (λ (n : ℕ). Hold n samples records) base-is holds;
   least = subst (λ (n : ℕ). (fewer : ℕ) → Hold n fewer records → samples ≤ fewer) base-is least;
   parts = ap (λ (n : ℕ). header ++ flat_map (record_text n (2 * samples)) records) base-is;

@@ -2,7 +2,7 @@
 use Rattle.std.specs.Prelude.{◌≡◌, ℕ, ◌-◌, ◌*◌, ◌/◌, ◌^◌, ◌≤◌, List, [], ◌∷◌, ◌++◌, length, replicate, All}
 use Rattle.std.specs.List.{flat_map}
 use Rattle.edf_header.specs.Key.{Key}
-use Rattle.edf_header.specs.Canonical.{IsExportHeader}
+use Rattle.edf_header.specs.Canonical.{IsCanonicalHeader}
 use Rattle.edf_tal.specs.Canonical.{block_text}
 use Rattle.edf_fragment.specs.Fragment.{DataRecord, Spells}
 
@@ -30,7 +30,7 @@ Hold file_start samples records = All (λ r. length (block_of file_start r) ≤ 
 pub record IsLaidOut (bytes : List ℕ) (k : Key) (first : DataRecord) (records : List DataRecord) : Type 0 where
   pub samples : ℕ
   pub header : List ℕ
-  pub is_header : IsExportHeader header k first.start (length records) samples
+  pub is_header : IsCanonicalHeader header k first.start (length records) samples
   pub holds : Hold (second_of first.start) samples records
   pub least : (fewer : ℕ) → Hold (second_of first.start) fewer records → samples ≤ fewer
   pub parts : bytes ≡ header ++ flat_map (record_text (second_of first.start) (2 * samples)) records

@@ -4,7 +4,7 @@ use Rattle.edf_field.specs.Number.{duration_of}
 use Rattle.edf_header.specs.Key.{Key, IsKey, IsSized, key_at, key_bytes}
 use Rattle.edf_header.specs.Header.{FixedPart, HeaderRecord, IsFixed, IsFixedHeader, AreSignals, IsHeader, key_of, layout_of, IsLayout}
 use Rattle.edf_header.specs.Fault.{FixedPartFails, SignalsFail, IsClean, IsHeaderFault}
-use Rattle.edf_header.specs.Canonical.{IsExportHeader}
+use Rattle.edf_header.specs.Canonical.{IsCanonicalHeader}
 use Rattle.edf_header.specs.Spelled.{IsReadAs, spelled_layout}
 use Rattle.edf_header.specs.declared.fault.HeaderFault.{HeaderFault}
 use Rattle.edf_header.proofs.Keys as keys
@@ -13,8 +13,8 @@ use Rattle.edf_header.proofs.FixedLaws as fixed_laws
 use Rattle.edf_header.proofs.SignalLaws as signal_laws
 use Rattle.edf_header.proofs.SpelledOnce as once
 use Rattle.edf_header.proofs.HeaderOrFault as told
-use Rattle.edf_header.proofs.ExportOne as export_one
-use Rattle.edf_header.proofs.ExportHeader as exports
+use Rattle.edf_header.proofs.CanonicalOne as canonical_one
+use Rattle.edf_header.proofs.CanonicalHeader as canonical_headers
 
 -- keys and their bytes
 pub key-back : (k : Key) → IsSized k → key_at (key_bytes k) ≡ k
@@ -60,10 +60,10 @@ one-header-fault = once.one-header-fault
 pub header-or-fault : (bytes : List ℕ) → ((header : HeaderRecord) × (rest : List ℕ) × IsHeader bytes header rest) ⊎ ((fault : HeaderFault) × IsHeaderFault bytes fault)
 header-or-fault = told.header-or-fault
 
--- exports
-pub one-export : (bytes other : List ℕ) (key : Key) (start count block : ℕ) → IsExportHeader bytes key start count block → IsExportHeader other key start count block → bytes ≡ other
-one-export = export_one.one-export
+-- canonical headers
+pub one-canonical-header : (bytes other : List ℕ) (key : Key) (start count block : ℕ) → IsCanonicalHeader bytes key start count block → IsCanonicalHeader other key start count block → bytes ≡ other
+one-canonical-header = canonical_one.one-canonical-header
 
-pub export-reads : (bytes : List ℕ) (key : Key) (start count block : ℕ) → IsKey key → 1 ≤ count → count ≤ 99_999_999 → 1 ≤ block → block ≤ 2_097_152
-    → IsExportHeader bytes key start count block → IsReadAs bytes (spelled_layout key (start / 10 ^ 9 * 10 ^ 9) count block)
-export-reads = exports.export-reads
+pub canonical-header-reads : (bytes : List ℕ) (key : Key) (start count block : ℕ) → IsKey key → 1 ≤ count → count ≤ 99_999_999 → 1 ≤ block → block ≤ 2_097_152
+    → IsCanonicalHeader bytes key start count block → IsReadAs bytes (spelled_layout key (start / 10 ^ 9 * 10 ^ 9) count block)
+canonical-header-reads = canonical_headers.canonical-header-reads

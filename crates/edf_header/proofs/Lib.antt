@@ -22,11 +22,11 @@ pub mod SpelledParts
 pub mod SpelledHeader
 pub mod SpelledNumbers
 pub mod SpelledOnce
-pub mod ExportSignal
-pub mod ExportHeader
-pub mod ExportParts
-pub mod ExportWritten
-pub mod ExportOne
+pub mod CanonicalSignal
+pub mod CanonicalHeader
+pub mod CanonicalParts
+pub mod CanonicalWritten
+pub mod CanonicalOne
 pub mod KeyOnce
 pub mod KeyLaws
 pub mod Cited

@@ -1,4 +1,4 @@
--- The one header that an export has.
+-- The one header that a canonical file has.
 use Rattle.std.specs.Prelude.{◌≡◌, ℕ, ◌+◌, ◌*◌, List, [], ◌∷◌, ◌++◌, length, codes, if◌then◌else◌, pos}
 use Rattle.std.specs.Fmt.{decimal}
 use Rattle.edf_time.specs.Civil.{IsIdDate, IsDateText, IsTimeText, day_of, second_of_day}
@@ -6,19 +6,19 @@ use Rattle.edf_field.specs.Text.{spaces, padded_to}
 use Rattle.edf_header.specs.Signal.{columns}
 use Rattle.edf_header.specs.Key.{Key}
 
--- the annotations signal of an export
+-- the annotations signal of a canonical file
 abbrev pub annotations_signal : ℕ → List ℕ
 annotations_signal samples =
     codes "EDF Annotations " ++ (spaces 80 ++ (spaces 8 ++ (padded_to 8 (codes "-1") ++ (padded_to 8 (codes "1")
     ++ (padded_to 8 (codes "-32768") ++ (padded_to 8 (codes "32767") ++ (spaces 80 ++ (padded_to 8 (decimal samples) ++ spaces 32))))))))
 
 -- its signals: the ordinary ones in order, then the annotations signal
-abbrev pub export_signals : Key → ℕ → List (List ℕ)
-export_signals k samples = k.signals ++ annotations_signal samples ∷ []
+abbrev pub canonical_signals : Key → ℕ → List (List ℕ)
+canonical_signals k samples = k.signals ++ annotations_signal samples ∷ []
 
--- the header of an export of so many records, the first of which starts at `start`; the start is named to the second,
+-- the header of a canonical file of so many records, the first of which starts at `start`; the start is named to the second,
 -- and numbers stand without leading zeros
-pub record IsExportHeader (bytes : List ℕ) (k : Key) (start count samples : ℕ) : Type 0 where
+pub record IsCanonicalHeader (bytes : List ℕ) (k : Key) (start count samples : ℕ) : Type 0 where
   pub date : List ℕ
   pub time : List ℕ
   pub id_date : List ℕ
@@ -27,6 +27,6 @@ pub record IsExportHeader (bytes : List ℕ) (k : Key) (start count samples : �
   pub is_id_date : IsIdDate id_date (pos (day_of start))
   pub parts : bytes ≡ codes "0       " ++ (k.patient
       ++ (codes "Startdate " ++ ((if k.dated then id_date else codes "X") ++ (k.after
-      ++ (date ++ (time ++ (padded_to 8 (decimal (256 + 256 * length (export_signals k samples)))
+      ++ (date ++ (time ++ (padded_to 8 (decimal (256 + 256 * length (canonical_signals k samples)))
       ++ (padded_to 44 (codes "EDF+D") ++ (padded_to 8 (decimal count) ++ (k.duration
-      ++ (padded_to 4 (decimal (length (export_signals k samples))) ++ columns (export_signals k samples))))))))))))
+      ++ (padded_to 4 (decimal (length (canonical_signals k samples))) ++ columns (canonical_signals k samples))))))))))))

@@ -5,14 +5,14 @@
 //!   data records.
 //! - [`HeaderFault`]: why a header is refused, E1 to E20.
 //! - [`Identity`], [`IdentityFault`]: to which recording a file belongs, as bytes and back.
-//! - [`write_header`]: the one header that an export has.
-//! - [`laws`], [`laws_fixed`], [`laws_export`]: a header says one thing, and what is written is read again; functions that do
+//! - [`write_header`]: the one header that a canonical file has.
+//! - [`laws`], [`laws_fixed`], [`laws_canonical`]: a header says one thing, and what is written is read again; functions that do
 //!   nothing, each with a law for a contract.
 //! - [`laws_grammar`]: number texts are read exactly where the grammar has them.
 #![tactic(auto)]
 
+mod canonical;
 mod columns;
-mod export;
 mod fault;
 #[cfg(test)]
 mod filled;
@@ -22,13 +22,13 @@ mod header;
 mod identity;
 mod identity_checks;
 pub mod laws;
-pub mod laws_export;
+pub mod laws_canonical;
 pub mod laws_fixed;
 mod rows;
 mod signal_checks;
 mod signals;
 
-pub use export::write_header;
+pub use canonical::write_header;
 pub use fault::HeaderFault;
 pub use fixed::{Fixed, read_fixed};
 pub use header::Header;

@@ -1,4 +1,4 @@
--- The one block that an export has: each TAL has one annotation, and every number is the shortest of its spellings.
+-- The one block of a data record in a canonical file: each TAL has one annotation, and every number is the shortest of its spellings.
 use Rattle.std.specs.Prelude.{ℕ, List, [], ◌∷◌, ◌++◌, pos, ◌-ℤ◌, unsigned_abs, nat_le, Option, Some, None, if◌then◌else◌}
 use Rattle.std.specs.List.{flat_map}
 use Rattle.edf_time.specs.Decimal.{short}

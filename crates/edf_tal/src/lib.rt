@@ -3,7 +3,7 @@
 //!
 //! - [`read_block`]: the start and the annotations of a data record, or the first rule that its block breaks.
 //! - [`Note`]: an annotation. [`Place`]: where the data record stands. [`TalFault`]: why a block is refused, E22 to E28.
-//! - [`write_block`], [`block_len`]: the one block that an export has, and its length.
+//! - [`write_block`], [`block_len`]: the one block that a data record of a canonical file has, and its length.
 //! - [`same_notes`]: whether two lists have the same annotations.
 //! - [`laws`]: each block has one answer at each place, and a written block is read again; functions that do nothing, each
 //!   with a law for a contract.

@@ -1,4 +1,4 @@
-use Rattle.edf_header.proofs.ExportParts.{rows-behind}
+use Rattle.edf_header.proofs.CanonicalParts.{rows-behind}
 use Rattle.edf_header.proofs.identity.Identity.signal_rows.Goals as goal
 
 pub returns : goal.returns

@@ -3,7 +3,7 @@ ghost use Rattle.std.specs.Fmt.{decimal};
 ghost use Rattle.edf_field.specs.Text.{spaces, padded_to};
 ghost use Rattle.edf_header.specs.Signal.{columns, rows_of};
 ghost use Rattle.edf_header.specs.Spelled.{startdate_text};
-ghost use Rattle.edf_header.specs.Canonical.{annotations_signal, IsExportHeader};
+ghost use Rattle.edf_header.specs.Canonical.{annotations_signal, IsCanonicalHeader};
 
 use crate::columns::push_columns;
 use crate::identity::Identity;
@@ -43,7 +43,7 @@ fn push_number(
     Ok(())
 }
 
-/// The header of an export's annotations signal of so many samples per data record, in a row.
+/// The header of a canonical file's annotations signal of so many samples per data record, in a row.
 fn annotations_row(alloc: Global, samples: u32) -> Result<Vec<u8>, AllocError>
     ensures { IfOk result (λ v. v.items ≡ annotations_signal samples) }
 {
@@ -134,7 +134,7 @@ pub fn write_header(
 ) -> Result<Vec<u8>, AllocError>
     requires count { (1 ≤ count) × (count ≤ 99_999_999) }
     requires samples { (1 ≤ block_samples) × (block_samples ≤ 2_097_152) }
-    ensures { IfOk result (λ v. IsExportHeader v.items identity.now start count block_samples) }
+    ensures { IfOk result (λ v. IsCanonicalHeader v.items identity.now start count block_samples) }
 {
     let id_date = id_date_text(start);
     let date = date_field(start);

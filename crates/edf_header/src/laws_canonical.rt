@@ -3,7 +3,7 @@ ghost use Rattle.edf_header.specs.Key.{Key, IsKey};
 ghost use Rattle.edf_header.specs.Header.{HeaderRecord, IsHeader};
 ghost use Rattle.edf_header.specs.Fault.{IsHeaderFault};
 ghost use Rattle.edf_header.specs.declared.fault.HeaderFault.{HeaderFault};
-ghost use Rattle.edf_header.specs.Canonical.{IsExportHeader};
+ghost use Rattle.edf_header.specs.Canonical.{IsCanonicalHeader};
 ghost use Rattle.edf_header.specs.Spelled.{IsSpelledHeader, IsReadAs, spelled_layout};
 ghost use Rattle.edf_header.specs.Signal.{samples};
 
@@ -13,17 +13,17 @@ pub fn spelled_reads()
         → IsReadAs bytes (spelled_layout key ((days * 86_400 + seconds) * 10 ^ 9) count (samples row)) }
 {}
 
-/// A law: an exported header is read as the identity, the second of the start, the number of data records and the samples of
+/// A law: a canonical header is read as the identity, the second of the start, the number of data records and the samples of
 /// the annotations signal that it was made from.
-pub fn export_reads()
+pub fn canonical_header_reads()
     ensures { (bytes : List ℕ) (key : Key) (start count block : ℕ) → IsKey key → 1 ≤ count → count ≤ 99_999_999 → 1 ≤ block → block ≤ 2_097_152
-        → IsExportHeader bytes key start count block → IsReadAs bytes (spelled_layout key (start / 10 ^ 9 * 10 ^ 9) count block) }
+        → IsCanonicalHeader bytes key start count block → IsReadAs bytes (spelled_layout key (start / 10 ^ 9 * 10 ^ 9) count block) }
 {}
 
-/// A law: an export has one header.
-pub fn one_export()
-    ensures { (bytes other : List ℕ) (key : Key) (start count block : ℕ) → IsExportHeader bytes key start count block
-        → IsExportHeader other key start count block → bytes ≡ other }
+/// A law: a canonical file has one header.
+pub fn one_canonical_header()
+    ensures { (bytes other : List ℕ) (key : Key) (start count block : ℕ) → IsCanonicalHeader bytes key start count block
+        → IsCanonicalHeader other key start count block → bytes ≡ other }
 {}
 
 /// A law: bytes begin with one header at most, and end with one rest behind it.

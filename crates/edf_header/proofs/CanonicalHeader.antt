@@ -1,4 +1,4 @@
--- An exported header is read as what it was made from.
+-- A canonical header is read as what it was made from.
 use Rattle.std.proofs.Common.{◌≡◌, ℕ, ◌+◌, ◌*◌, ◌/◌, ◌^◌, ◌≤◌, List, [], ◌∷◌, length, refl, subst, arith, inr}
 use Rattle.std.specs.Prelude.{codes}
 use Rattle.std.specs.Fmt.{decimal}
@@ -8,59 +8,59 @@ use Rattle.edf_field.specs.Text.{padded_to}
 use Rattle.edf_field.specs.Number.{IsNumber}
 use Rattle.edf_header.specs.Signal.{samples}
 use Rattle.edf_header.specs.Key.{Key, IsKey}
-use Rattle.edf_header.specs.Canonical.{annotations_signal, export_signals, IsExportHeader}
+use Rattle.edf_header.specs.Canonical.{annotations_signal, canonical_signals, IsCanonicalHeader}
 use Rattle.edf_header.specs.Spelled.{Texts, IsSpelledBy, IsReadAs, spelled_layout}
 use Rattle.edf_header.proofs.SpelledTexts.{printable-by}
 use Rattle.edf_header.proofs.SpelledNumbers.{number-field}
 use Rattle.edf_header.proofs.SpelledHeader.{spelled-reads}
-use Rattle.edf_header.proofs.ExportSignal.{export-row}
+use Rattle.edf_header.proofs.CanonicalSignal.{canonical-row}
 
 -- the start to the second
 whole-second : (start : ℕ) → (day_of start * 86_400 + second_of_day start) * 10 ^ 9 ≡ start / 10 ^ 9 * 10 ^ 9
 whole-second start = omega arith
 
-abbrev texts : (b : List ℕ) (k : Key) (start count n : ℕ) → IsExportHeader b k start count n → Texts
+abbrev texts : (b : List ℕ) (k : Key) (start count n : ℕ) → IsCanonicalHeader b k start count n → Texts
 texts b k start count n e = record {
   date = e.date;
   time = e.time;
   id_date = e.id_date;
-  header_bytes = padded_to 8 (decimal (256 + 256 * length (export_signals k n)));
+  header_bytes = padded_to 8 (decimal (256 + 256 * length (canonical_signals k n)));
   reserved = padded_to 44 (codes "EDF+D");
   count = padded_to 8 (decimal count);
-  signal_count = padded_to 4 (decimal (length (export_signals k n)));
+  signal_count = padded_to 4 (decimal (length (canonical_signals k n)));
 }
 
-says : (b : List ℕ) (k : Key) (start count n : ℕ) → IsKey k → 1 ≤ count → count ≤ 99_999_999 → 1 ≤ n → n ≤ 2_097_152 → (e : IsExportHeader b k start count n)
+says : (b : List ℕ) (k : Key) (start count n : ℕ) → IsKey k → 1 ≤ count → count ≤ 99_999_999 → 1 ≤ n → n ≤ 2_097_152 → (e : IsCanonicalHeader b k start count n)
     → IsSpelledBy k (day_of start) (second_of_day start) count (texts b k start count n e) (annotations_signal n)
 says b k start count n key some few samples-some samples-few e =
-    let len : length (export_signals k n) ≡ length k.signals + 1 = length-append k.signals (annotations_signal n ∷ []) in
-    let h = number-field 8 (256 + 256 * length (export_signals k n)) (omega arith) (omega (arith, key.signals_to)) (omega (arith, key.signals_to)) in
+    let len : length (canonical_signals k n) ≡ length k.signals + 1 = length-append k.signals (annotations_signal n ∷ []) in
+    let h = number-field 8 (256 + 256 * length (canonical_signals k n)) (omega arith) (omega (arith, key.signals_to)) (omega (arith, key.signals_to)) in
     let c = number-field 8 count (omega arith) (omega arith) (omega arith) in
-    let s = number-field 4 (length (export_signals k n)) (omega arith) (omega (arith, key.signals_to)) (omega (arith, key.signals_to)) in
-    let row = export-row n samples-some samples-few in
+    let s = number-field 4 (length (canonical_signals k n)) (omega arith) (omega (arith, key.signals_to)) (omega (arith, key.signals_to)) in
+    let row = canonical-row n samples-some samples-few in
     record {
       date = e.is_date;
       time = e.is_time;
       id_date = e.is_id_date;
       header_bytes_printed = h.printed;
-      header_bytes = subst (λ (m : ℕ). IsNumber (padded_to 8 (decimal (256 + 256 * length (export_signals k n)))) (256 + 256 * m)) len h.number;
+      header_bytes = subst (λ (m : ℕ). IsNumber (padded_to 8 (decimal (256 + 256 * length (canonical_signals k n)))) (256 + 256 * m)) len h.number;
       reserved_printed = record { len = refl; printable = printable-by (padded_to 44 (codes "EDF+D")) refl };
       reserved = inr refl;
       count_printed = c.printed;
       count = c.number;
       count_some = some;
       signals_printed = s.printed;
-      signals = subst (IsNumber (padded_to 4 (decimal (length (export_signals k n))))) len s.number;
+      signals = subst (IsNumber (padded_to 4 (decimal (length (canonical_signals k n))))) len s.number;
       row_printed = row.printed;
       annotations = row.annotations;
       row_samples = row.samples_are;
       block_size = omega (arith, row.samples_is);
     }
 
-pub export-reads : (b : List ℕ) (k : Key) (start count n : ℕ) → IsKey k → 1 ≤ count → count ≤ 99_999_999 → 1 ≤ n → n ≤ 2_097_152 → IsExportHeader b k start count n
+pub canonical-header-reads : (b : List ℕ) (k : Key) (start count n : ℕ) → IsKey k → 1 ≤ count → count ≤ 99_999_999 → 1 ≤ n → n ≤ 2_097_152 → IsCanonicalHeader b k start count n
     → IsReadAs b (spelled_layout k (start / 10 ^ 9 * 10 ^ 9) count n)
-export-reads b k start count n key some few samples-some samples-few e =
-    let row = export-row n samples-some samples-few in
+canonical-header-reads b k start count n key some few samples-some samples-few e =
+    let row = canonical-row n samples-some samples-few in
     let read : IsReadAs b (spelled_layout k ((day_of start * 86_400 + second_of_day start) * 10 ^ 9) count (samples (annotations_signal n))) =
     spelled-reads b k (day_of start) (second_of_day start) count (annotations_signal n) key
     (record { texts = texts b k start count n e; says = says b k start count n key some few samples-some samples-few e; parts = e.parts }) in

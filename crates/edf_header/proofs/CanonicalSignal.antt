@@ -1,4 +1,4 @@
--- The annotations signal of an export.
+-- The annotations signal of a canonical file.
 use Rattle.std.proofs.Common.{◌≡◌, ℕ, ◌≤◌, List, ◌++◌, refl, sym, subst, arith, lit<}
 use Rattle.std.specs.Prelude.{codes}
 use Rattle.std.specs.Fmt.{decimal}
@@ -42,14 +42,14 @@ annotations-is n = record {
 }
 
 -- the row and its samples
-pub record IsExportRow (n : ℕ) (row : List ℕ) : Type 0 where
+pub record IsCanonicalRow (n : ℕ) (row : List ℕ) : Type 0 where
   pub printed : IsPrinted 256 row
   pub annotations : IsAnnotationsSignal row
   pub samples_are : HasSamples row
   pub samples_is : samples row ≡ n
 
-pub export-row : (n : ℕ) → 1 ≤ n → n ≤ 2_097_152 → IsExportRow n (annotations_signal n)
-export-row n some small =
+pub canonical-row : (n : ℕ) → 1 ≤ n → n ≤ 2_097_152 → IsCanonicalRow n (annotations_signal n)
+canonical-row n some small =
     let f = number-field 8 n (omega arith) (omega arith) (omega arith) in
     let text : List ℕ = padded_to 8 (decimal n) in
     let here : field (annotations_signal n) 216 8 ≡ text = take_at text (spaces 32) 8 f.printed.len in

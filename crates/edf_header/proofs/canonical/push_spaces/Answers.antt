@@ -1,7 +1,7 @@
 use Rattle.std.proofs.Common.{sym}
 use Rattle.std.proofs.lemmas.List.{append-nil}
-use Rattle.edf_header.proofs.ExportParts.{spaces-more, spaces-end}
-use Rattle.edf_header.proofs.export.push_spaces.Goals as goal
+use Rattle.edf_header.proofs.CanonicalParts.{spaces-more, spaces-end}
+use Rattle.edf_header.proofs.canonical.push_spaces.Goals as goal
 
 pub loop-init : goal.loop-init
 loop-init c = sym (append-nil c.args.out.now.items)

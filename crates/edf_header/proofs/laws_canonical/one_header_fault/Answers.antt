@@ -1,5 +1,5 @@
 use Rattle.edf_header.proofs.Cited.{one-header-fault}
-use Rattle.edf_header.proofs.laws_export.one_header_fault.Goals as goal
+use Rattle.edf_header.proofs.laws_canonical.one_header_fault.Goals as goal
 
 pub returns : goal.returns
 returns c = one-header-fault

@@ -1,8 +1,8 @@
 use Rattle.std.proofs.Common.{◌≡◌, List, ℕ, length, ap, ◌∙◌, ◌++◌, ◌∷◌, []}
 use Rattle.edf_header.specs.Signal.{columns, rows_of}
 use Rattle.edf_header.specs.Canonical.{annotations_signal}
-use Rattle.edf_header.proofs.ExportWritten.{row-length}
-use Rattle.edf_header.proofs.export.push_signals.Goals as goal
+use Rattle.edf_header.proofs.CanonicalWritten.{row-length}
+use Rattle.edf_header.proofs.canonical.push_signals.Goals as goal
 
 pub unwrap-requires : goal.unwrap-requires
 unwrap-requires c =

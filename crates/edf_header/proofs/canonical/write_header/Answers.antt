@@ -1,7 +1,7 @@
 use Rattle.std.proofs.Common.{arith, ℕ, List, ◌+◌, ◌++◌, ap, ◌∙◌}
 use Rattle.edf_header.specs.Signal.{rows_of}
-use Rattle.edf_header.proofs.ExportWritten.{names, written}
-use Rattle.edf_header.proofs.export.write_header.Goals as goal
+use Rattle.edf_header.proofs.CanonicalWritten.{names, written}
+use Rattle.edf_header.proofs.canonical.write_header.Goals as goal
 
 pub returns : goal.returns
 returns c =
