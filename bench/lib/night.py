@@ -25,6 +25,7 @@ class Night:
     seed: int = 1
     start: datetime = datetime(2002, 3, 2, 22, 30)
     annotation_samples: int = 57
+    limits: tuple = ("-440", "510", "-2048", "2047")        # physical and digital minimum and maximum
 
     @property
     def record_bytes(self) -> int:
@@ -35,7 +36,9 @@ class Night:
 
     def header(self, first: int, count: int, reserved: str) -> bytes:
         start = self.start + timedelta(seconds=self.seconds * first)
-        signals = [Signal(label=f"EEG channel {n + 1}", samples=str(size)) for n, size in enumerate(self.samples)]
+        low, high, digital_low, digital_high = self.limits
+        signals = [Signal(f"EEG channel {n + 1}", physical_minimum=low, physical_maximum=high, digital_minimum=digital_low,
+                          digital_maximum=digital_high, samples=str(size)) for n, size in enumerate(self.samples)]
         day = start.strftime("%d-%b-%Y").upper()
         return Header((*signals, annotations_signal(self.annotation_samples)), start.strftime("%d.%m.%y"),
                       start.strftime("%H.%M.%S"), recording=f"Startdate {day} N1 T3 REC5", reserved=reserved, count=str(count),
