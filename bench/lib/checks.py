@@ -1,9 +1,12 @@
 """Runs the program on words or shell lines and compares its output, its errors and its status with what is wanted."""
 import os
 import shutil
+import signal
 import subprocess
 import sys
 from pathlib import Path
+
+SECONDS = 60    # that a line of the shell may take
 
 
 class Checks:
@@ -26,8 +29,15 @@ class Checks:
 
     def shell(self, line: str, out="", err="", status: int = 0) -> None:
         """Runs a line of the shell, in which `edfstore` is the program."""
-        ran = subprocess.run(["bash", "-c", f'edfstore() {{ "$PROGRAM" "$@"; }}; {line}'], capture_output=True, cwd=self.folder,
-                             stdin=subprocess.DEVNULL, env={**os.environ, "PROGRAM": str(self.program)}, check=False)
+        words = ["bash", "-c", f'edfstore() {{ "$PROGRAM" "$@"; }}; {line}']
+        with subprocess.Popen(words, stdout=subprocess.PIPE, stderr=subprocess.PIPE, stdin=subprocess.DEVNULL, cwd=self.folder,
+                              env={**os.environ, "PROGRAM": str(self.program)}, start_new_session=True) as child:
+            try:
+                told = child.communicate(timeout=SECONDS)
+            except subprocess.TimeoutExpired:
+                os.killpg(child.pid, signal.SIGKILL)
+                told = child.communicate()
+            ran = subprocess.CompletedProcess(words, child.returncode, *told)
         self.compare(line, ran, out, err, status)
 
     def compare(self, line: str, ran: subprocess.CompletedProcess, out, err, status: int) -> None:

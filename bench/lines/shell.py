@@ -91,7 +91,7 @@ def at_once(checks: Checks) -> None:
     checks.shell("mkfifo f; edfstore take s.db f > told & sleep 0.5; edfstore list s.db; s=$?; edfstore take s.db p.edf; cat p.edf > f; wait; "
                  "cat told; exit $s", f"f {NEW}", "store refused E42 Store\nstore refused E42 Store\n", status=3)
     checks.shell("edfstore list s.db", ONE.replace("records=1", "records=2"))
-    checks.shell("edfstore take s.db f & p=$!; sleep 0.5; kill -9 $p; wait $p 2> /dev/null; edfstore list s.db",
+    checks.shell("\"$PROGRAM\" take s.db f & p=$!; sleep 0.5; kill -9 $p; wait $p 2> /dev/null; edfstore list s.db",
                  ONE.replace("records=1", "records=2"))
 
 
