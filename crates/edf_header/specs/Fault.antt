@@ -109,6 +109,6 @@ IsHeaderFault bytes fault =
     IsFirst (FixedPartFails (take 256 bytes)) fault
     ⊎ ((n : ℕ) × IsClean (FixedPartFails (take 256 bytes)) 14 × HasSignals bytes n × IsFirst (SignalsFail (field bytes 256 (256 * n)) n) fault)
 
--- why the signal part is not read: want of memory, where its length and its bytes have no fault, or the first fault
+-- why the signal part is not read: want of memory, where it has no fault, or the first fault
 abbrev pub IsSignalsRefusal : List ℕ → ℕ → HeaderFault → Type 0
-IsSignalsRefusal s n fault = ((fault ≡ Memory) × IsClean (SignalsFail s n) 16) ⊎ IsFirst (SignalsFail s n) fault
+IsSignalsRefusal s n fault = ((fault ≡ Memory) × IsClean (SignalsFail s n) 21) ⊎ IsFirst (SignalsFail s n) fault

@@ -1,14 +1,14 @@
 ghost use Rattle.std.specs.Prelude.{◌≡◌, ◌≤◌, ◌<◌, ◌+◌, ◌*◌, ◌^◌, ◌↔◌, ◌∷◌, ◌++◌, List, ℕ, IfOk, OnOk, IsTrue, MatchResult, All, length, take, if◌then◌else◌};
 ghost use Rattle.edf_field.specs.Number.{duration_of};
 ghost use Rattle.edf_field.specs.Text.{IsBehindStartdate, subfields};
-ghost use Rattle.edf_header.specs.Signal.{rows_of, ordinary, samples_in_all, HasSamples, Passes};
+ghost use Rattle.edf_header.specs.Signal.{rows_of, signals_of, ordinary, samples_in_all, HasSamples, Passes};
 ghost use Rattle.edf_header.specs.Key.{Key, IsKey, dated_bytes, key_bytes, key_at, patient_code, investigation_code};
 ghost use Rattle.edf_header.specs.Identity.{HasLength, HasMark, signals_at, IsCleanKey, IsFirstKeyFault};
 ghost use Rattle.edf_header.specs.Inside.Shape.{key_from, place_of_check};
 
 use crate::fixed::Fixed;
+use crate::header_signals::push_ordinary;
 use crate::identity_checks::{KeyNumbers, after, check_key};
-use crate::rows::push_ordinary;
 use edf_field::next_subfield;
 use std::alloc::{AllocError, Global};
 use std::marker::Model;
@@ -92,15 +92,16 @@ fn push_mark(out: &mut Vec<u8>, dated: bool, after: &[u8]) -> Result<(), AllocEr
     Ok(())
 }
 
-/// The bytes of an identity, from a header's fixed part and the rows of all its signals.
-fn bytes_from(alloc: Global, fixed: &Fixed, rows: &[u8]) -> Result<Vec<u8>, AllocError>
-    ensures { IfOk result (λ v. v.items ≡ key_bytes (key_from fixed.now (ordinary (rows_of rows.now)))) }
+/// The bytes of an identity, from a header's fixed part and the columns of all its signals.
+fn bytes_from(alloc: Global, fixed: &Fixed, signals: &[u8]) -> Result<Vec<u8>, AllocError>
+    requires { length signals.now ≡ 256 * fixed.now.signal_count }
+    ensures { IfOk result (λ v. v.items ≡ key_bytes (key_from fixed.now (ordinary (signals_of signals.now fixed.now.signal_count)))) }
 {
     let mut bytes = Vec::with_capacity(alloc, 158)?;
     bytes.extend_from_slice(fixed.patient())?;
     push_mark(&mut bytes, fixed.dated(), fixed.after())?;
     bytes.extend_from_slice(fixed.duration())?;
-    push_ordinary(&mut bytes, rows)?;
+    push_ordinary(&mut bytes, signals, fixed.signals())?;
     Ok(bytes)
 }
 
@@ -126,19 +127,20 @@ impl Identity {
         })
     }
 
-    /// The identity of a header, from its fixed part, the rows of all its signals, and the bytes of a data record's ordinary
-    /// samples.
+    /// The identity of a header, from its fixed part, the columns of all its signals, and the bytes of a data record's
+    /// ordinary samples.
     pub(crate) fn from_header(
         alloc: Global,
         fixed: &Fixed,
-        rows: &[u8],
+        signals: &[u8],
         ordinary_bytes: usize,
     ) -> Result<Identity, AllocError>
-        requires key { IsKey (key_from fixed.now (ordinary (rows_of rows.now))) }
-        requires ordinary { ordinary_bytes ≡ 2 * samples_in_all (ordinary (rows_of rows.now)) }
-        ensures { IfOk result (λ i. i ≡ key_from fixed.now (ordinary (rows_of rows.now))) }
+        requires size { length signals.now ≡ 256 * fixed.now.signal_count }
+        requires key { IsKey (key_from fixed.now (ordinary (signals_of signals.now fixed.now.signal_count))) }
+        requires ordinary { ordinary_bytes ≡ 2 * samples_in_all (ordinary (signals_of signals.now fixed.now.signal_count)) }
+        ensures { IfOk result (λ i. i ≡ key_from fixed.now (ordinary (signals_of signals.now fixed.now.signal_count))) }
     {
-        let bytes = bytes_from(alloc, fixed, rows)?;
+        let bytes = bytes_from(alloc, fixed, signals)?;
         let duration = fixed.nanos();
         Ok(Identity {
             bytes,

@@ -19,6 +19,7 @@ mod filled;
 mod fixed;
 mod fixed_fields;
 mod header;
+mod header_signals;
 mod identity;
 mod identity_checks;
 pub mod laws;

@@ -58,7 +58,7 @@ pub(crate) fn is_labelled(row: &[u8]) -> bool
 }
 
 /// Whether a signal passes a check.
-fn passes(check: Check, row: &[u8]) -> bool
+pub(crate) fn passes(check: Check, row: &[u8]) -> bool
     requires { length row.now ≡ 256 }
     ensures { IsTrue result ↔ Passes check row.now }
 {
