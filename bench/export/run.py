@@ -1,0 +1,96 @@
+#!/usr/bin/env python3
+"""Exports a night, and ten, by `edfstore export` and by plain C over SQLite from the same store file, and prints ratios.
+
+    bench/export/run.py [--program PATH] [RUNS]        best of RUNS runs of each, 5 if left out
+
+`edfstore` opens the store, which reads and checks all of it, and then exports; `list` does the first and next to nothing of the
+second, so export less list is the time of the export. The C program (bench/store/plain.c) walks the same rows once for the
+lengths of the blocks and once to write the same bytes; `cat` copies the export. All write to files. The two exports are compared
+byte for byte. It needs cc, libsqlite3-dev and time; about 8 GB in TMPDIR.
+"""
+import filecmp
+import sys
+from pathlib import Path
+
+sys.path.insert(0, str(Path(__file__).resolve().parent.parent / "lib"))
+import measure  # noqa: E402
+import night  # noqa: E402
+
+
+def best_of(runs: int, command: list, out: Path = None) -> measure.Run:
+    done = []
+    for _ in range(runs):
+        measure.settle()
+        done.append(measure.run(command, out=out))
+    return min(done, key=lambda run: run.seconds)
+
+
+def measured(program, plain, store: Path, folder: Path, runs: int) -> dict:
+    ours, theirs, copy = folder / "ours.edf", folder / "theirs.edf", folder / "copy.edf"
+    found = {
+        "list": best_of(runs, [program, "list", store]),
+        "export": best_of(runs, [program, "export", store, "1"], ours),
+        "plain C": best_of(runs, [plain, "export", store], theirs),
+        "lengths": best_of(runs, [plain, "lengths", store]),
+        "open in C": best_of(runs, [plain, "open", store]),
+        "cat": best_of(runs, ["cat", ours], copy),
+    }
+    if not filecmp.cmp(ours, theirs, shallow=False):
+        sys.exit("the two exports differ")
+    found["bytes"] = ours.stat().st_size
+    for path in (ours, theirs, copy):
+        path.unlink()
+    return found
+
+
+def report(found: dict) -> None:
+    """`found` has the measurements by their title."""
+    lines = []
+    for title, one in found.items():
+        alone = one["export"].seconds - one["list"].seconds
+        lines.append((title, measure.mb(one["bytes"]), f"{one['list'].seconds:.3f} s", f"{one['export'].seconds:.3f} s",
+                      f"{alone:.3f} s", f"{one['plain C'].seconds:.3f} s", f"{alone / one['plain C'].seconds:.2f}",
+                      f"{one['cat'].seconds:.3f} s", f"{alone / one['cat'].seconds:.2f}"))
+    measure.table(("", "export", "list", "export", "export less list", "plain C", "/ plain C", "cat", "/ cat"), lines)
+    lines = []
+    for title, one in found.items():
+        lines.append((title, measure.mb(one["list"].peak), measure.mb(one["export"].peak),
+                      measure.mb(one["export"].peak - one["list"].peak), measure.mb(one["plain C"].peak),
+                      f"{one['open in C'].seconds:.3f} s", f"{one['list'].seconds / one['open in C'].seconds:.2f}"))
+    measure.table(("", "peak of list", "peak of export", "more than list", "peak of C", "checked open in C", "list / it"), lines)
+
+
+def filled(program, folder: Path, name: str, kinds: list) -> Path:
+    """A store of these nights, taken night by night in one run each."""
+    store, files = folder / name, []
+    for kind in kinds:
+        files += kind.parts(folder)
+    measure.run([program, "take", store, *files])
+    for path in files:
+        path.unlink()
+    return store
+
+
+def main() -> None:
+    program, words = measure.program(sys.argv[1:])
+    measure.need("cc", "cat", "/usr/bin/time")
+    runs = int(words[0]) if words else 5
+    with measure.scratch() as name:
+        folder = Path(name)
+        plain = measure.compiled(Path(__file__).parent.parent / "store" / "plain.c", folder, "-lsqlite3")
+        print(f"best of {runs} runs, {measure.machine()}\n")
+        nights = {"a night, 28,800 records of 6.7 kB": [night.CLINIC],
+                  "a night, 960 records of 200 kB": [night.LONG_RECORDS],
+                  "ten nights of 28,800 records": [night.Night(fragments=48).next_night(number) for number in range(10)]}
+        found = {}
+        for title, kinds in nights.items():
+            store = filled(program, folder, "held.db", kinds)
+            found[title] = measured(program, plain, store, folder, runs if len(kinds) == 1 else max(1, runs // 2))
+            measure.remove_store(store)
+        report(found)
+        one, ten = (found[title] for title in list(nights)[::2])
+        alone = [run["export"].seconds - run["list"].seconds for run in (one, ten)]
+        print(f"ten nights against ten times one night: {alone[1] / (10 * alone[0]):.2f}")
+
+
+main()

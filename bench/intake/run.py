@@ -1,0 +1,133 @@
+#!/usr/bin/env python3
+"""Takes a clinic night by `edfstore take` and by plain C over SQLite, and prints ratios.
+
+    bench/intake/run.py [--program PATH] [RUNS]        best of RUNS runs of each, 5 if left out
+
+A night of 195 MB comes as 96 fragments of five minutes, the last ten in reverse order; then every tenth is sent again; then the
+card comes, with the whole night. Each of the three is timed apart: a run with it less a run without it, each on a new store, so
+that no opening of a store is in it. Beside the C program (bench/store/plain.c: same tables, statements, rows and transactions)
+stands `cat` of the same files with a sync a file. Then ten nights in one `take`, a tenth at a time, by the growth of the store's
+file. The rows of both stores are compared. It needs cc, libsqlite3-dev and time; about 5 GB in TMPDIR.
+"""
+import sqlite3
+import statistics
+import subprocess
+import sys
+import time
+from pathlib import Path
+
+sys.path.insert(0, str(Path(__file__).resolve().parent.parent / "lib"))
+import measure  # noqa: E402
+import night  # noqa: E402
+
+RESENDS = 5     # the resent fragments come so often in the timed run, since once is too short to time
+
+
+def rows(store: Path):
+    """Every row of the store, by the identity of its recording."""
+    with sqlite3.connect(store) as held:
+        yield from held.execute("SELECT identity, start, samples, block FROM record JOIN recording ON recording.id = recording "
+                                "ORDER BY identity, start")
+
+
+def compare(folder: Path) -> None:
+    if any(ours != theirs for ours, theirs in zip(rows(folder / "edfstore.db"), rows(folder / "plain C.db"), strict=True)):
+        sys.exit("the stores hold different rows")
+
+
+def take(command, store: Path, files: list) -> measure.Run:
+    measure.remove_store(store)
+    measure.settle()
+    return measure.run([command, "take", store, *files])
+
+
+def phases(commands: dict, folder: Path, kind: night.Night, runs: int) -> dict:
+    """Seconds and peak memory of each of the lists of files, by program."""
+    sent = kind.parts(folder)
+    card = kind.card(folder / "card.edf")
+    parts, again = night.arrival(sent), night.resent(sent)
+    lists = {"fragments": parts, "resent": parts + RESENDS * again, "card": parts + [card]}
+    best = {name: dict.fromkeys(lists, float("inf")) for name in commands}
+    peaks = {name: dict.fromkeys(lists, 0) for name in commands}
+    copied = {"fragments": float("inf"), "card": float("inf")}
+    for _ in range(runs):
+        for name, command in commands.items():
+            for phase, files in lists.items():
+                done = take(command, folder / f"{name}.db", files)
+                best[name][phase] = min(best[name][phase], done.seconds)
+                peaks[name][phase] = max(peaks[name][phase], done.peak)
+        measure.settle()
+        copied["fragments"] = min(copied["fragments"], measure.copy_synced(parts, folder / "copy"))
+        copied["card"] = min(copied["card"], measure.copy_synced([card], folder / "copy"))
+    compare(folder)
+    for name in commands:
+        measure.remove_store(folder / f"{name}.db")
+    for path in (*sent, card, folder / "copy"):
+        path.unlink()
+    return best, peaks, copied
+
+
+def report(title: str, best: dict, peaks: dict, copied: dict) -> None:
+    print(title)
+    apart = {name: {"fragments": times["fragments"], "resent": (times["resent"] - times["fragments"]) / RESENDS,
+                    "card": times["card"] - times["fragments"]} for name, times in best.items()}
+    copied["resent"] = copied["fragments"] / 10
+    lines = []
+    for phase in ("fragments", "resent", "card"):
+        ours, theirs = apart["edfstore"][phase], apart["plain C"][phase]
+        lines.append((phase, f"{ours:.3f} s", f"{theirs:.3f} s", f"{copied[phase]:.3f} s", f"{ours / theirs:.2f}",
+                      f"{ours / copied[phase]:.2f}", measure.mb(peaks["edfstore"][phase]), measure.mb(peaks["plain C"][phase])))
+    measure.table(("", "edfstore", "plain C", "cat, a sync a file", "/ plain C", "/ cat", "peak", "peak of C"), lines)
+    print(f"the card, all of it known, against the fragments: {apart['edfstore']['card'] / apart['edfstore']['fragments']:.2f}\n")
+
+
+def tenths(command, store: Path, files: list) -> tuple:
+    """Seconds of each tenth of a take, by the size of the store's file, and the whole."""
+    measure.remove_store(store)
+    measure.settle()
+    seen, begun = [(0.0, 0)], time.perf_counter()
+    child = subprocess.Popen(["/usr/bin/time", "-f", "%M", command, "take", store, *files], stdout=subprocess.DEVNULL,
+                             stderr=subprocess.PIPE)
+    while child.poll() is None:
+        time.sleep(0.005)
+        size = store.stat().st_size if store.exists() else 0
+        if size > seen[-1][1]:
+            seen.append((time.perf_counter() - begun, size))
+    peak = 1024 * int(child.stderr.read().split()[-1])
+    if child.returncode:
+        sys.exit(f"{command} ended with status {child.returncode}")
+    seen.append((time.perf_counter() - begun, store.stat().st_size))
+    ends = [next(at for at, size in seen if size >= n * seen[-1][1] / 10) for n in range(11)]
+    return [later - earlier for earlier, later in zip(ends, ends[1:])], seen[-1][0], peak
+
+
+def ten_nights(commands: dict, folder: Path) -> None:
+    files = []
+    for number in range(10):
+        kind = night.Night(fragments=48).next_night(number)
+        files += kind.parts(folder)
+    lines = []
+    for name, command in commands.items():
+        each, whole, peak = tenths(command, folder / f"{name}.db", files)
+        lines.append((name, f"{whole:.2f} s", f"{each[0]:.2f} s", f"{statistics.median(each):.2f} s", f"{each[-1]:.2f} s",
+                      f"{each[-1] / statistics.median(each):.2f}", measure.mb(peak)))
+    compare(folder)
+    print("ten nights in one take, 480 files")
+    measure.table(("", "all", "first tenth", "median tenth", "last tenth", "last / median", "peak"), lines)
+
+
+def main() -> None:
+    program, words = measure.program(sys.argv[1:])
+    measure.need("cc", "cat", "/usr/bin/time")
+    runs = int(words[0]) if words else 5
+    with measure.scratch() as name:
+        folder = Path(name)
+        commands = {"edfstore": program,
+                    "plain C": measure.compiled(Path(__file__).parent.parent / "store" / "plain.c", folder, "-lsqlite3")}
+        print(f"best of {runs} runs, {measure.machine()}\n")
+        report("a night of 28,800 records of 6.7 kB", *phases(commands, folder, night.CLINIC, runs))
+        report("a night of 960 records of 200 kB", *phases(commands, folder, night.LONG_RECORDS, runs))
+        ten_nights(commands, folder)
+
+
+main()

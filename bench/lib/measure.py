@@ -1,0 +1,118 @@
+"""Runs programs by the clock, and tells their peak memory."""
+import os
+import shutil
+import subprocess
+import sys
+import tempfile
+import time
+from dataclasses import dataclass
+from pathlib import Path
+
+LIB = Path(__file__).resolve().parent
+TOP = LIB.parent.parent
+
+
+def program(words: list) -> tuple:
+    """The program to run, and the words left: the word behind `--program`, or the proved program, built where it is stale."""
+    words = list(words)
+    if "--program" in words:
+        at = words.index("--program")
+        given = Path(words[at + 1]).resolve()
+        del words[at:at + 2]
+        return given, words
+    q = TOP / "examples" / "one-record.edf"
+    with open(q, "rb") as given:
+        built = subprocess.run([TOP / "bin" / "edfstore"], stdin=given, stdout=subprocess.DEVNULL, check=False)
+    if built.returncode:
+        sys.exit("bin/edfstore doesn't run")
+    return TOP / "crates" / "edfstore" / "out" / "edfstore", words
+
+
+def compiled(source: Path, folder: Path, *libraries: str) -> Path:
+    target = folder / source.stem
+    subprocess.run(["cc", "-O3", "-o", target, source, *libraries], check=True)
+    return target
+
+
+def scratch() -> tempfile.TemporaryDirectory:
+    """A folder that goes with the run; TMPDIR says on which disk."""
+    return tempfile.TemporaryDirectory(prefix="edfstore-bench-")
+
+
+@dataclass
+class Run:
+    seconds: float
+    peak: int           # bytes
+    status: int
+    out: bytes
+    err: bytes
+
+
+def run(command: list, out: Path = None, given: Path = None, statuses=(0,)) -> Run:
+    """Runs to the end. `time` stands between, so that the peak is the program's and not this script's."""
+    with tempfile.NamedTemporaryFile() as told, tempfile.TemporaryFile() as kept, tempfile.TemporaryFile() as errors:
+        into = open(out, "wb") if out else kept
+        source = open(given, "rb") if given else subprocess.DEVNULL
+        begun = time.perf_counter()
+        done = subprocess.run(["/usr/bin/time", "-q", "-o", told.name, "-f", "%M", *map(str, command)], stdin=source, stdout=into,
+                              stderr=errors, check=False)
+        seconds = time.perf_counter() - begun
+        if out:
+            into.close()
+        if given:
+            source.close()
+        kept.seek(0)
+        errors.seek(0)
+        answer = Run(seconds, 1024 * int(told.read().split()[-1]), done.returncode, kept.read(), errors.read())
+    if statuses is not None and answer.status not in statuses:
+        sys.exit(f"{' '.join(map(str, command))[:300]}\nended with status {answer.status}\n"
+                 f"{answer.err.decode(errors='replace')[:1000]}")
+    return answer
+
+
+def remove_store(store: Path) -> None:
+    """The store's file, and its log where there is one."""
+    for path in store.parent.glob(store.name + "*"):
+        path.unlink()
+
+
+def settle() -> None:
+    """Waits for the disk, so that what was written before isn't timed with what comes."""
+    os.sync()
+
+
+def copy_synced(parts: list, target: Path) -> float:
+    """Seconds for `cat` of each file behind the others, with a sync a file."""
+    begun = time.perf_counter()
+    with open(target, "wb") as made:
+        for part in parts:
+            subprocess.run(["cat", part], stdout=made, check=True)
+            os.fdatasync(made.fileno())
+    return time.perf_counter() - begun
+
+
+def machine() -> str:
+    model = next((line.split(":")[1].strip() for line in open("/proc/cpuinfo") if line.startswith("model name")), "?")
+    one, five, _ = os.getloadavg()
+    return f"{os.cpu_count()} processors ({model}), Linux {os.uname().release}, load {one:.1f} and {five:.1f} over 1 and 5 minutes"
+
+
+def mb(count: float) -> str:
+    return f"{count / 1e6:.1f} MB"
+
+
+def table(head: tuple, rows: list) -> None:
+    """A table in the form of the documents."""
+    cells = [tuple(map(str, row)) for row in (head, *rows)]
+    widths = [max(len(row[i]) for row in cells) for i in range(len(head))]
+    for n, row in enumerate(cells):
+        print("| " + " | ".join(text.ljust(width) for text, width in zip(row, widths)) + " |")
+        if n == 0:
+            print("|" + "|".join("-" * (width + 2) for width in widths) + "|")
+    print(flush=True)
+
+
+def need(*programs: str) -> None:
+    missing = [name for name in programs if not shutil.which(name) and not Path(name).exists()]
+    if missing:
+        sys.exit(f"this needs {', '.join(missing)}")

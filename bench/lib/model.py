@@ -1,0 +1,407 @@
+"""A plain model of `edfstore`, written from docs/FORMAT.md and docs/REFUSALS.md alone: what is wrong with a file, what a store
+answers to a list of files and then holds, what it lists and exports. It is short and slow on purpose; it knows no store and no
+transaction, and nothing of it comes from the program.
+
+    from model import Store
+    store = Store(); store.take(data)           'accepted new=1 known=0' or 'refused E21 CutRecord record=1'
+    store.lines()                               the lines of `list`, as text
+    store.export(1)                             the canonical file of the recording at place 1, as bytes
+"""
+import re
+import sys
+from bisect import bisect_left
+from dataclasses import dataclass
+from datetime import date
+from fractions import Fraction
+
+sys.set_int_max_str_digits(0)        # an onset may be spelled with a million zeros
+
+SECOND = 10**9
+DAY = 86_400 * SECOND
+WINDOW = 36_525 * DAY
+EPOCH = date(1985, 1, 1).toordinal()
+ANNOTATIONS = b"EDF Annotations "
+MOST_BYTES, MOST_NOTES, MOST_TEXT = 4_194_304, 10_000, 1_000_000
+MONTHS = (b"JAN", b"FEB", b"MAR", b"APR", b"MAY", b"JUN", b"JUL", b"AUG", b"SEP", b"OCT", b"NOV", b"DEC")
+WIDTHS = (16, 80, 8, 8, 8, 8, 8, 80, 8, 32)
+
+WHOLE = re.compile(rb"([0-9]+) *\Z")
+SIGNED = re.compile(rb"([+-]?[0-9]+) *\Z")
+DECIMAL = re.compile(rb"([0-9]+)(?:\.([0-9]+))? *\Z")
+PHYSICAL = re.compile(rb"([+-]?)([0-9]+)(?:\.([0-9]*))? *\Z")
+LIST = re.compile(rb"([+-])([0-9]+)(?:\.([0-9]+))?(?:\x15([0-9]+)(?:\.([0-9]+))?)?\x14((?:[^\x00\x14]*\x14)*)\x00")
+
+
+class Refused(Exception):
+    """The text of a refusal."""
+
+
+@dataclass(frozen=True)
+class Record:
+    start: int                  # nanoseconds from 1985-01-01 00:00:00
+    samples: bytes
+    notes: tuple                # (instant, duration or None, text)
+
+
+@dataclass(frozen=True)
+class Key:
+    patient: bytes
+    dated: bytes                # b"D" or b"X"
+    following: bytes
+    duration_text: bytes
+    rows: tuple
+
+    def to_bytes(self) -> bytes:
+        return self.patient + self.dated + self.following + self.duration_text + b"".join(self.rows)
+
+    def duration(self) -> int:
+        return decimal(self.duration_text)
+
+
+# Texts
+
+def whole(text: bytes):
+    found = WHOLE.match(text)
+    return int(found[1]) if found else None
+
+
+def signed(text: bytes):
+    found = SIGNED.match(text)
+    return int(found[1]) if found else None
+
+
+def nanoseconds(digits: bytes, behind):
+    """The value of a decimal in nanoseconds; None where it is finer than that."""
+    behind = behind or b""
+    if behind[9:].strip(b"0"):
+        return None
+    return int(digits) * SECOND + int(behind[:9].ljust(9, b"0"))
+
+
+def decimal(text: bytes):
+    found = DECIMAL.match(text)
+    return nanoseconds(found[1], found[2]) if found else None
+
+
+def physical(text: bytes):
+    found = PHYSICAL.match(text)
+    if not found:
+        return None
+    behind = found[3] or b""
+    value = Fraction(int(found[2] + behind), 10 ** len(behind))
+    return -value if found[1] == b"-" else value
+
+
+def day_of(year: int, month: int, day: int):
+    """Days from 1985-01-01, in the Gregorian calendar carried backwards; None where there is no such day."""
+    cycles = 1 if year == 0 else 0          # Python's dates begin with the year 1; 400 years are 146,097 days
+    try:
+        return date(year + 400 * cycles, month, day).toordinal() - 146_097 * cycles - EPOCH
+    except ValueError:
+        return None
+
+
+def identification_date(text: bytes):
+    found = re.match(rb"([0-9]{2})-([A-Z]{3})-([0-9]{4})\Z", text)
+    if not found or found[2] not in MONTHS:
+        return None
+    return day_of(int(found[3]), MONTHS.index(found[2]) + 1, int(found[1]))
+
+
+def start_date(text: bytes):
+    found = re.match(rb"([0-9]{2})\.([0-9]{2})\.([0-9]{2})\Z", text)
+    if not found:
+        return None
+    year = int(found[3])
+    return day_of(year + (1900 if year >= 85 else 2000), int(found[2]), int(found[1]))
+
+
+def start_time(text: bytes):
+    found = re.match(rb"([0-9]{2})\.([0-9]{2})\.([0-9]{2})\Z", text)
+    if not found:
+        return None
+    hour, minute, second = (int(part) for part in found.groups())
+    return 3600 * hour + 60 * minute + second if hour < 24 and minute < 60 and second < 60 else None
+
+
+def subfields(text: bytes) -> list:
+    return [part for part in text.split(b" ") if part]
+
+
+def is_patient(text: bytes) -> bool:
+    parts = subfields(text)
+    return len(parts) >= 4 and parts[1] in (b"F", b"M", b"X") and \
+        (parts[2] == b"X" or identification_date(parts[2]) is not None)
+
+
+def recording(text: bytes):
+    """The day or None, the letter, and what follows the Startdate subfield as 69 bytes; None where it is no such field."""
+    found = re.match(rb"Startdate ([^ ]+)( .*)\Z", text, re.DOTALL)
+    if not found or len(subfields(found[2])) < 3:
+        return None
+    if found[1] == b"X":
+        return None, b"X", found[2]
+    day = identification_date(found[1])
+    return None if day is None else (day, b"D", found[2].ljust(69))
+
+
+def unprintable(part: bytes):
+    return next((at for at, byte in enumerate(part) if not 32 <= byte <= 126), None)
+
+
+# A file
+
+class Layout:
+    """What a header says of its records."""
+
+    def __init__(self, data: bytes):
+        self._fixed(data)
+        self._signals(data)
+
+    def _fixed(self, data: bytes) -> None:
+        if len(data) < 256:
+            raise Refused("E1 Cut")
+        if (at := unprintable(data[:256])) is not None:
+            raise Refused(f"E2 Unprintable offset={at}")
+        if data[:8] != b"0       ":
+            raise Refused("E3 Version")
+        self.patient = data[8:88]
+        if not is_patient(self.patient):
+            raise Refused("E4 Patient")
+        found = recording(data[88:168])
+        if found is None:
+            raise Refused("E5 Recording")
+        day, self.dated, self.following = found
+        startday = start_date(data[168:176])
+        if startday is None:
+            raise Refused("E6 Startdate")
+        time = start_time(data[176:184])
+        if time is None:
+            raise Refused("E7 Starttime")
+        if day is not None and day != startday:
+            raise Refused("E8 DatesDiffer")
+        self.start = startday * DAY + time * SECOND
+        if data[192:197] not in (b"EDF+C", b"EDF+D"):
+            raise Refused("E9 NotPlus")
+        self.count = whole(data[236:244])
+        if not self.count:
+            raise Refused("E10 Count")
+        self.duration_text = data[244:252]
+        self.duration = decimal(self.duration_text)
+        if not self.duration:
+            raise Refused("E11 Duration")
+        self.ns = whole(data[252:256])
+        if self.ns is None or not 2 <= self.ns <= 640:
+            raise Refused("E12 Signals")
+        if whole(data[184:192]) != 256 + 256 * self.ns:
+            raise Refused("E13 HeaderBytes")
+
+    def _signals(self, data: bytes) -> None:
+        part = data[256:256 + 256 * self.ns]
+        if len(part) < 256 * self.ns:
+            raise Refused("E14 CutSignals")
+        if (at := unprintable(part)) is not None:
+            raise Refused(f"E15 UnprintableSignals offset={256 + at}")
+        columns, at = [], 0
+        for width in WIDTHS:
+            columns.append([part[at + width * i:at + width * (i + 1)] for i in range(self.ns)])
+            at += width * self.ns
+        rows = list(zip(*columns))
+        notes = [i for i, row in enumerate(rows) if row[0] == ANNOTATIONS]
+        if len(notes) != 1:
+            raise Refused("E16 Annotations")
+        row = rows[notes[0]]
+        low, high = physical(row[3]), physical(row[4])
+        if signed(row[5]) != -32768 or signed(row[6]) != 32767 or low is None or high is None or low == high:
+            raise Refused("E16 Annotations")
+        ordinary = [(i + 1, row) for i, row in enumerate(rows) if i != notes[0]]
+        self._check_ordinary(ordinary)
+        sizes = [whole(row[8]) for row in rows]
+        for i, size in enumerate(sizes):
+            if not size:
+                raise Refused(f"E19 Samples signal={i + 1}")
+        self.block_bytes = 2 * sizes[notes[0]]
+        self.block_at = 2 * sum(sizes[:notes[0]])
+        self.record_bytes = 2 * sum(sizes)
+        if self.record_bytes - self.block_bytes > MOST_BYTES or self.block_bytes > MOST_BYTES:
+            raise Refused("E20 Size")
+        self.key = Key(self.patient, self.dated, self.following, self.duration_text,
+                       tuple(b"".join(row) for _, row in ordinary))
+
+    @staticmethod
+    def _check_ordinary(ordinary: list) -> None:
+        for i, row in ordinary:
+            low, high = physical(row[3]), physical(row[4])
+            if low is None or high is None or low == high:
+                raise Refused(f"E17 Physical signal={i}")
+        for i, row in ordinary:
+            low, high = signed(row[5]), signed(row[6])
+            if low is None or high is None or not -32768 <= low < high <= 32767:
+                raise Refused(f"E18 Digital signal={i}")
+
+
+def read_lists(block: bytes, nth: int) -> list:
+    """The lists of a block: onset, duration or None, and the texts with their offsets."""
+    lists, at = [], 0
+    while at < len(block) and block[at]:
+        found = LIST.match(block, at)
+        onset = nanoseconds(found[2], found[3]) if found else None
+        duration = nanoseconds(found[4], found[5]) if found and found[4] is not None else 0
+        if onset is None or duration is None:
+            raise Refused(f"E22 Tal record={nth} offset={at}")
+        texts, place = [], found.start(6)
+        for text in found[6].split(b"\x14")[:-1]:
+            texts.append((place, text))
+            place += len(text) + 1
+        lists.append((-onset if found[1] == b"-" else onset, None if found[4] is None else duration, texts))
+        at = found.end()
+    if block[at:].strip(b"\0"):
+        raise Refused(f"E22 Tal record={nth} offset={at}")
+    return lists
+
+
+def read_block(block: bytes, nth: int, layout: Layout, before) -> tuple:
+    """The start of the record and its annotations; `before` is the start of the record before it, or None."""
+    lists = read_lists(block, nth)
+    for _, _, texts in lists:
+        for at, text in texts:
+            try:
+                text.decode()
+            except UnicodeDecodeError:
+                raise Refused(f"E23 Text record={nth} offset={at}") from None
+    if not lists or not lists[0][2] or lists[0][2][0][1]:
+        raise Refused(f"E24 NotTimed record={nth}")
+    if before is None and not 0 <= lists[0][0] < SECOND:
+        raise Refused(f"E25 FirstOnset record={nth}")
+    for onset, duration, _ in lists:
+        if not 0 <= layout.start + onset < WINDOW or (duration is not None and duration >= WINDOW):
+            raise Refused(f"E26 Window record={nth}")
+    start = layout.start + lists[0][0]
+    if before is not None and start < before + layout.duration:
+        raise Refused(f"E27 Order record={nth}")
+    notes = tuple((layout.start + onset, duration, text) for onset, duration, texts in lists for _, text in texts)[1:]
+    if len(notes) > MOST_NOTES or sum(len(text) for _, _, text in notes) > MOST_TEXT:
+        raise Refused(f"E28 TooMany record={nth}")
+    return start, notes
+
+
+def read(data: bytes) -> tuple:
+    """The key and the records of a file, or `Refused` with its first fault."""
+    layout = Layout(data)
+    records, at, before = [], 256 + 256 * layout.ns, None
+    for nth in range(1, layout.count + 1):
+        if len(data) - at < layout.record_bytes:
+            raise Refused(f"E21 CutRecord record={nth}")
+        record = data[at:at + layout.record_bytes]
+        end = layout.block_at + layout.block_bytes
+        before, notes = read_block(record[layout.block_at:end], nth, layout, before)
+        records.append(Record(before, record[:layout.block_at] + record[end:], notes))
+        at += layout.record_bytes
+    if at != len(data):
+        raise Refused("E29 Trailing")
+    return layout.key, records
+
+
+# What is written
+
+def shortest(nanos: int) -> bytes:
+    seconds, rest = divmod(nanos, SECOND)
+    return str(seconds).encode() + ((b".%09d" % rest).rstrip(b"0") if rest else b"")
+
+
+def civil(instant: int) -> tuple:
+    day, rest = divmod(instant, DAY)
+    seconds, fraction = divmod(rest, SECOND)
+    return date.fromordinal(EPOCH + day), seconds // 3600, seconds // 60 % 60, seconds % 60, fraction
+
+
+def instant_text(instant: int) -> str:
+    day, hour, minute, second, fraction = civil(instant)
+    behind = (".%09d" % fraction).rstrip("0") if fraction else ""
+    return f"{day.isoformat()}T{hour:02}:{minute:02}:{second:02}{behind}"
+
+
+def written_list(onset: int, duration, text: bytes) -> bytes:
+    spelled = b"" if duration is None else b"\x15" + shortest(duration)
+    return (b"-" if onset < 0 else b"+") + shortest(abs(onset)) + spelled + b"\x14" + text + b"\x14\0"
+
+
+def written_block(record: Record, base: int) -> bytes:
+    return written_list(record.start - base, None, b"") + \
+        b"".join(written_list(at - base, duration, text) for at, duration, text in record.notes)
+
+
+def canonical(key: Key, records: list) -> bytes:
+    """The one canonical file of these records, which rise."""
+    base = records[0].start // SECOND * SECOND
+    day, hour, minute, second, _ = civil(base)
+    dated = b"%02d-%s-%04d" % (day.day, MONTHS[day.month - 1], day.year) if key.dated == b"D" else b"X"
+    blocks = [written_block(record, base) for record in records]
+    samples = (max(len(block) for block in blocks) + 1) // 2
+    notes = (ANNOTATIONS, b"", b"", b"-1", b"1", b"-32768", b"32767", b"", b"%d" % samples, b"")
+    ns = len(key.rows) + 1
+    fixed = b"".join((b"0       ", key.patient, (b"Startdate " + dated + key.following)[:80],
+                      b"%02d.%02d.%02d" % (day.day, day.month, day.year % 100), b"%02d.%02d.%02d" % (hour, minute, second),
+                      b"%-8d" % (256 + 256 * ns), b"EDF+D".ljust(44), b"%-8d" % len(records), key.duration_text, b"%-4d" % ns))
+    part, at = [], 0
+    for width, text in zip(WIDTHS, notes):
+        part += [row[at:at + width] for row in key.rows] + [text.ljust(width)]
+        at += width
+    body = [piece for record, block in zip(records, blocks) for piece in (record.samples, block.ljust(2 * samples, b"\0"))]
+    return b"".join([fixed, *part, *body])
+
+
+# A store
+
+class Store:
+    """What a list of files is answered, and what is held after it."""
+
+    def __init__(self, cap: int = 99_999_999):
+        self.cap = cap
+        self.held = {}          # key: (starts, records), both rising
+
+    def take(self, data: bytes) -> str:
+        try:
+            key, records = read(data)
+            new = self._new(key, records)
+        except Refused as fault:
+            return f"refused {fault}"
+        if new:
+            starts, held = self.held.setdefault(key, ([], []))
+            for record in new:
+                at = bisect_left(starts, record.start)
+                starts.insert(at, record.start)
+                held.insert(at, record)
+        return f"accepted new={len(new)} known={len(records) - len(new)}"
+
+    def _new(self, key: Key, records: list) -> list:
+        starts, held = self.held.get(key, ([], []))
+        new = []
+        for record in records:
+            near = held[bisect_left(starts, record.start - key.duration() + 1):bisect_left(starts, record.start + key.duration())]
+            clashing = [stored for stored in near if stored != record]
+            if clashing and clashing[0].start == record.start:
+                raise Refused(f"E31 Differs start={instant_text(record.start)}")
+            if clashing:
+                raise Refused(f"E30 Overlap start={instant_text(record.start)} stored={instant_text(clashing[0].start)}")
+            if not near:
+                new.append(record)
+        if new and len(held) + len(new) > self.cap:
+            raise Refused(f"E32 Full held={len(held)} new={len(new)} cap={self.cap}")
+        return new
+
+    def keys(self) -> list:
+        return sorted(self.held, key=Key.to_bytes)
+
+    def lines(self) -> str:
+        lines = []
+        for place, key in enumerate(self.keys(), 1):
+            starts, records = self.held[key]
+            patient, investigation = subfields(key.patient)[0].decode(), subfields(key.following)[0].decode()
+            lines.append(f"{place} records={len(records)} first={instant_text(starts[0])} "
+                         f"patient={patient} investigation={investigation}\n")
+        return "".join(lines)
+
+    def export(self, place: int) -> bytes:
+        key = self.keys()[place - 1]
+        return canonical(key, self.held[key][1])

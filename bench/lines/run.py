@@ -1,0 +1,183 @@
+#!/usr/bin/env python3
+"""Checks the program's exact lines, files and statuses on small files made here.
+
+    bench/lines/run.py [--program PATH]
+
+The files come from bench/lib/edf.py, field by field; what is expected is written below by hand. Nothing comes from the program.
+"""
+import os
+import subprocess
+import sys
+from pathlib import Path
+
+sys.path.insert(0, str(Path(__file__).resolve().parent.parent / "lib"))
+import edf  # noqa: E402
+import measure  # noqa: E402
+
+FILES = edf.small_files()
+Q = FILES["Q"]
+OVERLAP = "refused E30 Overlap start=2002-03-02T23:59:50.5 stored=2002-03-02T23:59:50"
+LINE = "records={} first=2002-03-02T23:59:50 patient=P7 investigation=N1\n"
+
+
+class Checks:
+    def __init__(self, program: Path, folder: Path):
+        self.program, self.folder, self.done, self.failed, self.case = program, folder, 0, 0, ""
+
+    def begin(self, case: str) -> None:
+        """A new case, with no files but its own."""
+        for path in self.folder.iterdir():
+            path.unlink()
+        self.case = case
+
+    def file(self, name: str, data: bytes) -> None:
+        (self.folder / name).write_bytes(data)
+
+    def run(self, *words: str, given: bytes = b"", out="", err="", status: int = 0) -> None:
+        """Runs the words in the case's folder; `err=None` is any text at all but none."""
+        ran = subprocess.run([self.program, *words], input=given, capture_output=True, cwd=self.folder, check=False)
+        wanted = out if isinstance(out, bytes) else out.encode()
+        wrong = []
+        if ran.stdout != wanted:
+            wrong.append(f"standard output was {ran.stdout[:300]!r}, wanted {wanted[:300]!r}")
+        if (not ran.stderr) if err is None else (ran.stderr != err.encode()):
+            wrong.append(f"standard error was {ran.stderr[:300]!r}, wanted {'some text' if err is None else err!r}")
+        if ran.returncode != status:
+            wrong.append(f"the status was {ran.returncode}, wanted {status}")
+        self.done += 1
+        if wrong:
+            self.failed += 1
+            print(f"{self.case}: edfstore {' '.join(words)[:100]}\n  " + "\n  ".join(wrong))
+
+
+def one_record_is_its_own_canonical_file(checks: Checks) -> None:
+    checks.begin("one record is its own canonical file")
+    checks.file("a.edf", Q)
+    checks.run(given=Q, out=Q)
+    checks.run("convert", "-", given=Q, out=Q)
+    checks.run("convert", "a.edf", out=Q)
+    checks.run("convert", "u.edf", err="u.edf refused E40 Read\n", status=3)
+    checks.run("take", "night.db", "-", given=Q, out="- accepted new=1 known=0\n")
+    checks.run("take", "night.db", "a.edf", out="a.edf accepted new=0 known=1\n")
+    checks.run("export", "night.db", "1", out=Q)
+    checks.run("take", ":memory:", "a.edf", "a.edf", out="a.edf accepted new=1 known=0\na.edf accepted new=0 known=1\n")
+    checks.run("list", ":memory:")
+
+
+def two_records_cut_inside_the_second_leave_nothing(checks: Checks) -> None:
+    checks.begin("two records, cut inside the second, leave nothing")
+    header = edf.Header((edf.Signal(), edf.annotations_signal(3)), count="2")
+    whole = edf.fragment(header, [(b"\1\0\2\0", edf.keeping("+0")), (b"\3\0\4\0", edf.keeping("+1"))])
+    checks.file("cut.edf", whole[:-1])
+    checks.run("take", "night.db", "cut.edf", out="cut.edf refused E21 CutRecord record=2\n", status=1)
+    checks.run("list", "night.db")
+    checks.run("export", "night.db", "1", err="no recording at place 1\n", status=1)
+
+
+def an_overlap_is_told_with_both_starts(checks: Checks) -> None:
+    checks.begin("an overlap is told with both starts")
+    checks.file("a.edf", Q)
+    checks.file("b.edf", FILES["half"])
+    checks.run("take", "night.db", "a.edf", "b.edf", out=f"a.edf accepted new=1 known=0\nb.edf {OVERLAP}\n", status=1)
+    checks.run("list", "night.db", out="1 " + LINE.format(1))
+    checks.run("export", "night.db", "1", out=Q)
+    checks.run("export", "night.db", "2", err="no recording at place 2\n", status=1)
+    for place in ("0", "-1", "+1", "4294967296", "one"):
+        checks.run("export", "night.db", place, err=None, status=2)
+    checks.run("export", "night.db", "4294967295", err="no recording at place 4294967295\n", status=1)
+    checks.run("export", "night.db", "001", out=Q)
+    changed = Q[:768] + b"\0" + Q[769:]
+    checks.file("c.edf", changed)
+    checks.run("take", "night.db", "c.edf", out="c.edf refused E31 Differs start=2002-03-02T23:59:50\n", status=1)
+
+
+def a_withheld_date_is_another_recording(checks: Checks) -> None:
+    checks.begin("a withheld Startdate is another recording, listed behind the dated one")
+    checks.file("x.edf", FILES["X"])
+    checks.file("a.edf", Q)
+    checks.run("take", "night.db", "x.edf", "a.edf", out="x.edf accepted new=1 known=0\na.edf accepted new=1 known=0\n")
+    checks.run("list", "night.db", out="1 " + LINE.format(1) + "2 " + LINE.format(1))
+    checks.run("export", "night.db", "1", out=Q)
+    checks.run("export", "night.db", "2", out=FILES["X"])
+
+
+def a_missing_file_is_trouble_and_the_next_is_taken(checks: Checks) -> None:
+    checks.begin("a missing file is trouble, and the next file is taken")
+    checks.file("a.edf", Q)
+    checks.run("take", "night.db", "missing.edf", "a.edf", out="missing.edf refused E40 Read\na.edf accepted new=1 known=0\n",
+               status=3)
+    checks.run("list", "night.db", out="1 " + LINE.format(1))
+
+
+def a_refused_conversion_writes_nothing(checks: Checks) -> None:
+    checks.begin("a refused conversion writes nothing")
+    checks.file("a.edf", Q[:-1])
+    checks.run("convert", "a.edf", err="a.edf refused E21 CutRecord record=1\n", status=1)
+    checks.run(given=Q + b"\0", err="- refused E29 Trailing\n", status=1)
+    checks.run(given=Q[:-1] + b"\1", err="- refused E22 Tal record=1 offset=5\n", status=1)
+
+
+def a_file_cut_anywhere(checks: Checks) -> None:
+    """Every cut of two files into a store that holds Q, 200 files a run, and the store as before."""
+    checks.begin("a file cut anywhere")
+    answers = [("Q", n, "E1 Cut" if n < 256 else "E14 CutSignals" if n < 768 else "E21 CutRecord record=1") for n in range(778)]
+    answers += [("U", n, "E21 CutRecord record=1" if n < 886 else "E21 CutRecord record=2") for n in range(768, 1004)]
+    checks.file("a.edf", Q)
+    checks.run("take", "night.db", "a.edf", out="a.edf accepted new=1 known=0\n")
+    for first in range(0, len(answers), 200):
+        batch = answers[first:first + 200]
+        for letter, n, _ in batch:
+            checks.file(f"{letter}{n}", FILES[letter][:n])
+        checks.run("take", "night.db", *(f"{letter}{n}" for letter, n, _ in batch),
+                   out="".join(f"{letter}{n} refused {text}\n" for letter, n, text in batch), status=1)
+    checks.run("export", "night.db", "1", out=Q)
+    checks.run("list", "night.db", out="1 " + LINE.format(1))
+
+
+def five_files_make_one_night(checks: Checks) -> None:
+    checks.begin("fragments, the card and a resend make one file")
+    for name in ("N3", "N1", "K", "P5", "Q", "R9"):
+        checks.file(name, FILES[name])
+    checks.run("take", "night.db", "N3", "N1", "K", "N1", out="N3 accepted new=1 known=0\nN1 accepted new=1 known=0\n"
+               "K accepted new=1 known=2\nN1 accepted new=0 known=1\n")
+    canonical = bytearray(FILES["K"])
+    canonical[196:197] = b"D"
+    checks.run("export", "night.db", "1", out=bytes(canonical))
+    checks.run("take", "other.db", "P5", "Q", "R9", out="P5 accepted new=1 known=0\nQ accepted new=1 known=0\n"
+               "R9 accepted new=1 known=1\n")
+    header = edf.Header((edf.Signal(), edf.annotations_signal(16)), count="3")
+    snore = edf.keeping("+15") + edf.tal("+15.5", "Snore") + edf.tal("+15.5", "Turn")
+    checks.run("export", "other.db", "1", out=edf.fragment(header, [
+        (b"\1\0\xff\xff", edf.keeping("+0")), (b"\3\0\xfd\xff", edf.keeping("+10")), (b"\2\0\xfe\xff", snore)]))
+    checks.file("U", FILES["U"])
+    u = edf.Header((edf.Signal(physical_minimum="-3276.8", physical_maximum="3276.7", digital_minimum="-32768",
+                               digital_maximum="32767"), edf.annotations_signal(11)), starttime="22.00.00", patient="X X X X",
+                   recording="Startdate 02-MAR-2002 X X X", count="2")
+    checks.run("convert", "U", out=edf.fragment(u, [(b"\1\0\2\0", edf.keeping("+0") + edf.tal("+0.5", "Lights off")),
+                                                    (b"\3\0\4\0", edf.keeping("+1"))]))
+
+
+def words_that_ask_for_nothing(checks: Checks) -> None:
+    checks.begin("words that ask for nothing are a usage fault, and help is none")
+    for words in (("list",), ("take", "night.db"), ("frob",), ("export", "night.db"), ("list", "-x"), ("convert",),
+                  ("list", "night.db", "more")):
+        checks.run(*words, err=None, status=2)
+    if (checks.folder / "night.db").exists():
+        checks.failed += 1
+        print("a usage fault made a store")
+
+
+def main() -> None:
+    program, _ = measure.program(sys.argv[1:])
+    with measure.scratch() as name:
+        checks = Checks(program, Path(name))
+        for case in (one_record_is_its_own_canonical_file, two_records_cut_inside_the_second_leave_nothing,
+                     an_overlap_is_told_with_both_starts, a_withheld_date_is_another_recording,
+                     a_missing_file_is_trouble_and_the_next_is_taken, a_refused_conversion_writes_nothing, a_file_cut_anywhere,
+                     five_files_make_one_night, words_that_ask_for_nothing):
+            case(checks)
+    print(f"{checks.done} runs, {checks.failed} failed")
+    sys.exit(os.EX_OK if checks.failed == 0 else 1)
+
+
+main()

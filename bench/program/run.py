@@ -1,0 +1,96 @@
+#!/usr/bin/env python3
+"""The program as a person runs it: each word by the clock, against `cat` and plain C over SQLite, with its peak memory.
+
+    bench/program/run.py [--program PATH] [RUNS]       best of RUNS runs of each, 5 if left out
+
+A night of 195 MB: `take` of its 96 fragments into a new store, `take` of the card into that store, `list`, `export`, `convert`
+of the card. Each run is a process of its own, so every word but the first `take` and `convert` pays for opening the store, which
+reads all of it. The C program (bench/store/plain.c) does the same rows, but opens without reading the store; `open` of it reads
+and checks everything. Then a thousand files in one `take`. It needs cc, libsqlite3-dev and time; about 2 GB in TMPDIR.
+"""
+import filecmp
+import sys
+from pathlib import Path
+
+sys.path.insert(0, str(Path(__file__).resolve().parent.parent / "lib"))
+import measure  # noqa: E402
+import night  # noqa: E402
+
+MOST = 64_000_000       # bytes of memory for a thousand files
+
+
+def better(before, now):
+    return now if before is None or now.seconds < before.seconds else before
+
+
+def one_round(program, plain, files: dict, folder: Path, best: dict) -> None:
+    """Each word once by both, each after the disk is quiet, into `best`."""
+    parts, card = files["parts"], files["card"]
+    for name, command in (("edfstore", program), ("plain C", plain)):
+        store, out = folder / f"{name}.db", folder / f"{name}.edf"
+        measure.remove_store(store)
+        place = ["1"] if name == "edfstore" else []
+        words = {"take fragments": ([command, "take", store, *parts], None, None),
+                 "take card": ([command, "take", store, card], None, None),
+                 "list": ([command, "list" if place else "open", store], None, None),
+                 "export": ([command, "export", store, *place], out, None),
+                 "convert": ([command, "convert", *(["-"] if place else [])], folder / f"{name}-convert.edf", card)}
+        for word, (line, into, given) in words.items():
+            measure.settle()
+            best[name][word] = better(best[name].get(word), measure.run(line, out=into, given=given))
+    for word, sources in (("take fragments", parts), ("take card", [card]), ("export", [out]), ("convert", [card])):
+        measure.settle()
+        best["cat"][word] = better(best["cat"].get(word), measure.run(["cat", *sources], out=folder / "copy"))
+
+
+def report(best: dict) -> None:
+    lines = []
+    for word, ours in best["edfstore"].items():
+        theirs, copied = best["plain C"][word], best["cat"].get(word)
+        lines.append((word, f"{ours.seconds:.3f} s", f"{theirs.seconds:.3f} s", f"{copied.seconds:.3f} s" if copied else "",
+                      f"{ours.seconds / theirs.seconds:.2f}", f"{ours.seconds / copied.seconds:.2f}" if copied else "",
+                      measure.mb(ours.peak), measure.mb(theirs.peak)))
+    measure.table(("", "edfstore", "plain C", "cat", "/ plain C", "/ cat", "peak", "peak of C"), lines)
+
+
+def thousand(program, folder: Path) -> None:
+    """A thousand files in one take, against a hundred with the same records in all."""
+    lines = []
+    for count in (100, 1000):
+        parts = night.Night(fragments=count).parts(folder)
+        measure.settle()
+        measure.remove_store(folder / "many.db")
+        done = measure.run([program, "take", folder / "many.db", *parts])
+        accepted = done.out.count(b" accepted ")
+        lines.append((f"{count} files", f"{done.seconds:.3f} s", measure.mb(done.peak), accepted))
+        for path in parts:
+            path.unlink()
+    measure.remove_store(folder / "many.db")
+    print("a night in one take")
+    measure.table(("", "take", "peak", "accepted"), lines)
+    print(f"a thousand files stay {'within' if done.peak <= MOST else 'ABOVE'} {MOST // 1_000_000} MB; all were "
+          f"{'accepted' if accepted == 1000 else 'NOT accepted'}")
+
+
+def main() -> None:
+    program, words = measure.program(sys.argv[1:])
+    measure.need("cc", "cat", "/usr/bin/time")
+    runs = int(words[0]) if words else 5
+    with measure.scratch() as name:
+        folder = Path(name)
+        plain = measure.compiled(Path(__file__).parent.parent / "store" / "plain.c", folder, "-lsqlite3")
+        files = {"parts": night.arrival(night.CLINIC.parts(folder)), "card": night.CLINIC.card(folder / "card.edf")}
+        best = {"edfstore": {}, "plain C": {}, "cat": {}}
+        for _ in range(runs):
+            one_round(program, plain, files, folder, best)
+        made = [folder / f"{name}{kind}.edf" for name in ("edfstore", "plain C") for kind in ("", "-convert")]
+        if not all(filecmp.cmp(made[0], other, shallow=False) for other in made[1:]):
+            sys.exit("the exports and conversions differ")
+        print(f"a night of {measure.mb(files['card'].stat().st_size)}, best of {runs} runs, {measure.machine()}\n")
+        report(best)
+        for path in (*files["parts"], files["card"], *made):
+            path.unlink()
+        thousand(program, folder)
+
+
+main()
