@@ -1,5 +1,5 @@
 -- An export is accepted again, since it is a fragment of records that are held.
-use Rattle.std.proofs.Common.{◌≡◌, ◌≢◌, ℕ, List, [], ◌∷◌, refl, sym, ap, ◌∙◌, subst, cond}
+use Rattle.std.proofs.Common.{◌≡◌, ◌≢◌, ℕ, List, [], ◌∷◌, sym, ap, ◌∙◌, subst}
 use Rattle.std.proofs.lemmas.Bool.{cond-true}
 use Rattle.edf_header.specs.Key.{Key}
 use Rattle.edf_fragment.specs.Fragment.{DataRecord}

@@ -39,7 +39,7 @@ fn put_block<W: Output>(
 }
 
 /// Puts a data record: its samples, its block and the fill.
-fn put_record<W: Output>(
+pub(crate) fn put_record<W: Output>(
     alloc: Global,
     out: &mut W,
     held: &mut Vec<u8>,

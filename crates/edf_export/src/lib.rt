@@ -10,7 +10,9 @@ mod fault;
 mod file;
 pub mod laws;
 mod output;
+mod plan;
 mod recording;
+mod writing;
 
 pub use fault::{ExportFault, OutputFault};
 pub use file::write_file;

@@ -8,6 +8,8 @@ ghost use Rattle.edf_store.specs.Held.{at, Holds, Stays};
 ghost use Rattle.edf_export.specs.Export.{IsExported, IsNotExported, CountsExport};
 
 use crate::fault::ExportFault;
+use crate::plan::plan_file;
+use crate::writing::write_planned;
 use edf_fragment::Output;
 use edf_header::Identity;
 use edf_store::Store;
@@ -37,5 +39,10 @@ pub fn export<S: Alter, W: Output>(
     ensures nothing { result ≡ Err ExportFault.NoRecording → Keeps (W.contents out.old) (W.contents out.new) }
     ensures counted { CountsExport (W.failures out.old) (W.failures out.new) result }
 {
-    Err(ExportFault::Memory)
+    let plan = match plan_file(store, identity) {
+        Ok(Some(plan)) => plan,
+        Ok(None) => return Err(ExportFault::NoRecording),
+        Err(fault) => return Err(ExportFault::Store(fault)),
+    };
+    write_planned(alloc, store, identity, out, plan)
 }
