@@ -13,3 +13,4 @@ pub mod StandLemmas
 pub mod StepLemmas
 pub mod SummaryLemmas
 pub mod WalkLemmas
+pub mod WholeLemmas
