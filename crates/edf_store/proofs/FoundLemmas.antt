@@ -19,7 +19,7 @@ use Rattle.edf_header.specs.Key.{Key, IsKey, key_bytes}
 use Rattle.edf_fragment.specs.Fragment.{DataRecord}
 use Rattle.edf_holdings.specs.Holdings.{Holdings}
 use Rattle.edf_tables.specs.Row.{named_cells, new_row, HasRecording}
-use Rattle.edf_tables.specs.Records.{records_of, record_cells as cells_shown, by_column}
+use Rattle.edf_tables.specs.Records.{records_of, shown_record, by_column}
 use Rattle.edf_tables.specs.Recordings.{named}
 use Rattle.edf_rows.specs.Cells.{record_cells, recording_cells, recordings_in, records_in, is_of}
 use Rattle.edf_rows.specs.Rows.{IsThere, IsRecording, IsOwned, AreTwoOf, AreOther, StandFor}
@@ -184,10 +184,10 @@ module _ (old new : State) (id : ℤ) (k : Key) (h : Holdings) (has : HasRecordi
       reversed Greater e d = ap is_eq e
 
   empty : records_in old.now.trees id ≡ []
-  empty = ap (λ (rows : List Row). map cells_shown (sort_by (by_column 2) rows)) (filter_none (is_of id) (old.now.trees 2) (all_weaker (IsOwned old.now.trees) (λ r. is_of id r ≡ false) is_other (old.now.trees 2) (recursion_from_All (IsOwned old.now.trees) (old.now.trees 2) stand.owned)))
+  empty = ap (λ (rows : List Row). map shown_record (sort_by (by_column 2) rows)) (filter_none (is_of id) (old.now.trees 2) (all_weaker (IsOwned old.now.trees) (λ r. is_of id r ≡ false) is_other (old.now.trees 2) (recursion_from_All (IsOwned old.now.trees) (old.now.trees 2) stand.owned)))
 
   same_rows : (m : ℤ) → records_in new.now.trees m ≡ records_in old.now.trees m
-  same_rows m = ap (λ (rows : List Row). map cells_shown (records_of m rows)) has.records
+  same_rows m = ap (λ (rows : List Row). map shown_record (records_of m rows)) has.records
 
   pub stand_named : StandFor new.now.trees h
   stand_named = record {

@@ -14,3 +14,4 @@ pub mod StandLemmas
 pub mod StepLemmas
 pub mod SummaryLemmas
 pub mod WalkLemmas
+pub mod WholeLemmas

@@ -21,7 +21,7 @@ use Rattle.std.proofs.lemmas.List.Elements.{recursion_from_All}
 use Rattle.sqlite_keyed.proofs.ListLemmas.{all-filter}
 use Rattle.edf_tables.specs.Schema.{both_schema}
 use Rattle.edf_tables.specs.Row.{cells, named_cells, IsInside, HasRecord, HasRecording}
-use Rattle.edf_tables.specs.Records.{records_of, record_cells as cells_shown, starts_between, IsReady}
+use Rattle.edf_tables.specs.Records.{records_of, shown_record, starts_between, IsReady}
 use Rattle.edf_tables.specs.Recordings.{named, IsIdIn}
 use Rattle.edf_tables.proofs.CommitLemmas.{quiet_then}
 use Rattle.edf_tables.proofs.KeepLemmas.{keeps_then, same_left}
@@ -51,7 +51,7 @@ module _ (cap : ℕ) (old new : State) (P : Trees → Type 0) (s : Survives old 
 
   -- the rows near are those of the records near
   pub near_is : (id : ℤ) (start d : ℕ) (k : Key) (records : List DataRecord) → HasCleanDisk new → IsUnder old id k → d ≡ duration_of k.duration
-      → ((h : Holdings) → StandsInside cap old h → IsKey k → map cells_shown (filter (starts_between (pos start -ℤ pos d) (pos start +ℤ pos d)) (records_of id (old.now.trees 2))) ≡ map record_cells (near_of d start (h k)) → records ≡ near_of d start (h k))
+      → ((h : Holdings) → StandsInside cap old h → IsKey k → map shown_record (filter (starts_between (pos start -ℤ pos d) (pos start +ℤ pos d)) (records_of id (old.now.trees 2))) ≡ map record_cells (near_of d start (h k)) → records ≡ near_of d start (h k))
       → AreNearIn cap old id start records
   near_is id start d k records clean mine same read h q seen under =
       let it = seen (was_clean clean) in
