@@ -8,7 +8,8 @@ use Rattle.edf_header.proofs.Strides.{Tiles, tiles-fit, length-field, length-par
 use Rattle.edf_header.proofs.Keys.{rows-back}
 use Rattle.std.proofs.lemmas.List.Elements.{AllWithin-more, All-from_all_within}
 use Rattle.edf_field.specs.Number.{field}
-use Rattle.edf_header.specs.Signal.{IsFirstBad, column_of, fields, row_at, row_by, rows, rows_of, signals_of}
+use Rattle.edf_header.specs.Fields.{fields}
+use Rattle.edf_header.specs.Signal.{IsFirstBad, column_of, row_at, row_by, rows, rows_of, signals_of}
 
 pub length-rows : (n : ℕ) (bytes : List ℕ) → length (rows n bytes) ≡ n
 length-rows zero bytes = refl

@@ -248,6 +248,3 @@ impl Identity {
         &self.bytes[158..]
     }
 }
-
-#[cfg(test)]
-mod tests;

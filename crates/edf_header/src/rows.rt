@@ -3,6 +3,7 @@ ghost use Rattle.std.specs.Prelude.{◌≡◌, ℕ, ◌+◌, ◌*◌, ◌/◌, �
 ghost use Rattle.std.specs.List.{flat_map, slice_index_or};
 ghost use Rattle.edf_header.specs.Signal.{rows_of, ordinary, HasSamples, samples_in_all};
 
+use crate::fields::{SAMPLES, text_at};
 use crate::signal_checks::is_labelled;
 use edf_field::read_whole;
 use std::alloc::AllocError;
@@ -60,7 +61,7 @@ pub(crate) fn ordinary_samples(rows: &[u8]) -> u64
         if is_labelled(row) {
             continue;
         }
-        let Some(n) = read_whole(&row[216..224]) else {
+        let Some(n) = read_whole(text_at(row, SAMPLES)) else {
             continue;
         };
         total += u64::from(n);

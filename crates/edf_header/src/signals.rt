@@ -7,6 +7,7 @@ ghost use Rattle.edf_header.specs.Inside.Rows.{RowsFail, IsSplit, IsSound, AreEx
 
 use crate::columns::rows_from;
 use crate::fault::HeaderFault;
+use crate::fields::{DIGITAL_MAXIMUM, DIGITAL_MINIMUM, SAMPLES, text_at};
 use crate::fixed::Fixed;
 use crate::header::Header;
 use crate::identity::Identity;
@@ -28,7 +29,10 @@ fn is_annotations(row: &[u8]) -> bool
     requires { length row.now ≡ 256 }
     ensures { IsTrue result ↔ IsAnnotationsSignal row.now }
 {
-    match (read_signed(&row[120..128]), read_signed(&row[128..136])) {
+    match (
+        read_signed(text_at(row, DIGITAL_MINIMUM)),
+        read_signed(text_at(row, DIGITAL_MAXIMUM)),
+    ) {
         (Some(low), Some(high)) => {
             is_labelled(row) && has_physical(row) && low == -32_768 && high == 32_767
         }
@@ -73,7 +77,7 @@ fn extents_at(rows: &[u8], at: usize) -> Option<Extents>
         (λ extents. AreExtents (rows_of rows.now) at extents × ¬ IsTooLarge (rows_of rows.now)) }
 {
     let ordinary = 2 * ordinary_samples(rows);
-    let block = match read_whole(&row(rows, at)[216..224]) {
+    let block = match read_whole(text_at(row(rows, at), SAMPLES)) {
         Some(samples) => 2 * u64::from(samples),
         None => unreachable!(),
     };
@@ -152,6 +156,3 @@ pub fn read_signals(alloc: Global, fixed: Fixed, bytes: &[u8]) -> Result<Header,
         record_bytes: extents.record_bytes,
     })
 }
-
-#[cfg(test)]
-mod tests;

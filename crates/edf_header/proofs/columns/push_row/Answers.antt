@@ -1,7 +1,7 @@
 use Rattle.std.proofs.Common.{sym, ap, ◌∙◌, ◌++◌, ◌+◌, ◌*◌}
 use Rattle.std.proofs.lemmas.List.{append-nil}
 use Rattle.edf_field.specs.Number.{field}
-use Rattle.edf_header.specs.Signal.{fields}
+use Rattle.edf_header.specs.Fields.{fields}
 use Rattle.edf_header.proofs.RowSteps.{parts-step, parts-end}
 use Rattle.edf_header.proofs.columns.push_row.Goals as goal
 

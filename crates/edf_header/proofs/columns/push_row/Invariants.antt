@@ -1,5 +1,6 @@
 use Rattle.std.proofs.Common.{◌≡◌, ◌++◌, take}
-use Rattle.edf_header.specs.Signal.{fields, row_by}
+use Rattle.edf_header.specs.Fields.{fields}
+use Rattle.edf_header.specs.Signal.{row_by}
 use Rattle.edf_header.proofs.columns.push_row.Given as goal
 
 abbrev pub invariant-loop-at : goal.invariant-loop-at
