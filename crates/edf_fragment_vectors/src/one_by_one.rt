@@ -7,7 +7,11 @@ use edf_sample::{Source, file, patched, q};
 use edf_tal::TalFault;
 use std::alloc::Global;
 use std::io;
-use std::test::Fail;
+
+/// Whether an answer is the end.
+fn is_end(answer: &Result<Option<Record>, FragmentFault>) -> bool {
+    matches!(answer, Ok(None))
+}
 
 /// The data records, where as many are read as the header counts, and then the end is told twice.
 fn read_all(alloc: Global, bytes: &[u8], step: usize) -> Option<Vec<Record>> {
@@ -17,8 +21,9 @@ fn read_all(alloc: Global, bytes: &[u8], step: usize) -> Option<Vec<Record>> {
     for _ in 0..reader.header().count() {
         records.push(reader.next().ok()??).ok()?;
     }
-    let ended = matches!(reader.next(), Ok(None)) && matches!(reader.next(), Ok(None));
-    if ended && reader.into_header().count() as usize == records.len() {
+    let ended = is_end(&reader.next()) && is_end(&reader.next());
+    let count = reader.into_header().count() as usize;
+    if ended && count == records.len() {
         Some(records)
     } else {
         None
@@ -58,25 +63,25 @@ fn has_note(record: &Record, onset: u64, text: &str) -> bool {
     }
 }
 
+/// Whether Q and U are read in pieces of this size.
+fn are_read(alloc: Global, step: usize) -> Option<(bool, bool)> {
+    let q = read_all(alloc, &file_q(alloc).ok()?, step)?;
+    let u = read_all(alloc, &file_u(alloc).ok()?, step)?;
+    Some((are_those_of_q(&q), are_those_of_u(&u)))
+}
+
+/// The lengths of Q and U.
+fn lengths(alloc: Global) -> Option<(usize, usize)> {
+    Some((file_q(alloc).ok()?.len(), file_u(alloc).ok()?.len()))
+}
+
 #[test]
-fn a_fragment_in_pieces_of_any_size_is_read_the_same(rt: HostRuntime) -> Result<(), Fail> {
-    let q = file_q(rt.alloc())?;
-    let u = file_u(rt.alloc())?;
-    assert_eq!(rt; q.len(), 778);
-    assert_eq!(rt; u.len(), 1_004);
+fn a_fragment_in_pieces_of_any_size_is_read_the_same(rt: HostRuntime) {
+    assert_eq!(rt; lengths(rt.alloc()), Some((778, 1_004)));
     for step in [1usize, 7, 300, 4_096] {
-        match (
-            read_all(rt.alloc(), &q, step),
-            read_all(rt.alloc(), &u, step),
-        ) {
-            (Some(one), Some(two)) => {
-                assert!(rt; are_those_of_q(&one), "in pieces of {step}");
-                assert!(rt; are_those_of_u(&two), "in pieces of {step}");
-            }
-            _ => assert!(rt; false, "in pieces of {step}"),
-        }
+        let read = are_read(rt.alloc(), step);
+        assert_eq!(rt; read, Some((true, true)), "in pieces of {step}");
     }
-    Ok(())
 }
 
 /// What opening a fragment and then three calls tell: the fault of each, where there is one.
@@ -103,28 +108,41 @@ fn two_records(alloc: Global, second: &[u8]) -> Option<Vec<u8>> {
     patched(alloc, &first, 792, second).ok()
 }
 
+/// What reading them tells.
+fn told_of_two(alloc: Global, second: &[u8]) -> Option<Faults> {
+    let bytes = two_records(alloc, second)?;
+    Some(faults(alloc, Source::whole(&bytes, 100)))
+}
+
+/// How many there are.
+fn number_of_two(alloc: Global, second: &[u8]) -> Option<usize> {
+    Some(read_all(alloc, &two_records(alloc, second)?, 100)?.len())
+}
+
 #[test]
-fn a_record_that_begins_inside_the_one_before_is_refused(rt: HostRuntime) -> Result<(), Fail> {
+fn a_record_that_begins_inside_the_one_before_is_refused(rt: HostRuntime) {
     let order = FragmentFault::Tal {
         nth: 2,
         fault: TalFault::Order,
     };
     assert_eq!(rt; order.number(), 27);
-    for second in [b"+0.5\x14\x14".as_slice(), b"+0.999999999\x14\x14"] {
-        let bytes = two_records(rt.alloc(), second).ok_or("a file")?;
-        let told = faults(rt.alloc(), Source::whole(&bytes, 100));
-        let wanted = (None, [None, Some(order), Some(FragmentFault::Failed)]);
-        assert_eq!(rt; told, wanted, "at {second:?}");
+    let wanted = (None, [None, Some(order), Some(FragmentFault::Failed)]);
+    let early: [&[u8]; 2] = [b"+0.5\x14\x14", b"+0.999999999\x14\x14"];
+    for second in early {
+        assert_eq!(rt; told_of_two(rt.alloc(), second), Some(wanted));
     }
-    let bytes = two_records(rt.alloc(), b"+1\x14\x14").ok_or("a file")?;
-    let records = read_all(rt.alloc(), &bytes, 100).ok_or("a fragment")?;
-    assert_eq!(rt; records.len(), 2);
-    Ok(())
+    let touching = b"+1\x14\x14";
+    assert_eq!(rt; number_of_two(rt.alloc(), touching), Some(2));
+}
+
+/// What reading Q tells, where reads fail from an offset on.
+fn told_of_failing(alloc: Global, cut: usize, kind: io::ErrorKind) -> Option<Faults> {
+    let bytes = file_q(alloc).ok()?;
+    Some(faults(alloc, Source::failing(&bytes, cut, kind)))
 }
 
 #[test]
-fn a_failed_read_is_told_and_then_only_that_the_reader_failed(rt: HostRuntime) -> Result<(), Fail> {
-    let bytes = file_q(rt.alloc())?;
+fn a_failed_read_is_told_and_then_only_that_the_reader_failed(rt: HostRuntime) {
     let read = Some(FragmentFault::Read);
     let failed = Some(FragmentFault::Failed);
     for (cut, wanted) in [
@@ -139,11 +157,10 @@ fn a_failed_read_is_told_and_then_only_that_the_reader_failed(rt: HostRuntime) -
         (778, (None, [None, read, failed])),
     ] {
         for kind in [io::ErrorKind::BrokenPipe, io::ErrorKind::Interrupted] {
-            let told = faults(rt.alloc(), Source::failing(&bytes, cut, kind));
-            assert_eq!(rt; told, wanted, "at {cut}");
+            let told = told_of_failing(rt.alloc(), cut, kind);
+            assert_eq!(rt; told, Some(wanted), "at {cut}");
         }
     }
-    Ok(())
 }
 
 /// What opening Q tells with another text from an offset on, and cut to a length.

@@ -6,7 +6,6 @@ use edf_sample::named::{file_q, file_u};
 use edf_sample::{Source, patched};
 use edf_tal::TalFault;
 use std::alloc::Global;
-use std::test::Fail;
 
 /// Reads all the bytes.
 fn read(alloc: Global, bytes: &[u8]) -> Result<(Header, Vec<Record>), FragmentFault> {
@@ -21,27 +20,32 @@ fn fault_of(alloc: Global, bytes: &[u8]) -> Option<FragmentFault> {
     }
 }
 
-/// Whether the bytes are read with so many data records, and twice with one identity.
-fn is_read_twice(alloc: Global, bytes: &[u8], count: u32) -> Result<bool, FragmentFault> {
-    let (header, records) = read(alloc, bytes)?;
-    let (again, _) = read(alloc, bytes)?;
-    Ok(
-        header.count() == count
-            && records.len() == count as usize
-            && header.identity().same(again.identity()),
-    )
+/// Whether U is read with its two data records, and twice with one identity.
+fn is_read_twice(alloc: Global) -> Option<bool> {
+    let bytes = file_u(alloc).ok()?;
+    let (header, records) = read(alloc, &bytes).ok()?;
+    let (again, _) = read(alloc, &bytes).ok()?;
+    let same = header.identity().same(again.identity());
+    Some(same && header.count() == 2 && records.len() == 2)
 }
 
 #[test]
-fn a_whole_fragment_is_read(rt: HostRuntime) -> Result<(), Fail> {
-    let bytes = file_u(rt.alloc())?;
-    assert_eq!(rt; is_read_twice(rt.alloc(), &bytes, 2), Ok(true));
-    Ok(())
+fn a_whole_fragment_is_read(rt: HostRuntime) {
+    assert_eq!(rt; is_read_twice(rt.alloc()), Some(true));
+}
+
+/// The fault of Q, cut to a length.
+fn fault_of_cut_q(alloc: Global, len: usize) -> Option<FragmentFault> {
+    fault_of(alloc, file_q(alloc).ok()?.get(..len)?)
+}
+
+/// The fault of U, cut to a length.
+fn fault_of_cut_u(alloc: Global, len: usize) -> Option<FragmentFault> {
+    fault_of(alloc, file_u(alloc).ok()?.get(..len)?)
 }
 
 #[test]
-fn a_cut_fragment_is_told_by_what_is_cut(rt: HostRuntime) -> Result<(), Fail> {
-    let q = file_q(rt.alloc())?;
+fn a_cut_fragment_is_told_by_what_is_cut(rt: HostRuntime) {
     for (len, fault) in [
         (0usize, FragmentFault::Header(HeaderFault::Cut)),
         (255, FragmentFault::Header(HeaderFault::Cut)),
@@ -50,16 +54,14 @@ fn a_cut_fragment_is_told_by_what_is_cut(rt: HostRuntime) -> Result<(), Fail> {
         (768, FragmentFault::CutRecord { nth: 1 }),
         (777, FragmentFault::CutRecord { nth: 1 }),
     ] {
-        let front = q.get(..len).ok_or("bytes")?;
-        assert_eq!(rt; fault_of(rt.alloc(), front), Some(fault), "{len} bytes");
+        let told = fault_of_cut_q(rt.alloc(), len);
+        assert_eq!(rt; told, Some(fault), "{len} bytes");
     }
-    let u = file_u(rt.alloc())?;
+    let second = Some(FragmentFault::CutRecord { nth: 2 });
     for len in [886usize, 887, 1_003] {
-        let front = u.get(..len).ok_or("bytes")?;
-        let fault = FragmentFault::CutRecord { nth: 2 };
-        assert_eq!(rt; fault_of(rt.alloc(), front), Some(fault), "{len} bytes");
+        let told = fault_of_cut_u(rt.alloc(), len);
+        assert_eq!(rt; told, second, "{len} bytes");
     }
-    Ok(())
 }
 
 /// The fault of Q and one byte more, with another text from an offset on, cut to a length.

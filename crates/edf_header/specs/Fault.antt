@@ -3,7 +3,7 @@ use Rattle.std.specs.Prelude.{◌≡◌, ◌≢◌, ℕ, ◌+◌, ◌*◌, ◌�
 use Rattle.edf_time.specs.Civil.{IsDateText, IsTimeText}
 use Rattle.edf_field.specs.Number.{field, IsDuration, IsNumber}
 use Rattle.edf_field.specs.Text.{IsPrintable, IsPatient, IsRecording}
-use Rattle.edf_header.specs.Fields.{version_field, patient_field, recording_field, startdate_field, starttime_field, header_bytes_field, plus_field, count_field, duration_field, signals_field}
+use Rattle.edf_header.specs.Fields.{version_field, patient_field, recording_field, startdate_field, starttime_field, header_bytes_field, reserved_field, count_field, duration_field, signals_field}
 use Rattle.edf_header.specs.Signal.{signals_of, ordinary, samples_in_all, IsLabelled, IsAnnotationsSignal, Passes, IsFirstBad}
 use Rattle.edf_header.specs.Header.{IsSameDay, IsPlus}
 use Rattle.edf_header.specs.declared.signal_checks.Check.{Check}
@@ -36,7 +36,7 @@ FixedPartFails b Recording = (startdate : Option ℤ) (after : List ℕ) → ¬ 
 FixedPartFails b Startdate = (days : ℕ) → ¬ IsDateText (startdate_field b) days
 FixedPartFails b Starttime = (seconds : ℕ) → ¬ IsTimeText (starttime_field b) seconds
 FixedPartFails b DatesDiffer = DatesAreOther b
-FixedPartFails b NotPlus = ¬ IsPlus (plus_field b)
+FixedPartFails b NotPlus = ¬ IsPlus (reserved_field b)
 FixedPartFails b Count = ¬ HasCount b
 FixedPartFails b Duration = (nanos : ℕ) → ¬ IsDuration (duration_field b) nanos
 FixedPartFails b Signals = (n : ℕ) → ¬ HasSignals b n
@@ -110,6 +110,6 @@ IsHeaderFault bytes fault =
     IsFirst (FixedPartFails (take 256 bytes)) fault
     ⊎ ((n : ℕ) × IsClean (FixedPartFails (take 256 bytes)) 14 × HasSignals bytes n × IsFirst (SignalsFail (field bytes 256 (256 * n)) n) fault)
 
--- why the signal part is not read: want of memory, where its length and its bytes have no fault, or the first fault
+-- why the signal part is not read: want of memory, where it has no fault, or the first fault
 abbrev pub IsSignalsRefusal : List ℕ → ℕ → HeaderFault → Type 0
-IsSignalsRefusal s n fault = ((fault ≡ Memory) × IsClean (SignalsFail s n) 16) ⊎ IsFirst (SignalsFail s n) fault
+IsSignalsRefusal s n fault = ((fault ≡ Memory) × IsClean (SignalsFail s n) 21) ⊎ IsFirst (SignalsFail s n) fault

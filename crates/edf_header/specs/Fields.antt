@@ -21,8 +21,8 @@ starttime_field bytes = field bytes 176 8
 abbrev pub header_bytes_field : List ℕ → List ℕ
 header_bytes_field bytes = field bytes 184 8
 
-abbrev pub plus_field : List ℕ → List ℕ
-plus_field bytes = field bytes 192 44
+abbrev pub reserved_field : List ℕ → List ℕ
+reserved_field bytes = field bytes 192 44
 
 abbrev pub count_field : List ℕ → List ℕ
 count_field bytes = field bytes 236 8

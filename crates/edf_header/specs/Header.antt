@@ -3,7 +3,7 @@ use Rattle.std.specs.Prelude.{◌≡◌, ℕ, ◌+◌, ◌*◌, ◌%◌, ◌^◌
 use Rattle.edf_time.specs.Civil.{IsCivil, IsDateText, window}
 use Rattle.edf_field.specs.Number.{IsNumber, IsDuration}
 use Rattle.edf_field.specs.Text.{IsPrintable, IsPatient, IsBehindStartdate, IsRecording, after_of}
-use Rattle.edf_header.specs.Fields.{version_field, patient_field, recording_field, startdate_field, starttime_field, header_bytes_field, plus_field, count_field, duration_field, signals_field}
+use Rattle.edf_header.specs.Fields.{version_field, patient_field, recording_field, startdate_field, starttime_field, header_bytes_field, reserved_field, count_field, duration_field, signals_field}
 use Rattle.edf_header.specs.Signal.{signals_of, IsOrdinary, HasSamples, IsAnnotationsSignal, samples, samples_in_all}
 use Rattle.edf_header.specs.Key.{Key, IsKey}
 
@@ -75,7 +75,7 @@ pub record IsFixedHeader (bytes : List ℕ) (h : FixedPart) : Type 0 where
   pub start : IsCivil (startdate_field bytes) (starttime_field bytes) h.start
   pub same_day : (days : ℕ) → IsDateText (startdate_field bytes) days → IsSameDay h.startdate days
   pub header_bytes : IsNumber (header_bytes_field bytes) (256 + 256 * h.signal_count)
-  pub reserved : IsPlus (plus_field bytes)
+  pub reserved : IsPlus (reserved_field bytes)
   pub count : IsNumber (count_field bytes) h.count
   pub count_some : 1 ≤ h.count
   pub duration : h.duration ≡ duration_field bytes

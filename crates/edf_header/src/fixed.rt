@@ -120,9 +120,9 @@ fn fixed_of(
     requires duration { IsDuration (duration_field bytes.now) nanos }
     ensures { IsFixedHeader bytes.now result }
 {
-    let patient = field_at(bytes, PATIENT.0);
-    let recording = field_at(bytes, RECORDING.0);
-    let duration = field_at(bytes, DURATION.0);
+    let patient = field_at(bytes, PATIENT);
+    let recording = field_at(bytes, RECORDING);
+    let duration = field_at(bytes, DURATION);
     Fixed {
         patient,
         recording,

@@ -4,14 +4,14 @@ ghost use Rattle.std.specs.Prelude.{◌≡◌, ℕ, ◌+◌, ◌*◌, ◌≤◌,
 ghost use Rattle.edf_time.specs.Civil.{IsCivil, IsDateText};
 ghost use Rattle.edf_field.specs.Number.{field, IsDuration, IsNumber};
 ghost use Rattle.edf_field.specs.Text.{IsPrintable, IsPatient, IsRecording, after_of};
-ghost use Rattle.edf_header.specs.Fields.{version_field, patient_field, recording_field, startdate_field, starttime_field, header_bytes_field, plus_field, count_field, duration_field};
+ghost use Rattle.edf_header.specs.Fields.{version_field, patient_field, recording_field, startdate_field, starttime_field, header_bytes_field, reserved_field, count_field, duration_field};
 ghost use Rattle.edf_header.specs.Header.{IsPlus, IsSameDay};
 ghost use Rattle.edf_header.specs.Fault.{FixedPartFails, IsClean, IsFirst, HasSignals};
 
 use crate::fault::HeaderFault;
 use crate::fields::{
-    COUNT, DURATION, HEADER_BYTES, PATIENT, PLUS, RECORDING, SIGNALS, STARTDATE, STARTTIME,
-    VERSION, text_at,
+    COUNT, DURATION, FIXED_END, HEADER_BYTES, PATIENT, RECORDING, RESERVED, SIGNALS, STARTDATE,
+    STARTTIME, VERSION,
 };
 use crate::signal_checks::first_unprintable;
 use edf_field::{is_patient, read_duration, read_recording, read_whole};
@@ -46,7 +46,7 @@ pub(crate) fn check_version(bytes: &[u8; 256]) -> Result<(), HeaderFault>
         (λ _. (version_field bytes.now ≡ codes "0       ") × IsClean (FixedPartFails bytes.now) 4)
         (IsFirst (FixedPartFails bytes.now)) }
 {
-    if text_at(bytes, VERSION) != b"0       ".as_slice() {
+    if &bytes[VERSION..PATIENT] != b"0       ".as_slice() {
         return Err(HeaderFault::Version);
     }
     Ok(())
@@ -59,7 +59,7 @@ pub(crate) fn check_patient(bytes: &[u8; 256]) -> Result<(), HeaderFault>
         (λ _. IsPatient (patient_field bytes.now) × IsClean (FixedPartFails bytes.now) 5)
         (IsFirst (FixedPartFails bytes.now)) }
 {
-    if !is_patient(text_at(bytes, PATIENT)) {
+    if !is_patient(&bytes[PATIENT..RECORDING]) {
         return Err(HeaderFault::Patient);
     }
     Ok(())
@@ -74,7 +74,7 @@ pub(crate) fn read_startdate(bytes: &[u8; 256]) -> Result<Option<Day>, HeaderFau
         × IsClean (FixedPartFails bytes.now) 6)
         (IsFirst (FixedPartFails bytes.now)) }
 {
-    match read_recording(text_at(bytes, RECORDING)) {
+    match read_recording(&bytes[RECORDING..STARTDATE]) {
         Some((startdate, _)) => Ok(startdate),
         None => Err(HeaderFault::Recording),
     }
@@ -87,8 +87,8 @@ pub(crate) fn read_start(bytes: &[u8; 256]) -> Result<Instant, HeaderFault>
         (λ start. IsCivil (startdate_field bytes.now) (starttime_field bytes.now) start × IsClean (FixedPartFails bytes.now) 8)
         (IsFirst (FixedPartFails bytes.now)) }
 {
-    let date: [u8; 8] = field_at(bytes, STARTDATE.0);
-    let time: [u8; 8] = field_at(bytes, STARTTIME.0);
+    let date: [u8; 8] = field_at(bytes, STARTDATE);
+    let time: [u8; 8] = field_at(bytes, STARTTIME);
     match start_of(&date, &time) {
         Ok(start) => Ok(start),
         Err(StartFault::Date) => Err(HeaderFault::Startdate),
@@ -132,10 +132,10 @@ fn is_plus(reserved: &[u8]) -> bool
 pub(crate) fn check_plus(bytes: &[u8; 256]) -> Result<(), HeaderFault>
     requires { IsClean (FixedPartFails bytes.now) 9 }
     ensures { MatchResult result
-        (λ _. IsPlus (plus_field bytes.now) × IsClean (FixedPartFails bytes.now) 10)
+        (λ _. IsPlus (reserved_field bytes.now) × IsClean (FixedPartFails bytes.now) 10)
         (IsFirst (FixedPartFails bytes.now)) }
 {
-    if !is_plus(text_at(bytes, PLUS)) {
+    if !is_plus(&bytes[RESERVED..COUNT]) {
         return Err(HeaderFault::NotPlus);
     }
     Ok(())
@@ -148,7 +148,7 @@ pub(crate) fn read_count(bytes: &[u8; 256]) -> Result<u32, HeaderFault>
         (λ count. IsNumber (count_field bytes.now) count × (1 ≤ count) × IsClean (FixedPartFails bytes.now) 11)
         (IsFirst (FixedPartFails bytes.now)) }
 {
-    match read_whole(text_at(bytes, COUNT)) {
+    match read_whole(&bytes[COUNT..DURATION]) {
         Some(count) if count >= 1 => Ok(count),
         _ => Err(HeaderFault::Count),
     }
@@ -161,7 +161,7 @@ pub(crate) fn read_nanos(bytes: &[u8; 256]) -> Result<u64, HeaderFault>
         (λ nanos. IsDuration (duration_field bytes.now) nanos × ((n : ℕ) × IsDuration (duration_field bytes.now) n) × IsClean (FixedPartFails bytes.now) 12)
         (IsFirst (FixedPartFails bytes.now)) }
 {
-    match read_duration(text_at(bytes, DURATION)) {
+    match read_duration(&bytes[DURATION..SIGNALS]) {
         Some(nanos) => Ok(nanos),
         None => Err(HeaderFault::Duration),
     }
@@ -174,7 +174,7 @@ pub(crate) fn read_signal_count(bytes: &[u8; 256]) -> Result<u32, HeaderFault>
         (λ signals. HasSignals bytes.now signals × IsClean (FixedPartFails bytes.now) 13)
         (IsFirst (FixedPartFails bytes.now)) }
 {
-    match read_whole(text_at(bytes, SIGNALS)) {
+    match read_whole(&bytes[SIGNALS..FIXED_END]) {
         Some(signals) if 2 <= signals && signals <= 640 => Ok(signals),
         _ => Err(HeaderFault::Signals),
     }
@@ -188,7 +188,7 @@ pub(crate) fn check_header_bytes(bytes: &[u8; 256], signals: u32) -> Result<(), 
         (λ _. IsNumber (header_bytes_field bytes.now) (256 + 256 * signals))
         (IsFirst (FixedPartFails bytes.now)) }
 {
-    match read_whole(text_at(bytes, HEADER_BYTES)) {
+    match read_whole(&bytes[HEADER_BYTES..RESERVED]) {
         Some(len) if len == 256 + 256 * signals => Ok(()),
         _ => Err(HeaderFault::HeaderBytes),
     }

@@ -18,6 +18,7 @@ mod fields;
 mod fixed;
 mod fixed_fields;
 mod header;
+mod header_signals;
 mod identity;
 mod identity_checks;
 pub mod laws;

@@ -4,7 +4,8 @@ ghost use Rattle.edf_header.specs.Signal.{rows_of, HasPhysical, HasDigital, HasS
 ghost use Rattle.edf_header.specs.Inside.Shape.{has_label};
 
 use crate::fields::{
-    DIGITAL_MAXIMUM, DIGITAL_MINIMUM, LABEL, PHYSICAL_MAXIMUM, PHYSICAL_MINIMUM, SAMPLES, text_at,
+    DIGITAL_MAXIMUM, DIGITAL_MINIMUM, LABEL, PHYSICAL_MAXIMUM, PHYSICAL_MINIMUM, PREFILTERING,
+    SAMPLES, SIGNAL_RESERVED, TRANSDUCER,
 };
 use edf_field::{physical_values_differ, read_signed, read_whole};
 
@@ -27,8 +28,8 @@ pub(crate) fn has_physical(row: &[u8]) -> bool
     ensures { IsTrue result ↔ HasPhysical row.now }
 {
     physical_values_differ(
-        text_at(row, PHYSICAL_MINIMUM),
-        text_at(row, PHYSICAL_MAXIMUM),
+        &row[PHYSICAL_MINIMUM..PHYSICAL_MAXIMUM],
+        &row[PHYSICAL_MAXIMUM..DIGITAL_MINIMUM],
     )
 }
 
@@ -38,8 +39,8 @@ fn has_digital(row: &[u8]) -> bool
     ensures { IsTrue result ↔ HasDigital row.now }
 {
     match (
-        read_signed(text_at(row, DIGITAL_MINIMUM)),
-        read_signed(text_at(row, DIGITAL_MAXIMUM)),
+        read_signed(&row[DIGITAL_MINIMUM..DIGITAL_MAXIMUM]),
+        read_signed(&row[DIGITAL_MAXIMUM..PREFILTERING]),
     ) {
         (Some(low), Some(high)) => -32_768 <= low && low < high && high <= 32_767,
         _ => false,
@@ -51,7 +52,7 @@ fn has_samples(row: &[u8]) -> bool
     requires { length row.now ≡ 256 }
     ensures { IsTrue result ↔ HasSamples row.now }
 {
-    match read_whole(text_at(row, SAMPLES)) {
+    match read_whole(&row[SAMPLES..SIGNAL_RESERVED]) {
         Some(n) => n >= 1,
         None => false,
     }
@@ -63,11 +64,11 @@ pub(crate) fn is_labelled(row: &[u8]) -> bool
     ensures value { result ≡ has_label row.now }
     ensures label { IsTrue result ↔ IsLabelled row.now }
 {
-    text_at(row, LABEL) == b"EDF Annotations ".as_slice()
+    &row[LABEL..TRANSDUCER] == b"EDF Annotations ".as_slice()
 }
 
 /// Whether a signal passes a check.
-fn passes(check: Check, row: &[u8]) -> bool
+pub(crate) fn passes(check: Check, row: &[u8]) -> bool
     requires { length row.now ≡ 256 }
     ensures { IsTrue result ↔ Passes check row.now }
 {
