@@ -8,7 +8,8 @@ use Rattle.std.specs.Prelude.{All}
 use Rattle.std.specs.List.{flat_map}
 use Rattle.edf_field.specs.Number.{field}
 use Rattle.edf_field.specs.Text.{IsPrintable, spaces}
-use Rattle.edf_header.specs.Signal.{HasSamples, Passes, fields, ordinary, row_at, row_by, samples, samples_in_all, signals_of}
+use Rattle.edf_header.specs.Fields.{fields}
+use Rattle.edf_header.specs.Signal.{HasSamples, Passes, ordinary, row_at, row_by, samples, samples_in_all, signals_of}
 use Rattle.edf_header.specs.Key.{IsKey, Key, dated_bytes, key_bytes}
 use Rattle.edf_header.specs.Header.{AreSignals, FixedPart, HeaderRecord, IsFixed, key_of, layout_of, IsLayout}
 use Rattle.edf_header.specs.Inside.Shape.{key_from}

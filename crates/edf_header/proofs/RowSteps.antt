@@ -9,7 +9,8 @@ use Rattle.std.proofs.lemmas.Slice.{take-put_mid}
 use borrow.Rule.Slice.PartMut.{put_mid}
 use Rattle.std.proofs.lemmas.List.Elements.{AllWithin-more, All-from_all_within}
 use Rattle.edf_field.specs.Number.{field}
-use Rattle.edf_header.specs.Signal.{IsFirstBad, column_of, fields, row_at, row_by, rows, rows_of, signals_of}
+use Rattle.edf_header.specs.Fields.{fields}
+use Rattle.edf_header.specs.Signal.{IsFirstBad, column_of, row_at, row_by, rows, rows_of, signals_of}
 
 pub length-rows : (n : ℕ) (bytes : List ℕ) → length (rows n bytes) ≡ n
 length-rows zero bytes = refl

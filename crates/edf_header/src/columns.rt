@@ -1,22 +1,10 @@
 ghost use Rattle.std.specs.Prelude.{◌≡◌, ℕ, ◌+◌, ◌*◌, ◌/◌, ◌%◌, ◌≤◌, ◌<◌, List, [], ◌∷◌, ◌++◌, length, OnOk};
 ghost use Rattle.edf_field.specs.Number.{field};
-ghost use Rattle.edf_header.specs.Signal.{fields, column_of, columns, row_at, rows_of};
+ghost use Rattle.edf_header.specs.Fields.{fields};
+ghost use Rattle.edf_header.specs.Signal.{column_of, columns, row_at, rows_of};
 
+use crate::fields::ROW;
 use std::alloc::AllocError;
-
-/// Where each field of a signal stands in its row, and its width.
-const FIELDS: [(usize, usize); 10] = [
-    (0, 16),
-    (16, 80),
-    (96, 8),
-    (104, 8),
-    (112, 8),
-    (120, 8),
-    (128, 8),
-    (136, 80),
-    (216, 8),
-    (224, 32),
-];
 
 /// Writes one field of all signals in turn, those in rows and then the last.
 fn push_column(
@@ -45,7 +33,7 @@ pub(crate) fn push_columns(
 ) -> Result<(), AllocError>
     ensures { OnOk result (out.new.items ≡ out.old.items ++ columns (rows_of rows.now ++ last.now ∷ [])) }
 {
-    for (at, width) in &FIELDS {
+    for (at, width) in &ROW {
         push_column(out, rows, last, *at, *width)?;
     }
     Ok(())
@@ -71,7 +59,7 @@ pub(crate) fn row_from(bytes: &[u8], n: usize, i: usize) -> [u8; 256]
     ensures { result ≡ row_at bytes.now n i }
 {
     let mut row = [0; 256];
-    for (at, width) in &FIELDS {
+    for (at, width) in &ROW {
         row[*at..*at + *width].copy_from_slice(column(bytes, n, i, *at, *width));
     }
     row

@@ -4,6 +4,7 @@ ghost use Rattle.std.specs.List.{flat_map};
 ghost use Rattle.edf_header.specs.Signal.{signals_of, ordinary, HasSamples, Passes, IsFirstBad, samples_in_all};
 
 use crate::columns::row_from;
+use crate::fields::{SAMPLES, SIGNAL_RESERVED};
 use crate::signal_checks::{Check, is_labelled, passes};
 use edf_field::read_whole;
 use std::alloc::AllocError;
@@ -40,7 +41,7 @@ pub(crate) fn ordinary_samples_before(bytes: &[u8], n: usize, to: usize) -> u64
         if is_labelled(&row) {
             continue;
         }
-        let Some(samples) = read_whole(&row[216..224]) else {
+        let Some(samples) = read_whole(&row[SAMPLES..SIGNAL_RESERVED]) else {
             continue;
         };
         total += u64::from(samples);

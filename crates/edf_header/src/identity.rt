@@ -6,6 +6,7 @@ ghost use Rattle.edf_header.specs.Key.{Key, IsKey, dated_bytes, key_bytes, key_a
 ghost use Rattle.edf_header.specs.Identity.{HasLength, HasMark, signals_at, IsCleanKey, IsFirstKeyFault};
 ghost use Rattle.edf_header.specs.Inside.Shape.{key_from, place_of_check};
 
+use crate::fields::{KEY_DURATION, KEY_MARK, KEY_PATIENT, KEY_SIGNALS};
 use crate::fixed::Fixed;
 use crate::header_signals::push_ordinary;
 use crate::identity_checks::{KeyNumbers, after, check_key};
@@ -97,7 +98,7 @@ fn bytes_from(alloc: Global, fixed: &Fixed, signals: &[u8]) -> Result<Vec<u8>, A
     requires { length signals.now ≡ 256 * fixed.now.signal_count }
     ensures { IfOk result (λ v. v.items ≡ key_bytes (key_from fixed.now (ordinary (signals_of signals.now fixed.now.signal_count)))) }
 {
-    let mut bytes = Vec::with_capacity(alloc, 158)?;
+    let mut bytes = Vec::with_capacity(alloc, KEY_SIGNALS)?;
     bytes.extend_from_slice(fixed.patient())?;
     push_mark(&mut bytes, fixed.dated(), fixed.after())?;
     bytes.extend_from_slice(fixed.duration())?;
@@ -172,7 +173,7 @@ impl Identity {
     pub fn dated(&self) -> bool
         ensures { result ≡ self.now.dated }
     {
-        self.bytes[80] == b'D'
+        self.bytes[KEY_MARK] == b'D'
     }
 
     /// How many ordinary signals there are: 1 to 639.
@@ -180,7 +181,7 @@ impl Identity {
         ensures count { result ≡ length self.now.signals }
         ensures key { IsKey self.now }
     {
-        (self.bytes.len() - 158) / 256
+        (self.bytes.len() - KEY_SIGNALS) / 256
     }
 
     /// How many bytes the ordinary samples of a data record have, two for each.
@@ -206,7 +207,7 @@ impl Identity {
     pub fn patient_code(&self) -> &[u8]
         ensures { result.now ≡ patient_code self.now }
     {
-        match next_subfield(&self.bytes[0..80]) {
+        match next_subfield(&self.bytes[KEY_PATIENT..KEY_MARK]) {
             Some((code, _)) => code,
             None => unreachable!(),
         }
@@ -226,7 +227,7 @@ impl Identity {
     pub(crate) fn patient_field(&self) -> &[u8]
         ensures { result.now ≡ self.now.patient }
     {
-        &self.bytes[0..80]
+        &self.bytes[KEY_PATIENT..KEY_MARK]
     }
 
     /// What follows the Startdate subfield in the recording field: 59 bytes where the subfield is a date, else 69.
@@ -240,16 +241,13 @@ impl Identity {
     pub(crate) fn duration_field(&self) -> &[u8]
         ensures { result.now ≡ self.now.duration }
     {
-        &self.bytes[150..158]
+        &self.bytes[KEY_DURATION..KEY_SIGNALS]
     }
 
     /// The ordinary signals' headers, each in a row of 256 bytes.
     pub(crate) fn signal_rows(&self) -> &[u8]
         ensures { rows_of result.now ≡ self.now.signals }
     {
-        &self.bytes[158..]
+        &self.bytes[KEY_SIGNALS..]
     }
 }
-
-#[cfg(test)]
-mod tests;

@@ -14,8 +14,7 @@
 mod canonical;
 mod columns;
 mod fault;
-#[cfg(test)]
-mod filled;
+mod fields;
 mod fixed;
 mod fixed_fields;
 mod header;

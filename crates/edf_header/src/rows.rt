@@ -2,6 +2,7 @@
 ghost use Rattle.std.specs.Prelude.{◌≡◌, ◌*◌, ◌≤◌, length, All};
 ghost use Rattle.edf_header.specs.Signal.{rows_of, ordinary, HasSamples, samples_in_all};
 
+use crate::fields::{SAMPLES, SIGNAL_RESERVED};
 use crate::signal_checks::is_labelled;
 use edf_field::read_whole;
 
@@ -18,7 +19,7 @@ pub(crate) fn ordinary_samples(rows: &[u8]) -> u64
         if is_labelled(row) {
             continue;
         }
-        let Some(n) = read_whole(&row[216..224]) else {
+        let Some(n) = read_whole(&row[SAMPLES..SIGNAL_RESERVED]) else {
             continue;
         };
         total += u64::from(n);

@@ -7,6 +7,7 @@ ghost use Rattle.edf_header.specs.Inside.Rows.{RowsFail, IsSplit, IsSound, AreEx
 
 use crate::columns::row_from;
 use crate::fault::HeaderFault;
+use crate::fields::{DIGITAL_MAXIMUM, DIGITAL_MINIMUM, PREFILTERING, SAMPLES, SIGNAL_RESERVED};
 use crate::fixed::Fixed;
 use crate::header::Header;
 use crate::header_signals::{first_bad_from, ordinary_samples_before};
@@ -28,7 +29,10 @@ fn is_annotations(row: &[u8]) -> bool
     requires { length row.now ≡ 256 }
     ensures { IsTrue result ↔ IsAnnotationsSignal row.now }
 {
-    match (read_signed(&row[120..128]), read_signed(&row[128..136])) {
+    match (
+        read_signed(&row[DIGITAL_MINIMUM..DIGITAL_MAXIMUM]),
+        read_signed(&row[DIGITAL_MAXIMUM..PREFILTERING]),
+    ) {
         (Some(low), Some(high)) => {
             is_labelled(row) && has_physical(row) && low == -32_768 && high == 32_767
         }
@@ -77,7 +81,7 @@ fn extents_at(bytes: &[u8], n: usize, at: usize) -> Option<Extents>
         (λ extents. AreExtents (signals_of bytes.now n) at extents × ¬ IsTooLarge (signals_of bytes.now n)) }
 {
     let ordinary = 2 * ordinary_samples_before(bytes, n, n);
-    let block = match read_whole(&row_from(bytes, n, at)[216..224]) {
+    let block = match read_whole(&row_from(bytes, n, at)[SAMPLES..SIGNAL_RESERVED]) {
         Some(samples) => 2 * u64::from(samples),
         None => unreachable!(),
     };
@@ -155,6 +159,3 @@ pub fn read_signals(alloc: Global, fixed: Fixed, bytes: &[u8]) -> Result<Header,
         record_bytes: extents.record_bytes,
     })
 }
-
-#[cfg(test)]
-mod tests;

@@ -146,7 +146,8 @@ impl<'a> Header<'a> {
     }
 }
 
-fn push_field(file: &mut Vec<u8>, text: &[u8], width: usize) -> Result<(), AllocError> {
+/// Fills a field with spaces.
+pub(crate) fn push_field(file: &mut Vec<u8>, text: &[u8], width: usize) -> Result<(), AllocError> {
     file.extend_from_slice(text)?;
     for _ in text.len()..width {
         file.push(b' ')?;

@@ -1,6 +1,6 @@
 //! Files that the documents' examples speak of, spelled in the standards' words.
 
-use crate::files::{Header, file, q};
+use crate::files::{Header, file, push_field, q};
 use std::alloc::{AllocError, Global};
 
 const ZEROS: &[u8] = &[0; 128];
@@ -11,6 +11,30 @@ const Q_RECORD: &[u8] = b"\x01\x00\xff\xff+0\x14\x14\0\0";
 /// One data record of Q's recording from 2002-03-02 23:59:50, no annotation: 778 bytes. It is its own canonical file.
 pub fn file_q(alloc: Global) -> Result<Vec<u8>, AllocError> {
     file(alloc, &q(), &[Q_RECORD])
+}
+
+/// The bytes of the identity of Q's recording: 414 bytes.
+pub fn identity_q(alloc: Global) -> Result<Vec<u8>, AllocError> {
+    let mut bytes = Vec::new(alloc);
+    for (text, width) in [
+        ("P7 F 02-MAY-1951 X", 80usize),
+        ("D", 1),
+        (" N1 T3 REC5", 69),
+        ("1", 8),
+        ("EEG Fpz-Cz", 16),
+        ("AgAgCl electrode", 80),
+        ("uV", 8),
+        ("-440", 8),
+        ("510", 8),
+        ("-2048", 8),
+        ("2047", 8),
+        ("HP:0.1Hz LP:75Hz", 80),
+        ("2", 8),
+        ("", 32),
+    ] {
+        push_field(&mut bytes, text.as_bytes(), width)?;
+    }
+    Ok(bytes)
 }
 
 /// Q's recording on the third of March, from this time on.

@@ -1,5 +1,6 @@
 use Rattle.std.proofs.Common.{◌≡◌, length, take}
-use Rattle.edf_header.specs.Signal.{fields, row_by}
+use Rattle.edf_header.specs.Fields.{fields}
+use Rattle.edf_header.specs.Signal.{row_by}
 use Rattle.edf_header.proofs.columns.row_from.Given as goal
 
 abbrev pub invariant-loop-at : goal.invariant-loop-at
