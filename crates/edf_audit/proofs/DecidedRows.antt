@@ -24,7 +24,7 @@ use Rattle.edf_holdings.specs.Holdings.{Holdings}
 use Rattle.edf_tables.specs.Cells.{first_three}
 use Rattle.edf_rows.specs.Cells.{record_cells, recording_cells, recordings_in, by_column, records_in}
 use Rattle.edf_rows.specs.Rows.{IsOwned, AreTwoOf, AreOther, AreKept}
-use Rattle.edf_rows.specs.Foreign.{IsBadRow, AreNear, AreBadRecords, bad_row, too_near, too_few, too_many, IsForeign, bad_recording, bad_records, without_recording, twice}
+use Rattle.edf_rows.specs.Foreign.{IsBadRow, AreTooNear, AreBadRecords, bad_row, too_near, too_few, too_many, IsForeign, bad_recording, bad_records, without_recording, twice}
 use Rattle.edf_rows.specs.Shape.{HasRecords}
 use Rattle.edf_rows.proofs.RowsLemmas.{here, there}
 use Rattle.edf_rows.proofs.KeptLemmas.{two_later, first_two, held_of, are-kept}
@@ -50,7 +50,7 @@ rows_or k all (row ∷ rows) in_all shape =
       ]
     ]
 
-near_later : (row : Row) (rows : List Row) (d : ℕ) → AreNear rows d → AreNear (row ∷ rows) d
+near_later : (row : Row) (rows : List Row) (d : ℕ) → AreTooNear rows d → AreTooNear (row ∷ rows) d
 near_later row rows d n = record { a = n.a; b = n.b; two = two_later row n.a n.b rows n.two; first = n.first; second = n.second; a_start = n.a_start; b_start = n.b_start; order = n.order; near = n.near }
 
 falls : (m n : ℕ) → n < m → is_gt (value_cmp (Int (pos m)) (Int (pos n))) ≡ true
@@ -58,7 +58,7 @@ falls m n h = ap is_gt (value_cmp-Int (pos m) (pos n)) ∙ grind (arith, nat_tes
 
 -- rows in order lie a duration apart, or two neighbours do not
 apart_or : (k : Key) (low : ℕ) (r : DataRecord) (rs : List DataRecord) → AllByRecursion (IsSoundRecord k) (r ∷ rs) → IsAscending (λ a b. is_gt (by_column 0 a b) ≡ false) (map record_cells (r ∷ rs)) → low ≤ r.start
-    → AreSound k low (r ∷ rs) ⊎ AreNear (map record_cells (r ∷ rs)) (duration_of k.duration)
+    → AreSound k low (r ∷ rs) ⊎ AreTooNear (map record_cells (r ∷ rs)) (duration_of k.duration)
 apart_or k low r [] sound up from = inl (sound.0, from, tt)
 apart_or k low r (s ∷ rs) sound up from =
     let order : r.start ≤ s.start = elim (cases_lt s.start r.start) [ inl lt ↦ absurd (true≢false (sym (falls r.start s.start lt) ∙ up.0.0)) | inr le ↦ le ] in
@@ -89,7 +89,7 @@ records_or cap trees id k = go (rows_or k (records_in trees id) (records_in tree
     good (r ∷ rs) is sound =
         let up = subst (IsAscending (λ a b. is_gt (by_column 0 a b) ≡ false)) is (by_start trees id) in
         elim (apart_or k 0 r rs sound up (omega arith)) [
-          | inr near ↦ inl (too_near (subst (λ (rows : List Row). AreNear rows (duration_of k.duration)) (sym is) near))
+          | inr near ↦ inl (too_near (subst (λ (rows : List Row). AreTooNear rows (duration_of k.duration)) (sym is) near))
           | inl apart ↦ elim (cases_lt cap (length (r ∷ rs))) [
             | inl more ↦ inl (too_many (let n = ap length is in let m = length-map (r ∷ rs) record_cells in omega (arith, n, m, more)))
             | inr few ↦ inr (record { records = r ∷ rs; sound = apart; shown = is; some = some_rows (record_cells r) (map record_cells rs) (records_in trees id) is; few = few })
