@@ -68,7 +68,7 @@ none_at p (r ∷ rows) row h c = go (p r) refl (cases_first r row rows c) (none_
     go false e (inl s) more = ap p (sym s) ∙ e
     go false e (inr c) more = more (rw e at h) c
 
-all_at : (P : Row → Type 0) (rows : List Row) (row : Row) → AllByRecursion P rows → Contains rows row → P row
+pub all_at : (P : Row → Type 0) (rows : List Row) (row : Row) → AllByRecursion P rows → Contains rows row → P row
 all_at P [] row all c = absurd (no_member row c)
 all_at P (r ∷ rows) row all c = go (cases_first r row rows c) (all_at P rows row all.1)
   where

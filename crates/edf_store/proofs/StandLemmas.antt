@@ -1,12 +1,12 @@
 -- What the tables stand for with one row more.
-use Rattle.std.proofs.Common.{◌≡◌, ◌≢◌, ℕ, ◌+◌, ◌<◌, ◌≤◌, ℤ, pos, ◌⊎◌, inl, inr, Bool, true, false, cond, List, [], ◌∷◌, map, length, filter, Contains, All, IsTrue, IsPermutation, refl, sym, ap, subst, ◌∙◌, arith, true≢false, is_eq, Ordering, Less, Equal, Greater}
+use Rattle.std.proofs.Common.{◌≡◌, ◌≢◌, ℤ, pos, ◌⊎◌, inl, inr, Bool, true, false, List, [], ◌∷◌, map, Contains, All, IsTrue, refl, sym, ap, subst, ◌∙◌, true≢false, is_eq, Ordering, Less, Equal, Greater}
 use Rattle.std.specs.List.{AllByRecursion}
 use Rattle.std.specs.Ordering.{int_cmp}
 use Rattle.std.specs.Cmp.{int_cmp_is}
-use Rattle.std.proofs.lemmas.Bool.{cond-true, cond-false, cases_Bool}
-use Rattle.std.proofs.lemmas.List.Elements.{All-from_recursion, recursion_from_All, All-contains}
+use Rattle.std.proofs.lemmas.Bool.{cond-false, cases_Bool}
+use Rattle.std.proofs.lemmas.List.Elements.{All-from_recursion, recursion_from_All}
 use Rattle.std.proofs.lemmas.Map.Lookups.{exact_signed}
-use Rattle.sqlite_value.specs.declared.value.Value.TheVariants.{Int, Blob}
+use Rattle.sqlite_value.specs.declared.value.Value.TheVariants.{Int}
 use Rattle.sqlite_value.specs.Order.{Row, column}
 use Rattle.sqlite_trees.specs.Tree.{Trees}
 use Rattle.sqlite_keyed.proofs.ListLemmas.{all_weaker}
@@ -14,17 +14,17 @@ use Rattle.sqlite_value.proofs.OrderLemmas.{value_cmp_total}
 use Rattle.std.proofs.lemmas.Cmp.{tied_itself}
 use Rattle.sqlite.specs.State.{State}
 use Rattle.edf_field.specs.Number.{duration_of}
-use Rattle.edf_header.specs.Key.{Key, IsKey}
+use Rattle.edf_header.specs.Key.{Key}
 use Rattle.edf_tal.specs.Canonical.{block_text}
 use Rattle.edf_fragment.specs.Fragment.{DataRecord}
 use Rattle.edf_holdings.specs.Same.{same_key}
 use Rattle.edf_holdings.specs.Clash.{near_of}
 use Rattle.edf_holdings.specs.Rising.{inserted, joined}
 use Rattle.edf_holdings.specs.Holdings.{Holdings, put}
-use Rattle.edf_holdings.proofs.Same.{same_key-true, same_key-refl, same_key-Decides}
+use Rattle.edf_holdings.proofs.Same.{same_key-true, same_key-Decides}
 use Rattle.edf_holdings.proofs.Joining.{lasting, put_here}
 use Rattle.edf_tables.specs.Row.{cells, new_row, HasRecord}
-use Rattle.edf_tables.specs.Records.{records_of, shown_record, by_column}
+use Rattle.edf_tables.specs.Records.{records_of, shown_record}
 use Rattle.edf_tables.proofs.HeldLemmas.{own_records, other_records}
 use Rattle.edf_rows.specs.Cells.{record_cells, recording_cells, recordings_in, records_in, is_of}
 use Rattle.edf_rows.specs.Rows.{IsThere, IsRecording, IsOwned, AreTwoOf, AreOther, StandFor}

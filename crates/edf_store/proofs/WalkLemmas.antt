@@ -1,9 +1,8 @@
 -- One step of a walk over the records of a recording.
-use Rattle.std.proofs.Common.{◌≡◌, ◌≢◌, ℕ, zero, suc, ◌+◌, ◌<◌, ◌≤◌, ℤ, pos, List, [], ◌∷◌, ◌++◌, map, filter, length, take, drop, slice_get, Option, Some, None, MatchOption, ◌<ℤ◌, refl, sym, ap, subst, ◌∙◌, arith}
-use Rattle.std.specs.List.{AllByRecursion}
+use Rattle.std.proofs.Common.{◌≡◌, ℕ, zero, suc, ◌+◌, ◌≤◌, ℤ, pos, List, [], ◌∷◌, ◌++◌, map, filter, length, take, drop, slice_get, Option, Some, None, MatchOption, ◌<ℤ◌, refl, sym, ap, subst, ◌∙◌, arith}
 use Rattle.std.proofs.lemmas.List.Elements.{recursion_from_All}
 use Rattle.sqlite.specs.Effect.{Database}
-use Rattle.sqlite.specs.State.{State, HasCleanDisk, Survives, IsUnchanged}
+use Rattle.sqlite.specs.State.{State, HasCleanDisk, IsUnchanged}
 use Rattle.edf_header.specs.Key.{Key, IsKey}
 use Rattle.edf_fragment.specs.Fragment.{DataRecord}
 use Rattle.edf_fragment.specs.Sound.{IsSoundRecord}
@@ -13,7 +12,7 @@ use Rattle.edf_tables.specs.declared.row.RecordRow.{RecordRow}
 use Rattle.edf_tables.specs.Records.{records_of, shown_record, starts_after, IsReady}
 use Rattle.edf_rows.specs.Cells.{record_cells}
 use Rattle.edf_rows.specs.Rows.{IsThere, AreKept}
-use Rattle.edf_store.specs.Walk.{StandsBehind, IsBehind, StandsSomewhere, IsStep, starts_behind}
+use Rattle.edf_store.specs.Walk.{StandsBehind, StandsSomewhere}
 use Rattle.edf_store.proofs.NearLemmas.{behind_shown, behind_place, behind_start, rows_rising}
 use Rattle.edf_store.proofs.KeysReadLemmas.{all_place}
 use Rattle.edf_store.specs.Shape.{IsSettled, IsFoundIn}

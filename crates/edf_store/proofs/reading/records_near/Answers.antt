@@ -1,7 +1,6 @@
-use Rattle.std.proofs.Common.{◌≡◌, ◌<◌, ◌^◌, rules, w64, pos, to_z, ◌-ℤ◌, ◌+ℤ◌, FitsSigned, arith, refl, ◌∙◌}
+use Rattle.std.proofs.Common.{w64, pos, ◌-ℤ◌, ◌+ℤ◌, FitsSigned, arith, refl, ◌∙◌}
 use Rattle.std.proofs.lemmas.Int.{to_z-of_z, ints}
 use Rattle.sqlite.specs.Held.{state}
-use Rattle.edf_field.specs.Number.{duration_of}
 use Rattle.edf_holdings.specs.Clash.{near_of}
 use Rattle.edf_store.proofs.DecodeLemmas.{nat_fits, fits_sub}
 use Rattle.edf_store.proofs.DurationLemmas.{duration_small}

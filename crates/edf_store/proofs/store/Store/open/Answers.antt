@@ -1,4 +1,4 @@
-use Rattle.std.proofs.Common.{◌≡◌, refl, inl, inr}
+use Rattle.std.proofs.Common.{refl, inl, inr}
 use Rattle.edf_store.proofs.OpenLemmas.{opened}
 use Rattle.edf_store.proofs.store.Store.open.Goals as goal
 
