@@ -14,6 +14,8 @@ mod help;
 mod matches;
 mod order;
 mod place;
+#[cfg(test)]
+mod tests;
 
 pub use command_line::parse;
 pub use fault::CommandFault;
