@@ -160,7 +160,7 @@ def shrinking(bench: Bench) -> None:
         whole = whole or time.perf_counter() - begun
         measure.remove_store(store)
         size = bench.rng.randrange(len(data))
-        cut = threading.Timer(bench.rng.uniform(0, whole), os.truncate, (given, size))
+        cut = threading.Timer(bench.rng.uniform(0, whole) * bench.rng.random(), os.truncate, (given, size))
         cut.start()
         told = bench.ran("take", store, given)
         cut.join()
