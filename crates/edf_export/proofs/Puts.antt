@@ -3,7 +3,7 @@ use Rattle.std.proofs.Common.{◌≡◌, ℕ, List, [], ◌++◌, take, drop, re
 use Rattle.std.specs.Io.KnownBytes.{Appends}
 use Rattle.std.proofs.KnownBytes.{Appends-trans, Appends-nil}
 use Rattle.edf_fragment.specs.Failures.{one_more}
-use Rattle.edf_export.specs.Inside.Output.{Buffered, Writes, CountsOutputFault, IsPut, IsFlushed, IsSent}
+use Rattle.edf_export.specs.Inside.Output.{Buffered, Writes, CountsOutputFault, IsPut, IsFlushed}
 use Rattle.edf_export.specs.Export.{WritesFront}
 use Rattle.edf_export.specs.declared.fault.OutputFault.{OutputFault}
 use Rattle.edf_export.specs.declared.fault.OutputFault.TheVariants.{Write}
@@ -119,19 +119,3 @@ sends-through a b c bytes u f held wrote same = put-flushed a b c bytes (Ok u) u
 pub fails-through : (a b c : Buffered) (bytes : List ℕ) (n : ℕ) (u : Unit {0}) → IsFlushed a b (Ok u) → Appends b.contents c.contents (take n bytes) → c.failures ≡ one_more b.failures
     → IsPut a c bytes (Err Write)
 fails-through a b c bytes n u f wrote counts = put-flushed a b c bytes (Err Write) u f (send-failed b c bytes n f.1 wrote, counts)
-
--- ---- from an empty buffer
-
-pub sent-fails : (a b : Buffered) (x more all : List ℕ) (fault : OutputFault) → a.held ≡ [] → all ≡ x ++ more → IsPut a b x (Err fault)
-    → IsSent a.contents b.contents a.failures b.failures all (Err fault)
-sent-fails a b x more all fault none is p = (front-written a b x all more p.0.0 none is p.0.1, p.1)
-
-pub sent-flushed : (a b c : Buffered) (bytes : List ℕ) (result : Result (Unit {0}) OutputFault) → a.held ≡ [] → Writes a b bytes b.held → b.failures ≡ a.failures → IsFlushed b c result
-    → IsSent a.contents c.contents a.failures c.failures bytes result
-sent-flushed a b c bytes (Ok u) none w same f =
-    (all-written a c bytes none (subst (λ (l : List ℕ). Writes a c l []) (append-nil bytes) (writes-then a b c bytes [] [] w f.0)), f.2 ∙ same)
-sent-flushed a b c bytes (Err fault) none w same f =
-    let p = writes-then a b c bytes [] f.0.0 w f.0.1 in (
-      front-written a c (bytes ++ []) bytes [] f.0.0 none (sym (append-nil bytes) ∙ sym (append-nil (bytes ++ []))) p,
-      subst (CountsOutputFault a.failures c.failures) (sym f.1) (f.2 ∙ ap one_more same),
-    )

@@ -39,7 +39,7 @@ impl ExportFault {
 
 /// Why bytes could not be put out.
 #[derive(Clone, Copy, Debug, PartialEq, Eq, Drop, Error)]
-pub enum OutputFault {
+pub(crate) enum OutputFault {
     /// A write failed, or took none of some bytes.
     #[error("a write failed")]
     Write,

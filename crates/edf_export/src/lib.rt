@@ -5,15 +5,13 @@
 //! - [`laws`]: sound records have one canonical file, which is read again; functions that do nothing, each with a law for a contract.
 #![tactic(auto)]
 
-mod blocks;
+mod data_record;
 mod fault;
-mod file;
 pub mod laws;
 mod output;
 mod plan;
 mod recording;
 mod writing;
 
-pub use fault::{ExportFault, OutputFault};
-pub use file::write_file;
+pub use fault::ExportFault;
 pub use recording::export;

@@ -12,8 +12,8 @@ ghost use Rattle.edf_export.specs.Export.{IsExported, IsNotExported};
 ghost use Rattle.edf_export.specs.Inside.Output.{buffered};
 ghost use Rattle.edf_export.specs.Inside.Walks.{refusal_of, IsPlanOf, IsPutOut, IsSentOut, CountsWriting};
 
+use crate::data_record::put_record;
 use crate::fault::{ExportFault, OutputFault};
-use crate::file::put_record;
 use crate::output::{flush, put};
 use crate::plan::Plan;
 use edf_fragment::{Output, Record};

@@ -25,7 +25,7 @@ returns-clause-exported g c clean h held plan =
     subst (λ (t : List ℕ). IsCanonicalHeader t k c.args.plan.first c.args.plan.records c.args.plan.samples) (sym c.as_slice.ensures.value) c.in-Ok.ensures in
     let len : c.len.result ≡ length text = omega (arith, c.len.ensures, c.in-Ok.header.ok.0, ap (λ (l : List ℕ). length l) c.as_slice.ensures.value) in
     let whole : c.len.result + c.args.plan.records * (c.ordinary_bytes.result + 2 * c.args.plan.samples)
-        ≡ length text + c.args.plan.records * (2 * samples_in_all k.signals + 2 * c.args.plan.samples) =
+    ≡ length text + c.args.plan.records * (2 * samples_in_all k.signals + 2 * c.args.plan.samples) =
     ap (λ n. n + c.args.plan.records * (c.ordinary_bytes.result + 2 * c.args.plan.samples)) len
     ∙ ap (λ n. length text + c.args.plan.records * (n + 2 * c.args.plan.samples)) c.ordinary_bytes.ensures.value in
     exported _ _ k (h k) c.args.plan text _ plan is-header (c.in-Ok-send_recording.ensures.sent clean h held plan) whole

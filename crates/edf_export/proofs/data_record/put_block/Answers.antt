@@ -3,7 +3,7 @@ use Rattle.edf_tal.specs.Tal.{Annotation}
 use Rattle.edf_tal.specs.Canonical.{block_text}
 use Rattle.edf_export.specs.File.{block_of}
 use Rattle.edf_export.proofs.Puts.{holds-none, put-then, put-stops}
-use Rattle.edf_export.proofs.file.put_block.Goals as goal
+use Rattle.edf_export.proofs.data_record.put_block.Goals as goal
 
 filled-is : (text block : List ℕ) (size len : ℕ) → text ≡ block → len ≡ length block
     → block ++ replicate {A = ℕ} (size - length block) 0 ≡ text ++ replicate {A = ℕ} (size - len) 0

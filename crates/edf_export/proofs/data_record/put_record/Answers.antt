@@ -1,7 +1,7 @@
 use Rattle.std.proofs.Common.{◌++◌, ℕ, List, ap, sym}
 use Rattle.edf_export.specs.File.{filled_block}
 use Rattle.edf_export.proofs.Puts.{put-then, put-stops}
-use Rattle.edf_export.proofs.file.put_record.Goals as goal
+use Rattle.edf_export.proofs.data_record.put_record.Goals as goal
 
 pub returns-in-Ok : goal.returns-in-Ok
 returns-in-Ok g c =
