@@ -1,4 +1,5 @@
-//! Loops over the signals of a header, whose fields stand in columns. Each signal in turn is laid out in a row; no memory is taken.
+//! Loops over the signals of a header, whose fields stand in columns. Each signal in turn is laid out in a row on the stack, so that
+//! the checks take no memory.
 ghost use Rattle.std.specs.Prelude.{◌≡◌, ℕ, ◌+◌, ◌*◌, ◌≤◌, ◌<◌, ◌++◌, List, length, take, drop, OnOk, MatchOption, All};
 ghost use Rattle.std.specs.List.{flat_map};
 ghost use Rattle.edf_header.specs.Signal.{signals_of, ordinary, HasSamples, Passes, IsFirstBad, samples_in_all};
