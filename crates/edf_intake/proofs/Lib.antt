@@ -1,1 +1,9 @@
 pub mod Ending
+pub mod Passed
+pub mod Walking
+pub mod Steps
+pub mod Taking
+pub mod Finding
+pub mod Conflicts
+pub mod Halting
+pub mod Wholes

@@ -1,5 +1,5 @@
 -- What a submission answers, and what it leaves.
-use Rattle.std.specs.Prelude.{◌≡◌, ◌≢◌, ◌⊎◌, ℕ, List, Ok, Err, IsTrue}
+use Rattle.std.specs.Prelude.{◌≡◌, ◌≢◌, ◌⊎◌, List, None, Ok, Err}
 use Rattle.sqlite_trees.specs.declared.store.Store.{Ghosts}
 use Rattle.sqlite_trees.specs.Tree.{Trees}
 use Rattle.sqlite.specs.State.{HasCleanDisk, Survives}
@@ -17,6 +17,10 @@ use Rattle.edf_intake.specs.Refusal.{Answer}
 use Rattle.edf_intake.specs.Source.{Source, Hears, ReadsWhole, FailsToRead, ReadsFront}
 use Rattle.edf_intake.specs.declared.receipt.Receipt.{Receipt}
 use Rattle.edf_intake.specs.declared.refusal.Refusal.TheVariants as refusal
+
+-- the answer of a store whose connection was found in a transaction: E42 without a cause
+abbrev pub found_busy : Answer
+found_busy = Err (refusal.Store (store.Store None))
 
 module _ {S : Type 0} (g : Ghosts S) (old new : Kept S) where
   -- whatever the store held, this is the reply to what is told

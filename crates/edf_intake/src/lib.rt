@@ -9,10 +9,14 @@
 #![tactic(auto)]
 
 mod batch;
+mod fragment;
 pub mod laws;
 mod receipt;
 mod refusal;
+mod step;
 mod submission;
+mod tally;
+mod walk;
 
 pub use batch::submit_all;
 pub use edf_holdings::{Clash, clash};

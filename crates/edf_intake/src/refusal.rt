@@ -1,4 +1,5 @@
-ghost use Rattle.std.specs.Prelude.{◌≡◌};
+ghost use Rattle.std.specs.Prelude.{◌≡◌, ◌≢◌};
+ghost use Rattle.edf_intake.specs.Inside.Halt.{refusal_by};
 ghost use Rattle.edf_intake.specs.Refusal.{refusal_number};
 
 use edf_fragment::FragmentFault;
@@ -47,5 +48,36 @@ impl Refusal {
             Refusal::Memory => 41,
             Refusal::Store(fault) => fault.number(),
         }
+    }
+}
+
+/// Why a submission is not accepted, before its transaction is given up.
+#[derive(Clone, Copy)]
+pub(crate) enum Stop {
+    /// Its fragment is refused so, or could not be read.
+    Input(Refusal),
+    /// A call of the store was refused.
+    Store(StoreFault),
+}
+
+/// The refusal for a fault of the fragment. A failed read and want of memory have their own.
+pub(crate) fn refusal_by(fault: FragmentFault) -> Refusal
+    ensures { result ≡ refusal_by fault }
+{
+    match fault {
+        FragmentFault::Read => Refusal::Read,
+        FragmentFault::Memory => Refusal::Memory,
+        fault => Refusal::Form(fault),
+    }
+}
+
+/// The refusal for a fault of the store. Want of memory has its own.
+pub(crate) fn refusal_of(fault: StoreFault) -> Refusal
+    ensures memory { fault ≡ StoreFault.Memory → result ≡ Refusal.Memory }
+    ensures other { fault ≢ StoreFault.Memory → result ≡ Refusal.Store fault }
+{
+    match fault {
+        StoreFault::Memory => Refusal::Memory,
+        fault => Refusal::Store(fault),
     }
 }

@@ -1,26 +1,16 @@
 //! One submission.
 
-ghost use Rattle.std.specs.Prelude.{◌≡◌, ◌≢◌, None, Err, IsTrue};
+ghost use Rattle.std.specs.Prelude.{◌≡◌, IsTrue};
 ghost use Rattle.edf_store.specs.Held.{at};
-ghost use Rattle.edf_intake.specs.Submitted.{IsSubmitted};
+ghost use Rattle.edf_intake.specs.Submitted.{IsSubmitted, found_busy};
 
+use crate::fragment::take_fragment;
 use crate::receipt::Receipt;
-use crate::refusal::Refusal;
+use crate::refusal::{Refusal, Stop, refusal_of};
 use edf_fragment::Input;
-use edf_store::{Store, StoreFault};
+use edf_store::Store;
 use sqlite::Alter;
 use std::alloc::Global;
-
-/// The refusal for a fault of the store. Want of memory has its own.
-fn refusal_of(fault: StoreFault) -> Refusal
-    ensures memory { fault ≡ StoreFault.Memory → result ≡ Refusal.Memory }
-    ensures other { fault ≢ StoreFault.Memory → result ≡ Refusal.Store fault }
-{
-    match fault {
-        StoreFault::Memory => Refusal::Memory,
-        fault => Refusal::Store(fault),
-    }
-}
 
 /// Submits one fragment, which is accepted whole or refused whole.
 ///
@@ -45,15 +35,25 @@ pub fn submit<S: Alter, R: Input>(
     ensures submitted { IsSubmitted S.Store store.old store.new
         (record { left = R.remaining input.old; failed = R.failures input.old })
         (record { left = R.remaining input.new; failed = R.failures input.new }) result }
-    ensures busy { IsTrue (at S.Store store.old).in_transaction → (input.new ≡ input.old) × (result ≡ Err (Refusal.Store (StoreFault.Store None))) }
+    ensures busy { IsTrue (at S.Store store.old).in_transaction → (input.new ≡ input.old) × (result ≡ found_busy) }
 {
-    let _ = alloc;
-    let _ = input;
-    match store.transaction() {
-        Ok(transaction) => match transaction.give_up() {
-            Ok(()) => Err(Refusal::Memory),
+    let cap = store.cap();
+    let mut transaction = match store.transaction() {
+        Ok(transaction) => transaction,
+        Err(fault) => return Err(refusal_of(fault)),
+    };
+    match take_fragment(alloc, &mut transaction, cap, input) {
+        Ok(receipt) => match transaction.commit() {
+            Ok(()) => Ok(receipt),
             Err(fault) => Err(refusal_of(fault)),
         },
-        Err(fault) => Err(refusal_of(fault)),
+        Err(Stop::Input(refusal)) => match transaction.give_up() {
+            Ok(()) => Err(refusal),
+            Err(fault) => Err(refusal_of(fault)),
+        },
+        Err(Stop::Store(fault)) => {
+            let _ = transaction.give_up();
+            Err(refusal_of(fault))
+        }
     }
 }
