@@ -1,0 +1,11 @@
+mod crashes;
+mod cuts;
+mod exports;
+mod lists;
+mod memory;
+mod night;
+mod orders;
+mod receipts;
+mod shelf;
+mod stage;
+mod writers;
