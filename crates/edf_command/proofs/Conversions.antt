@@ -13,18 +13,18 @@ use Rattle.edf_fragment.specs.Whole.{ReadsFragment, IsFirstWhereKnown, IsFragmen
 use Rattle.edf_fragment.specs.declared.fault.FragmentFault.{FragmentFault}
 use Rattle.edf_fragment.specs.declared.fault.FragmentFault.TheVariants.{Header as BadHeader, CutRecord, Tal, Trailing, Read, Memory, Failed}
 use Rattle.edf_fragment.proofs.OneFragment.{spelled-no-fault}
-use Rattle.edf_command.specs.File.{IsCanonicalFile, IsLaidOut}
-use Rattle.edf_command.specs.Inside.Output.{IsFileWritten, IsFileBegun, CountsOutputFault}
-use Rattle.edf_command.specs.declared.fault.OutputFault.{OutputFault}
-use Rattle.edf_command.specs.declared.fault.OutputFault.TheVariants.{Write, Memory as NoRoom}
+use Rattle.edf_export.specs.File.{IsCanonicalFile, IsLaidOut}
+use Rattle.edf_export.specs.Inside.Output.{IsFileWritten, IsFileBegun, CountsOutputFault}
+use Rattle.edf_export.specs.declared.fault.OutputFault.{OutputFault}
+use Rattle.edf_export.specs.declared.fault.OutputFault.TheVariants.{Write, Memory as NoRoom}
 use Rattle.edf_command.specs.declared.fault.ConvertFault.{ConvertFault}
 use Rattle.edf_command.specs.declared.fault.ConvertFault.TheVariants.{Write as WriteTold, Memory as MemoryTold}
 use Rattle.edf_command.specs.Convert.{IsConverted, IsNotConverted, RefusesInput, SpellsNothing, StopsWriting, refusal_of}
 use Rattle.edf_fragment.specs.Sound.{AreSound}
 use Rattle.edf_fragment.proofs.Sound.{spelled-key, spelled-sound, spelled-few}
-use Rattle.edf_command.proofs.Files.{canonical, one-file}
-use Rattle.edf_command.proofs.SomeFile.{spelled-file}
-use Rattle.edf_command.proofs.Written.{front-of-file}
+use Rattle.edf_export.proofs.Files.{canonical, one-file}
+use Rattle.edf_export.proofs.SomeFile.{spelled-file}
+use Rattle.edf_export.proofs.Written.{front-of-file}
 
 sound-sizes : (k : Key) (low : ℕ) (rs : List DataRecord) → AreSound k low rs → All (λ r. length r.samples ≡ 2 * samples_in_all k.signals) rs
 sound-sizes k low [] are = All-nil (λ r. length r.samples ≡ 2 * samples_in_all k.signals)
@@ -110,8 +110,3 @@ not-written left rest before after l records reads new-reads writes new-writes W
 not-written left rest before after l records reads new-reads writes new-writes NoRoom told read same begun counts write memory =
     subst (IsNotConverted left rest before after (record { reads = reads; writes = writes }) (record { reads = new-reads; writes = new-writes })) (sym (memory refl))
     (inr (stopped left rest before after l records read begun, λ i. record { reads = same i; writes = counts i }))
-
--- a canonical file spells its records and is their only one
-pub its-own : (file : List ℕ) (k : Key) (rs : List DataRecord) → IsCanonicalFile file k rs → Spells file k rs
-its-own file k [] is = absurd is
-its-own file k (r ∷ rs) is = is.0

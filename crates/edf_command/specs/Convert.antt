@@ -10,7 +10,7 @@ use Rattle.edf_fragment.specs.Reading.{CountsFault}
 use Rattle.edf_fragment.specs.Whole.{ReadsFragment, IsFragmentFault}
 use Rattle.edf_fragment.specs.declared.fault.FragmentFault.{FragmentFault}
 use Rattle.edf_fragment.specs.declared.fault.FragmentFault.TheVariants.{Read, Memory as NoMemory}
-use Rattle.edf_command.specs.File.{IsCanonicalFile}
+use Rattle.edf_export.specs.File.{IsCanonicalFile}
 use Rattle.edf_command.specs.declared.fault.ConvertFault.{ConvertFault}
 use Rattle.edf_command.specs.declared.fault.ConvertFault.TheVariants.{Form, Memory, Write}
 

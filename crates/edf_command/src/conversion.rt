@@ -3,8 +3,8 @@
 ghost use Rattle.std.specs.Prelude.{◌≡◌, IfOk, IfErr};
 ghost use Rattle.edf_command.specs.Convert.{refusal_of, IsConverted, IsNotConverted};
 
-use crate::fault::{ConvertFault, OutputFault};
-use crate::file::write_file;
+use crate::fault::ConvertFault;
+use edf_export::{OutputFault, write_file};
 use edf_fragment::{FragmentFault, Input, Output, read_fragment};
 use std::alloc::Global;
 

@@ -17,7 +17,8 @@ use edf_header::Identity;
 use edf_rows::start_of;
 use sqlite::Alter;
 
-/// A walk over the data records of one recording, by their starts. It may be dropped at any of them.
+/// A walk over the data records of one recording, by their starts. It may be dropped at any of them, and the store is then as
+/// the walk left it.
 ///
 /// One data record is in memory at a time.
 pub struct Records<'store, S: Alter> {
@@ -28,7 +29,9 @@ pub struct Records<'store, S: Alter> {
 }
 
 impl<S: Alter> Drop for Records<'_, S> {
-    fn drop(self) {
+    fn drop(self)
+        ensures { self.exit.0.now ≡ self.entry.store.now }
+    {
         let Records {
             store: _,
             recording: _,
@@ -77,6 +80,7 @@ impl<S: Alter> Records<'_, S> {
         ensures same_reference { self.new.store.ghost_name ≡ self.old.store.ghost_name }
         ensures stays { Stays S.Store self.old.store.now self.new.store.now }
         ensures own { HasCleanDisk (at S.Store self.new.store.now) → IfErr result (λ e. e ≢ StoreFault.Foreign) }
+        ensures unfailed { self.old.failed ≡ false → IfErr result (λ e. e ≢ StoreFault.Failed) }
         ensures ends { IfOk result (λ o. o ≡ None → self.new.recording ≡ None) }
         ensures ended { self.old.failed ≡ false → self.old.recording ≡ None → (result ≡ Ok None) × (self.new.recording ≡ None) }
         ensures failed { self.old.failed ≡ true → result ≡ Err StoreFault.Failed }

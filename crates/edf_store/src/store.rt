@@ -1,6 +1,6 @@
 //! A store, and how a transaction of it begins.
 
-ghost use Rattle.std.specs.Prelude.{◌≡◌, false, None, Err, IsTrue, IfOk, IfErr};
+ghost use Rattle.std.specs.Prelude.{◌≡◌, ◌≤◌, false, None, Err, IsTrue, IfOk, IfErr};
 ghost use Rattle.std.specs.Borrow.{sem, RestsIfErr};
 ghost use Rattle.edf_holdings.specs.Holdings.{Holdings};
 ghost use Rattle.edf_store.specs.Fault.{IsStoreRefusal};
@@ -42,7 +42,8 @@ impl<S: Alter> Store<S> {
 
     /// How many data records a recording may have.
     pub fn cap(&self) -> u32
-        ensures { result ≡ self.now.cap }
+        ensures value { result ≡ self.now.cap }
+        ensures bound { (1 ≤ result) × (result ≤ 99_999_999) }
     {
         self.cap
     }

@@ -3,7 +3,7 @@ use Rattle.edf_header.specs.Key.{Key}
 use Rattle.edf_header.specs.Signal.{samples_in_all}
 use Rattle.edf_fragment.specs.Fragment.{DataRecord}
 use Rattle.edf_command.specs.Convert.{IsNotConverted}
-use Rattle.edf_command.specs.Inside.Output.{IsFileWritten, IsFileBegun}
+use Rattle.edf_export.specs.Inside.Output.{IsFileWritten, IsFileBegun}
 use Rattle.edf_command.proofs.Conversions.{spelled-sizes, converted, refused, not-written}
 use Rattle.edf_command.proofs.conversion.convert.Goals as goal
 

@@ -1,0 +1,10 @@
+pub mod Records
+pub mod CanonicalRecords
+pub mod BlockLength
+pub mod Files
+pub mod Longest
+pub mod Puts
+pub mod Written
+pub mod SomeFile
+pub mod Exports
+pub mod Again
