@@ -1,0 +1,4 @@
+pub mod Refusal
+pub mod Source
+pub mod Submitted
+pub mod Batch
