@@ -1,1 +1,4 @@
-pub mod Conversions
+pub mod Puts
+pub mod Texts
+pub mod Written
+pub mod Kept
