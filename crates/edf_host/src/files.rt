@@ -1,5 +1,6 @@
 //! Files and standard input.
 
+ghost use Rattle.std.specs.Io.{ReadsAtMost};
 ghost use Rattle.std.specs.Prelude.{None};
 
 use edf_command::Inputs;
@@ -57,7 +58,9 @@ impl Source<'_> {
     }
 
     /// Reads from the place as it is.
-    fn pull(&mut self, buf: &mut [u8]) -> io::Result<usize> {
+    fn pull(&mut self, buf: &mut [u8]) -> io::Result<usize>
+        ensures { ReadsAtMost result buf.new }
+    {
         match &mut self.place {
             Place::Open(file) => file.read(buf),
             Place::Stream(stream) => match stream.try_borrow_mut() {
