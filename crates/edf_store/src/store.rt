@@ -37,6 +37,16 @@ impl<S: Alter> Model for Store<S> {
     ghost invariant = { λ s. IsSoundStore s.cap (state S.Store s.conn) };
 }
 
+impl<S: Alter + Drop> Drop for Store<S> {
+    fn drop(self) {
+        let Store {
+            alloc: _,
+            conn: _,
+            cap: _,
+        } = self;
+    }
+}
+
 impl<S: Alter> Store<S> {
     ghost use Rattle.edf_store.specs.contracts.store.Store.{the_row};
 
