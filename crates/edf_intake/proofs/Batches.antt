@@ -4,9 +4,9 @@ use Rattle.std.specs.List.{AllByRecursion, AllZip}
 use Rattle.std.specs.Io.KnownBytes.{Consumes, IsAtEnd}
 use Rattle.sqlite_trees.specs.declared.store.Store.{Ghosts}
 use Rattle.sqlite_trees.specs.Tree.{Trees}
-use Rattle.sqlite.specs.State.{HasCleanDisk, Survives}
+use Rattle.sqlite.specs.State.{HasCleanDisk}
 use Rattle.sqlite.proofs.StateLemmas.{survives_then, survives_weaker}
-use Rattle.edf_fragment.specs.Fragment.{DataRecord, Spells}
+use Rattle.edf_fragment.specs.Fragment.{Spells}
 use Rattle.edf_fragment.specs.Fault.{IsFirstFault}
 use Rattle.edf_fragment.specs.Told.{Told, Fragment, Fault, Tells}
 use Rattle.edf_fragment.specs.Whole.{IsFirstWhereKnown}
@@ -14,7 +14,7 @@ use Rattle.edf_fragment.specs.declared.fault.FragmentFault.{FragmentFault}
 use Rattle.edf_fragment.specs.declared.fault.FragmentFault.TheVariants.{Header, CutRecord, Tal, Trailing, Read, Memory, Failed}
 use Rattle.edf_fragment.proofs.Told.{one-telling}
 use Rattle.edf_holdings.specs.Holdings.{Holdings}
-use Rattle.edf_holdings.specs.Reply.{Reply, reply, replies, after}
+use Rattle.edf_holdings.specs.Reply.{Reply, replies, after}
 use Rattle.edf_holdings.proofs.Replies.{replies-append}
 use Rattle.edf_holdings.proofs.Settled.{after-append}
 use Rattle.edf_rows.specs.Rows.{AreKept}
@@ -104,8 +104,8 @@ module _ {S : Type 0} (g : Ghosts S) where
       crash = survives_then (at g old) (at g mid) (at g new) _ _ _
           (λ clean rows left h held. left-more old.cap h all.turns t rows (left h held))
           (λ clean rows left h held. left-last old.cap h all.turns t rows
-              (subst (λ (n : ℕ). AreKept n rows (after n (after old.cap h (told_in all.turns)) (somes (t.told ∷ []))) ⊎ AreUnended n (after old.cap h (told_in all.turns)) (t ∷ []) rows) capped
-              (left (after old.cap h (told_in all.turns)) (all.holdings h held))))
+          (subst (λ (n : ℕ). AreKept n rows (after n (after old.cap h (told_in all.turns)) (somes (t.told ∷ []))) ⊎ AreUnended n (after old.cap h (told_in all.turns)) (t ∷ []) rows) capped
+          (left (after old.cap h (told_in all.turns)) (all.holdings h held))))
           all.crash m.crash;
     }
 
@@ -159,8 +159,7 @@ all_told (t ∷ ts) (x ∷ xs) (y ∷ ys) each known e =
     let first : reply_told t.answer ≡ Some y = cc in
     let rest : map reply_told (map (λ (u : Turn). u.answer) ts) ≡ map (λ (r : Reply). Some r) ys = cc in
     let told : t.told ≡ Some x = same_told t x y each.0 known.0 first in
-    let more = all_told ts xs ys each.1 known.1 rest in
-    (
+    let more = all_told ts xs ys each.1 known.1 rest in (
       ap (λ (o : Option Told). somes (o ∷ map (λ (u : Turn). u.told) ts)) told ∙ ap (λ (l : List Told). x ∷ l) more.0,
       ap (λ (o : Option Reply). somes (o ∷ map (λ (u : Turn). reply_told u.answer) ts)) first ∙ ap (λ (l : List Reply). y ∷ l) more.1,
     )
@@ -168,9 +167,8 @@ all_told (t ∷ ts) (x ∷ xs) (y ∷ ys) each known e =
 pub answers_all : {S : Type 0} (g : Ghosts S) (old new : Kept S) (froms tos : List Source) (answers : List Answer) → AreSubmitted g old new froms tos answers → AnswersAll g old new froms answers
 answers_all g old new froms tos answers all tolds given known e h held =
     let said = all_told all.turns tolds given all.each
-        (subst (λ (l : List Source). AllZip IsKnown l tolds) (sym all.froms_are) known)
-        (ap (map reply_told) all.answers_are ∙ e) in
-    (
+    (subst (λ (l : List Source). AllZip IsKnown l tolds) (sym all.froms_are) known)
+    (ap (map reply_told) all.answers_are ∙ e) in (
       (λ clean. sym said.1 ∙ (all.replies_are clean h held ∙ ap (replies old.cap h) said.0)),
       subst (Holds g new) (ap (after old.cap h) said.0) (all.holdings h held),
     )

@@ -1,30 +1,19 @@
 -- A list of submissions, one turn after another.
-use Rattle.std.proofs.Common.{◌≡◌, ◌≢◌, ℕ, ◌+◌, ◌<◌, ◌⊎◌, List, [], ◌∷◌, ◌++◌, length, map, Option, Some, None, Ok, Err, IsTrue, refl, sym, ap, subst, ◌∙◌, inl, inr, arith, append_assoc, append-nil, IfSome}
-use Rattle.std.specs.List.{AllByRecursion, AllZip}
-use Rattle.std.specs.Io.KnownBytes.{Consumes, IsAtEnd}
+use Rattle.std.proofs.Common.{◌≡◌, ℕ, ◌⊎◌, List, [], ◌∷◌, ◌++◌, map, Option, Some, None, Ok, Err, refl, sym, ap, subst, ◌∙◌, inl, inr}
+use Rattle.std.specs.List.{AllByRecursion}
 use Rattle.sqlite_trees.specs.declared.store.Store.{Ghosts}
-use Rattle.sqlite_trees.specs.Tree.{Trees}
 use Rattle.sqlite.specs.State.{HasCleanDisk, Survives}
-use Rattle.sqlite.proofs.StateLemmas.{survives_then, survives_weaker}
-use Rattle.edf_header.specs.Key.{Key}
-use Rattle.edf_fragment.specs.Fragment.{DataRecord, Spells}
-use Rattle.edf_fragment.specs.Fault.{IsFirstFault}
-use Rattle.edf_fragment.specs.Told.{Told, Fragment, Fault, Tells}
-use Rattle.edf_fragment.specs.Whole.{IsFirstWhereKnown}
-use Rattle.edf_fragment.specs.declared.fault.FragmentFault.{FragmentFault}
-use Rattle.edf_fragment.specs.declared.fault.FragmentFault.TheVariants.{Header, CutRecord, Tal, Trailing, Read, Memory, Failed}
+use Rattle.sqlite.proofs.StateLemmas.{survives_weaker}
+use Rattle.edf_fragment.specs.Told.{Told, Fragment, Fault}
 use Rattle.edf_fragment.proofs.Sound.{spelled-key, spelled-sound}
-use Rattle.edf_fragment.proofs.Told.{one-telling}
 use Rattle.edf_holdings.specs.Holdings.{Holdings, IsSound}
-use Rattle.edf_holdings.specs.Reply.{IsSoundTold, Reply, Form, Overlap, Differs, Full, Accepted, IsAccepted, reply, replies, after_one, after}
+use Rattle.edf_holdings.specs.Reply.{IsSoundTold, Reply, Form, Overlap, Differs, Full, Accepted, IsAccepted, reply, replies, after}
 use Rattle.edf_holdings.proofs.Accepted.{refused_changes_nothing}
-use Rattle.edf_holdings.proofs.Replies.{replies-append}
-use Rattle.edf_holdings.proofs.Settled.{after-append}
 use Rattle.edf_rows.specs.Rows.{AreKept}
 use Rattle.edf_store.specs.Held.{Kept, at, Holds, Stays}
 use Rattle.edf_intake.specs.Refusal.{Answer, reply_told, IsStopped}
-use Rattle.edf_intake.specs.Source.{Source, IsOfForm, Hears, ReadsWhole, ReadsFault, FailsToRead, ReadsFront}
-use Rattle.edf_intake.specs.Submitted.{AreLeft, Leaves, MayLeave, Accepts, Refuses, StopsThere, IsSubmitted}
+use Rattle.edf_intake.specs.Source.{Source, Hears, FailsToRead, ReadsFront}
+use Rattle.edf_intake.specs.Submitted.{AreLeft, Leaves, MayLeave, Refuses, StopsThere, IsSubmitted}
 use Rattle.edf_intake.specs.Batch.{Turn, somes, told_in, replies_in, GoesWith, IsTurn, AreUnended, IsOwnRefusal}
 use Rattle.edf_intake.specs.declared.refusal.Refusal.TheVariants as refusal
 
@@ -121,8 +110,10 @@ module _ {S : Type 0} (g : Ghosts S) (old new : Kept S) (from to : Source) where
   stopped_turn answer own tells why (inr (key, records, read, may)) = (None, unended_turn answer (Fragment key records) own tells why read may)
 
   pub turn_of : (answer : Answer) → IsSubmitted g old new from to answer → (told : Option Told) × IsMade g old new (record { from = from; to = to; answer = answer; told = told })
-  turn_of (Ok receipt) a = (Some (Fragment receipt.identity a.records),
-      accepted_turn (Ok receipt) (Fragment receipt.identity a.records) (Accepted receipt.identity receipt.new receipt.known) tt refl a.read a.reply_is a.leaves)
+  turn_of (Ok receipt) a = (
+    Some (Fragment receipt.identity a.records),
+    accepted_turn (Ok receipt) (Fragment receipt.identity a.records) (Accepted receipt.identity receipt.new receipt.known) tt refl a.read a.reply_is a.leaves,
+  )
   turn_of (Err (refusal.Form fault)) r = (Some (Fault fault), refused_turn (Err (refusal.Form fault)) (Fault fault) (Form fault) tt refl (λ yes. yes) r)
   turn_of (Err (refusal.Overlap start stored)) (key, records, r) = (Some (Fragment key records), refused_turn (Err (refusal.Overlap start stored)) (Fragment key records) (Overlap start stored) tt refl (λ yes. yes) r)
   turn_of (Err (refusal.Differs start)) (key, records, r) = (Some (Fragment key records), refused_turn (Err (refusal.Differs start)) (Fragment key records) (Differs start) tt refl (λ yes. yes) r)

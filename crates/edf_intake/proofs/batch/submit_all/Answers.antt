@@ -41,8 +41,8 @@ loop-input-preserved g c =
     let more = olds_more source olds nows i old new c.loop-input-test.true inv.others c.input-item.is in
     let made = nows_more source olds nows i old new c.loop-input-test.true inv.others c.input-item.is in
     let step = next_submitted g.S.Store c.args.store.now c.loop-input.store c.submit-answer.new.store (map source (take i olds)) (map source (take i nows)) c.loop-input.answers.items inv.cap inv.submitted
-        (source old) (source new) c.submit-answer.result
-        (subst (λ (r : g.row.R.Denot). IsSubmitted g.S.Store c.loop-input.store c.submit-answer.new.store (source r) (source new) c.submit-answer.result) (sym c.input-item.is) c.submit-answer.ensures.submitted) in
+    (source old) (source new) c.submit-answer.result
+    (subst (λ (r : g.row.R.Denot). IsSubmitted g.S.Store c.loop-input.store c.submit-answer.new.store (source r) (source new) c.submit-answer.result) (sym c.input-item.is) c.submit-answer.ensures.submitted) in
     record {
       cap = c.submit-answer.ensures.cap ∙ inv.cap;
       submitted = subst (λ (l : List Answer). AreSubmitted g.S.Store c.args.store.now c.submit-answer.new.store (map source (take (i + 1) olds)) (map source (take (i + 1) (set nows i new))) l) (sym c.push_reserved.ensures.items)
