@@ -1,6 +1,6 @@
 //! What is known of a file before its first byte is written.
 
-ghost use Rattle.std.specs.Prelude.{◌≡◌, ◌≤◌, ◌<◌, ℕ, false, length, IfOk, IfErr, IfSome, MatchOption};
+ghost use Rattle.std.specs.Prelude.{◌≡◌, Err, None, IsTrue, ◌≤◌, ◌<◌, ℕ, false, length, IfOk, IfErr, IfSome, MatchOption};
 ghost use Rattle.sqlite.specs.State.{HasCleanDisk};
 ghost use Rattle.edf_header.specs.Key.{Key};
 ghost use Rattle.edf_holdings.specs.Holdings.{Holdings};
@@ -93,6 +93,7 @@ pub(crate) fn plan_file<S: Alter>(
     ensures samples { IfOk result (λ plan. IfSome plan (λ p. (1 ≤ p.samples) × (p.samples ≤ 725_023))) }
     ensures told { HasCleanDisk (at S.Store store.new) → IfErr result (λ fault. (h : Holdings) → Holds S.Store store.old h →
         IsStoreRefusal fault) }
+    ensures busy { IsTrue (at S.Store store.old).in_transaction → result ≡ Err (StoreFault.Store None) }
 {
     let summary = match store.summary(identity) {
         Ok(Some(summary)) => summary,

@@ -1,6 +1,6 @@
 //! One recording out of the store, as its canonical file.
 
-ghost use Rattle.std.specs.Prelude.{◌≡◌, Err, IfOk, IfErr};
+ghost use Rattle.std.specs.Prelude.{◌≡◌, None, Err, IsTrue, IfOk, IfErr};
 ghost use Rattle.std.specs.Io.KnownBytes.{Keeps};
 ghost use Rattle.sqlite.specs.State.{HasCleanDisk};
 ghost use Rattle.edf_holdings.specs.Holdings.{Holdings};
@@ -12,7 +12,7 @@ use crate::plan::plan_file;
 use crate::writing::write_planned;
 use edf_fragment::Output;
 use edf_header::Identity;
-use edf_store::Store;
+use edf_store::{Store, StoreFault};
 use sqlite::Alter;
 use std::alloc::Global;
 
@@ -23,8 +23,8 @@ use std::alloc::Global;
 ///
 /// # Errors
 /// `NoRecording` where nothing is held under the identity; then nothing was written. `Store` where the store refuses a read,
-/// `Memory` where memory runs out, `Write` where a write fails or takes none of some bytes; then a front of the file may have
-/// been written.
+/// E42 without a cause where the connection was left in a transaction. `Memory` where memory runs out, `Write` where a write
+/// fails or takes none of some bytes. Then a front of the file may have been written.
 pub fn export<S: Alter, W: Output>(
     alloc: Global,
     store: &mut Store<S>,
@@ -38,6 +38,7 @@ pub fn export<S: Alter, W: Output>(
         IsNotExported (W.contents out.old) (W.contents out.new) identity.now (h identity.now) fault) }
     ensures nothing { result ≡ Err ExportFault.NoRecording → Keeps (W.contents out.old) (W.contents out.new) }
     ensures counted { CountsExport (W.failures out.old) (W.failures out.new) result }
+    ensures busy { IsTrue (at S.Store store.old).in_transaction → result ≡ Err (ExportFault.Store (StoreFault.Store None)) }
 {
     let plan = match plan_file(store, identity) {
         Ok(Some(plan)) => plan,

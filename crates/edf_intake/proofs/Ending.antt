@@ -1,7 +1,6 @@
 -- How a submission ends: what its steps left, joined.
-use Rattle.std.proofs.Common.{◌≡◌, ◌≢◌, ℕ, ◌⊎◌, List, Option, Ok, Err, refl, sym, subst, ◌∙◌, inl, inr, arith}
+use Rattle.std.proofs.Common.{◌≡◌, ◌≢◌, ℕ, List, Err, refl, sym, subst, ◌∙◌, inl, inr, arith}
 use Rattle.sqlite_trees.specs.declared.store.Store.{Ghosts}
-use Rattle.sqlite_trees.specs.Tree.{Trees}
 use Rattle.sqlite.specs.State.{HasCleanDisk, Survives}
 use Rattle.sqlite.proofs.StateLemmas.{survives_weaker}
 use Rattle.edf_header.specs.Key.{Key}
@@ -19,7 +18,7 @@ use Rattle.edf_store.specs.declared.fault.StoreFault.{StoreFault}
 use Rattle.edf_store.specs.declared.fault.StoreFault.TheVariants.{Memory, Store, Foreign, Failed}
 use Rattle.edf_store.proofs.ReadyLemmas.{stays_then}
 use Rattle.edf_intake.specs.Source.{Source, ReadsFront}
-use Rattle.edf_intake.specs.Submitted.{AreLeft, Leaves, MayLeave, Accepts, Refuses, StopsThere, IsRefusal, IsSubmitted}
+use Rattle.edf_intake.specs.Submitted.{AreLeft, Accepts, Refuses, StopsThere, IsSubmitted}
 use Rattle.edf_intake.specs.Inside.Taken.{IsTaken, IsStop, IsRefused}
 use Rattle.edf_intake.specs.declared.receipt.Receipt.{Receipt}
 use Rattle.edf_intake.specs.declared.refusal.Refusal.{Refusal}

@@ -1,26 +1,23 @@
 -- Why a submission ends early, said of its input.
 use Rattle.std.proofs.Common.{◌≡◌, ℕ, List, [], Option, Some, None, refl, sym, subst, IfSome}
 use Rattle.edf_header.specs.Header.{Layout}
-use Rattle.edf_header.specs.declared.fault.HeaderFault.{HeaderFault}
-use Rattle.edf_tal.specs.declared.place.TalFault.{TalFault}
 use Rattle.edf_fragment.specs.Fault.{IsFirstFault}
-use Rattle.edf_fragment.specs.Reading.{ReadsHeader, IsOpenFault, CountsFault, at_first}
+use Rattle.edf_fragment.specs.Reading.{ReadsHeader, CountsFault, at_first}
 use Rattle.edf_fragment.specs.Whole.{IsFragmentFault, ReadsFragment}
 use Rattle.edf_fragment.specs.Fragment.{DataRecord}
 use Rattle.edf_fragment.specs.declared.fault.FragmentFault.{FragmentFault}
 use Rattle.edf_fragment.specs.declared.fault.FragmentFault.TheVariants.{Header, CutRecord, Tal, Trailing, Read, Memory, Failed}
-use Rattle.edf_fragment.proofs.Fragments.{open_refused, reads_none}
+use Rattle.edf_fragment.proofs.Fragments.{reads_none}
 use Rattle.edf_fragment.proofs.OneFragment.{spelled-no-fault}
 use Rattle.sqlite_trees.specs.declared.store.Store.{Ghosts}
 use Rattle.sqlite.specs.State.{HasCleanDisk}
 use Rattle.edf_store.specs.Held.{Kept, at}
 use Rattle.edf_store.specs.Fault.{IsStoreRefusal}
 use Rattle.edf_store.specs.declared.fault.StoreFault.{StoreFault}
-use Rattle.edf_intake.specs.Source.{Source, SpellsNothing, ReadsWhole, ReadsFault, ReadsSome}
+use Rattle.edf_intake.specs.Source.{Source, SpellsNothing, ReadsWhole, ReadsSome}
 use Rattle.edf_intake.specs.Inside.Halt.{refusal_by, HaltsThere}
 use Rattle.edf_intake.specs.Inside.Taken.{IsStop}
 use Rattle.edf_intake.specs.declared.refusal.Refusal.{Refusal}
-use Rattle.edf_intake.specs.declared.refusal.Refusal.TheVariants as refusal
 use Rattle.edf_intake.specs.declared.refusal.Stop.{Stop}
 use Rattle.edf_intake.specs.declared.refusal.Stop.TheVariants.{Input, Store}
 

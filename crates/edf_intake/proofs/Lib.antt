@@ -7,3 +7,6 @@ pub mod Finding
 pub mod Conflicts
 pub mod Halting
 pub mod Wholes
+pub mod Places
+pub mod Turns
+pub mod Batches

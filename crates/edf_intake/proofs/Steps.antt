@@ -1,9 +1,8 @@
 -- The loop over the data records of a fragment: its begin, one turn, its end.
-use Rattle.std.proofs.Common.{◌≡◌, ℕ, ◌+◌, ◌<◌, ◌≤◌, List, [], ◌∷◌, ◌++◌, length, Option, Some, None, Ok, refl, sym, ap, subst, ◌∙◌, arith, MatchOption}
+use Rattle.std.proofs.Common.{◌≡◌, ℕ, ◌+◌, ◌<◌, ◌≤◌, List, [], ◌∷◌, ◌++◌, length, Option, Some, None, Ok, sym, subst, arith}
 use Rattle.sqlite_trees.specs.declared.store.Store.{Ghosts}
 use Rattle.sqlite.specs.State.{HasCleanDisk}
 use Rattle.edf_field.specs.Number.{duration_of}
-use Rattle.edf_header.specs.Key.{Key, IsKey}
 use Rattle.edf_header.specs.Header.{Layout}
 use Rattle.edf_fragment.specs.Fragment.{DataRecord}
 use Rattle.edf_fragment.specs.Reading.{ReadsHeader, IsAnswer, at_first}
@@ -18,11 +17,11 @@ use Rattle.edf_holdings.proofs.Joining.{IsGood-from_sound, apart-sound}
 use Rattle.edf_holdings.proofs.Walked.{Taken, Walked, nothing_read, taken_room}
 use Rattle.edf_rows.proofs.RowsLemmas.{one-holdings}
 use Rattle.edf_store.specs.Held.{Kept, at}
-use Rattle.edf_store.specs.Transaction.{AreSeen, Sees, IsRunning}
-use Rattle.edf_intake.specs.Inside.Step.{IsNext, CountsAll, NamesClash, IsTally}
+use Rattle.edf_store.specs.Transaction.{Sees, IsRunning}
+use Rattle.edf_intake.specs.Inside.Step.{IsNext, IsTally}
 use Rattle.edf_intake.specs.declared.tally.Starts.{Starts}
 use Rattle.edf_intake.specs.declared.tally.Tally.{Tally}
-use Rattle.edf_intake.proofs.Walking.{Walking, Met, starts_of, met_next}
+use Rattle.edf_intake.proofs.Walking.{Walking, starts_of, met_next}
 
 -- what a transaction sees is one
 pub seen_is_one : {S : Type 0} (g : Ghosts S) (now : Kept S) (h t : Holdings) → HasCleanDisk (at g now) → Sees g now h → Sees g now t → h ≡ t

@@ -1,5 +1,5 @@
 -- The data records of a fragment, met one by one in a transaction.
-use Rattle.std.proofs.Common.{◌≡◌, ℕ, ◌+◌, ◌<◌, ◌≤◌, List, [], ◌∷◌, ◌++◌, length, Option, Some, None, refl, sym, ap, subst, ◌∙◌, inl, inr, arith}
+use Rattle.std.proofs.Common.{◌≡◌, ℕ, ◌+◌, ◌≤◌, List, [], ◌∷◌, ◌++◌, length, Option, Some, None, sym, subst, inl, inr, arith}
 use Rattle.std.proofs.lemmas.Bool.{cases_lt}
 use Rattle.sqlite_trees.specs.declared.store.Store.{Ghosts}
 use Rattle.sqlite.specs.State.{HasCleanDisk}
@@ -11,11 +11,11 @@ use Rattle.edf_fragment.specs.Whole.{HasRead}
 use Rattle.edf_fragment.specs.declared.progress.Progress.{Progress}
 use Rattle.edf_holdings.specs.Clash.{near_of}
 use Rattle.edf_holdings.specs.Rising.{IsApart}
-use Rattle.edf_holdings.specs.Holdings.{Holdings, put}
+use Rattle.edf_holdings.specs.Holdings.{Holdings}
 use Rattle.edf_holdings.proofs.Walked.{Taken, Stopped, Walked, still_stopped, after_clash, after_known, after_added, after_full}
 use Rattle.edf_store.specs.Held.{Kept, at}
 use Rattle.edf_store.specs.Transaction.{Sees}
-use Rattle.edf_intake.specs.Inside.Step.{IsStep, Counts, IsNext, CountsAll, NamesClash, IsTally}
+use Rattle.edf_intake.specs.Inside.Step.{IsStep, Counts, IsNext}
 use Rattle.edf_intake.specs.declared.step.Step.{Step}
 use Rattle.edf_intake.specs.declared.step.Step.TheVariants.{Clashes, Known, New}
 use Rattle.edf_intake.specs.declared.tally.Starts.{Starts}

@@ -1,5 +1,5 @@
 -- A whole fragment that was taken in a transaction.
-use Rattle.std.proofs.Common.{◌≡◌, ◌≢◌, ℕ, ◌+◌, ◌≤◌, ◌⊎◌, ℤ, List, [], ◌∷◌, length, Option, Some, None, Err, refl, sym, ap, subst, ◌∙◌, inl, inr, arith}
+use Rattle.std.proofs.Common.{◌≡◌, ◌≢◌, ℕ, ◌+◌, ◌≤◌, List, [], ◌∷◌, length, Some, None, Err, refl, sym, ap, subst, ◌∙◌, inl, inr, arith}
 use Rattle.sqlite_trees.specs.declared.store.Store.{Ghosts}
 use Rattle.sqlite.specs.State.{HasCleanDisk}
 use Rattle.edf_header.specs.Key.{Key}
@@ -8,10 +8,9 @@ use Rattle.edf_fragment.specs.Told.{Fragment}
 use Rattle.edf_fragment.proofs.Sound.{spelled-key, spelled-sound, spelled-some}
 use Rattle.edf_holdings.specs.Rising.{joined}
 use Rattle.edf_holdings.specs.Holdings.{Holdings, put}
-use Rattle.edf_holdings.specs.Reply.{IsSoundTold, Overlap, Differs, Full, reply}
+use Rattle.edf_holdings.specs.Reply.{IsSoundTold, reply}
 use Rattle.edf_holdings.proofs.Members.{In, Within, joined_has}
 use Rattle.edf_holdings.proofs.Joining.{IsGood-from_sound, put_here, put_grows}
-use Rattle.edf_rows.specs.Rows.{IsThere}
 use Rattle.edf_store.specs.Held.{Kept, at}
 use Rattle.edf_store.specs.Transaction.{Sees, IsRunning, HasAtMost, HasNoMore, IsWhole}
 use Rattle.edf_intake.specs.Refusal.{reply_told}

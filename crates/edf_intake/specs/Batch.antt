@@ -1,5 +1,5 @@
 -- What a list of submissions answers, and what it leaves.
-use Rattle.std.specs.Prelude.{◌≡◌, ◌⊎◌, ℕ, List, [], ◌∷◌, ◌++◌, map, Option, Some, None}
+use Rattle.std.specs.Prelude.{◌≡◌, ◌⊎◌, ℕ, List, [], ◌∷◌, ◌++◌, map, Option, Some, None, Err}
 use Rattle.std.specs.List.{AllByRecursion, AllZip}
 use Rattle.sqlite_trees.specs.declared.store.Store.{Ghosts}
 use Rattle.sqlite_trees.specs.Tree.{Trees}
@@ -10,6 +10,8 @@ use Rattle.edf_holdings.specs.Reply.{Reply, after_one, after, replies}
 use Rattle.edf_rows.specs.Rows.{AreKept}
 use Rattle.edf_store.specs.Held.{Kept, at, Holds}
 use Rattle.edf_intake.specs.Refusal.{Answer, reply_told, IsStopped}
+use Rattle.edf_intake.specs.Submitted.{IsRefusal}
+use Rattle.edf_intake.specs.declared.refusal.Refusal.TheVariants as refusal
 use Rattle.edf_intake.specs.Source.{Source, Hears, FailsToRead, ReadsFront}
 
 -- one input's turn: how it was found and left, its answer, and what it told, which is nothing where that was E40 to E42
@@ -53,6 +55,11 @@ pub record AreLeftBy (cap : ℕ) (h : Holdings) (turns : List Turn) (rows : Tree
   pub splits : turns ≡ before ++ behind
   pub stand : AreKept cap rows (after cap h (told_in before)) ⊎ AreUnended cap (after cap h (told_in before)) behind rows
 
+-- what the store refused is told as it is to one submission
+abbrev pub IsOwnRefusal : {S : Type 0} → Ghosts S → Kept S → Answer → Type 0
+IsOwnRefusal g new (Err (refusal.Store fault)) = IsRefusal g new fault
+IsOwnRefusal g new answer = Unit {0}
+
 module _ {S : Type 0} (g : Ghosts S) (old new : Kept S) where
   -- the inputs were submitted in turn. Those answered E40 to E42 add nothing, and the others are answered and leave what they
   -- would without those; a crash leaves what it could leave before, or what some first inputs leave
@@ -62,6 +69,7 @@ module _ {S : Type 0} (g : Ghosts S) (old new : Kept S) where
     pub tos_are : map (λ (t : Turn). t.to) turns ≡ tos
     pub answers_are : map (λ (t : Turn). t.answer) turns ≡ answers
     pub each : AllByRecursion IsTurn turns
+    pub refusals : AllByRecursion (IsOwnRefusal g new) answers
     pub replies_are : HasCleanDisk (at g new) → (h : Holdings) → Holds g old h → replies_in turns ≡ replies old.cap h (told_in turns)
     pub holdings : (h : Holdings) → Holds g old h → Holds g new (after old.cap h (told_in turns))
     pub crash : Survives (at g old) (at g new) (λ rows. (h : Holdings) → Holds g old h → AreLeftBy old.cap h turns rows)

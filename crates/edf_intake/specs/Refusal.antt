@@ -1,5 +1,5 @@
 -- The numbers of the refusals, and the answers that tell a reply.
-use Rattle.std.specs.Prelude.{ℕ, List, [], ◌∷◌, Option, Some, None, Result, Ok, Err}
+use Rattle.std.specs.Prelude.{ℕ, Option, Some, None, Result, Ok, Err}
 use Rattle.edf_fragment.specs.Fault.{fragment_fault_number}
 use Rattle.edf_store.specs.Fault.{number}
 use Rattle.edf_holdings.specs.Reply.{Reply, Form, Overlap, Differs, Full, Accepted}

@@ -22,6 +22,11 @@ use Rattle.edf_intake.specs.declared.refusal.Refusal.TheVariants as refusal
 abbrev pub found_busy : Answer
 found_busy = Err (refusal.Store (store.Store None))
 
+-- what the store refused: want of memory has a refusal of its own, and a clean disk gives back what was written
+pub record IsRefusal {S : Type 0} (g : Ghosts S) (new : Kept S) (fault : StoreFault) : Type 0 where
+  pub other : fault ≢ store.Memory
+  pub own : HasCleanDisk (at g new) → IsStoreRefusal fault
+
 module _ {S : Type 0} (g : Ghosts S) (old new : Kept S) where
   -- whatever the store held, this is the reply to what is told
   abbrev pub RepliesWith : Told → Reply → Type 0
@@ -71,11 +76,6 @@ module _ {S : Type 0} (g : Ghosts S) (old new : Kept S) where
     StopsThere = (Stays g old new × ReadsFront from to)
         ⊎ ((key : Key) × (records : List DataRecord) × ReadsWhole from to key records × MayLeave (Fragment key records))
 
-    -- want of memory has a refusal of its own, and a clean disk keeps what was stored
-    pub record IsRefusal (fault : StoreFault) : Type 0 where
-      pub other : fault ≢ store.Memory
-      pub own : HasCleanDisk (at g new) → IsStoreRefusal fault
-
     -- each answer, what it says of the input and what it leaves
     abbrev pub IsSubmitted : Answer → Type 0
     IsSubmitted (Ok receipt) = Accepts receipt
@@ -85,4 +85,4 @@ module _ {S : Type 0} (g : Ghosts S) (old new : Kept S) where
     IsSubmitted (Err (refusal.Full held new cap)) = RefusesFragment (Full held new cap)
     IsSubmitted (Err refusal.Read) = FailsThere
     IsSubmitted (Err refusal.Memory) = StopsThere
-    IsSubmitted (Err (refusal.Store fault)) = StopsThere × IsRefusal fault
+    IsSubmitted (Err (refusal.Store fault)) = StopsThere × IsRefusal g new fault

@@ -6,6 +6,7 @@ ghost use Rattle.edf_intake.specs.Batch.{AreSubmitted, AnswersAll};
 
 use crate::receipt::Receipt;
 use crate::refusal::Refusal;
+use crate::submission::submit;
 use edf_fragment::Input;
 use edf_store::Store;
 use sqlite::Alter;
@@ -28,8 +29,10 @@ pub fn submit_all<S: Alter, R: Input>(
     ensures answered { IfOk result (λ answers. AnswersAll S.Store store.old store.new
         (map (λ i. record { left = R.remaining i; failed = R.failures i }) inputs.old) answers.items) }
 {
-    let _ = alloc;
-    let _ = store;
-    let _ = inputs;
-    Err(AllocError)
+    let mut answers = Vec::with_capacity(alloc, inputs.len())?;
+    for input in inputs.iter_mut() {
+        let answer = submit(alloc, store, input);
+        answers.push_reserved(answer);
+    }
+    Ok(answers)
 }

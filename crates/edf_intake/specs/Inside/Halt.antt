@@ -1,5 +1,5 @@
 -- Why a submission ends before its end, and what was read of the input then.
-use Rattle.std.specs.Prelude.{◌≡◌, List}
+use Rattle.std.specs.Prelude.{◌≡◌}
 use Rattle.edf_fragment.specs.Reading.{CountsFault}
 use Rattle.edf_fragment.specs.Whole.{IsFragmentFault}
 use Rattle.edf_fragment.specs.declared.fault.FragmentFault.{FragmentFault}

@@ -32,7 +32,7 @@ fn check_q(rt: &impl Abort, alloc: Global, store: &mut Store<MemStore>) -> Resul
         step: 1,
     };
     let list = said(alloc, store, &mut none, &["list", "night.db"])?;
-    let wanted = b"1 records=1 first=2002-03-02T23:59:50 patient=P7 investigation=N1\n";
+    let wanted: &[u8] = b"1 records=1 first=2002-03-02T23:59:50 patient=P7 investigation=N1\n";
     assert_eq!(rt; list.out.as_slice(), wanted);
     Ok(())
 }
@@ -117,7 +117,7 @@ fn headers_that_promise_too_much_are_refused(rt: HostRuntime) -> Result<(), Fail
     }
     let bytes = patched(alloc, file_q(alloc)?.as_slice(), 8, b"\xe9")?;
     let line = line_of(alloc, &mut store, bytes.as_slice())?;
-    assert_eq!(rt; line.as_slice(), b"a.edf refused E2 Unprintable offset=8\n");
+    assert_eq!(rt; line.as_slice(), &b"a.edf refused E2 Unprintable offset=8\n"[..]);
     check_q(&rt, alloc, &mut store)
 }
 
@@ -153,6 +153,6 @@ fn a_reader_that_fails_anywhere_leaves_what_is_held(rt: HostRuntime) -> Result<(
     check_failing(&rt, alloc, &mut store, differs.as_slice(), differs.len(), ErrorKind::Other);
     check_q(&rt, alloc, &mut store)?;
     let line = line_of(alloc, &mut store, bytes.as_slice())?;
-    assert_eq!(rt; line.as_slice(), b"a.edf accepted new=1 known=0\n");
+    assert_eq!(rt; line.as_slice(), &b"a.edf accepted new=1 known=0\n"[..]);
     Ok(())
 }

@@ -168,7 +168,7 @@ fn a_file_is_converted_or_refused_with_nothing_written(rt: HostRuntime) -> Resul
     let mut empty = empty_store(alloc, 99_999_999)?;
     let refused = said(alloc, &mut empty, &mut shelf, &["convert", "cut.edf"])?;
     assert_eq!(rt; refused.out.len(), 0);
-    assert_eq!(rt; refused.err.as_slice(), b"cut.edf refused E21 CutRecord record=1\n");
+    assert_eq!(rt; refused.err.as_slice(), &b"cut.edf refused E21 CutRecord record=1\n"[..]);
     assert_eq!(rt; refused.status, 1);
     Ok(())
 }

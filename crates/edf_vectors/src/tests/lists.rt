@@ -29,7 +29,7 @@ fn a_place_that_is_not_there_is_told(rt: HostRuntime) -> Result<(), Fail> {
     let mut shelf = all_files(alloc)?;
     let mut store = empty_store(alloc, 99_999_999)?;
     let none = said(alloc, &mut store, &mut shelf, &["export", "night.db", "1"])?;
-    assert_eq!(rt; none.err.as_slice(), b"no recording at place 1\n");
+    assert_eq!(rt; none.err.as_slice(), &b"no recording at place 1\n"[..]);
     assert_eq!(rt; (none.out.len(), none.status), (0, 1));
     let refused = said(alloc, &mut store, &mut shelf, &["take", "night.db", "cut-in-2.edf"])?;
     assert_eq!(rt; refused.status, 1);
@@ -37,7 +37,7 @@ fn a_place_that_is_not_there_is_told(rt: HostRuntime) -> Result<(), Fail> {
     assert_eq!(rt; (list.out.len(), list.err.len(), list.status), (0, 0, 0));
     said(alloc, &mut store, &mut shelf, &["take", "night.db", "q.edf", "overlaps.edf"])?;
     let past = said(alloc, &mut store, &mut shelf, &["export", "night.db", "2"])?;
-    assert_eq!(rt; past.err.as_slice(), b"no recording at place 2\n");
+    assert_eq!(rt; past.err.as_slice(), &b"no recording at place 2\n"[..]);
     assert_eq!(rt; (past.out.len(), past.status), (0, 1));
     Ok(())
 }

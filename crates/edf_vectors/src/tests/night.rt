@@ -14,6 +14,7 @@ const SECONDS: usize = 24;
 const NAMES: [&str; 6] = ["a.edf", "b.edf", "c.edf", "d.edf", "e.edf", "f.edf"];
 
 /// Numbers that look thrown.
+#[derive(Drop)]
 struct Dice {
     seed: u64,
 }
@@ -137,7 +138,7 @@ fn a_long_fragment_is_taken_and_exported_as_it_is(rt: HostRuntime) -> Result<(),
     shelf.put("long.edf", Vec::from_slice(alloc, bytes.as_slice())?)?;
     let mut store = empty_store(alloc, 99_999_999)?;
     let taken = said(alloc, &mut store, &mut shelf, &["take", "night.db", "long.edf"])?;
-    assert_eq!(rt; taken.out.as_slice(), b"long.edf accepted new=1000 known=0\n");
+    assert_eq!(rt; taken.out.as_slice(), &b"long.edf accepted new=1000 known=0\n"[..]);
     let export = said(alloc, &mut store, &mut shelf, &["export", "night.db", "1"])?;
     assert_eq!(rt; export.out.as_slice(), bytes.as_slice());
     Ok(())

@@ -3,6 +3,7 @@
 use super::shelf::all_files;
 use super::orders::said;
 use super::stage::empty_store;
+use std::alloc::Global;
 use std::process::Abort;
 use std::test::Fail;
 

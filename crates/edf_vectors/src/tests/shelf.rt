@@ -9,7 +9,8 @@ use std::alloc::{AllocError, Global};
 
 impl Shelf {
     pub(super) fn put(&mut self, name: &'static str, bytes: Vec<u8>) -> Result<(), AllocError> {
-        self.files.push(Named { name, bytes })
+        self.files.push(Named { name, bytes })?;
+        Ok(())
     }
 }
 

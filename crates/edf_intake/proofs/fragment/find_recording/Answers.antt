@@ -1,8 +1,4 @@
-use Rattle.std.proofs.Common.{◌≡◌, ◌+◌, ℕ, length, sym, subst, arith}
-use Rattle.sqlite.specs.State.{HasCleanDisk}
-use Rattle.edf_holdings.specs.Holdings.{Holdings}
-use Rattle.edf_store.specs.Held.{at}
-use Rattle.edf_store.specs.Transaction.{Sees}
+use Rattle.std.proofs.Common.{arith}
 use Rattle.edf_store.proofs.ReadyLemmas.{stays_then}
 use Rattle.edf_intake.proofs.Taking.{sees_as}
 use Rattle.edf_intake.proofs.Finding.{at_most, held_now}

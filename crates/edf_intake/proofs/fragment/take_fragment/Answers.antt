@@ -1,15 +1,12 @@
-use Rattle.std.proofs.Common.{◌≡◌, ◌+◌, ◌≤◌, ℕ, List, Option, Some, None, length, Err, refl, sym, ap, subst, ◌∙◌, arith}
+use Rattle.std.proofs.Common.{◌≡◌, ◌+◌, ℕ, Some, length, Err, sym, ap, subst, ◌∙◌, arith}
 use Rattle.sqlite.specs.State.{HasCleanDisk}
 use Rattle.edf_header.specs.Key.{Key}
 use Rattle.edf_header.specs.Header.{Layout}
-use Rattle.edf_fragment.specs.Fragment.{DataRecord}
-use Rattle.edf_fragment.specs.Reading.{CountsFault}
 use Rattle.edf_fragment.proofs.Fragments.{open_refused}
 use Rattle.edf_fragment.specs.Told.{Fragment}
 use Rattle.edf_holdings.specs.Holdings.{Holdings}
 use Rattle.edf_holdings.specs.Reply.{reply}
-use Rattle.edf_store.specs.Held.{Kept, at}
-use Rattle.edf_store.specs.Fault.{IsStoreRefusal}
+use Rattle.edf_store.specs.Held.{at}
 use Rattle.edf_store.specs.Transaction.{Sees, IsOf, HasAtMost}
 use Rattle.edf_store.proofs.ReadyLemmas.{stays_then}
 use Rattle.edf_intake.specs.Source.{Source, ReadsWhole}
@@ -20,7 +17,7 @@ use Rattle.edf_intake.specs.Inside.Taken.{IsTaken, IsStop}
 use Rattle.edf_intake.specs.declared.receipt.Receipt.{Receipt}
 use Rattle.edf_intake.specs.declared.refusal.Refusal.{Refusal}
 use Rattle.edf_intake.specs.declared.refusal.Stop.{Stop}
-use Rattle.edf_intake.specs.declared.refusal.Stop.TheVariants.{Input, Store}
+use Rattle.edf_intake.specs.declared.refusal.Stop.TheVariants.{Input}
 use Rattle.edf_intake.proofs.Halting.{stopped_by, reads_header_alone, reads_whole, halted}
 use Rattle.edf_intake.proofs.Wholes.{some_read, put_seen, is_taken, is_refused, still_whole}
 use Rattle.edf_intake.proofs.fragment.take_fragment.Goals as goal
