@@ -22,7 +22,7 @@ use Rattle.edf_store.specs.Held.{Kept, at, Holds, Stays}
 use Rattle.edf_intake.specs.Refusal.{Answer, reply_told}
 use Rattle.edf_intake.specs.Source.{Source, IsOfForm, Hears}
 use Rattle.edf_intake.specs.Submitted.{IsSubmitted}
-use Rattle.edf_intake.specs.Batch.{Turn, somes, told_in, replies_in, IsTurn, AreUnended, IsOwnRefusal, AreLeftBy, AreSubmitted, AnswersAll}
+use Rattle.edf_intake.specs.Batch.{Turn, somes, told_in, replies_in, MayBeAnswered, IsTurn, AreUnended, IsOwnRefusal, AreLeftBy, AreSubmitted, AnswersAll}
 use Rattle.edf_intake.specs.declared.refusal.Refusal.TheVariants as refusal
 use Rattle.edf_intake.proofs.Turns.{IsMade, told-next, replies-next, map-next, all-next, turn_of}
 
@@ -144,8 +144,8 @@ same_told t x y is (bytes, known, tells) given = go t.told refl
   where
     go : (o : Option Told) → t.told ≡ o → t.told ≡ Some x
     go (Some told) e =
-        let heard : Hears t.from t.to told = rw (e, given) at is in
-        e ∙ ap (λ (z : Told). Some z) (one-telling bytes told x (heard_tells t.from t.to bytes told known heard) tells)
+        let heard : Hears t.from t.to told × MayBeAnswered told y = rw (e, given) at is in
+        e ∙ ap (λ (z : Told). Some z) (one-telling bytes told x (heard_tells t.from t.to bytes told known heard.0) tells)
     go None e = absurd (rw (e, given) at is)
 
 all_told : (turns : List Turn) (tolds : List Told) (given : List Reply) → AllByRecursion IsTurn turns → AllZip IsKnown (map (λ (t : Turn). t.from) turns) tolds

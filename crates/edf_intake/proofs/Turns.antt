@@ -14,7 +14,7 @@ use Rattle.edf_store.specs.Held.{Kept, at, Holds, Stays}
 use Rattle.edf_intake.specs.Refusal.{Answer, reply_told, IsStopped}
 use Rattle.edf_intake.specs.Source.{Source, Hears, FailsToRead, ReadsFront}
 use Rattle.edf_intake.specs.Submitted.{AreLeft, Leaves, MayLeave, Refuses, StopsThere, IsSubmitted}
-use Rattle.edf_intake.specs.Batch.{Turn, somes, told_in, replies_in, GoesWith, IsTurn, AreUnended, IsOwnRefusal}
+use Rattle.edf_intake.specs.Batch.{Turn, somes, told_in, replies_in, GoesWith, IsTurn, MayBeAnswered, AreUnended, IsOwnRefusal}
 use Rattle.edf_intake.specs.declared.refusal.Refusal.TheVariants as refusal
 
 -- ---- lists
@@ -54,12 +54,12 @@ sound_told from to (Fragment key records) r = (spelled-key r.bytes key records r
 sound_told from to (Fault fault) r = tt
 
 module _ {S : Type 0} (g : Ghosts S) (old new : Kept S) (from to : Source) where
-  accepted_turn : (answer : Answer) (told : Told) (given : Reply) → IsOwnRefusal g new answer → reply_told answer ≡ Some given → Hears from to told
+  accepted_turn : (answer : Answer) (told : Told) (given : Reply) → IsOwnRefusal g new answer → reply_told answer ≡ Some given → MayBeAnswered told given → Hears from to told
       → (HasCleanDisk (at g new) → (h : Holdings) → Holds g old h → reply old.cap h told ≡ given) → Leaves g old new told
       → IsMade g old new (record { from = from; to = to; answer = answer; told = Some told })
-  accepted_turn answer told given own tells heard is leaves = record {
+  accepted_turn answer told given own tells may heard is leaves = record {
     own = own;
-    is_turn = subst (GoesWith (record { from = from; to = to; answer = answer; told = Some told }) (Some told)) (sym tells) heard;
+    is_turn = subst (GoesWith (record { from = from; to = to; answer = answer; told = Some told }) (Some told)) (sym tells) (heard, may);
     cap = leaves.cap;
     replied = λ clean h held. ap (λ (o : Option Reply). somes (o ∷ [])) (tells ∙ ap (λ (r : Reply). Some r) (sym (is clean h held)));
     holdings = leaves.holdings;
@@ -67,11 +67,11 @@ module _ {S : Type 0} (g : Ghosts S) (old new : Kept S) (from to : Source) where
   }
 
   -- a refused one changes nothing
-  refused_turn : (answer : Answer) (told : Told) (given : Reply) → IsOwnRefusal g new answer → reply_told answer ≡ Some given → ¬ IsAccepted given → Refuses g old new from to told given
+  refused_turn : (answer : Answer) (told : Told) (given : Reply) → IsOwnRefusal g new answer → reply_told answer ≡ Some given → MayBeAnswered told given → ¬ IsAccepted given → Refuses g old new from to told given
       → IsMade g old new (record { from = from; to = to; answer = answer; told = Some told })
-  refused_turn answer told given own tells never r = record {
+  refused_turn answer told given own tells may never r = record {
     own = own;
-    is_turn = subst (GoesWith (record { from = from; to = to; answer = answer; told = Some told }) (Some told)) (sym tells) r.read;
+    is_turn = subst (GoesWith (record { from = from; to = to; answer = answer; told = Some told }) (Some told)) (sym tells) (r.read, may);
     cap = r.stays.cap;
     replied = λ clean h held. ap (λ (o : Option Reply). somes (o ∷ [])) (tells ∙ ap (λ (x : Reply). Some x) (sym (r.reply_is clean h held)));
     holdings = λ h held clean is_open.
@@ -112,12 +112,12 @@ module _ {S : Type 0} (g : Ghosts S) (old new : Kept S) (from to : Source) where
   pub turn_of : (answer : Answer) → IsSubmitted g old new from to answer → (told : Option Told) × IsMade g old new (record { from = from; to = to; answer = answer; told = told })
   turn_of (Ok receipt) a = (
     Some (Fragment receipt.identity a.records),
-    accepted_turn (Ok receipt) (Fragment receipt.identity a.records) (Accepted receipt.identity receipt.new receipt.known) tt refl a.read a.reply_is a.leaves,
+    accepted_turn (Ok receipt) (Fragment receipt.identity a.records) (Accepted receipt.identity receipt.new receipt.known) tt refl refl a.read a.reply_is a.leaves,
   )
-  turn_of (Err (refusal.Form fault)) r = (Some (Fault fault), refused_turn (Err (refusal.Form fault)) (Fault fault) (Form fault) tt refl (λ yes. yes) r)
-  turn_of (Err (refusal.Overlap start stored)) (key, records, r) = (Some (Fragment key records), refused_turn (Err (refusal.Overlap start stored)) (Fragment key records) (Overlap start stored) tt refl (λ yes. yes) r)
-  turn_of (Err (refusal.Differs start)) (key, records, r) = (Some (Fragment key records), refused_turn (Err (refusal.Differs start)) (Fragment key records) (Differs start) tt refl (λ yes. yes) r)
-  turn_of (Err (refusal.Full held more cap)) (key, records, r) = (Some (Fragment key records), refused_turn (Err (refusal.Full held more cap)) (Fragment key records) (Full held more cap) tt refl (λ yes. yes) r)
+  turn_of (Err (refusal.Form fault)) r = (Some (Fault fault), refused_turn (Err (refusal.Form fault)) (Fault fault) (Form fault) tt refl refl (λ yes. yes) r)
+  turn_of (Err (refusal.Overlap start stored)) (key, records, r) = (Some (Fragment key records), refused_turn (Err (refusal.Overlap start stored)) (Fragment key records) (Overlap start stored) tt refl tt (λ yes. yes) r)
+  turn_of (Err (refusal.Differs start)) (key, records, r) = (Some (Fragment key records), refused_turn (Err (refusal.Differs start)) (Fragment key records) (Differs start) tt refl tt (λ yes. yes) r)
+  turn_of (Err (refusal.Full held more cap)) (key, records, r) = (Some (Fragment key records), refused_turn (Err (refusal.Full held more cap)) (Fragment key records) (Full held more cap) tt refl tt (λ yes. yes) r)
   turn_of (Err refusal.Read) f = (None, silent_turn (Err refusal.Read) tt refl (inl f.read) (inr (inr (inr (inl f.read)))) f.stays)
   turn_of (Err refusal.Memory) s = stopped_turn (Err refusal.Memory) tt refl tt s
   turn_of (Err (refusal.Store fault)) s = stopped_turn (Err (refusal.Store fault)) s.1 refl tt s.0

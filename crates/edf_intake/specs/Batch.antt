@@ -4,9 +4,9 @@ use Rattle.std.specs.List.{AllByRecursion, AllZip}
 use Rattle.sqlite_trees.specs.declared.store.Store.{Ghosts}
 use Rattle.sqlite_trees.specs.Tree.{Trees}
 use Rattle.sqlite.specs.State.{HasCleanDisk, Survives}
-use Rattle.edf_fragment.specs.Told.{Told, Tells}
+use Rattle.edf_fragment.specs.Told.{Told, Fragment, Fault, Tells}
 use Rattle.edf_holdings.specs.Holdings.{Holdings}
-use Rattle.edf_holdings.specs.Reply.{Reply, after_one, after, replies}
+use Rattle.edf_holdings.specs.Reply.{Reply, Form, Accepted, after_one, after, replies}
 use Rattle.edf_rows.specs.Rows.{AreKept}
 use Rattle.edf_store.specs.Held.{Kept, at, Holds}
 use Rattle.edf_intake.specs.Refusal.{Answer, reply_told, IsStopped}
@@ -34,9 +34,16 @@ told_in turns = somes (map (λ (t : Turn). t.told) turns)
 abbrev pub replies_in : List Turn → List Reply
 replies_in turns = somes (map (λ (t : Turn). reply_told t.answer) turns)
 
+-- a fault is answered as one of form, and a fragment never is; one that is accepted, under its key
+abbrev pub MayBeAnswered : Told → Reply → Type 0
+MayBeAnswered (Fault fault) answer = answer ≡ Form fault
+MayBeAnswered (Fragment key records) (Form fault) = ⊥
+MayBeAnswered (Fragment key records) (Accepted k new known) = k ≡ key
+MayBeAnswered (Fragment key records) answer = Unit {0}
+
 -- the input was read as its answer says: it told this, and the answer tells a reply; or it told nothing, and neither does that
 abbrev pub GoesWith : Turn → Option Told → Option Reply → Type 0
-GoesWith t (Some told) (Some answer) = Hears t.from t.to told
+GoesWith t (Some told) (Some answer) = Hears t.from t.to told × MayBeAnswered told answer
 GoesWith t None None = (FailsToRead t.from t.to ⊎ IsStopped t.answer) × ReadsFront t.from t.to
 GoesWith t told answer = ⊥
 

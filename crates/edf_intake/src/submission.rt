@@ -23,9 +23,9 @@ use std::alloc::Global;
 /// `Form` (E1 to E29), the first fault of the input; else `Overlap` (E30) or `Differs` (E31), for the first data record that
 /// clashes, with the earliest stored one that it clashes with; else `Full` (E32). `Read` (E40) where a read failed, in place of
 /// what would have been found behind it and of E30 to E32. `Memory` (E41) where memory ran out and `Store` (E42, E45) where the
-/// store refused, in place of any other: the first call of the store that was refused is told, the last among them, which
-/// undoes what was added. What was held before stays after each. E45 comes only from a disk that does not give back what was
-/// written.
+/// store refused, in place of any other. Where calls of the store were refused, the first is told, and the one that undoes what
+/// was added counts among them. What was held before stays after each refusal. E45 comes only from a disk that does not give
+/// back what was written; E42 without a cause where the connection was left in a transaction, and then nothing was read.
 pub fn submit<S: Alter, R: Input>(
     alloc: Global,
     store: &mut Store<S>,
