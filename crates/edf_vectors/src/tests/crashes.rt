@@ -24,7 +24,7 @@ type Disks = Files<Fuse<Memory>>;
 type Opened = FileStore<Fuse<Memory>>;
 
 /// The three files that are submitted in turn.
-fn night(alloc: Global) -> Result<[Vec<u8>; 3], AllocError> {
+fn submitted_files(alloc: Global) -> Result<[Vec<u8>; 3], AllocError> {
     Ok([file_p5(alloc)?, file_q(alloc)?, file_k(alloc)?])
 }
 
@@ -34,7 +34,10 @@ fn night_export(alloc: Global) -> Result<Vec<u8>, AllocError> {
     let mut bytes = file(alloc, &header, &[])?;
     let records = [
         (&b"\x01\0\xff\xff"[..], &b"+0\x14\x14\0"[..]),
-        (b"\x02\0\xfe\xff", b"+15\x14\x14\0+15.5\x14Snore\x14\0+15.5\x14Turn\x14\0"),
+        (
+            b"\x02\0\xfe\xff",
+            b"+15\x14\x14\0+15.5\x14Snore\x14\0+15.5\x14Turn\x14\0",
+        ),
         (b"\x0a\0\0\0", b"+3610\x14\x14\0"),
         (b"\x0b\0\0\0", b"+3611\x14\x14\0"),
         (b"\x0c\0\0\0", b"+3612\x14\x14\0"),
@@ -82,12 +85,7 @@ enum Night {
 }
 
 /// The night on disks of which the journal passes `log` calls on and the database file `db`.
-fn night_on(
-    alloc: Global,
-    log: u64,
-    db: u64,
-    files: &[Vec<u8>; 3],
-) -> Night {
+fn night_on(alloc: Global, log: u64, db: u64, files: &[Vec<u8>; 3]) -> Night {
     let disks = Files {
         log: Fuse::new(Memory::new(alloc), log),
         db: Fuse::new(Memory::new(alloc), db),
@@ -134,7 +132,11 @@ fn held(rt: &impl Abort, store: &mut Store<Opened>) -> Result<(u32, u64), Fail> 
 }
 
 /// What is exported.
-fn exported(alloc: Global, store: &mut Store<Opened>, identity: &Identity) -> Result<Vec<u8>, Fail> {
+fn exported(
+    alloc: Global,
+    store: &mut Store<Opened>,
+    identity: &Identity,
+) -> Result<Vec<u8>, Fail> {
     let mut got = Vec::new(alloc);
     let mut out = Counted::new(Sink::whole(&mut got, 1_000));
     export(alloc, store, identity, &mut out)?;
@@ -165,11 +167,15 @@ fn check_disks(
 
 /// Lets the disks stop at each call, until a night has no stop.
 fn check(rt: &impl Abort, alloc: Global, stops_log: bool) -> Result<(), Fail> {
-    let files = night(alloc)?;
+    let files = submitted_files(alloc)?;
     let wanted = night_export(alloc)?;
     let (mut stops, mut lost) = (0u32, 0u32);
     for calls in 0..10_000u64 {
-        let (log, db) = if stops_log { (calls, u64::MAX) } else { (u64::MAX, calls) };
+        let (log, db) = if stops_log {
+            (calls, u64::MAX)
+        } else {
+            (u64::MAX, calls)
+        };
         match night_on(alloc, log, db, &files) {
             Night::Whole => {
                 assert!(rt; stops > 10, "{stops} stops");

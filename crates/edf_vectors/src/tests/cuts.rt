@@ -1,13 +1,13 @@
 //! Files that are cut, and readers that fail, at every byte.
 
-use super::orders::{Shelf, said};
+use super::orders::{Shelf, told};
 use super::stage::empty_store;
 use edf_fragment::Counted;
 use edf_intake::{Refusal, submit};
 use edf_sample::named::{file_p5, file_q, file_u};
 use edf_sample::{Source, file, patched, q};
-use sqlite::MemStore;
 use edf_store::Store;
+use sqlite::MemStore;
 use std::alloc::Global;
 use std::io::ErrorKind;
 use std::process::Abort;
@@ -31,25 +31,21 @@ fn check_q(rt: &impl Abort, alloc: Global, store: &mut Store<MemStore>) -> Resul
         files: Vec::new(alloc),
         step: 1,
     };
-    let list = said(alloc, store, &mut none, &["list", "night.db"])?;
+    let list = told(alloc, store, &mut none, &["list", "night.db"])?;
     let wanted: &[u8] = b"1 records=1 first=2002-03-02T23:59:50 patient=P7 investigation=N1\n";
     assert_eq!(rt; list.out.as_slice(), wanted);
     Ok(())
 }
 
 /// The line that a file gives.
-fn line_of(
-    alloc: Global,
-    store: &mut Store<MemStore>,
-    bytes: &[u8],
-) -> Result<Vec<u8>, Fail> {
+fn line_of(alloc: Global, store: &mut Store<MemStore>, bytes: &[u8]) -> Result<Vec<u8>, Fail> {
     let mut shelf = Shelf {
         files: Vec::new(alloc),
         step: 1_000,
     };
     shelf.put("a.edf", Vec::from_slice(alloc, bytes)?)?;
-    let said = said(alloc, store, &mut shelf, &["take", "night.db", "a.edf"])?;
-    Ok(said.out)
+    let answer = told(alloc, store, &mut shelf, &["take", "night.db", "a.edf"])?;
+    Ok(answer.out)
 }
 
 /// The line of a file that is cut to so many bytes, where its first data record ends at `first`.
@@ -117,7 +113,10 @@ fn headers_that_promise_too_much_are_refused(rt: HostRuntime) -> Result<(), Fail
     }
     let bytes = patched(alloc, file_q(alloc)?.as_slice(), 8, b"\xe9")?;
     let line = line_of(alloc, &mut store, bytes.as_slice())?;
-    assert_eq!(rt; line.as_slice(), &b"a.edf refused E2 Unprintable offset=8\n"[..]);
+    assert_eq!(rt;
+        line.as_slice(),
+        &b"a.edf refused E2 Unprintable offset=8\n"[..]
+    );
     check_q(&rt, alloc, &mut store)
 }
 
@@ -141,8 +140,22 @@ fn a_reader_that_fails_anywhere_leaves_what_is_held(rt: HostRuntime) -> Result<(
     let bytes = file_p5(alloc)?;
     let mut store = store_of_q(&rt, alloc)?;
     for cut in 0..=bytes.len() {
-        check_failing(&rt, alloc, &mut store, bytes.as_slice(), cut, ErrorKind::Other);
-        check_failing(&rt, alloc, &mut store, bytes.as_slice(), cut, ErrorKind::Interrupted);
+        check_failing(
+            &rt,
+            alloc,
+            &mut store,
+            bytes.as_slice(),
+            cut,
+            ErrorKind::Other,
+        );
+        check_failing(
+            &rt,
+            alloc,
+            &mut store,
+            bytes.as_slice(),
+            cut,
+            ErrorKind::Interrupted,
+        );
     }
     let pieces = [
         &b"\0\0\xff\xff+0\x14\x14\0\0"[..],
@@ -150,7 +163,14 @@ fn a_reader_that_fails_anywhere_leaves_what_is_held(rt: HostRuntime) -> Result<(
         b"\x01\0\xff\xff+2\x14",
     ];
     let differs = file(alloc, &q().count("3"), &pieces)?;
-    check_failing(&rt, alloc, &mut store, differs.as_slice(), differs.len(), ErrorKind::Other);
+    check_failing(
+        &rt,
+        alloc,
+        &mut store,
+        differs.as_slice(),
+        differs.len(),
+        ErrorKind::Other,
+    );
     check_q(&rt, alloc, &mut store)?;
     let line = line_of(alloc, &mut store, bytes.as_slice())?;
     assert_eq!(rt; line.as_slice(), &b"a.edf accepted new=1 known=0\n"[..]);

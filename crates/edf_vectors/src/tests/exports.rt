@@ -1,7 +1,7 @@
 //! The files that a list of submissions leaves, byte for byte.
 
+use super::orders::{Said, Shelf, told};
 use super::shelf::{all_files, good_files};
-use super::orders::{Said, Shelf, said};
 use super::stage::empty_store;
 use edf_sample::named::{canonical_u, file_q};
 use edf_sample::{Header, file, q};
@@ -81,18 +81,13 @@ fn exported(
     let mut words = Vec::from_slice(alloc, &["take", "night.db"])?;
     words.extend_from_slice(files)?;
     let mut store = empty_store(alloc, 99_999_999)?;
-    let taken = said(alloc, &mut store, shelf, words.as_slice())?;
+    let taken = told(alloc, &mut store, shelf, words.as_slice())?;
     assert_eq!(rt; taken.status, 0);
-    said(alloc, &mut store, shelf, &["export", "night.db", "1"])
+    told(alloc, &mut store, shelf, &["export", "night.db", "1"])
 }
 
 /// That the files' export is this file, and that an empty store takes that and exports it again.
-fn check(
-    rt: &impl Abort,
-    alloc: Global,
-    files: &[&str],
-    wanted: &[u8],
-) -> Result<(), Fail> {
+fn check(rt: &impl Abort, alloc: Global, files: &[&str], wanted: &[u8]) -> Result<(), Fail> {
     let mut shelf = good_files(alloc)?;
     shelf.put("late.edf", late(alloc)?)?;
     shelf.put("last.edf", last_second(alloc)?)?;
@@ -111,7 +106,12 @@ fn an_export_has_each_record_once_in_time_order(rt: HostRuntime) -> Result<(), F
     let q_bytes = file_q(alloc)?;
     check(&rt, alloc, &["q.edf"], q_bytes.as_slice())?;
     check(&rt, alloc, &["q.edf", "q.edf"], q_bytes.as_slice())?;
-    check(&rt, alloc, &["p5.edf", "q.edf"], q_and_p5(alloc)?.as_slice())?;
+    check(
+        &rt,
+        alloc,
+        &["p5.edf", "q.edf"],
+        q_and_p5(alloc)?.as_slice(),
+    )?;
     let three = q_r9_and_p5(alloc)?;
     check(&rt, alloc, &["p5.edf", "q.edf", "r9.edf"], three.as_slice())?;
     check(&rt, alloc, &["r9.edf", "q.edf", "p5.edf"], three.as_slice())
@@ -124,7 +124,12 @@ fn an_export_is_spelled_in_its_shortest_way(rt: HostRuntime) -> Result<(), Fail>
     check(&rt, alloc, &["late.edf"], late(alloc)?.as_slice())?;
     check(&rt, alloc, &["last.edf"], last_second(alloc)?.as_slice())?;
     check(&rt, alloc, &["card.edf"], card(alloc)?.as_slice())?;
-    check(&rt, alloc, &["n1.edf", "n2.edf", "n3.edf"], card(alloc)?.as_slice())
+    check(
+        &rt,
+        alloc,
+        &["n1.edf", "n2.edf", "n3.edf"],
+        card(alloc)?.as_slice(),
+    )
 }
 
 /// The members of the list in the order with this number, of the 24.
@@ -152,7 +157,11 @@ fn all_orders_with_repeats_export_the_same_bytes(rt: HostRuntime) -> Result<(), 
         let once = exported(&rt, alloc, &mut shelf, &order)?;
         assert_eq!(rt; once.out.as_slice(), wanted.as_slice(), "order {number}");
         let again = exported(&rt, alloc, &mut shelf, twice.as_slice())?;
-        assert_eq!(rt; again.out.as_slice(), wanted.as_slice(), "order {number} twice");
+        assert_eq!(rt;
+            again.out.as_slice(),
+            wanted.as_slice(),
+            "order {number} twice"
+        );
     }
     Ok(())
 }
@@ -162,13 +171,16 @@ fn a_file_is_converted_or_refused_with_nothing_written(rt: HostRuntime) -> Resul
     let alloc = rt.alloc();
     let mut shelf = all_files(alloc)?;
     let mut store = empty_store(alloc, 99_999_999)?;
-    let done = said(alloc, &mut store, &mut shelf, &["convert", "u.edf"])?;
+    let done = told(alloc, &mut store, &mut shelf, &["convert", "u.edf"])?;
     assert_eq!(rt; done.out.as_slice(), canonical_u(alloc)?.as_slice());
     assert_eq!(rt; (done.err.len(), done.status), (0, 0));
     let mut empty = empty_store(alloc, 99_999_999)?;
-    let refused = said(alloc, &mut empty, &mut shelf, &["convert", "cut.edf"])?;
+    let refused = told(alloc, &mut empty, &mut shelf, &["convert", "cut.edf"])?;
     assert_eq!(rt; refused.out.len(), 0);
-    assert_eq!(rt; refused.err.as_slice(), &b"cut.edf refused E21 CutRecord record=1\n"[..]);
+    assert_eq!(rt;
+        refused.err.as_slice(),
+        &b"cut.edf refused E21 CutRecord record=1\n"[..]
+    );
     assert_eq!(rt; refused.status, 1);
     Ok(())
 }

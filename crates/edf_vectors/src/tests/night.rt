@@ -1,6 +1,6 @@
 //! One night, cut in many ways.
 
-use super::orders::{Shelf, said};
+use super::orders::{Shelf, told};
 use super::stage::empty_store;
 use edf_sample::{file, q};
 use std::alloc::{AllocError, Global};
@@ -72,10 +72,15 @@ fn recut(alloc: Global, dice: &mut Dice) -> Result<Shelf, AllocError> {
         let end = if left == 1 {
             SECONDS
         } else {
-            first.saturating_add(1).saturating_add(dice.below(most.saturating_add(1)))
+            first
+                .saturating_add(1)
+                .saturating_add(dice.below(most.saturating_add(1)))
         };
         let overlap = dice.below(first.min(3).saturating_add(1));
-        shelf.put(name, fragment(alloc, first.saturating_sub(overlap), end, 12)?)?;
+        shelf.put(
+            name,
+            fragment(alloc, first.saturating_sub(overlap), end, 12)?,
+        )?;
         first = end;
     }
     Ok(shelf)
@@ -94,9 +99,7 @@ fn words_of(alloc: Global, dice: &mut Dice) -> Result<Vec<&'static str>, AllocEr
 }
 
 #[test]
-fn a_night_cut_anywhere_in_any_order_exports_the_same_bytes(
-    rt: HostRuntime,
-) -> Result<(), Fail> {
+fn a_night_cut_anywhere_in_any_order_exports_the_same_bytes(rt: HostRuntime) -> Result<(), Fail> {
     let alloc = rt.alloc();
     let mut dice = Dice { seed: 2_002 };
     let wanted = fragment(alloc, 0, SECONDS, 9)?;
@@ -104,9 +107,9 @@ fn a_night_cut_anywhere_in_any_order_exports_the_same_bytes(
         let mut shelf = recut(alloc, &mut dice)?;
         let words = words_of(alloc, &mut dice)?;
         let mut store = empty_store(alloc, 99_999_999)?;
-        let taken = said(alloc, &mut store, &mut shelf, words.as_slice())?;
+        let taken = told(alloc, &mut store, &mut shelf, words.as_slice())?;
         assert_eq!(rt; taken.status, 0, "list {list}");
-        let export = said(alloc, &mut store, &mut shelf, &["export", "night.db", "1"])?;
+        let export = told(alloc, &mut store, &mut shelf, &["export", "night.db", "1"])?;
         assert_eq!(rt; export.out.as_slice(), wanted.as_slice(), "list {list}");
     }
     Ok(())
@@ -137,9 +140,17 @@ fn a_long_fragment_is_taken_and_exported_as_it_is(rt: HostRuntime) -> Result<(),
     };
     shelf.put("long.edf", Vec::from_slice(alloc, bytes.as_slice())?)?;
     let mut store = empty_store(alloc, 99_999_999)?;
-    let taken = said(alloc, &mut store, &mut shelf, &["take", "night.db", "long.edf"])?;
-    assert_eq!(rt; taken.out.as_slice(), &b"long.edf accepted new=1000 known=0\n"[..]);
-    let export = said(alloc, &mut store, &mut shelf, &["export", "night.db", "1"])?;
+    let taken = told(
+        alloc,
+        &mut store,
+        &mut shelf,
+        &["take", "night.db", "long.edf"],
+    )?;
+    assert_eq!(rt;
+        taken.out.as_slice(),
+        &b"long.edf accepted new=1000 known=0\n"[..]
+    );
+    let export = told(alloc, &mut store, &mut shelf, &["export", "night.db", "1"])?;
     assert_eq!(rt; export.out.as_slice(), bytes.as_slice());
     Ok(())
 }

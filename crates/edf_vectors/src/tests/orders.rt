@@ -81,7 +81,7 @@ pub(super) struct Said {
 }
 
 /// Reads the words as an order and runs it.
-pub(super) fn said(
+pub(super) fn told(
     alloc: Global,
     store: &mut Store<MemStore>,
     shelf: &mut Shelf,

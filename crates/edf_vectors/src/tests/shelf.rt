@@ -41,7 +41,10 @@ const QUIET: &[u8] = b"\x01\x00\xff\xff+0\x14\x14\0\0";
 
 /// Puts files that overlap Q, differ from it, touch it, or are another recording.
 fn put_neighbours(alloc: Global, shelf: &mut Shelf) -> Result<(), AllocError> {
-    let half = [&b"\x01\0\xff\xff+0\x14\x14\0\0\0\0"[..], b"\x01\0\xff\xff+10.5\x14\x14\0"];
+    let half = [
+        &b"\x01\0\xff\xff+0\x14\x14\0\0\0\0"[..],
+        b"\x01\0\xff\xff+10.5\x14\x14\0",
+    ];
     let header = from("23.59.40").count("2").annotations_samples("4");
     shelf.put("overlaps.edf", file(alloc, &header, &half)?)?;
     let bytes = file_q(alloc)?;
@@ -72,12 +75,24 @@ fn put_faulty(alloc: Global, shelf: &mut Shelf) -> Result<(), AllocError> {
     let q_bytes = file_q(alloc)?;
     let bytes = q_bytes.as_slice();
     shelf.put("empty.edf", Vec::new(alloc))?;
-    shelf.put("cut.edf", Vec::from_slice(alloc, &bytes[..bytes.len().saturating_sub(1)])?)?;
+    shelf.put(
+        "cut.edf",
+        Vec::from_slice(alloc, &bytes[..bytes.len().saturating_sub(1)])?,
+    )?;
     shelf.put("trailing.edf", file(alloc, &q(), &[QUIET, b"\0"])?)?;
-    shelf.put("fill-of-1.edf", file(alloc, &q(), &[b"\x01\0\xff\xff+0\x14\x14\0\x01"])?)?;
-    shelf.put("onset-1.edf", file(alloc, &q(), &[b"\x01\0\xff\xff+1\x14\x14\0\0"])?)?;
+    shelf.put(
+        "fill-of-1.edf",
+        file(alloc, &q(), &[b"\x01\0\xff\xff+0\x14\x14\0\x01"])?,
+    )?;
+    shelf.put(
+        "onset-1.edf",
+        file(alloc, &q(), &[b"\x01\0\xff\xff+1\x14\x14\0\0"])?,
+    )?;
     let two = q().count("2");
-    shelf.put("cut-in-2.edf", file(alloc, &two, &[QUIET, b"\x01\0\xff\xff+1\x14"])?)?;
+    shelf.put(
+        "cut-in-2.edf",
+        file(alloc, &two, &[QUIET, b"\x01\0\xff\xff+1\x14"])?,
+    )?;
     let three = q().count("3");
     let differs_first = [
         &b"\0\0\xff\xff+0\x14\x14\0\0"[..],

@@ -98,7 +98,9 @@ fn a_writer_that_takes_a_byte_at_a_time_has_the_file(rt: HostRuntime) -> Result<
 }
 
 #[test]
-fn a_recording_that_is_not_held_is_refused_and_nothing_written(rt: HostRuntime) -> Result<(), Fail> {
+fn a_recording_that_is_not_held_is_refused_and_nothing_written(
+    rt: HostRuntime,
+) -> Result<(), Fail> {
     let alloc = rt.alloc();
     let other = file(alloc, &q().patient("P8 F 02-MAY-1951 X"), &[])?;
     let identity = identity_of(alloc, other.as_slice())?;
