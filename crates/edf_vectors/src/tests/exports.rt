@@ -76,7 +76,7 @@ fn exported(
     rt: &impl Abort,
     alloc: Global,
     shelf: &mut Shelf,
-    files: &[&str],
+    files: &[&'static str],
 ) -> Result<Said, Fail> {
     let mut words = Vec::from_slice(alloc, &["take", "night.db"])?;
     words.extend_from_slice(files)?;
@@ -87,7 +87,12 @@ fn exported(
 }
 
 /// That the files' export is this file, and that an empty store takes that and exports it again.
-fn check(rt: &impl Abort, alloc: Global, files: &[&str], wanted: &[u8]) -> Result<(), Fail> {
+fn check(
+    rt: &impl Abort,
+    alloc: Global,
+    files: &[&'static str],
+    wanted: &[u8],
+) -> Result<(), Fail> {
     let mut shelf = good_files(alloc)?;
     shelf.put("late.edf", late(alloc)?)?;
     shelf.put("last.edf", last_second(alloc)?)?;
