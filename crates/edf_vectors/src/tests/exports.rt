@@ -1,6 +1,6 @@
 //! The files that a list of submissions leaves, byte for byte.
 
-use super::orders::{Said, Shelf, told};
+use super::orders::{Said, Shelf, take_words, told};
 use super::shelf::{all_files, good_files};
 use super::stage::empty_store;
 use edf_sample::named::{canonical_u, file_q};
@@ -78,8 +78,7 @@ fn exported(
     shelf: &mut Shelf,
     files: &[&'static str],
 ) -> Result<Said, Fail> {
-    let mut words = Vec::from_slice(alloc, &["take", "night.db"])?;
-    words.extend_from_slice(files)?;
+    let words = take_words(alloc, files)?;
     let mut store = empty_store(alloc, 99_999_999)?;
     let taken = told(alloc, &mut store, shelf, words.as_slice())?;
     assert_eq!(rt; taken.status, 0);

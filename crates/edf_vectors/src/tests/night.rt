@@ -1,6 +1,6 @@
 //! One night, cut in many ways.
 
-use super::orders::{Shelf, told};
+use super::orders::{Shelf, take_words, told};
 use super::stage::empty_store;
 use edf_sample::{file, q};
 use std::alloc::{AllocError, Global};
@@ -92,8 +92,7 @@ fn words_of(alloc: Global, dice: &mut Dice) -> Result<Vec<&'static str>, AllocEr
     for place in 0..NAMES.len() {
         names.swap(place, dice.below(NAMES.len()).min(5));
     }
-    let mut words = Vec::from_slice(alloc, &["take", "night.db"])?;
-    words.extend_from_slice(&names)?;
+    let mut words = take_words(alloc, &names)?;
     words.push(names[dice.below(6).min(5)])?;
     Ok(words)
 }

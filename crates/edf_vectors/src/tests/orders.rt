@@ -72,6 +72,18 @@ impl Inputs for Shelf {
     }
 }
 
+/// The words that take these files into a store.
+pub(super) fn take_words(
+    alloc: Global,
+    files: &[&'static str],
+) -> Result<Vec<&'static str>, AllocError> {
+    let mut words: Vec<&'static str> = Vec::new(alloc);
+    words.push("take")?;
+    words.push("night.db")?;
+    words.extend_from_slice(files)?;
+    Ok(words)
+}
+
 /// What an order wrote, and its status.
 #[derive(Drop)]
 pub(super) struct Said {

@@ -1,6 +1,6 @@
 //! What each file of a list is answered.
 
-use super::orders::told;
+use super::orders::{take_words, told};
 use super::shelf::all_files;
 use super::stage::empty_store;
 use std::alloc::Global;
@@ -126,8 +126,7 @@ fn full() -> [Row; 4] {
 fn check(rt: &impl Abort, alloc: Global, rows: &[Row], cap: u32) -> Result<(), Fail> {
     let mut shelf = all_files(alloc)?;
     for row in rows {
-        let mut words = Vec::from_slice(alloc, &["take", "night.db"])?;
-        words.extend_from_slice(row.files)?;
+        let words = take_words(alloc, row.files)?;
         let mut store = empty_store(alloc, cap)?;
         let answer = told(alloc, &mut store, &mut shelf, words.as_slice())?;
         assert_eq!(rt;
