@@ -1,7 +1,7 @@
 #!/usr/bin/env python3
 """Exports a night, and ten, by `edfstore export` and by plain C over SQLite from the same store file, and prints ratios.
 
-    bench/export/run.py [--program PATH] [RUNS]        best of RUNS runs of each, 5 if left out
+    bench/export/run.py [--program PATH] [--short] [RUNS]      best of RUNS runs of each, 5 if left out; --short: no ten nights
 
 `edfstore` opens the store, which reads and checks all of it, and then exports; `list` does the first and next to nothing of the
 second, so export less list is the time of the export. The C program (bench/store/plain.c) walks the same rows once for the
@@ -74,23 +74,26 @@ def filled(program, folder: Path, name: str, kinds: list) -> Path:
 def main() -> None:
     program, words = measure.program(sys.argv[1:])
     measure.need("cc", "cat", "/usr/bin/time")
+    is_short = measure.flag(words, "--short")
     runs = int(words[0]) if words else 5
     with measure.scratch() as name:
         folder = Path(name)
         plain = measure.compiled(Path(__file__).parent.parent / "store" / "plain.c", folder, "-lsqlite3")
         print(f"best of {runs} runs, {measure.machine()}\n")
         nights = {"a night, 28,800 records of 6.7 kB": [night.CLINIC],
-                  "a night, 960 records of 200 kB": [night.LONG_RECORDS],
-                  "ten nights of 28,800 records": [night.Night(fragments=48).next_night(number) for number in range(10)]}
+                  "a night, 960 records of 200 kB": [night.LONG_RECORDS]}
+        if not is_short:
+            nights["ten nights of 28,800 records"] = [night.Night(fragments=48).next_night(number) for number in range(10)]
         found = {}
         for title, kinds in nights.items():
             store = filled(program, folder, "held.db", kinds)
             found[title] = measured(program, plain, store, folder, runs if len(kinds) == 1 else max(1, runs // 2))
             measure.remove_store(store)
         report(found)
-        one, ten = (found[title] for title in list(nights)[::2])
-        alone = [run["export"].seconds - run["list"].seconds for run in (one, ten)]
-        print(f"ten nights against ten times one night: {alone[1] / (10 * alone[0]):.2f}")
+        if not is_short:
+            one, ten = (found[title] for title in list(nights)[::2])
+            alone = [run["export"].seconds - run["list"].seconds for run in (one, ten)]
+            print(f"ten nights against ten times one night: {alone[1] / (10 * alone[0]):.2f}")
 
 
 main()

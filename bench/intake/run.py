@@ -1,13 +1,14 @@
 #!/usr/bin/env python3
 """Takes a clinic night by `edfstore take` and by plain C over SQLite, and prints ratios.
 
-    bench/intake/run.py [--program PATH] [RUNS]        best of RUNS runs of each, 5 if left out
+    bench/intake/run.py [--program PATH] [--short] [RUNS]      best of RUNS runs of each, 5 if left out; --short: no ten nights
 
 A night of 195 MB comes as 96 fragments of five minutes, the last ten in reverse order; then every tenth is sent again; then the
 card comes, with the whole night. Each of the three is timed apart: a run with it less a run without it, each on a new store, so
 that no opening of a store is in it. Beside the C program (bench/store/plain.c: same tables, statements, rows and transactions)
 stands `cat` of the same files with a sync a file. Then ten nights in one `take`, a tenth at a time, by the growth of the store's
-file. The rows of both stores are compared. It needs cc, libsqlite3-dev and time; about 5 GB in TMPDIR.
+file. 'At work' is the ratio of processor seconds, which other programs disturb less. The rows of both stores are compared. It
+needs cc, libsqlite3-dev and time; about 5 GB in TMPDIR.
 """
 import sqlite3
 import statistics
@@ -47,7 +48,7 @@ def phases(commands: dict, folder: Path, kind: night.Night, runs: int) -> dict:
     card = kind.card(folder / "card.edf")
     parts, again = night.arrival(sent), night.resent(sent)
     lists = {"fragments": parts, "resent": parts + RESENDS * again, "card": parts + [card]}
-    best = {name: dict.fromkeys(lists, float("inf")) for name in commands}
+    best, work = ({name: dict.fromkeys(lists, float("inf")) for name in commands} for _ in range(2))
     peaks = {name: dict.fromkeys(lists, 0) for name in commands}
     copied = {"fragments": float("inf"), "card": float("inf")}
     for _ in range(runs):
@@ -55,6 +56,7 @@ def phases(commands: dict, folder: Path, kind: night.Night, runs: int) -> dict:
             for phase, files in lists.items():
                 done = take(command, folder / f"{name}.db", files)
                 best[name][phase] = min(best[name][phase], done.seconds)
+                work[name][phase] = min(work[name][phase], done.processor)
                 peaks[name][phase] = max(peaks[name][phase], done.peak)
         measure.settle()
         copied["fragments"] = min(copied["fragments"], measure.copy_synced(parts, folder / "copy"))
@@ -64,20 +66,26 @@ def phases(commands: dict, folder: Path, kind: night.Night, runs: int) -> dict:
         measure.remove_store(folder / f"{name}.db")
     for path in (*sent, card, folder / "copy"):
         path.unlink()
-    return best, peaks, copied
+    return best, work, peaks, copied
 
 
-def report(title: str, best: dict, peaks: dict, copied: dict) -> None:
+def apart_of(best: dict) -> dict:
+    """Each of the three lists without the fragments that came before it."""
+    return {name: {"fragments": times["fragments"], "resent": (times["resent"] - times["fragments"]) / RESENDS,
+                   "card": times["card"] - times["fragments"]} for name, times in best.items()}
+
+
+def report(title: str, best: dict, work: dict, peaks: dict, copied: dict) -> None:
     print(title)
-    apart = {name: {"fragments": times["fragments"], "resent": (times["resent"] - times["fragments"]) / RESENDS,
-                    "card": times["card"] - times["fragments"]} for name, times in best.items()}
+    apart, processor = apart_of(best), apart_of(work)
     copied["resent"] = copied["fragments"] / 10
     lines = []
     for phase in ("fragments", "resent", "card"):
         ours, theirs = apart["edfstore"][phase], apart["plain C"][phase]
-        lines.append((phase, f"{ours:.3f} s", f"{theirs:.3f} s", f"{copied[phase]:.3f} s", f"{ours / theirs:.2f}",
+        at_work = processor["edfstore"][phase] / max(processor["plain C"][phase], 0.001)
+        lines.append((phase, f"{ours:.3f} s", f"{theirs:.3f} s", f"{copied[phase]:.3f} s", f"{ours / theirs:.2f}", f"{at_work:.2f}",
                       f"{ours / copied[phase]:.2f}", measure.mb(peaks["edfstore"][phase]), measure.mb(peaks["plain C"][phase])))
-    measure.table(("", "edfstore", "plain C", "cat, a sync a file", "/ plain C", "/ cat", "peak", "peak of C"), lines)
+    measure.table(("", "edfstore", "plain C", "cat, a sync a file", "/ plain C", "at work", "/ cat", "peak", "peak of C"), lines)
     print(f"the card, all of it known, against the fragments: {apart['edfstore']['card'] / apart['edfstore']['fragments']:.2f}\n")
 
 
@@ -119,6 +127,7 @@ def ten_nights(commands: dict, folder: Path) -> None:
 def main() -> None:
     program, words = measure.program(sys.argv[1:])
     measure.need("cc", "cat", "/usr/bin/time")
+    is_short = measure.flag(words, "--short")
     runs = int(words[0]) if words else 5
     with measure.scratch() as name:
         folder = Path(name)
@@ -127,7 +136,8 @@ def main() -> None:
         print(f"best of {runs} runs, {measure.machine()}\n")
         report("a night of 28,800 records of 6.7 kB", *phases(commands, folder, night.CLINIC, runs))
         report("a night of 960 records of 200 kB", *phases(commands, folder, night.LONG_RECORDS, runs))
-        ten_nights(commands, folder)
+        if not is_short:
+            ten_nights(commands, folder)
 
 
 main()

@@ -25,7 +25,6 @@ import model  # noqa: E402
 import night  # noqa: E402
 
 NIGHT = night.Night(records=7_200, samples=(256, 256), fragments=40)
-SHRINKS, PAIRS = 200, 50
 
 
 def digest(data: bytes) -> str:
@@ -148,11 +147,11 @@ def full_disk(bench: Bench, megabytes: int) -> None:
         subprocess.run(["umount", place], check=True)
 
 
-def shrinking(bench: Bench) -> None:
+def shrinking(bench: Bench, times: int) -> None:
     """A card that loses its end while it is read: accepted whole, or refused as cut."""
     card, given, store = NIGHT.card(bench.folder / "card.edf"), bench.folder / "given.edf", bench.folder / "s.db"
     data, answers, whole = card.read_bytes(), collections.Counter(), None
-    for _ in range(SHRINKS):
+    for _ in range(times):
         given.write_bytes(data)
         measure.remove_store(store)
         begun = time.perf_counter()
@@ -171,13 +170,13 @@ def shrinking(bench: Bench) -> None:
         answers[answer[0] if answer[0] == "accepted" else answer[1]] += 1
         if bench.front(store) != (len(bench.parts) if answer[0] == "accepted" else 0):
             lost("a file that shrank is held in part")
-    print(f"a file that shrank while it was read, {SHRINKS} times: {dict(answers)}, nothing in part")
+    print(f"a file that shrank while it was read, {times} times: {dict(answers)}, nothing in part")
 
 
-def at_once(bench: Bench) -> None:
+def at_once(bench: Bench, times: int) -> None:
     """Two takes on one store: each file whole or refused, and all of them at the next take."""
     store, answers = bench.folder / "s.db", collections.Counter()
-    for _ in range(PAIRS):
+    for _ in range(times):
         measure.remove_store(store)
         children = [subprocess.Popen([bench.program, "take", store, *bench.parts[side::2]], stdout=subprocess.PIPE,
                                      stderr=subprocess.PIPE, stdin=subprocess.DEVNULL) for side in (0, 1)]
@@ -195,7 +194,7 @@ def at_once(bench: Bench) -> None:
             lost("two takes at once: the export is not that of the accepted files")
         if bench.ran("take", store, *bench.parts).returncode or bench.front(store) != len(bench.parts):
             lost("two takes at once: the list taken again isn't whole")
-    print(f"two takes on one store at once, {PAIRS} times: {dict(answers)}; what was accepted is held, and all of it after one more take")
+    print(f"two takes on one store at once, {times} times: {dict(answers)}; what was accepted is held, and all of it after one more take")
 
 
 def main() -> None:
@@ -208,11 +207,12 @@ def main() -> None:
     with measure.scratch() as name:
         bench = Bench(program, Path(name), random.Random(seed))
         print(f"seed {seed}, {measure.machine()}")
-        stops(bench, int(words[0]) if words else 1_000)
+        count = int(words[0]) if words else 1_000
+        stops(bench, count)
         measure.remove_store(bench.folder / "s.db")
         full_disk(bench, 4)
-        shrinking(bench)
-        at_once(bench)
+        shrinking(bench, max(5, count // 5))
+        at_once(bench, max(2, count // 20))
         print("refusals told in all of it:", dict(bench.refusals) or "none", "\n0 lost, 0 in part")
 
 

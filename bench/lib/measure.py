@@ -28,6 +28,14 @@ def program(words: list) -> tuple:
     return TOP / "crates" / "edfstore" / "out" / "edfstore", words
 
 
+def flag(words: list, name: str) -> bool:
+    """Whether the word is there; it is taken out."""
+    if name not in words:
+        return False
+    words.remove(name)
+    return True
+
+
 def compiled(source: Path, folder: Path, *libraries: str) -> Path:
     target = folder / source.stem
     subprocess.run(["cc", "-O3", "-o", target, source, *libraries], check=True)
@@ -42,6 +50,7 @@ def scratch() -> tempfile.TemporaryDirectory:
 @dataclass
 class Run:
     seconds: float
+    processor: float    # seconds of it, the system's for it among them
     peak: int           # bytes
     status: int
     out: bytes
@@ -54,7 +63,7 @@ def run(command: list, out: Path = None, given: Path = None, statuses=(0,)) -> R
         into = open(out, "wb") if out else kept
         source = open(given, "rb") if given else subprocess.DEVNULL
         begun = time.perf_counter()
-        done = subprocess.run(["/usr/bin/time", "-q", "-o", told.name, "-f", "%M", *map(str, command)], stdin=source, stdout=into,
+        done = subprocess.run(["/usr/bin/time", "-q", "-o", told.name, "-f", "%M %U %S", *map(str, command)], stdin=source, stdout=into,
                               stderr=errors, check=False)
         seconds = time.perf_counter() - begun
         if out:
@@ -63,7 +72,8 @@ def run(command: list, out: Path = None, given: Path = None, statuses=(0,)) -> R
             source.close()
         kept.seek(0)
         errors.seek(0)
-        answer = Run(seconds, 1024 * int(told.read().split()[-1]), done.returncode, kept.read(), errors.read())
+        peak, *processor = told.read().split()[-3:]
+        answer = Run(seconds, sum(map(float, processor)), 1024 * int(peak), done.returncode, kept.read(), errors.read())
     if statuses is not None and answer.status not in statuses:
         sys.exit(f"{' '.join(map(str, command))[:300]}\nended with status {answer.status}\n"
                  f"{answer.err.decode(errors='replace')[:1000]}")

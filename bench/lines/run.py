@@ -5,49 +5,18 @@
 
 The files come from bench/lib/edf.py, field by field; what is expected is written below by hand. Nothing comes from the program.
 """
-import os
-import subprocess
 import sys
 from pathlib import Path
 
 sys.path.insert(0, str(Path(__file__).resolve().parent.parent / "lib"))
 import edf  # noqa: E402
 import measure  # noqa: E402
+from checks import Checks  # noqa: E402
 
 FILES = edf.small_files()
 Q = FILES["Q"]
 OVERLAP = "refused E30 Overlap start=2002-03-02T23:59:50.5 stored=2002-03-02T23:59:50"
 LINE = "records={} first=2002-03-02T23:59:50 patient=P7 investigation=N1\n"
-
-
-class Checks:
-    def __init__(self, program: Path, folder: Path):
-        self.program, self.folder, self.done, self.failed, self.case = program, folder, 0, 0, ""
-
-    def begin(self, case: str) -> None:
-        """A new case, with no files but its own."""
-        for path in self.folder.iterdir():
-            path.unlink()
-        self.case = case
-
-    def file(self, name: str, data: bytes) -> None:
-        (self.folder / name).write_bytes(data)
-
-    def run(self, *words: str, given: bytes = b"", out="", err="", status: int = 0) -> None:
-        """Runs the words in the case's folder; `err=None` is any text at all but none."""
-        ran = subprocess.run([self.program, *words], input=given, capture_output=True, cwd=self.folder, check=False)
-        wanted = out if isinstance(out, bytes) else out.encode()
-        wrong = []
-        if ran.stdout != wanted:
-            wrong.append(f"standard output was {ran.stdout[:300]!r}, wanted {wanted[:300]!r}")
-        if (not ran.stderr) if err is None else (ran.stderr != err.encode()):
-            wrong.append(f"standard error was {ran.stderr[:300]!r}, wanted {'some text' if err is None else err!r}")
-        if ran.returncode != status:
-            wrong.append(f"the status was {ran.returncode}, wanted {status}")
-        self.done += 1
-        if wrong:
-            self.failed += 1
-            print(f"{self.case}: edfstore {' '.join(words)[:100]}\n  " + "\n  ".join(wrong))
 
 
 def one_record_is_its_own_canonical_file(checks: Checks) -> None:
@@ -176,8 +145,7 @@ def main() -> None:
                      a_missing_file_is_trouble_and_the_next_is_taken, a_refused_conversion_writes_nothing, a_file_cut_anywhere,
                      five_files_make_one_night, words_that_ask_for_nothing):
             case(checks)
-    print(f"{checks.done} runs, {checks.failed} failed")
-    sys.exit(os.EX_OK if checks.failed == 0 else 1)
+    checks.end()
 
 
 main()

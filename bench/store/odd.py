@@ -33,9 +33,9 @@ FOREIGN = (
     "UPDATE record SET samples = x'0000'",
     "UPDATE record SET block = x'00'",
     "UPDATE record SET block = x'2B3534313732373939302E30141400'",
-    "UPDATE record SET block = block || x'00'",
+    "UPDATE record SET block = CAST(block || x'00' AS BLOB)",
     "UPDATE record SET recording = recording + 1",
-    "UPDATE recording SET identity = replace(identity, 'EEG', 'EEg') || x'20'",
+    "UPDATE recording SET identity = CAST(identity || x'20' AS BLOB)",
     "INSERT INTO record SELECT recording, 541727990500000000, samples, x'2B3534313732373939302E35141400' FROM record",
 )
 
@@ -91,17 +91,20 @@ def no_stores(odd: Odd) -> None:
     odd.check("an empty file", "")
     for what, given in (("a text", b"This is no database.\n" * 100), ("a file of zeros", bytes(8192)),
                         ("an EDF file", edf.small_files()["Q"]), ("a store cut in its middle", data[:len(data) // 2]),
-                        ("a store cut by a byte", data[:-1]), ("a store with a byte more", data + b"\0"),
+                        ("a store cut by a byte", data[:-1]),
                         ("a store whose first page is gone", bytes(4096) + data[4096:])):
         odd.clean()
         odd.store.write_bytes(given)
         odd.check(what, "E42", "E45")
     odd.clean()
+    odd.store.write_bytes(data + b"\0")
+    odd.check("a store with a byte more, as SQLite takes it too", "")
+    odd.clean()
     odd.store.mkdir()
     odd.check("a directory", "E42")
     odd.clean()
     changed(odd.store, "CREATE TABLE other (a)", "INSERT INTO other VALUES (1)")
-    odd.check("a database without our tables", "")
+    odd.check("a database of another program", "", "E45")
     odd.clean()
     changed(odd.store, "CREATE TABLE recording (id INTEGER PRIMARY KEY, name TEXT)", "CREATE TABLE record (a, b)",
             "INSERT INTO record VALUES (1, 2)")
