@@ -35,7 +35,7 @@ pub rows_then : (a b c : State) → KeepsRows a b → KeepsRows b c → KeepsRow
 rows_then a b c p q = record { now_is = q.now_is ∙ p.now_is; commit = keeps_then a b c p.commit q.commit; stays = λ h. q.stays (p.stays h) }
 
 -- ---- the records that are owned
-any_here : (rows : List Row) (g r : Row) → Contains rows g → owns g r ≡ true → list_any (λ g. owns g r) rows ≡ true
+pub any_here : (rows : List Row) (g r : Row) → Contains rows g → owns g r ≡ true → list_any (λ g. owns g r) rows ≡ true
 any_here [] g r c h = absurd (no_member g c)
 any_here (x ∷ rows) g r c h = go (owns x r) refl (cases_first x g rows c) (any_here rows g r)
   where
@@ -79,25 +79,24 @@ one_missing p (x ∷ xs) other = go (p x) refl (one_missing p xs)
         let it = more (λ s. other (rw e (omega (arith, s)))) in
         (it.0, there x it.0 xs it.1, it.2)
 
+-- a record that one of the recordings owns
+pub owned_by_one : (cap : ℕ) (trees : Trees) (rows : List Row) (r : Row) → IsPermutation (recordings_in trees) rows → AllByRecursion (HasRecords cap trees) rows → list_any (λ g. owns g r) rows ≡ true → IsOwned trees r
+owned_by_one cap trees rows r same all h =
+    let it = owner cap trees rows r all h in
+    let has = it.1 in
+    let id : column it.0 0 ≡ Rattle.sqlite.specs.declared.types.Value.TheVariants.Int has.id = ap (λ (r : Row). column r 0) has.cells in
+    let c : Contains (recordings_in trees) it.0 = Contains-permutation rows (recordings_in trees) it.0 (IsPermutation-sym _ _ same) it.2 in
+    record {
+      id = has.id;
+      key = has.key;
+      there = record { row = subst (Contains (recordings_in trees)) has.cells c; key = has.is_key };
+      owned = subst (λ v. IsTrue (is_eq (value_cmp (column r 1) v))) id it.3;
+    }
+
 module _ (cap : ℕ) (trees : Trees) (rows : List Row) (sum : ℕ) (same : IsPermutation (recordings_in trees) rows) (counted : AreCounted cap trees rows sum) where
-  back : (g : Row) → Contains rows g → Contains (recordings_in trees) g
-  back g c = Contains-permutation rows (recordings_in trees) g (IsPermutation-sym _ _ same) c
-
-  owned : (r : Row) → list_any (λ g. owns g r) rows ≡ true → IsOwned trees r
-  owned r h =
-      let it = owner cap trees rows r counted.has h in
-      let has = it.1 in
-      let id : column it.0 0 ≡ Rattle.sqlite.specs.declared.types.Value.TheVariants.Int has.id = ap (λ (r : Row). column r 0) has.cells in
-      record {
-        id = has.id;
-        key = has.key;
-        there = record { row = subst (Contains (recordings_in trees)) has.cells (back it.0 it.2); key = has.is_key };
-        owned = subst (λ v. IsTrue (is_eq (value_cmp (column r 1) v))) id it.3;
-      }
-
   all_owned : (rs : List Row) → AllByRecursion (λ r. list_any (λ g. owns g r) rows ≡ true) rs → AllByRecursion (IsOwned trees) rs
   all_owned [] all = tt
-  all_owned (r ∷ rs) all = (owned r all.0, all_owned rs all.1)
+  all_owned (r ∷ rs) all = (owned_by_one cap trees rows r same counted.has all.0, all_owned rs all.1)
 
   kept : Obeys both_schema trees → sum ≡ length (trees 2) → Answers cap trees true
   kept obeys full =

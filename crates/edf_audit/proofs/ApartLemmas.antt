@@ -1,5 +1,5 @@
 -- No id and no identity stands twice.
-use Rattle.std.proofs.Common.{◌≡◌, ◌≢◌, ◌⊎◌, inl, inr, ℕ, ◌+◌, ◌≤◌, ℤ, Bool, true, false, not, ◌&&◌, List, [], ◌∷◌, map, filter, length, Contains, Some, refl, sym, ap, ap₂, subst, ◌∙◌, arith, Ordering, Less, Equal, Greater, is_eq, true≢false}
+use Rattle.std.proofs.Common.{◌≡◌, ◌≢◌, ◌⊎◌, inl, inr, ℕ, ◌+◌, ℤ, Bool, true, false, not, ◌&&◌, List, [], ◌∷◌, map, filter, length, Contains, refl, sym, ap, ap₂, subst, ◌∙◌, arith, Ordering, Less, Equal, Greater, is_eq, true≢false}
 use Rattle.std.specs.List.{AllByRecursion, list_any}
 use Rattle.std.specs.Ordering.{is_ne}
 use Rattle.std.proofs.lemmas.Cmp.{alike_right, tied_itself}
@@ -12,42 +12,28 @@ use Rattle.sqlite.specs.Tree.{Trees}
 use Rattle.sqlite_value.specs.Order.{column, value_cmp}
 use Rattle.sqlite_value.proofs.OrderLemmas.{value_cmp_total}
 use Rattle.sqlite_trees.specs.Tree.{IsAscending}
-use Rattle.sqlite_sql.specs.Ops.{binary, is_true, from_truth}
+use Rattle.sqlite_sql.specs.Ops.{binary}
 use Rattle.sqlite_schema.specs.Rules.{equal, differ, clashes, Obeys, Keeps}
 use Rattle.sqlite_schema.specs.declared.schema.Constraint.TheVariants.{Unique}
 use Rattle.sqlite_value.specs.Keys.{plain, first_key}
 use Rattle.sqlite_keyed.proofs.ListLemmas.{ascending-filter, IsPermutation-filter}
 use Rattle.edf_header.specs.Key.{key_bytes}
-use Rattle.edf_tables.specs.Schema.{both_schema}
+use Rattle.edf_tables.specs.Schema.{recording, both_schema}
+use Rattle.edf_tables.proofs.ApartLemmas.{all_pass, at_most_one}
+use Rattle.edf_tables.proofs.TermLemmas.{truth_of}
 use Rattle.edf_rows.specs.Cells.{recordings_in}
 use Rattle.edf_rows.specs.Rows.{AreTwoOf}
 use Rattle.edf_rows.specs.Shape.{HasRecords}
 use Rattle.edf_rows.proofs.RowsLemmas.{here, there, cases_first, no_member}
-use Rattle.edf_audit.proofs.CountLemmas.{equal_of}
 
 -- ---- ids
-all_pass : (p : Row → Bool) (rows : List Row) → AllByRecursion (λ r. p r ≡ true) (filter p rows)
-all_pass p [] = tt
-all_pass p (r ∷ rows) = go (p r) refl (all_pass p rows)
-  where
-    go : (b : Bool) → p r ≡ b → AllByRecursion (λ r. p r ≡ true) (filter p rows) → AllByRecursion (λ r. p r ≡ true) (filter p (r ∷ rows))
-    go true e more = rw e (e, more)
-    go false e more = rw e more
-
-few : (v : Value) (rows : List Row) → IsAscending (λ a b. value_cmp (column a 0) (column b 0) ≡ Less) rows → AllByRecursion (λ r. is_eq (value_cmp (column r 0) v) ≡ true) rows → length rows ≤ 1
-few v [] up all = omega arith
-few v (r ∷ []) up all = omega arith
-few v (r ∷ s ∷ rows) up all =
-    let tied : value_cmp (column r 0) (column s 0) ≡ Equal = alike_right value_cmp_total (column s 0) v (column r 0) (equal_of _ all.1.0) ∙ equal_of _ all.0 in
-    absurd (let e : Less ≡ Equal = sym up.0.0 ∙ tied in cc)
-
 same_value : (v : Value) → is_eq (value_cmp v v) ≡ true
 same_value v = ap is_eq (tied_itself value_cmp_total v)
 
 pub other_ids : (rows : List Row) (a b : Row) → IsAscending (λ a b. value_cmp (column a 0) (column b 0) ≡ Less) rows → AreTwoOf rows a b → column a 0 ≢ column b 0
 other_ids rows a b up two e =
     let p : Row → Bool = λ r. is_eq (value_cmp (column r 0) (column b 0)) in
-    let least = few (column b 0) (filter p rows) (ascending-filter (λ a b. value_cmp (column a 0) (column b 0) ≡ Less) p rows up) (all_pass p rows) in
+    let least = at_most_one 0 (column b 0) (filter p rows) (ascending-filter (λ a b. value_cmp (column a 0) (column b 0) ≡ Less) p rows up) (all_pass p rows) in
     let same : length (filter p rows) ≡ length (filter p (a ∷ b ∷ two.0)) = sym (length_permutation _ _ (IsPermutation-filter p _ _ two.1)) in
     let first : p a ≡ true = ap (λ v. is_eq (value_cmp v (column b 0))) e ∙ same_value (column b 0) in
     let second : p b ≡ true = same_value (column b 0) in
@@ -55,10 +41,6 @@ other_ids rows a b up two e =
     absurd (omega (arith, least, same, split))
 
 -- ---- identities
-truth_of : (b : Bool) → is_true (from_truth (Some b)) ≡ b
-truth_of true = refl
-truth_of false = refl
-
 same_bytes : (bytes : List ℕ) → equal Binary (Blob bytes) (Blob bytes) ≡ true
 unfolding binary value_cmp
 same_bytes bytes = truth_of (is_eq (value_cmp (Blob bytes) (Blob bytes))) ∙ same_value (Blob bytes)
@@ -86,7 +68,7 @@ none_at p (r ∷ rows) row h c = go (p r) refl (cases_first r row rows c) (none_
     go false e (inl s) more = ap p (sym s) ∙ e
     go false e (inr c) more = more (rw e at h) c
 
-all_at : (P : Row → Type 0) (rows : List Row) (row : Row) → AllByRecursion P rows → Contains rows row → P row
+pub all_at : (P : Row → Type 0) (rows : List Row) (row : Row) → AllByRecursion P rows → Contains rows row → P row
 all_at P [] row all c = absurd (no_member row c)
 all_at P (r ∷ rows) row all c = go (cases_first r row rows c) (all_at P rows row all.1)
   where
@@ -102,7 +84,7 @@ passes_first false rest h = refl
 clash_free : (trees : Trees) → Obeys both_schema trees → AllByRecursion (λ row. clashes plain (2 ∷ []) (trees 0) row ≡ false) (trees 0)
 clash_free trees obeys = each (trees 0) (obeys.rules Unique).0
   where
-    each : (rows : List Row) → AllByRecursion (λ row. Rattle.sqlite_schema.specs.Rules.passes Unique both_schema trees Rattle.edf_tables.specs.Schema.recording row ≡ true) rows
+    each : (rows : List Row) → AllByRecursion (λ row. Rattle.sqlite_schema.specs.Rules.passes Unique both_schema trees recording row ≡ true) rows
         → AllByRecursion (λ row. clashes plain (2 ∷ []) (trees 0) row ≡ false) rows
     each [] all = tt
     each (row ∷ rows) all = (passes_first _ _ all.0, each rows all.1)

@@ -16,16 +16,12 @@ use Rattle.sqlite_trees.specs.Tree.{IsAscending}
 use Rattle.sqlite_keyed.specs.Lists.{sort_by}
 use Rattle.sqlite_keyed.proofs.SortLemmas.{IsPermutation-sort_by}
 use Rattle.edf_tables.proofs.AnswerLemmas.{column_total}
+use Rattle.edf_tables.proofs.ApartLemmas.{equal_of}
 use Rattle.edf_rows.specs.Cells.{by_column, is_of, records_in}
 use Rattle.edf_rows.specs.Shape.{HasRecords}
 use Rattle.edf_audit.specs.All.{IsAfter, owns, owned_by, AreCounted}
 
 -- ---- values
-pub equal_of : (o : Ordering) → is_eq o ≡ true → o ≡ Equal
-equal_of Less h = absurd (true≢false (sym h))
-equal_of Equal h = refl
-equal_of Greater h = absurd (true≢false (sym h))
-
 pub turned : (a b : Value) → value_cmp a b ≡ Equal → value_cmp b a ≡ Equal
 turned a b e = value_cmp_total.antisymm b a ∙ ap ordering_reverse e
 

@@ -2,5 +2,8 @@ pub mod WalkLemmas
 pub mod StandLemmas
 pub mod CheckLemmas
 pub mod CountLemmas
+pub mod DecidedCells
+pub mod DecidedRows
+pub mod FileLemmas
 pub mod ApartLemmas
 pub mod AllLemmas

@@ -110,6 +110,10 @@ only_sound trees id k rs long sound same =
     let there : IsPermutation (map record_cells rs) (sort_by (by_column 0) xs) = subst (IsPermutation (map record_cells rs)) (sym placed) (IsPermutation-sym _ _ same) in
     sym placed ∙ sorted_unique (by_column 0) (column_total 0) (map record_cells rs) (sort_by (by_column 0) xs) (rises k 0 rs long sound) there (sort_by_sorted (by_column 0) (column_total 0) xs)
 
+-- a recording's rows are in the order of their starts
+pub by_start : (trees : Trees) (id : ℤ) → IsAscending (λ a b. is_gt (by_column 0 a b) ≡ false) (records_in trees id)
+by_start trees id = subst (IsAscending (λ a b. is_gt (by_column 0 a b) ≡ false)) (sort_by-map (by_column 0) shown (kept trees id)) (rising_sort (by_column 0) (column_total 0) (map shown (kept trees id)))
+
 all_any : (xs : List Row) → AllByRecursion (λ (x : Row). Unit {0}) xs
 all_any [] = tt
 all_any (x ∷ xs) = (tt, all_any xs)

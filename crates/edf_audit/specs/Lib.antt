@@ -1,3 +1,4 @@
 pub mod All
+pub mod File
 pub mod Kept
 pub mod Walk

@@ -1,13 +1,15 @@
 //! The check of a store's rows as it is opened, private to `edf_store`.
 //!
-//! - [`audit`]: makes the tables where they are missing, and tells whether their rows are those of submissions.
+//! - [`audit`]: tells whether a file is one that submissions leave, and makes our tables where they are missing.
 //! - [`check_all`]: all recordings, and that each record has one.
 //! - [`check_row`]: a row of the table of recordings, and its records.
 //! - [`check_recording`]: the rows of one recording, each read once, with one row in memory.
+//! - [`laws`]: rows are those of submissions, or foreign.
 #![tactic(auto)]
 
 mod all;
 mod check;
+pub mod laws;
 mod open;
 mod walk;
 

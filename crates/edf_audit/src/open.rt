@@ -1,22 +1,21 @@
-//! The tables, made and checked.
+//! The tables of a file, made and checked.
 
-ghost use Rattle.std.specs.Prelude.{◌≡◌, ◌<◌, ◌^◌, ◌-◌, IfOk, OnOk, IsTrue};
+ghost use Rattle.std.specs.Prelude.{◌≡◌, ◌<◌, ◌^◌, ◌-◌, Ok, false, IfOk, OnOk, IsTrue};
 ghost use Rattle.sqlite.specs.Held.{state};
 ghost use Rattle.sqlite.specs.State.{HasCleanDisk, Survives};
 ghost use Rattle.edf_tables.specs.Made.{IsOurs, HasTables, IsMadeOf};
 ghost use Rattle.edf_audit.specs.All.{Answers};
+ghost use Rattle.edf_audit.specs.File.{Audits};
 
 use crate::all::check_all;
+use edf_schema::is_ours;
 use edf_tables::create_tables;
 use sqlite::{Alter, Connection, Error};
 use std::alloc::Global;
 
-/// Makes the tables where they are missing, and tells whether their rows are those of submissions under the cap.
-///
-/// # Errors
-/// `sqlite`'s, and want of memory in its words; the rows stay, and tables may have been made. `QueryReturnedNoRows` where a
-/// transaction is open. A crash leaves no table, the first, or both.
-pub fn audit<S: Alter>(alloc: Global, conn: &mut Connection<S>, cap: u32) -> Result<bool, Error>
+/// Makes the tables where they are missing in a file that has no other, and tells whether their rows are those of
+/// submissions under the cap.
+fn audit_tables<S: Alter>(alloc: Global, conn: &mut Connection<S>, cap: u32) -> Result<bool, Error>
     requires cap { cap < 2 ^ 32 - 1 }
     requires ours { HasCleanDisk (state S.Store conn.old) → IsOurs (state S.Store conn.old).now }
     ensures tables { HasCleanDisk (state S.Store conn.new) → OnOk result (HasTables (state S.Store conn.old).now (state S.Store conn.new).now) }
@@ -30,4 +29,24 @@ pub fn audit<S: Alter>(alloc: Global, conn: &mut Connection<S>, cap: u32) -> Res
         return Err(Error::QueryReturnedNoRows);
     }
     check_all(alloc, conn, cap)
+}
+
+/// Whether a file is one that submissions under the cap leave; if its tables are ours, those that are missing are made.
+///
+/// A file with any other table, index or view, or with other columns under our names, is left as it is.
+///
+/// # Errors
+/// `sqlite`'s, and want of memory in its words; the rows stay, and tables may have been made. `QueryReturnedNoRows` where a
+/// transaction is open. A crash leaves no table, the first, or both.
+pub fn audit<S: Alter>(alloc: Global, conn: &mut Connection<S>, cap: u32) -> Result<bool, Error>
+    requires { cap < 2 ^ 32 - 1 }
+    ensures other { ¬ IsOurs (state S.Store conn.old).now → (result ≡ Ok false) × (conn.new ≡ conn.old) }
+    ensures tables { IsOurs (state S.Store conn.old).now → HasCleanDisk (state S.Store conn.new) → OnOk result (HasTables (state S.Store conn.old).now (state S.Store conn.new).now) }
+    ensures answers { HasCleanDisk (state S.Store conn.new) → IfOk result (Audits cap (state S.Store conn.old) (state S.Store conn.new)) }
+    ensures survives { Survives (state S.Store conn.old) (state S.Store conn.new) (IsMadeOf (state S.Store conn.old).now) }
+{
+    if !is_ours(conn.schema()) {
+        return Ok(false);
+    }
+    audit_tables(alloc, conn, cap)
 }

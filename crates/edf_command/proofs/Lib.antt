@@ -1,9 +1,4 @@
-pub mod Records
-pub mod CanonicalRecords
-pub mod BlockLength
-pub mod Files
-pub mod Longest
 pub mod Puts
+pub mod Texts
 pub mod Written
-pub mod SomeFile
-pub mod Conversions
+pub mod Kept

@@ -1,84 +1,103 @@
--- The file of some records, put out piece by piece.
-use Rattle.std.proofs.Common.{◌≡◌, ℕ, ◌+◌, ◌-◌, ◌*◌, ◌≤◌, ◌<◌, List, [], ◌∷◌, ◌++◌, length, get_or, refl, sym, ap, ◌∙◌, subst, arith, length-append, All, replicate}
-use Rattle.std.specs.List.{flat_map}
-use Rattle.std.proofs.lemmas.List.Elements.{All-head, All-tail, All-cons, All-nil}
+-- Lists of lines, one line more.
+use Rattle.std.proofs.Common.{◌≡◌, ℕ, zero, suc, ◌+◌, ◌<◌, ◌≤◌, List, [], ◌∷◌, ◌++◌, length, take, drop, get_or, map, refl, sym, ap, ◌∙◌, append_assoc, arith, add-one, add-zero, take-append-drop}
+use Rattle.std.specs.List.{flat_map, zip}
+use Rattle.std.proofs.lemmas.List.{take_more, flat_map_more, append-nil}
+use Rattle.std.proofs.lemmas.Grind.{flat_map-append}
+use Rattle.std.specs.Global.{Global}
+use Rattle.std.specs.Prelude.{String, string_bytes, min}
+use Rattle.std.proofs.lemmas.List.{get_or-map, length-map}
+use Rattle.std.proofs.lemmas.Slice.Zip.{length-zip, get_or-zip}
+use Rattle.edf_intake.specs.Refusal.{Answer}
 use Rattle.edf_header.specs.Key.{Key}
-use Rattle.edf_header.specs.Signal.{samples_in_all}
-use Rattle.edf_header.proofs.Strides.{length-parts}
-use Rattle.edf_fragment.specs.Fragment.{DataRecord}
-use Rattle.edf_header.specs.Canonical.{IsCanonicalHeader}
-use Rattle.edf_command.specs.File.{second_of, block_of, record_text, Hold, IsLaidOut, IsCanonicalFile}
-use Rattle.edf_command.specs.Inside.Output.{IsFileWritten, WritesFront, IsFileBegun}
-use Rattle.edf_command.proofs.Files.{one-laid-out}
-use Rattle.edf_command.proofs.Records.{length-filled}
-use Rattle.std.specs.Prelude.{Option}
-use Rattle.std.specs.Io.KnownBytes.{Appends}
-use Rattle.std.proofs.KnownBytes.{Appends-nil}
+use Rattle.edf_holdings.specs.Holdings.{Holdings}
+use Rattle.edf_command.specs.Lines.{list_line, list_lines, take_line}
 
--- every record's text has the samples' bytes and the block's
-text-lengths : (base size bytes : ℕ) (rs : List DataRecord) → All (λ r. length r.samples ≡ bytes) rs → All (λ r. length (block_of base r) ≤ size) rs
-    → All (λ r. length (record_text base size r) ≡ bytes + size) rs
-text-lengths base size bytes [] lens fit = All-nil (λ r. length (record_text base size r) ≡ bytes + size)
-text-lengths base size bytes (r ∷ rs) lens fit =
-    let here = All-head (λ x. length x.samples ≡ bytes) r rs lens in
-    let block = length-filled (block_of base r) size (All-head (λ x. length (block_of base x) ≤ size) r rs fit) in
-    All-cons (λ x. length (record_text base size x) ≡ bytes + size) r rs
-    (length-append r.samples (block_of base r ++ replicate (size - length (block_of base r)) 0) ∙ omega (arith, here, block))
-    (text-lengths base size bytes rs (All-tail (λ x. length x.samples ≡ bytes) r rs lens) (All-tail (λ x. length (block_of base x) ≤ size) r rs fit))
+pub lines-more : {X : Type 0} (f : X → List ℕ) (xs : List X) (i : ℕ) (d : X) → i < length xs
+    → flat_map f (take (i + 1) xs) ≡ flat_map f (take i xs) ++ f (get_or xs i d)
+lines-more f xs i d lt = ap (flat_map f) (take_more xs i d lt) ∙ sym (flat_map_more f [] (take i xs) (get_or xs i d))
 
-pub file-length : (header : List ℕ) (base size bytes : ℕ) (rs : List DataRecord) → All (λ r. length r.samples ≡ bytes) rs → All (λ r. length (block_of base r) ≤ size) rs
-    → length header + length rs * (bytes + size) ≡ length (header ++ flat_map (record_text base size) rs)
-file-length header base size bytes rs lens fit =
-    omega (arith, length-append header (flat_map (record_text base size) rs), length-parts (record_text base size) (bytes + size) rs (text-lengths base size bytes rs lens fit))
+pub lines-split : {X : Type 0} (f : X → List ℕ) (xs : List X) (i : ℕ) (d : X) → i < length xs
+    → flat_map f xs ≡ flat_map f (take i xs) ++ (f (get_or xs i d) ++ flat_map f (drop (i + 1) xs))
+lines-split f xs i d lt =
+    ap (flat_map f) (sym (take-append-drop (i + 1) xs)) ∙ flat_map-append f (take (i + 1) xs) (drop (i + 1) xs)
+    ∙ ap (λ (l : List ℕ). l ++ flat_map f (drop (i + 1) xs)) (lines-more f xs i d lt)
+    ∙ append_assoc (flat_map f (take i xs)) (f (get_or xs i d)) (flat_map f (drop (i + 1) xs))
 
--- a list that has a first
-pub first-of : (rs : List DataRecord) (d : DataRecord) → 0 < length rs → (others : List DataRecord) × (rs ≡ get_or rs 0 d ∷ others)
-first-of [] d some = absurd (omega arith)
-first-of (r ∷ rs) d some = (rs, refl)
+module _ (spell : ℕ → List ℕ) (h : Holdings) where
+  abbrev line_of : ℕ → Key → List ℕ
+  line_of place k = list_line spell place k (h k)
 
--- what is put out is laid out as the records' file
-pub laid-out : (k : Key) (records : List DataRecord) (first : DataRecord) (base start samples : ℕ) (header : List ℕ) → start ≡ first.start → base ≡ second_of first.start
-    → IsCanonicalHeader header k start (length records) samples → Hold base samples records → ((fewer : ℕ) → Hold base fewer records → samples ≤ fewer)
-    → IsLaidOut (header ++ flat_map (record_text base (2 * samples)) records) k first records
-laid-out k records first base start samples header start-is base-is is-header holds least = record {
-  samples = samples;
-  header = header;
-  is_header = subst (λ (n : ℕ). IsCanonicalHeader header k n (length records) samples) start-is is-header;
-  holds = subst (λ (n : ℕ). Hold n samples records) base-is holds;
-  least = subst (λ (n : ℕ). (fewer : ℕ) → Hold n fewer records → samples ≤ fewer) base-is least;
-  parts = ap (λ (n : ℕ). header ++ flat_map (record_text n (2 * samples)) records) base-is;
-}
+  listed-suc : (keys : List Key) (place i : ℕ) (d : Key) → i < length keys
+      → list_lines spell h place (take (suc i) keys) ≡ list_lines spell h place (take i keys) ++ line_of (place + i) (get_or keys i d)
+  listed-suc [] place i d lt = absurd (omega (arith, lt))
+  listed-suc (k ∷ ks) place zero d lt =
+      append-nil (line_of place k) ∙ ap (λ (n : ℕ). line_of n k) (sym (add-zero place))
+  listed-suc (k ∷ ks) place (suc i) d lt =
+      let e : (place + 1) + i ≡ place + suc i = omega arith in
+      ap (λ (l : List ℕ). line_of place k ++ l) (listed-suc ks (place + 1) i d (omega (arith, lt)))
+      ∙ sym (append_assoc (line_of place k) (list_lines spell h (place + 1) (take i ks)) (line_of ((place + 1) + i) (get_or ks i d)))
+      ∙ ap (λ (n : ℕ). (line_of place k ++ list_lines spell h (place + 1) (take i ks)) ++ line_of n (get_or ks i d)) e
 
-pub written : (before after : Option (List ℕ)) (k : Key) (records : List DataRecord) (first : DataRecord) (others : List DataRecord) (base samples ordinary : ℕ)
-    (header : List ℕ) → records ≡ first ∷ others → IsLaidOut (header ++ flat_map (record_text base (2 * samples)) records) k first records → Hold base samples records
-    → All (λ r. length r.samples ≡ 2 * samples_in_all k.signals) records → ordinary ≡ 2 * samples_in_all k.signals
-    → Appends before after (header ++ flat_map (record_text base (2 * samples)) records)
-    → IsFileWritten before after k records (length header + length records * (ordinary + 2 * samples))
-written before after k records first others base samples ordinary header records-are laid holds sizes ordinary-is wrote =
-    record {
-      file = header ++ flat_map (record_text base (2 * samples)) records;
-      first = first;
-      others = others;
-      records_are = records-are;
-      laid_out = laid;
-      wrote = wrote;
-      len_is = ap (λ n. length header + length records * (n + 2 * samples)) ordinary-is
-          ∙ file-length header base (2 * samples) (2 * samples_in_all k.signals) records sizes holds;
-    }
+  pub listed-more : (keys : List Key) (place i : ℕ) (d : Key) → i < length keys
+      → list_lines spell h place (take (i + 1) keys) ≡ list_lines spell h place (take i keys) ++ line_of (place + i) (get_or keys i d)
+  listed-more keys place i d lt = ap (λ (n : ℕ). list_lines spell h place (take n keys)) (add-one i) ∙ listed-suc keys place i d lt
 
--- nothing was written yet
-pub none-begun : (known : Option (List ℕ)) (k : Key) (records : List DataRecord) → IsFileBegun known known k records
-none-begun known k records = λ file first others are laid. record { front = []; left = file; parts = refl; wrote = Appends-nil known }
+  pub listed-split : (keys : List Key) (place i : ℕ) (d : Key) → i < length keys
+      → (rest : List ℕ) × (list_lines spell h place keys ≡ list_lines spell h place (take i keys) ++ (line_of (place + i) (get_or keys i d) ++ rest))
+  listed-split [] place i d lt = absurd (omega (arith, lt))
+  listed-split (k ∷ ks) place zero d lt =
+      (list_lines spell h (place + 1) ks, ap (λ (n : ℕ). line_of n k ++ list_lines spell h (place + 1) ks) (sym (add-zero place)))
+  listed-split (k ∷ ks) place (suc i) d lt =
+      let then = listed-split ks (place + 1) i d (omega (arith, lt)) in
+      let e : (place + 1) + i ≡ place + suc i = omega arith in (
+        then.0,
+        ap (λ (l : List ℕ). line_of place k ++ l) then.1
+            ∙ sym (append_assoc (line_of place k) (list_lines spell h (place + 1) (take i ks)) (line_of ((place + 1) + i) (get_or ks i d) ++ then.0))
+            ∙ ap (λ (n : ℕ). (line_of place k ++ list_lines spell h (place + 1) (take i ks)) ++ (line_of n (get_or ks i d) ++ then.0)) e,
+      )
 
--- a front of a text that is laid out as the records' file
-pub begun : (before after : Option (List ℕ)) (k : Key) (records : List DataRecord) (first : DataRecord) (others : List DataRecord) (text : List ℕ) → records ≡ first ∷ others
-    → IsLaidOut text k first records → WritesFront before after text → IsFileBegun before after k records
-begun before after k records first others text are laid w = λ file one more is other.
-    let same : one ≡ first = ap (λ (rs : List DataRecord). get_or rs 0 one) (sym is ∙ are) in
-    subst (λ (b : List ℕ). WritesFront before after b) (one-laid-out text file k first records laid (subst (λ (x : DataRecord). IsLaidOut file k x records) same other)) w
+-- ---- files beside their answers
 
--- of the records' canonical file
-pub front-of-file : (before after : Option (List ℕ)) (k : Key) (records : List DataRecord) → IsFileBegun before after k records → (file : List ℕ) → IsCanonicalFile file k records
-    → WritesFront before after file
-front-of-file before after k [] b file is = absurd is
-front-of-file before after k (r ∷ rs) b file is = b file r rs refl is.1
+module _ (spell : ℕ → List ℕ) (files : List (String Global)) (answers : List Answer) where
+  abbrev pub pairs : List (List ℕ × Answer)
+  pairs = zip (map string_bytes files) answers
+
+  abbrev pub pair_line : List ℕ × Answer → List ℕ
+  pair_line p = take_line spell p.0 p.1
+
+  pub length-pairs : (n : ℕ) → n ≡ min (length files) (length answers) → length pairs ≤ n
+  length-pairs n e = omega (arith, length-zip (map string_bytes files) answers, length-map files (string_bytes {Z = Global}), e)
+
+  module _ (n : ℕ) (file : String Global) (answer : Answer) (name : List ℕ) (in_files : n < length files) (in_answers : n < length answers)
+      (is_file : file ≡ get_or files n file) (is_answer : answer ≡ get_or answers n answer) (is_name : name ≡ string_bytes file) where
+    there : n < length pairs
+    there = omega (arith, length-zip (map string_bytes files) answers, length-map files (string_bytes {Z = Global}))
+
+    at-pair : get_or pairs n (string_bytes file, answer) ≡ (name, answer)
+    at-pair =
+        get_or-zip (map string_bytes files) answers n (string_bytes file, answer) (omega (arith, length-map files (string_bytes {Z = Global}))) in_answers
+        ∙ ap (λ (x : List ℕ). (x, get_or answers n answer)) (get_or-map string_bytes files n file (string_bytes file) in_files ∙ sym (ap string_bytes is_file) ∙ sym is_name)
+        ∙ ap (λ (a : Answer). (name, a)) (sym is_answer)
+
+    pub taken-more : flat_map pair_line (take (n + 1) pairs) ≡ flat_map pair_line (take n pairs) ++ take_line spell name answer
+    taken-more = lines-more pair_line pairs n (string_bytes file, answer) there ∙ ap (λ (p : List ℕ × Answer). flat_map pair_line (take n pairs) ++ pair_line p) at-pair
+
+    pub taken-split : flat_map pair_line pairs ≡ flat_map pair_line (take n pairs) ++ (take_line spell name answer ++ flat_map pair_line (drop (n + 1) pairs))
+    taken-split = lines-split pair_line pairs n (string_bytes file, answer) there
+        ∙ ap (λ (p : List ℕ × Answer). flat_map pair_line (take n pairs) ++ (pair_line p ++ flat_map pair_line (drop (n + 1) pairs))) at-pair
+
+-- ---- recordings from the first place on
+
+module _ (spell : ℕ → List ℕ) (h : Holdings) (keys : List Key) (i : ℕ) (k : Key) (within : i < length keys) (is : k ≡ get_or keys i k) where
+  next-line : list_line spell (1 + i) (get_or keys i k) (h (get_or keys i k)) ≡ list_line spell (i + 1) k (h k)
+  next-line =
+      let e : 1 + i ≡ i + 1 = omega arith in
+      ap (λ (n : ℕ). list_line spell n (get_or keys i k) (h (get_or keys i k))) e ∙ ap (λ (q : Key). list_line spell (i + 1) q (h q)) (sym is)
+
+  pub listed-next : list_lines spell h 1 (take (i + 1) keys) ≡ list_lines spell h 1 (take i keys) ++ list_line spell (i + 1) k (h k)
+  listed-next = listed-more spell h keys 1 i k within ∙ ap (λ (l : List ℕ). list_lines spell h 1 (take i keys) ++ l) next-line
+
+  pub listed-past : (rest : List ℕ) × (list_lines spell h 1 keys ≡ list_lines spell h 1 (take i keys) ++ (list_line spell (i + 1) k (h k) ++ rest))
+  listed-past =
+      let it = listed-split spell h keys 1 i k within in
+      (it.0, it.1 ∙ ap (λ (l : List ℕ). list_lines spell h 1 (take i keys) ++ (l ++ it.0)) next-line)

@@ -1,18 +1,27 @@
-//! The commands of `edfstore`, over any reader and writer.
+//! The orders of `edfstore`, over any store, files and writers.
 //!
-//! - [`convert`]: one EDF+ file in, its canonical EDF+D file out.
-//! - [`ConvertFault`]: why a file is not converted.
-//! - [`laws`]: sound records have one canonical file, which is read again; functions that do nothing, each with a law for a contract.
+//! - [`read_order`]: the words after the program's name, as an order; help and usage are written.
+//! - [`store_path`], [`refuse_store`]: the store that an order names, and the line where it can't be opened.
+//! - [`run`]: one order over its store and over what opens files ([`Inputs`]).
+//! - [`parse`], [`Order`], [`CommandFault`]: the words, read, and nothing else.
+//! - [`Status`]: how it went, and the number that the program ends with.
+//! - [`refusal_text`]: a refusal as a line tells it.
 #![tactic(auto)]
 
-mod blocks;
-mod conversion;
-mod fault;
-mod file;
-pub mod laws;
+mod converting;
+mod inputs;
+mod listing;
 mod output;
-#[cfg(test)]
-mod tests;
+mod program;
+mod refusal;
+mod running;
+mod sending;
+mod status;
+mod taking;
 
-pub use conversion::convert;
-pub use fault::ConvertFault;
+pub use edf_order::{CommandFault, Order, parse};
+pub use inputs::Inputs;
+pub use program::{read_order, refuse_store, store_path};
+pub use refusal::refusal_text;
+pub use running::run;
+pub use status::Status;

@@ -1,93 +1,46 @@
-//! Writing through a buffer of 64 KiB, which the caller keeps beside its writer.
+//! Writing lines.
 
-ghost use Rattle.std.specs.Prelude.{◌≡◌, ℕ, ◌-◌, ◌++◌, [], List, Option, length, replicate};
-ghost use Rattle.edf_command.specs.Inside.Output.{buffered, IsPut, IsFlushed};
+ghost use Rattle.std.specs.Prelude.{◌≡◌, ℕ, List, IfOk};
+ghost use Rattle.edf_command.specs.Run.{IsPut, IsTold};
 
-use crate::fault::OutputFault;
+use crate::status::Status;
 use edf_fragment::{Output, send};
+use std::alloc::AllocError;
 
-/// How many bytes are held back at most.
-const CAPACITY: usize = 65_536;
-
-/// Writes out what is held.
-pub(crate) fn flush<W: Output>(out: &mut W, held: &mut Vec<u8>) -> Result<(), OutputFault>
-    ensures { IsFlushed (buffered (W.contents out.old) (W.failures out.old) held.old.items)
-        (buffered (W.contents out.new) (W.failures out.new) held.new.items) result }
+/// Writes a line, and answers whether it was written whole. One for whose text memory was refused is not written.
+pub(crate) fn put_line<W: Output>(out: &mut W, line: Result<Vec<u8>, AllocError>) -> bool
+    ensures { (text : List ℕ) → IfOk line (λ l. l.items ≡ text) →
+        IsPut (record { before = W.contents out.old; after = W.contents out.new }) text result }
 {
-    if !send(out, held.as_slice()) {
-        return Err(OutputFault::Write);
-    }
-    held.clear();
-    Ok(())
-}
-
-/// Writes bytes out behind those that are held.
-fn put_through<W: Output>(out: &mut W, held: &mut Vec<u8>, bytes: &[u8]) -> Result<(), OutputFault>
-    ensures { IsPut (buffered (W.contents out.old) (W.failures out.old) held.old.items)
-        (buffered (W.contents out.new) (W.failures out.new) held.new.items) bytes.now result }
-{
-    match flush(out, held) {
-        Ok(()) => {}
-        Err(fault) => return Err(fault),
-    }
-    if !send(out, bytes) {
-        return Err(OutputFault::Write);
-    }
-    Ok(())
-}
-
-/// Holds bytes back behind those that are held.
-fn hold<W: Output>(out: &mut W, held: &mut Vec<u8>, bytes: &[u8]) -> Result<(), OutputFault>
-    ensures { IsPut (buffered (W.contents out.old) (W.failures out.old) held.old.items)
-        (buffered (W.contents out.new) (W.failures out.new) held.new.items) bytes.now result }
-{
-    match held.extend_from_slice(bytes) {
-        Ok(()) => Ok(()),
-        Err(_) => Err(OutputFault::Memory),
+    match line {
+        Ok(line) => send(out, line.as_slice()),
+        Err(_) => false,
     }
 }
 
-/// Holds the bytes back behind those that are held, where there is room, and else writes.
-pub(crate) fn put<W: Output>(
+/// Writes bytes and answers a status; trouble where they are not written whole.
+pub(crate) fn tell_bytes<W: Output>(out: &mut W, bytes: &[u8], status: Status) -> Status
+    ensures { IsTold (record { before = W.contents out.old; after = W.contents out.new }) bytes.now status result }
+{
+    if send(out, bytes) {
+        status
+    } else {
+        Status::Trouble
+    }
+}
+
+/// Writes a line and answers a status; trouble where it is not written whole.
+pub(crate) fn tell<W: Output>(
     out: &mut W,
-    held: &mut Vec<u8>,
-    bytes: &[u8],
-) -> Result<(), OutputFault>
-    ensures { IsPut (buffered (W.contents out.old) (W.failures out.old) held.old.items)
-        (buffered (W.contents out.new) (W.failures out.new) held.new.items) bytes.now result }
+    line: Result<Vec<u8>, AllocError>,
+    status: Status,
+) -> Status
+    ensures { (text : List ℕ) → IfOk line (λ l. l.items ≡ text) →
+        IsTold (record { before = W.contents out.old; after = W.contents out.new }) text status result }
 {
-    if bytes.len() >= CAPACITY {
-        return put_through(out, held, bytes);
+    if put_line(out, line) {
+        status
+    } else {
+        Status::Trouble
     }
-    if bytes.len() <= CAPACITY.saturating_sub(held.len()) {
-        return hold(out, held, bytes);
-    }
-    match flush(out, held) {
-        Ok(()) => hold(out, held, bytes),
-        Err(fault) => Err(fault),
-    }
-}
-
-/// Zeros, as many as are put at once.
-const ZEROS: [u8; 4_096] = [0; 4_096];
-
-/// Puts so many zeros.
-pub(crate) fn put_zeros<W: Output>(
-    out: &mut W,
-    held: &mut Vec<u8>,
-    count: usize,
-) -> Result<(), OutputFault>
-    ensures { IsPut (buffered (W.contents out.old) (W.failures out.old) held.old.items)
-        (buffered (W.contents out.new) (W.failures out.new) held.new.items) (replicate count 0) result }
-{
-    let mut left = count;
-    while left > 0 {
-        let piece = left.min(4_096);
-        match put(out, held, &ZEROS[..piece]) {
-            Ok(()) => {}
-            Err(fault) => return Err(fault),
-        }
-        left -= piece;
-    }
-    Ok(())
 }

@@ -89,6 +89,13 @@ pub record HasPieces (l : Layout) (p : Progress) (left rest : Option (List ℕ))
   pub room : l.block_at ≤ length samples
   pub read : Consumes left rest (around l.block_at samples blk)
 
+-- by the place at which the block was told to stand
+pub pieces_at : (l : Layout) (p : Progress) (left rest : Option (List ℕ)) (samples blk : List ℕ) (at : ℕ) → p.given < l.count
+    → length samples + l.block_bytes ≡ l.record_bytes → length blk ≡ l.block_bytes → l.block_at ≤ length samples → at ≡ l.block_at
+    → Consumes left rest (around at samples blk) → HasPieces l p left rest samples blk
+pieces_at l p left rest samples blk at wanted total len room is read =
+    record { wanted = wanted; total = total; len = len; room = room; read = subst (λ (n : ℕ). Consumes left rest (around n samples blk)) is read }
+
 pub given_record : (l : Layout) (p : Progress) (left rest : Option (List ℕ)) (samples blk : List ℕ) (s : ℕ) (r t : DataRecord) → HasPieces l p left rest samples blk
     → s ≡ l.start → IsRead blk s p.place t.start t.annotations → r ≡ t → t.samples ≡ samples → GivesRecord l p left rest r
 given_record l p left rest samples blk s r t h from read whole same =

@@ -57,8 +57,7 @@ pub record ReadsInSignals (left rest : Option (List ℕ)) : Type 0 where
   pub is_fixed : IsFixedHeader first fixed
   pub fewer : length second < 256 * fixed.signal_count
 
--- memory ran out behind a fixed part without a fault: before a byte of its signals was read, or behind signals that are
--- as long as they must be and printable
+-- memory ran out behind a fixed part without a fault: before a byte of its signals was read, or behind signals that have none
 pub record LacksHeaderMemory (left rest : Option (List ℕ)) : Type 0 where
   pub fixed : FixedPart
   pub first : List ℕ
@@ -66,7 +65,7 @@ pub record LacksHeaderMemory (left rest : Option (List ℕ)) : Type 0 where
   pub read : Consumes left rest (first ++ second)
   pub is_fixed : IsFixedHeader first fixed
   pub within : length second ≤ 256 * fixed.signal_count
-  pub clean : (second ≡ []) ⊎ IsClean (SignalsFail second fixed.signal_count) 16
+  pub clean : (second ≡ []) ⊎ IsClean (SignalsFail second fixed.signal_count) 21
 
 -- why there is no header, and what of the input was read
 abbrev pub IsOpenFault : Option (List ℕ) → Option (List ℕ) → FragmentFault → Type 0

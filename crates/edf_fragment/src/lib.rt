@@ -16,8 +16,6 @@ mod opening;
 mod progress;
 mod reader;
 mod record;
-#[cfg(test)]
-mod sample;
 mod streams;
 mod whole;
 

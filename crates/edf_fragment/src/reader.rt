@@ -91,6 +91,3 @@ impl<'a, R: Input> FragmentReader<'a, R> {
         self.fragment.next(self.input)
     }
 }
-
-#[cfg(test)]
-mod tests;

@@ -112,6 +112,3 @@ impl Record {
             && same_notes(self.notes.as_slice(), other.notes.as_slice())
     }
 }
-
-#[cfg(test)]
-mod tests;

@@ -60,6 +60,3 @@ pub fn read_fragment<R: Input>(
         Err(fault) => Err(fault),
     }
 }
-
-#[cfg(test)]
-mod tests;

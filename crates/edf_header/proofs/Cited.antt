@@ -1,5 +1,5 @@
 -- The proofs of the public laws that other crates' proofs cite; they cite no other file of these.
-use Rattle.std.proofs.Common.{◌≡◌, ℕ, ◌+◌, ◌*◌, ◌/◌, ◌^◌, ◌≤◌, ◌<◌, List, ◌⊎◌}
+use Rattle.std.proofs.Common.{◌≡◌, ℕ, ◌*◌, ◌/◌, ◌^◌, ◌≤◌, ◌<◌, List, ◌⊎◌}
 use Rattle.edf_field.specs.Number.{duration_of}
 use Rattle.edf_header.specs.Key.{Key, IsKey, IsSized, key_at, key_bytes}
 use Rattle.edf_header.specs.Header.{FixedPart, HeaderRecord, IsFixed, IsFixedHeader, AreSignals, IsHeader, key_of, layout_of, IsLayout}

@@ -1,13 +1,10 @@
 -- Facts that hold or do not.
-use Rattle.std.proofs.Common.{◌≡◌, ℕ, zero, suc, ◌≤◌, ◌<◌, Bool, List, [], ◌∷◌, arith, subst, inl, inr, ℤ}
-use Rattle.std.specs.Prelude.{All, ◌⊎◌, ◌<ℤ◌, ◌≤ℤ◌}
-use Rattle.std.specs.Bool.{Decides}
+use Rattle.std.proofs.Common.{◌≡◌, ℕ, zero, suc, List, [], ◌∷◌, arith, inl, inr, ℤ}
+use Rattle.std.specs.Prelude.{All, ◌⊎◌}
 use Rattle.std.specs.List.{AllWithin}
-use Rattle.std.proofs.lemmas.Bool.{cases_lt, cases_eq, cases_Bool}
-use Rattle.std.proofs.lemmas.Bool.Decides.{Decides-int_eq, not_from_Decides}
-use Rattle.std.proofs.lemmas.Int.{by_lt_z}
+use Rattle.std.proofs.lemmas.Bool.{cases_eq}
+use Rattle.std.proofs.lemmas.Bool.Decides.{Decides-int_eq}
 use Rattle.std.proofs.lemmas.List.Elements.{All-nil, All-cons}
-use Rattle.std.proofs.lemmas.Slice.Eq.{bytes_eq-Decides}
 pub use Rattle.edf_time.proofs.Decided.{Decided, of-test, like, both, either, less, at-most, at-most-int, less-int, same-bytes, some-below}
 use Rattle.edf_header.specs.Signal.{IsFirstBad}
 

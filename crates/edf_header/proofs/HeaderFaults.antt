@@ -11,6 +11,8 @@ use Rattle.edf_header.specs.declared.signal_checks.Check.TheVariants as checks
 use Rattle.edf_header.specs.declared.fault.HeaderFault.{HeaderFault}
 use Rattle.edf_header.specs.declared.fault.HeaderFault.TheVariants.{CutSignals, UnprintableSignals, Annotations, Physical, Digital, Samples, Size}
 use Rattle.edf_header.proofs.Faults.{not-bad}
+use Rattle.std.proofs.lemmas.List.{take_all}
+use Rattle.edf_header.proofs.RowSteps.{length-signals}
 use Rattle.edf_header.proofs.RowFaults.{ordinary-is, ordinary-front, samples-parts, large-block, has-annotations}
 
 -- no fault has a lower number
@@ -89,10 +91,13 @@ sound-is ss at s p d n small = record {
   ];
 }
 
-pub extents-are : (ss before : List (List ℕ)) (at all front block : ℕ) → IsSplit ss at → all ≡ samples_in_all (ordinary ss) → before ≡ take at ss → front ≡ samples_in_all (ordinary before)
+pub all-samples : (b : List ℕ) (n total : ℕ) → total ≡ samples_in_all (ordinary (take n (signals_of b n))) → total ≡ samples_in_all (ordinary (signals_of b n))
+all-samples b n total is = is ∙ ap (λ (l : List (List ℕ)). samples_in_all (ordinary l)) (take_all n (signals_of b n) (omega (arith, length-signals b n)))
+
+pub extents-are : (ss : List (List ℕ)) (at all front block : ℕ) → IsSplit ss at → all ≡ samples_in_all (ordinary ss) → front ≡ samples_in_all (ordinary (take at ss))
     → block ≡ samples (annotations_at ss at) → AreExtents ss at (record { block_at = 2 * front; block_bytes = 2 * block; record_bytes = 2 * all + 2 * block })
-extents-are ss before at all front block s all-is before-is front-is block-is = record {
-  block_at = ap (λ (k : ℕ). 2 * k) (front-is ∙ ap (λ (l : List (List ℕ)). samples_in_all (ordinary l)) before-is ∙ ap samples_in_all (ordinary-front ss at s));
+extents-are ss at all front block s all-is front-is block-is = record {
+  block_at = ap (λ (k : ℕ). 2 * k) (front-is ∙ ap samples_in_all (ordinary-front ss at s));
   block_bytes = ap (λ (k : ℕ). 2 * k) block-is;
   record_bytes = omega (arith, samples-parts ss at s.within, ap samples_in_all (ordinary-is ss at s));
 }
@@ -114,11 +119,7 @@ signals-fail b n e bad = bad
 pub clean-signals : (b : List ℕ) (n k : ℕ) → length b ≡ 256 * n → All IsPrintable b → IsClean (RowsFail (signals_of b n)) k → IsClean (SignalsFail b n) k
 clean-signals b n k len printable clean e lt bad = clean e lt (rows-fail b n len printable e bad)
 
--- bytes of the length, all printable, have no fault below E16
-pub clean-bytes : (b : List ℕ) (n : ℕ) → length b ≡ 256 * n → All IsPrintable b → IsClean (SignalsFail b n) 16
-clean-bytes b n len printable = clean-signals b n 16 len printable (clean-16 (signals_of b n))
-
-pub first-signals : (b : List ℕ) (n : ℕ) (ss : List (List ℕ)) (e : HeaderFault) → ss ≡ signals_of b n → length b ≡ 256 * n → All IsPrintable b → IsFirst (RowsFail ss) e → IsFirst (SignalsFail b n) e
-first-signals b n ss e is len printable first =
-    let f : IsFirst (RowsFail (signals_of b n)) e = subst (λ (l : List (List ℕ)). IsFirst (RowsFail l) e) is first in
-    (signals-fail b n e f.0, clean-signals b n (header_fault_number e) len printable f.1)
+pub first-signals : (b : List ℕ) (n m : ℕ) (e : HeaderFault) → n ≡ m → length b ≡ 256 * m → All IsPrintable b → IsFirst (RowsFail (signals_of b n)) e → IsFirst (SignalsFail b m) e
+first-signals b n m e is len printable first =
+    let f : IsFirst (RowsFail (signals_of b m)) e = subst (λ (k : ℕ). IsFirst (RowsFail (signals_of b k)) e) is first in
+    (signals-fail b m e f.0, clean-signals b m (header_fault_number e) len printable f.1)

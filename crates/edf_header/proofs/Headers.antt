@@ -8,11 +8,12 @@ use Rattle.std.specs.Prelude.{All}
 use Rattle.std.specs.List.{flat_map}
 use Rattle.edf_field.specs.Number.{field}
 use Rattle.edf_field.specs.Text.{IsPrintable, spaces}
-use Rattle.edf_header.specs.Signal.{HasSamples, Passes, fields, ordinary, row_at, row_by, rows_of, samples, samples_in_all, signals_of}
+use Rattle.edf_header.specs.Fields.{fields}
+use Rattle.edf_header.specs.Signal.{HasSamples, Passes, ordinary, row_at, row_by, samples, samples_in_all, signals_of}
 use Rattle.edf_header.specs.Key.{IsKey, Key, dated_bytes, key_bytes}
-use Rattle.edf_header.specs.Header.{AreSignals, FixedPart, HeaderRecord, IsFixed, is_dated, key_of, layout_of, IsLayout}
+use Rattle.edf_header.specs.Header.{AreSignals, FixedPart, HeaderRecord, IsFixed, key_of, layout_of, IsLayout}
 use Rattle.edf_header.specs.Inside.Shape.{key_from}
-use Rattle.edf_header.specs.Inside.Rows.{AreExtents, IsSound, annotations_at, others_at}
+use Rattle.edf_header.specs.Inside.Rows.{AreExtents, IsSound, annotations_at}
 use Rattle.edf_header.specs.declared.signals.Extents.{Extents}
 use Rattle.edf_header.specs.declared.signal_checks.Check.TheVariants.{Physical, Digital}
 use Rattle.edf_header.proofs.RowSteps.{sized-signals}
@@ -132,12 +133,9 @@ are-signals b f at len printable s =
       block_size = s.block_size;
     }
 
-pub rows-are : (d items b : List ℕ) (n m : ℕ) → d ≡ items → rows_of items ≡ signals_of b n → n ≡ m → rows_of d ≡ signals_of b m
-rows-are d items b n m is rows e = ap rows_of is ∙ rows ∙ ap (signals_of b) e
-
 -- the key that was read
-pub key-made : (f : FixedPart) (ss : List (List ℕ)) (at : ℕ) (rows : List ℕ) → IsSound ss at → rows_of rows ≡ ss → key_from f (ordinary (rows_of rows)) ≡ key_of (header_of f ss at)
-key-made f ss at rows s is = ap (key_from f) (ap ordinary is ∙ ordinary-is ss at s.split)
+pub key-made : (f : FixedPart) (ss : List (List ℕ)) (at : ℕ) → IsSound ss at → key_from f (ordinary ss) ≡ key_of (header_of f ss at)
+key-made f ss at s = ap (key_from f) (ordinary-is ss at s.split)
 
 -- the bytes of the ordinary samples are what the block leaves of a data record
 pub ordinary-left : (ss : List (List ℕ)) (at : ℕ) (p : Extents) → IsSound ss at → AreExtents ss at p → p.record_bytes ≡ 2 * samples_in_all (ordinary ss) + p.block_bytes

@@ -12,7 +12,6 @@ pub mod FixedLaws
 pub mod FixedRows
 pub mod Held
 pub mod Faults
-pub mod RowCuts
 pub mod RowFaults
 pub mod HeaderFaults
 pub mod Headers

@@ -1,14 +1,16 @@
 -- Rows, one after another, and their columns.
-use Rattle.std.proofs.Common.{◌≡◌, ℕ, zero, suc, ◌+◌, ◌-◌, ◌*◌, ◌/◌, ◌≤◌, ◌<◌, List, [], ◌∷◌, ◌++◌, length, get_or, take, drop, map, mul-le-mul_left, mul-le-mul_right, length-append, arith, refl, sym, ap, subst, ◌∙◌}
-use Rattle.std.proofs.lemmas.List.{drop-drop, flat_map_more, take_more, take_all, get_or_default}
-use Rattle.std.proofs.lemmas.List.FromFn.{length-map-range_with_len, get_or-map-range_with_len, map-range_with_len_more}
+use Rattle.std.proofs.Common.{◌≡◌, ℕ, zero, suc, ◌+◌, ◌-◌, ◌*◌, ◌/◌, ◌≤◌, ◌<◌, List, [], ◌∷◌, ◌++◌, length, get_or, take, drop, mul-le-mul_left, mul-le-mul_right, length-append, length-drop, arith, refl, sym, ap, subst, ◌∙◌}
+use Rattle.std.proofs.lemmas.List.{drop-drop, flat_map_more, take_more, take_all, get_or_default, get_or-drop}
+use Rattle.std.proofs.lemmas.List.FromFn.{length-map-range_with_len, get_or-map-range_with_len}
 use Rattle.std.specs.Prelude.{All, Option, Some, None, MatchOption}
-use Rattle.std.specs.List.{flat_map, range_with_len, AllWithin, HoldsAt}
-use Rattle.edf_header.proofs.Strides.{Tiles, tiles-fit, length-field, length-parts}
-use Rattle.edf_header.proofs.Keys.{rows-back}
+use Rattle.std.specs.List.{flat_map, AllWithin, HoldsAt}
+use Rattle.edf_header.proofs.Strides.{Tiles, tiles-fit, length-field}
+use Rattle.std.proofs.lemmas.Slice.{take-put_mid}
+use borrow.Rule.Slice.PartMut.{put_mid}
 use Rattle.std.proofs.lemmas.List.Elements.{AllWithin-more, All-from_all_within}
 use Rattle.edf_field.specs.Number.{field}
-use Rattle.edf_header.specs.Signal.{IsFirstBad, column_of, fields, row_at, row_by, rows, rows_of, signals_of}
+use Rattle.edf_header.specs.Fields.{fields}
+use Rattle.edf_header.specs.Signal.{IsFirstBad, column_of, row_at, row_by, rows, rows_of, signals_of}
 
 pub length-rows : (n : ℕ) (bytes : List ℕ) → length (rows n bytes) ≡ n
 length-rows zero bytes = refl
@@ -89,42 +91,88 @@ sized-signals bytes n len k d lt =
     let inside : k < n = omega (arith, length-map-range_with_len (row_at bytes n) 0 n) in
     rw (get_or-map-range_with_len (row_at bytes n) 0 n k k d inside (omega arith)) (omega (arith, length-row fields 0 bytes n k tiles len inside))
 
-pub rows-step : (bytes old new : List ℕ) (n i : ℕ) → old ≡ flat_map (λ s. s) (map (row_at bytes n) (range_with_len 0 i)) → new ≡ old ++ row_at bytes n i
-    → new ≡ flat_map (λ s. s) (map (row_at bytes n) (range_with_len 0 (i + 1)))
-rows-step bytes old new n i was is =
-    is ∙ ap (λ (l : List ℕ). l ++ row_at bytes n i) was
-    ∙ flat_map_more (λ (s : List ℕ). s) [] (map (row_at bytes n) (range_with_len 0 i)) (row_at bytes n i)
-    ∙ ap (λ (l : List (List ℕ)). flat_map (λ (s : List ℕ). s) l) (sym (map-range_with_len_more (row_at bytes n) 0 i i (omega arith)))
+-- the rows of all signals, one by one
+pub row-at : (bytes : List ℕ) (n i : ℕ) → i < n → get_or (signals_of bytes n) i [] ≡ row_at bytes n i
+row-at bytes n i lt = get_or-map-range_with_len (row_at bytes n) 0 n i i [] lt (omega arith)
 
-pub rows-end : (bytes out : List ℕ) (n : ℕ) → length bytes ≡ 256 * n → out ≡ flat_map (λ s. s) (signals_of bytes n) → (rows_of out ≡ signals_of bytes n) × (length out ≡ 256 * n)
-rows-end bytes out n len is =
-    let each = sized-signals bytes n len in
-    let count : length (signals_of bytes n) ≡ n = length-map-range_with_len (row_at bytes n) 0 n in
-    let size : length out ≡ length (signals_of bytes n) * 256 = ap length is ∙ length-parts (λ (s : List ℕ). s) 256 (signals_of bytes n) each in
-    let n-is : length out / 256 ≡ length (signals_of bytes n) = omega arith in
-    (ap (λ (k : ℕ). rows k out) n-is ∙ ap (rows (length (signals_of bytes n))) is ∙ rows-back (signals_of bytes n) each, omega (arith, size, count))
+pub length-signals : (bytes : List ℕ) (n : ℕ) → length (signals_of bytes n) ≡ n
+length-signals bytes n = length-map-range_with_len (row_at bytes n) 0 n
+
+pub length-one : (bytes : List ℕ) (n i : ℕ) → length bytes ≡ 256 * n → i < n → length (row_at bytes n i) ≡ 256
+length-one bytes n i len lt = omega (arith, length-row fields 0 bytes n i tiles len lt)
+
+-- a row that is filled field by field: where the next field goes, and one field more
+place-of : (fs : List (ℕ × ℕ)) (place : ℕ) (bytes : List ℕ) (n i k : ℕ) → Tiles place fs → length bytes ≡ 256 * n → i < n → k < length fs
+    → length (row_by (take k fs) bytes n i) + place ≡ (get_or fs k (0, 0)).0
+place-of [] place bytes n i k ts len lt inside = absurd (omega arith)
+place-of (f ∷ fs) place bytes n i zero ts len lt inside = let at-is : f.0 ≡ place = ts.0 in omega arith
+place-of (f ∷ fs) place bytes n i (suc k) ts len lt inside =
+    let fit : place + f.1 ≤ 256 = tiles-fit (place + f.1) fs ts.1 in
+    let at-is : f.0 ≡ place = ts.0 in
+    let one : length (field bytes (n * f.0 + i * f.1) f.1) ≡ f.1 = length-field bytes (n * f.0 + i * f.1) f.1 (omega (arith, column-fits n i f.0 f.1 lt (omega arith))) in
+    let more : length (row_by (take k fs) bytes n i) + (place + f.1) ≡ (get_or fs k (0, 0)).0 = place-of fs (place + f.1) bytes n i k ts.1 len lt (omega arith) in
+    omega (arith, one, more, length-append (field bytes (n * f.0 + i * f.1) f.1) (row_by (take k fs) bytes n i))
+
+fit-of : (fs : List (ℕ × ℕ)) (place k : ℕ) → Tiles place fs → k < length fs → (get_or fs k (0, 0)).0 ≤ 256
+fit-of [] place k ts inside = absurd (omega arith)
+fit-of (f ∷ fs) place zero ts inside = let at-is : f.0 ≡ place = ts.0 in omega (arith, tiles-fit (place + f.1) fs ts.1)
+fit-of (f ∷ fs) place (suc k) ts inside = fit-of fs (place + f.1) k ts.1 (omega arith)
+
+pub row-step : (bytes row part : List ℕ) (n i k room : ℕ) → length bytes ≡ 256 * n → i < n → k < 10 → length row ≡ 256
+    → take (length (row_by (take k fields) bytes n i)) row ≡ row_by (take k fields) bytes n i
+    → part ≡ field bytes (n * (get_or fields k (0, 0)).0 + i * (get_or fields k (0, 0)).1) (get_or fields k (0, 0)).1
+    → take (length (row_by (take (k + 1) fields) bytes n i)) (put_mid (get_or fields k (0, 0)).0 room row part) ≡ row_by (take (k + 1) fields) bytes n i
+row-step bytes row part n i k room len lt inside long was is =
+    let fits : (get_or fields k (0, 0)).0 ≤ length row = omega (arith, fit-of fields 0 k tiles inside) in
+    let at : ℕ = (get_or fields k (0, 0)).0 in
+    let done : List ℕ = row_by (take k fields) bytes n i in
+    let place : length done ≡ at = omega (arith, place-of fields 0 bytes n i k tiles len lt inside) in
+    let more : row_by (take (k + 1) fields) bytes n i ≡ done ++ part =
+    ap (λ (l : List (ℕ × ℕ)). row_by l bytes n i) (take_more fields k (0, 0) inside)
+    ∙ sym (flat_map_more (λ f. field bytes (n * f.0 + i * f.1) f.1) [] (take k fields) (get_or fields k (0, 0)))
+    ∙ ap (λ (l : List ℕ). done ++ l) (sym is) in
+    let front : take at row ≡ done = ap (λ (m : ℕ). take m row) (sym place) ∙ was in
+    let cut : take (length (done ++ part)) (put_mid at room row part) ≡ take at row ++ part = take-put_mid at room row part (length (done ++ part)) (omega (arith, length-append done part)) fits in
+    ap (λ (l : List ℕ). take (length l) (put_mid at room row part)) more ∙ cut ∙ ap (λ (l : List ℕ). l ++ part) front ∙ sym more
+
+pub row-end : (bytes row : List ℕ) (n i k : ℕ) → length bytes ≡ 256 * n → i < n → 10 ≤ k → length row ≡ 256
+    → take (length (row_by (take k fields) bytes n i)) row ≡ row_by (take k fields) bytes n i → row ≡ row_at bytes n i
+row-end bytes row n i k len lt past long was =
+    let all : row_by (take k fields) bytes n i ≡ row_at bytes n i = ap (λ (l : List (ℕ × ℕ)). row_by l bytes n i) (take_all k fields past) in
+    let size : length row ≤ length (row_by (take k fields) bytes n i) = omega (arith, ap length all, length-one bytes n i len lt) in
+    sym (take_all (length (row_by (take k fields) bytes n i)) row size) ∙ was ∙ all
 
 -- a row as a loop slices it
-pub row-sliced : (bytes : List ℕ) (i : ℕ) → i < length bytes / 256 → take (256 * i + 256 - 256 * i) (drop (256 * i) bytes) ≡ get_or (rows_of bytes) i []
-row-sliced bytes i lt = range-field bytes (256 * i) (256 * i + 256) 256 refl ∙ sym (row-is (length bytes / 256) bytes i lt)
+pub row-one : (bytes : List ℕ) (i : ℕ) → i < length bytes / 256
+    → (i < length (rows_of bytes)) × (take (256 * i + 256 - 256 * i) (drop (256 * i) bytes) ≡ get_or (rows_of bytes) i [])
+row-one bytes i lt =
+    (omega (arith, length-rows (length bytes / 256) bytes), range-field bytes (256 * i) (256 * i + 256) 256 refl ∙ sym (row-is (length bytes / 256) bytes i lt))
 
--- the loop that looks for the first bad row: one more good row, a bad one, and the end
-pub good-more : (P : List ℕ → Type 0) (bytes : List ℕ) (i : ℕ) → i < length bytes / 256 → AllWithin P (rows_of bytes) 0 i → P (take (256 * i + 256 - 256 * i) (drop (256 * i) bytes)) → AllWithin P (rows_of bytes) 0 (i + 1)
-good-more P bytes i lt all here =
-    let inside : i < length (rows_of bytes) = omega (arith, length-rows (length bytes / 256) bytes) in
-    AllWithin-more P (rows_of bytes) 0 i all (λ d. subst P (row-sliced bytes i lt ∙ get_or_default (rows_of bytes) i [] d inside) here)
+-- the loop that looks for the first bad member: one more good one, a bad one, and the end
+pub good-more : (P : List ℕ → Type 0) (ss : List (List ℕ)) (i : ℕ) (r : List ℕ) → i < length ss → r ≡ get_or ss i [] → AllWithin P ss 0 i → P r → AllWithin P ss 0 (i + 1)
+good-more P ss i r lt is all here = AllWithin-more P ss 0 i all (λ d. subst P (is ∙ get_or_default ss i [] d lt) here)
 
-pub bad-here : (P : List ℕ → Type 0) (bytes : List ℕ) (i : ℕ) → i < length bytes / 256 → AllWithin P (rows_of bytes) 0 i → (P (take (256 * i + 256 - 256 * i) (drop (256 * i) bytes)) → ⊥) → IsFirstBad P (rows_of bytes) i
-bad-here P bytes i lt all here =
-    let inside : i < length (rows_of bytes) = omega (arith, length-rows (length bytes / 256) bytes) in
-    record {
-      within = inside;
-      bad = λ d held. here (subst P (get_or_default (rows_of bytes) i d [] inside ∙ sym (row-sliced bytes i lt)) held);
-      good = all;
-    }
+pub bad-here : (P : List ℕ → Type 0) (ss : List (List ℕ)) (i : ℕ) (r : List ℕ) → i < length ss → r ≡ get_or ss i [] → AllWithin P ss 0 i → (P r → ⊥) → IsFirstBad P ss i
+bad-here P ss i r lt is all here = record {
+  within = lt;
+  bad = λ d held. here (subst P (get_or_default ss i d [] lt ∙ sym is) held);
+  good = all;
+}
 
-pub all-good : (P : List ℕ → Type 0) (bytes : List ℕ) (i : ℕ) → length bytes / 256 ≤ i → AllWithin P (rows_of bytes) 0 i → All P (rows_of bytes)
-all-good P bytes i past all k d lt = all k d (omega arith) (omega (arith, length-rows (length bytes / 256) bytes))
+pub all-good : (P : List ℕ → Type 0) (ss : List (List ℕ)) (i : ℕ) → length ss ≤ i → AllWithin P ss 0 i → All P ss
+all-good P ss i past all k d lt = all k d (omega arith) (omega arith)
+
+-- a signal of a header, and one that is counted from another
+pub one-at : (bytes : List ℕ) (n i : ℕ) (r : List ℕ) → i < n → r ≡ row_at bytes n i → (i < length (signals_of bytes n)) × (r ≡ get_or (signals_of bytes n) i [])
+one-at bytes n i r lt is = (omega (arith, length-signals bytes n), is ∙ sym (row-at bytes n i lt))
+
+pub behind : (bytes : List ℕ) (n from i : ℕ) → i < n - from → (r : List ℕ) → r ≡ row_at bytes n (from + i)
+    → (i < length (drop from (signals_of bytes n))) × (r ≡ get_or (drop from (signals_of bytes n)) i [])
+behind bytes n from i lt r is =
+    (omega (arith, length-signals bytes n, length-drop from (signals_of bytes n)), is ∙ sym (row-at bytes n (from + i) (omega arith)) ∙ sym (get_or-drop from (signals_of bytes n) i []))
+
+pub length-behind : (bytes : List ℕ) (n from i : ℕ) → n - from ≤ i → length (drop from (signals_of bytes n)) ≤ i
+length-behind bytes n from i past = omega (arith, length-signals bytes n, length-drop from (signals_of bytes n))
 
 -- what `position` answers, in the words of the first bad member
 pub first-from-position : {X : Type 0} (P : X → Type 0) (xs : List X) (r : Option ℕ) → MatchOption r (AllWithin P xs 0 (length xs)) (λ i. (i < length xs) × HoldsAt (λ x. ¬ P x) xs i × AllWithin P xs 0 i)

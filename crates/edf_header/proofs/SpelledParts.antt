@@ -5,7 +5,8 @@ use Rattle.std.specs.List.{flat_map}
 use Rattle.std.proofs.lemmas.List.{length-append, take_at, drop_at, drop-drop}
 use Rattle.std.proofs.lemmas.List.Elements.{All-nil, All-cons, All-head, All-tail, All-append, All-take, All-drop, All-weaker}
 use Rattle.edf_field.specs.Number.{field}
-use Rattle.edf_header.specs.Signal.{fields, column_of, columns_by, columns}
+use Rattle.edf_header.specs.Fields.{fields}
+use Rattle.edf_header.specs.Signal.{column_of, columns_by, columns}
 use Rattle.edf_header.proofs.Strides.{Tiles, tiles-fit, length-parts, length-field}
 use Rattle.edf_header.proofs.RowSteps.{tiles}
 

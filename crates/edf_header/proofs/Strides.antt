@@ -6,7 +6,8 @@ use Rattle.std.proofs.lemmas.List.Elements.{All-head, All-tail, All-get_or, All-
 use Rattle.std.specs.Prelude.{All}
 use Rattle.std.specs.List.{flat_map}
 use Rattle.edf_field.specs.Number.{field}
-use Rattle.edf_header.specs.Signal.{column_of, columns, columns_by, fields, row_at, row_by, signals_of}
+use Rattle.edf_header.specs.Fields.{fields}
+use Rattle.edf_header.specs.Signal.{column_of, columns, columns_by, row_at, row_by, signals_of}
 
 -- a part of the parts joined
 pub part-at : {X : Type 0} (f : X → List ℕ) (w : ℕ) (xs : List X) (i : ℕ) (d : X) (rest : List ℕ) → All (λ x. length (f x) ≡ w) xs → i < length xs → take w (drop (i * w) (flat_map f xs ++ rest)) ≡ f (get_or xs i d)

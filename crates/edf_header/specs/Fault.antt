@@ -3,6 +3,7 @@ use Rattle.std.specs.Prelude.{◌≡◌, ◌≢◌, ℕ, ◌+◌, ◌*◌, ◌�
 use Rattle.edf_time.specs.Civil.{IsDateText, IsTimeText}
 use Rattle.edf_field.specs.Number.{field, IsDuration, IsNumber}
 use Rattle.edf_field.specs.Text.{IsPrintable, IsPatient, IsRecording}
+use Rattle.edf_header.specs.Fields.{version_field, patient_field, recording_field, startdate_field, starttime_field, header_bytes_field, reserved_field, count_field, duration_field, signals_field}
 use Rattle.edf_header.specs.Signal.{signals_of, ordinary, samples_in_all, IsLabelled, IsAnnotationsSignal, Passes, IsFirstBad}
 use Rattle.edf_header.specs.Header.{IsSameDay, IsPlus}
 use Rattle.edf_header.specs.declared.signal_checks.Check.{Check}
@@ -11,35 +12,35 @@ use Rattle.edf_header.specs.declared.fault.HeaderFault.{HeaderFault}
 use Rattle.edf_header.specs.declared.fault.HeaderFault.TheVariants.{Cut, Unprintable, Version, Patient, Recording, Startdate, Starttime, DatesDiffer, NotPlus, Count, Duration, Signals, HeaderBytes, CutSignals, UnprintableSignals, Annotations, Physical, Digital, Samples, Size, Memory}
 
 abbrev pub HasCount : List ℕ → Type 0
-HasCount b = (n : ℕ) × IsNumber (field b 236 8) n × (1 ≤ n)
+HasCount b = (n : ℕ) × IsNumber (count_field b) n × (1 ≤ n)
 
 abbrev pub HasSignals : List ℕ → ℕ → Type 0
-HasSignals b n = IsNumber (field b 252 4) n × (2 ≤ n) × (n ≤ 640)
+HasSignals b n = IsNumber (signals_field b) n × (2 ≤ n) × (n ≤ 640)
 
 -- the Startdate subfield is a date, and not the startdate's
 pub record DatesAreOther (b : List ℕ) : Type 0 where
   pub startdate : Option ℤ
   pub after : List ℕ
   pub days : ℕ
-  pub recording : IsRecording (field b 88 80) startdate after
-  pub date : IsDateText (field b 168 8) days
+  pub recording : IsRecording (recording_field b) startdate after
+  pub date : IsDateText (startdate_field b) days
   pub other : ¬ IsSameDay startdate days
 
 -- the fault is true of the fixed part's bytes, at its place
 abbrev pub FixedPartFails : List ℕ → HeaderFault → Type 0
 FixedPartFails b Cut = length b < 256
 FixedPartFails b (Unprintable offset) = IsFirstBad IsPrintable b offset
-FixedPartFails b Version = field b 0 8 ≢ codes "0       "
-FixedPartFails b Patient = ¬ IsPatient (field b 8 80)
-FixedPartFails b Recording = (startdate : Option ℤ) (after : List ℕ) → ¬ IsRecording (field b 88 80) startdate after
-FixedPartFails b Startdate = (days : ℕ) → ¬ IsDateText (field b 168 8) days
-FixedPartFails b Starttime = (seconds : ℕ) → ¬ IsTimeText (field b 176 8) seconds
+FixedPartFails b Version = version_field b ≢ codes "0       "
+FixedPartFails b Patient = ¬ IsPatient (patient_field b)
+FixedPartFails b Recording = (startdate : Option ℤ) (after : List ℕ) → ¬ IsRecording (recording_field b) startdate after
+FixedPartFails b Startdate = (days : ℕ) → ¬ IsDateText (startdate_field b) days
+FixedPartFails b Starttime = (seconds : ℕ) → ¬ IsTimeText (starttime_field b) seconds
 FixedPartFails b DatesDiffer = DatesAreOther b
-FixedPartFails b NotPlus = ¬ IsPlus (field b 192 44)
+FixedPartFails b NotPlus = ¬ IsPlus (reserved_field b)
 FixedPartFails b Count = ¬ HasCount b
-FixedPartFails b Duration = (nanos : ℕ) → ¬ IsDuration (field b 244 8) nanos
+FixedPartFails b Duration = (nanos : ℕ) → ¬ IsDuration (duration_field b) nanos
 FixedPartFails b Signals = (n : ℕ) → ¬ HasSignals b n
-FixedPartFails b HeaderBytes = (n : ℕ) × HasSignals b n × ¬ IsNumber (field b 184 8) (256 + 256 * n)
+FixedPartFails b HeaderBytes = (n : ℕ) × HasSignals b n × ¬ IsNumber (header_bytes_field b) (256 + 256 * n)
 FixedPartFails b _ = ⊥
 
 -- exactly one signal is an annotations signal, and it has what it must
@@ -109,6 +110,6 @@ IsHeaderFault bytes fault =
     IsFirst (FixedPartFails (take 256 bytes)) fault
     ⊎ ((n : ℕ) × IsClean (FixedPartFails (take 256 bytes)) 14 × HasSignals bytes n × IsFirst (SignalsFail (field bytes 256 (256 * n)) n) fault)
 
--- why the signal part is not read: want of memory, where its length and its bytes have no fault, or the first fault
+-- why the signal part is not read: want of memory, where it has no fault, or the first fault
 abbrev pub IsSignalsRefusal : List ℕ → ℕ → HeaderFault → Type 0
-IsSignalsRefusal s n fault = ((fault ≡ Memory) × IsClean (SignalsFail s n) 16) ⊎ IsFirst (SignalsFail s n) fault
+IsSignalsRefusal s n fault = ((fault ≡ Memory) × IsClean (SignalsFail s n) 21) ⊎ IsFirst (SignalsFail s n) fault

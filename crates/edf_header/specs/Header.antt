@@ -1,8 +1,9 @@
 -- What a header says, and when bytes spell it.
 use Rattle.std.specs.Prelude.{◌≡◌, ℕ, ◌+◌, ◌*◌, ◌%◌, ◌^◌, ◌≤◌, ◌<◌, ◌⊎◌, Bool, true, false, List, ◌∷◌, ◌++◌, length, take, All, codes, ℤ, pos, Option, Some, None, if◌then◌else◌}
 use Rattle.edf_time.specs.Civil.{IsCivil, IsDateText, window}
-use Rattle.edf_field.specs.Number.{field, IsNumber, IsDuration}
+use Rattle.edf_field.specs.Number.{IsNumber, IsDuration}
 use Rattle.edf_field.specs.Text.{IsPrintable, IsPatient, IsBehindStartdate, IsRecording, after_of}
+use Rattle.edf_header.specs.Fields.{version_field, patient_field, recording_field, startdate_field, starttime_field, header_bytes_field, reserved_field, count_field, duration_field, signals_field}
 use Rattle.edf_header.specs.Signal.{signals_of, IsOrdinary, HasSamples, IsAnnotationsSignal, samples, samples_in_all}
 use Rattle.edf_header.specs.Key.{Key, IsKey}
 
@@ -35,7 +36,7 @@ fixed_from patient recording startdate start count duration signals = record {
 
 -- the same, where the fields of 256 bytes stand
 abbrev pub fixed_at : List ℕ → Option ℤ → ℕ → ℕ → ℕ → FixedPart
-fixed_at bytes startdate start count signals = fixed_from (field bytes 8 80) (field bytes 88 80) startdate start count (field bytes 244 8) signals
+fixed_at bytes startdate start count signals = fixed_from (patient_field bytes) (recording_field bytes) startdate start count (duration_field bytes) signals
 
 -- the fixed parts that headers have
 pub record IsFixed (f : FixedPart) : Type 0 where
@@ -67,19 +68,19 @@ IsPlus reserved = (take 5 reserved ≡ codes "EDF+C") ⊎ (take 5 reserved ≡ c
 pub record IsFixedHeader (bytes : List ℕ) (h : FixedPart) : Type 0 where
   pub len : length bytes ≡ 256
   pub printable : All IsPrintable bytes
-  pub version : field bytes 0 8 ≡ codes "0       "
-  pub patient : h.patient ≡ field bytes 8 80
+  pub version : version_field bytes ≡ codes "0       "
+  pub patient : h.patient ≡ patient_field bytes
   pub is_patient : IsPatient h.patient
-  pub recording : IsRecording (field bytes 88 80) h.startdate h.after
-  pub start : IsCivil (field bytes 168 8) (field bytes 176 8) h.start
-  pub same_day : (days : ℕ) → IsDateText (field bytes 168 8) days → IsSameDay h.startdate days
-  pub header_bytes : IsNumber (field bytes 184 8) (256 + 256 * h.signal_count)
-  pub reserved : IsPlus (field bytes 192 44)
-  pub count : IsNumber (field bytes 236 8) h.count
+  pub recording : IsRecording (recording_field bytes) h.startdate h.after
+  pub start : IsCivil (startdate_field bytes) (starttime_field bytes) h.start
+  pub same_day : (days : ℕ) → IsDateText (startdate_field bytes) days → IsSameDay h.startdate days
+  pub header_bytes : IsNumber (header_bytes_field bytes) (256 + 256 * h.signal_count)
+  pub reserved : IsPlus (reserved_field bytes)
+  pub count : IsNumber (count_field bytes) h.count
   pub count_some : 1 ≤ h.count
-  pub duration : h.duration ≡ field bytes 244 8
+  pub duration : h.duration ≡ duration_field bytes
   pub is_duration : (nanos : ℕ) × IsDuration h.duration nanos
-  pub signals : IsNumber (field bytes 252 4) h.signal_count
+  pub signals : IsNumber (signals_field bytes) h.signal_count
   pub signals_from : 2 ≤ h.signal_count
   pub signals_to : h.signal_count ≤ 640
 

@@ -1,3 +1,4 @@
+pub mod Fields
 pub mod Signal
 pub mod Key
 pub mod Header

@@ -3,13 +3,9 @@ use Rattle.std.specs.Prelude.{◌≡◌, ℕ, ◌+◌, ◌*◌, ◌/◌, ◌≤�
 use Rattle.std.specs.List.{flat_map, range_with_len, HoldsAt, AllWithin}
 use Rattle.std.specs.Str.{bytes_eq}
 use Rattle.edf_field.specs.Number.{field, IsWhole, whole_value, IsSigned, signed_value, IsPhysical, Differ}
+use Rattle.edf_header.specs.Fields.{fields, label_field, physical_minimum_field, physical_maximum_field, digital_minimum_field, digital_maximum_field, samples_field}
 use Rattle.edf_header.specs.declared.signal_checks.Check.{Check}
 use Rattle.edf_header.specs.declared.signal_checks.Check.TheVariants.{Label, Physical, Digital, Samples}
-
--- where each of the ten fields stands in a row, and its width: label, transducer type, physical dimension, physical minimum
--- and maximum, digital minimum and maximum, prefiltering, samples per data record, reserved
-abbrev pub fields : List (ℕ × ℕ)
-fields = (0, 16) ∷ (16, 80) ∷ (96, 8) ∷ (104, 8) ∷ (112, 8) ∷ (120, 8) ∷ (128, 8) ∷ (136, 80) ∷ (216, 8) ∷ (224, 32) ∷ []
 
 -- a field of all signals in turn
 abbrev pub column_of : ℕ × ℕ → List (List ℕ) → List ℕ
@@ -42,32 +38,32 @@ rows_of bytes = rows (length bytes / 256) bytes
 
 -- the annotations signals, by their label
 abbrev pub IsLabelled : List ℕ → Type 0
-IsLabelled row = field row 0 16 ≡ codes "EDF Annotations "
+IsLabelled row = label_field row ≡ codes "EDF Annotations "
 
 -- the signals that are not
 abbrev pub ordinary : List (List ℕ) → List (List ℕ)
-ordinary ss = filter (λ s. not (bytes_eq (field s 0 16) (codes "EDF Annotations "))) ss
+ordinary ss = filter (λ s. not (bytes_eq (label_field s) (codes "EDF Annotations "))) ss
 
 -- physical minimum and maximum are numbers that differ
 pub record HasPhysical (row : List ℕ) : Type 0 where
-  pub minimum : IsPhysical (field row 104 8)
-  pub maximum : IsPhysical (field row 112 8)
-  pub differ : Differ (field row 104 8) (field row 112 8)
+  pub minimum : IsPhysical (physical_minimum_field row)
+  pub maximum : IsPhysical (physical_maximum_field row)
+  pub differ : Differ (physical_minimum_field row) (physical_maximum_field row)
 
 -- digital minimum and maximum are numbers of 16 bits, and the maximum is the greater
 pub record HasDigital (row : List ℕ) : Type 0 where
-  pub minimum : IsSigned (field row 120 8)
-  pub maximum : IsSigned (field row 128 8)
-  pub from : neg_ℤ (pos 32_768) ≤ℤ signed_value (field row 120 8)
-  pub rises : signed_value (field row 120 8) <ℤ signed_value (field row 128 8)
-  pub to : signed_value (field row 128 8) ≤ℤ pos 32_767
+  pub minimum : IsSigned (digital_minimum_field row)
+  pub maximum : IsSigned (digital_maximum_field row)
+  pub from : neg_ℤ (pos 32_768) ≤ℤ signed_value (digital_minimum_field row)
+  pub rises : signed_value (digital_minimum_field row) <ℤ signed_value (digital_maximum_field row)
+  pub to : signed_value (digital_maximum_field row) ≤ℤ pos 32_767
 
 -- samples per data record
 abbrev pub samples : List ℕ → ℕ
-samples row = whole_value (field row 216 8)
+samples row = whole_value (samples_field row)
 
 pub record HasSamples (row : List ℕ) : Type 0 where
-  pub whole : IsWhole (field row 216 8)
+  pub whole : IsWhole (samples_field row)
   pub some : 1 ≤ samples row
 
 -- the samples that signals have in a data record, two bytes each
@@ -78,10 +74,10 @@ samples_in_all ss = sum_by samples ss
 pub record IsAnnotationsSignal (row : List ℕ) : Type 0 where
   pub label : IsLabelled row
   pub physical : HasPhysical row
-  pub minimum : IsSigned (field row 120 8)
-  pub minimum_is : signed_value (field row 120 8) ≡ neg_ℤ (pos 32_768)
-  pub maximum : IsSigned (field row 128 8)
-  pub maximum_is : signed_value (field row 128 8) ≡ pos 32_767
+  pub minimum : IsSigned (digital_minimum_field row)
+  pub minimum_is : signed_value (digital_minimum_field row) ≡ neg_ℤ (pos 32_768)
+  pub maximum : IsSigned (digital_maximum_field row)
+  pub maximum_is : signed_value (digital_maximum_field row) ≡ pos 32_767
 
 -- an ordinary signal
 pub record IsOrdinary (row : List ℕ) : Type 0 where

@@ -148,6 +148,3 @@ pub fn write_header(
     push_signals(alloc, &mut out, identity.signal_rows(), block_samples)?;
     Ok(out)
 }
-
-#[cfg(test)]
-mod tests;

@@ -1,22 +1,10 @@
-ghost use Rattle.std.specs.Prelude.{◌≡◌, ℕ, ◌+◌, ◌*◌, ◌/◌, ◌%◌, ◌≤◌, ◌<◌, List, [], ◌∷◌, ◌++◌, length, OnOk, IfOk};
+ghost use Rattle.std.specs.Prelude.{◌≡◌, ℕ, ◌+◌, ◌*◌, ◌/◌, ◌%◌, ◌≤◌, ◌<◌, List, [], ◌∷◌, ◌++◌, length, OnOk};
 ghost use Rattle.edf_field.specs.Number.{field};
-ghost use Rattle.edf_header.specs.Signal.{fields, column_of, columns, row_at, rows_of, signals_of};
+ghost use Rattle.edf_header.specs.Fields.{fields};
+ghost use Rattle.edf_header.specs.Signal.{column_of, columns, row_at, rows_of};
 
-use std::alloc::{AllocError, Global};
-
-/// Where each field of a signal stands in its row, and its width.
-const FIELDS: [(usize, usize); 10] = [
-    (0, 16),
-    (16, 80),
-    (96, 8),
-    (104, 8),
-    (112, 8),
-    (120, 8),
-    (128, 8),
-    (136, 80),
-    (216, 8),
-    (224, 32),
-];
+use crate::fields::ROW;
+use std::alloc::AllocError;
 
 /// Writes one field of all signals in turn, those in rows and then the last.
 fn push_column(
@@ -45,7 +33,7 @@ pub(crate) fn push_columns(
 ) -> Result<(), AllocError>
     ensures { OnOk result (out.new.items ≡ out.old.items ++ columns (rows_of rows.now ++ last.now ∷ [])) }
 {
-    for (at, width) in &FIELDS {
+    for (at, width) in &ROW {
         push_column(out, rows, last, *at, *width)?;
     }
     Ok(())
@@ -63,28 +51,16 @@ fn column(bytes: &[u8], n: usize, i: usize, at: usize, width: usize) -> &[u8]
     &bytes[from..from + width]
 }
 
-/// Writes one of `n` signals in a row, its fields read from their columns.
-fn push_row(out: &mut Vec<u8>, bytes: &[u8], n: usize, i: usize) -> Result<(), AllocError>
+/// One of `n` signals in a row, its fields read from their columns.
+pub(crate) fn row_from(bytes: &[u8], n: usize, i: usize) -> [u8; 256]
     requires size { length bytes.now ≡ 256 * n }
     requires few { n ≤ 640 }
     requires inside { i < n }
-    ensures { OnOk result (out.new.items ≡ out.old.items ++ row_at bytes.now n i) }
+    ensures { result ≡ row_at bytes.now n i }
 {
-    for (at, width) in &FIELDS {
-        out.extend_from_slice(column(bytes, n, i, *at, *width))?;
+    let mut row = [0; 256];
+    for (at, width) in &ROW {
+        row[*at..*at + *width].copy_from_slice(column(bytes, n, i, *at, *width));
     }
-    Ok(())
-}
-
-/// The signals, each in a row, from their columns.
-pub(crate) fn rows_from(alloc: Global, bytes: &[u8], n: usize) -> Result<Vec<u8>, AllocError>
-    requires size { length bytes.now ≡ 256 * n }
-    requires few { n ≤ 640 }
-    ensures { IfOk result (λ v. (rows_of v.items ≡ signals_of bytes.now n) × (length v.items ≡ 256 * n)) }
-{
-    let mut rows = Vec::with_capacity(alloc, bytes.len())?;
-    for i in 0..n {
-        push_row(&mut rows, bytes, n, i)?;
-    }
-    Ok(rows)
+    row
 }

@@ -1,9 +1,11 @@
 ghost use Rattle.std.specs.Prelude.{◌≡◌, ◌≤◌, MatchResult};
-ghost use Rattle.edf_field.specs.Number.{field, IsDuration, duration_of};
+ghost use Rattle.edf_field.specs.Number.{IsDuration, duration_of};
+ghost use Rattle.edf_header.specs.Fields.{duration_field};
 ghost use Rattle.edf_header.specs.Header.{IsFixed, IsFixedHeader, fixed_at, is_dated};
 ghost use Rattle.edf_header.specs.Fault.{FixedPartFails, IsFirst};
 
 use crate::fault::HeaderFault;
+use crate::fields::{DURATION, PATIENT, RECORDING};
 use crate::fixed_fields::{
     check_header_bytes, check_patient, check_plus, check_printable, check_same_day, check_version,
     field_at, read_count, read_nanos, read_signal_count, read_start, read_startdate,
@@ -115,12 +117,12 @@ fn fixed_of(
     signals: u32,
 ) -> Fixed
     requires spelled { IsFixedHeader bytes.now (fixed_at bytes.now startdate start count signals) }
-    requires duration { IsDuration (field bytes.now 244 8) nanos }
+    requires duration { IsDuration (duration_field bytes.now) nanos }
     ensures { IsFixedHeader bytes.now result }
 {
-    let patient = field_at(bytes, 8);
-    let recording = field_at(bytes, 88);
-    let duration = field_at(bytes, 244);
+    let patient = field_at(bytes, PATIENT);
+    let recording = field_at(bytes, RECORDING);
+    let duration = field_at(bytes, DURATION);
     Fixed {
         patient,
         recording,
@@ -159,6 +161,3 @@ pub fn read_fixed(bytes: &[u8; 256]) -> Result<Fixed, HeaderFault>
     check_header_bytes(bytes, signals)?;
     Ok(fixed_of(bytes, startdate, start, count, nanos, signals))
 }
-
-#[cfg(test)]
-mod tests;

@@ -4,10 +4,15 @@ ghost use Rattle.std.specs.Prelude.{◌≡◌, ℕ, ◌+◌, ◌*◌, ◌≤◌,
 ghost use Rattle.edf_time.specs.Civil.{IsCivil, IsDateText};
 ghost use Rattle.edf_field.specs.Number.{field, IsDuration, IsNumber};
 ghost use Rattle.edf_field.specs.Text.{IsPrintable, IsPatient, IsRecording, after_of};
+ghost use Rattle.edf_header.specs.Fields.{version_field, patient_field, recording_field, startdate_field, starttime_field, header_bytes_field, reserved_field, count_field, duration_field};
 ghost use Rattle.edf_header.specs.Header.{IsPlus, IsSameDay};
 ghost use Rattle.edf_header.specs.Fault.{FixedPartFails, IsClean, IsFirst, HasSignals};
 
 use crate::fault::HeaderFault;
+use crate::fields::{
+    COUNT, DURATION, FIXED_END, HEADER_BYTES, PATIENT, RECORDING, RESERVED, SIGNALS, STARTDATE,
+    STARTTIME, VERSION,
+};
 use crate::signal_checks::first_unprintable;
 use edf_field::{is_patient, read_duration, read_recording, read_whole};
 use edf_time::{Day, Instant, StartFault, start_of};
@@ -38,10 +43,10 @@ pub(crate) fn check_printable(bytes: &[u8; 256]) -> Result<(), HeaderFault>
 pub(crate) fn check_version(bytes: &[u8; 256]) -> Result<(), HeaderFault>
     requires { IsClean (FixedPartFails bytes.now) 3 }
     ensures { MatchResult result
-        (λ _. (field bytes.now 0 8 ≡ codes "0       ") × IsClean (FixedPartFails bytes.now) 4)
+        (λ _. (version_field bytes.now ≡ codes "0       ") × IsClean (FixedPartFails bytes.now) 4)
         (IsFirst (FixedPartFails bytes.now)) }
 {
-    if &bytes[0..8] != b"0       ".as_slice() {
+    if &bytes[VERSION..PATIENT] != b"0       ".as_slice() {
         return Err(HeaderFault::Version);
     }
     Ok(())
@@ -51,10 +56,10 @@ pub(crate) fn check_version(bytes: &[u8; 256]) -> Result<(), HeaderFault>
 pub(crate) fn check_patient(bytes: &[u8; 256]) -> Result<(), HeaderFault>
     requires { IsClean (FixedPartFails bytes.now) 4 }
     ensures { MatchResult result
-        (λ _. IsPatient (field bytes.now 8 80) × IsClean (FixedPartFails bytes.now) 5)
+        (λ _. IsPatient (patient_field bytes.now) × IsClean (FixedPartFails bytes.now) 5)
         (IsFirst (FixedPartFails bytes.now)) }
 {
-    if !is_patient(&bytes[8..88]) {
+    if !is_patient(&bytes[PATIENT..RECORDING]) {
         return Err(HeaderFault::Patient);
     }
     Ok(())
@@ -65,11 +70,11 @@ pub(crate) fn check_patient(bytes: &[u8; 256]) -> Result<(), HeaderFault>
 pub(crate) fn read_startdate(bytes: &[u8; 256]) -> Result<Option<Day>, HeaderFault>
     requires { IsClean (FixedPartFails bytes.now) 5 }
     ensures { MatchResult result
-        (λ startdate. IsRecording (field bytes.now 88 80) startdate (after_of startdate (field bytes.now 88 80))
+        (λ startdate. IsRecording (recording_field bytes.now) startdate (after_of startdate (recording_field bytes.now))
         × IsClean (FixedPartFails bytes.now) 6)
         (IsFirst (FixedPartFails bytes.now)) }
 {
-    match read_recording(&bytes[88..168]) {
+    match read_recording(&bytes[RECORDING..STARTDATE]) {
         Some((startdate, _)) => Ok(startdate),
         None => Err(HeaderFault::Recording),
     }
@@ -79,11 +84,11 @@ pub(crate) fn read_startdate(bytes: &[u8; 256]) -> Result<Option<Day>, HeaderFau
 pub(crate) fn read_start(bytes: &[u8; 256]) -> Result<Instant, HeaderFault>
     requires { IsClean (FixedPartFails bytes.now) 6 }
     ensures { MatchResult result
-        (λ start. IsCivil (field bytes.now 168 8) (field bytes.now 176 8) start × IsClean (FixedPartFails bytes.now) 8)
+        (λ start. IsCivil (startdate_field bytes.now) (starttime_field bytes.now) start × IsClean (FixedPartFails bytes.now) 8)
         (IsFirst (FixedPartFails bytes.now)) }
 {
-    let date: [u8; 8] = field_at(bytes, 168);
-    let time: [u8; 8] = field_at(bytes, 176);
+    let date: [u8; 8] = field_at(bytes, STARTDATE);
+    let time: [u8; 8] = field_at(bytes, STARTTIME);
     match start_of(&date, &time) {
         Ok(start) => Ok(start),
         Err(StartFault::Date) => Err(HeaderFault::Startdate),
@@ -97,11 +102,11 @@ pub(crate) fn check_same_day(
     startdate: &Option<Day>,
     start: Instant,
 ) -> Result<(), HeaderFault>
-    requires recording { IsRecording (field bytes.now 88 80) startdate.now (after_of startdate.now (field bytes.now 88 80)) }
-    requires start { IsCivil (field bytes.now 168 8) (field bytes.now 176 8) start }
+    requires recording { IsRecording (recording_field bytes.now) startdate.now (after_of startdate.now (recording_field bytes.now)) }
+    requires start { IsCivil (startdate_field bytes.now) (starttime_field bytes.now) start }
     requires clean { IsClean (FixedPartFails bytes.now) 8 }
     ensures { MatchResult result
-        (λ _. ((days : ℕ) → IsDateText (field bytes.now 168 8) days → IsSameDay startdate.now days)
+        (λ _. ((days : ℕ) → IsDateText (startdate_field bytes.now) days → IsSameDay startdate.now days)
         × IsClean (FixedPartFails bytes.now) 9)
         (IsFirst (FixedPartFails bytes.now)) }
 {
@@ -127,10 +132,10 @@ fn is_plus(reserved: &[u8]) -> bool
 pub(crate) fn check_plus(bytes: &[u8; 256]) -> Result<(), HeaderFault>
     requires { IsClean (FixedPartFails bytes.now) 9 }
     ensures { MatchResult result
-        (λ _. IsPlus (field bytes.now 192 44) × IsClean (FixedPartFails bytes.now) 10)
+        (λ _. IsPlus (reserved_field bytes.now) × IsClean (FixedPartFails bytes.now) 10)
         (IsFirst (FixedPartFails bytes.now)) }
 {
-    if !is_plus(&bytes[192..236]) {
+    if !is_plus(&bytes[RESERVED..COUNT]) {
         return Err(HeaderFault::NotPlus);
     }
     Ok(())
@@ -140,10 +145,10 @@ pub(crate) fn check_plus(bytes: &[u8; 256]) -> Result<(), HeaderFault>
 pub(crate) fn read_count(bytes: &[u8; 256]) -> Result<u32, HeaderFault>
     requires { IsClean (FixedPartFails bytes.now) 10 }
     ensures { MatchResult result
-        (λ count. IsNumber (field bytes.now 236 8) count × (1 ≤ count) × IsClean (FixedPartFails bytes.now) 11)
+        (λ count. IsNumber (count_field bytes.now) count × (1 ≤ count) × IsClean (FixedPartFails bytes.now) 11)
         (IsFirst (FixedPartFails bytes.now)) }
 {
-    match read_whole(&bytes[236..244]) {
+    match read_whole(&bytes[COUNT..DURATION]) {
         Some(count) if count >= 1 => Ok(count),
         _ => Err(HeaderFault::Count),
     }
@@ -153,10 +158,10 @@ pub(crate) fn read_count(bytes: &[u8; 256]) -> Result<u32, HeaderFault>
 pub(crate) fn read_nanos(bytes: &[u8; 256]) -> Result<u64, HeaderFault>
     requires { IsClean (FixedPartFails bytes.now) 11 }
     ensures { MatchResult result
-        (λ nanos. IsDuration (field bytes.now 244 8) nanos × ((n : ℕ) × IsDuration (field bytes.now 244 8) n) × IsClean (FixedPartFails bytes.now) 12)
+        (λ nanos. IsDuration (duration_field bytes.now) nanos × ((n : ℕ) × IsDuration (duration_field bytes.now) n) × IsClean (FixedPartFails bytes.now) 12)
         (IsFirst (FixedPartFails bytes.now)) }
 {
-    match read_duration(&bytes[244..252]) {
+    match read_duration(&bytes[DURATION..SIGNALS]) {
         Some(nanos) => Ok(nanos),
         None => Err(HeaderFault::Duration),
     }
@@ -169,7 +174,7 @@ pub(crate) fn read_signal_count(bytes: &[u8; 256]) -> Result<u32, HeaderFault>
         (λ signals. HasSignals bytes.now signals × IsClean (FixedPartFails bytes.now) 13)
         (IsFirst (FixedPartFails bytes.now)) }
 {
-    match read_whole(&bytes[252..256]) {
+    match read_whole(&bytes[SIGNALS..FIXED_END]) {
         Some(signals) if 2 <= signals && signals <= 640 => Ok(signals),
         _ => Err(HeaderFault::Signals),
     }
@@ -180,10 +185,10 @@ pub(crate) fn check_header_bytes(bytes: &[u8; 256], signals: u32) -> Result<(), 
     requires signals { HasSignals bytes.now signals }
     requires clean { IsClean (FixedPartFails bytes.now) 13 }
     ensures { MatchResult result
-        (λ _. IsNumber (field bytes.now 184 8) (256 + 256 * signals))
+        (λ _. IsNumber (header_bytes_field bytes.now) (256 + 256 * signals))
         (IsFirst (FixedPartFails bytes.now)) }
 {
-    match read_whole(&bytes[184..192]) {
+    match read_whole(&bytes[HEADER_BYTES..RESERVED]) {
         Some(len) if len == 256 + 256 * signals => Ok(()),
         _ => Err(HeaderFault::HeaderBytes),
     }

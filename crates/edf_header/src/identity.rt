@@ -1,14 +1,15 @@
 ghost use Rattle.std.specs.Prelude.{◌≡◌, ◌≤◌, ◌<◌, ◌+◌, ◌*◌, ◌^◌, ◌↔◌, ◌∷◌, ◌++◌, List, ℕ, IfOk, OnOk, IsTrue, MatchResult, All, length, take, if◌then◌else◌};
 ghost use Rattle.edf_field.specs.Number.{duration_of};
 ghost use Rattle.edf_field.specs.Text.{IsBehindStartdate, subfields};
-ghost use Rattle.edf_header.specs.Signal.{rows_of, ordinary, samples_in_all, HasSamples, Passes};
+ghost use Rattle.edf_header.specs.Signal.{rows_of, signals_of, ordinary, samples_in_all, HasSamples, Passes};
 ghost use Rattle.edf_header.specs.Key.{Key, IsKey, dated_bytes, key_bytes, key_at, patient_code, investigation_code};
 ghost use Rattle.edf_header.specs.Identity.{HasLength, HasMark, signals_at, IsCleanKey, IsFirstKeyFault};
 ghost use Rattle.edf_header.specs.Inside.Shape.{key_from, place_of_check};
 
+use crate::fields::{KEY_DURATION, KEY_MARK, KEY_PATIENT, KEY_SIGNALS};
 use crate::fixed::Fixed;
+use crate::header_signals::push_ordinary;
 use crate::identity_checks::{KeyNumbers, after, check_key};
-use crate::rows::push_ordinary;
 use edf_field::next_subfield;
 use std::alloc::{AllocError, Global};
 use std::marker::Model;
@@ -92,15 +93,16 @@ fn push_mark(out: &mut Vec<u8>, dated: bool, after: &[u8]) -> Result<(), AllocEr
     Ok(())
 }
 
-/// The bytes of an identity, from a header's fixed part and the rows of all its signals.
-fn bytes_from(alloc: Global, fixed: &Fixed, rows: &[u8]) -> Result<Vec<u8>, AllocError>
-    ensures { IfOk result (λ v. v.items ≡ key_bytes (key_from fixed.now (ordinary (rows_of rows.now)))) }
+/// The bytes of an identity, from a header's fixed part and the columns of all its signals.
+fn bytes_from(alloc: Global, fixed: &Fixed, signals: &[u8]) -> Result<Vec<u8>, AllocError>
+    requires { length signals.now ≡ 256 * fixed.now.signal_count }
+    ensures { IfOk result (λ v. v.items ≡ key_bytes (key_from fixed.now (ordinary (signals_of signals.now fixed.now.signal_count)))) }
 {
-    let mut bytes = Vec::with_capacity(alloc, 158)?;
+    let mut bytes = Vec::with_capacity(alloc, KEY_SIGNALS)?;
     bytes.extend_from_slice(fixed.patient())?;
     push_mark(&mut bytes, fixed.dated(), fixed.after())?;
     bytes.extend_from_slice(fixed.duration())?;
-    push_ordinary(&mut bytes, rows)?;
+    push_ordinary(&mut bytes, signals, fixed.signals())?;
     Ok(bytes)
 }
 
@@ -126,19 +128,20 @@ impl Identity {
         })
     }
 
-    /// The identity of a header, from its fixed part, the rows of all its signals, and the bytes of a data record's ordinary
-    /// samples.
+    /// The identity of a header, from its fixed part, the columns of all its signals, and the bytes of a data record's
+    /// ordinary samples.
     pub(crate) fn from_header(
         alloc: Global,
         fixed: &Fixed,
-        rows: &[u8],
+        signals: &[u8],
         ordinary_bytes: usize,
     ) -> Result<Identity, AllocError>
-        requires key { IsKey (key_from fixed.now (ordinary (rows_of rows.now))) }
-        requires ordinary { ordinary_bytes ≡ 2 * samples_in_all (ordinary (rows_of rows.now)) }
-        ensures { IfOk result (λ i. i ≡ key_from fixed.now (ordinary (rows_of rows.now))) }
+        requires size { length signals.now ≡ 256 * fixed.now.signal_count }
+        requires key { IsKey (key_from fixed.now (ordinary (signals_of signals.now fixed.now.signal_count))) }
+        requires ordinary { ordinary_bytes ≡ 2 * samples_in_all (ordinary (signals_of signals.now fixed.now.signal_count)) }
+        ensures { IfOk result (λ i. i ≡ key_from fixed.now (ordinary (signals_of signals.now fixed.now.signal_count))) }
     {
-        let bytes = bytes_from(alloc, fixed, rows)?;
+        let bytes = bytes_from(alloc, fixed, signals)?;
         let duration = fixed.nanos();
         Ok(Identity {
             bytes,
@@ -170,7 +173,7 @@ impl Identity {
     pub fn dated(&self) -> bool
         ensures { result ≡ self.now.dated }
     {
-        self.bytes[80] == b'D'
+        self.bytes[KEY_MARK] == b'D'
     }
 
     /// How many ordinary signals there are: 1 to 639.
@@ -178,7 +181,7 @@ impl Identity {
         ensures count { result ≡ length self.now.signals }
         ensures key { IsKey self.now }
     {
-        (self.bytes.len() - 158) / 256
+        (self.bytes.len() - KEY_SIGNALS) / 256
     }
 
     /// How many bytes the ordinary samples of a data record have, two for each.
@@ -204,7 +207,7 @@ impl Identity {
     pub fn patient_code(&self) -> &[u8]
         ensures { result.now ≡ patient_code self.now }
     {
-        match next_subfield(&self.bytes[0..80]) {
+        match next_subfield(&self.bytes[KEY_PATIENT..KEY_MARK]) {
             Some((code, _)) => code,
             None => unreachable!(),
         }
@@ -224,7 +227,7 @@ impl Identity {
     pub(crate) fn patient_field(&self) -> &[u8]
         ensures { result.now ≡ self.now.patient }
     {
-        &self.bytes[0..80]
+        &self.bytes[KEY_PATIENT..KEY_MARK]
     }
 
     /// What follows the Startdate subfield in the recording field: 59 bytes where the subfield is a date, else 69.
@@ -238,16 +241,13 @@ impl Identity {
     pub(crate) fn duration_field(&self) -> &[u8]
         ensures { result.now ≡ self.now.duration }
     {
-        &self.bytes[150..158]
+        &self.bytes[KEY_DURATION..KEY_SIGNALS]
     }
 
     /// The ordinary signals' headers, each in a row of 256 bytes.
     pub(crate) fn signal_rows(&self) -> &[u8]
         ensures { rows_of result.now ≡ self.now.signals }
     {
-        &self.bytes[158..]
+        &self.bytes[KEY_SIGNALS..]
     }
 }
-
-#[cfg(test)]
-mod tests;

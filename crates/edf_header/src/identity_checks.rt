@@ -6,6 +6,7 @@ ghost use Rattle.edf_header.specs.Key.{key_at};
 ghost use Rattle.edf_header.specs.Identity.{HasLength, HasMark, signals_at, IsCleanKey, IsFirstKeyFault};
 ghost use Rattle.edf_header.specs.Inside.Shape.{IsIdentity, IsKeyFront, place_of_check};
 
+use crate::fields::{KEY_AFTER, KEY_DURATION, KEY_FILL, KEY_MARK, KEY_PATIENT, KEY_SIGNALS};
 use crate::identity::IdentityFault;
 use crate::rows::ordinary_samples;
 use crate::signal_checks::{Check, first_bad, first_unprintable};
@@ -15,8 +16,8 @@ use edf_field::{are_spaces, is_behind_startdate, is_patient, read_duration};
 fn has_length(bytes: &[u8]) -> bool
     ensures { IsTrue result ↔ HasLength bytes.now }
 {
-    let n = bytes.len().saturating_sub(158) / 256;
-    bytes.len() == 158 + 256 * n && 1 <= n && n <= 639
+    let n = bytes.len().saturating_sub(KEY_SIGNALS) / 256;
+    bytes.len() == KEY_SIGNALS + 256 * n && 1 <= n && n <= 639
 }
 
 /// Whether the mark of the Startdate subfield is there, with its spaces.
@@ -24,8 +25,8 @@ fn has_mark(bytes: &[u8]) -> bool
     requires { 158 ≤ length bytes.now }
     ensures { IsTrue result ↔ HasMark bytes.now }
 {
-    match bytes[80] {
-        b'D' => are_spaces(&bytes[140..150]),
+    match bytes[KEY_MARK] {
+        b'D' => are_spaces(&bytes[KEY_FILL..KEY_DURATION]),
         b'X' => true,
         _ => false,
     }
@@ -36,10 +37,10 @@ pub(crate) fn after(bytes: &[u8]) -> &[u8]
     requires { 158 ≤ length bytes.now }
     ensures { result.now ≡ (key_at bytes.now).after }
 {
-    if bytes[80] == b'D' {
-        &bytes[81..140]
+    if bytes[KEY_MARK] == b'D' {
+        &bytes[KEY_AFTER..KEY_FILL]
     } else {
-        &bytes[81..150]
+        &bytes[KEY_AFTER..KEY_DURATION]
     }
 }
 
@@ -70,13 +71,13 @@ fn check_front(bytes: &[u8]) -> Result<u64, IdentityFault>
     if let Some(offset) = first_unprintable(bytes) {
         return Err(IdentityFault::Unprintable(offset));
     }
-    if !is_patient(&bytes[0..80]) {
+    if !is_patient(&bytes[KEY_PATIENT..KEY_MARK]) {
         return Err(IdentityFault::Patient);
     }
     if !has_recording(bytes) {
         return Err(IdentityFault::Recording);
     }
-    match read_duration(&bytes[150..158]) {
+    match read_duration(&bytes[KEY_DURATION..KEY_SIGNALS]) {
         Some(nanos) => Ok(nanos),
         None => Err(IdentityFault::Duration),
     }
@@ -90,7 +91,7 @@ fn check_signals(check: Check, bytes: &[u8]) -> Result<(), IdentityFault>
         (λ _. All (Passes check) (signals_at bytes.now) × IsCleanKey bytes.now (place_of_check check + 1))
         (IsFirstKeyFault bytes.now) }
 {
-    let Some(at) = first_bad(check, &bytes[158..]) else {
+    let Some(at) = first_bad(check, &bytes[KEY_SIGNALS..]) else {
         return Ok(());
     };
     let signal = at as u32 + 1;
@@ -112,7 +113,7 @@ fn check_size(bytes: &[u8]) -> Result<usize, IdentityFault>
         (λ size. (size ≡ 2 * samples_in_all (signals_at bytes.now)) × (size ≤ 4_194_304) × IsCleanKey bytes.now 11)
         (IsFirstKeyFault bytes.now) }
 {
-    let size = 2 * ordinary_samples(&bytes[158..]);
+    let size = 2 * ordinary_samples(&bytes[KEY_SIGNALS..]);
     if size > 4_194_304 {
         return Err(IdentityFault::Size);
     }

@@ -14,11 +14,11 @@
 mod canonical;
 mod columns;
 mod fault;
-#[cfg(test)]
-mod filled;
+mod fields;
 mod fixed;
 mod fixed_fields;
 mod header;
+mod header_signals;
 mod identity;
 mod identity_checks;
 pub mod laws;

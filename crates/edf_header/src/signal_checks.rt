@@ -3,6 +3,10 @@ ghost use Rattle.edf_field.specs.Text.{IsPrintable};
 ghost use Rattle.edf_header.specs.Signal.{rows_of, HasPhysical, HasDigital, HasSamples, IsLabelled, Passes, IsFirstBad};
 ghost use Rattle.edf_header.specs.Inside.Shape.{has_label};
 
+use crate::fields::{
+    DIGITAL_MAXIMUM, DIGITAL_MINIMUM, LABEL, PHYSICAL_MAXIMUM, PHYSICAL_MINIMUM, PREFILTERING,
+    SAMPLES, SIGNAL_RESERVED, TRANSDUCER,
+};
 use edf_field::{physical_values_differ, read_signed, read_whole};
 
 /// What each signal of a header is checked for, in this order.
@@ -23,7 +27,10 @@ pub(crate) fn has_physical(row: &[u8]) -> bool
     requires { length row.now ≡ 256 }
     ensures { IsTrue result ↔ HasPhysical row.now }
 {
-    physical_values_differ(&row[104..112], &row[112..120])
+    physical_values_differ(
+        &row[PHYSICAL_MINIMUM..PHYSICAL_MAXIMUM],
+        &row[PHYSICAL_MAXIMUM..DIGITAL_MINIMUM],
+    )
 }
 
 /// Whether the digital values are numbers of 16 bits, the maximum the greater.
@@ -31,7 +38,10 @@ fn has_digital(row: &[u8]) -> bool
     requires { length row.now ≡ 256 }
     ensures { IsTrue result ↔ HasDigital row.now }
 {
-    match (read_signed(&row[120..128]), read_signed(&row[128..136])) {
+    match (
+        read_signed(&row[DIGITAL_MINIMUM..DIGITAL_MAXIMUM]),
+        read_signed(&row[DIGITAL_MAXIMUM..PREFILTERING]),
+    ) {
         (Some(low), Some(high)) => -32_768 <= low && low < high && high <= 32_767,
         _ => false,
     }
@@ -42,7 +52,7 @@ fn has_samples(row: &[u8]) -> bool
     requires { length row.now ≡ 256 }
     ensures { IsTrue result ↔ HasSamples row.now }
 {
-    match read_whole(&row[216..224]) {
+    match read_whole(&row[SAMPLES..SIGNAL_RESERVED]) {
         Some(n) => n >= 1,
         None => false,
     }
@@ -54,11 +64,11 @@ pub(crate) fn is_labelled(row: &[u8]) -> bool
     ensures value { result ≡ has_label row.now }
     ensures label { IsTrue result ↔ IsLabelled row.now }
 {
-    &row[0..16] == b"EDF Annotations ".as_slice()
+    &row[LABEL..TRANSDUCER] == b"EDF Annotations ".as_slice()
 }
 
 /// Whether a signal passes a check.
-fn passes(check: Check, row: &[u8]) -> bool
+pub(crate) fn passes(check: Check, row: &[u8]) -> bool
     requires { length row.now ≡ 256 }
     ensures { IsTrue result ↔ Passes check row.now }
 {

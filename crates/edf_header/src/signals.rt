@@ -1,17 +1,18 @@
 ghost use Rattle.std.specs.Prelude.{◌≡◌, ℕ, ◌+◌, ◌*◌, ◌≤◌, ◌<◌, ◌↔◌, IsTrue, MatchOption, MatchResult, All, length};
 ghost use Rattle.edf_field.specs.Number.{IsSigned, signed_value};
-ghost use Rattle.edf_header.specs.Signal.{rows_of, IsAnnotationsSignal, IsLabelled, Passes};
+ghost use Rattle.edf_header.specs.Signal.{signals_of, IsAnnotationsSignal, IsLabelled, Passes};
 ghost use Rattle.edf_header.specs.Header.{HeaderRecord, AreSignals, layout_of};
 ghost use Rattle.edf_header.specs.Fault.{HasAnnotations, IsBadSignal, IsTooLarge, IsFirst, IsSignalsRefusal};
 ghost use Rattle.edf_header.specs.Inside.Rows.{RowsFail, IsSplit, IsSound, AreExtents};
 
-use crate::columns::rows_from;
+use crate::columns::row_from;
 use crate::fault::HeaderFault;
+use crate::fields::{DIGITAL_MAXIMUM, DIGITAL_MINIMUM, PREFILTERING, SAMPLES, SIGNAL_RESERVED};
 use crate::fixed::Fixed;
 use crate::header::Header;
+use crate::header_signals::{first_bad_from, ordinary_samples_before};
 use crate::identity::Identity;
-use crate::rows::{ordinary_samples, row, rows_before, rows_behind};
-use crate::signal_checks::{Check, first_bad, first_unprintable, has_physical, is_labelled};
+use crate::signal_checks::{Check, first_unprintable, has_physical, is_labelled};
 use edf_field::{read_signed, read_whole};
 use std::alloc::Global;
 
@@ -28,7 +29,10 @@ fn is_annotations(row: &[u8]) -> bool
     requires { length row.now ≡ 256 }
     ensures { IsTrue result ↔ IsAnnotationsSignal row.now }
 {
-    match (read_signed(&row[120..128]), read_signed(&row[128..136])) {
+    match (
+        read_signed(&row[DIGITAL_MINIMUM..DIGITAL_MAXIMUM]),
+        read_signed(&row[DIGITAL_MAXIMUM..PREFILTERING]),
+    ) {
         (Some(low), Some(high)) => {
             is_labelled(row) && has_physical(row) && low == -32_768 && high == 32_767
         }
@@ -37,43 +41,47 @@ fn is_annotations(row: &[u8]) -> bool
 }
 
 /// The place of the one annotations signal.
-fn find_annotations(rows: &[u8]) -> Option<usize>
-    ensures { MatchOption result (¬ HasAnnotations (rows_of rows.now)) (IsSplit (rows_of rows.now)) }
+fn find_annotations(bytes: &[u8], n: usize) -> Option<usize>
+    requires size { length bytes.now ≡ 256 * n }
+    requires few { n ≤ 640 }
+    ensures { MatchOption result (¬ HasAnnotations (signals_of bytes.now n)) (IsSplit (signals_of bytes.now n)) }
 {
-    let Some(at) = first_bad(Check::Label, rows) else {
+    let Some(at) = first_bad_from(Check::Label, bytes, n, 0) else {
         return None;
     };
-    if !is_annotations(row(rows, at)) {
+    if !is_annotations(&row_from(bytes, n, at)) {
         return None;
     }
-    match first_bad(Check::Label, rows_behind(rows, at)) {
+    match first_bad_from(Check::Label, bytes, n, at + 1) {
         Some(_) => None,
         None => Some(at),
     }
 }
 
 /// The first signal that fails a check, counted from 1.
-fn bad_signal(check: Check, rows: &[u8]) -> Option<u32>
-    requires { length rows.now ≤ 256 * 640 }
-    ensures { MatchOption result (All (Passes check) (rows_of rows.now)) (IsBadSignal check (rows_of rows.now)) }
+fn bad_signal(check: Check, bytes: &[u8], n: usize) -> Option<u32>
+    requires size { length bytes.now ≡ 256 * n }
+    requires few { n ≤ 640 }
+    ensures { MatchOption result (All (Passes check) (signals_of bytes.now n)) (IsBadSignal check (signals_of bytes.now n)) }
 {
-    match first_bad(check, rows) {
+    match first_bad_from(check, bytes, n, 0) {
         Some(at) => Some(at as u32 + 1),
         None => None,
     }
 }
 
 /// Where the annotations block stands, unless a data record is too large.
-fn extents_at(rows: &[u8], at: usize) -> Option<Extents>
-    requires few { length rows.now ≤ 256 * 640 }
-    requires split { IsSplit (rows_of rows.now) at }
-    requires samples { All (Passes Check.Samples) (rows_of rows.now) }
+fn extents_at(bytes: &[u8], n: usize, at: usize) -> Option<Extents>
+    requires size { length bytes.now ≡ 256 * n }
+    requires few { n ≤ 640 }
+    requires split { IsSplit (signals_of bytes.now n) at }
+    requires samples { All (Passes Check.Samples) (signals_of bytes.now n) }
     ensures { MatchOption result
-        (IsTooLarge (rows_of rows.now))
-        (λ extents. AreExtents (rows_of rows.now) at extents × ¬ IsTooLarge (rows_of rows.now)) }
+        (IsTooLarge (signals_of bytes.now n))
+        (λ extents. AreExtents (signals_of bytes.now n) at extents × ¬ IsTooLarge (signals_of bytes.now n)) }
 {
-    let ordinary = 2 * ordinary_samples(rows);
-    let block = match read_whole(&row(rows, at)[216..224]) {
+    let ordinary = 2 * ordinary_samples_before(bytes, n, n);
+    let block = match read_whole(&row_from(bytes, n, at)[SAMPLES..SIGNAL_RESERVED]) {
         Some(samples) => 2 * u64::from(samples),
         None => unreachable!(),
     };
@@ -84,32 +92,33 @@ fn extents_at(rows: &[u8], at: usize) -> Option<Extents>
         return None;
     }
     Some(Extents {
-        block_at: 2 * ordinary_samples(rows_before(rows, at)) as usize,
+        block_at: 2 * ordinary_samples_before(bytes, n, at) as usize,
         block_bytes: block as usize,
         record_bytes: (ordinary + block) as usize,
     })
 }
 
 /// Checks all signals, and finds where the annotations block stands.
-fn check_rows(rows: &[u8]) -> Result<Extents, HeaderFault>
-    requires { length rows.now ≤ 256 * 640 }
+fn check_signals(bytes: &[u8], n: usize) -> Result<Extents, HeaderFault>
+    requires size { length bytes.now ≡ 256 * n }
+    requires few { n ≤ 640 }
     ensures { MatchResult result
-        (λ extents. (at : ℕ) × IsSound (rows_of rows.now) at × AreExtents (rows_of rows.now) at extents)
-        (IsFirst (RowsFail (rows_of rows.now))) }
+        (λ extents. (at : ℕ) × IsSound (signals_of bytes.now n) at × AreExtents (signals_of bytes.now n) at extents)
+        (IsFirst (RowsFail (signals_of bytes.now n))) }
 {
-    let Some(at) = find_annotations(rows) else {
+    let Some(at) = find_annotations(bytes, n) else {
         return Err(HeaderFault::Annotations);
     };
-    if let Some(signal) = bad_signal(Check::Physical, rows) {
+    if let Some(signal) = bad_signal(Check::Physical, bytes, n) {
         return Err(HeaderFault::Physical { signal });
     }
-    if let Some(signal) = bad_signal(Check::Digital, rows) {
+    if let Some(signal) = bad_signal(Check::Digital, bytes, n) {
         return Err(HeaderFault::Digital { signal });
     }
-    if let Some(signal) = bad_signal(Check::Samples, rows) {
+    if let Some(signal) = bad_signal(Check::Samples, bytes, n) {
         return Err(HeaderFault::Samples { signal });
     }
-    match extents_at(rows, at) {
+    match extents_at(bytes, n, at) {
         Some(extents) => Ok(extents),
         None => Err(HeaderFault::Size),
     }
@@ -119,28 +128,26 @@ fn check_rows(rows: &[u8]) -> Result<Extents, HeaderFault>
 /// signals in turn.
 ///
 /// # Errors
-/// The first of E14 to E20 that is true of the bytes; `Memory` where memory runs out and neither E14 nor E15 is true.
+/// The first of E14 to E20 that is true of the bytes; `Memory` where memory runs out and none of them is true.
 pub fn read_signals(alloc: Global, fixed: Fixed, bytes: &[u8]) -> Result<Header, HeaderFault>
     requires { length bytes.now ≤ 256 * fixed.signal_count }
     ensures { MatchResult result
         (λ r. (h : HeaderRecord) × AreSignals bytes.now h × (h.fixed ≡ fixed) × (r ≡ layout_of h))
         (IsSignalsRefusal bytes.now fixed.signal_count) }
 {
-    if bytes.len() < 256 * fixed.signals() {
+    let n = fixed.signals();
+    if bytes.len() < 256 * n {
         return Err(HeaderFault::CutSignals);
     }
     if let Some(at) = first_unprintable(bytes) {
         return Err(HeaderFault::UnprintableSignals { offset: 256 + at });
     }
-    let Ok(rows) = rows_from(alloc, bytes, fixed.signals()) else {
-        return Err(HeaderFault::Memory);
-    };
-    let extents = match check_rows(&rows) {
+    let extents = match check_signals(bytes, n) {
         Ok(extents) => extents,
         Err(fault) => return Err(fault),
     };
     let ordinary_bytes = extents.record_bytes - extents.block_bytes;
-    let Ok(identity) = Identity::from_header(alloc, &fixed, &rows, ordinary_bytes) else {
+    let Ok(identity) = Identity::from_header(alloc, &fixed, bytes, ordinary_bytes) else {
         return Err(HeaderFault::Memory);
     };
     Ok(Header {
@@ -152,6 +159,3 @@ pub fn read_signals(alloc: Global, fixed: Fixed, bytes: &[u8]) -> Result<Header,
         record_bytes: extents.record_bytes,
     })
 }
-
-#[cfg(test)]
-mod tests;

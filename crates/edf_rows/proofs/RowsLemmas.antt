@@ -27,7 +27,7 @@ use Rattle.edf_holdings.proofs.Same.{same_key-Decides, same_key-true}
 use Rattle.edf_holdings.proofs.Joining.{IsGood-from_sound}
 use Rattle.edf_rows.specs.Cells.{record_cells, recording_cells, recordings_in}
 use Rattle.edf_rows.specs.Rows.{IsThere, IsRecording, IsOwned, StandFor, AreKept}
-use Rattle.edf_rows.specs.Foreign.{IsBadRow, bad_start, bad_samples, bad_block, AreNear, AreBadRecords, bad_row, too_near, too_few, too_many, IsForeign, bad_recording, bad_records, without_recording, twice}
+use Rattle.edf_rows.specs.Foreign.{IsBadRow, bad_start, bad_samples, bad_block, AreTooNear, AreBadRecords, bad_row, too_near, too_few, too_many, IsForeign, bad_recording, bad_records, without_recording, twice}
 
 -- ---- members
 pub here : {X : Type 0} (x : X) (xs : List X) → Contains (x ∷ xs) x
@@ -172,7 +172,7 @@ one_inside first d low (x ∷ xs) apart = go (nat_le first x.start) refl (one_in
         let sum = sum_by-cons (row_hits first d) (record_cells x) (map record_cells xs) in
         omega (arith, zero_here, more, sum)
 
-pub not-near : (d low : ℕ) (xs : List DataRecord) → IsApart d low xs → ¬ AreNear (map record_cells xs) d
+pub not-near : (d low : ℕ) (xs : List DataRecord) → IsApart d low xs → ¬ AreTooNear (map record_cells xs) d
 not-near d low xs apart near =
     let f = row_hits near.first d in
     let all = sum_by-IsPermutation f (map record_cells xs) _ near.two.1 in

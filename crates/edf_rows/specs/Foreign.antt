@@ -39,7 +39,7 @@ pub data IsBadRow (k : Key) (row : Row) : Type 0 where
   bad_block : ¬ IsOwnBlock row → IsBadRow k row
 
 -- two records of a recording start less than its duration apart
-pub record AreNear (rows : List Row) (duration : ℕ) : Type 0 where
+pub record AreTooNear (rows : List Row) (duration : ℕ) : Type 0 where
   pub a : Row
   pub b : Row
   pub two : AreTwoOf rows a b
@@ -53,7 +53,7 @@ pub record AreNear (rows : List Row) (duration : ℕ) : Type 0 where
 -- a recording's records: one is bad, two are too near, there is none, or there are more than the cap
 pub data AreBadRecords (cap : ℕ) (k : Key) (rows : List Row) : Type 0 where
   bad_row : (row : Row) → Contains rows row → IsBadRow k row → AreBadRecords cap k rows
-  too_near : AreNear rows (duration_of k.duration) → AreBadRecords cap k rows
+  too_near : AreTooNear rows (duration_of k.duration) → AreBadRecords cap k rows
   too_few : rows ≡ [] → AreBadRecords cap k rows
   too_many : cap < length rows → AreBadRecords cap k rows
 

@@ -1,5 +1,5 @@
 -- The duration of a data record is below 2^62 nanoseconds.
-use Rattle.std.proofs.Common.{ℕ, ◌^◌, ◌≤◌, ◌<◌, arith}
+use Rattle.std.proofs.Common.{◌^◌, ◌<◌, arith}
 use Rattle.edf_field.specs.Number.{duration_of}
 use Rattle.edf_header.specs.Key.{Key, IsKey}
 use Rattle.edf_header.proofs.Cited.{key-duration-bound}

@@ -1,7 +1,7 @@
 -- Refusals of a helper that are refusals of the store.
-use Rattle.std.proofs.Common.{◌≡◌, ◌≢◌, ◌⊎◌, inl, inr, Result, Ok, Err, IfErr, sym, subst}
+use Rattle.std.proofs.Common.{◌≡◌, ◌≢◌, ◌⊎◌, inl, inr, Result, Ok, Err, IfErr, sym, subst, ◌∙◌}
 use Rattle.edf_store.specs.declared.fault.StoreFault.{StoreFault}
-use Rattle.edf_store.specs.declared.fault.StoreFault.TheVariants.{Memory, Foreign}
+use Rattle.edf_store.specs.declared.fault.StoreFault.TheVariants.{Memory, Foreign, Failed}
 use Rattle.edf_store.specs.Fault.{IsStoreRefusal}
 
 pub refused_by : {A : Type 0} (r : Result A StoreFault) (Own : StoreFault → Type 0) → ((e : StoreFault) → Own e → e ≢ Foreign)
@@ -9,3 +9,8 @@ pub refused_by : {A : Type 0} (r : Result A StoreFault) (Own : StoreFault → Ty
 refused_by (Ok x) Own f told own = tt
 refused_by (Err e) Own f (inl m) own = subst IsStoreRefusal (sym m) tt
 refused_by (Err e) Own f (inr m) own = absurd (f e own m)
+
+pub unfailed_by : {A : Type 0} (r : Result A StoreFault) → IfErr r (λ e. (e ≡ Memory) ⊎ (e ≡ Foreign)) → IfErr r (λ e. e ≢ Failed)
+unfailed_by (Ok x) told = tt
+unfailed_by (Err e) (inl m) = λ f. absurd (let c : Memory ≡ Failed = sym m ∙ f in cc)
+unfailed_by (Err e) (inr m) = λ f. absurd (let c : Foreign ≡ Failed = sym m ∙ f in cc)

@@ -1,12 +1,11 @@
 -- Which recordings are there, and what the tables stand for with one recording more.
-use Rattle.std.proofs.Common.{◌≡◌, ◌≢◌, ℕ, ◌+◌, ◌<◌, ◌≤◌, ℤ, pos, ◌⊎◌, inl, inr, Bool, true, false, cond, List, [], ◌∷◌, map, length, filter, Contains, All, IsTrue, IsPermutation, refl, sym, ap, subst, ◌∙◌, arith, true≢false, is_eq, Ordering, Less, Equal, Greater}
+use Rattle.std.proofs.Common.{◌≡◌, ◌≢◌, ℕ, ℤ, ◌⊎◌, inl, inr, Bool, true, false, List, [], ◌∷◌, map, length, Contains, All, IsPermutation, refl, sym, ap, subst, ◌∙◌, arith, true≢false, is_eq, Ordering, Less, Equal, Greater}
 use Rattle.std.specs.List.{AllByRecursion}
 use Rattle.std.specs.Ordering.{int_cmp, ordering_reverse}
 use Rattle.std.proofs.lemmas.Cmp.{tied_itself, alike_right}
 use Rattle.std.proofs.lemmas.List.Elements.{All-from_recursion, recursion_from_All, All-contains}
 use Rattle.std.proofs.lemmas.List.Sorted.{IsPermutation-trans, IsPermutation-cons, IsPermutation-sym, IsPermutation-middle, IsPermutation-refl, IsPermutation-map}
 use Rattle.std.proofs.lemmas.Map.Lookups.{exact_bytes}
-use Rattle.sqlite_value.specs.declared.value.Value.{Value}
 use Rattle.sqlite_value.specs.declared.value.Value.TheVariants.{Int, Blob}
 use Rattle.sqlite_value.specs.Order.{Row, column, value_cmp}
 use Rattle.sqlite_value.proofs.OrderLemmas.{value_cmp_total, value_cmp-Int, value_cmp-Blob}
@@ -16,11 +15,11 @@ use Rattle.sqlite.specs.State.{State}
 use Rattle.sqlite_keyed.specs.Lists.{sort_by}
 use Rattle.sqlite_keyed.proofs.ListLemmas.{all_weaker, none_from_any, along_permutation, filter_none}
 use Rattle.edf_header.specs.Key.{Key, IsKey, key_bytes}
-use Rattle.edf_fragment.specs.Fragment.{DataRecord}
 use Rattle.edf_holdings.specs.Holdings.{Holdings}
 use Rattle.edf_tables.specs.Row.{named_cells, new_row, HasRecording}
-use Rattle.edf_tables.specs.Records.{records_of, record_cells as cells_shown, by_column}
+use Rattle.edf_tables.specs.Records.{records_of, shown_record, by_column}
 use Rattle.edf_tables.specs.Recordings.{named}
+use Rattle.edf_tables.proofs.ApartLemmas.{equal_of}
 use Rattle.edf_rows.specs.Cells.{record_cells, recording_cells, recordings_in, records_in, is_of}
 use Rattle.edf_rows.specs.Rows.{IsThere, IsRecording, IsOwned, AreTwoOf, AreOther, StandFor}
 use Rattle.edf_rows.proofs.RowsLemmas.{here, there, cases_first, no_member, same-recordings}
@@ -29,11 +28,6 @@ use Rattle.edf_store.proofs.StandLemmas.{other_id}
 
 abbrev pub shown : Row → Row
 shown row = column row 0 ∷ column row 2 ∷ []
-
-equal_of : (o : Ordering) → is_eq o ≡ true → o ≡ Equal
-equal_of Less h = absurd (true≢false (sym h))
-equal_of Equal h = refl
-equal_of Greater h = absurd (true≢false (sym h))
 
 blob_of : (a b : List ℕ) → is_eq (value_cmp (Blob a) (Blob b)) ≡ true → a ≡ b
 blob_of a b h = exact_bytes a b (sym (value_cmp-Blob a b) ∙ equal_of _ h)
@@ -184,10 +178,10 @@ module _ (old new : State) (id : ℤ) (k : Key) (h : Holdings) (has : HasRecordi
       reversed Greater e d = ap is_eq e
 
   empty : records_in old.now.trees id ≡ []
-  empty = ap (λ (rows : List Row). map cells_shown (sort_by (by_column 2) rows)) (filter_none (is_of id) (old.now.trees 2) (all_weaker (IsOwned old.now.trees) (λ r. is_of id r ≡ false) is_other (old.now.trees 2) (recursion_from_All (IsOwned old.now.trees) (old.now.trees 2) stand.owned)))
+  empty = ap (λ (rows : List Row). map shown_record (sort_by (by_column 2) rows)) (filter_none (is_of id) (old.now.trees 2) (all_weaker (IsOwned old.now.trees) (λ r. is_of id r ≡ false) is_other (old.now.trees 2) (recursion_from_All (IsOwned old.now.trees) (old.now.trees 2) stand.owned)))
 
   same_rows : (m : ℤ) → records_in new.now.trees m ≡ records_in old.now.trees m
-  same_rows m = ap (λ (rows : List Row). map cells_shown (records_of m rows)) has.records
+  same_rows m = ap (λ (rows : List Row). map shown_record (records_of m rows)) has.records
 
   pub stand_named : StandFor new.now.trees h
   stand_named = record {

@@ -1,14 +1,13 @@
 -- What calls keep of a store.
-use Rattle.std.proofs.Common.{◌≡◌, ℕ, ℤ, Result, OnOk, OnErr, Ok, Err, IsTrue, refl, sym, ap, subst, ◌∙◌, arith}
+use Rattle.std.proofs.Common.{ℕ, ℤ, IsTrue, sym, ap, subst, ◌∙◌, arith}
 use Rattle.sqlite.specs.Tree.{Trees}
 use Rattle.sqlite.specs.Effect.{Database}
 use Rattle.sqlite.specs.State.{State, HasCleanDisk, Survives, KeepsCommit, IsUnchanged}
 use Rattle.edf_header.specs.Key.{Key}
 use Rattle.edf_holdings.specs.Holdings.{Holdings}
-use Rattle.edf_tables.specs.Row.{IsInside}
 use Rattle.edf_rows.specs.Rows.{AreKept, StandFor, IsThere}
 use Rattle.edf_store.specs.Held.{AreHeld, IsSoundStore}
-use Rattle.edf_store.specs.Transaction.{AreSeen, SeesSome, StandsInside, IsUnder, SeesOn}
+use Rattle.edf_store.specs.Transaction.{SeesSome, StandsInside, IsUnder, SeesOn}
 
 -- what keeps the commit keeps what is true of a store
 pub still_sound : (cap : ℕ) (old new : State) (P : Trees → Type 0) → Survives old new P → (HasCleanDisk new → KeepsCommit old new) → IsSoundStore cap old → IsSoundStore cap new

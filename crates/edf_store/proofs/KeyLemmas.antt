@@ -1,5 +1,5 @@
 -- The identities and the summary that are read off the rows.
-use Rattle.std.proofs.Common.{◌≡◌, ◌≢◌, ℕ, zero, suc, ◌+◌, ◌<◌, ◌≤◌, ℤ, pos, ◌⊎◌, inl, inr, Bool, true, false, List, [], ◌∷◌, map, length, reverse, Contains, All, IsPermutation, refl, sym, ap, subst, ◌∙◌, arith, slice_index_or, slice_get, Option, Some, None, is_eq, is_gt, Ordering, Less, Equal, Greater, true≢false}
+use Rattle.std.proofs.Common.{◌≡◌, ◌≢◌, ℕ, ℤ, pos, ◌⊎◌, inl, inr, false, List, [], ◌∷◌, map, Contains, IsPermutation, refl, sym, ap, subst, ◌∙◌, slice_get, Option, Some, None, is_gt, Ordering, Less, Equal, Greater, true≢false}
 use Rattle.std.specs.Option.{option_map}
 use Rattle.std.specs.List.{AllByRecursion}
 use Rattle.std.specs.List.Sorted.{IsStrictlySortedBy}
@@ -12,21 +12,20 @@ use Rattle.sqlite_value.specs.Order.{Row, column, value_cmp}
 use Rattle.sqlite_value.proofs.OrderLemmas.{value_cmp-Blob}
 use Rattle.sqlite_trees.specs.Tree.{Trees, IsAscending}
 use Rattle.sqlite_trees.proofs.ListLemmas.{all-permutation}
-use Rattle.sqlite_keyed.proofs.ListLemmas.{all_both, all_weaker, all_unmap, ascending-map, ascending_from_map, ascending_weaker}
+use Rattle.sqlite_keyed.proofs.ListLemmas.{all_unmap, ascending-map, ascending_from_map, ascending_weaker}
 use Rattle.sqlite_keyed.proofs.SortLemmas.{IsPermutation-sort_by}
 use Rattle.edf_header.specs.Key.{Key, IsKey, key_bytes}
 use Rattle.edf_fragment.specs.Fragment.{DataRecord}
 use Rattle.edf_holdings.specs.Holdings.{Holdings}
 use Rattle.edf_holdings.specs.Keys.{key_cmp, AreKeysOf}
-use Rattle.edf_tables.specs.Records.{records_of, record_cells as cells_shown, by_column}
+use Rattle.edf_tables.specs.Records.{by_column}
 use Rattle.edf_tables.specs.Recordings.{by_identity}
 use Rattle.edf_tables.proofs.AnswerLemmas.{column_total}
 use Rattle.edf_tables.proofs.SortLemmas.{rising_sort}
-use Rattle.edf_rows.specs.Cells.{record_cells, recording_cells, recordings_in, records_in}
+use Rattle.edf_rows.specs.Cells.{record_cells, recording_cells, recordings_in}
 use Rattle.edf_rows.specs.Rows.{IsThere, IsRecording, AreOther, StandFor, AreKept}
 use Rattle.edf_rows.proofs.RowsLemmas.{here, there, cases_first, no_member, same-keys, finds, Finds}
-use Rattle.edf_store.proofs.RowLemmas.{Show, show_from, from_show, start_cell}
-use Rattle.edf_store.proofs.StandLemmas.{shown_of}
+use Rattle.edf_store.proofs.RowLemmas.{Show, start_cell}
 use Rattle.edf_store.proofs.FoundLemmas.{pairs_of, pairs_along, member_along, shown}
 
 -- ---- the identities differ, so sorted they rise

@@ -6,6 +6,7 @@ pub mod HeldLemmas
 pub mod KeyLemmas
 pub mod KeysReadLemmas
 pub mod NearLemmas
+pub mod OpenLemmas
 pub mod PutLemmas
 pub mod ReadyLemmas
 pub mod RowLemmas
@@ -13,3 +14,4 @@ pub mod StandLemmas
 pub mod StepLemmas
 pub mod SummaryLemmas
 pub mod WalkLemmas
+pub mod WholeLemmas

@@ -1,27 +1,21 @@
 -- Which records a query by starts gives.
-use Rattle.std.proofs.Common.{◌≡◌, ◌≢◌, ℕ, zero, suc, ◌+◌, ◌<◌, ◌≤◌, ℤ, pos, ◌-ℤ◌, ◌+ℤ◌, ◌<ℤ◌, Bool, true, false, ◌&&◌, List, [], ◌∷◌, map, length, filter, take, drop, nat_lt, refl, sym, ap, ap₂, subst, ◌∙◌, arith, inl, inr, is_eq, is_gt, is_lt, Option, Some, None, slice_get}
+use Rattle.std.proofs.Common.{◌≡◌, ℕ, zero, suc, ◌+◌, ◌<◌, ◌≤◌, ℤ, pos, ◌-ℤ◌, ◌+ℤ◌, ◌<ℤ◌, true, false, ◌&&◌, List, [], ◌∷◌, map, length, filter, take, drop, nat_lt, refl, sym, ap, ap₂, ◌∙◌, arith, inl, inr, is_gt, is_lt, Option, Some, None, slice_get}
 use Rattle.std.specs.Ordering.{int_cmp}
 use Rattle.std.proofs.lemmas.Int.{ints}
 use Rattle.std.proofs.lemmas.Bool.{cases_Bool, ltb-true, ltb-false}
-use Rattle.std.proofs.lemmas.List.Elements.{recursion_from_All}
-use Rattle.std.specs.List.{AllByRecursion}
 use Rattle.sqlite_value.specs.declared.value.Value.TheVariants.{Int}
 use Rattle.sqlite_value.specs.Order.{Row, column, value_cmp}
 use Rattle.sqlite_value.proofs.OrderLemmas.{value_cmp-Int}
 use Rattle.sqlite_trees.specs.Tree.{Trees}
-use Rattle.edf_field.specs.Number.{duration_of}
 use Rattle.edf_header.specs.Key.{Key}
 use Rattle.edf_fragment.specs.Fragment.{DataRecord}
 use Rattle.edf_holdings.specs.Clash.{meets, near_of}
 use Rattle.edf_holdings.specs.Rising.{IsApart}
-use Rattle.edf_fragment.specs.Sound.{IsSoundRecord}
 use Rattle.edf_holdings.specs.Holdings.{Holdings, IsSound}
-use Rattle.edf_tables.specs.Cells.{cells_of}
-use Rattle.edf_tables.specs.declared.row.RecordRow.{RecordRow}
-use Rattle.edf_tables.specs.Records.{records_of, record_cells as cells_shown, starts_between, starts_after, IsRising}
+use Rattle.edf_tables.specs.Records.{records_of, shown_record, starts_between, starts_after, IsRising}
 use Rattle.edf_rows.specs.Cells.{record_cells}
 use Rattle.edf_rows.specs.Rows.{IsThere, StandFor}
-use Rattle.edf_store.proofs.RowLemmas.{Show, from_show, show_filter, show_take, show_length, rows_rise, cell_less, cell_more, cell_same, pos_less, Three, below, level, above, three}
+use Rattle.edf_store.proofs.RowLemmas.{from_show, show_filter, show_take, show_length, rows_rise, cell_less, cell_more, cell_same, pos_less, Three, below, level, above, three}
 use Rattle.edf_store.proofs.StandLemmas.{shown_of}
 
 after_test : (start d s : ℕ) → is_gt (value_cmp (Int (pos s)) (Int (pos start -ℤ pos d))) ≡ nat_lt start (s + d)
@@ -52,14 +46,14 @@ near_test start d row x e =
 
 -- the rows of the query for the records near a start show these
 pub near_shown : (trees : Trees) (h : Holdings) (id : ℤ) (k : Key) (start d : ℕ) → StandFor trees h → IsThere trees id k
-    → map cells_shown (filter (starts_between (pos start -ℤ pos d) (pos start +ℤ pos d)) (records_of id (trees 2))) ≡ map record_cells (near_of d start (h k))
+    → map shown_record (filter (starts_between (pos start -ℤ pos d) (pos start +ℤ pos d)) (records_of id (trees 2))) ≡ map record_cells (near_of d start (h k))
 near_shown trees h id k start d stand there = from_show _ _ (show_filter _ (meets d start) (near_test start d) (records_of id (trees 2)) (h k) (shown_of trees h stand id k there))
 
 behind_test : (after : ℤ) (row : Row) (x : DataRecord) → column row 2 ≡ Int (pos x.start) → starts_after after row ≡ is_gt (int_cmp (pos x.start) after)
 behind_test after row x e = ap (λ v. is_gt (value_cmp v (Int after))) e ∙ ap is_gt (value_cmp-Int (pos x.start) after)
 
 pub behind_shown : (trees : Trees) (h : Holdings) (id : ℤ) (k : Key) (after : ℤ) (n : ℕ) → StandFor trees h → IsThere trees id k
-    → map cells_shown (take n (filter (starts_after after) (records_of id (trees 2)))) ≡ map record_cells (take n (filter (λ (r : DataRecord). is_gt (int_cmp (pos r.start) after)) (h k)))
+    → map shown_record (take n (filter (starts_after after) (records_of id (trees 2)))) ≡ map record_cells (take n (filter (λ (r : DataRecord). is_gt (int_cmp (pos r.start) after)) (h k)))
 behind_shown trees h id k after n stand there =
     from_show _ _ (show_take n _ _ (show_filter _ (λ (r : DataRecord). is_gt (int_cmp (pos r.start) after)) (behind_test after) (records_of id (trees 2)) (h k) (shown_of trees h stand id k there)))
 

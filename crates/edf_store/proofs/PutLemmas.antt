@@ -1,5 +1,5 @@
 -- Sound holdings with one record more.
-use Rattle.std.proofs.Common.{◌≡◌, ◌≢◌, ℕ, ◌+◌, ◌<◌, ◌≤◌, Bool, true, false, ◌&&◌, List, [], ◌∷◌, length, filter, nat_lt, refl, sym, ap, subst, ◌∙◌, inl, inr, arith, true≢false}
+use Rattle.std.proofs.Common.{◌≡◌, ℕ, ◌+◌, ◌<◌, Bool, true, false, List, [], ◌∷◌, length, nat_lt, refl, sym, ap, subst, ◌∙◌, inl, inr, arith, true≢false}
 use Rattle.std.proofs.lemmas.Bool.{cond-true, and_from, lt-ltb, false_from_ne_true}
 use Rattle.edf_field.specs.Number.{duration_of}
 use Rattle.edf_header.specs.Key.{Key, IsKey}
@@ -11,7 +11,7 @@ use Rattle.edf_fragment.specs.Sound.{IsSoundRecord}
 use Rattle.edf_holdings.specs.Holdings.{Holdings, IsSound, put}
 use Rattle.edf_holdings.specs.Reply.{fits, after_one}
 use Rattle.edf_holdings.proofs.Same.{clashes-true}
-use Rattle.edf_holdings.proofs.Members.{In, AreFree, holds_from_In, In-from_holds, length_inserted_new}
+use Rattle.edf_holdings.proofs.Members.{In, AreFree, length_inserted_new}
 use Rattle.edf_holdings.proofs.Near.{held_near}
 use Rattle.edf_holdings.proofs.Joining.{lasting, MayJoin, fits_from_MayJoin}
 use Rattle.edf_holdings.proofs.Sound.{IsSound-one}

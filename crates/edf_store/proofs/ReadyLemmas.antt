@@ -1,5 +1,5 @@
 -- What an empty text tells, and what is read outside a transaction.
-use Rattle.std.proofs.Common.{◌≡◌, ℕ, ℤ, List, [], Bool, false, true, not, IsTrue, Some, None, Ok, Err, Result, OnOk, inl, inr, refl, sym, ap, subst, ◌∙◌, arith, true≢false, Contains, map, MatchOption, Option}
+use Rattle.std.proofs.Common.{◌≡◌, ℕ, ℤ, List, [], false, IsTrue, Some, None, Ok, inl, inr, refl, sym, ap, subst, ◌∙◌, arith, Option}
 use Rattle.sqlite.specs.Order.{Row}
 use Rattle.sqlite.specs.Tree.{Trees}
 use Rattle.sqlite.specs.Effect.{Database}
@@ -12,11 +12,10 @@ use Rattle.sqlite.proofs.StateLemmas.{survives_weaker}
 use Rattle.sqlite.proofs.Callers.{IsPlain, command_of, statement_of, runs_as}
 use Rattle.edf_header.specs.Key.{Key, IsKey, key_bytes}
 use Rattle.edf_holdings.specs.Holdings.{Holdings}
-use Rattle.edf_tables.specs.Schema.{both_schema}
 use Rattle.edf_tables.specs.Recordings.{AreNamedApart, IsIdIn, named}
 use Rattle.edf_tables.proofs.CommitLemmas.{commits_as, quiet_then}
 use Rattle.edf_tables.proofs.KeepLemmas.{keeps_then}
-use Rattle.edf_rows.specs.Rows.{IsThere, StandFor, AreKept}
+use Rattle.edf_rows.specs.Rows.{AreKept}
 use Rattle.edf_store.specs.Held.{Kept, AreHeld, IsSoundStore, Stays}
 use Rattle.edf_store.specs.Shape.{IsSettled, IsFoundIn}
 use Rattle.sqlite_trees.specs.declared.store.Store.{Ghosts}

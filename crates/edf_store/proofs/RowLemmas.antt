@@ -1,13 +1,12 @@
 -- Rows beside the data records that they show.
-use Rattle.std.proofs.Common.{◌≡◌, ◌≢◌, ℕ, zero, suc, ◌+◌, ◌<ℤ◌, take, ap₂, ◌<◌, ◌≤◌, ℤ, pos, ◌⊎◌, inl, inr, Bool, true, false, cond, List, [], ◌∷◌, map, length, filter, nat_lt, Contains, IsPermutation, refl, sym, ap, subst, ◌∙◌, arith, true≢false, Ordering, Less, Equal, Greater, is_eq, is_gt, is_lt}
+use Rattle.std.proofs.Common.{◌≡◌, ◌≢◌, ℕ, zero, suc, ◌+◌, ◌<ℤ◌, take, ap₂, ◌<◌, ◌≤◌, ℤ, pos, ◌⊎◌, inl, inr, Bool, true, false, List, [], ◌∷◌, map, length, filter, nat_lt, Contains, refl, sym, ap, subst, ◌∙◌, arith, true≢false, Ordering, Less, Equal, Greater, is_eq}
 use Rattle.std.specs.List.{AllByRecursion}
 use Rattle.std.proofs.lemmas.List.Sorted.{IsPermutation-trans, IsPermutation-middle}
 use Rattle.std.proofs.lemmas.Bool.{cond-true, and_from, lt-ltb, ltb-true, ltb-false, cases_Bool}
 use Rattle.std.proofs.lemmas.Bool.Decides.{nat_tests}
 use Rattle.std.specs.Cmp.{int_cmp_is}
 use Rattle.std.proofs.lemmas.Int.{ints}
-use Rattle.sqlite_value.specs.declared.value.Value.{Value}
-use Rattle.sqlite_value.specs.declared.value.Value.TheVariants.{Int, Blob}
+use Rattle.sqlite_value.specs.declared.value.Value.TheVariants.{Int}
 use Rattle.sqlite_value.specs.Order.{Row, column, value_cmp}
 use Rattle.sqlite_value.proofs.OrderLemmas.{value_cmp-Int}
 use Rattle.sqlite_trees.specs.Tree.{put_row, rowid, IsAscending}
@@ -17,8 +16,7 @@ use Rattle.edf_holdings.specs.Same.{same_record}
 use Rattle.edf_holdings.specs.Rising.{inserted, IsApart}
 use Rattle.edf_holdings.specs.Clash.{meets, near_of}
 use Rattle.edf_holdings.proofs.Same.{same_record_no}
-use Rattle.edf_holdings.proofs.Members.{In}
-use Rattle.edf_tables.specs.Records.{by_column, record_cells as cells_shown}
+use Rattle.edf_tables.specs.Records.{by_column, shown_record}
 use Rattle.edf_rows.specs.Cells.{record_cells}
 use Rattle.edf_rows.specs.Rows.{AreTwoOf}
 use Rattle.edf_rows.proofs.RowsLemmas.{cases_first, no_member}
@@ -29,24 +27,24 @@ abbrev pub Show : List Row → List DataRecord → Type 0
 Show [] [] = Unit {0}
 Show [] (x ∷ xs) = ⊥
 Show (row ∷ rows) [] = ⊥
-Show (row ∷ rows) (x ∷ xs) = (cells_shown row ≡ record_cells x) × Show rows xs
+Show (row ∷ rows) (x ∷ xs) = (shown_record row ≡ record_cells x) × Show rows xs
 
-pub show_from : (rows : List Row) (xs : List DataRecord) → map cells_shown rows ≡ map record_cells xs → Show rows xs
+pub show_from : (rows : List Row) (xs : List DataRecord) → map shown_record rows ≡ map record_cells xs → Show rows xs
 show_from [] [] e = tt
 show_from [] (x ∷ xs) e = absurd (let n : ◌≡◌ {A = ℕ} 0 (suc (length (map record_cells xs))) = ap length e in omega (arith, n))
-show_from (row ∷ rows) [] e = absurd (let n : ◌≡◌ {A = ℕ} (suc (length (map cells_shown rows))) 0 = ap length e in omega (arith, n))
+show_from (row ∷ rows) [] e = absurd (let n : ◌≡◌ {A = ℕ} (suc (length (map shown_record rows))) 0 = ap length e in omega (arith, n))
 show_from (row ∷ rows) (x ∷ xs) e =
-    let first : cells_shown row ≡ record_cells x = cc in
-    let rest : map cells_shown rows ≡ map record_cells xs = cc in
+    let first : shown_record row ≡ record_cells x = cc in
+    let rest : map shown_record rows ≡ map record_cells xs = cc in
     (first, show_from rows xs rest)
 
-pub from_show : (rows : List Row) (xs : List DataRecord) → Show rows xs → map cells_shown rows ≡ map record_cells xs
+pub from_show : (rows : List Row) (xs : List DataRecord) → Show rows xs → map shown_record rows ≡ map record_cells xs
 from_show [] [] s = refl
 from_show [] (x ∷ xs) s = absurd s
 from_show (row ∷ rows) [] s = absurd s
 from_show (row ∷ rows) (x ∷ xs) s = let one = s.0 in let more = from_show rows xs s.1 in λ i. one i ∷ more i
 
-pub start_cell : (row : Row) (x : DataRecord) → cells_shown row ≡ record_cells x → column row 2 ≡ Int (pos x.start)
+pub start_cell : (row : Row) (x : DataRecord) → shown_record row ≡ record_cells x → column row 2 ≡ Int (pos x.start)
 start_cell row x e = ap (λ (r : Row). column r 0) e
 
 -- ---- starts compare as numbers
@@ -86,7 +84,7 @@ not_at d start (x ∷ xs) some none = go (meets d start x) refl none (not_at d s
     go false e none more = ((λ same. true≢false (sym (met d start x some same) ∙ e)), more (rw e at none))
 
 -- one row more shows one record more, in its place
-pub show_more : (r : DataRecord) (new : Row) (rows : List Row) (xs : List DataRecord) → cells_shown new ≡ record_cells r → NotAt r.start xs → Show rows xs → Show (insert_sorted (by_column 2) new rows) (inserted r xs)
+pub show_more : (r : DataRecord) (new : Row) (rows : List Row) (xs : List DataRecord) → shown_record new ≡ record_cells r → NotAt r.start xs → Show rows xs → Show (insert_sorted (by_column 2) new rows) (inserted r xs)
 show_more r new [] [] e apart s = (e, tt)
 show_more r new [] (x ∷ xs) e apart s = absurd s
 show_more r new (row ∷ rows) [] e apart s = absurd s
@@ -106,7 +104,7 @@ show_more r new (row ∷ rows) (x ∷ xs) e apart s = go (three r.start x.start)
         let n : nat_lt r.start x.start ≡ false = grind (arith, nat_tests) in
         rw (c, other, n) (s.0, more)
 
-pub others_at : (r : DataRecord) (new : Row) (rows : List Row) (xs : List DataRecord) → cells_shown new ≡ record_cells r → NotAt r.start xs → Show rows xs → AllByRecursion (λ row. is_eq (by_column 2 row new) ≡ false) rows
+pub others_at : (r : DataRecord) (new : Row) (rows : List Row) (xs : List DataRecord) → shown_record new ≡ record_cells r → NotAt r.start xs → Show rows xs → AllByRecursion (λ row. is_eq (by_column 2 row new) ≡ false) rows
 others_at r new [] [] e apart s = tt
 others_at r new [] (x ∷ xs) e apart s = absurd s
 others_at r new (row ∷ rows) [] e apart s = absurd s

@@ -1,12 +1,12 @@
 -- What the tables stand for with one row more.
-use Rattle.std.proofs.Common.{◌≡◌, ◌≢◌, ℕ, ◌+◌, ◌<◌, ◌≤◌, ℤ, pos, ◌⊎◌, inl, inr, Bool, true, false, cond, List, [], ◌∷◌, map, length, filter, Contains, All, IsTrue, IsPermutation, refl, sym, ap, subst, ◌∙◌, arith, true≢false, is_eq, Ordering, Less, Equal, Greater}
+use Rattle.std.proofs.Common.{◌≡◌, ◌≢◌, ℤ, pos, ◌⊎◌, inl, inr, Bool, true, false, List, [], ◌∷◌, map, Contains, All, IsTrue, refl, sym, ap, subst, ◌∙◌, true≢false, is_eq, Ordering, Less, Equal, Greater}
 use Rattle.std.specs.List.{AllByRecursion}
 use Rattle.std.specs.Ordering.{int_cmp}
 use Rattle.std.specs.Cmp.{int_cmp_is}
-use Rattle.std.proofs.lemmas.Bool.{cond-true, cond-false, cases_Bool}
-use Rattle.std.proofs.lemmas.List.Elements.{All-from_recursion, recursion_from_All, All-contains}
+use Rattle.std.proofs.lemmas.Bool.{cond-false, cases_Bool}
+use Rattle.std.proofs.lemmas.List.Elements.{All-from_recursion, recursion_from_All}
 use Rattle.std.proofs.lemmas.Map.Lookups.{exact_signed}
-use Rattle.sqlite_value.specs.declared.value.Value.TheVariants.{Int, Blob}
+use Rattle.sqlite_value.specs.declared.value.Value.TheVariants.{Int}
 use Rattle.sqlite_value.specs.Order.{Row, column}
 use Rattle.sqlite_trees.specs.Tree.{Trees}
 use Rattle.sqlite_keyed.proofs.ListLemmas.{all_weaker}
@@ -14,17 +14,17 @@ use Rattle.sqlite_value.proofs.OrderLemmas.{value_cmp_total}
 use Rattle.std.proofs.lemmas.Cmp.{tied_itself}
 use Rattle.sqlite.specs.State.{State}
 use Rattle.edf_field.specs.Number.{duration_of}
-use Rattle.edf_header.specs.Key.{Key, IsKey}
+use Rattle.edf_header.specs.Key.{Key}
 use Rattle.edf_tal.specs.Canonical.{block_text}
 use Rattle.edf_fragment.specs.Fragment.{DataRecord}
 use Rattle.edf_holdings.specs.Same.{same_key}
 use Rattle.edf_holdings.specs.Clash.{near_of}
 use Rattle.edf_holdings.specs.Rising.{inserted, joined}
 use Rattle.edf_holdings.specs.Holdings.{Holdings, put}
-use Rattle.edf_holdings.proofs.Same.{same_key-true, same_key-refl, same_key-Decides}
+use Rattle.edf_holdings.proofs.Same.{same_key-true, same_key-Decides}
 use Rattle.edf_holdings.proofs.Joining.{lasting, put_here}
 use Rattle.edf_tables.specs.Row.{cells, new_row, HasRecord}
-use Rattle.edf_tables.specs.Records.{records_of, record_cells as cells_shown, by_column}
+use Rattle.edf_tables.specs.Records.{records_of, shown_record}
 use Rattle.edf_tables.proofs.HeldLemmas.{own_records, other_records}
 use Rattle.edf_rows.specs.Cells.{record_cells, recording_cells, recordings_in, records_in, is_of}
 use Rattle.edf_rows.specs.Rows.{IsThere, IsRecording, IsOwned, AreTwoOf, AreOther, StandFor}
@@ -87,10 +87,10 @@ module _ (old new : State) (id : ℤ) (k : Key) (r : DataRecord) (h : Holdings)
   apart : NotAt r.start (h k)
   apart = not_at (duration_of k.duration) r.start (h k) (lasting k there.key) none
 
-  own : map cells_shown (records_of id (new.now.trees 2)) ≡ map record_cells (inserted r (h k))
+  own : map shown_record (records_of id (new.now.trees 2)) ≡ map record_cells (inserted r (h k))
   own =
       let shown = shown_of old.now.trees h stand id k there in
-      ap (map cells_shown) (own_records old new id (pos r.start) r.samples (block_text 0 r.start r.annotations) has (others_at r row (records_of id (old.now.trees 2)) (h k) refl apart shown))
+      ap (map shown_record) (own_records old new id (pos r.start) r.samples (block_text 0 r.start r.annotations) has (others_at r row (records_of id (old.now.trees 2)) (h k) refl apart shown))
       ∙ from_show _ _ (show_more r row (records_of id (old.now.trees 2)) (h k) refl apart shown)
 
   held_now : (m : ℤ) (q : Key) → IsThere new.now.trees m q → records_in new.now.trees m ≡ map record_cells (put k (r ∷ []) h q)
@@ -108,7 +108,7 @@ module _ (old new : State) (id : ℤ) (k : Key) (r : DataRecord) (h : Holdings)
             | inl e ↦ absurd (other (one_id old.now.trees h stand id m q (subst (IsThere old.now.trees id) (same_key-true k q e) there) was))
             | inr e ↦ e
           ] in
-          ap (map cells_shown) (other_records old new m id (pos r.start) r.samples (block_text 0 r.start r.annotations) has (other_id id m other))
+          ap (map shown_record) (other_records old new m id (pos r.start) r.samples (block_text 0 r.start r.annotations) has (other_id id m other))
           ∙ stand.held m q was ∙ ap (map record_cells) (sym (cond-false (same_key k q) (joined (h q) (r ∷ [])) (h q) differ))
 
   owned_now : AllByRecursion (IsOwned new.now.trees) (old.now.trees 2) → IsOwned new.now.trees row → AllByRecursion (IsOwned new.now.trees) (new.now.trees 2)

@@ -1,10 +1,9 @@
 -- What the calls of a transaction make of what it sees.
-use Rattle.std.proofs.Common.{◌≡◌, ◌≢◌, ℕ, ◌+◌, ◌<◌, ◌≤◌, ℤ, pos, false, true, List, [], ◌∷◌, map, length, min, filter, ◌-ℤ◌, ◌+ℤ◌, Contains, inl, inr, IsTrue, refl, sym, ap, subst, ◌∙◌, arith, Option, Some, None, Result, Ok, Err, IfOk}
+use Rattle.std.proofs.Common.{◌≡◌, ℕ, ◌≤◌, ℤ, pos, false, true, List, [], ◌∷◌, map, length, min, filter, ◌-ℤ◌, ◌+ℤ◌, Contains, inl, inr, IsTrue, refl, sym, ap, subst, ◌∙◌, arith, Some, None, Result, Ok, Err, IfOk}
 use Rattle.sqlite.specs.Tree.{Trees}
 use Rattle.sqlite.specs.Effect.{Database}
 use Rattle.sqlite.specs.State.{State, HasCleanDisk, Survives, KeepsCommit, IsUnchanged, Shows}
 use Rattle.sqlite.proofs.StateLemmas.{survives_weaker}
-use Rattle.sqlite_value.specs.declared.value.Value.TheVariants.{Int}
 use Rattle.sqlite_value.specs.Order.{Row, column}
 use Rattle.sqlite_rules.specs.Edit.{next_rowid}
 use Rattle.edf_field.specs.Number.{duration_of}
@@ -19,18 +18,17 @@ use Rattle.edf_holdings.proofs.Joining.{IsGood-from_sound}
 use Rattle.std.specs.List.{AllByRecursion}
 use Rattle.std.proofs.lemmas.List.Elements.{recursion_from_All}
 use Rattle.sqlite_keyed.proofs.ListLemmas.{all-filter}
-use Rattle.edf_tables.specs.Schema.{both_schema}
-use Rattle.edf_tables.specs.Row.{cells, named_cells, IsInside, HasRecord, HasRecording}
-use Rattle.edf_tables.specs.Records.{records_of, record_cells as cells_shown, starts_between, IsReady}
+use Rattle.edf_tables.specs.Row.{cells, named_cells, HasRecord, HasRecording}
+use Rattle.edf_tables.specs.Records.{records_of, shown_record, starts_between, IsReady}
 use Rattle.edf_tables.specs.Recordings.{named, IsIdIn}
 use Rattle.edf_tables.proofs.CommitLemmas.{quiet_then}
 use Rattle.edf_tables.proofs.KeepLemmas.{keeps_then, same_left}
-use Rattle.edf_tables.proofs.HeldLemmas.{record_inside, record_keeps, recording_inside, recording_keeps}
+use Rattle.edf_tables.proofs.HeldLemmas.{record_inside, recording_inside, recording_keeps}
 use Rattle.edf_rows.specs.Cells.{record_cells, recording_cells, records_in}
-use Rattle.edf_rows.specs.Rows.{IsThere, StandFor, AreKept}
+use Rattle.edf_rows.specs.Rows.{IsThere, AreKept}
 use Rattle.edf_rows.proofs.RowsLemmas.{same-recordings}
 use Rattle.edf_store.specs.Held.{AreHeld, IsSoundStore}
-use Rattle.edf_store.specs.Transaction.{AreSeen, SeesSome, StandsInside, IsUnder, SeesOn, IsCountIn, AreNearIn, MakesNone, MakesOnly, MayTakeIn, HasRoom, IsAddedIn, IsWholeIn, AreSeenRows}
+use Rattle.edf_store.specs.Transaction.{AreSeen, SeesSome, StandsInside, IsUnder, SeesOn, IsCountIn, AreNearIn, MakesNone, MakesOnly, MayTakeIn, IsAddedIn, IsWholeIn, AreSeenRows}
 use Rattle.edf_store.proofs.HeldLemmas.{still_inside, still_under}
 use Rattle.edf_store.proofs.PutLemmas.{sound_put}
 use Rattle.edf_store.proofs.StandLemmas.{one_key, stand_more, there_too}
@@ -51,7 +49,7 @@ module _ (cap : ℕ) (old new : State) (P : Trees → Type 0) (s : Survives old 
 
   -- the rows near are those of the records near
   pub near_is : (id : ℤ) (start d : ℕ) (k : Key) (records : List DataRecord) → HasCleanDisk new → IsUnder old id k → d ≡ duration_of k.duration
-      → ((h : Holdings) → StandsInside cap old h → IsKey k → map cells_shown (filter (starts_between (pos start -ℤ pos d) (pos start +ℤ pos d)) (records_of id (old.now.trees 2))) ≡ map record_cells (near_of d start (h k)) → records ≡ near_of d start (h k))
+      → ((h : Holdings) → StandsInside cap old h → IsKey k → map shown_record (filter (starts_between (pos start -ℤ pos d) (pos start +ℤ pos d)) (records_of id (old.now.trees 2))) ≡ map record_cells (near_of d start (h k)) → records ≡ near_of d start (h k))
       → AreNearIn cap old id start records
   near_is id start d k records clean mine same read h q seen under =
       let it = seen (was_clean clean) in

@@ -1,5 +1,5 @@
 -- The summary of a recording, read off its rows.
-use Rattle.std.proofs.Common.{◌≡◌, ◌≢◌, ℕ, suc, ◌<◌, ◌≤◌, ◌++◌, ℤ, pos, List, [], ◌∷◌, map, min, length, reverse, slice_get, Option, Some, None, refl, sym, ap, subst, ◌∙◌, arith}
+use Rattle.std.proofs.Common.{◌≡◌, ◌≢◌, ℕ, ◌<◌, ◌≤◌, ℤ, pos, List, [], ◌∷◌, map, min, length, reverse, slice_get, Option, Some, None, refl, sym, ap, subst, ◌∙◌, arith}
 use Rattle.std.specs.Option.{option_map}
 use Rattle.std.specs.List.{AllByRecursion}
 use mathlib.Core.List.{reverse_aux}
@@ -15,8 +15,8 @@ use Rattle.edf_time.specs.Civil.{window}
 use Rattle.edf_header.specs.Key.{Key}
 use Rattle.edf_fragment.specs.Fragment.{DataRecord}
 use Rattle.edf_fragment.specs.Sound.{IsSoundRecord}
-use Rattle.edf_holdings.specs.Holdings.{Holdings, IsSound}
-use Rattle.edf_tables.specs.Records.{records_of, record_cells as cells_shown, IsReady, IsRising}
+use Rattle.edf_holdings.specs.Holdings.{Holdings}
+use Rattle.edf_tables.specs.Records.{records_of, shown_record, IsReady, IsRising}
 use Rattle.edf_rows.specs.Cells.{record_cells}
 use Rattle.edf_rows.specs.Rows.{IsThere, AreKept}
 use Rattle.edf_store.specs.Listed.{IsSummary, start_at}
@@ -37,7 +37,7 @@ map_reverse : {X Y : Type 0} (f : X → Y) (xs : List X) → map f (reverse xs) 
 map_reverse f xs = map_turned f xs []
 
 show_reverse : (rows : List Row) (xs : List DataRecord) → Show rows xs → Show (reverse rows) (reverse xs)
-show_reverse rows xs s = show_from (reverse rows) (reverse xs) (map_reverse cells_shown rows ∙ ap reverse (from_show rows xs s) ∙ sym (map_reverse record_cells xs))
+show_reverse rows xs s = show_from (reverse rows) (reverse xs) (map_reverse shown_record rows ∙ ap reverse (from_show rows xs s) ∙ sym (map_reverse record_cells xs))
 
 abbrev number_at : List DataRecord → Option ℤ
 number_at xs = option_map (λ (r : DataRecord). pos r.start) (slice_get xs 0)

@@ -1,19 +1,18 @@
 -- One step of a walk over the records of a recording.
-use Rattle.std.proofs.Common.{◌≡◌, ◌≢◌, ℕ, zero, suc, ◌+◌, ◌<◌, ◌≤◌, ℤ, pos, List, [], ◌∷◌, ◌++◌, map, filter, length, take, drop, slice_get, Option, Some, None, MatchOption, ◌<ℤ◌, refl, sym, ap, subst, ◌∙◌, arith}
-use Rattle.std.specs.List.{AllByRecursion}
+use Rattle.std.proofs.Common.{◌≡◌, ℕ, zero, suc, ◌+◌, ◌≤◌, ℤ, pos, List, [], ◌∷◌, ◌++◌, map, filter, length, take, drop, slice_get, Option, Some, None, MatchOption, ◌<ℤ◌, refl, sym, ap, subst, ◌∙◌, arith}
 use Rattle.std.proofs.lemmas.List.Elements.{recursion_from_All}
 use Rattle.sqlite.specs.Effect.{Database}
-use Rattle.sqlite.specs.State.{State, HasCleanDisk, Survives, IsUnchanged}
+use Rattle.sqlite.specs.State.{State, HasCleanDisk, IsUnchanged}
 use Rattle.edf_header.specs.Key.{Key, IsKey}
 use Rattle.edf_fragment.specs.Fragment.{DataRecord}
 use Rattle.edf_fragment.specs.Sound.{IsSoundRecord}
 use Rattle.edf_holdings.specs.Holdings.{Holdings}
 use Rattle.edf_tables.specs.Cells.{cells_of}
 use Rattle.edf_tables.specs.declared.row.RecordRow.{RecordRow}
-use Rattle.edf_tables.specs.Records.{records_of, record_cells as cells_shown, starts_after, IsReady}
+use Rattle.edf_tables.specs.Records.{records_of, shown_record, starts_after, IsReady}
 use Rattle.edf_rows.specs.Cells.{record_cells}
 use Rattle.edf_rows.specs.Rows.{IsThere, AreKept}
-use Rattle.edf_store.specs.Walk.{StandsBehind, IsBehind, StandsSomewhere, IsStep, starts_behind}
+use Rattle.edf_store.specs.Walk.{StandsBehind, StandsSomewhere}
 use Rattle.edf_store.proofs.NearLemmas.{behind_shown, behind_place, behind_start, rows_rising}
 use Rattle.edf_store.proofs.KeysReadLemmas.{all_place}
 use Rattle.edf_store.specs.Shape.{IsSettled, IsFoundIn}
@@ -47,15 +46,15 @@ ready_behind cap s id after clean somewhere =
 
 -- the rows of the next page show the next record
 module _ (cap : ℕ) (s : State) (id after : ℤ) (h : Holdings) (k : Key) (n : ℕ) (it : StandsBehind cap s (Some id) after h k n) where
-  pub next_shown : map cells_shown (take 1 (filter (starts_after after) (records_of id (s.now.trees 2)))) ≡ map record_cells (take 1 (drop n (h k)))
+  pub next_shown : map shown_record (take 1 (filter (starts_after after) (records_of id (s.now.trees 2)))) ≡ map record_cells (take 1 (drop n (h k)))
   next_shown = behind_shown s.now.trees h id k after 1 it.kept.stand it.found ∙ ap (λ (l : List DataRecord). map record_cells (take 1 l)) it.behind
 
-  pub record_next : (rows rest : List RecordRow) (row : RecordRow) → rows ≡ rest ++ row ∷ [] → map cells_of rows ≡ map cells_shown (take 1 (filter (starts_after after) (records_of id (s.now.trees 2)))) → (d : DataRecord) × (slice_get (h k) n ≡ Some d) × (cells_of row ≡ record_cells d) × IsSoundRecord k d
+  pub record_next : (rows rest : List RecordRow) (row : RecordRow) → rows ≡ rest ++ row ∷ [] → map cells_of rows ≡ map shown_record (take 1 (filter (starts_after after) (records_of id (s.now.trees 2)))) → (d : DataRecord) × (slice_get (h k) n ≡ Some d) × (cells_of row ≡ record_cells d) × IsSoundRecord k d
   record_next rows rest row e shown =
       let found = row_left (h k) n rest row it.within (ap (map cells_of) (sym e) ∙ shown ∙ next_shown) in
       (found.0, found.1, found.2, all_place (IsSoundRecord k) (h k) (recursion_from_All (IsSoundRecord k) (h k) (it.kept.sound.records k)) n found.0 found.1)
 
-  pub none_next : (rows : List RecordRow) → length rows ≡ 0 → map cells_of rows ≡ map cells_shown (take 1 (filter (starts_after after) (records_of id (s.now.trees 2)))) → n ≡ length (h k)
+  pub none_next : (rows : List RecordRow) → length rows ≡ 0 → map cells_of rows ≡ map shown_record (take 1 (filter (starts_after after) (records_of id (s.now.trees 2)))) → n ≡ length (h k)
   none_next rows none shown = none_left (h k) n rows it.within (shown ∙ next_shown) none
 
   module _ (t : State) (same : IsUnchanged s t) where

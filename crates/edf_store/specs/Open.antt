@@ -1,13 +1,14 @@
 -- How a store is opened.
-use Rattle.std.specs.Prelude.{◌≡◌, ℕ, IsTrue}
+use Rattle.std.specs.Prelude.{◌≡◌, ◌⊎◌, ℕ, IsTrue}
 use Rattle.sqlite_trees.specs.declared.store.Store.{Ghosts}
 use Rattle.sqlite.specs.Held.{Held, state}
 use Rattle.sqlite.specs.State.{HasCleanDisk, Survives}
 use Rattle.edf_holdings.specs.Holdings.{Holdings}
-use Rattle.edf_tables.specs.Made.{HasTables, IsMadeOf}
+use Rattle.edf_tables.specs.Made.{IsOurs, HasTables, IsMadeOf}
 use Rattle.edf_rows.specs.Rows.{AreKept}
-use Rattle.edf_rows.specs.Foreign.{IsForeign}
+use Rattle.edf_audit.specs.File.{IsForeignFile}
 use Rattle.edf_store.specs.Held.{Kept, at}
+use Rattle.edf_store.specs.Fault.{IsStoreRefusal}
 use Rattle.edf_store.specs.declared.fault.StoreFault.{StoreFault}
 use Rattle.edf_store.specs.declared.fault.StoreFault.TheVariants.{Foreign}
 
@@ -16,11 +17,18 @@ pub record IsOpened {S : Type 0} (g : Ghosts S) (conn : Held S) (store : Kept S)
   pub is_open : HasCleanDisk (at g store) → IsTrue (at g store).is_open
   pub tables : HasCleanDisk (at g store) → HasTables (state g conn).now (at g store).committed
   pub holdings : HasCleanDisk (at g store) → (h : Holdings) × AreKept store.cap (at g store).committed.trees h
+  pub own : HasCleanDisk (at g store) → ¬ IsForeignFile store.cap (state g conn).now
   pub crash : Survives (state g conn) (at g store) (IsMadeOf (state g conn).now)
 
--- the connection is given up with the rows that were there; where they are told to be foreign on a clean disk, they are
+-- the connection is given up somewhere. Where its disk is clean there, E45 tells that the file was foreign, and tables of ours
+-- have the rows that they had; a crash leaves the same as above
 pub record IsGivenUp {S : Type 0} (g : Ghosts S) (conn : Held S) (cap : ℕ) (fault : StoreFault) : Type 0 where
   pub end : Held S
-  pub tables : fault ≡ Foreign → HasCleanDisk (state g end) → HasTables (state g conn).now (state g end).now
-  pub foreign : fault ≡ Foreign → HasCleanDisk (state g end) → IsForeign cap (state g end).now.trees
+  pub told : (fault ≡ Foreign) ⊎ IsStoreRefusal fault
+  pub foreign : fault ≡ Foreign → HasCleanDisk (state g end) → IsForeignFile cap (state g conn).now
+  pub tables : fault ≡ Foreign → IsOurs (state g conn).now → HasCleanDisk (state g end) → HasTables (state g conn).now (state g end).now
   pub crash : Survives (state g conn) (state g end) (IsMadeOf (state g conn).now)
+
+-- the disk is clean wherever the opening may come from here, as that of a store in memory always is
+abbrev pub StaysClean : {S : Type 0} → Ghosts S → Held S → Type 0
+StaysClean {S} g conn = (end : Held S) → Survives (state g conn) (state g end) (IsMadeOf (state g conn).now) → HasCleanDisk (state g end)

@@ -1,14 +1,12 @@
 -- How far a walk over the records of a recording has come.
-use Rattle.std.specs.Prelude.{◌≡◌, ℕ, ◌+◌, ◌≤◌, ℤ, pos, Bool, false, List, [], length, drop, filter, slice_get, Option, Some, None, IsTrue, MatchOption}
+use Rattle.std.specs.Prelude.{◌≡◌, ℕ, ◌+◌, ◌≤◌, ℤ, pos, Bool, List, length, drop, filter, slice_get, Option, Some, None, IsTrue, MatchOption}
 use Rattle.std.specs.Ordering.{int_cmp, is_gt}
-use Rattle.sqlite_trees.specs.declared.store.Store.{Ghosts}
 use Rattle.sqlite.specs.State.{State, HasCleanDisk}
 use Rattle.edf_header.specs.Key.{Key, IsKey}
 use Rattle.edf_fragment.specs.Fragment.{DataRecord}
 use Rattle.edf_holdings.specs.Holdings.{Holdings}
 use Rattle.edf_tables.specs.Schema.{both_schema}
 use Rattle.edf_rows.specs.Rows.{IsThere, AreKept}
-use Rattle.edf_store.specs.Held.{Kept, at}
 
 abbrev pub starts_behind : ℤ → DataRecord → Bool
 starts_behind after r = is_gt (int_cmp (pos r.start) after)

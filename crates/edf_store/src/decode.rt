@@ -56,6 +56,7 @@ fn record_from(alloc: Global, samples: Vec<u8>, block: &[u8]) -> Result<Record, 
 /// `Memory`, or `Foreign` where the row is no data record's.
 pub(crate) fn record_in(alloc: Global, row: RecordRow) -> Result<Record, StoreFault>
     ensures read { IfOk result (λ r. (k : Key) (d : DataRecord) → IsKey k → IsSoundRecord k d → cells_of row ≡ record_cells d → r ≡ d) }
+    ensures told { IfErr result (λ e. (e ≡ StoreFault.Memory) ⊎ (e ≡ StoreFault.Foreign)) }
     ensures own { IfErr result (λ e. (k : Key) (d : DataRecord) → IsKey k → IsSoundRecord k d → cells_of row ≡ record_cells d → e ≢ StoreFault.Foreign) }
 {
     let RecordRow {

@@ -5,12 +5,14 @@
 //! - [`StoreTx`]: `recording`, `near`, `count` and `add`, until `commit` or `give_up`.
 //! - [`Records`]: the data records of one recording, one at a time.
 //! - [`StoreFault`]: why a call was refused.
+//! - [`laws`]: the disk of a store in memory stays clean.
 #![tactic(auto)]
 
 mod adding;
 mod decode;
 mod ending;
 mod fault;
+pub mod laws;
 mod listing;
 mod open;
 mod reading;

@@ -1,6 +1,6 @@
 //! What is held, at a glance.
 
-ghost use Rattle.std.specs.Prelude.{◌≡◌, ◌≢◌, ◌≤◌, ◌<◌, ℕ, pos, Some, IfOk, IfErr, MatchOption, map};
+ghost use Rattle.std.specs.Prelude.{◌≡◌, ◌≢◌, ◌≤◌, ◌<◌, ℕ, pos, Some, None, Err, IsTrue, IfOk, IfErr, MatchOption, map};
 ghost use Rattle.std.specs.List.{AllByRecursion};
 ghost use Rattle.sqlite.specs.State.{HasCleanDisk};
 ghost use Rattle.edf_time.specs.Civil.{window};
@@ -32,28 +32,34 @@ impl<S: Alter> Store<S> {
     /// The identities that hold data records, in the order of their bytes.
     ///
     /// # Errors
-    /// E41 or E42.
+    /// E41 or E42; E42 without a cause where the connection was left in a transaction.
     pub fn identities(&mut self) -> Result<Vec<Identity>, StoreFault>
         ensures stays { Stays S.Store self.old self.new }
         ensures keys { HasCleanDisk (at S.Store self.new) → IfOk result (λ all. AreKeysHeld S.Store self.old all.items) }
         ensures own { HasCleanDisk (at S.Store self.new) → IfErr result (λ e. e ≢ StoreFault.Foreign) }
         ensures unfailed { IfErr result (λ e. e ≢ StoreFault.Failed) }
+        ensures busy { IsTrue (at S.Store self.old).in_transaction → result ≡ Err (StoreFault.Store None) }
     {
-        ready(self)?;
+        if let Err(fault) = ready(self) {
+            return Err(fault);
+        }
         list(self)
     }
 
     /// How many data records an identity holds, and their first and last start; `None` where it holds nothing.
     ///
     /// # Errors
-    /// E41 or E42.
+    /// E41 or E42; E42 without a cause where the connection was left in a transaction.
     pub fn summary(&mut self, identity: &Identity) -> Result<Option<Summary>, StoreFault>
         ensures stays { Stays S.Store self.old self.new }
         ensures summary { HasCleanDisk (at S.Store self.new) → IfOk result (IsSummaryOf S.Store self.old identity.now) }
         ensures own { HasCleanDisk (at S.Store self.new) → IfErr result (λ e. e ≢ StoreFault.Foreign) }
         ensures unfailed { IfErr result (λ e. e ≢ StoreFault.Failed) }
+        ensures busy { IsTrue (at S.Store self.old).in_transaction → result ≡ Err (StoreFault.Store None) }
     {
-        ready(self)?;
+        if let Err(fault) = ready(self) {
+            return Err(fault);
+        }
         let Some(id) = find(self, identity)? else {
             return Ok(None);
         };

@@ -1,6 +1,6 @@
 //! What a transaction reads of a recording.
 
-ghost use Rattle.std.specs.Prelude.{◌≡◌, ◌≤◌, length, IfOk, IfErr};
+ghost use Rattle.std.specs.Prelude.{◌≡◌, ◌≢◌, ◌≤◌, length, IfOk, IfErr};
 ghost use Rattle.sqlite.specs.State.{HasCleanDisk};
 ghost use Rattle.edf_field.specs.Number.{duration_of};
 ghost use Rattle.edf_header.specs.Key.{Key};
@@ -30,6 +30,7 @@ pub(crate) fn records_near<S: Alter>(
     ensures same { IfOk result (λ _. SeesAsBefore S.Store store.old store.new) }
     ensures only { IfOk result (λ _. HasNoMore S.Store store.old store.new) }
     ensures told { HasCleanDisk (at S.Store store.new) → IfErr result IsStoreRefusal }
+    ensures unfailed { IfErr result (λ e. e ≢ StoreFault.Failed) }
 {
     let begin = start.nanos() as i64;
     let length = duration as i64;
@@ -48,7 +49,7 @@ pub(crate) fn count_records<S: Alter>(store: &mut Store<S>, id: i64) -> Result<u
     ensures count { HasCleanDisk (at S.Store store.new) → IfOk result (IsCountOf S.Store store.old id) }
     ensures same { IfOk result (λ _. SeesAsBefore S.Store store.old store.new) }
     ensures only { IfOk result (λ _. HasNoMore S.Store store.old store.new) }
-    ensures told { HasCleanDisk (at S.Store store.new) → IfErr result IsStoreRefusal }
+    ensures told { IfErr result IsStoreRefusal }
 {
     let count = match count_rows(&mut store.conn, id) {
         Ok(count) => count,

@@ -1,6 +1,6 @@
 //! What is true before a read outside a transaction.
 
-ghost use Rattle.std.specs.Prelude.{◌≢◌, OnOk, IfOk, IfErr};
+ghost use Rattle.std.specs.Prelude.{◌≡◌, ◌≢◌, None, Err, IsTrue, OnOk, IfOk, IfErr};
 ghost use Rattle.sqlite.specs.Held.{state};
 ghost use Rattle.sqlite.specs.State.{HasCleanDisk, Survives, KeepsCommit, IsUnchanged};
 ghost use Rattle.edf_header.specs.Key.{IsKey};
@@ -33,6 +33,7 @@ pub(crate) fn ready<S: Alter>(store: &mut Store<S>) -> Result<(), StoreFault>
     ensures own { IfErr result (λ e. e ≢ StoreFault.Foreign) }
     ensures unfailed { IfErr result (λ e. e ≢ StoreFault.Failed) }
     ensures settled { HasCleanDisk (at S.Store store.new) → OnOk result (IsSettled store.new.cap (at S.Store store.new)) }
+    ensures busy { IsTrue (at S.Store store.old).in_transaction → result ≡ Err (StoreFault.Store None) }
 {
     if !store.conn.is_autocommit() {
         return Err(StoreFault::Store(None));

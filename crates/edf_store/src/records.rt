@@ -1,6 +1,6 @@
 //! The data records of one recording, one at a time.
 
-ghost use Rattle.std.specs.Prelude.{◌≡◌, ◌≢◌, ℕ, false, true, None, Ok, IfOk, IfErr};
+ghost use Rattle.std.specs.Prelude.{◌≡◌, ◌≢◌, ℕ, false, true, None, Ok, Err, IsTrue, IfOk, IfErr};
 ghost use Rattle.std.specs.Borrow.{sem, RestsIfErr};
 ghost use Rattle.sqlite.specs.State.{HasCleanDisk};
 ghost use Rattle.edf_header.specs.Key.{Key};
@@ -17,7 +17,8 @@ use edf_header::Identity;
 use edf_rows::start_of;
 use sqlite::Alter;
 
-/// A walk over the data records of one recording, by their starts. It may be dropped at any of them.
+/// A walk over the data records of one recording, by their starts. It may be dropped at any of them, and the store is then as
+/// the walk left it.
 ///
 /// One data record is in memory at a time.
 pub struct Records<'store, S: Alter> {
@@ -28,7 +29,9 @@ pub struct Records<'store, S: Alter> {
 }
 
 impl<S: Alter> Drop for Records<'_, S> {
-    fn drop(self) {
+    fn drop(self)
+        ensures { self.exit.0.now ≡ self.entry.store.now }
+    {
         let Records {
             store: _,
             recording: _,
@@ -44,17 +47,20 @@ impl<S: Alter> Store<S> {
     /// Begins a walk over the data records that an identity holds.
     ///
     /// # Errors
-    /// E41 or E42.
+    /// E41 or E42; E42 without a cause where the connection was left in a transaction.
     pub fn records(&mut self, identity: &Identity) -> Result<Records<'_, S>, StoreFault>
         ensures* refused { sem 𝓛 (RestsIfErr (the_row S.row S.Store) self.entry (λ it. it.store.ghost_name) result (Stays S.Store self.old)) }
         ensures same_reference { IfOk result (λ it. it.store.ghost_name ≡ self.entry.ghost_name) }
         ensures stays { IfOk result (λ it. Stays S.Store self.old it.store.now) }
         ensures own { IfErr result (λ e. e ≢ StoreFault.Foreign) }
         ensures unfailed { IfErr result (λ e. e ≢ StoreFault.Failed) }
+        ensures busy { IsTrue (at S.Store self.old).in_transaction → result ≡ Err (StoreFault.Store None) }
         ensures ready { IfOk result (λ it. (it.failed ≡ false) × StandsSomewhere it.store.now.cap (at S.Store it.store.now) it.recording it.after) }
         ensures at_first { IfOk result (λ it. (h : Holdings) → Holds S.Store self.old h → IsBehind it.store.now.cap (at S.Store it.store.now) it.recording it.after h identity.now 0) }
     {
-        ready(self)?;
+        if let Err(fault) = ready(self) {
+            return Err(fault);
+        }
         match find(self, identity) {
             Ok(recording) => Ok(Records {
                 store: self,
@@ -77,6 +83,7 @@ impl<S: Alter> Records<'_, S> {
         ensures same_reference { self.new.store.ghost_name ≡ self.old.store.ghost_name }
         ensures stays { Stays S.Store self.old.store.now self.new.store.now }
         ensures own { HasCleanDisk (at S.Store self.new.store.now) → IfErr result (λ e. e ≢ StoreFault.Foreign) }
+        ensures unfailed { self.old.failed ≡ false → IfErr result (λ e. e ≢ StoreFault.Failed) }
         ensures ends { IfOk result (λ o. o ≡ None → self.new.recording ≡ None) }
         ensures ended { self.old.failed ≡ false → self.old.recording ≡ None → (result ≡ Ok None) × (self.new.recording ≡ None) }
         ensures failed { self.old.failed ≡ true → result ≡ Err StoreFault.Failed }

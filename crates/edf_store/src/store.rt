@@ -1,6 +1,6 @@
 //! A store, and how a transaction of it begins.
 
-ghost use Rattle.std.specs.Prelude.{◌≡◌, false, None, Err, IsTrue, IfOk, IfErr};
+ghost use Rattle.std.specs.Prelude.{◌≡◌, ◌≤◌, false, None, Err, IsTrue, IfOk, IfErr};
 ghost use Rattle.std.specs.Borrow.{sem, RestsIfErr};
 ghost use Rattle.edf_holdings.specs.Holdings.{Holdings};
 ghost use Rattle.edf_store.specs.Fault.{IsStoreRefusal};
@@ -37,12 +37,23 @@ impl<S: Alter> Model for Store<S> {
     ghost invariant = { λ s. IsSoundStore s.cap (state S.Store s.conn) };
 }
 
+impl<S: Alter + Drop> Drop for Store<S> {
+    fn drop(self) {
+        let Store {
+            alloc: _,
+            conn: _,
+            cap: _,
+        } = self;
+    }
+}
+
 impl<S: Alter> Store<S> {
     ghost use Rattle.edf_store.specs.contracts.store.Store.{the_row};
 
     /// How many data records a recording may have.
     pub fn cap(&self) -> u32
-        ensures { result ≡ self.now.cap }
+        ensures value { result ≡ self.now.cap }
+        ensures bound { (1 ≤ result) × (result ≤ 99_999_999) }
     {
         self.cap
     }

@@ -1,6 +1,6 @@
 //! What a transaction does.
 
-ghost use Rattle.std.specs.Prelude.{◌≡◌, ◌≤◌, false, true, length, OnOk, IfOk, IfErr};
+ghost use Rattle.std.specs.Prelude.{◌≡◌, ◌≢◌, ◌≤◌, false, true, length, OnOk, IfOk, IfErr};
 ghost use Rattle.sqlite.specs.State.{HasCleanDisk, Survives};
 ghost use Rattle.edf_field.specs.Number.{duration_of};
 ghost use Rattle.edf_header.specs.Key.{Key};
@@ -63,7 +63,7 @@ impl<S: Alter> StoreTx<'_, S> {
     /// two at most. `duration` is the recording's, in nanoseconds.
     ///
     /// # Errors
-    /// E41 or E42, and the transaction is to be given up.
+    /// E41 or E42, or E45 where the disk returned what was not written, and the transaction is to be given up.
     pub fn near(
         &mut self,
         id: RecordingId,
@@ -82,6 +82,7 @@ impl<S: Alter> StoreTx<'_, S> {
         ensures same { IfOk result (λ _. SeesAsBefore S.Store self.old.store.now self.new.store.now) }
         ensures only { IfOk result (λ _. HasNoMore S.Store self.old.store.now self.new.store.now) }
         ensures told { HasCleanDisk (at S.Store self.new.store.now) → IfErr result IsStoreRefusal }
+        ensures unfailed { IfErr result (λ e. e ≢ StoreFault.Failed) }
     {
         match records_near(self.store, id.row, start, duration) {
             Ok(records) => Ok(records),
@@ -107,7 +108,7 @@ impl<S: Alter> StoreTx<'_, S> {
         ensures count { HasCleanDisk (at S.Store self.new.store.now) → IfOk result (IsCountOf S.Store self.old.store.now id.row) }
         ensures same { IfOk result (λ _. SeesAsBefore S.Store self.old.store.now self.new.store.now) }
         ensures only { IfOk result (λ _. HasNoMore S.Store self.old.store.now self.new.store.now) }
-        ensures told { HasCleanDisk (at S.Store self.new.store.now) → IfErr result IsStoreRefusal }
+        ensures told { IfErr result IsStoreRefusal }
     {
         match count_records(self.store, id.row) {
             Ok(count) => Ok(count),

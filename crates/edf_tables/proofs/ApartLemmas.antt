@@ -41,12 +41,12 @@ others_from_near after s before new (r ∷ rows) is low high others = go (starts
     go true e others more = let both = rw e at others in (both.0, more both.1)
     go false e others more = (ap (λ v. is_eq (value_cmp (column r 2) v)) is ∙ elsewhere after s before (column r 2) low high e, more (rw e at others))
 
-equal_of : (o : Ordering) → is_eq o ≡ true → o ≡ Equal
+pub equal_of : (o : Ordering) → is_eq o ≡ true → o ≡ Equal
 equal_of Less h = absurd (true≢false (sym h))
 equal_of Equal h = refl
 equal_of Greater h = absurd (true≢false (sym h))
 
-all_pass : (p : Row → Bool) (rows : List Row) → AllByRecursion (λ r. p r ≡ true) (filter p rows)
+pub all_pass : (p : Row → Bool) (rows : List Row) → AllByRecursion (λ r. p r ≡ true) (filter p rows)
 all_pass p [] = tt
 all_pass p (r ∷ rows) = go (p r) refl (all_pass p rows)
   where
@@ -54,11 +54,12 @@ all_pass p (r ∷ rows) = go (p r) refl (all_pass p rows)
     go true e more = rw e (e, more)
     go false e more = rw e more
 
-few : (v : Value) (rows : List Row) → IsAscending (λ a b. by_column 2 a b ≡ Less) rows → AllByRecursion (λ r. is_eq (value_cmp (column r 2) v) ≡ true) rows → length rows ≤ 1
-few v [] up all = omega arith
-few v (r ∷ []) up all = omega arith
-few v (r ∷ s ∷ rows) up all =
-    let tied : value_cmp (column r 2) (column s 2) ≡ Equal = alike_right value_cmp_total (column s 2) v (column r 2) (equal_of _ all.1.0) ∙ equal_of _ all.0 in
+-- of rows whose values at this column rise, one at most has the value
+pub at_most_one : (at : ℕ) (v : Value) (rows : List Row) → IsAscending (λ a b. by_column at a b ≡ Less) rows → AllByRecursion (λ r. is_eq (value_cmp (column r at) v) ≡ true) rows → length rows ≤ 1
+at_most_one at v [] up all = omega arith
+at_most_one at v (r ∷ []) up all = omega arith
+at_most_one at v (r ∷ s ∷ rows) up all =
+    let tied : value_cmp (column r at) (column s at) ≡ Equal = alike_right value_cmp_total (column s at) v (column r at) (equal_of _ all.1.0) ∙ equal_of _ all.0 in
     absurd (let e : Less ≡ Equal = sym up.0.0 ∙ tied in cc)
 
 -- where no two recordings have one identity, an identity names at most one
@@ -66,4 +67,4 @@ pub named_once : (identity : List ℕ) (rows : List Row) → IsAscending (λ a b
 named_once identity rows up =
     let p = λ (row : Row). is_eq (value_cmp (column row 2) (Blob identity)) in
     let same : length (named identity (by_identity rows)) ≡ length (named identity rows) = sym (length_permutation _ _ (IsPermutation-filter p _ _ (IsPermutation-sort_by (by_column 2) (column_total 2) rows))) in
-    subst (λ n. n ≤ 1) same (few (Blob identity) _ (ascending-filter (λ a b. by_column 2 a b ≡ Less) p (by_identity rows) up) (all_pass p (by_identity rows)))
+    subst (λ n. n ≤ 1) same (at_most_one 2 (Blob identity) _ (ascending-filter (λ a b. by_column 2 a b ≡ Less) p (by_identity rows) up) (all_pass p (by_identity rows)))

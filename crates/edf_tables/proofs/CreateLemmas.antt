@@ -10,11 +10,11 @@ use Rattle.sqlite.specs.Does.{Tally, Does, lacks_sequence}
 use Rattle.sqlite.specs.declared.run.Mode.{Mode}
 use Rattle.sqlite.specs.declared.error.Error.{Error}
 use Rattle.sqlite.specs.Listing.{understood}
-use Rattle.sqlite.specs.Effect.{Database}
+use Rattle.sqlite.specs.Effect.{Database, IsDatabase}
 use Rattle.sqlite.specs.State.{State, mode_of, Executes, Writes, MayCommit, CommitsBy}
 use Rattle.sqlite.proofs.Callers.{statement_of, runs_as}
 use Rattle.edf_tables.specs.Schema.{recording, records, no_schema, one_schema, both_schema}
-use Rattle.edf_tables.specs.Made.{IsOurs, HasFirst, made_first, kept_one, kept_both, HasSecond, made_second, kept_second}
+use Rattle.edf_tables.specs.Made.{IsOurs, AreOf, HasFirst, made_first, kept_one, kept_both, HasSecond, made_second, kept_second}
 use Rattle.edf_tables.proofs.CommitLemmas.{commits_as}
 use Rattle.edf_tables.proofs.TextLemmas.{create_recording_text, create_records_text, create_recording_is, recording_there, recording_there_2, create_records_is, records_there, created_one, created_both}
 
@@ -92,29 +92,35 @@ nothing_commits old text params db (inl (inl e, same)) = absurd (cc)
 nothing_commits old text params db (inl (inr e, same)) = absurd (let k = e.2 in cc)
 nothing_commits old text params db (inr may) = absurd (let k = may.3 in cc)
 
-first_commits : (old : State) (db : Trees) → old.now.schema ≡ no_schema → MayCommit old None CreateTable create_recording_text [] db → db 0 ≡ []
+left_of : (schema : Schema) (after : Database) (db : Trees) → db ≡ after.trees → after.schema ≡ schema → IsDatabase after → AreOf schema db
+left_of schema after db same is sound = subst (AreOf schema) (sym same) (subst (λ (s : Schema). AreOf s after.trees) is sound)
+
+first_commits : (old : State) (db : Trees) → old.now.schema ≡ no_schema → MayCommit old None CreateTable create_recording_text [] db → AreOf one_schema db × (db 0 ≡ [])
 first_commits old db has (inl (inl e, same)) = absurd (cc)
 first_commits old db has (inl (inr e, same)) = absurd (let k = e.2 in cc)
 first_commits old db has (inr may) =
     let changed = subst (λ (s : Schema). Does old.step_limit (mode_of old) [] (record old.now { schema = s }) create_recording_text None CreateTable (Ok (may.1, may.2))) has may.3 in
-    ap (λ (t : Trees). t 0) may.5 ∙ (makes_recording old.step_limit (mode_of old) old.now.trees may.1 may.2 changed).1
+    let made = makes_recording old.step_limit (mode_of old) old.now.trees may.1 may.2 changed in
+    (left_of one_schema may.2 db may.5 made.0 may.4, ap (λ (t : Trees). t 0) may.5 ∙ made.1)
 
 -- what a crash in it adds is the empty table
-pub first_crash : (old : State) (db : Trees) → IsOurs old.now → CommitsBy create_recording_text [] old db → (old.now.schema ≡ no_schema) × (db 0 ≡ [])
-first_crash old db (inl none) h = (none, first_commits old db none (subst (λ t. MayCommit old None CreateTable t [] db) create_recording_is.1 (commits_as create_recording_text [] old no_schema none CreateTable create_recording_is.0 create_recording_is.3 db h)))
+pub first_crash : (old : State) (db : Trees) → IsOurs old.now → CommitsBy create_recording_text [] old db → (old.now.schema ≡ no_schema) × AreOf one_schema db × (db 0 ≡ [])
+first_crash old db (inl none) h =
+    let it = first_commits old db none (subst (λ t. MayCommit old None CreateTable t [] db) create_recording_is.1 (commits_as create_recording_text [] old no_schema none CreateTable create_recording_is.0 create_recording_is.3 db h)) in
+    (none, it.0, it.1)
 first_crash old db (inr (inl one)) h = absurd (nothing_commits old (statement_of create_recording_text (understood one_schema create_recording_text)) [] db (commits_as create_recording_text [] old one_schema one Nothing recording_there.0 recording_there.1 db h))
 first_crash old db (inr (inr both)) h = absurd (nothing_commits old (statement_of create_recording_text (understood both_schema create_recording_text)) [] db (commits_as create_recording_text [] old both_schema both Nothing recording_there_2.0 recording_there_2.1 db h))
 
-second_commits : (old : State) (db : Trees) → old.now.schema ≡ one_schema → MayCommit old None CreateTable create_records_text [] db → (db 0 ≡ old.now.trees 0) × (db 2 ≡ [])
+second_commits : (old : State) (db : Trees) → old.now.schema ≡ one_schema → MayCommit old None CreateTable create_records_text [] db → AreOf both_schema db × (db 0 ≡ old.now.trees 0) × (db 2 ≡ [])
 second_commits old db has (inl (inl e, same)) = absurd (cc)
 second_commits old db has (inl (inr e, same)) = absurd (let k = e.2 in cc)
 second_commits old db has (inr may) =
     let changed = subst (λ (s : Schema). Does old.step_limit (mode_of old) [] (record old.now { schema = s }) create_records_text None CreateTable (Ok (may.1, may.2))) has may.3 in
     let made = makes_records old.step_limit (mode_of old) old.now.trees may.1 may.2 changed in
-    (ap (λ (t : Trees). t 0) may.5 ∙ made.1, ap (λ (t : Trees). t 2) may.5 ∙ made.2)
+    (left_of both_schema may.2 db may.5 made.0 may.4, ap (λ (t : Trees). t 0) may.5 ∙ made.1, ap (λ (t : Trees). t 2) may.5 ∙ made.2)
 
-pub second_crash : (old : State) (db : Trees) → (old.now.schema ≡ one_schema) ⊎ (old.now.schema ≡ both_schema) → CommitsBy create_records_text [] old db → (old.now.schema ≡ one_schema) × (db 0 ≡ old.now.trees 0) × (db 2 ≡ [])
+pub second_crash : (old : State) (db : Trees) → (old.now.schema ≡ one_schema) ⊎ (old.now.schema ≡ both_schema) → CommitsBy create_records_text [] old db → (old.now.schema ≡ one_schema) × AreOf both_schema db × (db 0 ≡ old.now.trees 0) × (db 2 ≡ [])
 second_crash old db (inl one) h =
     let it = second_commits old db one (subst (λ t. MayCommit old None CreateTable t [] db) create_records_is.1 (commits_as create_records_text [] old one_schema one CreateTable create_records_is.0 create_records_is.3 db h)) in
-    (one, it.0, it.1)
+    (one, it.0, it.1, it.2)
 second_crash old db (inr both) h = absurd (nothing_commits old (statement_of create_records_text (understood both_schema create_records_text)) [] db (commits_as create_records_text [] old both_schema both Nothing records_there.0 records_there.1 db h))

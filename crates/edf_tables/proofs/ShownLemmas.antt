@@ -25,8 +25,8 @@ use Rattle.sqlite_keyed.proofs.SortLemmas.{IsPermutation-sort_by}
 use Rattle.edf_tables.specs.declared.row.RecordRow.{RecordRow}
 use Rattle.edf_tables.specs.Cells.{cells_of, first_three}
 use Rattle.edf_tables.specs.Schema.{both_schema}
-use Rattle.edf_tables.specs.Records.{by_column, is_of, records_of, IsRising, IsReady, starts_after, starts_between, record_cells}
-use Rattle.edf_tables.specs.Recordings.{named, IsIdIn, by_identity, AreNamedApart, recording_cells}
+use Rattle.edf_tables.specs.Records.{by_column, is_of, records_of, IsRising, IsReady, starts_after, starts_between, shown_record}
+use Rattle.edf_tables.specs.Recordings.{named, IsIdIn, by_identity, AreNamedApart, shown_recording}
 use Rattle.edf_tables.proofs.Queries.{passes, paged_query, of_recording, start_samples_block, near_terms, after_terms, identity_terms}
 use Rattle.edf_tables.proofs.QueryTexts.{Means, near_text, near_is, page_text, page_is, walk_text, walk_is, count_text, count_is, first_text, first_is, last_text, last_is, id_text, id_is, identities_text, identities_is, recordings_text, recordings_is, count_all_text, count_all_is}
 use Rattle.edf_tables.proofs.SortLemmas.{filter_sort, filter_twice, filter_true}
@@ -73,31 +73,31 @@ of_whole : (n : ℤ) (rows : List Row) → filter (passes (Int n ∷ []) (of_rec
 of_whole n rows = ap (λ (p : Row → Bool). filter p rows) (λ i r. is_of_passes n r i)
 
 pub near_shown : (n after before : ℤ) (old new : State) (rows : List Row) → IsReady n old → Shown near_text (Int n ∷ Int after ∷ Int before ∷ []) old new rows
-    → rows ≡ map record_cells (filter (starts_between after before) (records_of n (old.now.trees 2)))
+    → rows ≡ map shown_record (filter (starts_between after before) (records_of n (old.now.trees 2)))
 near_shown n after before old new rows ready h =
     let params = Int n ∷ Int after ∷ Int before ∷ [] in
     records_answer n params near_terms (starts_between after before) (near_passes n after before) start_samples_block _ (overlay old.now.trees []) rows (answer_of near_text _ _ near_is params old new rows ready.schema h) ready.rising
 
 pub page_shown : (n after : ℤ) (most : ℕ) (old new : State) (rows : List Row) → IsReady n old → Shown page_text (Int n ∷ Int after ∷ Int (pos most) ∷ []) old new rows
-    → rows ≡ map record_cells (take most (filter (starts_after after) (records_of n (old.now.trees 2))))
+    → rows ≡ map shown_record (take most (filter (starts_after after) (records_of n (old.now.trees 2))))
 page_shown n after most old new rows ready h =
     let params = Int n ∷ Int after ∷ Int (pos most) ∷ [] in
     records_answer n params after_terms (starts_after after) (after_passes n after (Int (pos most) ∷ [])) start_samples_block _ (overlay old.now.trees []) rows (answer_of page_text _ _ page_is params old new rows ready.schema h) ready.rising
-    ∙ take-map record_cells most _
+    ∙ take-map shown_record most _
 
 -- the rows of a walk that were given so far begin the records of the recording
 pub walk_begun : {S : Type 0} (g : Ghosts S) (n : ℤ) (h : Held S) (rows : List Row) → IsReady n (state g h) → HasGiven g walk_text (Int n ∷ []) h rows
-    → (tail : List Row) × (rows ++ tail ≡ map record_cells (records_of n ((state g h).now.trees 2)))
+    → (tail : List Row) × (rows ++ tail ≡ map shown_record (records_of n ((state g h).now.trees 2)))
 walk_begun g n h rows ready it =
     let s = state g h in
     let read = answer_begun walk_text _ _ walk_is g (Int n ∷ []) h rows ready.schema it in (
       read.0,
-      records_answer n (Int n ∷ []) (of_recording ∷ []) (λ _. true) (whole n) start_samples_block _ (overlay s.now.trees []) (rows ++ read.0) read.1 ready.rising ∙ ap (map record_cells) (filter_true (records_of n (s.now.trees 2))),
+      records_answer n (Int n ∷ []) (of_recording ∷ []) (λ _. true) (whole n) start_samples_block _ (overlay s.now.trees []) (rows ++ read.0) read.1 ready.rising ∙ ap (map shown_record) (filter_true (records_of n (s.now.trees 2))),
     )
 
 -- typed rows have the cells of these
-pub typed : (found : List RecordRow) (rows xs : List Row) → map cells_of found ≡ map first_three rows → rows ≡ map record_cells xs → map cells_of found ≡ map record_cells xs
-typed found rows xs e is = e ∙ ap (map first_three) is ∙ map-map first_three record_cells xs
+pub typed : (found : List RecordRow) (rows xs : List Row) → map cells_of found ≡ map first_three rows → rows ≡ map shown_record xs → map cells_of found ≡ map shown_record xs
+typed found rows xs e is = e ∙ ap (map first_three) is ∙ map-map first_three shown_record xs
 
 number_of : (found m : ℕ) (rows : List Row) → option_map (λ row. column row 0) (slice_get rows 0) ≡ Some (Int (pos found)) → rows ≡ (count m ∷ []) ∷ [] → found ≡ min m 9223372036854775807
 number_of found m rows h is = let e : Some (count m) ≡ Some (Int (pos found)) = rw is at h in let same : min m 9223372036854775807 ≡ found = cc in sym same
@@ -159,6 +159,6 @@ identities_shown old new rows apart h =
     let shown = answered 0 2 [] _ _ [] (overlay old.now.trees []) rows (answer_of identities_text _ _ identities_is [] old new rows apart.schema h) (subst (λ (l : List Row). Rattle.sqlite_trees.specs.Tree.IsAscending (λ a b. by_column 2 a b ≡ Less) (by_identity l)) (sym all) apart.apart) in
     ap (map (λ (row : Row). column row 0)) (shown ∙ ap (λ (l : List Row). map (λ r. column r 2 ∷ []) (by_identity l)) all) ∙ map-map (λ (row : Row). column row 0) (λ r. column r 2 ∷ []) (by_identity (old.now.trees 0))
 
-pub recordings_shown : (old new : State) (rows : List Row) → old.now.schema ≡ both_schema → Shown recordings_text [] old new rows → IsPermutation (map recording_cells (old.now.trees 0)) rows
+pub recordings_shown : (old new : State) (rows : List Row) → old.now.schema ≡ both_schema → Shown recordings_text [] old new rows → IsPermutation (map shown_recording (old.now.trees 0)) rows
 recordings_shown old new rows has h =
-    subst (λ (l : List Row). IsPermutation (map recording_cells l) rows) (filter_true (old.now.trees 0)) (some_order 0 0 [] _ [] (overlay old.now.trees []) rows (answer_of recordings_text _ _ recordings_is [] old new rows has h))
+    subst (λ (l : List Row). IsPermutation (map shown_recording l) rows) (filter_true (old.now.trees 0)) (some_order 0 0 [] _ [] (overlay old.now.trees []) rows (answer_of recordings_text _ _ recordings_is [] old new rows has h))

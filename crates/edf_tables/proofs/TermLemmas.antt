@@ -11,7 +11,7 @@ use Rattle.sqlite_sql.specs.Ops.{binary, is_true, from_truth}
 use Rattle.edf_tables.specs.Records.{is_of, starts_after, starts_between}
 use Rattle.edf_tables.proofs.Queries.{passes, of_recording, near_terms, after_terms, identity_terms}
 
-truth_of : (b : Bool) → is_true (from_truth (Some b)) ≡ b
+pub truth_of : (b : Bool) → is_true (from_truth (Some b)) ≡ b
 truth_of true = refl
 truth_of false = refl
 

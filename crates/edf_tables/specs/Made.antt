@@ -1,12 +1,13 @@
 -- What CREATE TABLE IF NOT EXISTS does to the two tables.
-use Rattle.std.specs.Prelude.{◌≡◌, ◌⊎◌, []}
+use Rattle.std.specs.Prelude.{◌≡◌, []}
 use Rattle.sqlite.specs.Tree.{Trees}
-use Rattle.sqlite.specs.Effect.{Database}
-use Rattle.edf_tables.specs.Schema.{no_schema, one_schema, both_schema}
+use Rattle.sqlite.specs.Schema.{Schema}
+use Rattle.sqlite.specs.Effect.{Database, IsDatabase}
+use Rattle.edf_tables.specs.Schema.{no_schema, one_schema, both_schema, AreOurs}
 
--- a file with neither table, with the first or with both
+-- a file with neither table, with the first or with both, and with nothing else
 abbrev pub IsOurs : Database → Type 0
-IsOurs db = (db.schema ≡ no_schema) ⊎ ((db.schema ≡ one_schema) ⊎ (db.schema ≡ both_schema))
+IsOurs db = AreOurs db.schema
 
 -- the first table is there, with the rows that it had, and the second where it was
 pub data HasFirst (old new : Database) : Type 0 where
@@ -25,6 +26,12 @@ pub data HasTables (old new : Database) : Type 0 where
   from_one : old.schema ≡ one_schema → new.schema ≡ both_schema → new.trees 0 ≡ old.trees 0 → new.trees 2 ≡ [] → HasTables old new
   from_both : old.schema ≡ both_schema → new ≡ old → HasTables old new
 
--- what a crash may leave besides: a missing table is made, and the rows are the same
-abbrev pub IsMadeOf : Database → Trees → Type 0
-IsMadeOf old db = ((old.schema ≡ no_schema) × (db 0 ≡ [])) ⊎ ((old.schema ≡ one_schema) × (db 0 ≡ old.trees 0) × (db 2 ≡ []))
+-- the trees are those of a file with these tables
+abbrev pub AreOf : Schema → Trees → Type 0
+AreOf schema db = IsDatabase (record { schema = schema; trees = db })
+
+-- what a crash may leave besides: the first missing table is made, or both are, and the rows are the same
+pub data IsMadeOf (old : Database) (db : Trees) : Type 0 where
+  left_first : old.schema ≡ no_schema → AreOf one_schema db → db 0 ≡ [] → IsMadeOf old db
+  left_both : old.schema ≡ no_schema → AreOf both_schema db → db 0 ≡ [] → db 2 ≡ [] → IsMadeOf old db
+  left_second : old.schema ≡ one_schema → AreOf both_schema db → db 0 ≡ old.trees 0 → db 2 ≡ [] → IsMadeOf old db

@@ -25,8 +25,8 @@ abbrev pub by_identity : List Row → List Row
 by_identity rows = sort_by (by_column 2) rows
 
 -- id and identity
-abbrev pub recording_cells : Row → Row
-recording_cells row = column row 0 ∷ column row 2 ∷ []
+abbrev pub shown_recording : Row → Row
+shown_recording row = column row 0 ∷ column row 2 ∷ []
 
 -- the tables stand, and no two recordings have one identity
 pub record AreNamedApart (s : State) : Type 0 where

@@ -33,8 +33,8 @@ abbrev pub starts_between : ℤ → ℤ → Row → Bool
 starts_between after before row = starts_after after row && is_lt (value_cmp (column row 2) (Int before))
 
 -- start, samples and block
-abbrev pub record_cells : Row → Row
-record_cells row = column row 2 ∷ column row 3 ∷ column row 4 ∷ []
+abbrev pub shown_record : Row → Row
+shown_record row = column row 2 ∷ column row 3 ∷ column row 4 ∷ []
 
 -- the tables stand, and no two records of this recording start together
 pub record IsReady (recording : ℤ) (s : State) : Type 0 where

@@ -4,7 +4,7 @@ ghost use Rattle.std.specs.Prelude.{◌≡◌, ◌⊎◌, [], OnOk, OnErr};
 ghost use Rattle.sqlite.specs.Held.{state};
 ghost use Rattle.sqlite.specs.State.{HasCleanDisk, Survives, KeepsCommit};
 ghost use Rattle.edf_tables.specs.Schema.{no_schema, one_schema, both_schema};
-ghost use Rattle.edf_tables.specs.Made.{IsOurs, HasFirst, HasSecond, HasTables, IsMadeOf};
+ghost use Rattle.edf_tables.specs.Made.{IsOurs, AreOf, HasFirst, HasSecond, HasTables, IsMadeOf};
 
 use sqlite::{Alter, Connection, Error};
 
@@ -16,7 +16,7 @@ pub fn create_recording<S: Alter>(conn: &mut Connection<S>) -> Result<usize, Err
     requires { HasCleanDisk (state S.Store conn.old) → IsOurs (state S.Store conn.old).now }
     ensures made { HasCleanDisk (state S.Store conn.new) → OnOk result (HasFirst (state S.Store conn.old).now (state S.Store conn.new).now) }
     ensures refused { HasCleanDisk (state S.Store conn.new) → OnErr result (KeepsCommit (state S.Store conn.old) (state S.Store conn.new)) }
-    ensures survives { Survives (state S.Store conn.old) (state S.Store conn.new) (λ db. ((state S.Store conn.old).now.schema ≡ no_schema) × (db 0 ≡ [])) }
+    ensures survives { Survives (state S.Store conn.old) (state S.Store conn.new) (λ db. ((state S.Store conn.old).now.schema ≡ no_schema) × AreOf one_schema db × (db 0 ≡ [])) }
 {
     conn.execute(
         "CREATE TABLE IF NOT EXISTS recording (id INTEGER PRIMARY KEY, identity BLOB NOT NULL UNIQUE) STRICT",
@@ -32,7 +32,7 @@ pub fn create_records<S: Alter>(conn: &mut Connection<S>) -> Result<usize, Error
     requires { HasCleanDisk (state S.Store conn.old) → ((state S.Store conn.old).now.schema ≡ one_schema) ⊎ ((state S.Store conn.old).now.schema ≡ both_schema) }
     ensures made { HasCleanDisk (state S.Store conn.new) → OnOk result (HasSecond (state S.Store conn.old).now (state S.Store conn.new).now) }
     ensures refused { HasCleanDisk (state S.Store conn.new) → OnErr result (KeepsCommit (state S.Store conn.old) (state S.Store conn.new)) }
-    ensures survives { Survives (state S.Store conn.old) (state S.Store conn.new) (λ db. ((state S.Store conn.old).now.schema ≡ one_schema) × (db 0 ≡ (state S.Store conn.old).now.trees 0) × (db 2 ≡ [])) }
+    ensures survives { Survives (state S.Store conn.old) (state S.Store conn.new) (λ db. ((state S.Store conn.old).now.schema ≡ one_schema) × AreOf both_schema db × (db 0 ≡ (state S.Store conn.old).now.trees 0) × (db 2 ≡ [])) }
 {
     conn.execute(
         "CREATE TABLE IF NOT EXISTS record (recording INTEGER NOT NULL, start INTEGER NOT NULL, samples BLOB NOT NULL, block BLOB NOT NULL, PRIMARY KEY (recording, start)) STRICT",

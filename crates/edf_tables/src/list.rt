@@ -6,7 +6,7 @@ ghost use Rattle.sqlite.specs.State.{HasCleanDisk, Survives, KeepsCommit, IsUnch
 ghost use Rattle.sqlite.specs.declared.types.Value.TheVariants.{Blob};
 ghost use Rattle.sqlite_value.specs.Order.{column};
 ghost use Rattle.edf_tables.specs.Schema.{both_schema};
-ghost use Rattle.edf_tables.specs.Recordings.{AreNamedApart, IsIdIn, by_identity, named, recording_cells};
+ghost use Rattle.edf_tables.specs.Recordings.{AreNamedApart, IsIdIn, by_identity, named, shown_recording};
 
 use crate::query::rows_shown;
 use crate::row::{first_count, first_number, identities_in};
@@ -65,7 +65,7 @@ pub fn identities<S: Alter>(conn: &mut Connection<S>) -> Result<Vec<Vec<u8>>, Er
 /// `sqlite`'s, and that of a cell of another type; what is committed stays.
 pub fn recordings<S: Alter>(conn: &mut Connection<S>) -> Result<Vec<Row>, Error>
     requires schema { HasCleanDisk (state S.Store conn.old) → (state S.Store conn.old).now.schema ≡ both_schema }
-    ensures listed { HasCleanDisk (state S.Store conn.new) → IfOk result (λ rows. IsPermutation (map recording_cells ((state S.Store conn.old).now.trees 0)) rows.items) }
+    ensures listed { HasCleanDisk (state S.Store conn.new) → IfOk result (λ rows. IsPermutation (map shown_recording ((state S.Store conn.old).now.trees 0)) rows.items) }
     ensures same { HasCleanDisk (state S.Store conn.new) → OnOk result (IsUnchanged (state S.Store conn.old) (state S.Store conn.new)) }
     ensures kept { HasCleanDisk (state S.Store conn.new) → KeepsCommit (state S.Store conn.old) (state S.Store conn.new) }
     ensures survives { Survives (state S.Store conn.old) (state S.Store conn.new) (λ _. ⊥) }

@@ -8,7 +8,7 @@ ghost use Rattle.sqlite.specs.declared.types.Value.TheVariants.{Int};
 ghost use Rattle.sqlite_value.specs.Order.{column};
 ghost use Rattle.edf_tables.specs.Schema.{both_schema};
 ghost use Rattle.edf_tables.specs.Cells.{cells_of};
-ghost use Rattle.edf_tables.specs.Records.{IsReady, records_of, record_cells, starts_after, starts_between};
+ghost use Rattle.edf_tables.specs.Records.{IsReady, records_of, shown_record, starts_after, starts_between};
 
 use crate::query::rows_shown;
 use crate::row::{RecordRow, first_count, first_number, record_rows};
@@ -25,7 +25,7 @@ pub fn near_rows<S: Alter>(
     before: i64,
 ) -> Result<Vec<RecordRow>, Error>
     requires ready { HasCleanDisk (state S.Store conn.old) → IsReady recording (state S.Store conn.old) }
-    ensures near { HasCleanDisk (state S.Store conn.new) → IfOk result (λ rows. map cells_of rows.items ≡ map record_cells (filter (starts_between after before) (records_of recording ((state S.Store conn.old).now.trees 2)))) }
+    ensures near { HasCleanDisk (state S.Store conn.new) → IfOk result (λ rows. map cells_of rows.items ≡ map shown_record (filter (starts_between after before) (records_of recording ((state S.Store conn.old).now.trees 2)))) }
     ensures same { HasCleanDisk (state S.Store conn.new) → OnOk result (IsUnchanged (state S.Store conn.old) (state S.Store conn.new)) }
     ensures kept { HasCleanDisk (state S.Store conn.new) → KeepsCommit (state S.Store conn.old) (state S.Store conn.new) }
     ensures survives { Survives (state S.Store conn.old) (state S.Store conn.new) (λ _. ⊥) }
@@ -51,7 +51,7 @@ pub fn page_rows<S: Alter>(
     limit: u32,
 ) -> Result<Vec<RecordRow>, Error>
     requires ready { HasCleanDisk (state S.Store conn.old) → IsReady recording (state S.Store conn.old) }
-    ensures page { HasCleanDisk (state S.Store conn.new) → IfOk result (λ rows. map cells_of rows.items ≡ map record_cells (take limit (filter (starts_after after) (records_of recording ((state S.Store conn.old).now.trees 2))))) }
+    ensures page { HasCleanDisk (state S.Store conn.new) → IfOk result (λ rows. map cells_of rows.items ≡ map shown_record (take limit (filter (starts_after after) (records_of recording ((state S.Store conn.old).now.trees 2))))) }
     ensures same { HasCleanDisk (state S.Store conn.new) → OnOk result (IsUnchanged (state S.Store conn.old) (state S.Store conn.new)) }
     ensures kept { HasCleanDisk (state S.Store conn.new) → KeepsCommit (state S.Store conn.old) (state S.Store conn.new) }
     ensures survives { Survives (state S.Store conn.old) (state S.Store conn.new) (λ _. ⊥) }

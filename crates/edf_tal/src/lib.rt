@@ -16,8 +16,6 @@ mod place;
 mod read;
 mod scan;
 mod survey;
-#[cfg(test)]
-mod tests;
 mod write;
 
 pub use note::Note;

@@ -35,12 +35,12 @@ pub record ReadsSignalsFault (left rest : Option (List ℕ)) (n : ℕ) (fault : 
   pub is_fault : IsFirst (SignalsFail bytes n) fault
   pub ended : fault ≡ CutSignals → IsAtEnd rest
 
--- memory ran out before a byte of n signals was read, or behind signals that are as long as they must be and printable
+-- memory ran out before a byte of n signals was read, or behind signals that have no fault
 pub record LacksSignalsMemory (left rest : Option (List ℕ)) (n : ℕ) : Type 0 where
   pub bytes : List ℕ
   pub read : Consumes left rest bytes
   pub within : length bytes ≤ 256 * n
-  pub clean : (bytes ≡ []) ⊎ IsClean (SignalsFail bytes n) 16
+  pub clean : (bytes ≡ []) ⊎ IsClean (SignalsFail bytes n) 21
 
 -- why there are no signals, and what of the input was read
 abbrev pub IsSignalsFault : Option (List ℕ) → Option (List ℕ) → ℕ → FragmentFault → Type 0

@@ -1,9 +1,7 @@
 -- The rows of a header's signals: their faults, and where the annotations block stands.
-use Rattle.std.specs.Prelude.{◌≡◌, ℕ, ◌+◌, ◌*◌, ◌%◌, ◌^◌, ◌≤◌, ◌<◌, List, [], ◌++◌, length, take, drop, All}
+use Rattle.std.specs.Prelude.{◌≡◌, ℕ, ◌+◌, ◌*◌, ◌≤◌, ◌<◌, List, [], ◌++◌, length, take, drop, All}
 use Rattle.std.specs.List.{slice_index_or}
 use Rattle.edf_header.specs.Signal.{IsLabelled, IsAnnotationsSignal, Passes, samples, samples_in_all}
-use Rattle.edf_header.specs.Key.{IsKey}
-use Rattle.edf_header.specs.Header.{Layout}
 use Rattle.edf_header.specs.Fault.{HasAnnotations, IsBadSignal, IsTooLarge}
 use Rattle.edf_header.specs.declared.signal_checks.Check.TheVariants as checks
 use Rattle.edf_header.specs.declared.signals.Extents.{Extents}

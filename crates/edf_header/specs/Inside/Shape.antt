@@ -1,8 +1,9 @@
 -- Words for single steps: the label test, a key from its parts, the bytes that stand for a key, and where a check comes in the order of faults.
-use Rattle.std.specs.Prelude.{◌≡◌, ℕ, ◌+◌, ◌*◌, ◌⊎◌, Bool, List, length, codes, slice_index, All}
+use Rattle.std.specs.Prelude.{◌≡◌, ℕ, ◌*◌, Bool, List, codes, All}
 use Rattle.std.specs.Str.{bytes_eq}
 use Rattle.edf_field.specs.Number.{field, IsDuration, duration_of}
-use Rattle.edf_field.specs.Text.{IsPrintable, IsPatient, IsBehindStartdate, spaces}
+use Rattle.edf_field.specs.Text.{IsPrintable, IsPatient, IsBehindStartdate}
+use Rattle.edf_header.specs.Fields.{label_field}
 use Rattle.edf_header.specs.Key.{Key, IsKey, key_at, key_bytes}
 use Rattle.edf_header.specs.Signal.{samples_in_all}
 use Rattle.edf_header.specs.Header.{FixedPart, is_dated}
@@ -11,7 +12,7 @@ use Rattle.edf_header.specs.declared.signal_checks.Check.{Check}
 use Rattle.edf_header.specs.declared.signal_checks.Check.TheVariants.{Label, Physical, Digital, Samples}
 
 abbrev pub has_label : List ℕ → Bool
-has_label row = bytes_eq (field row 0 16) (codes "EDF Annotations ")
+has_label row = bytes_eq (label_field row) (codes "EDF Annotations ")
 
 -- the key of a fixed part and ordinary signals
 abbrev pub key_from : FixedPart → List (List ℕ) → Key

@@ -1,7 +1,6 @@
 use Rattle.std.proofs.lemmas.List.{length-take}
-use Rattle.std.proofs.Common.{◌≡◌, ℕ, ◌++◌, ◌+◌, length, take, drop, arith, refl, subst, take_at}
-use Rattle.std.specs.Io.KnownBytes.{Consumes}
-use Rattle.edf_fragment.proofs.Pieces.{HasPieces, given_record, told_block}
+use Rattle.std.proofs.Common.{◌≡◌, ℕ, ◌++◌, ◌+◌, length, drop, arith, refl, take_at}
+use Rattle.edf_fragment.proofs.Pieces.{HasPieces, given_record, pieces_at, told_block}
 use Rattle.edf_fragment.proofs.Sound.{read-kept}
 use Rattle.edf_fragment.proofs.advance.read_record.Goals as goal
 
@@ -13,10 +12,9 @@ returns-in-Ok-read_block-clause-step g c =
     let left = g.R.Input.remaining c.args.input.now in
     let rest = g.R.Input.remaining c.fill_record.new.input in
     let all : length samples ≡ c.sample_bytes.result = omega (arith, c.in-Ok.ensures.len) in
-    let read : Consumes left rest (take l.block_at samples ++ (blk ++ drop l.block_at samples)) =
-    subst (λ (n : ℕ). Consumes left rest (take n samples ++ (blk ++ drop n samples))) c.block_at.ensures.value c.in_ok-fill_record.ensures.step in
     let pieces : HasPieces l c.args.progress left rest samples blk =
-    record { wanted = c.requires.wanted; total = omega arith; len = omega arith; room = omega arith; read = read } in
+    pieces_at l c.args.progress left rest samples blk c.block_at.result c.requires.wanted (omega arith) (omega arith) (omega arith) c.block_at.ensures.value
+    c.in_ok-fill_record.ensures.step in
     given_record l c.args.progress left rest samples blk c.start.result c.within_limits.result _ pieces c.start.ensures c.in-Ok-read_block.ensures
     c.within_limits.ensures (take_at samples _ c.in-Ok.samples.len (omega arith))
 
@@ -28,10 +26,9 @@ returns-in-Err-clause-step g c =
     let left = g.R.Input.remaining c.args.input.now in
     let rest = g.R.Input.remaining c.fill_record.new.input in
     let all : length samples ≡ c.sample_bytes.result = omega (arith, c.in-Ok.ensures.len) in
-    let read : Consumes left rest (take l.block_at samples ++ (blk ++ drop l.block_at samples)) =
-    subst (λ (n : ℕ). Consumes left rest (take n samples ++ (blk ++ drop n samples))) c.block_at.ensures.value c.in_ok-fill_record.ensures.step in
     let pieces : HasPieces l c.args.progress left rest samples blk =
-    record { wanted = c.requires.wanted; total = omega arith; len = omega arith; room = omega arith; read = read } in
+    pieces_at l c.args.progress left rest samples blk c.block_at.result c.requires.wanted (omega arith) (omega arith) (omega arith) c.block_at.ensures.value
+    c.in_ok-fill_record.ensures.step in
     told_block l c.args.progress left rest samples blk c.start.result (c.args.progress.given + 1) c.in-Err.fault c.block_refusal.result pieces c.start.ensures refl
     c.block_refusal.ensures.memory c.block_refusal.ensures.other c.in-Err.ensures
 

@@ -1,6 +1,7 @@
 use Rattle.std.proofs.Common.{sym, ◌++◌, ◌∷◌, []}
 use Rattle.std.proofs.lemmas.List.{append-nil}
-use Rattle.edf_header.specs.Signal.{column_of, fields, rows_of}
+use Rattle.edf_header.specs.Fields.{fields}
+use Rattle.edf_header.specs.Signal.{column_of, rows_of}
 use Rattle.edf_header.proofs.RowSteps.{parts-step, parts-end}
 use Rattle.edf_header.proofs.columns.push_columns.Goals as goal
 

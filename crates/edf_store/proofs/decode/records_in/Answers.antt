@@ -1,4 +1,4 @@
-use Rattle.std.proofs.Common.{rules, arith, ◌∙◌, take, length, sym, ap}
+use Rattle.std.proofs.Common.{rules, arith, ◌∙◌}
 use Rattle.std.proofs.lemmas.List.{take_all}
 use Rattle.edf_fragment.specs.Sound.{IsSoundRecord}
 use Rattle.edf_store.proofs.DecodeLemmas.{at_place, pushed, samples_of, block_is, all_rows}

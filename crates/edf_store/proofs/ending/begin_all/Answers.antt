@@ -1,4 +1,4 @@
-use Rattle.std.proofs.Common.{rules, true}
+use Rattle.std.proofs.Common.{rules}
 use Rattle.sqlite.specs.Held.{state}
 use Rattle.edf_store.proofs.StepLemmas.{whole_begun}
 use Rattle.edf_store.proofs.ending.begin_all.Goals as goal

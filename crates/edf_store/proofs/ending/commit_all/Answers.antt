@@ -1,4 +1,3 @@
-use Rattle.std.proofs.Common.{rules}
 use Rattle.sqlite.specs.Held.{state}
 use Rattle.edf_store.proofs.StepLemmas.{committed_held, committed_sound, seen_survives}
 use Rattle.edf_store.proofs.ending.commit_all.Goals as goal

@@ -1,5 +1,4 @@
 use Rattle.std.proofs.Common.{◌≡◌, ◌<◌, length, slice_index_or, rules, sym, subst, ◌∙◌}
-use Rattle.edf_header.specs.Key.{Key, IsKey, key_bytes}
 use Rattle.edf_store.specs.declared.fault.StoreFault.{StoreFault}
 use Rattle.edf_store.specs.declared.fault.StoreFault.TheVariants as fault
 use Rattle.edf_store.proofs.KeysReadLemmas.{IsOfKey, all_index, refused_for_memory}

@@ -3,7 +3,7 @@ use Rattle.std.proofs.lemmas.Int.{to_z-of_z}
 use Rattle.sqlite.specs.Held.{state}
 use Rattle.sqlite.specs.State.{HasCleanDisk}
 use Rattle.sqlite_exec.proofs.MarkLemmas.{if_ok_then}
-use Rattle.edf_store.proofs.ReadyLemmas.{stays_so, still_settled, three_survive, three_keep}
+use Rattle.edf_store.proofs.ReadyLemmas.{stays_so, three_survive, three_keep}
 use Rattle.edf_store.proofs.SummaryLemmas.{ready_at, still_ready, summary_read, bounds_read}
 use Rattle.edf_store.proofs.KeysReadLemmas.{if_refused}
 use Rattle.edf_store.proofs.listing.summary_of.Goals as goal

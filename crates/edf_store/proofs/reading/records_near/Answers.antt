@@ -1,13 +1,12 @@
-use Rattle.std.proofs.Common.{◌≡◌, ◌<◌, ◌^◌, rules, w64, pos, to_z, ◌-ℤ◌, ◌+ℤ◌, FitsSigned, arith, refl, ◌∙◌}
+use Rattle.std.proofs.Common.{w64, pos, ◌-ℤ◌, ◌+ℤ◌, FitsSigned, arith, refl, ◌∙◌}
 use Rattle.std.proofs.lemmas.Int.{to_z-of_z, ints}
 use Rattle.sqlite.specs.Held.{state}
-use Rattle.edf_field.specs.Number.{duration_of}
 use Rattle.edf_holdings.specs.Clash.{near_of}
 use Rattle.edf_store.proofs.DecodeLemmas.{nat_fits, fits_sub}
 use Rattle.edf_store.proofs.DurationLemmas.{duration_small}
 use Rattle.edf_store.proofs.HeldLemmas.{still_sound, still_held, sees_on}
 use Rattle.edf_store.proofs.StepLemmas.{ready_in, near_is, two_near, sound_near, none_made, if_ok}
-use Rattle.edf_store.proofs.FaultLemmas.{refused_by}
+use Rattle.edf_store.proofs.FaultLemmas.{refused_by, unfailed_by}
 use Rattle.edf_store.proofs.NearLemmas.{near_shown}
 use Rattle.sqlite.specs.State.{HasCleanDisk}
 use Rattle.edf_store.proofs.reading.records_near.Goals as goal
@@ -117,3 +116,6 @@ returns-clause-same g c =
     let running = rw (← c.store.view_is) at c.requires.running in
     rw (← c.store.view_is)
     (if_ok c.records_in.result _ _ (λ records read. sees_on c.store.inside.cap (state g.S.Store c.store.inside.conn) (state g.S.Store c.near_rows.new.conn) _ c.near_rows.ensures.survives c.in-Ok.ensures.same running) c.records_in.ensures.read)
+
+pub returns-clause-unfailed : goal.returns-clause-unfailed
+returns-clause-unfailed g c = unfailed_by c.records_in.result c.records_in.ensures.told

@@ -1,4 +1,3 @@
-use Rattle.std.proofs.Common.{arith}
 use Rattle.edf_store.proofs.ReadyLemmas.{stays_then}
 use Rattle.sqlite_exec.proofs.MarkLemmas.{if_ok_then}
 use Rattle.edf_store.proofs.store.Store.identities.Goals as goal

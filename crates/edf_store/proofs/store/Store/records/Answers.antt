@@ -1,19 +1,40 @@
-use Rattle.std.proofs.Common.{refl, arith, negsuc}
+use Rattle.std.proofs.Common.{◌≡◌, Result, Err, None, refl, ap, arith, negsuc}
 use Rattle.std.proofs.lemmas.Int.{ints}
+use Rattle.edf_store.specs.declared.fault.StoreFault.{StoreFault}
+use Rattle.edf_store.specs.declared.fault.StoreFault.TheVariants as fault
 use Rattle.edf_store.specs.Held.{at}
 use Rattle.edf_store.proofs.ReadyLemmas.{stays_then, held_now}
 use Rattle.edf_store.proofs.WalkLemmas.{at_start}
 use Rattle.edf_store.proofs.store.Store.records.Goals as goal
 
+told_on : {A B : Type 0} (e f : StoreFault) → ◌≡◌ {A = Result A StoreFault} (Err e) (Err f) → ◌≡◌ {A = Result B StoreFault} (Err e) (Err f)
+told_on e f h = let same : e ≡ f = cc in ap Err same
+
 pub returns-in-Err : goal.returns-in-Err
 returns-in-Err g c = (
-  (refl, (λ w. tt), stays_then g.S.Store c.args.self.now c.ready.new.store c.find.new.store c.ready.ensures.stays c.find.ensures.stays),
+  (refl, (λ w. tt), c.ready.ensures.stays),
   record {
     refused = tt;
     same_reference = tt;
     stays = tt;
     own = c.in-Err.ensures.own;
     unfailed = c.in-Err.ensures.unfailed;
+    busy = λ left. told_on c.in-Err.fault (fault.Store None) (c.in-Err.ensures.busy left);
+    ready = tt;
+    at_first = tt;
+  },
+)
+
+pub returns-in-Err-find : goal.returns-in-Err-find
+returns-in-Err-find g c = (
+  (refl, (λ w. tt), stays_then g.S.Store c.args.self.now c.ready.new.store c.find.new.store c.ready.ensures.stays c.find.ensures.stays),
+  record {
+    refused = tt;
+    same_reference = tt;
+    stays = tt;
+    own = c.in-Err-find.ensures.own;
+    unfailed = c.in-Err-find.ensures.unfailed;
+    busy = λ left. absurd (let e = c.in_default.ensures.busy left in cc);
     ready = tt;
     at_first = tt;
   },
@@ -32,6 +53,7 @@ returns-in-Ok g c =
         stays = stays_then g.S.Store c.args.self.now c.ready.new.store c.find.new.store c.ready.ensures.stays c.find.ensures.stays;
         own = tt;
         unfailed = tt;
+        busy = λ left. absurd (let e = c.in_default.ensures.busy left in cc);
         ready = (
           refl,
           λ clean.

@@ -1,19 +1,18 @@
-use Rattle.std.proofs.Common.{arith, w64, rules, Some, None, subst, Option, ◌≡◌, ℤ, sym, ◌∙◌}
+use Rattle.std.proofs.Common.{arith, w64, rules, None, ◌≡◌}
 use Rattle.std.proofs.lemmas.Int.{to_z-of_z}
 use Rattle.sqlite.specs.State.{HasCleanDisk}
 use Rattle.edf_store.specs.Held.{at}
-use Rattle.edf_store.specs.Shape.{IsFoundIn}
 use Rattle.edf_store.proofs.ReadyLemmas.{stays_then, held_now}
 use Rattle.edf_store.proofs.store.Store.summary.Goals as goal
 
 pub returns-in_err-id-clause-stays : goal.returns-in_err-id-clause-stays
 returns-in_err-id-clause-stays g c = stays_then g.S.Store c.args.self.now c.ready.new.store c.find.new.store c.ready.ensures.stays c.find.ensures.stays
 
-pub returns-in_default-clause-stays : goal.returns-in_default-clause-stays
-returns-in_default-clause-stays g c = stays_then g.S.Store c.args.self.now c.ready.new.store c.find.new.store c.ready.ensures.stays c.find.ensures.stays
+pub returns-in_default-2-clause-stays : goal.returns-in_default-2-clause-stays
+returns-in_default-2-clause-stays g c = stays_then g.S.Store c.args.self.now c.ready.new.store c.find.new.store c.ready.ensures.stays c.find.ensures.stays
 
-pub returns-in_default-clause-summary : goal.returns-in_default-clause-summary
-returns-in_default-clause-summary g c clean h held =
+pub returns-in_default-2-clause-summary : goal.returns-in_default-2-clause-summary
+returns-in_default-2-clause-summary g c clean h held =
     let s = at g.S.Store c.find.new.store in
     let none : c.in_ok-id.field-0 ≡ None = search rules in
     let kept = held_now c.find.new.store.cap s clean (c.in_ok-id.ensures.settled clean) h (c.find.ensures.stays.holdings h (c.ready.ensures.stays.holdings h held)) in

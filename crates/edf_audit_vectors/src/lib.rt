@@ -1,0 +1,5 @@
+//! Tests of the check of a file as a store is opened, over memory.
+#![tactic(auto)]
+
+#[cfg(test)]
+mod tests;

@@ -1,0 +1,93 @@
+use Rattle.std.proofs.Common.{◌≡◌, Bool, true, false, List, [], ◌++◌, take, drop, ap, sym, ◌∙◌, refl, subst, inl, inr, take-append-drop}
+use Rattle.std.proofs.KnownBytes.{Appends-nil}
+use Rattle.edf_header.specs.Key.{Key}
+use Rattle.edf_holdings.proofs.KeyLists.{keys_are_one}
+use Rattle.edf_store.proofs.ReadyLemmas.{stays_then}
+use Rattle.edf_command.specs.Run.{AreHeldBy, IsPut}
+use Rattle.edf_command.specs.Lines.{list_lines}
+use Rattle.edf_command.proofs.Puts.{grown}
+use Rattle.edf_command.proofs.Kept.{was-clean, is-refusal}
+use Rattle.edf_command.proofs.listing.list.Goals as goal
+
+pub returns-in-Err : goal.returns-in-Err
+returns-in-Err g c = record {
+  stays = c.identities.ensures.stays;
+  listed = λ clean h holds. inr (record {
+    given = [];
+    fault = c.in-Err.fault;
+    told = is-refusal c.in-Err.fault (c.in-Err.ensures.own clean) c.in-Err.ensures.unfailed;
+    first = λ keys are. (keys, refl);
+    said = λ spell is. inl (Appends-nil (g.O.Output.contents c.args.out.now), c.tell_refusal.ensures);
+  });
+}
+
+pub returns-in-Ok-true : goal.returns-in-Ok-true
+returns-in-Ok-true g c =
+    let old = c.args.store.now in
+    let mid = c.identities.new.self in
+    let new = c.put_recordings.new.store in
+    let keys = c.in-Ok.recordings.items in
+    record {
+      stays = stays_then g.S.Store old mid new c.identities.ensures.stays c.in-Ok-true.ensures.stays;
+      listed = λ clean h holds.
+          let are = c.in-Ok.ensures.keys (was-clean g.S.Store mid new c.in-Ok-true.ensures.stays clean) h holds in
+          let held : List Key → Type 0 = λ ks. AreHeldBy h ks in
+          let all = subst held (sym c.as_slice.ensures.value) (λ k has. (are.held k).0 has) in
+          inl (record {
+            keys = keys;
+            are_keys = are;
+            said = λ spell is.
+                let IsOut : Bool → List Key → Type 0 = λ written ks. IsPut (grown (g.O.Output.contents c.args.out.now) (g.O.Output.contents c.put_recordings.new.out)) (list_lines spell h 1 ks) written in
+                let put = c.in-Ok-true.ensures.put clean h spell (c.identities.ensures.stays.holdings h holds) all is in
+                let done = subst (IsOut true) c.as_slice.ensures.value (subst (λ (b : Bool). IsOut b c.as_slice.result.now) c.in-Ok-true.field-0-test put) in
+                inl (done, inl (Appends-nil (g.F.Output.contents c.args.err.now), refl));
+          });
+    }
+
+pub returns-in-Ok-false : goal.returns-in-Ok-false
+returns-in-Ok-false g c =
+    let old = c.args.store.now in
+    let mid = c.identities.new.self in
+    let new = c.put_recordings.new.store in
+    let keys = c.in-Ok.recordings.items in
+    record {
+      stays = stays_then g.S.Store old mid new c.identities.ensures.stays c.in-Ok-false.ensures.stays;
+      listed = λ clean h holds.
+          let are = c.in-Ok.ensures.keys (was-clean g.S.Store mid new c.in-Ok-false.ensures.stays clean) h holds in
+          let held : List Key → Type 0 = λ ks. AreHeldBy h ks in
+          let all = subst held (sym c.as_slice.ensures.value) (λ k has. (are.held k).0 has) in
+          inl (record {
+            keys = keys;
+            are_keys = are;
+            said = λ spell is.
+                let IsOut : Bool → List Key → Type 0 = λ written ks. IsPut (grown (g.O.Output.contents c.args.out.now) (g.O.Output.contents c.put_recordings.new.out)) (list_lines spell h 1 ks) written in
+                let put = c.in-Ok-false.ensures.put clean h spell (c.identities.ensures.stays.holdings h holds) all is in
+                let done = subst (IsOut false) c.as_slice.ensures.value (subst (λ (b : Bool). IsOut b c.as_slice.result.now) c.in-Ok-false.field-0-test put) in
+                inr (done, Appends-nil (g.F.Output.contents c.args.err.now), refl);
+          });
+    }
+
+pub returns : goal.returns
+returns g c =
+    let old = c.args.store.now in
+    let mid = c.identities.new.self in
+    let new = c.put_recordings.new.store in
+    let keys = c.in-Ok.recordings.items in
+    record {
+      stays = stays_then g.S.Store old mid new c.identities.ensures.stays c.in-Err-put_recordings.ensures.stays;
+      listed = λ clean h holds.
+          let are = c.in-Ok.ensures.keys (was-clean g.S.Store mid new c.in-Err-put_recordings.ensures.stays clean) h holds in
+          let held : List Key → Type 0 = λ ks. AreHeldBy h ks in
+          let all = subst held (sym c.as_slice.ensures.value) (λ k has. (are.held k).0 has) in
+          let stop = c.in-Err-put_recordings.ensures.refused clean in
+          let then = stop.1 h (c.identities.ensures.stays.holdings h holds) all in
+          inr (record {
+            given = take stop.0 keys;
+            fault = c.in-Err-put_recordings.stop;
+            told = then.0;
+            first = λ others they. (drop stop.0 keys, keys_are_one h others keys they are ∙ sym (take-append-drop stop.0 keys));
+            said = λ spell is.
+                let IsOut : List Key → Type 0 = λ ks. IsPut (grown (g.O.Output.contents c.args.out.now) (g.O.Output.contents c.put_recordings.new.out)) (list_lines spell h 1 (take stop.0 ks)) true in
+                inl (subst IsOut c.as_slice.ensures.value (then.1 spell is), c.tell_refusal-in-Err-put_recordings.ensures);
+          });
+    }

@@ -1,0 +1,46 @@
+use Rattle.std.proofs.Common.{◌≡◌, ◌∙◌, List, sym, ap, refl, inl, inr}
+use Rattle.std.specs.Prelude.{Option}
+use Rattle.std.proofs.KnownBytes.{Appends-nil}
+use Rattle.edf_header.specs.Key.{Key}
+use Rattle.edf_store.proofs.ReadyLemmas.{stays_then}
+use Rattle.edf_export.specs.declared.fault.ExportFault.TheVariants.{Store}
+use Rattle.edf_command.specs.Run.{at_place}
+use Rattle.edf_command.specs.Lines.{no_recording_line}
+use Rattle.edf_command.proofs.Kept.{was-clean, is-refusal}
+use Rattle.edf_command.proofs.sending.send_place.Goals as goal
+
+pub returns-in-Err : goal.returns-in-Err
+returns-in-Err g c = record {
+  stays = c.identities.ensures.stays;
+  sent = λ clean h holds. inr (inr (record { fault = c.in-Err.fault; told = is-refusal c.in-Err.fault (c.in-Err.ensures.own clean) c.in-Err.ensures.unfailed; said = inl (Appends-nil (g.O.Output.contents c.args.out.now), c.tell_refusal.ensures) }));
+}
+
+pub returns-in-Some : goal.returns-in-Some
+returns-in-Some g c =
+    let old = c.args.store.now in
+    let mid = c.identities.new.self in
+    let new = c.send_recording.new.store in
+    let at : List Key → Option Key = λ keys. at_place keys c.args.place in
+    record {
+      stays = stays_then g.S.Store old mid new c.identities.ensures.stays c.send_recording.ensures.stays;
+      sent = λ clean h holds. inl (record {
+        keys = c.in-Ok.recordings.items;
+        key = c.in-Some.identity.now;
+        are_keys = c.in-Ok.ensures.keys (was-clean g.S.Store mid new c.send_recording.ensures.stays clean) h holds;
+        is_at = ap at (sym c.as_slice.ensures.value) ∙ sym c.in-Some.ensures;
+        sent = c.send_recording.ensures.sent clean h (c.identities.ensures.stays.holdings h holds);
+      });
+    }
+
+pub returns : goal.returns
+returns g c =
+    let at : List Key → Option Key = λ keys. at_place keys c.args.place in
+    record {
+      stays = c.identities.ensures.stays;
+      sent = λ clean h holds. inr (inl (record {
+        keys = c.in-Ok.recordings.items;
+        are_keys = c.in-Ok.ensures.keys clean h holds;
+        none = ap at (sym c.as_slice.ensures.value) ∙ sym c.in-None.ensures;
+        said = inl (Appends-nil (g.O.Output.contents c.args.out.now), c.tell.ensures (no_recording_line c.args.place) c.no_recording_line.ensures);
+      }));
+    }

@@ -1,0 +1,61 @@
+use Rattle.std.proofs.Common.{◌≡◌, ℕ, List, map, ◌∙◌, ap, sym, subst, refl, inl, inr, string_bytes, true, false}
+use Rattle.std.specs.Prelude.{Option}
+use Rattle.std.proofs.KnownBytes.{Appends-nil}
+use Rattle.std.proofs.lemmas.Simd.{map-map}
+use Rattle.edf_intake.specs.Refusal.{Answer}
+use Rattle.edf_intake.specs.Source.{Source}
+use Rattle.edf_command.specs.Run.{IsPut}
+use Rattle.edf_command.specs.Lines.{take_lines, take_status}
+use Rattle.edf_command.proofs.Puts.{grown}
+use Rattle.edf_command.proofs.taking.take.Goals as goal
+
+pub returns-in_default-clause-taken : goal.returns-in_default-clause-taken
+returns-in_default-clause-taken g c = inr (refl, inl (Appends-nil (g.O.Output.contents c.args.out.now), c.tell_bytes.ensures))
+
+pub returns-then-put_answers-clause-taken : goal.returns-then-put_answers-clause-taken
+returns-then-put_answers-clause-taken g c =
+    let Reader = g.row.I-Reader.Denot in
+    let source : Reader → Source = λ i. record { left = g.I.Reader.Input.remaining i; failed = g.I.Reader.Input.failures i } in
+    let left : Reader → Option (List ℕ) = λ i. g.I.Reader.Input.remaining i in
+    let froms = map source c.as_mut_slice.result.now in
+    let bytes = g.I.Inputs.bytes c.args.inputs.now in
+    let files = c.args.files.now in
+    inl (record {
+      froms = froms;
+      tos = map source c.submit_all.new.inputs;
+      answers = c.in-Ok-submit_all.answers.items;
+      opened =
+          map-map (λ (f : Source). f.left) source c.as_mut_slice.result.now ∙ ap (λ (l : List Reader). map left l) c.as_mut_slice.ensures.value
+          ∙ c.in-Ok.ensures.opened ∙ sym (map-map bytes string_bytes files);
+      submitted = c.in-Ok-submit_all.ensures.submitted;
+      answered = c.in-Ok-submit_all.ensures.answered;
+      said = λ spell is.
+          let names = map string_bytes files in
+          let IsOut : List Answer → Type 0 = λ answers. IsPut (grown (g.O.Output.contents c.args.out.now) (g.O.Output.contents c.put_answers.new.out)) (take_lines spell names answers) true in
+          inl (
+            subst IsOut c.as_slice.ensures.value (c.if-put_answers.ensures spell is),
+            inl (Appends-nil (g.F.Output.contents c.args.err.now), c.take_status.ensures ∙ ap take_status c.as_slice-then-put_answers.ensures.value),
+          );
+    })
+
+pub returns-clause-taken : goal.returns-clause-taken
+returns-clause-taken g c =
+    let Reader = g.row.I-Reader.Denot in
+    let source : Reader → Source = λ i. record { left = g.I.Reader.Input.remaining i; failed = g.I.Reader.Input.failures i } in
+    let left : Reader → Option (List ℕ) = λ i. g.I.Reader.Input.remaining i in
+    let bytes = g.I.Inputs.bytes c.args.inputs.now in
+    let files = c.args.files.now in
+    inl (record {
+      froms = map source c.as_mut_slice.result.now;
+      tos = map source c.submit_all.new.inputs;
+      answers = c.in-Ok-submit_all.answers.items;
+      opened =
+          map-map (λ (f : Source). f.left) source c.as_mut_slice.result.now ∙ ap (λ (l : List Reader). map left l) c.as_mut_slice.ensures.value
+          ∙ c.in-Ok.ensures.opened ∙ sym (map-map bytes string_bytes files);
+      submitted = c.in-Ok-submit_all.ensures.submitted;
+      answered = c.in-Ok-submit_all.ensures.answered;
+      said = λ spell is.
+          let names = map string_bytes files in
+          let IsOut : List Answer → Type 0 = λ answers. IsPut (grown (g.O.Output.contents c.args.out.now) (g.O.Output.contents c.put_answers.new.out)) (take_lines spell names answers) false in
+          inr (subst IsOut c.as_slice.ensures.value (c.if-put_answers.ensures spell is), Appends-nil (g.F.Output.contents c.args.err.now), refl);
+    })

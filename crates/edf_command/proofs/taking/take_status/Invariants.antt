@@ -1,0 +1,7 @@
+use Rattle.std.proofs.Common.{◌≡◌, fold, take}
+use Rattle.edf_command.specs.Lines.{answer_status, worse}
+use Rattle.edf_command.specs.declared.status.Status.TheVariants.{Done}
+use Rattle.edf_command.proofs.taking.take_status.Given as goal
+
+abbrev pub invariant-loop-answer : goal.invariant-loop-answer
+invariant-loop-answer l = l.status ≡ fold (λ status answer. worse status (answer_status answer)) Done (take l.answer-index l.answers)

@@ -1,0 +1,35 @@
+-- What the program does with its words, before an order is run.
+use Rattle.std.specs.Prelude.{◌≡◌, ◌⊎◌, List, ℕ, [], Option, Some, None, Result, Ok, Err, codes, if◌then◌else◌}
+use Rattle.std.specs.Str.{bytes_eq}
+use Rattle.edf_order.specs.Order.{Asked, Text, meaning}
+use Rattle.edf_order.specs.Order.Asked.{take, list, export, convert}
+use Rattle.edf_order.specs.declared.order.Order.{Order}
+use Rattle.edf_command.specs.Lines.{command_memory_line}
+use Rattle.edf_command.specs.Run.{Growth, Gets, Says}
+use Rattle.edf_command.specs.declared.status.Status.{Status}
+use Rattle.edf_command.specs.declared.status.Status.TheVariants.{Done, Usage, Trouble}
+
+-- the path of a store's file; `:memory:` has none
+abbrev pub path_of : Text → Option Text
+path_of store = if bytes_eq store (codes ":memory:") then None else Some store
+
+-- the path of the store that is asked for; `convert` has an empty store in memory, as `:memory:` is one
+abbrev pub store_path : Asked → Option Text
+store_path (take store files) = path_of store
+store_path (list store) = path_of store
+store_path (export store place) = path_of store
+store_path (convert file) = None
+
+module _ (out err : Growth) where
+  -- what `clap` says: help, or why nothing can be done
+  pub record IsExplained (status : Status) : Type 0 where
+    pub text : List ℕ
+    pub said : Says out err text [] Done status ⊎ Says out err [] text Usage status
+
+  abbrev pub LacksMemory : Status → Type 0
+  LacksMemory status = Says out err [] command_memory_line Trouble status
+
+  -- by what the words ask for: the order, and nothing is written; or they ask for nothing; or there is no memory for them
+  abbrev pub IsRead : Option Asked → Result Order Status → Type 0
+  IsRead asked (Ok order) = (asked ≡ Some (meaning order)) × Gets out [] × Gets err []
+  IsRead asked (Err status) = ((asked ≡ None) × IsExplained status) ⊎ LacksMemory status

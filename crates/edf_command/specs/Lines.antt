@@ -1,0 +1,110 @@
+-- The lines that the program writes, and its statuses: functions of names, answers and holdings. A line ends with byte 10.
+use Rattle.std.specs.Prelude.{ℕ, ◌+◌, ◌==◌, ◌&&◌, ◌||◌, Bool, nat_le, List, [], ◌∷◌, ◌++◌, length, codes, decimal, if◌then◌else◌, fold, Result, Ok, Err}
+use Rattle.std.specs.List.{flat_map, zip}
+use Rattle.edf_header.specs.Key.{Key, patient_code, investigation_code}
+use Rattle.edf_fragment.specs.Fragment.{DataRecord}
+use Rattle.edf_holdings.specs.Holdings.{Holdings}
+use Rattle.edf_store.specs.Fault.{number}
+use Rattle.edf_store.specs.declared.fault.StoreFault.{StoreFault}
+use Rattle.edf_intake.specs.Refusal.{Answer, refusal_number}
+use Rattle.edf_intake.specs.declared.refusal.Refusal.{Refusal}
+use Rattle.edf_export.specs.Export.{export_fault_number}
+use Rattle.edf_export.specs.declared.fault.ExportFault.{ExportFault}
+use Rattle.edf_command.specs.Refusals.{refusal_text, store_text, export_text}
+use Rattle.edf_command.specs.declared.status.Status.{Status}
+use Rattle.edf_command.specs.declared.status.Status.TheVariants.{Done, Refused, Usage, Trouble}
+
+-- the number that the program ends with
+abbrev pub exit_code : Status → ℕ
+exit_code Done = 0
+exit_code Refused = 1
+exit_code Usage = 2
+exit_code Trouble = 3
+
+-- ---- take
+
+-- `FILE accepted new=N known=K` or `FILE refused T`
+abbrev pub take_line : (ℕ → List ℕ) → List ℕ → Answer → List ℕ
+take_line spell name (Ok receipt) = name ++ (codes " accepted new=" ++ (decimal receipt.new ++ (codes " known=" ++ (decimal receipt.known ++ (10 ∷ [])))))
+take_line spell name (Err refusal) = name ++ (codes " refused " ++ (refusal_text spell refusal ++ (10 ∷ [])))
+
+-- a line a file, in the order of the words
+abbrev pub take_lines : (ℕ → List ℕ) → List (List ℕ) → List Answer → List ℕ
+take_lines spell names answers = flat_map (λ p. take_line spell p.0 p.1) (zip names answers)
+
+-- E40 to E43 and E45
+abbrev pub is_trouble : ℕ → Bool
+is_trouble n = (nat_le 40 n && nat_le n 43) || n == 45
+
+abbrev pub status_of_number : ℕ → Status
+status_of_number n = if is_trouble n then Trouble else Refused
+
+abbrev pub answer_status : Answer → Status
+answer_status (Ok receipt) = Done
+answer_status (Err refusal) = status_of_number (refusal_number refusal)
+
+-- the worse of two: trouble, else a refusal
+abbrev pub worse : Status → Status → Status
+worse Done other = other
+worse Refused Trouble = Trouble
+worse Refused other = Refused
+worse status other = status
+
+-- the worst of all
+abbrev pub take_status : List Answer → Status
+take_status answers = fold (λ status answer. worse status (answer_status answer)) Done answers
+
+-- no memory for the readers or the answers
+abbrev pub take_memory_line : List ℕ
+take_memory_line = codes "take refused E41 Memory" ++ (10 ∷ [])
+
+-- ---- list
+
+abbrev pub first_start : List DataRecord → ℕ
+first_start [] = 0
+first_start (r ∷ rs) = r.start
+
+-- `P records=N first=I patient=C investigation=V`
+abbrev pub list_line : (ℕ → List ℕ) → ℕ → Key → List DataRecord → List ℕ
+list_line spell place k records = decimal place ++ (codes " records=" ++ (decimal (length records)
+    ++ (codes " first=" ++ (spell (first_start records)
+    ++ (codes " patient=" ++ (patient_code k
+    ++ (codes " investigation=" ++ (investigation_code k ++ (10 ∷ [])))))))))
+
+-- a line a recording, whose places count on from this one
+abbrev pub list_lines : (ℕ → List ℕ) → Holdings → ℕ → List Key → List ℕ
+list_lines spell h place [] = []
+list_lines spell h place (k ∷ ks) = list_line spell place k (h k) ++ list_lines spell h (place + 1) ks
+
+abbrev pub list_refused_line : StoreFault → List ℕ
+list_refused_line fault = codes "list refused " ++ (store_text fault ++ (10 ∷ []))
+
+-- ---- export
+
+abbrev pub no_recording_line : ℕ → List ℕ
+no_recording_line place = codes "no recording at place " ++ (decimal place ++ (10 ∷ []))
+
+abbrev pub export_refused_line : ExportFault → List ℕ
+export_refused_line fault = codes "export refused " ++ (export_text fault ++ (10 ∷ []))
+
+abbrev pub export_status : ExportFault → Status
+export_status fault = status_of_number (export_fault_number fault)
+
+-- ---- convert
+
+abbrev pub refused_line : (ℕ → List ℕ) → List ℕ → Refusal → List ℕ
+refused_line spell name refusal = take_line spell name (Err refusal)
+
+-- no memory for the reader
+abbrev pub convert_memory_line : List ℕ → List ℕ
+convert_memory_line name = name ++ (codes " refused E41 Memory" ++ (10 ∷ []))
+
+-- ---- before an order is run
+
+-- the store can't be opened
+abbrev pub store_refused_line : StoreFault → List ℕ
+store_refused_line fault = codes "store refused " ++ (store_text fault ++ (10 ∷ []))
+
+-- no memory for the words
+abbrev pub command_memory_line : List ℕ
+command_memory_line = codes "command refused E41 Memory" ++ (10 ∷ [])

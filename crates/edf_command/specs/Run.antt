@@ -1,0 +1,172 @@
+-- What an order does: what it writes, the status that it answers, and what it leaves in the store.
+use Rattle.std.specs.Prelude.{◌≡◌, ◌≢◌, ◌⊎◌, Contains, ℕ, zero, suc, Bool, List, [], ◌++◌, map, slice_get, Option, Some, None, Result, Ok, Err}
+use Rattle.std.specs.Bool.{MatchBool}
+use Rattle.std.specs.Io.KnownBytes.{Appends, Keeps}
+use Rattle.sqlite_trees.specs.declared.store.Store.{Ghosts}
+use Rattle.sqlite.specs.State.{HasCleanDisk}
+use Rattle.edf_header.specs.Key.{Key}
+use Rattle.edf_holdings.specs.Holdings.{Holdings}
+use Rattle.edf_holdings.specs.Keys.{AreKeysOf}
+use Rattle.edf_store.specs.Fault.{IsStoreRefusal}
+use Rattle.edf_store.specs.Held.{Kept, at, Holds, Stays}
+use Rattle.edf_store.specs.declared.fault.StoreFault.{StoreFault}
+use Rattle.edf_intake.specs.Refusal.{Answer, refusal_number}
+use Rattle.edf_intake.specs.Source.{Source}
+use Rattle.edf_intake.specs.Submitted.{IsSubmitted}
+use Rattle.edf_intake.specs.Batch.{AreSubmitted, AnswersAll}
+use Rattle.edf_intake.specs.declared.receipt.Receipt.{Receipt}
+use Rattle.edf_intake.specs.declared.refusal.Refusal.{Refusal}
+use Rattle.edf_export.specs.Export.{IsExported, IsNotExported, WritesFront}
+use Rattle.edf_export.specs.declared.fault.ExportFault.{ExportFault}
+use Rattle.edf_export.specs.declared.fault.ExportFault.TheVariants.{Store}
+use Rattle.edf_order.specs.Order.{Asked}
+use Rattle.edf_order.specs.Order.Asked.{take, list, export, convert}
+use Rattle.edf_command.specs.Refusals.{IsSpelling}
+use Rattle.edf_command.specs.Lines.{take_lines, take_status, take_memory_line, list_lines, list_refused_line, no_recording_line, export_refused_line, export_status, refused_line, status_of_number, convert_memory_line}
+use Rattle.edf_command.specs.declared.status.Status.{Status}
+use Rattle.edf_command.specs.declared.status.Status.TheVariants.{Done, Refused, Usage, Trouble}
+
+-- what a writer holds before and after, where that is known
+pub record Growth : Type 0 where
+  pub before : Option (List ℕ)
+  pub after : Option (List ℕ)
+
+-- it got just these bytes; a front of them
+abbrev pub Gets : Growth → List ℕ → Type 0
+Gets w bytes = Appends w.before w.after bytes
+
+abbrev pub GetsFront : Growth → List ℕ → Type 0
+GetsFront w bytes = WritesFront w.before w.after bytes
+
+-- the bytes were written, where that is answered, or a front of them
+abbrev pub IsPut : Growth → List ℕ → Bool → Type 0
+IsPut w bytes written = MatchBool written (Gets w bytes) (GetsFront w bytes)
+
+-- the bytes were written, and the status is the one that is wanted; or a front of them, and it is trouble
+abbrev pub IsTold : Growth → List ℕ → Status → Status → Type 0
+IsTold w bytes wanted status = (Gets w bytes × (status ≡ wanted)) ⊎ (GetsFront w bytes × (status ≡ Trouble))
+
+-- some bytes were written on `out`, and then others on `err`, and the status is the one that is wanted; or the last line could
+-- not be written whole, and it is trouble
+abbrev pub Says : Growth → Growth → List ℕ → List ℕ → Status → Status → Type 0
+Says out err onto onto_err wanted status =
+    (Gets out onto × IsTold err onto_err wanted status) ⊎ (GetsFront out onto × Gets err [] × (status ≡ Trouble))
+
+-- bytes that hang on how instants are written
+abbrev pub SaysLines : Growth → Growth → ((ℕ → List ℕ) → List ℕ) → ((ℕ → List ℕ) → List ℕ) → Status → Status → Type 0
+SaysLines out err onto onto_err wanted status = (spell : ℕ → List ℕ) → IsSpelling spell → Says out err (onto spell) (onto_err spell) wanted status
+
+-- each of the keys holds a record
+abbrev pub AreHeldBy : Holdings → List Key → Type 0
+AreHeldBy h keys = (k : Key) → Contains keys k → h k ≢ []
+
+-- the key at a place of the list, from 1
+abbrev pub at_place : List Key → ℕ → Option Key
+at_place keys zero = None
+at_place keys (suc n) = slice_get keys n
+
+module _ {S : Type 0} (g : Ghosts S) (old new : Kept S) (out err : Growth) where
+  -- ---- take
+
+  -- the files' bytes were submitted in turn, and each has its line
+  pub record TakesFiles (bytes : List ℕ → Option (List ℕ)) (names : List (List ℕ)) (status : Status) : Type 0 where
+    pub froms : List Source
+    pub tos : List Source
+    pub answers : List Answer
+    pub opened : map (λ (f : Source). f.left) froms ≡ map bytes names
+    pub submitted : AreSubmitted g old new froms tos answers
+    pub answered : AnswersAll g old new froms answers
+    pub said : SaysLines out err (λ spell. take_lines spell names answers) (λ spell. []) (take_status answers) status
+
+  -- or there was no memory for the readers or the answers, and nothing was submitted
+  abbrev pub IsTaken : (List ℕ → Option (List ℕ)) → List (List ℕ) → Status → Type 0
+  IsTaken bytes names status = TakesFiles bytes names status ⊎ ((new ≡ old) × Says out err [] take_memory_line Trouble status)
+
+  -- ---- list
+
+  -- each recording has its line
+  pub record ListsAll (h : Holdings) (status : Status) : Type 0 where
+    pub keys : List Key
+    pub are_keys : AreKeysOf h keys
+    pub said : SaysLines out err (λ spell. list_lines spell h 1 keys) (λ spell. []) Done status
+
+  -- the store refused behind some lines
+  pub record StopsListing (h : Holdings) (status : Status) : Type 0 where
+    pub given : List Key
+    pub fault : StoreFault
+    pub told : IsStoreRefusal fault
+    pub first : (keys : List Key) → AreKeysOf h keys → (rest : List Key) × (keys ≡ given ++ rest)
+    pub said : SaysLines out err (λ spell. list_lines spell h 1 given) (λ spell. list_refused_line fault) Trouble status
+
+  pub record IsListed (status : Status) : Type 0 where
+    pub stays : Stays g old new
+    pub listed : HasCleanDisk (at g new) → (h : Holdings) → Holds g old h → ListsAll h status ⊎ StopsListing h status
+
+  -- ---- export
+
+  -- the recording's canonical file went out; or a front of it and a line why, or a line alone
+  abbrev pub IsSent : Holdings → Key → Status → Type 0
+  IsSent h k status =
+      (((len : ℕ) × IsExported out.before out.after k (h k) len) × Gets err [] × (status ≡ Done))
+      ⊎ ((fault : ExportFault) × IsNotExported out.before out.after k (h k) fault × IsTold err (export_refused_line fault) (export_status fault) status)
+
+  -- the recording at this place of the list, from 1
+  pub record SendsPlace (h : Holdings) (place : ℕ) (status : Status) : Type 0 where
+    pub keys : List Key
+    pub key : Key
+    pub are_keys : AreKeysOf h keys
+    pub is_at : at_place keys place ≡ Some key
+    pub sent : IsSent h key status
+
+  -- there is none there
+  pub record HasNoPlace (h : Holdings) (place : ℕ) (status : Status) : Type 0 where
+    pub keys : List Key
+    pub are_keys : AreKeysOf h keys
+    pub none : at_place keys place ≡ None
+    pub said : Says out err [] (no_recording_line place) Refused status
+
+  -- the store refused to tell the list
+  pub record HasNoList (status : Status) : Type 0 where
+    pub fault : StoreFault
+    pub told : IsStoreRefusal fault
+    pub said : Says out err [] (export_refused_line (Store fault)) (export_status (Store fault)) status
+
+  pub record IsPlaceSent (place : ℕ) (status : Status) : Type 0 where
+    pub stays : Stays g old new
+    pub sent : HasCleanDisk (at g new) → (h : Holdings) → Holds g old h →
+        SendsPlace h place status ⊎ (HasNoPlace h place status ⊎ HasNoList status)
+
+  -- ---- convert
+
+  -- the file was refused
+  pub record RefusesFile (bytes : Option (List ℕ)) (name : List ℕ) (status : Status) : Type 0 where
+    pub from : Source
+    pub to : Source
+    pub refusal : Refusal
+    pub opened : from.left ≡ bytes
+    pub submitted : IsSubmitted g old new from to (Err refusal)
+    pub said : SaysLines out err (λ spell. []) (λ spell. refused_line spell name refusal) (status_of_number (refusal_number refusal)) status
+
+  -- it was accepted, and what its recording then holds went out
+  pub record ConvertsFile (bytes : Option (List ℕ)) (status : Status) : Type 0 where
+    pub from : Source
+    pub to : Source
+    pub receipt : Receipt
+    pub mid : Kept S
+    pub opened : from.left ≡ bytes
+    pub submitted : IsSubmitted g old mid from to (Ok receipt)
+    pub stays : Stays g mid new
+    pub sent : HasCleanDisk (at g new) → (h : Holdings) → Holds g mid h → IsSent h receipt.identity status
+
+  -- or there was no memory for the reader
+  abbrev pub IsConverted : Option (List ℕ) → List ℕ → Status → Type 0
+  IsConverted bytes name status = ConvertsFile bytes status
+      ⊎ (RefusesFile bytes name status ⊎ ((new ≡ old) × Says out err [] (convert_memory_line name) Trouble status))
+
+  -- ---- all four
+
+  abbrev pub IsDone : (List ℕ → Option (List ℕ)) → Asked → Status → Type 0
+  IsDone bytes (take store files) status = IsTaken bytes files status
+  IsDone bytes (list store) status = IsListed status
+  IsDone bytes (export store place) status = IsPlaceSent place status
+  IsDone bytes (convert file) status = IsConverted (bytes file) file status

@@ -1,0 +1,139 @@
+//! `list`: a line for each recording.
+
+ghost use Rattle.std.specs.Prelude.{◌≡◌, ◌≢◌, ◌++◌, ◌∷◌, [], ℕ, Some, List, IfOk, IfErr, codes, take};
+ghost use Rattle.edf_header.specs.Key.{patient_code, investigation_code};
+ghost use Rattle.std.specs.Io.KnownBytes.{Appends, Keeps};
+ghost use Rattle.sqlite.specs.State.{HasCleanDisk};
+ghost use Rattle.edf_fragment.specs.Fragment.{DataRecord};
+ghost use Rattle.edf_holdings.specs.Holdings.{Holdings};
+ghost use Rattle.edf_store.specs.Fault.{IsStoreRefusal};
+ghost use Rattle.edf_store.specs.Held.{at, Holds, Stays};
+ghost use Rattle.edf_store.specs.Listed.{IsSummary};
+ghost use Rattle.edf_command.specs.Lines.{list_line, list_lines, list_refused_line};
+ghost use Rattle.edf_command.specs.Refusals.{IsSpelling};
+ghost use Rattle.edf_command.specs.Run.{AreHeldBy, IsPut, IsTold, IsListed};
+
+use crate::output::{put_line, tell};
+use crate::refusal::{joined, spelled, store_line};
+use crate::status::Status;
+use edf_fragment::Output;
+use edf_header::Identity;
+use edf_store::{Store, StoreFault, Summary};
+use sqlite::Alter;
+use std::alloc::{AllocError, Global};
+
+/// The codes of a recording, which end its line.
+fn codes_text(alloc: Global, identity: &Identity) -> Result<Vec<u8>, AllocError>
+    ensures { IfOk result (λ r. r.items ≡ codes " patient=" ++ (patient_code identity.now
+        ++ (codes " investigation=" ++ (investigation_code identity.now ++ (10 ∷ []))))) }
+{
+    let investigation = joined(
+        alloc,
+        b" investigation=",
+        identity.investigation_code(),
+        b"\n",
+    )?;
+    let text = joined(
+        alloc,
+        b" patient=",
+        identity.patient_code(),
+        investigation.as_slice(),
+    )?;
+    Ok(text)
+}
+
+/// The line of a recording.
+fn list_line(
+    alloc: Global,
+    place: usize,
+    identity: &Identity,
+    summary: &Summary,
+) -> Result<Vec<u8>, AllocError>
+    ensures { IfOk result (λ r. (spell : ℕ → List ℕ) (records : List DataRecord) → IsSpelling spell →
+        IsSummary records (Some summary.now) → r.items ≡ list_line spell place identity.now records) }
+{
+    let records = summary.records;
+    let counts = format!(in alloc; "{place} records={records}")?;
+    let start = spelled(alloc, summary.first)?;
+    let codes = codes_text(alloc, identity)?;
+    let rest = joined(alloc, b" first=", start.as_slice(), codes.as_slice())?;
+    let line = joined(alloc, counts.as_bytes(), b"", rest.as_slice())?;
+    Ok(line)
+}
+
+/// Writes the line of a recording that is held.
+fn put_recording<S: Alter, O: Output>(
+    alloc: Global,
+    store: &mut Store<S>,
+    out: &mut O,
+    place: usize,
+    identity: &Identity,
+) -> Result<bool, StoreFault>
+    ensures stays { Stays S.Store store.old store.new }
+    ensures put { HasCleanDisk (at S.Store store.new) → IfOk result (λ written. (h : Holdings) (spell : ℕ → List ℕ) → Holds S.Store store.old h →
+        h identity.now ≢ [] → IsSpelling spell →
+        IsPut (record { before = O.contents out.old; after = O.contents out.new }) (list_line spell place identity.now (h identity.now)) written) }
+    ensures nothing { IfErr result (λ _. Keeps (O.contents out.old) (O.contents out.new)) }
+    ensures refused { HasCleanDisk (at S.Store store.new) → IfErr result (λ fault. (h : Holdings) → Holds S.Store store.old h →
+        h identity.now ≢ [] → IsStoreRefusal fault) }
+{
+    match store.summary(identity) {
+        Ok(Some(summary)) => Ok(put_line(out, list_line(alloc, place, identity, &summary))),
+        Ok(None) => Err(StoreFault::Foreign),
+        Err(fault) => Err(fault),
+    }
+}
+
+/// A line a recording, in their order. None is written behind one that is not written whole.
+fn put_recordings<S: Alter, O: Output>(
+    alloc: Global,
+    store: &mut Store<S>,
+    out: &mut O,
+    recordings: &[Identity],
+) -> Result<bool, StoreFault>
+    ensures stays { Stays S.Store store.old store.new }
+    ensures put { HasCleanDisk (at S.Store store.new) → IfOk result (λ written. (h : Holdings) (spell : ℕ → List ℕ) → Holds S.Store store.old h →
+        AreHeldBy h recordings.now → IsSpelling spell →
+        IsPut (record { before = O.contents out.old; after = O.contents out.new }) (list_lines spell h 1 recordings.now) written) }
+    ensures refused { HasCleanDisk (at S.Store store.new) → IfErr result (λ fault. (n : ℕ) × ((h : Holdings) → Holds S.Store store.old h →
+        AreHeldBy h recordings.now → IsStoreRefusal fault × ((spell : ℕ → List ℕ) → IsSpelling spell →
+        Appends (O.contents out.old) (O.contents out.new) (list_lines spell h 1 (take n recordings.now))))) }
+{
+    for (at, identity) in recordings.iter().enumerate() {
+        match put_recording(alloc, store, out, at + 1, identity) {
+            Ok(true) => {}
+            Ok(false) => return Ok(false),
+            Err(fault) => return Err(fault),
+        }
+    }
+    Ok(true)
+}
+
+/// Tells why no more is listed.
+fn tell_refusal<F: Output>(alloc: Global, err: &mut F, fault: &StoreFault) -> Status
+    ensures { IsTold (record { before = F.contents err.old; after = F.contents err.new }) (list_refused_line fault.now) Status.Trouble result }
+{
+    tell(err, store_line(alloc, "list", fault), Status::Trouble)
+}
+
+/// Writes a line for each recording that is held, in the order of their identities' bytes.
+pub(crate) fn list<S: Alter, O: Output, F: Output>(
+    alloc: Global,
+    store: &mut Store<S>,
+    out: &mut O,
+    err: &mut F,
+) -> Status
+    ensures { IsListed S.Store store.old store.new
+        (record { before = O.contents out.old; after = O.contents out.new })
+        (record { before = F.contents err.old; after = F.contents err.new }) result }
+{
+    let recordings = match store.identities() {
+        Ok(recordings) => recordings,
+        Err(fault) => return tell_refusal(alloc, err, &fault),
+    };
+    match put_recordings(alloc, store, out, recordings.as_slice()) {
+        Ok(true) => Status::Done,
+        Ok(false) => Status::Trouble,
+        Err(stop) => tell_refusal(alloc, err, &stop),
+    }
+}

@@ -1,0 +1,66 @@
+//! What the program does with its words, before an order is run and where it can't be.
+
+ghost use Rattle.std.specs.Prelude.{◌≡◌, option_map};
+ghost use Rattle.edf_order.specs.Order.{AreValues, asked, meaning, texts};
+ghost use Rattle.edf_command.specs.Command.{IsRead, store_path};
+ghost use Rattle.edf_command.specs.Lines.{store_refused_line};
+ghost use Rattle.edf_command.specs.Run.{IsTold};
+
+use crate::output::{tell, tell_bytes};
+use crate::refusal::store_line;
+use crate::status::Status;
+use edf_fragment::Output;
+use edf_order::{CommandFault, Order, parse};
+use edf_store::StoreFault;
+use std::alloc::Global;
+
+/// The order that the words after the program's name ask for.
+///
+/// # Errors
+/// The status that the program ends with, where there is no order to run: help went to `out`, or why the words ask for nothing
+/// to `err`, or that there is no memory for the words.
+pub fn read_order<O: Output, F: Output>(
+    alloc: Global,
+    words: &[String],
+    out: &mut O,
+    err: &mut F,
+) -> Result<Order, Status>
+    ensures { AreValues words.now → IsRead
+        (record { before = O.contents out.old; after = O.contents out.new })
+        (record { before = F.contents err.old; after = F.contents err.new })
+        (asked (texts words.now)) result }
+{
+    match parse(alloc, words) {
+        Ok(order) => Ok(order),
+        Err(CommandFault::Help(text)) => Err(tell_bytes(out, text.as_bytes(), Status::Done)),
+        Err(CommandFault::Usage(text)) => Err(tell_bytes(err, text.as_bytes(), Status::Usage)),
+        Err(CommandFault::Memory) => {
+            let line = b"command refused E41 Memory\n";
+            Err(tell_bytes(err, line, Status::Trouble))
+        }
+    }
+}
+
+/// The path of the store that an order names. There is none for `:memory:` and for `Convert`, which has an empty store in memory.
+pub fn store_path(order: &Order) -> Option<&str>
+    ensures { option_map (λ path. path.now) result ≡ store_path (meaning order.now) }
+{
+    let store = match order {
+        Order::Take { store, files: _ } => store,
+        Order::List { store } => store,
+        Order::Export { store, place: _ } => store,
+        Order::Convert { file: _ } => return None,
+    };
+    if store.as_str() == ":memory:" {
+        None
+    } else {
+        Some(store.as_str())
+    }
+}
+
+/// Tells that the store of an order can't be opened. The order is not run.
+pub fn refuse_store<F: Output>(alloc: Global, fault: &StoreFault, err: &mut F) -> Status
+    ensures { IsTold (record { before = F.contents err.old; after = F.contents err.new }) (store_refused_line fault.now) Status.Trouble result }
+{
+    tell(err, store_line(alloc, "store", fault), Status::Trouble)
+}

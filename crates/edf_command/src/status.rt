@@ -1,0 +1,52 @@
+//! How an order ends.
+
+ghost use Rattle.std.specs.Prelude.{◌≡◌};
+ghost use Rattle.edf_command.specs.Lines.{exit_code, status_of_number, worse};
+
+/// How an order ends.
+#[derive(Clone, Copy, Debug, PartialEq, Eq, Drop)]
+pub enum Status {
+    /// All was done.
+    Done,
+    /// A file was refused, or no recording has the place.
+    Refused,
+    /// The words ask for nothing that can be done.
+    Usage,
+    /// E40 to E43 or E45 was met, or a line could not be written.
+    Trouble,
+}
+
+impl Status {
+    /// The number that the program ends with: 0 to 3.
+    pub fn code(self) -> u8
+        ensures { result ≡ exit_code self }
+    {
+        match self {
+            Status::Done => 0,
+            Status::Refused => 1,
+            Status::Usage => 2,
+            Status::Trouble => 3,
+        }
+    }
+}
+
+/// The status where a refusal of this number was met.
+pub(crate) fn status_of_number(number: u8) -> Status
+    ensures { result ≡ status_of_number number }
+{
+    match number {
+        40..=43 | 45 => Status::Trouble,
+        _ => Status::Refused,
+    }
+}
+
+/// The worse of two: trouble, else a refusal.
+pub(crate) fn worse(status: Status, other: Status) -> Status
+    ensures { result ≡ worse status other }
+{
+    match (status, other) {
+        (Status::Done, other) => other,
+        (Status::Refused, Status::Trouble) => Status::Trouble,
+        (status, _) => status,
+    }
+}

@@ -1,0 +1,141 @@
+//! `take`: files into the store.
+
+ghost use Rattle.std.specs.Prelude.{◌≡◌, ◌++◌, ◌∷◌, ℕ, [], List, IfOk, map, string_bytes, codes, decimal};
+ghost use Rattle.edf_command.specs.Lines.{answer_status, take_line, take_lines, take_status, status_of_number, worse};
+ghost use Rattle.edf_command.specs.Refusals.{IsSpelling, refusal_text};
+ghost use Rattle.edf_command.specs.Run.{IsPut, IsTaken};
+
+use crate::inputs::Inputs;
+use crate::output::{put_line, tell_bytes};
+use crate::refusal::{joined, refusal_text};
+use crate::status::{Status, status_of_number, worse};
+use edf_fragment::Output;
+use edf_intake::{Receipt, Refusal, submit_all};
+use edf_store::Store;
+use sqlite::Alter;
+use std::alloc::{AllocError, Global};
+
+/// A reader for each file.
+fn open_all<I: Inputs>(
+    alloc: Global,
+    inputs: &mut I,
+    files: &[String],
+) -> Result<Vec<I::Reader>, AllocError>
+    ensures opened { IfOk result (λ readers. map (λ r. I.Reader.remaining r) readers.items
+        ≡ map (λ file. I.bytes inputs.old (string_bytes file)) files.now) }
+    ensures same { (name : List ℕ) → I.bytes inputs.new name ≡ I.bytes inputs.old name }
+{
+    let mut readers = Vec::new(alloc);
+    for file in files {
+        let reader = inputs.open(alloc, file.as_str())?;
+        readers.push(reader)?;
+    }
+    Ok(readers)
+}
+
+/// The line of a refused file.
+pub(crate) fn refused_line(
+    alloc: Global,
+    name: &str,
+    refusal: &Refusal,
+) -> Result<Vec<u8>, AllocError>
+    ensures { IfOk result (λ r. (spell : ℕ → List ℕ) → IsSpelling spell →
+        r.items ≡ name.now ++ (codes " refused " ++ (refusal_text spell refusal.now ++ (10 ∷ [])))) }
+{
+    let mut text = refusal_text(alloc, refusal)?;
+    text.push(b'\n')?;
+    let line = joined(alloc, name.as_bytes(), b" refused ", text.as_slice())?;
+    Ok(line)
+}
+
+/// The line of an accepted file.
+fn accepted_line(alloc: Global, name: &str, new: u32, known: u32) -> Result<Vec<u8>, AllocError>
+    ensures { IfOk result (λ r. r.items ≡ name.now ++ (codes " accepted new=" ++ (decimal new ++ (codes " known=" ++ (decimal known ++ (10 ∷ [])))))) }
+{
+    let line = format!(in alloc; "{name} accepted new={new} known={known}\n")?;
+    Ok(line.into_bytes())
+}
+
+/// What became of a file.
+fn take_line(
+    alloc: Global,
+    name: &str,
+    answer: &Result<Receipt, Refusal>,
+) -> Result<Vec<u8>, AllocError>
+    ensures { IfOk result (λ r. (spell : ℕ → List ℕ) → IsSpelling spell → r.items ≡ take_line spell name.now answer.now) }
+{
+    match answer {
+        Ok(receipt) => {
+            let line = accepted_line(alloc, name, receipt.new, receipt.known)?;
+            Ok(line)
+        }
+        Err(refusal) => refused_line(alloc, name, refusal),
+    }
+}
+
+/// A line a file, in their order. None is written behind one that is not written whole.
+fn put_answers<O: Output>(
+    alloc: Global,
+    out: &mut O,
+    files: &[String],
+    answers: &[Result<Receipt, Refusal>],
+) -> bool
+    ensures { (spell : ℕ → List ℕ) → IsSpelling spell →
+        IsPut (record { before = O.contents out.old; after = O.contents out.new })
+        (take_lines spell (map string_bytes files.now) answers.now) result }
+{
+    for (file, answer) in files.iter().zip(answers) {
+        if !put_line(out, take_line(alloc, file.as_str(), answer)) {
+            return false;
+        }
+    }
+    true
+}
+
+fn answer_status(answer: &Result<Receipt, Refusal>) -> Status
+    ensures { result ≡ answer_status answer.now }
+{
+    match answer {
+        Ok(_) => Status::Done,
+        Err(refusal) => status_of_number(refusal.number()),
+    }
+}
+
+/// The worst that became of a file.
+fn take_status(answers: &[Result<Receipt, Refusal>]) -> Status
+    ensures { result ≡ take_status answers.now }
+{
+    let mut status = Status::Done;
+    for answer in answers {
+        status = worse(status, answer_status(answer));
+    }
+    status
+}
+
+/// Submits each file in the order of the words, whatever became of those before, and writes a line for each.
+pub(crate) fn take<S: Alter, I: Inputs, O: Output, F: Output>(
+    alloc: Global,
+    files: &[String],
+    store: &mut Store<S>,
+    inputs: &mut I,
+    out: &mut O,
+    err: &mut F,
+) -> Status
+    ensures taken { IsTaken S.Store store.old store.new
+        (record { before = O.contents out.old; after = O.contents out.new })
+        (record { before = F.contents err.old; after = F.contents err.new })
+        (I.bytes inputs.old) (map string_bytes files.now) result }
+    ensures same { (name : List ℕ) → I.bytes inputs.new name ≡ I.bytes inputs.old name }
+{
+    let Ok(mut readers) = open_all(alloc, inputs, files) else {
+        return tell_bytes(err, b"take refused E41 Memory\n", Status::Trouble);
+    };
+    let Ok(answers) = submit_all(alloc, store, readers.as_mut_slice()) else {
+        return tell_bytes(err, b"take refused E41 Memory\n", Status::Trouble);
+    };
+    if put_answers(alloc, out, files, answers.as_slice()) {
+        take_status(answers.as_slice())
+    } else {
+        Status::Trouble
+    }
+}

@@ -1,0 +1,12 @@
+pub mod Records
+pub mod CanonicalRecords
+pub mod Files
+pub mod Longest
+pub mod Puts
+pub mod Written
+pub mod SomeFile
+pub mod Exports
+pub mod WalkLemmas
+pub mod Texts
+pub mod Planned
+pub mod Again

@@ -1,0 +1,101 @@
+-- The texts of the records that a walk gives, put out one behind another.
+use Rattle.std.proofs.Common.{◌≡◌, ℕ, ◌+◌, ◌*◌, ◌≤◌, ◌<◌, List, [], ◌++◌, length, take, drop, get_or, refl, sym, ap, ◌∙◌, subst, arith, append-nil, take-append-drop, Some, Err}
+use Rattle.std.specs.List.{flat_map, slice_get}
+use Rattle.std.specs.Io.KnownBytes.{Appends}
+use Rattle.std.proofs.lemmas.Grind.{flat_map-append}
+use Rattle.std.proofs.lemmas.Option.{slice_get_within, get_or_from_slice_get}
+use Rattle.std.proofs.lemmas.List.Elements.{All-get_or}
+use Rattle.edf_fragment.specs.Fragment.{DataRecord}
+use Rattle.edf_export.specs.File.{block_of, record_text, Hold}
+use Rattle.edf_export.specs.Export.{WritesFront}
+use Rattle.edf_export.specs.Inside.Output.{Buffered, Writes, CountsOutputFault, IsPut}
+use Rattle.edf_export.specs.Inside.Walks.{refusal_of, IsWritingFault, CountsWritingFault, IsPutOut}
+use Rattle.edf_export.specs.declared.fault.OutputFault.{OutputFault}
+use Rattle.edf_export.specs.declared.fault.OutputFault.TheVariants.{Write, Memory}
+use Rattle.edf_export.specs.declared.fault.ExportFault.{ExportFault}
+use Rattle.edf_export.proofs.Records.{one-more-text}
+use Rattle.edf_export.proofs.Puts.{writes-then, writes-no-more, writes-same, front-written, all-written}
+
+pub told_writing : (fault : OutputFault) → IsWritingFault (refusal_of fault)
+told_writing Write = tt
+told_writing Memory = tt
+
+pub told_counts : (old new : ℕ) (fault : OutputFault) → CountsOutputFault old new fault → CountsWritingFault old new (refusal_of fault)
+told_counts old new Write counts = counts
+told_counts old new Memory counts = counts
+
+-- what was put is put out
+pub put_out : (a b : Buffered) (bytes : List ℕ) (fault : OutputFault) (told : ExportFault) → told ≡ refusal_of fault → IsPut a b bytes (Err fault) → IsPutOut a b bytes (Err told)
+put_out a b bytes fault told is p = (p.0, subst IsWritingFault (sym is) (told_writing fault))
+
+pub counts_out : (old new : ℕ) (fault : OutputFault) (told : ExportFault) → told ≡ refusal_of fault → CountsOutputFault old new fault → CountsWritingFault old new told
+counts_out old new fault told is counts = subst (CountsWritingFault old new) (sym is) (told_counts old new fault counts)
+
+-- the records so far, the next of which is r
+module _ (base samples fs size i : ℕ) (rs : List DataRecord) (r : DataRecord) (fs-is : fs ≡ base) (size-is : size ≡ 2 * samples)
+    (place : slice_get rs i ≡ Some r) (hold : Hold base samples rs) where
+  abbrev texts : List DataRecord → List ℕ
+  texts = λ l. flat_map (record_text base (2 * samples)) l
+
+  lt : i < length rs
+  lt = slice_get_within rs i r place
+
+  here : get_or rs i r ≡ r
+  here = get_or_from_slice_get rs i r r place
+
+  pub fits_here : length (block_of fs r) ≤ size
+  fits_here =
+      let h : length (block_of base (get_or rs i r)) ≤ 2 * samples = All-get_or (λ x. length (block_of base x) ≤ 2 * samples) rs i r lt hold in
+      let e : length (block_of base r) ≤ 2 * samples = subst (λ (x : DataRecord). length (block_of base x) ≤ 2 * samples) here h in
+      let f : length (block_of fs r) ≤ 2 * samples = subst (λ n. length (block_of n r) ≤ 2 * samples) (sym fs-is) e in
+      omega (arith, f, size-is)
+
+  text-is : record_text fs size r ≡ record_text base (2 * samples) r
+  text-is = ap (λ n. record_text n size r) fs-is ∙ ap (λ n. record_text base n r) size-is
+
+  more : texts (take i rs) ++ record_text fs size r ≡ texts (take (i + 1) rs)
+  more = ap (λ (l : List ℕ). texts (take i rs) ++ l) text-is ∙ one-more-text base (2 * samples) rs i r lt (sym here)
+
+  pub texts_more : (a b c : Buffered) → Writes a b (flat_map (record_text base (2 * samples)) (take i rs)) b.held → Writes b c (record_text fs size r) c.held
+      → Writes a c (flat_map (record_text base (2 * samples)) (take (i + 1) rs)) c.held
+  texts_more a b c w put = writes-same a c _ _ c.held more (writes-then a b c _ _ c.held w put)
+
+  all : texts rs ≡ (texts (take i rs) ++ record_text fs size r) ++ texts (drop (i + 1) rs)
+  all =
+      ap texts (sym (take-append-drop (i + 1) rs)) ∙ flat_map-append (record_text base (2 * samples)) (take (i + 1) rs) (drop (i + 1) rs)
+      ∙ ap (λ (l : List ℕ). l ++ texts (drop (i + 1) rs)) (sym more)
+
+  pub texts_stop : (a b c : Buffered) (left : List ℕ) → Writes a b (flat_map (record_text base (2 * samples)) (take i rs)) b.held → Writes b c (record_text fs size r) left
+      → (rest : List ℕ) × Writes a c (flat_map (record_text base (2 * samples)) rs) rest
+  texts_stop a b c left w put =
+      (left ++ texts (drop (i + 1) rs), writes-same a c _ _ _ (sym all) (writes-no-more a c _ (texts (drop (i + 1) rs)) left (writes-then a b c _ _ left w put)))
+
+-- the records so far, and none behind them
+pub texts_end : (base samples i : ℕ) (rs : List DataRecord) (a b : Buffered) → Writes a b (flat_map (record_text base (2 * samples)) (take i rs)) b.held
+    → (rest : List ℕ) × Writes a b (flat_map (record_text base (2 * samples)) rs) rest
+texts_end base samples i rs a b w =
+    let f : DataRecord → List ℕ = record_text base (2 * samples) in
+    let all : flat_map f (take i rs) ++ flat_map f (drop i rs) ≡ flat_map f rs =
+    sym (flat_map-append f (take i rs) (drop i rs)) ∙ ap (λ (l : List DataRecord). flat_map f l) (take-append-drop i rs) in
+    (b.held ++ flat_map f (drop i rs), writes-same a b _ _ _ all (writes-no-more a b _ (flat_map f (drop i rs)) b.held w))
+
+-- ---- from an empty buffer: a header, and a body behind it
+
+module _ (a b : Buffered) (header body : List ℕ) (none : a.held ≡ []) where
+  pub header_stops : (left : List ℕ) → Writes a b header left → WritesFront a.contents b.contents (header ++ body)
+  header_stops left w = front-written a b header (header ++ body) body left none refl w
+
+  module _ (c : Buffered) (head : Writes a b header b.held) where
+    pub body_stops : (left : List ℕ) → Writes b c body left → WritesFront a.contents c.contents (header ++ body)
+    body_stops left w = front-written a c (header ++ body) (header ++ body) [] left none (sym (append-nil (header ++ body))) (writes-then a b c header body left head w)
+
+    module _ (d : Buffered) (put : Writes b c body c.held) where
+      whole : Writes a c (header ++ body) c.held
+      whole = writes-then a b c header body c.held head put
+
+      pub flush_stops : (left : List ℕ) → Writes c d [] left → WritesFront a.contents d.contents (header ++ body)
+      flush_stops left w =
+          front-written a d ((header ++ body) ++ []) (header ++ body) [] left none (sym (append-nil (header ++ body)) ∙ sym (append-nil ((header ++ body) ++ []))) (writes-then a c d (header ++ body) [] left whole w)
+
+      pub all_sent : Writes c d [] [] → Appends a.contents d.contents (header ++ body)
+      all_sent w = all-written a d (header ++ body) none (subst (λ (l : List ℕ). Writes a d l []) (append-nil (header ++ body)) (writes-then a c d (header ++ body) [] [] whole w))

@@ -1,0 +1,26 @@
+use Rattle.std.proofs.lemmas.Result.{IfOk-weaker, IfErr-weaker}
+use Rattle.edf_store.proofs.ReadyLemmas.{stays_then}
+use Rattle.edf_export.proofs.Exports.{keeps_same, none_out}
+use Rattle.edf_export.proofs.WalkLemmas.{clean_before}
+use Rattle.edf_export.proofs.recording.export.Goals as goal
+
+pub returns-in-Ok-None-clause-refused : goal.returns-in-Ok-None-clause-refused
+returns-in-Ok-None-clause-refused g c clean h held = (rw c.in-Ok-None.field-0-is at (c.in-Ok-None.ensures.planned clean h held), keeps_same _)
+
+pub returns-in-Err-clause-refused : goal.returns-in-Err-clause-refused
+returns-in-Err-clause-refused g c clean h held = (none_out _ _ _, c.in-Err.ensures.told clean h held)
+
+pub returns-clause-stays : goal.returns-clause-stays
+returns-clause-stays g c = stays_then g.S.Store c.args.store.now c.plan_file.new.store c.write_planned.new.store c.plan_file.ensures.stays c.write_planned.ensures.stays
+
+pub returns-clause-exported : goal.returns-clause-exported
+returns-clause-exported g c clean =
+    let was = clean_before g.S.Store c.plan_file.new.store c.write_planned.new.store c.write_planned.ensures.stays clean in
+    let planned = rw c.in-Ok-Some.field-0-is at (c.in-Ok-Some.ensures.planned was) in
+    IfOk-weaker c.write_planned.result _ _ (λ len found h held. found h (c.plan_file.ensures.stays.holdings h held) (planned h held)) (c.write_planned.ensures.exported clean)
+
+pub returns-clause-refused : goal.returns-clause-refused
+returns-clause-refused g c clean =
+    let was = clean_before g.S.Store c.plan_file.new.store c.write_planned.new.store c.write_planned.ensures.stays clean in
+    let planned = rw c.in-Ok-Some.field-0-is at (c.in-Ok-Some.ensures.planned was) in
+    IfErr-weaker c.write_planned.result _ _ (λ fault found h held. found h (c.plan_file.ensures.stays.holdings h held) (planned h held)) (c.write_planned.ensures.refused clean)

@@ -1,0 +1,40 @@
+-- What putting bytes out through a buffer does: at each answer, the writer's bytes grew by a front of what was to be put.
+use Rattle.std.specs.Prelude.{◌≡◌, ℕ, List, [], ◌++◌, Option, Result, MatchResult}
+use Rattle.std.specs.Io.KnownBytes.{Appends}
+use Rattle.edf_fragment.specs.Failures.{one_more}
+use Rattle.edf_export.specs.declared.fault.OutputFault.{OutputFault}
+use Rattle.edf_export.specs.declared.fault.OutputFault.TheVariants.{Write, Memory}
+
+-- a writer and the buffer before it: what it holds, how many of its writes failed, what is held back
+pub record Buffered : Type 0 where
+  pub contents : Option (List ℕ)
+  pub failures : ℕ
+  pub held : List ℕ
+
+abbrev pub buffered : Option (List ℕ) → ℕ → List ℕ → Buffered
+buffered contents failures held = record { contents = contents; failures = failures; held = held }
+
+-- of what was held back and the bytes behind it, a front was written, and the rest is left
+pub record Writes (before after : Buffered) (bytes left : List ℕ) : Type 0 where
+  pub front : List ℕ
+  pub wrote : Appends before.contents after.contents front
+  pub parts : before.held ++ bytes ≡ front ++ left
+
+-- a write failed where one is told, and none failed before another end
+abbrev pub CountsOutputFault : ℕ → ℕ → OutputFault → Type 0
+CountsOutputFault old new Write = new ≡ one_more old
+CountsOutputFault old new Memory = new ≡ old
+
+-- the bytes were put: written, or held back; or a front was written before the fault
+abbrev pub IsPut : Buffered → Buffered → List ℕ → Result Unit OutputFault → Type 0
+IsPut before after bytes result =
+    MatchResult result
+    (λ _. Writes before after bytes after.held × (after.failures ≡ before.failures))
+    (λ fault. ((left : List ℕ) × Writes before after bytes left) × CountsOutputFault before.failures after.failures fault)
+
+-- all that was held back is written; or a front of it
+abbrev pub IsFlushed : Buffered → Buffered → Result Unit OutputFault → Type 0
+IsFlushed before after result =
+    MatchResult result
+    (λ _. Writes before after [] [] × (after.held ≡ []) × (after.failures ≡ before.failures))
+    (λ fault. ((left : List ℕ) × Writes before after [] left) × (fault ≡ Write) × (after.failures ≡ one_more before.failures))

@@ -1,0 +1,75 @@
+-- What the two walks over the records of a recording find, and what the second puts out.
+use Rattle.std.specs.Prelude.{◌≡◌, ℕ, ◌≤◌, List, [], length, Option, Some, None, Result, MatchResult, All}
+use Rattle.std.specs.Io.KnownBytes.{Appends}
+use Rattle.edf_fragment.specs.Failures.{one_more}
+use Rattle.edf_header.specs.Key.{Key, IsKey}
+use Rattle.edf_fragment.specs.Fragment.{DataRecord}
+use Rattle.edf_fragment.specs.Sound.{AreSound}
+use Rattle.edf_store.specs.Fault.{IsStoreRefusal}
+use Rattle.edf_store.specs.Listed.{start_at}
+use Rattle.edf_export.specs.File.{second_of, block_of, Hold}
+use Rattle.edf_export.specs.Export.{WritesFront}
+use Rattle.edf_export.specs.Inside.Output.{Buffered, Writes}
+use Rattle.edf_export.specs.declared.plan.Plan.{Plan}
+use Rattle.edf_export.specs.declared.fault.OutputFault.{OutputFault}
+use Rattle.edf_export.specs.declared.fault.OutputFault.TheVariants.{Write as Failed, Memory as NoRoom}
+use Rattle.edf_export.specs.declared.fault.ExportFault.{ExportFault}
+use Rattle.edf_export.specs.declared.fault.ExportFault.TheVariants.{NoRecording, Store, Memory, Write}
+
+-- the longest block of the records has so many bytes
+pub record IsLongest (file_start longest : ℕ) (records : List DataRecord) : Type 0 where
+  pub holds : All (λ r. length (block_of file_start r) ≤ longest) records
+  pub least : (n : ℕ) → All (λ r. length (block_of file_start r) ≤ n) records → longest ≤ n
+
+-- the records are sound ones of the key, and at most so many
+pub record IsSoundRecording (cap : ℕ) (k : Key) (records : List DataRecord) : Type 0 where
+  pub key : IsKey k
+  pub sound : AreSound k 0 records
+  pub few : length records ≤ cap
+
+-- the plan is that of the records' file
+pub record IsPlanOf (k : Key) (records : List DataRecord) (plan : Plan) : Type 0 where
+  pub recording : IsSoundRecording 99_999_999 k records
+  pub count : plan.records ≡ length records
+  pub first : start_at records 0 ≡ Some plan.first
+  pub holds : Hold (second_of plan.first) plan.samples records
+  pub least : (fewer : ℕ) → Hold (second_of plan.first) fewer records → plan.samples ≤ fewer
+
+-- there is a plan where there are records
+abbrev pub IsPlanned : Key → List DataRecord → Option Plan → Type 0
+IsPlanned k records None = records ≡ []
+IsPlanned k records (Some plan) = IsPlanOf k records plan
+
+-- a fault of the output, told as one of the export
+abbrev pub refusal_of : OutputFault → ExportFault
+refusal_of Failed = Write
+refusal_of NoRoom = Memory
+
+-- a write failed where that is told, and none did before another refusal; something is held
+abbrev pub CountsWritingFault : ℕ → ℕ → ExportFault → Type 0
+CountsWritingFault old new NoRecording = ⊥
+CountsWritingFault old new (Store fault) = new ≡ old
+CountsWritingFault old new Memory = new ≡ old
+CountsWritingFault old new Write = new ≡ one_more old
+
+abbrev pub CountsWriting : {A : Type 0} → ℕ → ℕ → Result A ExportFault → Type 0
+CountsWriting old new result = MatchResult result (λ _. new ≡ old) (CountsWritingFault old new)
+
+-- a fault met while a file is written
+abbrev pub IsWritingFault : ExportFault → Type 0
+IsWritingFault NoRecording = ⊥
+IsWritingFault (Store fault) = IsStoreRefusal fault
+IsWritingFault Memory = Unit {0}
+IsWritingFault Write = Unit {0}
+
+-- the bytes were put: written, or held back; or a front was written before the fault
+abbrev pub IsPutOut : Buffered → Buffered → List ℕ → Result Unit ExportFault → Type 0
+IsPutOut before after bytes result =
+    MatchResult result
+    (λ _. Writes before after bytes after.held)
+    (λ fault. ((left : List ℕ) × Writes before after bytes left) × IsWritingFault fault)
+
+-- just these bytes were written, or a front of them
+abbrev pub IsSentOut : Option (List ℕ) → Option (List ℕ) → List ℕ → Result Unit ExportFault → Type 0
+IsSentOut before after bytes result =
+    MatchResult result (λ _. Appends before after bytes) (λ fault. WritesFront before after bytes × IsWritingFault fault)

@@ -1,0 +1,55 @@
+//! A data record as it stands in a canonical file.
+
+ghost use Rattle.std.specs.Prelude.{◌≤◌, length};
+ghost use Rattle.edf_export.specs.File.{block_of, filled_block, record_text};
+ghost use Rattle.edf_export.specs.Inside.Output.{buffered, IsPut};
+
+use crate::fault::OutputFault;
+use crate::output::{put, put_zeros};
+use edf_fragment::{Output, Record};
+use edf_tal::write_block;
+use edf_time::Instant;
+use std::alloc::Global;
+
+/// Puts the block of a data record, and zeros behind it up to `size` bytes.
+fn put_block<W: Output>(
+    alloc: Global,
+    out: &mut W,
+    held: &mut Vec<u8>,
+    data_record: &Record,
+    file_start: Instant,
+    size: usize,
+) -> Result<(), OutputFault>
+    requires { length (block_of file_start data_record.now) ≤ size }
+    ensures { IsPut (buffered (W.contents out.old) (W.failures out.old) held.old.items)
+        (buffered (W.contents out.new) (W.failures out.new) held.new.items)
+        (filled_block file_start size data_record.now) result }
+{
+    let Ok(block) = write_block(alloc, data_record.start(), data_record.notes(), file_start) else {
+        return Err(OutputFault::Memory);
+    };
+    match put(out, held, block.as_slice()) {
+        Ok(()) => put_zeros(out, held, size - block.len()),
+        Err(fault) => Err(fault),
+    }
+}
+
+/// Puts a data record: its samples, its block and the fill.
+pub(crate) fn put_record<W: Output>(
+    alloc: Global,
+    out: &mut W,
+    held: &mut Vec<u8>,
+    data_record: &Record,
+    file_start: Instant,
+    size: usize,
+) -> Result<(), OutputFault>
+    requires { length (block_of file_start data_record.now) ≤ size }
+    ensures { IsPut (buffered (W.contents out.old) (W.failures out.old) held.old.items)
+        (buffered (W.contents out.new) (W.failures out.new) held.new.items)
+        (record_text file_start size data_record.now) result }
+{
+    match put(out, held, data_record.samples()) {
+        Ok(()) => put_block(alloc, out, held, data_record, file_start, size),
+        Err(fault) => Err(fault),
+    }
+}

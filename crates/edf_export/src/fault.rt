@@ -1,0 +1,49 @@
+//! Why a call of this crate is refused.
+
+use edf_store::StoreFault;
+use thiserror::Error;
+
+/// Why a recording is not exported, or not to its end.
+#[derive(Clone, Copy, Debug, PartialEq, Eq, Drop, Error)]
+pub enum ExportFault {
+    /// E44: nothing is held under the identity. Nothing was written.
+    #[error("nothing is held under the identity")]
+    NoRecording,
+    /// E41, E42 or E45: the store refused.
+    #[error("{0}")]
+    Store(StoreFault),
+    /// E41: memory ran out.
+    #[error("out of memory")]
+    Memory,
+    /// E43: a write failed, or took none of some bytes.
+    #[error("a write failed")]
+    Write,
+}
+
+impl ExportFault {
+    ghost use Rattle.std.specs.Prelude.{◌≡◌};
+    ghost use Rattle.edf_export.specs.Export.{export_fault_number};
+
+    /// The refusal's number.
+    pub fn number(&self) -> u8
+        ensures { result ≡ export_fault_number self.now }
+    {
+        match self {
+            ExportFault::NoRecording => 44,
+            ExportFault::Store(fault) => fault.number(),
+            ExportFault::Memory => 41,
+            ExportFault::Write => 43,
+        }
+    }
+}
+
+/// Why bytes could not be put out.
+#[derive(Clone, Copy, Debug, PartialEq, Eq, Drop, Error)]
+pub(crate) enum OutputFault {
+    /// A write failed, or took none of some bytes.
+    #[error("a write failed")]
+    Write,
+    /// Memory ran out.
+    #[error("out of memory")]
+    Memory,
+}

@@ -1,0 +1,43 @@
+//! Laws of canonical files: each function has a law for a contract, and does nothing.
+
+ghost use Rattle.std.specs.Prelude.{◌≡◌, ℕ, ◌≤◌, List, length, Option};
+ghost use Rattle.edf_header.specs.Key.{Key, IsKey};
+ghost use Rattle.edf_fragment.specs.Fragment.{DataRecord, Spells};
+ghost use Rattle.edf_fragment.specs.Sound.{AreSound};
+ghost use Rattle.edf_holdings.specs.Holdings.{Holdings, IsSound};
+ghost use Rattle.edf_export.specs.File.{IsCanonicalFile};
+ghost use Rattle.edf_export.specs.Export.{IsExported};
+ghost use Rattle.edf_export.specs.Again.{IsAcceptedAgain};
+
+/// Records have one canonical file at most.
+pub fn one_canonical_file()
+    ensures { (file other : List ℕ) (key : Key) (records : List DataRecord) →
+        IsCanonicalFile file key records → IsCanonicalFile other key records → file ≡ other }
+{}
+
+/// Sound records of a key have a canonical file, where they are 1 to 99,999,999; and so have those of each fragment.
+pub fn some_canonical_file()
+    ensures sound { (key : Key) (records : List DataRecord) →
+        IsKey key → AreSound key 0 records → 1 ≤ length records → length records ≤ 99_999_999 →
+        (file : List ℕ) × IsCanonicalFile file key records }
+    ensures spelled { (bytes : List ℕ) (key : Key) (records : List DataRecord) →
+        Spells bytes key records → (file : List ℕ) × IsCanonicalFile file key records }
+{}
+
+/// A canonical file is a fragment of just its key and records; so it is its own canonical file.
+pub fn a_canonical_file_is_read_again()
+    ensures { (file : List ℕ) (key : Key) (records : List DataRecord) → IsCanonicalFile file key records → Spells file key records }
+{}
+
+/// An export is a fragment of just the key and the data records that were exported.
+pub fn an_export_is_a_fragment()
+    ensures { (before after : Option (List ℕ)) (key : Key) (records : List DataRecord) (len : ℕ) →
+        (export : IsExported before after key records len) → Spells export.file key records }
+{}
+
+/// What is exported of sound holdings is accepted again: by themselves with nothing new, and where nothing is held with every
+/// data record new; then it is exported as it was.
+pub fn an_export_is_accepted_again()
+    ensures { (cap : ℕ) (h : Holdings) (key : Key) (file : List ℕ) →
+        IsSound cap h → IsCanonicalFile file key (h key) → IsAcceptedAgain cap h key file }
+{}

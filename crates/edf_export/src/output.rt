@@ -1,0 +1,93 @@
+//! Writing through a buffer of 64 KiB, which the caller keeps beside its writer.
+
+ghost use Rattle.std.specs.Prelude.{◌≡◌, ℕ, ◌-◌, ◌++◌, [], List, Option, length, replicate};
+ghost use Rattle.edf_export.specs.Inside.Output.{buffered, IsPut, IsFlushed};
+
+use crate::fault::OutputFault;
+use edf_fragment::{Output, send};
+
+/// How many bytes are held back at most.
+const CAPACITY: usize = 65_536;
+
+/// Writes out what is held.
+pub(crate) fn flush<W: Output>(out: &mut W, held: &mut Vec<u8>) -> Result<(), OutputFault>
+    ensures { IsFlushed (buffered (W.contents out.old) (W.failures out.old) held.old.items)
+        (buffered (W.contents out.new) (W.failures out.new) held.new.items) result }
+{
+    if !send(out, held.as_slice()) {
+        return Err(OutputFault::Write);
+    }
+    held.clear();
+    Ok(())
+}
+
+/// Writes bytes out behind those that are held.
+fn put_through<W: Output>(out: &mut W, held: &mut Vec<u8>, bytes: &[u8]) -> Result<(), OutputFault>
+    ensures { IsPut (buffered (W.contents out.old) (W.failures out.old) held.old.items)
+        (buffered (W.contents out.new) (W.failures out.new) held.new.items) bytes.now result }
+{
+    match flush(out, held) {
+        Ok(()) => {}
+        Err(fault) => return Err(fault),
+    }
+    if !send(out, bytes) {
+        return Err(OutputFault::Write);
+    }
+    Ok(())
+}
+
+/// Holds bytes back behind those that are held.
+fn hold<W: Output>(out: &mut W, held: &mut Vec<u8>, bytes: &[u8]) -> Result<(), OutputFault>
+    ensures { IsPut (buffered (W.contents out.old) (W.failures out.old) held.old.items)
+        (buffered (W.contents out.new) (W.failures out.new) held.new.items) bytes.now result }
+{
+    match held.extend_from_slice(bytes) {
+        Ok(()) => Ok(()),
+        Err(_) => Err(OutputFault::Memory),
+    }
+}
+
+/// Holds the bytes back behind those that are held, where there is room, and else writes.
+pub(crate) fn put<W: Output>(
+    out: &mut W,
+    held: &mut Vec<u8>,
+    bytes: &[u8],
+) -> Result<(), OutputFault>
+    ensures { IsPut (buffered (W.contents out.old) (W.failures out.old) held.old.items)
+        (buffered (W.contents out.new) (W.failures out.new) held.new.items) bytes.now result }
+{
+    if bytes.len() >= CAPACITY {
+        return put_through(out, held, bytes);
+    }
+    if bytes.len() <= CAPACITY.saturating_sub(held.len()) {
+        return hold(out, held, bytes);
+    }
+    match flush(out, held) {
+        Ok(()) => hold(out, held, bytes),
+        Err(fault) => Err(fault),
+    }
+}
+
+/// Zeros, as many as are put at once.
+const ZEROS: [u8; 4_096] = [0; 4_096];
+
+/// Puts so many zeros.
+pub(crate) fn put_zeros<W: Output>(
+    out: &mut W,
+    held: &mut Vec<u8>,
+    count: usize,
+) -> Result<(), OutputFault>
+    ensures { IsPut (buffered (W.contents out.old) (W.failures out.old) held.old.items)
+        (buffered (W.contents out.new) (W.failures out.new) held.new.items) (replicate count 0) result }
+{
+    let mut left = count;
+    while left > 0 {
+        let piece = left.min(4_096);
+        match put(out, held, &ZEROS[..piece]) {
+            Ok(()) => {}
+            Err(fault) => return Err(fault),
+        }
+        left -= piece;
+    }
+    Ok(())
+}

@@ -1,0 +1,115 @@
+//! What is known of a file before its first byte is written.
+
+ghost use Rattle.std.specs.Prelude.{◌≡◌, Err, None, IsTrue, ◌≤◌, ◌<◌, ℕ, false, length, IfOk, IfErr, IfSome, MatchOption};
+ghost use Rattle.sqlite.specs.State.{HasCleanDisk};
+ghost use Rattle.edf_header.specs.Key.{Key};
+ghost use Rattle.edf_holdings.specs.Holdings.{Holdings};
+ghost use Rattle.edf_store.specs.Fault.{IsStoreRefusal};
+ghost use Rattle.edf_store.specs.Held.{at, Holds, Stays};
+ghost use Rattle.edf_store.specs.Walk.{IsBehind, StandsSomewhere};
+ghost use Rattle.edf_export.specs.Inside.Walks.{IsPlanned, IsLongest, IsSoundRecording};
+
+use edf_header::Identity;
+use edf_store::{Records, Store, StoreFault};
+use edf_tal::block_len;
+use edf_time::Instant;
+use sqlite::Alter;
+
+/// How many data records a file has, when the first of them begins, and how many samples, two bytes each, hold the longest
+/// annotations block.
+#[derive(Clone, Copy, Debug, PartialEq, Eq, Drop)]
+pub(crate) struct Plan {
+    pub(crate) records: u32,
+    pub(crate) first: Instant,
+    pub(crate) samples: u32,
+}
+
+/// The bytes of the longest block of so many data records, onsets counted from `file_start`.
+fn longest_block<S: Alter>(
+    walk: &mut Records<'_, S>,
+    count: u32,
+    file_start: Instant,
+) -> Result<usize, StoreFault>
+    requires going { walk.old.failed ≡ false }
+    requires ready { StandsSomewhere walk.old.store.now.cap (at S.Store walk.old.store.now) walk.old.recording walk.old.after }
+    ensures same_reference { walk.new.store.ghost_name ≡ walk.old.store.ghost_name }
+    ensures stays { Stays S.Store walk.old.store.now walk.new.store.now }
+    ensures longest { HasCleanDisk (at S.Store walk.new.store.now) → IfOk result (λ longest. (h : Holdings) (k : Key) →
+        IsBehind walk.old.store.now.cap (at S.Store walk.old.store.now) walk.old.recording walk.old.after h k 0 →
+        length (h k) ≡ count → IsLongest file_start longest (h k)) }
+    ensures bound { IfOk result (λ longest. longest ≤ 1_450_045) }
+    ensures some { IfOk result (λ longest. 0 < count → 0 < longest) }
+    ensures told { HasCleanDisk (at S.Store walk.new.store.now) → IfErr result (λ fault. (h : Holdings) (k : Key) →
+        IsBehind walk.old.store.now.cap (at S.Store walk.old.store.now) walk.old.recording walk.old.after h k 0 →
+        length (h k) ≡ count → IsStoreRefusal fault) }
+{
+    let mut longest = 0usize;
+    for _ in 0..count {
+        match walk.next() {
+            Ok(Some(data_record)) => {
+                let len = block_len(data_record.start(), data_record.notes(), file_start);
+                longest = longest.max(len);
+            }
+            Ok(None) => return Err(StoreFault::Foreign),
+            Err(fault) => return Err(fault),
+        }
+    }
+    Ok(longest)
+}
+
+/// The bytes of the longest block of the data records that an identity holds, which are so many.
+fn measure<S: Alter>(
+    store: &mut Store<S>,
+    identity: &Identity,
+    count: u32,
+    file_start: Instant,
+) -> Result<usize, StoreFault>
+    ensures stays { Stays S.Store store.old store.new }
+    ensures longest { HasCleanDisk (at S.Store store.new) → IfOk result (λ longest. (h : Holdings) → Holds S.Store store.old h →
+        length (h identity.now) ≡ count → IsLongest file_start longest (h identity.now)) }
+    ensures sound { HasCleanDisk (at S.Store store.new) → IfOk result (λ longest. (h : Holdings) → Holds S.Store store.old h →
+        IsSoundRecording store.new.cap identity.now (h identity.now)) }
+    ensures bound { IfOk result (λ longest. longest ≤ 1_450_045) }
+    ensures some { IfOk result (λ longest. 0 < count → 0 < longest) }
+    ensures told { HasCleanDisk (at S.Store store.new) → IfErr result (λ fault. (h : Holdings) → Holds S.Store store.old h →
+        length (h identity.now) ≡ count → IsStoreRefusal fault) }
+{
+    let mut walk = match store.records(identity) {
+        Ok(walk) => walk,
+        Err(fault) => return Err(fault),
+    };
+    longest_block(&mut walk, count, file_start)
+}
+
+/// What a first walk over the data records of an identity tells of its file; `None` where it holds nothing.
+pub(crate) fn plan_file<S: Alter>(
+    store: &mut Store<S>,
+    identity: &Identity,
+) -> Result<Option<Plan>, StoreFault>
+    ensures stays { Stays S.Store store.old store.new }
+    ensures planned { HasCleanDisk (at S.Store store.new) → IfOk result (λ plan. (h : Holdings) → Holds S.Store store.old h →
+        IsPlanned identity.now (h identity.now) plan) }
+    ensures records { IfOk result (λ plan. IfSome plan (λ p. (1 ≤ p.records) × (p.records ≤ 99_999_999))) }
+    ensures samples { IfOk result (λ plan. IfSome plan (λ p. (1 ≤ p.samples) × (p.samples ≤ 725_023))) }
+    ensures told { HasCleanDisk (at S.Store store.new) → IfErr result (λ fault. (h : Holdings) → Holds S.Store store.old h →
+        IsStoreRefusal fault) }
+    ensures busy { IsTrue (at S.Store store.old).in_transaction → result ≡ Err (StoreFault.Store None) }
+{
+    let summary = match store.summary(identity) {
+        Ok(Some(summary)) => summary,
+        Ok(None) => return Ok(None),
+        Err(fault) => return Err(fault),
+    };
+    let longest = match measure(store, identity, summary.records, summary.first.second()) {
+        Ok(longest) => longest as u32,
+        Err(fault) => return Err(fault),
+    };
+    if summary.records == 0 || summary.records > store.cap() {
+        return Err(StoreFault::Foreign);
+    }
+    Ok(Some(Plan {
+        records: summary.records,
+        first: summary.first,
+        samples: longest / 2 + longest % 2,
+    }))
+}

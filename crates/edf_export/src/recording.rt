@@ -1,0 +1,49 @@
+//! One recording out of the store, as its canonical file.
+
+ghost use Rattle.std.specs.Prelude.{◌≡◌, None, Err, IsTrue, IfOk, IfErr};
+ghost use Rattle.std.specs.Io.KnownBytes.{Keeps};
+ghost use Rattle.sqlite.specs.State.{HasCleanDisk};
+ghost use Rattle.edf_holdings.specs.Holdings.{Holdings};
+ghost use Rattle.edf_store.specs.Held.{at, Holds, Stays};
+ghost use Rattle.edf_export.specs.Export.{IsExported, IsNotExported, CountsExport};
+
+use crate::fault::ExportFault;
+use crate::plan::plan_file;
+use crate::writing::write_planned;
+use edf_fragment::Output;
+use edf_header::Identity;
+use edf_store::{Store, StoreFault};
+use sqlite::Alter;
+use std::alloc::Global;
+
+/// Writes the canonical EDF+D file of what is held under an identity, and tells its length in bytes.
+///
+/// The data records stand in it by rising starts, with onsets that count from the second in which the first begins. One of
+/// them is in memory at a time, beside a buffer of 64 KiB. The store stays as it is. The writer is not flushed.
+///
+/// # Errors
+/// `NoRecording` where nothing is held under the identity; then nothing was written. `Store` where the store refuses a read,
+/// E42 without a cause where the connection was left in a transaction. `Memory` where memory runs out, `Write` where a write
+/// fails or takes none of some bytes. Then a front of the file may have been written.
+pub fn export<S: Alter, W: Output>(
+    alloc: Global,
+    store: &mut Store<S>,
+    identity: &Identity,
+    out: &mut W,
+) -> Result<u64, ExportFault>
+    ensures stays { Stays S.Store store.old store.new }
+    ensures exported { HasCleanDisk (at S.Store store.new) → IfOk result (λ len. (h : Holdings) → Holds S.Store store.old h →
+        IsExported (W.contents out.old) (W.contents out.new) identity.now (h identity.now) len) }
+    ensures refused { HasCleanDisk (at S.Store store.new) → IfErr result (λ fault. (h : Holdings) → Holds S.Store store.old h →
+        IsNotExported (W.contents out.old) (W.contents out.new) identity.now (h identity.now) fault) }
+    ensures nothing { result ≡ Err ExportFault.NoRecording → Keeps (W.contents out.old) (W.contents out.new) }
+    ensures counted { CountsExport (W.failures out.old) (W.failures out.new) result }
+    ensures busy { IsTrue (at S.Store store.old).in_transaction → result ≡ Err (ExportFault.Store (StoreFault.Store None)) }
+{
+    let plan = match plan_file(store, identity) {
+        Ok(Some(plan)) => plan,
+        Ok(None) => return Err(ExportFault::NoRecording),
+        Err(fault) => return Err(ExportFault::Store(fault)),
+    };
+    write_planned(alloc, store, identity, out, plan)
+}

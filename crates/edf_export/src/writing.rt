@@ -1,0 +1,197 @@
+//! A file written data record by data record, in a second walk.
+
+ghost use Rattle.std.specs.Prelude.{◌≡◌, ℕ, ◌*◌, ◌≤◌, ◌++◌, false, length, IfOk, IfErr};
+ghost use Rattle.std.specs.List.{flat_map};
+ghost use Rattle.sqlite.specs.State.{HasCleanDisk};
+ghost use Rattle.edf_header.specs.Key.{Key};
+ghost use Rattle.edf_holdings.specs.Holdings.{Holdings};
+ghost use Rattle.edf_store.specs.Held.{at, Holds, Stays};
+ghost use Rattle.edf_store.specs.Walk.{IsBehind, StandsSomewhere};
+ghost use Rattle.edf_export.specs.File.{second_of, block_of, record_text};
+ghost use Rattle.edf_export.specs.Export.{IsExported, IsNotExported};
+ghost use Rattle.edf_export.specs.Inside.Output.{buffered};
+ghost use Rattle.edf_export.specs.Inside.Walks.{refusal_of, IsPlanOf, IsPutOut, IsSentOut, CountsWriting};
+
+use crate::data_record::put_record;
+use crate::fault::{ExportFault, OutputFault};
+use crate::output::{flush, put};
+use crate::plan::Plan;
+use edf_fragment::{Output, Record};
+use edf_header::{Identity, write_header};
+use edf_store::{Records, Store, StoreFault};
+use edf_tal::block_len;
+use edf_time::Instant;
+use sqlite::Alter;
+use std::alloc::Global;
+
+fn refusal_of(fault: OutputFault) -> ExportFault
+    ensures { result ≡ refusal_of fault }
+{
+    match fault {
+        OutputFault::Write => ExportFault::Write,
+        OutputFault::Memory => ExportFault::Memory,
+    }
+}
+
+/// Puts a data record whose block has at most `size` bytes; a longer one is foreign.
+fn put_fitting<W: Output>(
+    alloc: Global,
+    out: &mut W,
+    held: &mut Vec<u8>,
+    data_record: &Record,
+    file_start: Instant,
+    size: usize,
+) -> Result<(), ExportFault>
+    ensures put { length (block_of file_start data_record.now) ≤ size →
+        IsPutOut (buffered (W.contents out.old) (W.failures out.old) held.old.items)
+        (buffered (W.contents out.new) (W.failures out.new) held.new.items)
+        (record_text file_start size data_record.now) result }
+    ensures counted { CountsWriting (W.failures out.old) (W.failures out.new) result }
+{
+    if block_len(data_record.start(), data_record.notes(), file_start) > size {
+        return Err(ExportFault::Store(StoreFault::Foreign));
+    }
+    match put_record(alloc, out, held, data_record, file_start, size) {
+        Ok(()) => Ok(()),
+        Err(fault) => Err(refusal_of(fault)),
+    }
+}
+
+/// Puts the data records of a walk, which are as many as planned.
+fn put_walk<S: Alter, W: Output>(
+    alloc: Global,
+    walk: &mut Records<'_, S>,
+    out: &mut W,
+    held: &mut Vec<u8>,
+    plan: Plan,
+) -> Result<(), ExportFault>
+    requires going { walk.old.failed ≡ false }
+    requires ready { StandsSomewhere walk.old.store.now.cap (at S.Store walk.old.store.now) walk.old.recording walk.old.after }
+    ensures same_reference { walk.new.store.ghost_name ≡ walk.old.store.ghost_name }
+    ensures stays { Stays S.Store walk.old.store.now walk.new.store.now }
+    ensures put { HasCleanDisk (at S.Store walk.new.store.now) → (h : Holdings) (k : Key) →
+        IsBehind walk.old.store.now.cap (at S.Store walk.old.store.now) walk.old.recording walk.old.after h k 0 →
+        IsPlanOf k (h k) plan →
+        IsPutOut (buffered (W.contents out.old) (W.failures out.old) held.old.items)
+        (buffered (W.contents out.new) (W.failures out.new) held.new.items)
+        (flat_map (record_text (second_of plan.first) (2 * plan.samples)) (h k)) result }
+    ensures counted { CountsWriting (W.failures out.old) (W.failures out.new) result }
+{
+    let file_start = plan.first.second();
+    let size = 2 * plan.samples as usize;
+    for _ in 0..plan.records {
+        let data_record = match walk.next() {
+            Ok(Some(data_record)) => data_record,
+            Ok(None) => return Err(ExportFault::Store(StoreFault::Foreign)),
+            Err(fault) => return Err(ExportFault::Store(fault)),
+        };
+        match put_fitting(alloc, out, held, &data_record, file_start, size) {
+            Ok(()) => {}
+            Err(fault) => return Err(fault),
+        }
+    }
+    Ok(())
+}
+
+/// Writes a header and the data records of a walk behind it, from an empty buffer.
+fn send_file<S: Alter, W: Output>(
+    alloc: Global,
+    walk: &mut Records<'_, S>,
+    out: &mut W,
+    header: &[u8],
+    plan: Plan,
+) -> Result<(), ExportFault>
+    requires going { walk.old.failed ≡ false }
+    requires ready { StandsSomewhere walk.old.store.now.cap (at S.Store walk.old.store.now) walk.old.recording walk.old.after }
+    ensures same_reference { walk.new.store.ghost_name ≡ walk.old.store.ghost_name }
+    ensures stays { Stays S.Store walk.old.store.now walk.new.store.now }
+    ensures sent { HasCleanDisk (at S.Store walk.new.store.now) → (h : Holdings) (k : Key) →
+        IsBehind walk.old.store.now.cap (at S.Store walk.old.store.now) walk.old.recording walk.old.after h k 0 →
+        IsPlanOf k (h k) plan →
+        IsSentOut (W.contents out.old) (W.contents out.new)
+        (header.now ++ flat_map (record_text (second_of plan.first) (2 * plan.samples)) (h k)) result }
+    ensures counted { CountsWriting (W.failures out.old) (W.failures out.new) result }
+{
+    let mut held = Vec::new(alloc);
+    match put(out, &mut held, header) {
+        Ok(()) => {}
+        Err(fault) => return Err(refusal_of(fault)),
+    }
+    match put_walk(alloc, walk, out, &mut held, plan) {
+        Ok(()) => {}
+        Err(fault) => return Err(fault),
+    }
+    match flush(out, &mut held) {
+        Ok(()) => Ok(()),
+        Err(fault) => Err(refusal_of(fault)),
+    }
+}
+
+/// Writes a header and behind it the data records that an identity holds.
+fn send_recording<S: Alter, W: Output>(
+    alloc: Global,
+    store: &mut Store<S>,
+    identity: &Identity,
+    out: &mut W,
+    header: &[u8],
+    plan: Plan,
+) -> Result<(), ExportFault>
+    ensures stays { Stays S.Store store.old store.new }
+    ensures sent { HasCleanDisk (at S.Store store.new) → (h : Holdings) → Holds S.Store store.old h →
+        IsPlanOf identity.now (h identity.now) plan →
+        IsSentOut (W.contents out.old) (W.contents out.new)
+        (header.now ++ flat_map (record_text (second_of plan.first) (2 * plan.samples)) (h identity.now)) result }
+    ensures counted { CountsWriting (W.failures out.old) (W.failures out.new) result }
+{
+    let mut walk = match store.records(identity) {
+        Ok(walk) => walk,
+        Err(fault) => return Err(ExportFault::Store(fault)),
+    };
+    send_file(alloc, &mut walk, out, header, plan)
+}
+
+/// Writes the file that is planned, and tells its length.
+pub(crate) fn write_planned<S: Alter, W: Output>(
+    alloc: Global,
+    store: &mut Store<S>,
+    identity: &Identity,
+    out: &mut W,
+    plan: Plan,
+) -> Result<u64, ExportFault>
+    requires records { (1 ≤ plan.records) × (plan.records ≤ 99_999_999) }
+    requires samples { (1 ≤ plan.samples) × (plan.samples ≤ 725_023) }
+    ensures stays { Stays S.Store store.old store.new }
+    ensures exported { HasCleanDisk (at S.Store store.new) → IfOk result (λ len. (h : Holdings) → Holds S.Store store.old h →
+        IsPlanOf identity.now (h identity.now) plan →
+        IsExported (W.contents out.old) (W.contents out.new) identity.now (h identity.now) len) }
+    ensures refused { HasCleanDisk (at S.Store store.new) → IfErr result (λ fault. (h : Holdings) → Holds S.Store store.old h →
+        IsPlanOf identity.now (h identity.now) plan →
+        IsNotExported (W.contents out.old) (W.contents out.new) identity.now (h identity.now) fault) }
+    ensures counted { CountsWriting (W.failures out.old) (W.failures out.new) result }
+{
+    let Plan {
+        records,
+        first,
+        samples,
+    } = plan;
+    let Ok(header) = write_header(alloc, identity, first, records, samples) else {
+        return Err(ExportFault::Memory);
+    };
+    match send_recording(
+        alloc,
+        store,
+        identity,
+        out,
+        header.as_slice(),
+        Plan {
+            records,
+            first,
+            samples,
+        },
+    ) {
+        Ok(()) => {}
+        Err(fault) => return Err(fault),
+    }
+    let record_bytes = identity.ordinary_bytes() + 2 * samples as usize;
+    Ok(header.len() as u64 + records as u64 * record_bytes as u64)
+}

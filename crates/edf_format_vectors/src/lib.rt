@@ -1,0 +1,16 @@
+//! Tests of the crates below data records, by values from the standards' text: times and decimals, headers, identities,
+//! annotations blocks. They stand in a crate of their own, so that none of those crates is proved once more for its tests.
+#![tactic(auto)]
+
+#[cfg(test)]
+mod blocks;
+#[cfg(test)]
+mod fixed_parts;
+#[cfg(test)]
+mod headers;
+#[cfg(test)]
+mod identities;
+#[cfg(test)]
+mod signal_parts;
+#[cfg(test)]
+mod times;

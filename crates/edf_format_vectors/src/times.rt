@@ -1,0 +1,204 @@
+use edf_time::{
+    Day, DecimalFault, Instant, StartFault, date_field, id_date, id_date_text, instant_text,
+    read_seconds, seconds_len, start_of, time_field, write_seconds,
+};
+use std::alloc::Global;
+
+const SECOND: u64 = 1_000_000_000;
+
+/// 2002-03-02 23:59:50
+const EVENING: u64 = 541_727_990 * SECOND;
+
+/// 2084-12-31 23:59:59.999999999
+const LAST: u64 = 3_155_759_999_999_999_999;
+
+#[test]
+fn decimals_are_read_or_refused(rt: HostRuntime) {
+    for (text, want) in [
+        ("0", Ok(0)),
+        ("007.50", Ok(7_500_000_000)),
+        ("1.0000000000", Ok(SECOND)),
+        ("9223372036.854775807", Ok(9_223_372_036_854_775_807)),
+        ("", Err(DecimalFault::Syntax)),
+        ("1.", Err(DecimalFault::Syntax)),
+        (".5", Err(DecimalFault::Syntax)),
+        ("+1", Err(DecimalFault::Syntax)),
+        ("1.0000000001", Err(DecimalFault::TooFine)),
+        ("9223372036.854775808", Err(DecimalFault::TooLarge)),
+        ("99999999999999999999999999999", Err(DecimalFault::TooLarge)),
+    ] {
+        assert_eq!(rt; read_seconds(text.as_bytes()), want, "at {text}");
+    }
+}
+
+/// Whether a number of nanoseconds is written as this text, and its length told.
+fn is_written(alloc: Global, nanos: u64, text: &str) -> Option<bool> {
+    let written = write_seconds(alloc, nanos).ok()?;
+    Some(written.as_slice() == text.as_bytes() && seconds_len(nanos) == text.len())
+}
+
+#[test]
+fn decimals_are_written_shortest(rt: HostRuntime) {
+    for (nanos, want) in [
+        (0, "0"),
+        (1, "0.000000001"),
+        (25_500_000_000, "25.5"),
+        (10 * SECOND, "10"),
+        (LAST, "3155759999.999999999"),
+        (18_446_744_073_709_551_615, "18446744073.709551615"),
+    ] {
+        let same = is_written(rt.alloc(), nanos, want);
+        assert_eq!(rt; same, Some(true), "at {nanos}");
+    }
+}
+
+/// The second in which a file starts.
+fn second_of(date: &[u8; 8], time: &[u8; 8]) -> Result<u64, StartFault> {
+    match start_of(date, time) {
+        Ok(start) => Ok(start.nanos() / SECOND),
+        Err(fault) => Err(fault),
+    }
+}
+
+#[test]
+fn starts_are_read_or_refused(rt: HostRuntime) {
+    for (date, time, want) in [
+        (b"01.01.85", b"00.00.00", Ok(0)),
+        (b"02.03.02", b"00.00.00", Ok(541_641_600)),
+        (b"02.03.02", b"23.59.50", Ok(541_727_990)),
+        (b"29.02.00", b"00.00.00", Ok(478_396_800)),
+        (b"31.12.84", b"23.59.59", Ok(3_155_759_999)),
+        (b"29.02.01", b"00.00.00", Err(StartFault::Date)),
+        (b"31.02.02", b"23.59.50", Err(StartFault::Date)),
+        (b"31.02.02", b"24.00.00", Err(StartFault::Date)),
+        (b"02-03-02", b"23.59.50", Err(StartFault::Date)),
+        (b"02.03.02", b"24.00.00", Err(StartFault::Time)),
+        (b"02.03.02", b"23.60.00", Err(StartFault::Time)),
+        (b"02.03.02", b"23:59:50", Err(StartFault::Time)),
+    ] {
+        assert_eq!(rt; second_of(date, time), want, "at {want:?}");
+    }
+}
+
+#[test]
+fn dates_of_identification_are_read_or_refused(rt: HostRuntime) {
+    for (text, there) in [
+        ("02-MAR-2002", true),
+        ("29-FEB-2000", true),
+        ("29-FEB-0000", true),
+        ("31-DEC-9999", true),
+        ("29-FEB-1900", false),
+        ("2-MAR-2002", false),
+        ("02-mar-2002", false),
+        ("02-MRZ-2002", false),
+        ("02-MAR-2002 ", false),
+        ("00-MAR-2002", false),
+        ("X", false),
+    ] {
+        assert_eq!(rt; id_date(text.as_bytes()).is_some(), there, "at {text}");
+    }
+    assert!(rt; id_date(b"02-MAY-1951") < id_date(b"01-JAN-1985"));
+}
+
+/// Instants, each with its date and its time in a header, its date in an identification, and its text.
+const INSTANTS: [(u64, &str, &str, &str, &str); 5] = [
+    (
+        0,
+        "01.01.85",
+        "00.00.00",
+        "01-JAN-1985",
+        "1985-01-01T00:00:00",
+    ),
+    (
+        EVENING,
+        "02.03.02",
+        "23.59.50",
+        "02-MAR-2002",
+        "2002-03-02T23:59:50",
+    ),
+    (
+        EVENING + SECOND / 2,
+        "02.03.02",
+        "23.59.50",
+        "02-MAR-2002",
+        "2002-03-02T23:59:50.5",
+    ),
+    (
+        EVENING + 15 * SECOND,
+        "03.03.02",
+        "00.00.05",
+        "03-MAR-2002",
+        "2002-03-03T00:00:05",
+    ),
+    (
+        LAST,
+        "31.12.84",
+        "23.59.59",
+        "31-DEC-2084",
+        "2084-12-31T23:59:59.999999999",
+    ),
+];
+
+/// Whether an instant is written in these texts, and its second and its day read back of them.
+fn stands_as(
+    alloc: Global,
+    nanos: u64,
+    date: &str,
+    time: &str,
+    id: &str,
+    text: &str,
+) -> Option<bool> {
+    let instant = Instant::at(nanos)?;
+    let written = instant_text(alloc, instant).ok()?;
+    Some(
+        date_field(instant).as_slice() == date.as_bytes()
+            && time_field(instant).as_slice() == time.as_bytes()
+            && id_date_text(instant).as_slice() == id.as_bytes()
+            && written.as_slice() == text.as_bytes()
+            && start_of(&date_field(instant), &time_field(instant)) == Ok(instant.second())
+            && id_date(id.as_bytes()) == Some(instant.day()),
+    )
+}
+
+#[test]
+fn instants_are_written_and_read_back(rt: HostRuntime) {
+    for (nanos, date, time, id, text) in INSTANTS {
+        let same = stands_as(rt.alloc(), nanos, date, time, id, text);
+        assert_eq!(rt; same, Some(true), "at {text}");
+    }
+}
+
+/// The nanoseconds of an instant, moved.
+fn moved(nanos: u64, delta: i64) -> Option<u64> {
+    Some(Instant::at(nanos)?.after(delta)?.nanos())
+}
+
+/// How much later one instant is than another.
+fn later(nanos: u64, earlier: u64) -> Option<i64> {
+    Some(Instant::at(nanos)?.since(Instant::at(earlier)?))
+}
+
+/// Whether one instant and its day are before another.
+fn are_before(nanos: u64, other: u64) -> Option<bool> {
+    let one = Instant::at(nanos)?;
+    let two = Instant::at(other)?;
+    let day: Day = two.day();
+    Some(one < two && one.day() < day)
+}
+
+#[test]
+fn instants_stay_in_the_window(rt: HostRuntime) {
+    assert_eq!(rt; Instant::at(LAST + 1), None);
+    for (nanos, delta, want) in [
+        (0, LAST as i64, Some(LAST)),
+        (LAST, -(LAST as i64), Some(0)),
+        (LAST, 1, None),
+        (0, -1, None),
+        (LAST, i64::MAX, None),
+    ] {
+        assert_eq!(rt; moved(nanos, delta), want, "by {delta}");
+    }
+    assert_eq!(rt; later(LAST, 0), Some(LAST as i64));
+    assert_eq!(rt; later(0, LAST), Some(-(LAST as i64)));
+    assert_eq!(rt; are_before(0, LAST), Some(true));
+}

@@ -1,0 +1,93 @@
+//! Readers that end or fail once and then go on: nothing is read behind that.
+
+use edf_fragment::{Counted, FragmentFault, FragmentReader};
+use edf_header::HeaderFault;
+use edf_sample::named::file_q;
+use edf_sample::{StopsOnce, patched};
+use std::alloc::Global;
+
+/// Reads a fragment to its end or its fault, and once more.
+fn read_twice(alloc: Global, input: StopsOnce<'_>) -> Option<FragmentFault> {
+    let mut input = Counted::new(input);
+    let mut reader = match FragmentReader::open(alloc, &mut input) {
+        Ok(reader) => reader,
+        Err(fault) => return Some(fault),
+    };
+    for _ in 0..10u8 {
+        match reader.next() {
+            Ok(Some(_)) => {}
+            Ok(None) => {
+                let _ = reader.next();
+                return None;
+            }
+            Err(fault) => {
+                let _ = reader.next();
+                return Some(fault);
+            }
+        }
+    }
+    None
+}
+
+/// The fault and the number of reads.
+fn drained(
+    alloc: Global,
+    bytes: &[u8],
+    stop: usize,
+    fails: bool,
+) -> (Option<FragmentFault>, usize) {
+    let mut reads = 0;
+    let told = read_twice(alloc, StopsOnce::new(bytes, stop, fails, &mut reads));
+    (told, reads)
+}
+
+/// The same of Q.
+fn drained_q(alloc: Global, stop: usize, fails: bool) -> Option<(Option<FragmentFault>, usize)> {
+    Some(drained(alloc, &file_q(alloc).ok()?, stop, fails))
+}
+
+#[test]
+fn nothing_is_read_behind_an_end_or_a_failed_read(rt: HostRuntime) {
+    let whole = drained_q(rt.alloc(), usize::MAX, false);
+    assert_eq!(rt; whole, Some((None, 779)));
+    for (stop, reads, fault) in [
+        (0usize, 1usize, FragmentFault::Header(HeaderFault::Cut)),
+        (255, 256, FragmentFault::Header(HeaderFault::Cut)),
+        (256, 257, FragmentFault::Header(HeaderFault::CutSignals)),
+        (767, 768, FragmentFault::Header(HeaderFault::CutSignals)),
+        (768, 769, FragmentFault::CutRecord { nth: 1 }),
+        (777, 778, FragmentFault::CutRecord { nth: 1 }),
+    ] {
+        let ended = drained_q(rt.alloc(), stop, false);
+        assert_eq!(rt; ended, Some((Some(fault), reads)), "{stop} bytes");
+        let failed = drained_q(rt.alloc(), stop, true);
+        let read = Some(FragmentFault::Read);
+        assert_eq!(rt; failed, Some((read, reads)), "{stop} bytes");
+    }
+}
+
+/// The number of reads of Q and three spaces, with another text from an offset on, where it is refused.
+fn reads_of_refused(alloc: Global, at: usize, text: &[u8]) -> Option<usize> {
+    let mut bytes = file_q(alloc).ok()?;
+    bytes.extend_from_slice(b"   ").ok()?;
+    let other = patched(alloc, &bytes, at, text).ok()?;
+    let (told, reads) = drained(alloc, &other, usize::MAX, true);
+    match told {
+        Some(_) => Some(reads),
+        None => None,
+    }
+}
+
+#[test]
+fn nothing_is_read_behind_a_refusal(rt: HostRuntime) {
+    let refused: [(usize, &[u8], usize); 4] = [
+        (176, b"24.00.00", 256),
+        (272, b"EDF annotations", 768),
+        (772, b"?", 778),
+        (778, b"-", 779),
+    ];
+    for (at, text, reads) in refused {
+        let told = reads_of_refused(rt.alloc(), at, text);
+        assert_eq!(rt; told, Some(reads), "at {at}");
+    }
+}

@@ -1,7 +1,0 @@
-use Rattle.std.proofs.Common.{◌≡◌, ◌++◌, take}
-use Rattle.std.specs.List.{flat_map}
-use Rattle.edf_header.specs.Signal.{ordinary, rows_of}
-use Rattle.edf_header.proofs.rows.push_ordinary.Given as goal
-
-abbrev pub invariant-loop-i : goal.invariant-loop-i
-invariant-loop-i l = l.out.items ≡ l.fn.out.items ++ flat_map (λ s. s) (ordinary (take l.i (rows_of l.rows)))

@@ -1,0 +1,99 @@
+//! Files and standard input.
+
+ghost use Rattle.std.specs.Io.{ReadsAtMost};
+ghost use Rattle.std.specs.Prelude.{None};
+
+use edf_command::Inputs;
+use edf_fragment::Counted;
+use std::alloc::{AllocError, Global};
+use std::cell::RefCell;
+use std::fs::File;
+use std::io::{self, BufReader, Read, Stdin};
+use std::rc::Rc;
+
+/// How many bytes of a file are asked for at once, and of standard input.
+const PIECE: usize = 16_384;
+
+const STREAM_PIECE: usize = 65_536;
+
+/// What gives each word its reader: a path that of the file, and `-` that of standard input, which reads on where the last stopped.
+#[derive(Drop)]
+pub struct Files<'rt> {
+    rt: &'rt HostRuntime,
+    stream: Rc<RefCell<BufReader<Stdin>>>,
+}
+
+impl<'rt> Files<'rt> {
+    pub fn new(rt: &'rt HostRuntime) -> io::Result<Files<'rt>> {
+        let stream = BufReader::with_capacity(rt.alloc(), STREAM_PIECE, rt.stdin())?;
+        let stream = Rc::new(rt.alloc(), RefCell::new(stream))?;
+        Ok(Files { rt, stream })
+    }
+}
+
+/// Where a reader reads from. A file is opened at its first read, and closed at its end.
+#[derive(Drop)]
+enum Place {
+    Path(String),
+    Open(BufReader<File>),
+    Stream(Rc<RefCell<BufReader<Stdin>>>),
+    Ended,
+}
+
+/// A reader of a file or of standard input.
+#[derive(Drop)]
+pub struct Source<'rt> {
+    rt: &'rt HostRuntime,
+    place: Place,
+}
+
+impl Source<'_> {
+    /// Opens the file, if it is not open yet.
+    fn begin(&mut self) -> io::Result<()> {
+        if let Place::Path(path) = &self.place {
+            let file = File::open(self.rt, path.as_str())?;
+            self.place = Place::Open(BufReader::with_capacity(self.rt.alloc(), PIECE, file)?);
+        }
+        Ok(())
+    }
+
+    /// Reads from the place as it is.
+    fn pull(&mut self, buf: &mut [u8]) -> io::Result<usize>
+        ensures { ReadsAtMost result buf.new }
+    {
+        match &mut self.place {
+            Place::Open(file) => file.read(buf),
+            Place::Stream(stream) => match stream.try_borrow_mut() {
+                Ok(mut stream) => stream.read(buf),
+                Err(_) => Err(io::Error::from(io::ErrorKind::Other)),
+            },
+            _ => Ok(0),
+        }
+    }
+}
+
+impl Read for Source<'_> {
+    fn read(&mut self, buf: &mut [u8]) -> io::Result<usize> {
+        self.begin()?;
+        let count = self.pull(buf)?;
+        if count == 0 && !buf.is_empty() {
+            self.place = Place::Ended;
+        }
+        Ok(count)
+    }
+}
+
+impl<'rt> Inputs for Files<'rt> {
+    type Reader = Counted<Source<'rt>>;
+
+    ghost bytes = { λ _ _. None };
+
+    fn open(&mut self, alloc: Global, name: &str) -> Result<Counted<Source<'rt>>, AllocError> {
+        let place = if name == "-" {
+            Place::Stream(self.stream.clone()?)
+        } else {
+            Place::Path(String::from_str(alloc, name)?)
+        };
+        Ok(Counted::new(Source { rt: self.rt, place }))
+    }
+}

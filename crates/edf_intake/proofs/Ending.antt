@@ -1,0 +1,133 @@
+-- How a submission ends: what its steps left, joined.
+use Rattle.std.proofs.Common.{◌≡◌, ◌≢◌, ℕ, List, Err, refl, sym, subst, ◌∙◌, inl, inr, arith}
+use Rattle.sqlite_trees.specs.declared.store.Store.{Ghosts}
+use Rattle.sqlite.specs.State.{HasCleanDisk, Survives}
+use Rattle.sqlite.proofs.StateLemmas.{survives_weaker}
+use Rattle.edf_header.specs.Key.{Key}
+use Rattle.edf_fragment.specs.Fragment.{DataRecord}
+use Rattle.edf_fragment.specs.Told.{Told, Fragment, Fault}
+use Rattle.edf_fragment.specs.declared.fault.FragmentFault.{FragmentFault}
+use Rattle.edf_holdings.specs.Holdings.{Holdings}
+use Rattle.edf_holdings.specs.Reply.{Reply, Form, reply, after_one}
+use Rattle.edf_rows.specs.Rows.{AreKept}
+use Rattle.edf_tables.proofs.CommitLemmas.{quiet_then}
+use Rattle.edf_store.specs.Held.{Kept, at, Holds, Stays}
+use Rattle.edf_store.specs.Fault.{IsStoreRefusal}
+use Rattle.edf_store.specs.Transaction.{Sees, IsSeen}
+use Rattle.edf_store.specs.declared.fault.StoreFault.{StoreFault}
+use Rattle.edf_store.specs.declared.fault.StoreFault.TheVariants.{Memory, Store, Foreign, Failed}
+use Rattle.edf_store.proofs.ReadyLemmas.{stays_then}
+use Rattle.edf_intake.specs.Source.{Source, ReadsFront}
+use Rattle.edf_intake.specs.Submitted.{AreLeft, Accepts, Refuses, StopsThere, IsSubmitted}
+use Rattle.edf_intake.specs.Inside.Taken.{IsTaken, IsStop, IsRefused}
+use Rattle.edf_intake.specs.declared.receipt.Receipt.{Receipt}
+use Rattle.edf_intake.specs.declared.refusal.Refusal.{Refusal}
+use Rattle.edf_intake.specs.declared.refusal.Refusal.TheVariants as refusal
+use Rattle.edf_intake.specs.declared.refusal.Stop.TheVariants.{Input}
+
+-- a fault of the store, told as a refusal
+pub refused_by : {S : Type 0} (g : Ghosts S) (old new : Kept S) (from to : Source) (fault : StoreFault) (told : Refusal)
+    → (fault ≡ Memory → told ≡ refusal.Memory) → (fault ≢ Memory → told ≡ refusal.Store fault)
+    → StopsThere g old new from to → (HasCleanDisk (at g new) → IsStoreRefusal fault) → IsSubmitted g old new from to (Err told)
+refused_by g old new from to Memory told is other stops own = subst (λ (r : Refusal). IsSubmitted g old new from to (Err r)) (sym (is refl)) stops
+refused_by g old new from to (Store cause) told is other stops own =
+    let no : Store cause ≢ Memory = λ e. cc in
+    subst (λ (r : Refusal). IsSubmitted g old new from to (Err r)) (sym (other no)) (stops, record { other = no; own = own })
+refused_by g old new from to Foreign told is other stops own =
+    let no : Foreign ≢ Memory = λ e. cc in
+    subst (λ (r : Refusal). IsSubmitted g old new from to (Err r)) (sym (other no)) (stops, record { other = no; own = own })
+refused_by g old new from to Failed told is other stops own =
+    let no : Failed ≢ Memory = λ e. cc in
+    subst (λ (r : Refusal). IsSubmitted g old new from to (Err r)) (sym (other no)) (stops, record { other = no; own = own })
+
+reply_to_fault : (cap : ℕ) (h : Holdings) (fault : FragmentFault) → reply cap h (Fault fault) ≡ Form fault
+unfolding reply
+reply_to_fault cap h fault = refl
+
+-- old was held, a transaction saw it as first, and last as it was to end, and new is held then
+module _ {S : Type 0} (g : Ghosts S) (old first last : Kept S) (from to : Source) (begun : Stays g old first) (sees : (h : Holdings) → Holds g old h → Sees g first h)
+    (taken : Stays g first last) where
+  capped : first.cap ≡ old.cap
+  capped = begun.cap
+
+  stays : Stays g old last
+  stays = stays_then g old first last begun taken
+
+  replied : (told : Told) (answer : Reply) → (HasCleanDisk (at g last) → (h : Holdings) → Sees g first h → reply first.cap h told ≡ answer)
+      → HasCleanDisk (at g last) → (h : Holdings) → Holds g old h → reply old.cap h told ≡ answer
+  replied told answer is clean h held = subst (λ (n : ℕ). reply n h told ≡ answer) capped (is clean h (sees h held))
+
+  left : (told : Told) → ((h : Holdings) → Sees g first h → Sees g last (after_one first.cap h told)) → (h : Holdings) → Holds g old h → Sees g last (after_one old.cap h told)
+  left told is h held = subst (λ (n : ℕ). Sees g last (after_one n h told)) capped (is h (sees h held))
+
+  module _ (new : Kept S) where
+    -- what a commit may leave
+    crash_left : (told : Told) → ((h : Holdings) → Sees g first h → Sees g last (after_one first.cap h told)) → Survives (at g last) (at g new) (IsSeen g last) → Survives (at g old) (at g new) (AreLeft g old new told)
+    crash_left told is survives =
+        quiet_then (at g old) (at g last) (at g new) (AreLeft g old new told) stays.crash
+        (survives_weaker (at g last) (at g new) (IsSeen g last) (AreLeft g old new told)
+        (λ clean rows seen h held. subst (λ (n : ℕ). AreKept n rows (after_one old.cap h told)) stays.cap (seen (after_one old.cap h told) (left told is h held))) survives)
+
+    pub accepts : (receipt : Receipt) → IsTaken g first last from to receipt → new.cap ≡ last.cap → ((h : Holdings) → Sees g last h → Holds g new h)
+        → Survives (at g last) (at g new) (IsSeen g last) → Accepts g old new from to receipt
+    accepts receipt t same committed survives = record {
+      records = t.records;
+      read = t.read;
+      reply_is = λ clean h held. replied (Fragment receipt.identity t.records) _ t.reply_is (omega (arith, survives.clean)) h held;
+      leaves = record {
+        cap = same ∙ stays.cap;
+        holdings = λ h held. committed (after_one old.cap h (Fragment receipt.identity t.records)) (left (Fragment receipt.identity t.records) t.sees h held);
+        crash = crash_left (Fragment receipt.identity t.records) t.sees survives;
+      };
+    }
+
+    -- the commit was refused
+    pub stops_at_commit : (receipt : Receipt) → IsTaken g first last from to receipt → new.cap ≡ last.cap → ((h : Holdings) → Holds g last h → Holds g new h)
+        → Survives (at g last) (at g new) (IsSeen g last) → StopsThere g old new from to
+    stops_at_commit receipt t same refused survives = inr (
+      receipt.identity,
+      t.records,
+      t.read,
+      record {
+        cap = same ∙ stays.cap;
+        holdings = λ h held. refused h (stays.holdings h held);
+        crash = crash_left (Fragment receipt.identity t.records) t.sees survives;
+      },
+    )
+
+    -- the transaction was given up
+    module _ (undone : Stays g last new) where
+      pub all_stays : Stays g old new
+      all_stays = stays_then g old last new stays undone
+
+      was : HasCleanDisk (at g new) → HasCleanDisk (at g last)
+      was clean = omega (arith, undone.crash.clean)
+
+      refuses : (answer : Reply) → IsRefused g first last from to answer → (key : Key) × (records : List DataRecord) × Refuses g old new from to (Fragment key records) answer
+      refuses answer r = (r.key, r.records, record { read = r.read; reply_is = λ clean h held. replied (Fragment r.key r.records) answer r.reply_is (was clean) h held; stays = all_stays })
+
+      pub submitted : (told : Refusal) → IsStop g first last from to (Input told) → IsSubmitted g old new from to (Err told)
+      submitted (refusal.Form fault) r = record { read = r; reply_is = λ clean h held. reply_to_fault old.cap h fault; stays = all_stays }
+      submitted (refusal.Overlap start stored) r = refuses _ r
+      submitted (refusal.Differs start) r = refuses _ r
+      submitted (refusal.Full n m cap) r = refuses _ r
+      submitted refusal.Read r = record { read = r; stays = all_stays }
+      submitted refusal.Memory r = inl (all_stays, inr (inr (inl r)))
+      submitted (refusal.Store fault) r = absurd r
+
+      front_of : (told : Refusal) → IsStop g first last from to (Input told) → ReadsFront from to
+      front_of (refusal.Form fault) r = inr (inr (inr (inr (Fault fault, r))))
+      front_of (refusal.Overlap start stored) r = inr (inr (inr (inr (Fragment r.key r.records, r.read))))
+      front_of (refusal.Differs start) r = inr (inr (inr (inr (Fragment r.key r.records, r.read))))
+      front_of (refusal.Full n m cap) r = inr (inr (inr (inr (Fragment r.key r.records, r.read))))
+      front_of refusal.Read r = inr (inr (inr (inl r)))
+      front_of refusal.Memory r = inr (inr (inl r))
+      front_of (refusal.Store fault) r = absurd r
+
+      -- and that was refused
+      pub stops_at_undo : (told : Refusal) → IsStop g first last from to (Input told) → StopsThere g old new from to
+      stops_at_undo told r = inl (all_stays, front_of told r)
+
+      -- or a call before it
+      pub stops_before : ReadsFront from to → StopsThere g old new from to
+      stops_before front = inl (all_stays, front)

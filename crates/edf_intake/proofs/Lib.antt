@@ -1,0 +1,12 @@
+pub mod Ending
+pub mod Passed
+pub mod Walking
+pub mod Steps
+pub mod Taking
+pub mod Finding
+pub mod Conflicts
+pub mod Halting
+pub mod Wholes
+pub mod Places
+pub mod Turns
+pub mod Batches

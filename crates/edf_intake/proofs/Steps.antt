@@ -1,0 +1,109 @@
+-- The loop over the data records of a fragment: its begin, one turn, its end.
+use Rattle.std.proofs.Common.{◌≡◌, ℕ, ◌+◌, ◌<◌, ◌≤◌, List, [], ◌∷◌, ◌++◌, length, Option, Some, None, Ok, sym, subst, arith}
+use Rattle.sqlite_trees.specs.declared.store.Store.{Ghosts}
+use Rattle.sqlite.specs.State.{HasCleanDisk}
+use Rattle.edf_field.specs.Number.{duration_of}
+use Rattle.edf_header.specs.Header.{Layout}
+use Rattle.edf_fragment.specs.Fragment.{DataRecord}
+use Rattle.edf_fragment.specs.Reading.{ReadsHeader, IsAnswer, at_first}
+use Rattle.edf_fragment.specs.Whole.{HasRead, ReadsFragment}
+use Rattle.edf_fragment.specs.declared.progress.Progress.{Progress}
+use Rattle.edf_fragment.specs.declared.progress.Status.TheVariants.{Reading}
+use Rattle.edf_fragment.proofs.Fragments.{reads_none, one_more_read, all_read}
+use Rattle.edf_fragment.proofs.Sound.{read-key, read-sound}
+use Rattle.edf_holdings.specs.Rising.{IsApart}
+use Rattle.edf_holdings.specs.Holdings.{Holdings, put}
+use Rattle.edf_holdings.proofs.Joining.{IsGood-from_sound, apart-sound}
+use Rattle.edf_holdings.proofs.Walked.{Taken, Walked, nothing_read, taken_room}
+use Rattle.edf_rows.proofs.RowsLemmas.{one-holdings}
+use Rattle.edf_store.specs.Held.{Kept, at}
+use Rattle.edf_store.specs.Transaction.{Sees, IsRunning}
+use Rattle.edf_intake.specs.Inside.Step.{IsNext, IsTally}
+use Rattle.edf_intake.specs.declared.tally.Starts.{Starts}
+use Rattle.edf_intake.specs.declared.tally.Tally.{Tally}
+use Rattle.edf_intake.proofs.Walking.{Walking, starts_of, met_next}
+
+-- what a transaction sees is one
+pub seen_is_one : {S : Type 0} (g : Ghosts S) (now : Kept S) (h t : Holdings) → HasCleanDisk (at g now) → Sees g now h → Sees g now t → h ≡ t
+seen_is_one g now h t clean a b =
+    let p = a clean in
+    let q = b clean in
+    one-holdings (at g now).now.trees h t now.cap now.cap p.stand p.sound q.stand q.sound
+
+module _ {S : Type 0} (g : Ghosts S) (first : Kept S) (l : Layout) (before left : Option (List ℕ)) (header : ReadsHeader before left l) (room : ℕ)
+    (space : HasCleanDisk (at g first) → (h : Holdings) → Sees g first h → length (h l.key) + room ≡ first.cap) where
+  held_apart : HasCleanDisk (at g first) → (h : Holdings) → Sees g first h → IsApart (duration_of l.key.duration) 0 (h l.key)
+  held_apart clean h seen = (IsGood-from_sound first.cap h (seen clean).sound).apart l.key
+
+  read_apart : (rest : Option (List ℕ)) (records : List DataRecord) (p : Progress) → HasRead l left rest records p → IsApart (duration_of l.key.duration) 0 records
+  read_apart rest records p read = apart-sound l.key 0 records (read-sound before left rest l records p header read)
+
+  pub at_begin : Walking g first first l left left at_first (record { new = 0; known = 0; clash = None })
+  at_begin = record {
+    records = [];
+    read = reads_none l left;
+    met = λ clean h seen. (h, seen, nothing_read first.cap l.key h);
+    counted = omega arith;
+  }
+
+  -- while no clash was met and there is room, the recording has fewer than the cap
+  pub few_seen : (now : Kept S) (rest : Option (List ℕ)) (p : Progress) (tally : Tally) → Walking g first now l left rest p tally → IsRunning g first
+      → (HasCleanDisk (at g now) → HasCleanDisk (at g first)) → now.cap ≡ first.cap → HasCleanDisk (at g now) → tally.clash ≡ None → tally.new < room
+      → (h : Holdings) → Sees g now h → length (h l.key) < now.cap
+  few_seen now rest p tally w running was same clean none low h seen =
+      let some = running (was clean) in
+      let start : Sees g first some.0 = λ _. some.1 in
+      let m = w.met clean some.0 start in
+      let taken : Taken first.cap l.key some.0 w.records m.0 tally.new tally.known = subst (λ (o : Option Starts). Walked first.cap l.key some.0 w.records m.0 tally.new tally.known (starts_of o)) none m.2 in
+      let few = taken_room first.cap l.key some.0 w.records m.0 tally.new tally.known (read-key before left l header) (held_apart (was clean) some.0 start)
+      (read_apart rest w.records p w.read) taken (omega (arith, low, space (was clean) some.0 start)) in
+      let one : m.0 ≡ h = seen_is_one g now m.0 h clean m.1 seen in
+      let said : length (h l.key) < first.cap = subst (λ (z : Holdings). length (z l.key) < first.cap) one few in
+      subst (λ (n : ℕ). length (h l.key) < n) (sym same) said
+
+  -- one record more
+  pub one_turn : (now next : Kept S) (mid rest : Option (List ℕ)) (p q : Progress) (from to : Tally) (r : DataRecord) → Walking g first now l left mid p from
+      → p.status ≡ Reading → IsAnswer l p q mid rest (Ok (Some r)) → q.given ≡ p.given + 1
+      → (HasCleanDisk (at g next) → HasCleanDisk (at g now)) → (HasCleanDisk (at g now) → HasCleanDisk (at g first))
+      → (HasCleanDisk (at g next) → (h : Holdings) → Sees g now h → (t : Holdings) × Sees g next t × IsNext room l.key r h from t to)
+      → to.new + to.known ≤ from.new + from.known + 1
+      → Walking g first next l left rest q to
+  one_turn now next mid rest p q from to r w going answer given was first_was step counted =
+      let read : HasRead l left rest (w.records ++ r ∷ []) q = (one_more_read l left mid rest w.records p q r w.read going answer).0 in
+      record {
+        records = w.records ++ r ∷ [];
+        read = read;
+        met = λ clean h seen.
+            let m = w.met (was clean) h seen in
+            let n = step clean m.0 m.1 in (
+              n.0,
+              n.1,
+              met_next first.cap room l.key h (read-key before left l header) (held_apart (first_was (was clean)) h seen) (space (first_was (was clean)) h seen) w.records r
+                  (read_apart rest (w.records ++ r ∷ []) q read) m.0 from n.0 to m.2 n.2,
+            );
+        counted = omega (arith, w.counted, counted, given);
+      }
+
+  tally_of : (h t : Holdings) (records : List DataRecord) (new known : ℕ) (clash : Option Starts) → Walked first.cap l.key h records t new known (starts_of clash)
+      → IsTally l.key h records (record { new = new; known = known; clash = clash })
+  tally_of h t records new known None k = record { free = k.free; new_is = k.new_is; all = k.all }
+  tally_of h t records new known (Some s) k = record { pair = k.pair; first = k.first; start = k.start; stored = k.stored }
+
+  -- the end
+  pub at_end : (now : Kept S) (mid rest : Option (List ℕ)) (p q : Progress) (tally : Tally) → Walking g first now l left mid p tally → p.status ≡ Reading
+      → IsAnswer l p q mid rest (Ok None) → (HasCleanDisk (at g now) → HasCleanDisk (at g first))
+      → (records : List DataRecord)
+      × ((other : Option (List ℕ)) → ReadsHeader other left l → ReadsFragment other rest l records)
+      × (HasCleanDisk (at g now) → (h : Holdings) → Sees g first h → IsTally l.key h records tally
+      × (tally.clash ≡ None → tally.new ≤ room → Sees g now (put l.key records h)))
+  at_end now mid rest p q tally w going answer was = (
+    w.records,
+    (λ other head. all_read l other left mid rest w.records p q head w.read going answer),
+    (λ clean h seen.
+        let m = w.met clean h seen in (
+          tally_of h m.0 w.records tally.new tally.known tally.clash m.2,
+          (λ none low.
+              let taken : Taken first.cap l.key h w.records m.0 tally.new tally.known = subst (λ (o : Option Starts). Walked first.cap l.key h w.records m.0 tally.new tally.known (starts_of o)) none m.2 in
+              subst (Sees g now) (taken.whole (omega (arith, low, space (was clean) h seen))) m.1),
+        )),
+  )

@@ -1,0 +1,77 @@
+use Rattle.std.proofs.Common.{◌≡◌, ◌∙◌, inl, inr, sym, subst, rules, arith, Err}
+use Rattle.edf_store.specs.Held.{Kept}
+use Rattle.edf_intake.specs.Source.{Source}
+use Rattle.edf_intake.specs.Submitted.{Accepts, IsSubmitted}
+use Rattle.edf_intake.proofs.Ending.{refused_by, accepts, stops_at_commit, submitted, stops_at_undo, stops_before}
+use Rattle.edf_intake.proofs.submission.submit.Goals as goal
+
+pub returns-in-Ok-commit-clause-cap : goal.returns-in-Ok-commit-clause-cap
+returns-in-Ok-commit-clause-cap g c =
+    let same : c.commit.new.self.0 ≡ c.store-in-Ok-take_fragment-1.given.0 = sym (c.store-in-Ok-take_fragment-1.given.1 (sym (c.in-Ok-take_fragment.ensures.same_reference ∙ c.in-Ok.ensures.same_reference))) in
+    subst (λ (s : Kept g.row.S.Denot). s.cap ≡ c.args.store.now.cap) same (c.commit.ensures.cap ∙ (c.in-Ok-take_fragment.ensures.stays.cap ∙ c.in-Ok.ensures.stays.cap))
+
+pub returns-in-Ok-commit-clause-submitted : goal.returns-in-Ok-commit-clause-submitted
+returns-in-Ok-commit-clause-submitted g c =
+    let same : c.commit.new.self.0 ≡ c.store-in-Ok-take_fragment-1.given.0 = sym (c.store-in-Ok-take_fragment-1.given.1 (sym (c.in-Ok-take_fragment.ensures.same_reference ∙ c.in-Ok.ensures.same_reference))) in
+    let from : Source = record { left = g.R.Input.remaining c.args.input.now; failed = g.R.Input.failures c.args.input.now } in
+    let to : Source = record { left = g.R.Input.remaining c.take_fragment.new.input; failed = g.R.Input.failures c.take_fragment.new.input } in
+    subst (λ (s : Kept g.row.S.Denot). Accepts g.S.Store c.args.store.now s from to c.in-Ok-take_fragment.receipt) same
+    (accepts g.S.Store c.args.store.now c.in-Ok.transaction.store.now c.take_fragment.new.transaction.store.now from to c.in-Ok.ensures.stays c.in-Ok.ensures.sees c.in-Ok-take_fragment.ensures.stays
+    c.commit.new.self.0 c.in-Ok-take_fragment.receipt c.in-Ok-take_fragment.ensures.taken c.commit.ensures.cap c.in-Ok-commit.ensures.committed c.commit.ensures.survives)
+
+pub returns-in-Err-commit-clause-cap : goal.returns-in-Err-commit-clause-cap
+returns-in-Err-commit-clause-cap g c =
+    let same : c.commit.new.self.0 ≡ c.store-in-Ok-take_fragment-1.given.0 = sym (c.store-in-Ok-take_fragment-1.given.1 (sym (c.in-Ok-take_fragment.ensures.same_reference ∙ c.in-Ok.ensures.same_reference))) in
+    subst (λ (s : Kept g.row.S.Denot). s.cap ≡ c.args.store.now.cap) same (c.commit.ensures.cap ∙ (c.in-Ok-take_fragment.ensures.stays.cap ∙ c.in-Ok.ensures.stays.cap))
+
+pub returns-in-Err-commit-clause-submitted : goal.returns-in-Err-commit-clause-submitted
+returns-in-Err-commit-clause-submitted g c =
+    let same : c.commit.new.self.0 ≡ c.store-in-Ok-take_fragment-1.given.0 = sym (c.store-in-Ok-take_fragment-1.given.1 (sym (c.in-Ok-take_fragment.ensures.same_reference ∙ c.in-Ok.ensures.same_reference))) in
+    let from : Source = record { left = g.R.Input.remaining c.args.input.now; failed = g.R.Input.failures c.args.input.now } in
+    let to : Source = record { left = g.R.Input.remaining c.take_fragment.new.input; failed = g.R.Input.failures c.take_fragment.new.input } in
+    let told = c.refusal_of-in-Err-commit in
+    subst (λ (s : Kept g.row.S.Denot). IsSubmitted g.S.Store c.args.store.now s from to (Err told.result)) same
+    (refused_by g.S.Store c.args.store.now c.commit.new.self.0 from to c.in-Err-commit.fault told.result told.ensures.memory told.ensures.other
+    (stops_at_commit g.S.Store c.args.store.now c.in-Ok.transaction.store.now c.take_fragment.new.transaction.store.now from to c.in-Ok.ensures.stays c.in-Ok.ensures.sees c.in-Ok-take_fragment.ensures.stays
+    c.commit.new.self.0 c.in-Ok-take_fragment.receipt c.in-Ok-take_fragment.ensures.taken c.commit.ensures.cap c.in-Err-commit.ensures.refused c.commit.ensures.survives)
+    (λ clean. c.in-Err-commit.ensures.told))
+
+pub returns-in-Err-commit-clause-busy : goal.returns-in-Err-commit-clause-busy
+returns-in-Err-commit-clause-busy g c is = absurd (let e = c.in-Ok.ensures.busy is in cc)
+
+pub returns-in-Ok-give_up-clause-submitted : goal.returns-in-Ok-give_up-clause-submitted
+returns-in-Ok-give_up-clause-submitted g c =
+    let same : c.give_up.new.self.0 ≡ c.store-in-Err-Input-1.given.0 = search rules in
+    let from : Source = record { left = g.R.Input.remaining c.args.input.now; failed = g.R.Input.failures c.args.input.now } in
+    let to : Source = record { left = g.R.Input.remaining c.take_fragment.new.input; failed = g.R.Input.failures c.take_fragment.new.input } in
+    let stop = rw c.in-Err-Input.field-0-is at c.in-Err-Input.ensures.stopped in
+    subst (λ (s : Kept g.row.S.Denot). IsSubmitted g.S.Store c.args.store.now s from to (Err c.in-Err-Input.refusal)) same
+    (submitted g.S.Store c.args.store.now c.in-Ok.transaction.store.now c.take_fragment.new.transaction.store.now from to c.in-Ok.ensures.stays c.in-Ok.ensures.sees c.in-Err-Input.ensures.stays
+    c.give_up.new.self.0 c.in-Ok-give_up.ensures.stays c.in-Err-Input.refusal stop)
+
+pub returns-in-Err-give_up-clause-submitted : goal.returns-in-Err-give_up-clause-submitted
+returns-in-Err-give_up-clause-submitted g c =
+    let same : c.give_up.new.self.0 ≡ c.store-in-Err-Input-1.given.0 = search rules in
+    let from : Source = record { left = g.R.Input.remaining c.args.input.now; failed = g.R.Input.failures c.args.input.now } in
+    let to : Source = record { left = g.R.Input.remaining c.take_fragment.new.input; failed = g.R.Input.failures c.take_fragment.new.input } in
+    let stop = rw c.in-Err-Input.field-0-is at c.in-Err-Input.ensures.stopped in
+    let told = c.refusal_of-in-Err-give_up in
+    subst (λ (s : Kept g.row.S.Denot). IsSubmitted g.S.Store c.args.store.now s from to (Err told.result)) same
+    (refused_by g.S.Store c.args.store.now c.give_up.new.self.0 from to c.in-Err-give_up.fault told.result told.ensures.memory told.ensures.other
+    (stops_at_undo g.S.Store c.args.store.now c.in-Ok.transaction.store.now c.take_fragment.new.transaction.store.now from to c.in-Ok.ensures.stays c.in-Ok.ensures.sees c.in-Err-Input.ensures.stays
+    c.give_up.new.self.0 c.in-Err-give_up.ensures.stays c.in-Err-Input.refusal stop)
+    (λ clean. c.in-Err-give_up.ensures.told))
+
+pub returns-in-Err-Store-clause-submitted : goal.returns-in-Err-Store-clause-submitted
+returns-in-Err-Store-clause-submitted g c =
+    let same : c.give_up-in-Err-Store.new.self.0 ≡ c.store-in-Err-Store-1.given.0 = search rules in
+    let from : Source = record { left = g.R.Input.remaining c.args.input.now; failed = g.R.Input.failures c.args.input.now } in
+    let to : Source = record { left = g.R.Input.remaining c.take_fragment.new.input; failed = g.R.Input.failures c.take_fragment.new.input } in
+    let stop = rw c.in-Err-Store.field-0-is at c.in-Err-Store.ensures.stopped in
+    let told = c.refusal_of-in-Err-Store in
+    let undone = c.give_up-in-Err-Store.ensures.stays in
+    subst (λ (s : Kept g.row.S.Denot). IsSubmitted g.S.Store c.args.store.now s from to (Err told.result)) same
+    (refused_by g.S.Store c.args.store.now c.give_up-in-Err-Store.new.self.0 from to c.in-Err-Store.fault told.result told.ensures.memory told.ensures.other
+    (stops_before g.S.Store c.args.store.now c.in-Ok.transaction.store.now c.take_fragment.new.transaction.store.now from to c.in-Ok.ensures.stays c.in-Ok.ensures.sees c.in-Err-Store.ensures.stays
+    c.give_up-in-Err-Store.new.self.0 undone (inr (inl stop.0)))
+    (λ clean. stop.1 (omega (arith, undone.crash.clean))))

@@ -1,0 +1,24 @@
+use Rattle.std.proofs.Common.{◌≡◌, ◌-◌, false}
+use Rattle.edf_fragment.specs.declared.progress.Status.TheVariants.{Reading}
+use Rattle.edf_store.specs.Held.{Stays}
+use Rattle.edf_store.specs.Transaction.{IsRunning, IsOf, HasNoMore}
+use Rattle.edf_intake.proofs.Walking.{Walking}
+use Rattle.edf_intake.proofs.walk.take_records.Given as goal
+
+abbrev pub invariant-records : goal.invariant-records
+invariant-records g l = record {
+  same : l.transaction.store.ghost_name ≡ l.initial.transaction.store.ghost_name;
+  spared : l.transaction.refused ≡ false;
+  stays : Stays g.S.Store l.initial.transaction.store.now l.transaction.store.now;
+  running : IsRunning g.S.Store l.transaction.store.now;
+  recording : IsOf g.S.Store l.transaction.store.now l.recording.id.row l.initial.fragment.header.key;
+  only : HasNoMore g.S.Store l.initial.transaction.store.now l.transaction.store.now;
+  header : l.fragment.header ≡ l.initial.fragment.header;
+  status : l.fragment.progress.status ≡ Reading;
+  count : g.R.Input.failures l.input ≡ g.R.Input.failures l.initial.input;
+  walking : Walking g.S.Store l.initial.transaction.store.now l.transaction.store.now l.initial.fragment.header
+      (g.R.Input.remaining l.initial.input) (g.R.Input.remaining l.input) l.fragment.progress l.tally;
+}
+
+abbrev pub decreases-records : goal.decreases-records
+decreases-records g l = l.initial.fragment.header.count - l.fragment.progress.given

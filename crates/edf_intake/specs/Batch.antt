@@ -1,0 +1,90 @@
+-- What a list of submissions answers, and what it leaves.
+use Rattle.std.specs.Prelude.{◌≡◌, ◌⊎◌, ℕ, List, [], ◌∷◌, ◌++◌, map, Option, Some, None, Err}
+use Rattle.std.specs.List.{AllByRecursion, AllZip}
+use Rattle.sqlite_trees.specs.declared.store.Store.{Ghosts}
+use Rattle.sqlite_trees.specs.Tree.{Trees}
+use Rattle.sqlite.specs.State.{HasCleanDisk, Survives}
+use Rattle.edf_fragment.specs.Told.{Told, Fragment, Fault, Tells}
+use Rattle.edf_holdings.specs.Holdings.{Holdings}
+use Rattle.edf_holdings.specs.Reply.{Reply, Form, Accepted, after_one, after, replies}
+use Rattle.edf_rows.specs.Rows.{AreKept}
+use Rattle.edf_store.specs.Held.{Kept, at, Holds}
+use Rattle.edf_intake.specs.Refusal.{Answer, reply_told, IsStopped}
+use Rattle.edf_intake.specs.Submitted.{IsRefusal}
+use Rattle.edf_intake.specs.declared.refusal.Refusal.TheVariants as refusal
+use Rattle.edf_intake.specs.Source.{Source, Hears, FailsToRead, ReadsFront}
+
+-- one input's turn: how it was found and left, its answer, and what it told, which is nothing where that was E40 to E42
+pub record Turn : Type 0 where
+  pub from : Source
+  pub to : Source
+  pub answer : Answer
+  pub told : Option Told
+
+-- the members that are there
+abbrev pub somes : {A : Type 0} → List (Option A) → List A
+somes [] = []
+somes (None ∷ os) = somes os
+somes (Some x ∷ os) = x ∷ somes os
+
+-- what the inputs told, and the replies that their answers tell
+abbrev pub told_in : List Turn → List Told
+told_in turns = somes (map (λ (t : Turn). t.told) turns)
+
+abbrev pub replies_in : List Turn → List Reply
+replies_in turns = somes (map (λ (t : Turn). reply_told t.answer) turns)
+
+-- a fault is answered as one of form, and a fragment never is; one that is accepted, under its key
+abbrev pub MayBeAnswered : Told → Reply → Type 0
+MayBeAnswered (Fault fault) answer = answer ≡ Form fault
+MayBeAnswered (Fragment key records) (Form fault) = ⊥
+MayBeAnswered (Fragment key records) (Accepted k new known) = k ≡ key
+MayBeAnswered (Fragment key records) answer = Unit {0}
+
+-- the input was read as its answer says: it told this, and the answer tells a reply; or it told nothing, and neither does that
+abbrev pub GoesWith : Turn → Option Told → Option Reply → Type 0
+GoesWith t (Some told) (Some answer) = Hears t.from t.to told × MayBeAnswered told answer
+GoesWith t None None = (FailsToRead t.from t.to ⊎ IsStopped t.answer) × ReadsFront t.from t.to
+GoesWith t told answer = ⊥
+
+abbrev pub IsTurn : Turn → Type 0
+IsTurn t = GoesWith t t.told (reply_told t.answer)
+
+-- rows that stand for this being submitted which the next input tells, whose answer is E41 or E42
+abbrev pub AreUnended : ℕ → Holdings → List Turn → Trees → Type 0
+AreUnended cap h [] rows = ⊥
+AreUnended cap h (t ∷ ts) rows = IsStopped t.answer × ((told : Told) × Hears t.from t.to told × AreKept cap rows (after_one cap h told))
+
+-- rows that stand for what some first inputs leave, or for that and the next
+pub record AreLeftBy (cap : ℕ) (h : Holdings) (turns : List Turn) (rows : Trees) : Type 0 where
+  pub before : List Turn
+  pub behind : List Turn
+  pub splits : turns ≡ before ++ behind
+  pub stand : AreKept cap rows (after cap h (told_in before)) ⊎ AreUnended cap (after cap h (told_in before)) behind rows
+
+-- what the store refused is told as it is to one submission
+abbrev pub IsOwnRefusal : {S : Type 0} → Ghosts S → Kept S → Answer → Type 0
+IsOwnRefusal g new (Err (refusal.Store fault)) = IsRefusal g new fault
+IsOwnRefusal g new answer = Unit {0}
+
+module _ {S : Type 0} (g : Ghosts S) (old new : Kept S) where
+  -- the inputs were submitted in turn. Those answered E40 to E42 add nothing, and the others are answered and leave what they
+  -- would without those; a crash leaves what it could leave before, or what some first inputs leave
+  pub record AreSubmitted (froms tos : List Source) (answers : List Answer) : Type 0 where
+    pub turns : List Turn
+    pub froms_are : map (λ (t : Turn). t.from) turns ≡ froms
+    pub tos_are : map (λ (t : Turn). t.to) turns ≡ tos
+    pub answers_are : map (λ (t : Turn). t.answer) turns ≡ answers
+    pub each : AllByRecursion IsTurn turns
+    pub refusals : AllByRecursion (IsOwnRefusal g new) answers
+    pub replies_are : HasCleanDisk (at g new) → (h : Holdings) → Holds g old h → replies_in turns ≡ replies old.cap h (told_in turns)
+    pub holdings : (h : Holdings) → Holds g old h → Holds g new (after old.cap h (told_in turns))
+    pub crash : Survives (at g old) (at g new) (λ rows. (h : Holdings) → Holds g old h → AreLeftBy old.cap h turns rows)
+
+  -- where the inputs tell these and each answer tells a reply, the answers are the replies to the list, and what is held then is
+  -- what the list leaves
+  abbrev pub AnswersAll : List Source → List Answer → Type 0
+  AnswersAll froms answers = (tolds : List Told) (given : List Reply) →
+      AllZip (λ (from : Source) told. (bytes : List ℕ) × (from.left ≡ Some bytes) × Tells bytes told) froms tolds →
+      map reply_told answers ≡ map Some given → (h : Holdings) → Holds g old h →
+      (HasCleanDisk (at g new) → given ≡ replies old.cap h tolds) × Holds g new (after old.cap h tolds)

@@ -1,0 +1,88 @@
+-- What a submission answers, and what it leaves.
+use Rattle.std.specs.Prelude.{◌≡◌, ◌≢◌, ◌⊎◌, List, None, Ok, Err}
+use Rattle.sqlite_trees.specs.declared.store.Store.{Ghosts}
+use Rattle.sqlite_trees.specs.Tree.{Trees}
+use Rattle.sqlite.specs.State.{HasCleanDisk, Survives}
+use Rattle.edf_header.specs.Key.{Key}
+use Rattle.edf_fragment.specs.Fragment.{DataRecord}
+use Rattle.edf_fragment.specs.Told.{Told, Fragment, Fault}
+use Rattle.edf_holdings.specs.Holdings.{Holdings}
+use Rattle.edf_holdings.specs.Reply.{Reply, Form, Overlap, Differs, Full, Accepted, reply, after_one}
+use Rattle.edf_rows.specs.Rows.{AreKept}
+use Rattle.edf_store.specs.Held.{Kept, at, Holds, Stays}
+use Rattle.edf_store.specs.Fault.{IsStoreRefusal}
+use Rattle.edf_store.specs.declared.fault.StoreFault.{StoreFault}
+use Rattle.edf_store.specs.declared.fault.StoreFault.TheVariants as store
+use Rattle.edf_intake.specs.Refusal.{Answer}
+use Rattle.edf_intake.specs.Source.{Source, Hears, ReadsWhole, FailsToRead, ReadsFront}
+use Rattle.edf_intake.specs.declared.receipt.Receipt.{Receipt}
+use Rattle.edf_intake.specs.declared.refusal.Refusal.TheVariants as refusal
+
+-- the answer of a store whose connection was found in a transaction: E42 without a cause
+abbrev pub found_busy : Answer
+found_busy = Err (refusal.Store (store.Store None))
+
+-- what the store refused: want of memory has a refusal of its own, and a clean disk gives back what was written
+pub record IsRefusal {S : Type 0} (g : Ghosts S) (new : Kept S) (fault : StoreFault) : Type 0 where
+  pub other : fault ≢ store.Memory
+  pub own : HasCleanDisk (at g new) → IsStoreRefusal fault
+
+module _ {S : Type 0} (g : Ghosts S) (old new : Kept S) where
+  -- whatever the store held, this is the reply to what is told
+  abbrev pub RepliesWith : Told → Reply → Type 0
+  RepliesWith told answer = HasCleanDisk (at g new) → (h : Holdings) → Holds g old h → reply old.cap h told ≡ answer
+
+  -- rows that stand for what is told being submitted to what the store held
+  abbrev pub AreLeft : Told → Trees → Type 0
+  AreLeft told rows = (h : Holdings) → Holds g old h → AreKept old.cap rows (after_one old.cap h told)
+
+  -- what is told was submitted; a crash leaves what it could leave before, or that
+  pub record Leaves (told : Told) : Type 0 where
+    pub cap : new.cap ≡ old.cap
+    pub holdings : (h : Holdings) → Holds g old h → Holds g new (after_one old.cap h told)
+    pub crash : Survives (at g old) (at g new) (AreLeft told)
+
+  -- what is held stays; but a crash leaves what it could leave before, or that what is told was submitted
+  pub record MayLeave (told : Told) : Type 0 where
+    pub cap : new.cap ≡ old.cap
+    pub holdings : (h : Holdings) → Holds g old h → Holds g new h
+    pub crash : Survives (at g old) (at g new) (AreLeft told)
+
+  module _ (from to : Source) where
+    -- the input tells a fragment, which is accepted so
+    pub record Accepts (receipt : Receipt) : Type 0 where
+      pub records : List DataRecord
+      pub read : ReadsWhole from to receipt.identity records
+      pub reply_is : RepliesWith (Fragment receipt.identity records) (Accepted receipt.identity receipt.new receipt.known)
+      pub leaves : Leaves (Fragment receipt.identity records)
+
+    -- the input tells this, which is refused so; what is held stays
+    pub record Refuses (told : Told) (answer : Reply) : Type 0 where
+      pub read : Hears from to told
+      pub reply_is : RepliesWith told answer
+      pub stays : Stays g old new
+
+    abbrev pub RefusesFragment : Reply → Type 0
+    RefusesFragment answer = (key : Key) × (records : List DataRecord) × Refuses (Fragment key records) answer
+
+    -- a read failed; what is held stays
+    pub record FailsThere : Type 0 where
+      pub read : FailsToRead from to
+      pub stays : Stays g old new
+
+    -- memory ran out or the store refused; what is held stays. Only where the whole input was read, and told a fragment, may a
+    -- crash leave that it was submitted
+    abbrev pub StopsThere : Type 0
+    StopsThere = (Stays g old new × ReadsFront from to)
+        ⊎ ((key : Key) × (records : List DataRecord) × ReadsWhole from to key records × MayLeave (Fragment key records))
+
+    -- each answer, what it says of the input and what it leaves
+    abbrev pub IsSubmitted : Answer → Type 0
+    IsSubmitted (Ok receipt) = Accepts receipt
+    IsSubmitted (Err (refusal.Form fault)) = Refuses (Fault fault) (Form fault)
+    IsSubmitted (Err (refusal.Overlap start stored)) = RefusesFragment (Overlap start stored)
+    IsSubmitted (Err (refusal.Differs start)) = RefusesFragment (Differs start)
+    IsSubmitted (Err (refusal.Full held new cap)) = RefusesFragment (Full held new cap)
+    IsSubmitted (Err refusal.Read) = FailsThere
+    IsSubmitted (Err refusal.Memory) = StopsThere
+    IsSubmitted (Err (refusal.Store fault)) = StopsThere × IsRefusal g new fault

@@ -1,0 +1,166 @@
+//! A whole fragment inside a transaction.
+
+ghost use Rattle.std.specs.Prelude.{◌≡◌, ◌≢◌, ◌+◌, ◌≤◌, ℕ, List, Some, None, Err, false, length, IfOk, IfErr, IfSome};
+ghost use Rattle.sqlite.specs.State.{HasCleanDisk};
+ghost use Rattle.edf_header.specs.Key.{Key};
+ghost use Rattle.edf_fragment.specs.Fragment.{DataRecord};
+ghost use Rattle.edf_fragment.specs.Told.{Fragment};
+ghost use Rattle.edf_holdings.specs.Holdings.{Holdings};
+ghost use Rattle.edf_holdings.specs.Reply.{reply};
+ghost use Rattle.edf_store.specs.Fault.{IsStoreRefusal};
+ghost use Rattle.edf_store.specs.Held.{at, Stays};
+ghost use Rattle.edf_store.specs.Transaction.{Sees, IsRunning, IsOf, HasAtMost, IsWhole};
+ghost use Rattle.edf_intake.specs.Refusal.{reply_told};
+ghost use Rattle.edf_intake.specs.Inside.Step.{IsTally};
+ghost use Rattle.edf_intake.specs.Inside.Taken.{IsConflict, IsTaken, IsStop};
+
+use crate::receipt::Receipt;
+use crate::refusal::{Refusal, Stop, refusal_by};
+use crate::tally::{Starts, Tally};
+use crate::walk::{Recording, take_records};
+use edf_fragment::{Input, OpenFragment};
+use edf_header::Identity;
+use edf_store::{StoreFault, StoreTx};
+use sqlite::Alter;
+use std::alloc::Global;
+
+/// The recording of an identity, which is made where it is missing.
+fn find_recording<S: Alter>(
+    transaction: &mut StoreTx<'_, S>,
+    cap: u32,
+    identity: &Identity,
+) -> Result<Recording, StoreFault>
+    requires spared { transaction.old.refused ≡ false }
+    requires running { IsRunning S.Store transaction.old.store.now }
+    requires cap { cap ≡ transaction.old.store.now.cap }
+    ensures same_reference { transaction.new.store.ghost_name ≡ transaction.old.store.ghost_name }
+    ensures stays { Stays S.Store transaction.old.store.now transaction.new.store.now }
+    ensures spared { IfOk result (λ _. transaction.new.refused ≡ false) }
+    ensures running { IfOk result (λ _. IsRunning S.Store transaction.new.store.now) }
+    ensures recording { IfOk result (λ found. IsOf S.Store transaction.new.store.now found.id.row identity.now) }
+    ensures same { IfOk result (λ _. (h : Holdings) → Sees S.Store transaction.old.store.now h → Sees S.Store transaction.new.store.now h) }
+    ensures only { IfOk result (λ _. HasAtMost S.Store identity.now transaction.old.store.now transaction.new.store.now) }
+    ensures held { IfOk result (λ found. HasCleanDisk (at S.Store transaction.new.store.now) → (h : Holdings) → Sees S.Store transaction.new.store.now h →
+        (length (h identity.now) ≡ found.held) × (length (h identity.now) + found.room ≡ cap)) }
+    ensures told { HasCleanDisk (at S.Store transaction.new.store.now) → IfErr result IsStoreRefusal }
+{
+    let id = match transaction.recording(identity) {
+        Ok(id) => id,
+        Err(fault) => return Err(fault),
+    };
+    match transaction.count(id) {
+        Ok(held) => Ok(Recording {
+            id,
+            held,
+            room: cap.saturating_sub(held),
+        }),
+        Err(fault) => Err(fault),
+    }
+}
+
+/// The refusal for a clash.
+fn clash_refusal(starts: Starts) -> Refusal
+    ensures differs { starts.start ≡ starts.stored → result ≡ Refusal.Differs starts.start }
+    ensures overlaps { starts.start ≢ starts.stored → result ≡ Refusal.Overlap starts.start starts.stored }
+{
+    let start = starts.start;
+    let stored = starts.stored;
+    if start == stored {
+        Refusal::Differs { start }
+    } else {
+        Refusal::Overlap { start, stored }
+    }
+}
+
+/// Why a whole fragment is not accepted: its first clash, or want of room. `None` where it is accepted.
+fn conflict(recording: Recording, cap: u32, tally: Tally) -> Option<Refusal>
+    ensures accepted { result ≡ None → (tally.clash ≡ None) × (tally.new ≤ recording.room) }
+    ensures refused { IfSome result IsConflict }
+    ensures answer { IfSome result (λ refusal. (key : Key) (h : Holdings) (records : List DataRecord) →
+        length (h key) ≡ recording.held → recording.held + recording.room ≡ cap → IsTally key h records tally →
+        reply_told (Err refusal) ≡ Some (reply cap h (Fragment key records))) }
+{
+    match tally.clash {
+        Some(starts) => Some(clash_refusal(starts)),
+        None => {
+            if tally.new > recording.room {
+                Some(Refusal::Full {
+                    held: recording.held,
+                    new: tally.new,
+                    cap,
+                })
+            } else {
+                None
+            }
+        }
+    }
+}
+
+/// The answer to a whole fragment.
+fn answer_of(
+    recording: Recording,
+    cap: u32,
+    tally: Tally,
+    identity: Identity,
+) -> Result<Receipt, Refusal>
+    ensures accepted { IfOk result (λ receipt. (receipt ≡ record { identity = identity; new = tally.new; known = tally.known })
+        × (tally.clash ≡ None) × (tally.new ≤ recording.room)) }
+    ensures refused { IfErr result IsConflict }
+    ensures answer { IfErr result (λ refusal. (h : Holdings) (records : List DataRecord) →
+        length (h identity) ≡ recording.held → recording.held + recording.room ≡ cap → IsTally identity h records tally →
+        reply_told (Err refusal) ≡ Some (reply cap h (Fragment identity records))) }
+{
+    let new = tally.new;
+    let known = tally.known;
+    match conflict(recording, cap, tally) {
+        None => Ok(Receipt {
+            identity,
+            new,
+            known,
+        }),
+        Some(refusal) => Err(refusal),
+    }
+}
+
+/// Reads a fragment to its end and adds what is new of it, as long as nothing clashes and there is room.
+pub(crate) fn take_fragment<S: Alter, R: Input>(
+    alloc: Global,
+    transaction: &mut StoreTx<'_, S>,
+    cap: u32,
+    input: &mut R,
+) -> Result<Receipt, Stop>
+    requires spared { transaction.old.refused ≡ false }
+    requires running { IsRunning S.Store transaction.old.store.now }
+    requires whole { IsWhole S.Store transaction.old.store.now }
+    requires cap { cap ≡ transaction.old.store.now.cap }
+    ensures same_reference { transaction.new.store.ghost_name ≡ transaction.old.store.ghost_name }
+    ensures stays { Stays S.Store transaction.old.store.now transaction.new.store.now }
+    ensures spared { IfOk result (λ _. transaction.new.refused ≡ false) }
+    ensures running { IfOk result (λ _. IsRunning S.Store transaction.new.store.now) }
+    ensures whole { IfOk result (λ _. IsWhole S.Store transaction.new.store.now) }
+    ensures taken { IfOk result (IsTaken S.Store transaction.old.store.now transaction.new.store.now
+        (record { left = R.remaining input.old; failed = R.failures input.old })
+        (record { left = R.remaining input.new; failed = R.failures input.new })) }
+    ensures stopped { IfErr result (IsStop S.Store transaction.old.store.now transaction.new.store.now
+        (record { left = R.remaining input.old; failed = R.failures input.old })
+        (record { left = R.remaining input.new; failed = R.failures input.new })) }
+{
+    let mut fragment = match OpenFragment::read(alloc, input) {
+        Ok(fragment) => fragment,
+        Err(fault) => return Err(Stop::Input(refusal_by(fault))),
+    };
+    let recording = match find_recording(transaction, cap, fragment.header().identity()) {
+        Ok(recording) => recording,
+        Err(fault) => return Err(Stop::Store(fault)),
+    };
+    match take_records(transaction, recording, &mut fragment, input) {
+        Ok(tally) => {
+            let identity = fragment.into_header().into_identity();
+            match answer_of(recording, cap, tally, identity) {
+                Ok(receipt) => Ok(receipt),
+                Err(refusal) => Err(Stop::Input(refusal)),
+            }
+        }
+        Err(stop) => Err(stop),
+    }
+}

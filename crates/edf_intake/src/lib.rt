@@ -1,0 +1,25 @@
+//! The intake of recordings: fragments in, whole or not at all.
+//!
+//! - [`submit`]: one fragment, read record by record inside one transaction of a store.
+//! - [`submit_all`]: a list of them, each in turn, whatever became of those before.
+//! - [`Receipt`], [`Refusal`]: how a submission is answered.
+//! - [`clash`], [`Clash`]: whether two data records of one recording clash, and how.
+//! - [`laws`]: repeats add nothing, and lists without conflicts end alike, however ordered or cut; functions that do nothing,
+//!   each with laws for a contract.
+#![tactic(auto)]
+
+mod batch;
+mod fragment;
+pub mod laws;
+mod receipt;
+mod refusal;
+mod step;
+mod submission;
+mod tally;
+mod walk;
+
+pub use batch::submit_all;
+pub use edf_holdings::{Clash, clash};
+pub use receipt::Receipt;
+pub use refusal::Refusal;
+pub use submission::submit;

@@ -1,0 +1,59 @@
+//! One submission.
+
+ghost use Rattle.std.specs.Prelude.{◌≡◌, IsTrue};
+ghost use Rattle.edf_store.specs.Held.{at};
+ghost use Rattle.edf_intake.specs.Submitted.{IsSubmitted, found_busy};
+
+use crate::fragment::take_fragment;
+use crate::receipt::Receipt;
+use crate::refusal::{Refusal, Stop, refusal_of};
+use edf_fragment::Input;
+use edf_store::Store;
+use sqlite::Alter;
+use std::alloc::Global;
+
+/// Submits one fragment, which is accepted whole or refused whole.
+///
+/// The input is read once, up to its end or to where it has a fault of form, one data record in memory at a time. A fragment is
+/// accepted where none of its data records clashes with a stored one of its identity, and where it adds none or the recording
+/// then has at most as many as the store's cap. The input is read to its end also where a record clashes or there is no more
+/// room, so a fault of form is always told before these.
+///
+/// # Errors
+/// `Form` (E1 to E29), the first fault of the input; else `Overlap` (E30) or `Differs` (E31), for the first data record that
+/// clashes, with the earliest stored one that it clashes with; else `Full` (E32). `Read` (E40) where a read failed, in place of
+/// what would have been found behind it and of E30 to E32. `Memory` (E41) where memory ran out and `Store` (E42, E45) where the
+/// store refused, in place of any other. Where calls of the store were refused, the first is told, and the one that undoes what
+/// was added counts among them. What was held before stays after each refusal. E45 comes only from a disk that does not give
+/// back what was written; E42 without a cause where the connection was left in a transaction, and then nothing was read.
+pub fn submit<S: Alter, R: Input>(
+    alloc: Global,
+    store: &mut Store<S>,
+    input: &mut R,
+) -> Result<Receipt, Refusal>
+    ensures cap { store.new.cap ≡ store.old.cap }
+    ensures submitted { IsSubmitted S.Store store.old store.new
+        (record { left = R.remaining input.old; failed = R.failures input.old })
+        (record { left = R.remaining input.new; failed = R.failures input.new }) result }
+    ensures busy { IsTrue (at S.Store store.old).in_transaction → (input.new ≡ input.old) × (result ≡ found_busy) }
+{
+    let cap = store.cap();
+    let mut transaction = match store.transaction() {
+        Ok(transaction) => transaction,
+        Err(fault) => return Err(refusal_of(fault)),
+    };
+    match take_fragment(alloc, &mut transaction, cap, input) {
+        Ok(receipt) => match transaction.commit() {
+            Ok(()) => Ok(receipt),
+            Err(fault) => Err(refusal_of(fault)),
+        },
+        Err(Stop::Input(refusal)) => match transaction.give_up() {
+            Ok(()) => Err(refusal),
+            Err(fault) => Err(refusal_of(fault)),
+        },
+        Err(Stop::Store(fault)) => {
+            let _ = transaction.give_up();
+            Err(refusal_of(fault))
+        }
+    }
+}

@@ -1,0 +1,140 @@
+//! The data records of a fragment, one after another, inside a transaction.
+
+ghost use Rattle.std.specs.Prelude.{◌≡◌, ℕ, ◌+◌, ◌-◌, ◌^◌, ◌<◌, ◌≤◌, List, Option, None, false, length, IfOk, IfErr};
+ghost use Rattle.sqlite.specs.State.{HasCleanDisk};
+ghost use Rattle.edf_fragment.specs.Sound.{IsSoundRecord};
+ghost use Rattle.edf_fragment.specs.Fragment.{DataRecord};
+ghost use Rattle.edf_fragment.specs.Reading.{ReadsHeader, at_first};
+ghost use Rattle.edf_fragment.specs.Whole.{ReadsFragment};
+ghost use Rattle.edf_holdings.specs.Holdings.{Holdings, put};
+ghost use Rattle.edf_store.specs.Fault.{IsStoreRefusal};
+ghost use Rattle.edf_store.specs.Held.{at, Stays};
+ghost use Rattle.edf_store.specs.Transaction.{Sees, IsRunning, IsOf, HasNoMore};
+ghost use Rattle.edf_intake.specs.Inside.Step.{IsNext, IsTally};
+ghost use Rattle.edf_intake.specs.Inside.Halt.{HaltsThere};
+
+use crate::refusal::{Stop, refusal_by};
+use crate::step::{Step, step_of};
+use crate::tally::{Starts, Tally};
+use edf_fragment::{Input, OpenFragment, Record};
+use edf_header::Identity;
+use edf_store::{RecordingId, StoreFault, StoreTx};
+use sqlite::Alter;
+
+/// A recording in a transaction, which begins with so many data records and may take so many more.
+#[derive(Clone, Copy)]
+pub(crate) struct Recording {
+    pub(crate) id: RecordingId,
+    pub(crate) held: u32,
+    pub(crate) room: u32,
+}
+
+/// One data record more: it is added where nothing is near it and there is room.
+fn take_record<S: Alter>(
+    transaction: &mut StoreTx<'_, S>,
+    recording: Recording,
+    identity: &Identity,
+    tally: Tally,
+    data_record: &Record,
+) -> Result<Tally, StoreFault>
+    requires spared { transaction.old.refused ≡ false }
+    requires running { IsRunning S.Store transaction.old.store.now }
+    requires recording { IsOf S.Store transaction.old.store.now recording.id.row identity.now }
+    requires sound { IsSoundRecord identity.now data_record.now }
+    requires few { HasCleanDisk (at S.Store transaction.old.store.now) → tally.clash ≡ None → tally.new < recording.room →
+        (h : Holdings) → Sees S.Store transaction.old.store.now h → length (h identity.now) < transaction.old.store.now.cap }
+    requires countable { tally.new + tally.known < 2 ^ 32 - 1 }
+    ensures same_reference { transaction.new.store.ghost_name ≡ transaction.old.store.ghost_name }
+    ensures stays { Stays S.Store transaction.old.store.now transaction.new.store.now }
+    ensures spared { IfOk result (λ _. transaction.new.refused ≡ false) }
+    ensures running { IfOk result (λ _. IsRunning S.Store transaction.new.store.now) }
+    ensures recording { IfOk result (λ _. IsOf S.Store transaction.new.store.now recording.id.row identity.now) }
+    ensures only { IfOk result (λ _. HasNoMore S.Store transaction.old.store.now transaction.new.store.now) }
+    ensures next { IfOk result (λ next. HasCleanDisk (at S.Store transaction.new.store.now) →
+        (h : Holdings) → Sees S.Store transaction.old.store.now h →
+        (t : Holdings) × Sees S.Store transaction.new.store.now t × IsNext recording.room identity.now data_record.now h tally t next) }
+    ensures counted { IfOk result (λ next. next.new + next.known ≤ tally.new + tally.known + 1) }
+    ensures told { HasCleanDisk (at S.Store transaction.new.store.now) → IfErr result IsStoreRefusal }
+{
+    if tally.clash.is_some() {
+        return Ok(tally);
+    }
+    let start = data_record.start();
+    let near = match transaction.near(recording.id, start, identity.duration()) {
+        Ok(near) => near,
+        Err(fault) => return Err(fault),
+    };
+    match step_of(data_record, near.as_slice()) {
+        Step::Clashes { stored } => Ok(Tally {
+            clash: Some(Starts { start, stored }),
+            ..tally
+        }),
+        Step::Known => Ok(Tally {
+            known: tally.known + 1,
+            ..tally
+        }),
+        Step::New => {
+            if tally.new < recording.room {
+                if let Err(fault) = transaction.add(recording.id, data_record) {
+                    return Err(fault);
+                }
+            }
+            Ok(Tally {
+                new: tally.new + 1,
+                ..tally
+            })
+        }
+    }
+}
+
+/// All data records of a fragment whose header was just read, and the end of the input behind them.
+pub(crate) fn take_records<S: Alter, R: Input>(
+    transaction: &mut StoreTx<'_, S>,
+    recording: Recording,
+    fragment: &mut OpenFragment,
+    input: &mut R,
+) -> Result<Tally, Stop>
+    requires spared { transaction.old.refused ≡ false }
+    requires running { IsRunning S.Store transaction.old.store.now }
+    requires recording { IsOf S.Store transaction.old.store.now recording.id.row fragment.old.header.key }
+    requires room { HasCleanDisk (at S.Store transaction.old.store.now) → (h : Holdings) → Sees S.Store transaction.old.store.now h →
+        length (h fragment.old.header.key) + recording.room ≡ transaction.old.store.now.cap }
+    requires header { (left : Option (List ℕ)) × ReadsHeader left (R.remaining input.old) fragment.old.header }
+    requires at_first { fragment.old.progress ≡ at_first }
+    ensures same_reference { transaction.new.store.ghost_name ≡ transaction.old.store.ghost_name }
+    ensures stays { Stays S.Store transaction.old.store.now transaction.new.store.now }
+    ensures header { fragment.new.header ≡ fragment.old.header }
+    ensures spared { IfOk result (λ _. transaction.new.refused ≡ false) }
+    ensures running { IfOk result (λ _. IsRunning S.Store transaction.new.store.now) }
+    ensures only { IfOk result (λ _. HasNoMore S.Store transaction.old.store.now transaction.new.store.now) }
+    ensures counted { IfOk result (λ _. R.failures input.new ≡ R.failures input.old) }
+    ensures read { IfOk result (λ tally. (records : List DataRecord)
+        × ((left : Option (List ℕ)) → ReadsHeader left (R.remaining input.old) fragment.old.header →
+        ReadsFragment left (R.remaining input.new) fragment.old.header records)
+        × (HasCleanDisk (at S.Store transaction.new.store.now) → (h : Holdings) → Sees S.Store transaction.old.store.now h →
+        IsTally fragment.old.header.key h records tally
+        × (tally.clash ≡ None → tally.new ≤ recording.room → Sees S.Store transaction.new.store.now (put fragment.old.header.key records h)))) }
+    ensures halted { IfErr result (λ stop. (left : Option (List ℕ)) → ReadsHeader left (R.remaining input.old) fragment.old.header →
+        HaltsThere (record { left = left; failed = R.failures input.old })
+        (record { left = R.remaining input.new; failed = R.failures input.new }) stop) }
+    ensures told { HasCleanDisk (at S.Store transaction.new.store.now) → (fault : StoreFault) → result ≡ Err (Stop.Store fault) → IsStoreRefusal fault }
+{
+    let mut tally = Tally {
+        new: 0,
+        known: 0,
+        clash: None,
+    };
+    'records: loop {
+        match fragment.next(input) {
+            Ok(Some(data_record)) => {
+                let identity = fragment.header().identity();
+                match take_record(transaction, recording, identity, tally, &data_record) {
+                    Ok(next) => tally = next,
+                    Err(fault) => return Err(Stop::Store(fault)),
+                }
+            }
+            Ok(None) => return Ok(tally),
+            Err(fault) => return Err(Stop::Input(refusal_by(fault))),
+        }
+    }
+}

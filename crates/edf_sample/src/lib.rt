@@ -1,0 +1,18 @@
+//! Small EDF+ files, built field by field in the standard's words, and streams that come in pieces and fail: for tests.
+//!
+//! - [`Header`], [`q`], [`file`]: the header of a file of one EEG signal and one annotations signal, and the file's bytes.
+//! - [`named`]: the files that the documents' examples speak of.
+//! - [`Source`], [`StopsOnce`], [`Sink`]: readers that give their bytes in pieces and fail, a writer that takes them so.
+//! - [`Scarce`]: a machine whose memory runs out.
+//!
+//! Nothing of it is promised but that it is safe: what a test wants is spelled in the test.
+#![tactic(auto)]
+
+mod files;
+pub mod named;
+mod scarce;
+mod streams;
+
+pub use files::{Header, file, patched, q};
+pub use scarce::Scarce;
+pub use streams::{Sink, Source, StopsOnce};

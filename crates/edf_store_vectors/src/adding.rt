@@ -1,0 +1,134 @@
+//! Data records added and looked for, each in a transaction of its own.
+
+ghost use Rattle.std.specs.Prelude.{◌≡◌, false, IfOk};
+ghost use Rattle.edf_store.specs.Transaction.{IsRunning, IsOf, IsWhole};
+
+use edf_fragment::Record;
+use edf_header::Identity;
+use edf_store::{RecordingId, Store, StoreFault, StoreTx};
+use edf_time::Instant;
+use sqlite::Alter;
+
+/// What a transaction told of a recording before a data record was added to it, and after.
+#[derive(Drop)]
+pub struct Seen {
+    pub before: u32,
+    pub after: u32,
+    /// The data records that meet the interval that begins half a second before the one that was added.
+    pub near: Vec<Record>,
+}
+
+/// Adds a data record of the identity, near which there is none, to its recording, which is made where it is missing.
+fn fill<S: Alter>(
+    tx: &mut StoreTx<'_, S>,
+    identity: &Identity,
+    data_record: &Record,
+    cap: u32,
+) -> Result<Seen, StoreFault>
+    requires spared { tx.old.refused ≡ false }
+    requires running { IsRunning S.Store tx.old.store.now }
+    requires whole { IsWhole S.Store tx.old.store.now }
+    requires cap { cap ≡ tx.old.store.now.cap }
+    ensures same_reference { tx.new.store.ghost_name ≡ tx.old.store.ghost_name }
+    ensures spared { IfOk result (λ _. tx.new.refused ≡ false) }
+    ensures running { IfOk result (λ _. IsRunning S.Store tx.new.store.now) }
+    ensures whole { IfOk result (λ _. IsWhole S.Store tx.new.store.now) }
+{
+    let start = data_record.start();
+    let id = tx.recording(identity)?;
+    let before = tx.count(id)?;
+    let near = tx.near(id, start, identity.duration())?;
+    if near.len() != 0 || before >= cap {
+        return Err(StoreFault::Foreign);
+    }
+    if data_record.samples().len() != identity.ordinary_bytes() {
+        return Err(StoreFault::Foreign);
+    }
+    tx.add(id, data_record)?;
+    look(tx, id, identity, start, before)
+}
+
+/// What the transaction tells of the recording now.
+fn look<S: Alter>(
+    tx: &mut StoreTx<'_, S>,
+    id: RecordingId,
+    identity: &Identity,
+    start: Instant,
+    before: u32,
+) -> Result<Seen, StoreFault>
+    requires spared { tx.old.refused ≡ false }
+    requires running { IsRunning S.Store tx.old.store.now }
+    requires whole { IsWhole S.Store tx.old.store.now }
+    requires recording { IsOf S.Store tx.old.store.now id.row identity.now }
+    ensures same_reference { tx.new.store.ghost_name ≡ tx.old.store.ghost_name }
+    ensures spared { IfOk result (λ _. tx.new.refused ≡ false) }
+    ensures running { IfOk result (λ _. IsRunning S.Store tx.new.store.now) }
+    ensures whole { IfOk result (λ _. IsWhole S.Store tx.new.store.now) }
+{
+    let after = tx.count(id)?;
+    let Some(earlier) = start.after(-500_000_000) else {
+        return Err(StoreFault::Foreign);
+    };
+    let near = tx.near(id, earlier, identity.duration())?;
+    Ok(Seen {
+        before,
+        after,
+        near,
+    })
+}
+
+/// Adds a data record of the identity, near which there is none, in a transaction that is committed or given up.
+///
+/// # Errors
+/// The store's, and `Foreign` where the data record may not be added.
+pub fn put<S: Alter>(
+    store: &mut Store<S>,
+    identity: &Identity,
+    data_record: &Record,
+    keeps: bool,
+) -> Result<Seen, StoreFault> {
+    let cap = store.cap();
+    let mut tx = store.transaction()?;
+    match fill(&mut tx, identity, data_record, cap) {
+        Ok(seen) => {
+            if keeps {
+                tx.commit()?;
+            } else {
+                tx.give_up()?;
+            }
+            Ok(seen)
+        }
+        Err(fault) => {
+            tx.give_up()?;
+            Err(fault)
+        }
+    }
+}
+
+/// The data records that meet the interval of the identity's duration from an instant on.
+///
+/// # Errors
+/// The store's.
+pub fn near<S: Alter>(
+    store: &mut Store<S>,
+    identity: &Identity,
+    start: Instant,
+) -> Result<Vec<Record>, StoreFault> {
+    let mut tx = store.transaction()?;
+    let found = find(&mut tx, identity, start);
+    tx.give_up()?;
+    found
+}
+
+fn find<S: Alter>(
+    tx: &mut StoreTx<'_, S>,
+    identity: &Identity,
+    start: Instant,
+) -> Result<Vec<Record>, StoreFault>
+    requires spared { tx.old.refused ≡ false }
+    requires running { IsRunning S.Store tx.old.store.now }
+    ensures same_reference { tx.new.store.ghost_name ≡ tx.old.store.ghost_name }
+{
+    let id = tx.recording(identity)?;
+    tx.near(id, start, identity.duration())
+}

@@ -1,0 +1,9 @@
+//! The program `edfstore`, run: a night's files, of which one overlaps and one is missing.
+#![tactic(auto)]
+
+use edf_host::run_program;
+use std::process::ExitCode;
+
+fn main(rt: HostRuntime) -> ExitCode {
+    run_program(&rt)
+}
