@@ -17,7 +17,8 @@ use Rattle.sqlite_keyed.specs.Lists.{sort_by}
 use Rattle.sqlite_keyed.proofs.SortLemmas.{IsPermutation-sort_by}
 use Rattle.edf_tables.proofs.AnswerLemmas.{column_total}
 use Rattle.edf_tables.proofs.ApartLemmas.{equal_of}
-use Rattle.edf_rows.specs.Cells.{by_column, is_of, records_in}
+use Rattle.edf_rows.specs.Cells.{records_in}
+use Rattle.edf_schema.specs.Columns.{by_column, is_of}
 use Rattle.edf_rows.specs.Shape.{HasRecords}
 use Rattle.edf_audit.specs.All.{IsAfter, owns, owned_by, AreCounted}
 

@@ -22,7 +22,8 @@ use Rattle.edf_fragment.specs.Fragment.{DataRecord}
 use Rattle.edf_fragment.specs.Sound.{IsSoundRecord, AreSound}
 use Rattle.edf_holdings.specs.Holdings.{Holdings}
 use Rattle.edf_tables.specs.Cells.{first_three}
-use Rattle.edf_rows.specs.Cells.{record_cells, recording_cells, recordings_in, by_column, records_in}
+use Rattle.edf_rows.specs.Cells.{record_cells, recording_cells, recordings_in, records_in}
+use Rattle.edf_schema.specs.Columns.{by_column}
 use Rattle.edf_rows.specs.Rows.{IsOwned, AreTwoOf, AreOther, AreKept}
 use Rattle.edf_rows.specs.Foreign.{IsBadRow, AreTooNear, AreBadRecords, bad_row, too_near, too_few, too_many, IsForeign, bad_recording, bad_records, without_recording, twice}
 use Rattle.edf_rows.specs.Shape.{HasRecords}

@@ -25,7 +25,8 @@ use Rattle.edf_tables.proofs.Queries.{ordered_query, of_recording, start_samples
 use Rattle.edf_tables.proofs.SortLemmas.{rising_sort}
 use Rattle.edf_tables.proofs.TermLemmas.{is_of_passes}
 use Rattle.edf_tables.proofs.AnswerLemmas.{column_total, some_order}
-use Rattle.edf_rows.specs.Cells.{record_cells, by_column, is_of, records_in}
+use Rattle.edf_rows.specs.Cells.{record_cells, records_in}
+use Rattle.edf_schema.specs.Columns.{by_column, is_of}
 use Rattle.edf_rows.specs.Rows.{AreTwoOf}
 use Rattle.edf_rows.proofs.RowsLemmas.{here, mapped}
 use Rattle.edf_audit.specs.Walk.{IsBehind}

@@ -1,5 +1,7 @@
-//! Tests of the check of a file as a store is opened, over memory.
+//! Tests of rows, and of the check of a file as a store is opened, over memory.
 #![tactic(auto)]
 
+#[cfg(test)]
+mod rows;
 #[cfg(test)]
 mod tests;

@@ -1,5 +1,5 @@
 -- Where the fields of a header stand: at which byte each begins, and how many bytes it has.
-use Rattle.std.specs.Prelude.{ℕ, List, [], ◌∷◌}
+use Rattle.std.specs.Prelude.{ℕ, ◌-◌, ◌/◌, List, [], ◌∷◌, length, drop, slice_index}
 use Rattle.edf_field.specs.Number.{field}
 
 -- in the fixed part, its first 256 bytes
@@ -55,3 +55,29 @@ digital_maximum_field row = field row 128 8
 
 abbrev pub samples_field : List ℕ → List ℕ
 samples_field row = field row 216 8
+
+-- in the bytes of an identity: the patient field; D where the Startdate subfield is a date, X where it is X; what follows that
+-- subfield; the spaces that follow where it is a date; the duration field; the rows of the signals
+abbrev pub key_patient_field : List ℕ → List ℕ
+key_patient_field bytes = field bytes 0 80
+
+abbrev pub key_mark : List ℕ → ℕ
+key_mark bytes = slice_index bytes 80
+
+abbrev pub key_after_field : List ℕ → ℕ → List ℕ
+key_after_field bytes width = field bytes 81 width
+
+abbrev pub key_fill_field : List ℕ → List ℕ
+key_fill_field bytes = field bytes 140 10
+
+abbrev pub key_duration_field : List ℕ → List ℕ
+key_duration_field bytes = field bytes 150 8
+
+abbrev pub key_size_before_signals : ℕ
+key_size_before_signals = 158
+
+abbrev pub key_signals_part : List ℕ → List ℕ
+key_signals_part bytes = drop key_size_before_signals bytes
+
+abbrev pub key_signals_count : List ℕ → ℕ
+key_signals_count bytes = (length bytes - key_size_before_signals) / 256

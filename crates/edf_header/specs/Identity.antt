@@ -1,7 +1,8 @@
 -- When bytes are no identity: the condition of each fault, and the first in their order.
-use Rattle.std.specs.Prelude.{◌≡◌, ℕ, ◌+◌, ◌-◌, ◌*◌, ◌/◌, ◌≤◌, ◌<◌, ◌⊎◌, List, length, drop, slice_index}
-use Rattle.edf_field.specs.Number.{field, IsDuration, AreSpaces}
+use Rattle.std.specs.Prelude.{◌≡◌, ℕ, ◌+◌, ◌*◌, ◌≤◌, ◌<◌, ◌⊎◌, List, length}
+use Rattle.edf_field.specs.Number.{IsDuration, AreSpaces}
 use Rattle.edf_field.specs.Text.{IsPrintable, IsPatient, IsBehindStartdate, spaces}
+use Rattle.edf_header.specs.Fields.{key_patient_field, key_mark, key_fill_field, key_duration_field, key_size_before_signals, key_signals_count, key_signals_part}
 use Rattle.edf_header.specs.Signal.{rows, samples_in_all, IsFirstBad}
 use Rattle.edf_header.specs.Key.{key_at}
 use Rattle.edf_header.specs.Fault.{IsBadSignal}
@@ -11,29 +12,29 @@ use Rattle.edf_header.specs.declared.identity.IdentityFault.TheVariants.{Length,
 
 -- 158 bytes, and 256 for each of 1 to 639 signals
 abbrev pub HasLength : List ℕ → Type 0
-HasLength b = (n : ℕ) × (1 ≤ n) × (n ≤ 639) × (length b ≡ 158 + 256 * n)
+HasLength b = (n : ℕ) × (1 ≤ n) × (n ≤ 639) × (length b ≡ key_size_before_signals + 256 * n)
 
 -- D, with 10 spaces at the end of its part, or X
 abbrev pub HasMark : List ℕ → Type 0
-HasMark b = ((slice_index b 80 ≡ 68) × AreSpaces (field b 140 10)) ⊎ (slice_index b 80 ≡ 88)
+HasMark b = ((key_mark b ≡ 68) × AreSpaces (key_fill_field b)) ⊎ (key_mark b ≡ 88)
 
 -- byte 80 is D, with 10 spaces at the end of its part, or X
 pub record IsShaped (bytes : List ℕ) : Type 0 where
   pub signals : ℕ
-  pub len : length bytes ≡ 158 + 256 * signals
-  pub dated : ((slice_index bytes 80 ≡ 68) × (field bytes 140 10 ≡ spaces 10)) ⊎ (slice_index bytes 80 ≡ 88)
+  pub len : length bytes ≡ key_size_before_signals + 256 * signals
+  pub dated : ((key_mark bytes ≡ 68) × (key_fill_field bytes ≡ spaces 10)) ⊎ (key_mark bytes ≡ 88)
 
 -- its signals
 abbrev pub signals_at : List ℕ → List (List ℕ)
-signals_at b = rows ((length b - 158) / 256) (drop 158 b)
+signals_at b = rows (key_signals_count b) (key_signals_part b)
 
 -- the fault is true of the bytes, at its place
 abbrev pub KeyFails : List ℕ → IdentityFault → Type 0
 KeyFails b Length = ¬ HasLength b
 KeyFails b (Unprintable offset) = IsFirstBad IsPrintable b offset
-KeyFails b Patient = ¬ IsPatient (field b 0 80)
+KeyFails b Patient = ¬ IsPatient (key_patient_field b)
 KeyFails b Recording = ¬ (HasMark b × IsBehindStartdate (key_at b).after)
-KeyFails b Duration = (nanos : ℕ) → ¬ IsDuration (field b 150 8) nanos
+KeyFails b Duration = (nanos : ℕ) → ¬ IsDuration (key_duration_field b) nanos
 KeyFails b (Label signal) = IsBadSignal checks.Label (signals_at b) signal
 KeyFails b (Physical signal) = IsBadSignal checks.Physical (signals_at b) signal
 KeyFails b (Digital signal) = IsBadSignal checks.Digital (signals_at b) signal

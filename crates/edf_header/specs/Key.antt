@@ -1,8 +1,9 @@
 -- To which recording a fragment belongs: the key, which fields have it, and its bytes.
-use Rattle.std.specs.Prelude.{◌≡◌, ℕ, ◌-◌, ◌*◌, ◌/◌, ◌≤◌, ◌==◌, Bool, List, ◌∷◌, ◌++◌, length, drop, slice_index, All, if◌then◌else◌, [], slice_index_or}
+use Rattle.std.specs.Prelude.{◌≡◌, ℕ, ◌*◌, ◌≤◌, ◌==◌, Bool, List, ◌∷◌, ◌++◌, length, All, if◌then◌else◌, [], slice_index_or}
 use Rattle.std.specs.List.{flat_map}
-use Rattle.edf_field.specs.Number.{field, IsDuration}
+use Rattle.edf_field.specs.Number.{IsDuration}
 use Rattle.edf_field.specs.Text.{IsPrintable, IsPatient, IsBehindStartdate, spaces, subfields}
+use Rattle.edf_header.specs.Fields.{key_patient_field, key_mark, key_after_field, key_duration_field, key_signals_count, key_signals_part}
 use Rattle.edf_header.specs.Signal.{rows, IsOrdinary, HasSamples, samples_in_all}
 
 -- the patient field; whether the Startdate subfield is a date; what follows it, 59 bytes behind a date and 69 behind X;
@@ -32,11 +33,11 @@ key_bytes k = k.patient ++ (dated_bytes k.dated k.after ++ (k.duration ++ flat_m
 -- the key that such bytes stand for
 abbrev pub key_at : List ℕ → Key
 key_at bytes = record {
-  patient = field bytes 0 80;
-  dated = slice_index bytes 80 == 68;
-  after = field bytes 81 (if slice_index bytes 80 == 68 then 59 else 69);
-  duration = field bytes 150 8;
-  signals = rows ((length bytes - 158) / 256) (drop 158 bytes);
+  patient = key_patient_field bytes;
+  dated = key_mark bytes == 68;
+  after = key_after_field bytes (if key_mark bytes == 68 then 59 else 69);
+  duration = key_duration_field bytes;
+  signals = rows (key_signals_count bytes) (key_signals_part bytes);
 }
 
 -- the keys that headers name

@@ -1,11 +1,10 @@
 -- The cells of a data record and of a recording, and where they stand in the rows of the two tables.
-use Rattle.std.specs.Prelude.{ℕ, ℤ, pos, Bool, List, [], ◌∷◌, map, filter}
-use Rattle.std.specs.declared.cmp.Ordering.{Ordering}
-use Rattle.std.specs.Ordering.{is_eq}
+use Rattle.std.specs.Prelude.{ℤ, pos, List, [], ◌∷◌, map, filter}
 use Rattle.sqlite_value.specs.declared.value.Value.TheVariants.{Int, Blob}
-use Rattle.sqlite_value.specs.Order.{Row, column, value_cmp}
+use Rattle.sqlite_value.specs.Order.{Row, column}
 use Rattle.sqlite_trees.specs.Tree.{Trees}
 use Rattle.sqlite_keyed.specs.Lists.{sort_by}
+use Rattle.edf_schema.specs.Columns.{by_column, is_of}
 use Rattle.edf_header.specs.Key.{Key, key_bytes}
 use Rattle.edf_tal.specs.Canonical.{block_text}
 use Rattle.edf_fragment.specs.Fragment.{DataRecord}
@@ -21,13 +20,6 @@ recording_cells id k = Int id ∷ Blob (key_bytes k) ∷ []
 -- the ids and identities of all recordings
 abbrev pub recordings_in : Trees → List Row
 recordings_in trees = map (λ row. column row 0 ∷ column row 2 ∷ []) (trees 0)
-
-abbrev pub by_column : ℕ → Row → Row → Ordering
-by_column at a b = value_cmp (column a at) (column b at)
-
--- the row is a record's, of the recording with this id
-abbrev pub is_of : ℤ → Row → Bool
-is_of id row = is_eq (value_cmp (column row 1) (Int id))
 
 -- starts, samples and blocks of the recording with this id, by rising starts
 abbrev pub records_in : Trees → ℤ → List Row

@@ -11,7 +11,8 @@ use Rattle.edf_tal.specs.Tal.{Annotation}
 use Rattle.edf_tal.specs.Block.{IsRead}
 use Rattle.edf_tal.specs.declared.place.Place.TheVariants.{Any}
 use Rattle.edf_tal.specs.Canonical.{block_text}
-use Rattle.edf_rows.specs.Cells.{recordings_in, is_of, records_in}
+use Rattle.edf_rows.specs.Cells.{recordings_in, records_in}
+use Rattle.edf_schema.specs.Columns.{is_of}
 use Rattle.edf_rows.specs.Rows.{IsThere, IsRecording, AreTwoOf}
 
 -- the cell is an instant of the window

@@ -4,7 +4,8 @@ use Rattle.sqlite_value.specs.Order.{Row, column}
 use Rattle.sqlite_trees.specs.Tree.{Trees}
 use Rattle.edf_header.specs.Key.{Key, IsKey}
 use Rattle.edf_holdings.specs.Holdings.{Holdings, IsSound}
-use Rattle.edf_rows.specs.Cells.{record_cells, recording_cells, recordings_in, is_of, records_in}
+use Rattle.edf_rows.specs.Cells.{record_cells, recording_cells, recordings_in, records_in}
+use Rattle.edf_schema.specs.Columns.{is_of}
 
 -- the key's recording is there, under this id
 pub record IsThere (trees : Trees) (id : ℤ) (k : Key) : Type 0 where

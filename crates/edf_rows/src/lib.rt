@@ -13,6 +13,3 @@ mod cells;
 pub mod laws;
 
 pub use cells::{block_of, check_row, record_of, start_of};
-
-#[cfg(test)]
-mod tests;

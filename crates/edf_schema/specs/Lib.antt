@@ -1,2 +1,3 @@
 pub mod Schema
 pub mod Inside
+pub mod Columns

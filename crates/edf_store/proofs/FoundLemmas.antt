@@ -17,10 +17,11 @@ use Rattle.sqlite_keyed.proofs.ListLemmas.{all_weaker, none_from_any, along_perm
 use Rattle.edf_header.specs.Key.{Key, IsKey, key_bytes}
 use Rattle.edf_holdings.specs.Holdings.{Holdings}
 use Rattle.edf_tables.specs.Row.{named_cells, new_row, HasRecording}
-use Rattle.edf_tables.specs.Records.{records_of, shown_record, by_column}
+use Rattle.edf_tables.specs.Records.{records_of, shown_record}
+use Rattle.edf_schema.specs.Columns.{by_column, is_of}
 use Rattle.edf_tables.specs.Recordings.{named}
 use Rattle.edf_tables.proofs.ApartLemmas.{equal_of}
-use Rattle.edf_rows.specs.Cells.{record_cells, recording_cells, recordings_in, records_in, is_of}
+use Rattle.edf_rows.specs.Cells.{record_cells, recording_cells, recordings_in, records_in}
 use Rattle.edf_rows.specs.Rows.{IsThere, IsRecording, IsOwned, AreTwoOf, AreOther, StandFor}
 use Rattle.edf_rows.proofs.RowsLemmas.{here, there, cases_first, no_member, same-recordings}
 use Rattle.edf_rows.proofs.KeptLemmas.{first_two, two_later}

@@ -16,7 +16,8 @@ use Rattle.edf_holdings.specs.Same.{same_record}
 use Rattle.edf_holdings.specs.Rising.{inserted, IsApart}
 use Rattle.edf_holdings.specs.Clash.{meets, near_of}
 use Rattle.edf_holdings.proofs.Same.{same_record_no}
-use Rattle.edf_tables.specs.Records.{by_column, shown_record}
+use Rattle.edf_tables.specs.Records.{shown_record}
+use Rattle.edf_schema.specs.Columns.{by_column}
 use Rattle.edf_rows.specs.Cells.{record_cells}
 use Rattle.edf_rows.specs.Rows.{AreTwoOf}
 use Rattle.edf_rows.proofs.RowsLemmas.{cases_first, no_member}

@@ -26,7 +26,8 @@ use Rattle.edf_holdings.proofs.Joining.{lasting, put_here}
 use Rattle.edf_tables.specs.Row.{cells, new_row, HasRecord}
 use Rattle.edf_tables.specs.Records.{records_of, shown_record}
 use Rattle.edf_tables.proofs.HeldLemmas.{own_records, other_records}
-use Rattle.edf_rows.specs.Cells.{record_cells, recording_cells, recordings_in, records_in, is_of}
+use Rattle.edf_rows.specs.Cells.{record_cells, recording_cells, recordings_in, records_in}
+use Rattle.edf_schema.specs.Columns.{is_of}
 use Rattle.edf_rows.specs.Rows.{IsThere, IsRecording, IsOwned, AreTwoOf, AreOther, StandFor}
 use Rattle.edf_rows.proofs.RowsLemmas.{same-recordings}
 use Rattle.edf_store.proofs.RowLemmas.{Show, show_from, from_show, NotAt, not_at, show_more, others_at, all_put, two_of}

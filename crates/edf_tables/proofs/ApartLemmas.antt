@@ -12,7 +12,8 @@ use Rattle.sqlite_value.proofs.OrderLemmas.{value_cmp_total, value_cmp-Int}
 use Rattle.sqlite_trees.specs.Tree.{IsAscending}
 use Rattle.sqlite_keyed.proofs.ListLemmas.{ascending-filter, IsPermutation-filter}
 use Rattle.sqlite_keyed.proofs.SortLemmas.{IsPermutation-sort_by}
-use Rattle.edf_tables.specs.Records.{by_column, starts_between}
+use Rattle.edf_tables.specs.Records.{starts_between}
+use Rattle.edf_schema.specs.Columns.{by_column}
 use Rattle.edf_tables.specs.Recordings.{by_identity, named}
 use Rattle.edf_tables.proofs.AnswerLemmas.{column_total}
 use Rattle.edf_tables.proofs.HeldLemmas.{AreOthers}

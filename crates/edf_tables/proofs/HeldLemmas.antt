@@ -14,7 +14,8 @@ use Rattle.sqlite_keyed.specs.Lists.{insert_sorted}
 use Rattle.sqlite_keyed.proofs.ListLemmas.{all_weaker, all_kept, none_from_any}
 use Rattle.sqlite_keyed.proofs.SortLemmas.{IsPermutation-sort_by}
 use Rattle.edf_tables.specs.Row.{cells, named_cells, new_row, IsInside, HasRecord, HasRecording}
-use Rattle.edf_tables.specs.Records.{by_column, is_of, records_of}
+use Rattle.edf_tables.specs.Records.{records_of}
+use Rattle.edf_schema.specs.Columns.{by_column, is_of}
 use Rattle.edf_tables.specs.Recordings.{by_identity}
 use Rattle.edf_tables.proofs.AnswerLemmas.{column_total}
 use Rattle.edf_tables.proofs.KeepLemmas.{shows_keeps}

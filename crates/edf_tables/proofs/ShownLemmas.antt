@@ -25,7 +25,8 @@ use Rattle.sqlite_keyed.proofs.SortLemmas.{IsPermutation-sort_by}
 use Rattle.edf_tables.specs.declared.row.RecordRow.{RecordRow}
 use Rattle.edf_tables.specs.Cells.{cells_of, first_three}
 use Rattle.edf_tables.specs.Schema.{both_schema}
-use Rattle.edf_tables.specs.Records.{by_column, is_of, records_of, IsRising, IsReady, starts_after, starts_between, shown_record}
+use Rattle.edf_tables.specs.Records.{records_of, IsRising, IsReady, starts_after, starts_between, shown_record}
+use Rattle.edf_schema.specs.Columns.{by_column, is_of}
 use Rattle.edf_tables.specs.Recordings.{named, IsIdIn, by_identity, AreNamedApart, shown_recording}
 use Rattle.edf_tables.proofs.Queries.{passes, paged_query, of_recording, start_samples_block, near_terms, after_terms, identity_terms}
 use Rattle.edf_tables.proofs.QueryTexts.{Means, near_text, near_is, page_text, page_is, walk_text, walk_is, count_text, count_is, first_text, first_is, last_text, last_is, id_text, id_is, identities_text, identities_is, recordings_text, recordings_is, count_all_text, count_all_is}

@@ -8,7 +8,8 @@ use Rattle.sqlite_value.specs.Order.{column, value_cmp}
 use Rattle.sqlite_sql.specs.declared.ops.BinaryOp.TheVariants as by
 use Rattle.sqlite_sql.specs.declared.ops.CompareOp.TheVariants.{Eq, Lt, Gt}
 use Rattle.sqlite_sql.specs.Ops.{binary, is_true, from_truth}
-use Rattle.edf_tables.specs.Records.{is_of, starts_after, starts_between}
+use Rattle.edf_tables.specs.Records.{starts_after, starts_between}
+use Rattle.edf_schema.specs.Columns.{is_of}
 use Rattle.edf_tables.proofs.Queries.{passes, of_recording, near_terms, after_terms, identity_terms}
 
 pub truth_of : (b : Bool) → is_true (from_truth (Some b)) ≡ b

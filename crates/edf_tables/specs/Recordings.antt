@@ -8,7 +8,7 @@ use Rattle.sqlite.specs.State.{State}
 use Rattle.sqlite_value.specs.Order.{column, value_cmp}
 use Rattle.sqlite_trees.specs.Tree.{IsAscending}
 use Rattle.sqlite_keyed.specs.Lists.{sort_by}
-use Rattle.edf_tables.specs.Records.{by_column}
+use Rattle.edf_schema.specs.Columns.{by_column}
 use Rattle.edf_tables.specs.Schema.{both_schema}
 
 -- the rows with this identity

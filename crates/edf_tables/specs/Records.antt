@@ -1,22 +1,15 @@
 -- The rows of the table `record`, by recording and start.
 use Rattle.std.specs.Prelude.{◌≡◌, ◌&&◌, ℕ, ℤ, Bool, List, [], ◌∷◌, filter}
-use Rattle.std.specs.declared.cmp.Ordering.{Ordering}
 use Rattle.std.specs.declared.cmp.Ordering.TheVariants.{Less}
-use Rattle.std.specs.Ordering.{is_eq, is_lt, is_gt}
+use Rattle.std.specs.Ordering.{is_lt, is_gt}
 use Rattle.sqlite.specs.declared.types.Value.TheVariants.{Int}
 use Rattle.sqlite.specs.Order.{Row}
 use Rattle.sqlite.specs.State.{State}
 use Rattle.sqlite_value.specs.Order.{column, value_cmp}
 use Rattle.sqlite_trees.specs.Tree.{IsAscending}
 use Rattle.sqlite_keyed.specs.Lists.{sort_by}
+use Rattle.edf_schema.specs.Columns.{by_column, is_of}
 use Rattle.edf_tables.specs.Schema.{both_schema}
-
-abbrev pub by_column : ℕ → Row → Row → Ordering
-by_column at a b = value_cmp (column a at) (column b at)
-
--- the row is of this recording
-abbrev pub is_of : ℤ → Row → Bool
-is_of n row = is_eq (value_cmp (column row 1) (Int n))
 
 -- the rows of a recording, by their starts
 abbrev pub records_of : ℤ → List Row → List Row

@@ -1,9 +1,9 @@
 -- Words for single steps: the label test, a key from its parts, the bytes that stand for a key, and where a check comes in the order of faults.
 use Rattle.std.specs.Prelude.{◌≡◌, ℕ, ◌*◌, Bool, List, codes, All}
 use Rattle.std.specs.Str.{bytes_eq}
-use Rattle.edf_field.specs.Number.{field, IsDuration, duration_of}
+use Rattle.edf_field.specs.Number.{IsDuration, duration_of}
 use Rattle.edf_field.specs.Text.{IsPrintable, IsPatient, IsBehindStartdate}
-use Rattle.edf_header.specs.Fields.{label_field}
+use Rattle.edf_header.specs.Fields.{label_field, key_patient_field, key_duration_field}
 use Rattle.edf_header.specs.Key.{Key, IsKey, key_at, key_bytes}
 use Rattle.edf_header.specs.Signal.{samples_in_all}
 use Rattle.edf_header.specs.Header.{FixedPart, is_dated}
@@ -36,7 +36,7 @@ place_of_check Samples = 9
 pub record IsKeyFront (b : List ℕ) : Type 0 where
   pub len : HasLength b
   pub printable : All IsPrintable b
-  pub patient : IsPatient (field b 0 80)
+  pub patient : IsPatient (key_patient_field b)
   pub mark : HasMark b
   pub behind : IsBehindStartdate (key_at b).after
-  pub duration : (nanos : ℕ) × IsDuration (field b 150 8) nanos
+  pub duration : (nanos : ℕ) × IsDuration (key_duration_field b) nanos

@@ -1,0 +1,127 @@
+use edf_fragment::Record;
+use edf_header::Identity;
+use edf_rows::{block_of, check_row, record_of, start_of};
+use edf_sample::named;
+use edf_tal::Note;
+use edf_time::Instant;
+use std::alloc::Global;
+use std::test::Fail;
+
+/// 2002-03-02 23:59:50.
+const START: i64 = 541_727_990_000_000_000;
+
+const FOUR: &[u8] = b"\x01\x00\xff\xff";
+
+/// The block of that start, and that of two annotations half a second later.
+const BLOCK: &[u8] = b"+541727990\x14\x14\x00";
+
+const TWO: &[u8] =
+    b"+541727990\x14\x14\x00+541727990.5\x14Snore\x14\x00+541727990.5\x14Turn\x14\x00";
+
+fn identity_q(alloc: Global) -> Option<Identity> {
+    let bytes = named::identity_q(alloc).ok()?;
+    Identity::from_bytes(alloc, bytes.as_slice()).ok()
+}
+
+/// Whether a row is a data record's; `None` where the two calls that tell disagree.
+fn is_a_row(alloc: Global, start: i64, samples: &[u8], block: &[u8]) -> Option<bool> {
+    let identity = identity_q(alloc)?;
+    let row = check_row(alloc, &identity, start, samples, block).ok()?;
+    let record = record_of(alloc, &identity, start, samples, block).ok()?;
+    if row.is_some() == record.is_some() {
+        Some(row.is_some())
+    } else {
+        None
+    }
+}
+
+/// The data record of a row with the samples of Q.
+fn record_with(alloc: Global, block: &[u8]) -> Option<Record> {
+    record_of(alloc, &identity_q(alloc)?, START, FOUR, block).ok()?
+}
+
+#[test]
+fn a_row_is_read_as_it_was_written(rt: HostRuntime) -> Result<(), Fail> {
+    let record = record_with(rt.alloc(), TWO).ok_or("a data record")?;
+    assert_eq!(rt; start_of(record.start()), START);
+    assert_eq!(rt; record.samples(), FOUR);
+    assert_eq!(rt; record.notes().len(), 2);
+    let turn = record.notes().get(1).ok_or("an annotation")?;
+    assert_eq!(rt; turn.text(), "Turn");
+    assert_eq!(rt; turn.onset().nanos(), 541_727_990_500_000_000);
+    assert_eq!(rt; block_of(rt.alloc(), &record)?.as_slice(), TWO);
+    Ok(())
+}
+
+#[test]
+fn a_record_without_annotations_has_a_block(rt: HostRuntime) -> Result<(), Fail> {
+    let start = Instant::at(541_727_990_000_000_000).ok_or("an instant")?;
+    let notes: Vec<Note> = Vec::new(rt.alloc());
+    let samples = Vec::from_slice(rt.alloc(), FOUR)?;
+    let record = Record::new(start, samples, notes).ok_or("a data record")?;
+    assert_eq!(rt; block_of(rt.alloc(), &record)?.as_slice(), BLOCK);
+    Ok(())
+}
+
+#[test]
+fn a_start_is_that_of_the_block_and_inside_the_window(rt: HostRuntime) -> Result<(), Fail> {
+    for (start, block, good) in [
+        (START, BLOCK, true),
+        (0, &b"+0\x14\x14\0"[..], true),
+        (
+            3_155_759_999_000_000_000,
+            &b"+3155759999\x14\x14\0"[..],
+            true,
+        ),
+        (
+            3_155_760_000_000_000_000,
+            &b"+3155760000\x14\x14\0"[..],
+            false,
+        ),
+        (-1, &b"-0.000000001\x14\x14\0"[..], false),
+        (START + 1, BLOCK, false),
+        (-START, BLOCK, false),
+    ] {
+        let told = is_a_row(rt.alloc(), start, FOUR, block);
+        assert_eq!(rt; told, Some(good), "{start}");
+    }
+    Ok(())
+}
+
+#[test]
+fn a_row_has_as_many_samples_as_the_identity_says(rt: HostRuntime) -> Result<(), Fail> {
+    for (samples, good) in [
+        (FOUR, true),
+        (&b""[..], false),
+        (&b"\x01\x00"[..], false),
+        (&b"\x01\x00\xff\xff\x00\x00"[..], false),
+    ] {
+        let told = is_a_row(rt.alloc(), START, samples, BLOCK);
+        assert_eq!(rt; told, Some(good), "{samples:?}");
+    }
+    Ok(())
+}
+
+#[test]
+fn a_block_is_spelled_as_it_would_be_written(rt: HostRuntime) -> Result<(), Fail> {
+    for (block, good) in [
+        (BLOCK, true),
+        (TWO, true),
+        (&b"+541727990.0\x14\x14\0"[..], false),
+        (&b"+0541727990\x14\x14\0"[..], false),
+        (&b"+541727990\x14\x14\0\0"[..], false),
+        (&b"+541727990\x14Turn\x14\0"[..], false),
+        (&b"+541727990\x14\x14Turn\x14\0"[..], false),
+        (
+            &b"+541727990\x14\x14\0+541727991\x14Snore\x14Turn\x14\0"[..],
+            false,
+        ),
+        (&b"+541727990\x14\x14\0+1\x14\xff\x14\0"[..], false),
+        (&b""[..], false),
+        (&b"+541727990\x14\x14"[..], false),
+    ] {
+        let told = is_a_row(rt.alloc(), START, FOUR, block);
+        assert_eq!(rt; told, Some(good), "{block:?}");
+    }
+    Ok(())
+}
