@@ -1,14 +1,13 @@
 -- What is put and told, from what `send` did.
 use Rattle.std.proofs.Common.{◌≡◌, ◌⊎◌, ℕ, ◌<◌, Bool, true, false, List, [], ◌++◌, length, take, drop, refl, sym, ap, ◌∙◌, subst, inl, inr, take-append-drop, append_assoc}
-use Rattle.std.specs.Prelude.{Option, None, Some, Result, Ok, Err, IfOk, MatchResult}
+use Rattle.std.specs.Prelude.{Option, Result, Ok, Err, IfOk, MatchResult}
 use Rattle.std.proofs.lemmas.List.{append-nil}
 use Rattle.std.proofs.lemmas.Bool.{false≢true}
 use Rattle.std.proofs.KnownBytes.{Appends-nil, Appends-trans}
 use Rattle.std.specs.Bool.{MatchBool}
-use Rattle.std.specs.Io.KnownBytes.{Appends, Keeps}
+use Rattle.std.specs.Io.KnownBytes.{Appends}
 use Rattle.edf_fragment.specs.Failures.{one_more}
-use Rattle.edf_export.specs.Export.{WritesFront}
-use Rattle.edf_command.specs.Output.{Growth, grown, Gets, GetsFront, LacksText, IsPut, IsLinePut, ArePut, IsWritten, IsTold, AreTold}
+use Rattle.edf_command.specs.Output.{Growth, grown, Gets, GetsFront, LacksText, IsPut, IsLinePut, IsWritten, IsTold, AreTold}
 use Rattle.edf_command.specs.declared.status.Status.{Status}
 use Rattle.edf_command.specs.declared.status.Status.TheVariants.{Trouble}
 

@@ -1,6 +1,5 @@
-use Rattle.std.proofs.Common.{◌≡◌, ◌∙◌, ap, subst, refl, inl, inr}
+use Rattle.std.proofs.Common.{◌∙◌, ap, subst, refl, inl, inr}
 use Rattle.std.proofs.lemmas.Result.{IfOk-weaker}
-use Rattle.edf_intake.specs.Refusal.{refusal_number}
 use Rattle.edf_command.specs.Lines.{convert_memory_line, refused_line, status_of_number}
 use Rattle.edf_command.specs.Output.{grown, IsTold}
 use Rattle.edf_command.specs.declared.status.Status.{Status}

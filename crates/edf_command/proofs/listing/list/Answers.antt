@@ -1,4 +1,4 @@
-use Rattle.std.proofs.Common.{◌≡◌, Bool, true, false, List, [], ◌++◌, length, take, drop, ap, sym, ◌∙◌, refl, subst, inl, inr, take-append-drop}
+use Rattle.std.proofs.Common.{Bool, true, false, List, [], length, take, drop, sym, ◌∙◌, refl, subst, inl, inr, take-append-drop}
 use Rattle.edf_header.specs.Key.{Key}
 use Rattle.edf_holdings.proofs.KeyLists.{keys_are_one}
 use Rattle.edf_store.proofs.ReadyLemmas.{stays_then}

@@ -1,4 +1,4 @@
-use Rattle.std.proofs.Common.{Option, None, subst}
+use Rattle.std.proofs.Common.{Option, subst}
 use Rattle.std.proofs.lemmas.Result.{IfOk-weaker}
 use Rattle.edf_store.specs.Listed.{IsSummary}
 use Rattle.edf_store.specs.declared.listing.Summary.{Summary}

@@ -1,4 +1,4 @@
-use Rattle.std.proofs.Common.{◌≡◌, Bool, ℕ, ◌+◌, ◌∙◌, List, length, take, ap, sym, subst, refl, arith}
+use Rattle.std.proofs.Common.{Bool, ℕ, ◌+◌, ◌∙◌, List, length, take, ap, sym, subst, arith}
 use Rattle.std.proofs.lemmas.List.{take_all}
 use Rattle.edf_store.proofs.ReadyLemmas.{stays_then}
 use Rattle.edf_command.specs.Lines.{list_line, list_lines, first_list_lines}

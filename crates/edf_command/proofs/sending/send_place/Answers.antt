@@ -1,8 +1,7 @@
-use Rattle.std.proofs.Common.{◌≡◌, ◌∙◌, List, sym, ap, refl, inl, inr}
+use Rattle.std.proofs.Common.{◌∙◌, List, sym, ap, inl, inr}
 use Rattle.std.specs.Prelude.{Option}
 use Rattle.edf_header.specs.Key.{Key}
 use Rattle.edf_store.proofs.ReadyLemmas.{stays_then}
-use Rattle.edf_export.specs.declared.fault.ExportFault.TheVariants.{Store}
 use Rattle.edf_command.specs.Run.{at_place}
 use Rattle.edf_command.specs.Lines.{no_recording_line}
 use Rattle.edf_command.proofs.Kept.{was-clean, is-refusal}

@@ -1,9 +1,8 @@
-use Rattle.std.proofs.Common.{◌≡◌, ℕ, List, length, ◌++◌, ◌+◌, drop, take, map, string_bytes, ap, sym, ◌∙◌, subst, arith}
+use Rattle.std.proofs.Common.{ℕ, List, length, ◌+◌, drop, take, map, string_bytes, ap, sym, ◌∙◌, subst}
 use Rattle.std.proofs.lemmas.List.{length_push, take_all}
 use Rattle.std.proofs.lemmas.Result.{IfOk-weaker}
 use Rattle.std.proofs.lemmas.Slice.Zip.{zip_turn, zip_end}
 use Rattle.std.specs.List.{flat_map}
-use Rattle.edf_intake.specs.Refusal.{Answer}
 use Rattle.edf_command.specs.Lines.{take_line, first_take_lines}
 use Rattle.edf_command.specs.Output.{grown, Gets}
 use Rattle.edf_command.proofs.Puts.{nothing-gets, gets-behind, stops-behind}

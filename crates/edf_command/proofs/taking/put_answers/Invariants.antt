@@ -1,4 +1,4 @@
-use Rattle.std.proofs.Common.{◌≡◌, ℕ, List, map, take, length, string_bytes}
+use Rattle.std.proofs.Common.{ℕ, List, map, take, length, string_bytes}
 use Rattle.std.specs.List.{flat_map, zip}
 use Rattle.edf_command.specs.Refusals.{IsSpelling}
 use Rattle.edf_command.specs.Lines.{take_line}

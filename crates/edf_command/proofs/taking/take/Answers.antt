@@ -1,4 +1,4 @@
-use Rattle.std.proofs.Common.{◌≡◌, ℕ, List, length, map, ◌∙◌, ap, sym, subst, refl, inl, inr, string_bytes, true, false}
+use Rattle.std.proofs.Common.{ℕ, List, length, map, ◌∙◌, ap, sym, subst, refl, inl, inr, string_bytes, true, false}
 use Rattle.std.specs.Prelude.{Option}
 use Rattle.std.proofs.lemmas.Simd.{map-map}
 use Rattle.edf_intake.specs.Refusal.{Answer}
