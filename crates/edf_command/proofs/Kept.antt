@@ -1,5 +1,5 @@
 -- Calls of a store that leave what it holds.
-use Rattle.std.proofs.Common.{◌≡◌, ◌≢◌, refl, arith}
+use Rattle.std.proofs.Common.{◌≢◌, refl, arith}
 use Rattle.sqlite_trees.specs.declared.store.Store.{Ghosts}
 use Rattle.sqlite.specs.State.{HasCleanDisk}
 use Rattle.edf_tables.proofs.CommitLemmas.{survives_same}

@@ -1,67 +1,102 @@
 -- What is put and told, from what `send` did.
-use Rattle.std.proofs.Common.{◌≡◌, ℕ, ◌<◌, Bool, true, false, List, [], ◌++◌, length, take, drop, refl, sym, ap, ◌∙◌, inl, inr, take-append-drop, append_assoc}
-use Rattle.std.specs.Prelude.{Option, None, Some}
+use Rattle.std.proofs.Common.{◌≡◌, ◌⊎◌, ℕ, ◌<◌, Bool, true, false, List, [], ◌++◌, length, take, drop, refl, sym, ap, ◌∙◌, subst, inl, inr, take-append-drop, append_assoc}
+use Rattle.std.specs.Prelude.{Option, Result, Ok, Err, IfOk, MatchResult}
 use Rattle.std.proofs.lemmas.List.{append-nil}
 use Rattle.std.proofs.lemmas.Bool.{false≢true}
 use Rattle.std.proofs.KnownBytes.{Appends-nil, Appends-trans}
 use Rattle.std.specs.Bool.{MatchBool}
-use Rattle.std.specs.Io.KnownBytes.{Appends, Keeps}
+use Rattle.std.specs.Io.KnownBytes.{Appends}
 use Rattle.edf_fragment.specs.Failures.{one_more}
-use Rattle.edf_export.specs.Export.{WritesFront}
-use Rattle.edf_command.specs.Run.{Growth, IsPut, IsTold, Says}
+use Rattle.edf_command.specs.Output.{Growth, grown, Gets, GetsFront, LacksText, IsPut, IsLinePut, IsWritten, IsTold, AreTold}
 use Rattle.edf_command.specs.declared.status.Status.{Status}
 use Rattle.edf_command.specs.declared.status.Status.TheVariants.{Trouble}
 
-abbrev pub grown : Option (List ℕ) → Option (List ℕ) → Growth
-grown before after = record { before = before; after = after }
-
-abbrev pub IsSentBy : Option (List ℕ) → Option (List ℕ) → ℕ → ℕ → List ℕ → Bool → Type 0
-IsSentBy before after old new bytes written = MatchBool written
+abbrev pub IsSentBy : Option (List ℕ) → ℕ → Option (List ℕ) → ℕ → List ℕ → Bool → Type 0
+IsSentBy before old after new bytes written = MatchBool written
     (Appends before after bytes × (new ≡ old))
     ((n : ℕ) × (n < length bytes) × Appends before after (take n bytes) × (new ≡ one_more old))
 
-pub put-sent : (before after : Option (List ℕ)) (old new : ℕ) (bytes : List ℕ) (written : Bool)
-    → IsSentBy before after old new bytes written → IsPut (grown before after) bytes written
-put-sent before after old new bytes true s = s.0
-put-sent before after old new bytes false s = record {
-  front = take s.0 bytes;
-  left = drop s.0 bytes;
-  parts = sym (take-append-drop s.0 bytes);
-  wrote = s.2;
-}
+pub put-sent : (before : Option (List ℕ)) (old : ℕ) (after : Option (List ℕ)) (new : ℕ) (bytes : List ℕ) (written : Bool)
+    → IsSentBy before old after new bytes written → IsPut (grown before old after new) bytes written
+put-sent before old after new bytes true s = s
+put-sent before old after new bytes false s = (
+  record {
+    front = take s.0 bytes;
+    left = drop s.0 bytes;
+    parts = sym (take-append-drop s.0 bytes);
+    wrote = s.2;
+  },
+  s.3,
+)
 
-pub trouble-put : (before after : Option (List ℕ)) (bytes : List ℕ) (written : Bool) (wanted : Status)
-    → IsPut (grown before after) bytes written → written ≡ false → IsTold (grown before after) bytes wanted Trouble
-trouble-put before after bytes false wanted p e = inr (p, refl)
-trouble-put before after bytes true wanted p e = absurd (false≢true (sym e))
+module _ (w : Growth) where
+  pub done-put : (bytes : List ℕ) (written : Bool) (wanted : Status) → IsPut w bytes written → written ≡ true → IsWritten w bytes wanted wanted
+  done-put bytes true wanted p e = inl (p, refl)
+  done-put bytes false wanted p e = absurd (false≢true e)
 
--- nothing was written, which is a front of anything
-pub nothing-put : (known : Option (List ℕ)) (bytes : List ℕ) → WritesFront known known bytes
-nothing-put known bytes = record { front = []; left = bytes; parts = refl; wrote = Appends-nil known }
+  pub trouble-put : (bytes : List ℕ) (written : Bool) (wanted : Status) → IsPut w bytes written → written ≡ false → IsWritten w bytes wanted Trouble
+  trouble-put bytes false wanted p e = inr (p, refl)
+  trouble-put bytes true wanted p e = absurd (false≢true (sym e))
 
--- some bytes were written, and then a front of those behind them
-pub front-behind : (a b c : Option (List ℕ)) (done line rest all : List ℕ) → all ≡ done ++ (line ++ rest)
-    → Appends a b done → WritesFront b c line → WritesFront a c all
-front-behind a b c done line rest all e first then = record {
-  front = done ++ then.front;
-  left = then.left ++ rest;
-  parts = e ∙ ap (λ (l : List ℕ). done ++ (l ++ rest)) then.parts ∙ ap (λ (l : List ℕ). done ++ l) (append_assoc then.front then.left rest)
-      ∙ sym (append_assoc done then.front (then.left ++ rest));
-  wrote = Appends-trans a b c done then.front first then.wrote;
-}
+  -- lines, of which one could not be written
+  pub trouble-lines : (lines : ℕ → List ℕ) (count : ℕ) (wanted : Status) → GetsFront w (lines count) ⊎ LacksText w lines count → AreTold w lines count wanted Trouble
+  trouble-lines lines count wanted (inl cut) = inl (inr (cut, refl))
+  trouble-lines lines count wanted (inr lacks) = inr (lacks, refl)
 
--- known bytes that stay grew by nothing
-pub kept-appends : (a b : Option (List ℕ)) → Keeps a b → Appends a b []
-kept-appends None b k = tt
-kept-appends (Some xs) None k = absurd k
-kept-appends (Some xs) (Some ys) k = k ∙ sym (append-nil xs)
+  -- ---- a line that is there, or is not for want of memory
+  module _ {T E : Type 0} (items : T → List ℕ) where
+    abbrev pub IsPutBy : Result T E → Bool → Type 0
+    IsPutBy line written = MatchResult line (λ l. IsPut w (items l) written) (λ _. Gets w [] × (written ≡ false))
 
--- what is told on one of the writers, where nothing was written on the other
-pub said-out : (before after err : Option (List ℕ)) (bytes : List ℕ) (wanted status : Status)
-    → IsTold (grown before after) bytes wanted status → Says (grown before after) (grown err err) bytes [] wanted status
-said-out before after err bytes wanted status (inl told) = inl (told.0, inl (Appends-nil err, told.1))
-said-out before after err bytes wanted status (inr cut) = inr (cut.0, Appends-nil err, cut.1)
+    abbrev pub IsToldBy : Result T E → Status → Status → Type 0
+    IsToldBy line wanted status = MatchResult line (λ l. IsWritten w (items l) wanted status) (λ _. Gets w [] × (status ≡ Trouble))
 
-pub said-err : (before after out : Option (List ℕ)) (bytes : List ℕ) (wanted status : Status)
-    → IsTold (grown before after) bytes wanted status → Says (grown out out) (grown before after) [] bytes wanted status
-said-err before after out bytes wanted status told = inl (Appends-nil out, told)
+    pub line-put : (line : Result T E) (written : Bool) (text : List ℕ) → IsPutBy line written → IfOk line (λ l. items l ≡ text) → IsLinePut w text written
+    line-put (Ok l) true text p is = subst (Gets w) is p
+    line-put (Ok l) false text p is = inl (subst (GetsFront w) is p)
+    line-put (Err e) true text p is = absurd (false≢true (sym p.1))
+    line-put (Err e) false text p is = inr p.0
+
+    pub line-told : (line : Result T E) (wanted status : Status) (text : List ℕ) → IsToldBy line wanted status → IfOk line (λ l. items l ≡ text) → IsTold w text wanted status
+    line-told (Ok l) wanted status text p is = inl (subst (λ (t : List ℕ). IsWritten w t wanted status) is p)
+    line-told (Err e) wanted status text p is = inr p
+
+    pub told-whole : (line : Result T E) (written : Bool) (wanted : Status) → IsPutBy line written → written ≡ true → IsToldBy line wanted wanted
+    told-whole (Ok l) written wanted p e = done-put (items l) written wanted p e
+    told-whole (Err x) written wanted p e = absurd (false≢true (sym p.1 ∙ e))
+
+    pub told-trouble : (line : Result T E) (written : Bool) (wanted : Status) → IsPutBy line written → written ≡ false → IsToldBy line wanted Trouble
+    told-trouble (Ok l) written wanted p e = trouble-put (items l) written wanted p e
+    told-trouble (Err x) written wanted p e = (p.0, refl)
+
+-- ---- one behind the other
+
+-- nothing was written
+pub nothing-gets : (known : Option (List ℕ)) (failed : ℕ) → Gets (grown known failed known failed) []
+nothing-gets known failed = (Appends-nil known, refl)
+
+module _ (a : Option (List ℕ)) (old : ℕ) (b : Option (List ℕ)) (mid : ℕ) (c : Option (List ℕ)) (new : ℕ) where
+  pub gets-behind : (done more : List ℕ) → Gets (grown a old b mid) done → Gets (grown b mid c new) more → Gets (grown a old c new) (done ++ more)
+  gets-behind done more first then = (Appends-trans a b c done more first.0 then.0, then.1 ∙ first.1)
+
+  pub gets-no_more : (done : List ℕ) → Gets (grown a old b mid) done → Gets (grown b mid c new) [] → Gets (grown a old c new) done
+  gets-no_more done first then = subst (Gets (grown a old c new)) (append-nil done) (gets-behind done [] first then)
+
+  -- some bytes were written, and then a front of those behind them
+  pub front-behind : (done line rest all : List ℕ) → all ≡ done ++ (line ++ rest) → Gets (grown a old b mid) done → GetsFront (grown b mid c new) line → GetsFront (grown a old c new) all
+  front-behind done line rest all e first then = (
+    record {
+      front = done ++ then.0.front;
+      left = then.0.left ++ rest;
+      parts = e ∙ ap (λ (l : List ℕ). done ++ (l ++ rest)) then.0.parts ∙ ap (λ (l : List ℕ). done ++ l) (append_assoc then.0.front then.0.left rest)
+          ∙ sym (append_assoc done then.0.front (then.0.left ++ rest));
+      wrote = Appends-trans a b c done then.0.front first.0 then.0.wrote;
+    },
+    then.1 ∙ ap one_more first.1,
+  )
+
+  -- some lines were written, and the next one was not
+  pub stops-behind : (lines : ℕ → List ℕ) (count n : ℕ) (line rest : List ℕ) → n < count → lines count ≡ lines n ++ (line ++ rest) → Gets (grown a old b mid) (lines n)
+      → IsLinePut (grown b mid c new) line false → GetsFront (grown a old c new) (lines count) ⊎ LacksText (grown a old c new) lines count
+  stops-behind lines count n line rest lt e first (inl cut) = inl (front-behind (lines n) line rest (lines count) e first cut)
+  stops-behind lines count n line rest lt e first (inr none) = inr (record { written = n; fewer = lt; wrote = gets-no_more (lines n) first none })

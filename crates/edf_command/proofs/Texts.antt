@@ -1,5 +1,5 @@
 -- Texts that are joined from their parts.
-use Rattle.std.proofs.Common.{◌≡◌, ℕ, ◌+◌, ◌<◌, List, [], ◌∷◌, ◌++◌, length, refl, sym, ap, ◌∙◌, append_assoc, codes, decimal}
+use Rattle.std.proofs.Common.{◌≡◌, ℕ, ◌<◌, List, [], ◌∷◌, ◌++◌, length, sym, ap, ◌∙◌, append_assoc, codes, decimal}
 use Rattle.std.specs.Prelude.{Some}
 use Rattle.edf_time.specs.Civil.{window, IsInstantText}
 use Rattle.edf_time.proofs.Cited.{one-instant_text}

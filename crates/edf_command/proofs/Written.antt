@@ -1,7 +1,7 @@
 -- Lists of lines, one line more.
 use Rattle.std.proofs.Common.{◌≡◌, ℕ, zero, suc, ◌+◌, ◌<◌, ◌≤◌, List, [], ◌∷◌, ◌++◌, length, take, drop, get_or, map, refl, sym, ap, ◌∙◌, append_assoc, arith, add-one, add-zero, take-append-drop}
 use Rattle.std.specs.List.{flat_map, zip}
-use Rattle.std.proofs.lemmas.List.{take_more, flat_map_more, append-nil}
+use Rattle.std.proofs.lemmas.List.{take_more, take_all, flat_map_more, append-nil}
 use Rattle.std.proofs.lemmas.Grind.{flat_map-append}
 use Rattle.std.specs.Global.{Global}
 use Rattle.std.specs.Prelude.{String, string_bytes, min}
@@ -10,7 +10,7 @@ use Rattle.std.proofs.lemmas.Slice.Zip.{length-zip, get_or-zip}
 use Rattle.edf_intake.specs.Refusal.{Answer}
 use Rattle.edf_header.specs.Key.{Key}
 use Rattle.edf_holdings.specs.Holdings.{Holdings}
-use Rattle.edf_command.specs.Lines.{list_line, list_lines, take_line}
+use Rattle.edf_command.specs.Lines.{list_line, list_lines, first_list_lines, take_line, first_take_lines}
 
 pub lines-more : {X : Type 0} (f : X → List ℕ) (xs : List X) (i : ℕ) (d : X) → i < length xs
     → flat_map f (take (i + 1) xs) ≡ flat_map f (take i xs) ++ f (get_or xs i d)
@@ -58,12 +58,26 @@ module _ (spell : ℕ → List ℕ) (h : Holdings) where
 
 -- ---- files beside their answers
 
+zip-take : {X Y : Type 0} (n : ℕ) (xs : List X) (ys : List Y) → zip xs (take n ys) ≡ take n (zip xs ys)
+zip-take zero [] ys = refl
+zip-take zero (x ∷ xs) ys = refl
+zip-take (suc n) [] ys = refl
+zip-take (suc n) (x ∷ xs) [] = refl
+zip-take (suc n) (x ∷ xs) (y ∷ ys) = ap (λ l. (x, y) ∷ l) (zip-take n xs ys)
+
 module _ (spell : ℕ → List ℕ) (files : List (String Global)) (answers : List Answer) where
   abbrev pub pairs : List (List ℕ × Answer)
   pairs = zip (map string_bytes files) answers
 
   abbrev pub pair_line : List ℕ × Answer → List ℕ
   pair_line p = take_line spell p.0 p.1
+
+  -- the lines of the first so many answers, and of all
+  pub first-pairs : (n : ℕ) → first_take_lines spell (map string_bytes files) answers n ≡ flat_map pair_line (take n pairs)
+  first-pairs n = ap (flat_map pair_line) (zip-take n (map string_bytes files) answers)
+
+  pub all-pairs : first_take_lines spell (map string_bytes files) answers (length answers) ≡ flat_map pair_line pairs
+  all-pairs = ap (λ (l : List Answer). flat_map pair_line (zip (map string_bytes files) l)) (take_all (length answers) answers (omega arith))
 
   pub length-pairs : (n : ℕ) → n ≡ min (length files) (length answers) → length pairs ≤ n
   length-pairs n e = omega (arith, length-zip (map string_bytes files) answers, length-map files (string_bytes {Z = Global}), e)
@@ -86,6 +100,10 @@ module _ (spell : ℕ → List ℕ) (files : List (String Global)) (answers : Li
     taken-split = lines-split pair_line pairs n (string_bytes file, answer) there
         ∙ ap (λ (p : List ℕ × Answer). flat_map pair_line (take n pairs) ++ (pair_line p ++ flat_map pair_line (drop (n + 1) pairs))) at-pair
 
+    pub first-split : first_take_lines spell (map string_bytes files) answers (length answers)
+        ≡ first_take_lines spell (map string_bytes files) answers n ++ (take_line spell name answer ++ flat_map pair_line (drop (n + 1) pairs))
+    first-split = all-pairs ∙ taken-split ∙ ap (λ (l : List ℕ). l ++ (take_line spell name answer ++ flat_map pair_line (drop (n + 1) pairs))) (sym (first-pairs n))
+
 -- ---- recordings from the first place on
 
 module _ (spell : ℕ → List ℕ) (h : Holdings) (keys : List Key) (i : ℕ) (k : Key) (within : i < length keys) (is : k ≡ get_or keys i k) where
@@ -97,7 +115,7 @@ module _ (spell : ℕ → List ℕ) (h : Holdings) (keys : List Key) (i : ℕ) (
   pub listed-next : list_lines spell h 1 (take (i + 1) keys) ≡ list_lines spell h 1 (take i keys) ++ list_line spell (i + 1) k (h k)
   listed-next = listed-more spell h keys 1 i k within ∙ ap (λ (l : List ℕ). list_lines spell h 1 (take i keys) ++ l) next-line
 
-  pub listed-past : (rest : List ℕ) × (list_lines spell h 1 keys ≡ list_lines spell h 1 (take i keys) ++ (list_line spell (i + 1) k (h k) ++ rest))
+  pub listed-past : (rest : List ℕ) × (first_list_lines spell h keys (length keys) ≡ list_lines spell h 1 (take i keys) ++ (list_line spell (i + 1) k (h k) ++ rest))
   listed-past =
       let it = listed-split spell h keys 1 i k within in
-      (it.0, it.1 ∙ ap (λ (l : List ℕ). list_lines spell h 1 (take i keys) ++ (l ++ it.0)) next-line)
+      (it.0, ap (list_lines spell h 1) (take_all (length keys) keys (omega arith)) ∙ it.1 ∙ ap (λ (l : List ℕ). list_lines spell h 1 (take i keys) ++ (l ++ it.0)) next-line)

@@ -5,7 +5,7 @@ use Rattle.edf_order.specs.Order.{Asked, Text, meaning}
 use Rattle.edf_order.specs.Order.Asked.{take, list, export, convert}
 use Rattle.edf_order.specs.declared.order.Order.{Order}
 use Rattle.edf_command.specs.Lines.{command_memory_line}
-use Rattle.edf_command.specs.Run.{Growth, Gets, Says}
+use Rattle.edf_command.specs.Output.{Growth, Gets, IsWritten}
 use Rattle.edf_command.specs.declared.status.Status.{Status}
 use Rattle.edf_command.specs.declared.status.Status.TheVariants.{Done, Usage, Trouble}
 
@@ -24,10 +24,10 @@ module _ (out err : Growth) where
   -- what `clap` says: help, or why nothing can be done
   pub record IsExplained (status : Status) : Type 0 where
     pub text : List ℕ
-    pub said : Says out err text [] Done status ⊎ Says out err [] text Usage status
+    pub said : (IsWritten out text Done status × Gets err []) ⊎ (Gets out [] × IsWritten err text Usage status)
 
   abbrev pub LacksMemory : Status → Type 0
-  LacksMemory status = Says out err [] command_memory_line Trouble status
+  LacksMemory status = Gets out [] × IsWritten err command_memory_line Trouble status
 
   -- by what the words ask for: the order, and nothing is written; or they ask for nothing; or there is no memory for them
   abbrev pub IsRead : Option Asked → Result Order Status → Type 0

@@ -1,10 +1,9 @@
 -- The lines that the program writes, and its statuses: functions of names, answers and holdings. A line ends with byte 10.
-use Rattle.std.specs.Prelude.{ℕ, ◌+◌, ◌==◌, ◌&&◌, ◌||◌, Bool, nat_le, List, [], ◌∷◌, ◌++◌, length, codes, decimal, if◌then◌else◌, fold, Result, Ok, Err}
+use Rattle.std.specs.Prelude.{ℕ, ◌+◌, ◌==◌, ◌&&◌, ◌||◌, Bool, nat_le, List, [], ◌∷◌, ◌++◌, length, take, codes, decimal, if◌then◌else◌, fold, Ok, Err}
 use Rattle.std.specs.List.{flat_map, zip}
 use Rattle.edf_header.specs.Key.{Key, patient_code, investigation_code}
 use Rattle.edf_fragment.specs.Fragment.{DataRecord}
 use Rattle.edf_holdings.specs.Holdings.{Holdings}
-use Rattle.edf_store.specs.Fault.{number}
 use Rattle.edf_store.specs.declared.fault.StoreFault.{StoreFault}
 use Rattle.edf_intake.specs.Refusal.{Answer, refusal_number}
 use Rattle.edf_intake.specs.declared.refusal.Refusal.{Refusal}
@@ -31,6 +30,10 @@ take_line spell name (Err refusal) = name ++ (codes " refused " ++ (refusal_text
 -- a line a file, in the order of the words
 abbrev pub take_lines : (ℕ → List ℕ) → List (List ℕ) → List Answer → List ℕ
 take_lines spell names answers = flat_map (λ p. take_line spell p.0 p.1) (zip names answers)
+
+-- those of the first so many answers
+abbrev pub first_take_lines : (ℕ → List ℕ) → List (List ℕ) → List Answer → ℕ → List ℕ
+first_take_lines spell names answers n = take_lines spell names (take n answers)
 
 -- E40 to E43 and E45
 abbrev pub is_trouble : ℕ → Bool
@@ -75,6 +78,10 @@ list_line spell place k records = decimal place ++ (codes " records=" ++ (decima
 abbrev pub list_lines : (ℕ → List ℕ) → Holdings → ℕ → List Key → List ℕ
 list_lines spell h place [] = []
 list_lines spell h place (k ∷ ks) = list_line spell place k (h k) ++ list_lines spell h (place + 1) ks
+
+-- those of the first so many recordings
+abbrev pub first_list_lines : (ℕ → List ℕ) → Holdings → List Key → ℕ → List ℕ
+first_list_lines spell h keys n = list_lines spell h 1 (take n keys)
 
 abbrev pub list_refused_line : StoreFault → List ℕ
 list_refused_line fault = codes "list refused " ++ (store_text fault ++ (10 ∷ []))

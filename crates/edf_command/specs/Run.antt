@@ -1,7 +1,5 @@
 -- What an order does: what it writes, the status that it answers, and what it leaves in the store.
-use Rattle.std.specs.Prelude.{◌≡◌, ◌≢◌, ◌⊎◌, Contains, ℕ, zero, suc, Bool, List, [], ◌++◌, map, slice_get, Option, Some, None, Result, Ok, Err}
-use Rattle.std.specs.Bool.{MatchBool}
-use Rattle.std.specs.Io.KnownBytes.{Appends, Keeps}
+use Rattle.std.specs.Prelude.{◌≡◌, ◌≢◌, ◌⊎◌, Contains, ℕ, zero, suc, List, [], ◌++◌, length, map, slice_get, Option, Some, None, Ok, Err}
 use Rattle.sqlite_trees.specs.declared.store.Store.{Ghosts}
 use Rattle.sqlite.specs.State.{HasCleanDisk}
 use Rattle.edf_header.specs.Key.{Key}
@@ -16,45 +14,16 @@ use Rattle.edf_intake.specs.Submitted.{IsSubmitted}
 use Rattle.edf_intake.specs.Batch.{AreSubmitted, AnswersAll}
 use Rattle.edf_intake.specs.declared.receipt.Receipt.{Receipt}
 use Rattle.edf_intake.specs.declared.refusal.Refusal.{Refusal}
-use Rattle.edf_export.specs.Export.{IsExported, IsNotExported, WritesFront}
+use Rattle.edf_export.specs.Export.{IsExported, IsNotExported, CountsExportFault}
 use Rattle.edf_export.specs.declared.fault.ExportFault.{ExportFault}
 use Rattle.edf_export.specs.declared.fault.ExportFault.TheVariants.{Store}
 use Rattle.edf_order.specs.Order.{Asked}
 use Rattle.edf_order.specs.Order.Asked.{take, list, export, convert}
 use Rattle.edf_command.specs.Refusals.{IsSpelling}
-use Rattle.edf_command.specs.Lines.{take_lines, take_status, take_memory_line, list_lines, list_refused_line, no_recording_line, export_refused_line, export_status, refused_line, status_of_number, convert_memory_line}
+use Rattle.edf_command.specs.Lines.{first_take_lines, take_status, take_memory_line, list_lines, first_list_lines, list_refused_line, no_recording_line, export_refused_line, export_status, refused_line, status_of_number, convert_memory_line}
+use Rattle.edf_command.specs.Output.{Growth, Gets, IsWritten, IsTold, AreTold, Explains}
 use Rattle.edf_command.specs.declared.status.Status.{Status}
-use Rattle.edf_command.specs.declared.status.Status.TheVariants.{Done, Refused, Usage, Trouble}
-
--- what a writer holds before and after, where that is known
-pub record Growth : Type 0 where
-  pub before : Option (List ℕ)
-  pub after : Option (List ℕ)
-
--- it got just these bytes; a front of them
-abbrev pub Gets : Growth → List ℕ → Type 0
-Gets w bytes = Appends w.before w.after bytes
-
-abbrev pub GetsFront : Growth → List ℕ → Type 0
-GetsFront w bytes = WritesFront w.before w.after bytes
-
--- the bytes were written, where that is answered, or a front of them
-abbrev pub IsPut : Growth → List ℕ → Bool → Type 0
-IsPut w bytes written = MatchBool written (Gets w bytes) (GetsFront w bytes)
-
--- the bytes were written, and the status is the one that is wanted; or a front of them, and it is trouble
-abbrev pub IsTold : Growth → List ℕ → Status → Status → Type 0
-IsTold w bytes wanted status = (Gets w bytes × (status ≡ wanted)) ⊎ (GetsFront w bytes × (status ≡ Trouble))
-
--- some bytes were written on `out`, and then others on `err`, and the status is the one that is wanted; or the last line could
--- not be written whole, and it is trouble
-abbrev pub Says : Growth → Growth → List ℕ → List ℕ → Status → Status → Type 0
-Says out err onto onto_err wanted status =
-    (Gets out onto × IsTold err onto_err wanted status) ⊎ (GetsFront out onto × Gets err [] × (status ≡ Trouble))
-
--- bytes that hang on how instants are written
-abbrev pub SaysLines : Growth → Growth → ((ℕ → List ℕ) → List ℕ) → ((ℕ → List ℕ) → List ℕ) → Status → Status → Type 0
-SaysLines out err onto onto_err wanted status = (spell : ℕ → List ℕ) → IsSpelling spell → Says out err (onto spell) (onto_err spell) wanted status
+use Rattle.edf_command.specs.declared.status.Status.TheVariants.{Done, Refused, Trouble}
 
 -- each of the keys holds a record
 abbrev pub AreHeldBy : Holdings → List Key → Type 0
@@ -76,11 +45,12 @@ module _ {S : Type 0} (g : Ghosts S) (old new : Kept S) (out err : Growth) where
     pub opened : map (λ (f : Source). f.left) froms ≡ map bytes names
     pub submitted : AreSubmitted g old new froms tos answers
     pub answered : AnswersAll g old new froms answers
-    pub said : SaysLines out err (λ spell. take_lines spell names answers) (λ spell. []) (take_status answers) status
+    pub said : (spell : ℕ → List ℕ) → IsSpelling spell → AreTold out (first_take_lines spell names answers) (length answers) (take_status answers) status
+    pub silent : Gets err []
 
   -- or there was no memory for the readers or the answers, and nothing was submitted
   abbrev pub IsTaken : (List ℕ → Option (List ℕ)) → List (List ℕ) → Status → Type 0
-  IsTaken bytes names status = TakesFiles bytes names status ⊎ ((new ≡ old) × Says out err [] take_memory_line Trouble status)
+  IsTaken bytes names status = TakesFiles bytes names status ⊎ ((new ≡ old) × Gets out [] × IsWritten err take_memory_line Trouble status)
 
   -- ---- list
 
@@ -88,7 +58,8 @@ module _ {S : Type 0} (g : Ghosts S) (old new : Kept S) (out err : Growth) where
   pub record ListsAll (h : Holdings) (status : Status) : Type 0 where
     pub keys : List Key
     pub are_keys : AreKeysOf h keys
-    pub said : SaysLines out err (λ spell. list_lines spell h 1 keys) (λ spell. []) Done status
+    pub said : (spell : ℕ → List ℕ) → IsSpelling spell → AreTold out (first_list_lines spell h keys) (length keys) Done status
+    pub silent : Gets err []
 
   -- the store refused behind some lines
   pub record StopsListing (h : Holdings) (status : Status) : Type 0 where
@@ -96,7 +67,8 @@ module _ {S : Type 0} (g : Ghosts S) (old new : Kept S) (out err : Growth) where
     pub fault : StoreFault
     pub told : IsStoreRefusal fault
     pub first : (keys : List Key) → AreKeysOf h keys → (rest : List Key) × (keys ≡ given ++ rest)
-    pub said : SaysLines out err (λ spell. list_lines spell h 1 given) (λ spell. list_refused_line fault) Trouble status
+    pub written : (spell : ℕ → List ℕ) → IsSpelling spell → Gets out (list_lines spell h 1 given)
+    pub said : IsTold err (list_refused_line fault) Trouble status
 
   pub record IsListed (status : Status) : Type 0 where
     pub stays : Stays g old new
@@ -104,11 +76,12 @@ module _ {S : Type 0} (g : Ghosts S) (old new : Kept S) (out err : Growth) where
 
   -- ---- export
 
-  -- the recording's canonical file went out; or a front of it and a line why, or a line alone
+  -- the recording's canonical file went out; or a front of it and a line why, or a line alone; E43 exactly where a write failed
   abbrev pub IsSent : Holdings → Key → Status → Type 0
   IsSent h k status =
-      (((len : ℕ) × IsExported out.before out.after k (h k) len) × Gets err [] × (status ≡ Done))
-      ⊎ ((fault : ExportFault) × IsNotExported out.before out.after k (h k) fault × IsTold err (export_refused_line fault) (export_status fault) status)
+      (((len : ℕ) × IsExported out.before out.after k (h k) len) × (out.failed_after ≡ out.failed_before) × Gets err [] × (status ≡ Done))
+      ⊎ ((fault : ExportFault) × IsNotExported out.before out.after k (h k) fault × CountsExportFault out.failed_before out.failed_after fault
+      × IsTold err (export_refused_line fault) (export_status fault) status)
 
   -- the recording at this place of the list, from 1
   pub record SendsPlace (h : Holdings) (place : ℕ) (status : Status) : Type 0 where
@@ -123,13 +96,13 @@ module _ {S : Type 0} (g : Ghosts S) (old new : Kept S) (out err : Growth) where
     pub keys : List Key
     pub are_keys : AreKeysOf h keys
     pub none : at_place keys place ≡ None
-    pub said : Says out err [] (no_recording_line place) Refused status
+    pub said : Explains out err (no_recording_line place) Refused status
 
   -- the store refused to tell the list
   pub record HasNoList (status : Status) : Type 0 where
     pub fault : StoreFault
     pub told : IsStoreRefusal fault
-    pub said : Says out err [] (export_refused_line (Store fault)) (export_status (Store fault)) status
+    pub said : Explains out err (export_refused_line (Store fault)) (export_status (Store fault)) status
 
   pub record IsPlaceSent (place : ℕ) (status : Status) : Type 0 where
     pub stays : Stays g old new
@@ -145,7 +118,8 @@ module _ {S : Type 0} (g : Ghosts S) (old new : Kept S) (out err : Growth) where
     pub refusal : Refusal
     pub opened : from.left ≡ bytes
     pub submitted : IsSubmitted g old new from to (Err refusal)
-    pub said : SaysLines out err (λ spell. []) (λ spell. refused_line spell name refusal) (status_of_number (refusal_number refusal)) status
+    pub said : (spell : ℕ → List ℕ) → IsSpelling spell →
+        Explains out err (refused_line spell name refusal) (status_of_number (refusal_number refusal)) status
 
   -- it was accepted, and what its recording then holds went out
   pub record ConvertsFile (bytes : Option (List ℕ)) (status : Status) : Type 0 where
@@ -161,7 +135,7 @@ module _ {S : Type 0} (g : Ghosts S) (old new : Kept S) (out err : Growth) where
   -- or there was no memory for the reader
   abbrev pub IsConverted : Option (List ℕ) → List ℕ → Status → Type 0
   IsConverted bytes name status = ConvertsFile bytes status
-      ⊎ (RefusesFile bytes name status ⊎ ((new ≡ old) × Says out err [] (convert_memory_line name) Trouble status))
+      ⊎ (RefusesFile bytes name status ⊎ ((new ≡ old) × Explains out err (convert_memory_line name) Trouble status))
 
   -- ---- all four
 

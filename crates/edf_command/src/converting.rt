@@ -2,6 +2,7 @@
 
 ghost use Rattle.std.specs.Prelude.{◌≡◌, ◌++◌, ◌∷◌, ℕ, [], List, IfOk, codes};
 ghost use Rattle.edf_command.specs.Lines.{convert_memory_line};
+ghost use Rattle.edf_command.specs.Output.{grown};
 ghost use Rattle.edf_command.specs.Run.{IsConverted};
 
 use crate::inputs::Inputs;
@@ -32,8 +33,8 @@ pub(crate) fn convert<S: Alter, I: Inputs, O: Output, F: Output>(
     err: &mut F,
 ) -> Status
     ensures converted { IsConverted S.Store store.old store.new
-        (record { before = O.contents out.old; after = O.contents out.new })
-        (record { before = F.contents err.old; after = F.contents err.new })
+        (grown (O.contents out.old) (O.failures out.old) (O.contents out.new) (O.failures out.new))
+        (grown (F.contents err.old) (F.failures err.old) (F.contents err.new) (F.failures err.new))
         (I.bytes inputs.old file.now) file.now result }
     ensures same { (name : List ℕ) → I.bytes inputs.new name ≡ I.bytes inputs.old name }
 {

@@ -1,17 +1,17 @@
 //! `list`: a line for each recording.
 
-ghost use Rattle.std.specs.Prelude.{◌≡◌, ◌≢◌, ◌++◌, ◌∷◌, [], ℕ, Some, List, IfOk, IfErr, codes, take};
+ghost use Rattle.std.specs.Prelude.{◌≡◌, ◌≢◌, ◌++◌, ◌∷◌, [], ℕ, Some, List, IfOk, IfErr, codes, length};
 ghost use Rattle.edf_header.specs.Key.{patient_code, investigation_code};
-ghost use Rattle.std.specs.Io.KnownBytes.{Appends, Keeps};
 ghost use Rattle.sqlite.specs.State.{HasCleanDisk};
 ghost use Rattle.edf_fragment.specs.Fragment.{DataRecord};
 ghost use Rattle.edf_holdings.specs.Holdings.{Holdings};
 ghost use Rattle.edf_store.specs.Fault.{IsStoreRefusal};
 ghost use Rattle.edf_store.specs.Held.{at, Holds, Stays};
 ghost use Rattle.edf_store.specs.Listed.{IsSummary};
-ghost use Rattle.edf_command.specs.Lines.{list_line, list_lines, list_refused_line};
+ghost use Rattle.edf_command.specs.Lines.{list_line, first_list_lines, list_refused_line};
+ghost use Rattle.edf_command.specs.Output.{grown, Gets, IsLinePut, ArePut, IsTold};
 ghost use Rattle.edf_command.specs.Refusals.{IsSpelling};
-ghost use Rattle.edf_command.specs.Run.{AreHeldBy, IsPut, IsTold, IsListed};
+ghost use Rattle.edf_command.specs.Run.{AreHeldBy, IsListed};
 
 use crate::output::{put_line, tell};
 use crate::refusal::{joined, spelled, store_line};
@@ -72,8 +72,8 @@ fn put_recording<S: Alter, O: Output>(
     ensures stays { Stays S.Store store.old store.new }
     ensures put { HasCleanDisk (at S.Store store.new) → IfOk result (λ written. (h : Holdings) (spell : ℕ → List ℕ) → Holds S.Store store.old h →
         h identity.now ≢ [] → IsSpelling spell →
-        IsPut (record { before = O.contents out.old; after = O.contents out.new }) (list_line spell place identity.now (h identity.now)) written) }
-    ensures nothing { IfErr result (λ _. Keeps (O.contents out.old) (O.contents out.new)) }
+        IsLinePut (grown (O.contents out.old) (O.failures out.old) (O.contents out.new) (O.failures out.new)) (list_line spell place identity.now (h identity.now)) written) }
+    ensures nothing { IfErr result (λ _. Gets (grown (O.contents out.old) (O.failures out.old) (O.contents out.new) (O.failures out.new)) []) }
     ensures refused { HasCleanDisk (at S.Store store.new) → IfErr result (λ fault. (h : Holdings) → Holds S.Store store.old h →
         h identity.now ≢ [] → IsStoreRefusal fault) }
 {
@@ -94,10 +94,11 @@ fn put_recordings<S: Alter, O: Output>(
     ensures stays { Stays S.Store store.old store.new }
     ensures put { HasCleanDisk (at S.Store store.new) → IfOk result (λ written. (h : Holdings) (spell : ℕ → List ℕ) → Holds S.Store store.old h →
         AreHeldBy h recordings.now → IsSpelling spell →
-        IsPut (record { before = O.contents out.old; after = O.contents out.new }) (list_lines spell h 1 recordings.now) written) }
+        ArePut (grown (O.contents out.old) (O.failures out.old) (O.contents out.new) (O.failures out.new))
+        (first_list_lines spell h recordings.now) (length recordings.now) written) }
     ensures refused { HasCleanDisk (at S.Store store.new) → IfErr result (λ fault. (n : ℕ) × ((h : Holdings) → Holds S.Store store.old h →
         AreHeldBy h recordings.now → IsStoreRefusal fault × ((spell : ℕ → List ℕ) → IsSpelling spell →
-        Appends (O.contents out.old) (O.contents out.new) (list_lines spell h 1 (take n recordings.now))))) }
+        Gets (grown (O.contents out.old) (O.failures out.old) (O.contents out.new) (O.failures out.new)) (first_list_lines spell h recordings.now n)))) }
 {
     for (at, identity) in recordings.iter().enumerate() {
         match put_recording(alloc, store, out, at + 1, identity) {
@@ -111,7 +112,7 @@ fn put_recordings<S: Alter, O: Output>(
 
 /// Tells why no more is listed.
 fn tell_refusal<F: Output>(alloc: Global, err: &mut F, fault: &StoreFault) -> Status
-    ensures { IsTold (record { before = F.contents err.old; after = F.contents err.new }) (list_refused_line fault.now) Status.Trouble result }
+    ensures { IsTold (grown (F.contents err.old) (F.failures err.old) (F.contents err.new) (F.failures err.new)) (list_refused_line fault.now) Status.Trouble result }
 {
     tell(err, store_line(alloc, "list", fault), Status::Trouble)
 }
@@ -124,8 +125,8 @@ pub(crate) fn list<S: Alter, O: Output, F: Output>(
     err: &mut F,
 ) -> Status
     ensures { IsListed S.Store store.old store.new
-        (record { before = O.contents out.old; after = O.contents out.new })
-        (record { before = F.contents err.old; after = F.contents err.new }) result }
+        (grown (O.contents out.old) (O.failures out.old) (O.contents out.new) (O.failures out.new))
+        (grown (F.contents err.old) (F.failures err.old) (F.contents err.new) (F.failures err.new)) result }
 {
     let recordings = match store.identities() {
         Ok(recordings) => recordings,

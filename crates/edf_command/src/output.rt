@@ -1,7 +1,7 @@
 //! Writing lines.
 
-ghost use Rattle.std.specs.Prelude.{◌≡◌, ℕ, List, IfOk};
-ghost use Rattle.edf_command.specs.Run.{IsPut, IsTold};
+ghost use Rattle.std.specs.Prelude.{◌≡◌, ℕ, [], List, false, IfOk, MatchResult};
+ghost use Rattle.edf_command.specs.Output.{grown, Gets, IsPut, IsLinePut, IsWritten, IsTold};
 
 use crate::status::Status;
 use edf_fragment::{Output, send};
@@ -9,8 +9,10 @@ use std::alloc::AllocError;
 
 /// Writes a line, and answers whether it was written whole. One for whose text memory was refused is not written.
 pub(crate) fn put_line<W: Output>(out: &mut W, line: Result<Vec<u8>, AllocError>) -> bool
-    ensures { (text : List ℕ) → IfOk line (λ l. l.items ≡ text) →
-        IsPut (record { before = W.contents out.old; after = W.contents out.new }) text result }
+    ensures line { let w = grown (W.contents out.old) (W.failures out.old) (W.contents out.new) (W.failures out.new) in
+        MatchResult line (λ l. IsPut w l.items result) (λ _. Gets w [] × (result ≡ false)) }
+    ensures put { (text : List ℕ) → IfOk line (λ l. l.items ≡ text) →
+        IsLinePut (grown (W.contents out.old) (W.failures out.old) (W.contents out.new) (W.failures out.new)) text result }
 {
     match line {
         Ok(line) => send(out, line.as_slice()),
@@ -20,7 +22,7 @@ pub(crate) fn put_line<W: Output>(out: &mut W, line: Result<Vec<u8>, AllocError>
 
 /// Writes bytes and answers a status; trouble where they are not written whole.
 pub(crate) fn tell_bytes<W: Output>(out: &mut W, bytes: &[u8], status: Status) -> Status
-    ensures { IsTold (record { before = W.contents out.old; after = W.contents out.new }) bytes.now status result }
+    ensures { IsWritten (grown (W.contents out.old) (W.failures out.old) (W.contents out.new) (W.failures out.new)) bytes.now status result }
 {
     if send(out, bytes) {
         status
@@ -35,8 +37,10 @@ pub(crate) fn tell<W: Output>(
     line: Result<Vec<u8>, AllocError>,
     status: Status,
 ) -> Status
-    ensures { (text : List ℕ) → IfOk line (λ l. l.items ≡ text) →
-        IsTold (record { before = W.contents out.old; after = W.contents out.new }) text status result }
+    ensures line { let w = grown (W.contents out.old) (W.failures out.old) (W.contents out.new) (W.failures out.new) in
+        MatchResult line (λ l. IsWritten w l.items status result) (λ _. Gets w [] × (result ≡ Status.Trouble)) }
+    ensures told { (text : List ℕ) → IfOk line (λ l. l.items ≡ text) →
+        IsTold (grown (W.contents out.old) (W.failures out.old) (W.contents out.new) (W.failures out.new)) text status result }
 {
     if put_line(out, line) {
         status

@@ -4,7 +4,7 @@ ghost use Rattle.std.specs.Prelude.{◌≡◌, option_map};
 ghost use Rattle.edf_order.specs.Order.{AreValues, asked, meaning, texts};
 ghost use Rattle.edf_command.specs.Command.{IsRead, store_path};
 ghost use Rattle.edf_command.specs.Lines.{store_refused_line};
-ghost use Rattle.edf_command.specs.Run.{IsTold};
+ghost use Rattle.edf_command.specs.Output.{grown, IsTold};
 
 use crate::output::{tell, tell_bytes};
 use crate::refusal::store_line;
@@ -26,8 +26,8 @@ pub fn read_order<O: Output, F: Output>(
     err: &mut F,
 ) -> Result<Order, Status>
     ensures { AreValues words.now → IsRead
-        (record { before = O.contents out.old; after = O.contents out.new })
-        (record { before = F.contents err.old; after = F.contents err.new })
+        (grown (O.contents out.old) (O.failures out.old) (O.contents out.new) (O.failures out.new))
+        (grown (F.contents err.old) (F.failures err.old) (F.contents err.new) (F.failures err.new))
         (asked (texts words.now)) result }
 {
     match parse(alloc, words) {
@@ -60,7 +60,7 @@ pub fn store_path(order: &Order) -> Option<&str>
 
 /// Tells that the store of an order can't be opened. The order is not run.
 pub fn refuse_store<F: Output>(alloc: Global, fault: &StoreFault, err: &mut F) -> Status
-    ensures { IsTold (record { before = F.contents err.old; after = F.contents err.new }) (store_refused_line fault.now) Status.Trouble result }
+    ensures { IsTold (grown (F.contents err.old) (F.failures err.old) (F.contents err.new) (F.failures err.new)) (store_refused_line fault.now) Status.Trouble result }
 {
     tell(err, store_line(alloc, "store", fault), Status::Trouble)
 }

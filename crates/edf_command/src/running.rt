@@ -2,6 +2,7 @@
 
 ghost use Rattle.std.specs.Prelude.{◌≡◌, ℕ, List};
 ghost use Rattle.edf_order.specs.Order.{meaning};
+ghost use Rattle.edf_command.specs.Output.{grown};
 ghost use Rattle.edf_command.specs.Run.{IsDone};
 
 use crate::converting::convert;
@@ -19,8 +20,8 @@ use std::alloc::Global;
 /// Runs an order over a store, which is the one that the order names; for `Convert` it is an empty one.
 ///
 /// Files and lists go to `out`, and why something is not done to `err`, but for the files of `take`: their lines all go to `out`.
-/// `take` submits every file before it writes a line. What a line can't be written for, a failed write or want of memory, is
-/// trouble, and no line follows it.
+/// `take` submits every file before it writes a line. A line that can't be written, for a failed write or for want of memory,
+/// is trouble, and no line follows it; a part of a line goes out only where a write failed.
 pub fn run<S: Alter, I: Inputs, O: Output, F: Output>(
     alloc: Global,
     order: &Order,
@@ -30,8 +31,8 @@ pub fn run<S: Alter, I: Inputs, O: Output, F: Output>(
     err: &mut F,
 ) -> Status
     ensures done { IsDone S.Store store.old store.new
-        (record { before = O.contents out.old; after = O.contents out.new })
-        (record { before = F.contents err.old; after = F.contents err.new })
+        (grown (O.contents out.old) (O.failures out.old) (O.contents out.new) (O.failures out.new))
+        (grown (F.contents err.old) (F.failures err.old) (F.contents err.new) (F.failures err.new))
         (I.bytes inputs.old) (meaning order.now) result }
     ensures same { (name : List ℕ) → I.bytes inputs.new name ≡ I.bytes inputs.old name }
 {

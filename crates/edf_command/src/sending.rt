@@ -5,7 +5,8 @@ ghost use Rattle.sqlite.specs.State.{HasCleanDisk};
 ghost use Rattle.edf_holdings.specs.Holdings.{Holdings};
 ghost use Rattle.edf_store.specs.Held.{at, Holds, Stays};
 ghost use Rattle.edf_command.specs.Lines.{export_refused_line, export_status, no_recording_line};
-ghost use Rattle.edf_command.specs.Run.{IsSent, IsPlaceSent, IsTold, at_place};
+ghost use Rattle.edf_command.specs.Output.{grown, IsTold};
+ghost use Rattle.edf_command.specs.Run.{IsSent, IsPlaceSent, at_place};
 
 use crate::output::tell;
 use crate::refusal::export_text;
@@ -27,7 +28,7 @@ fn export_refused_line(alloc: Global, fault: &ExportFault) -> Result<Vec<u8>, Al
 
 /// Tells why a recording is not exported.
 fn tell_refusal<F: Output>(alloc: Global, err: &mut F, fault: &ExportFault) -> Status
-    ensures { IsTold (record { before = F.contents err.old; after = F.contents err.new })
+    ensures { IsTold (grown (F.contents err.old) (F.failures err.old) (F.contents err.new) (F.failures err.new))
         (export_refused_line fault.now) (export_status fault.now) result }
 {
     let status = status_of_number(fault.number());
@@ -52,8 +53,8 @@ pub(crate) fn send_recording<S: Alter, O: Output, F: Output>(
     ensures stays { Stays S.Store store.old store.new }
     ensures sent { HasCleanDisk (at S.Store store.new) → (h : Holdings) → Holds S.Store store.old h →
         IsSent S.Store store.old store.new
-        (record { before = O.contents out.old; after = O.contents out.new })
-        (record { before = F.contents err.old; after = F.contents err.new }) h identity.now result }
+        (grown (O.contents out.old) (O.failures out.old) (O.contents out.new) (O.failures out.new))
+        (grown (F.contents err.old) (F.failures err.old) (F.contents err.new) (F.failures err.new)) h identity.now result }
 {
     match export(alloc, store, identity, out) {
         Ok(_len) => Status::Done,
@@ -80,8 +81,8 @@ pub(crate) fn send_place<S: Alter, O: Output, F: Output>(
     err: &mut F,
 ) -> Status
     ensures { IsPlaceSent S.Store store.old store.new
-        (record { before = O.contents out.old; after = O.contents out.new })
-        (record { before = F.contents err.old; after = F.contents err.new }) place result }
+        (grown (O.contents out.old) (O.failures out.old) (O.contents out.new) (O.failures out.new))
+        (grown (F.contents err.old) (F.failures err.old) (F.contents err.new) (F.failures err.new)) place result }
 {
     let recordings = match store.identities() {
         Ok(recordings) => recordings,

@@ -1,9 +1,10 @@
 //! `take`: files into the store.
 
-ghost use Rattle.std.specs.Prelude.{◌≡◌, ◌++◌, ◌∷◌, ℕ, [], List, IfOk, map, string_bytes, codes, decimal};
-ghost use Rattle.edf_command.specs.Lines.{answer_status, take_line, take_lines, take_status, status_of_number, worse};
+ghost use Rattle.std.specs.Prelude.{◌≡◌, ◌++◌, ◌∷◌, ℕ, [], List, IfOk, length, map, string_bytes, codes, decimal};
+ghost use Rattle.edf_command.specs.Lines.{answer_status, take_line, first_take_lines, take_status, status_of_number, worse};
 ghost use Rattle.edf_command.specs.Refusals.{IsSpelling, refusal_text};
-ghost use Rattle.edf_command.specs.Run.{IsPut, IsTaken};
+ghost use Rattle.edf_command.specs.Output.{grown, ArePut};
+ghost use Rattle.edf_command.specs.Run.{IsTaken};
 
 use crate::inputs::Inputs;
 use crate::output::{put_line, tell_bytes};
@@ -81,8 +82,8 @@ fn put_answers<O: Output>(
     answers: &[Result<Receipt, Refusal>],
 ) -> bool
     ensures { (spell : ℕ → List ℕ) → IsSpelling spell →
-        IsPut (record { before = O.contents out.old; after = O.contents out.new })
-        (take_lines spell (map string_bytes files.now) answers.now) result }
+        ArePut (grown (O.contents out.old) (O.failures out.old) (O.contents out.new) (O.failures out.new))
+        (first_take_lines spell (map string_bytes files.now) answers.now) (length answers.now) result }
 {
     for (file, answer) in files.iter().zip(answers) {
         if !put_line(out, take_line(alloc, file.as_str(), answer)) {
@@ -122,8 +123,8 @@ pub(crate) fn take<S: Alter, I: Inputs, O: Output, F: Output>(
     err: &mut F,
 ) -> Status
     ensures taken { IsTaken S.Store store.old store.new
-        (record { before = O.contents out.old; after = O.contents out.new })
-        (record { before = F.contents err.old; after = F.contents err.new })
+        (grown (O.contents out.old) (O.failures out.old) (O.contents out.new) (O.failures out.new))
+        (grown (F.contents err.old) (F.failures err.old) (F.contents err.new) (F.failures err.new))
         (I.bytes inputs.old) (map string_bytes files.now) result }
     ensures same { (name : List ℕ) → I.bytes inputs.new name ≡ I.bytes inputs.old name }
 {

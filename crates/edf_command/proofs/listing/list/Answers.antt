@@ -1,11 +1,12 @@
-use Rattle.std.proofs.Common.{◌≡◌, Bool, true, false, List, [], ◌++◌, take, drop, ap, sym, ◌∙◌, refl, subst, inl, inr, take-append-drop}
-use Rattle.std.proofs.KnownBytes.{Appends-nil}
+use Rattle.std.proofs.Common.{Bool, true, false, List, [], length, take, drop, sym, ◌∙◌, refl, subst, inl, inr, take-append-drop}
 use Rattle.edf_header.specs.Key.{Key}
 use Rattle.edf_holdings.proofs.KeyLists.{keys_are_one}
 use Rattle.edf_store.proofs.ReadyLemmas.{stays_then}
-use Rattle.edf_command.specs.Run.{AreHeldBy, IsPut}
-use Rattle.edf_command.specs.Lines.{list_lines}
-use Rattle.edf_command.proofs.Puts.{grown}
+use Rattle.edf_command.specs.Run.{AreHeldBy}
+use Rattle.edf_command.specs.Lines.{first_list_lines}
+use Rattle.edf_command.specs.Output.{grown, Gets, ArePut}
+use Rattle.edf_command.specs.declared.status.Status.TheVariants.{Done}
+use Rattle.edf_command.proofs.Puts.{nothing-gets, trouble-lines}
 use Rattle.edf_command.proofs.Kept.{was-clean, is-refusal}
 use Rattle.edf_command.proofs.listing.list.Goals as goal
 
@@ -17,7 +18,8 @@ returns-in-Err g c = record {
     fault = c.in-Err.fault;
     told = is-refusal c.in-Err.fault (c.in-Err.ensures.own clean) c.in-Err.ensures.unfailed;
     first = λ keys are. (keys, refl);
-    said = λ spell is. inl (Appends-nil (g.O.Output.contents c.args.out.now), c.tell_refusal.ensures);
+    written = λ spell is. nothing-gets (g.O.Output.contents c.args.out.now) (g.O.Output.failures c.args.out.now);
+    said = c.tell_refusal.ensures;
   });
 }
 
@@ -37,10 +39,12 @@ returns-in-Ok-true g c =
             keys = keys;
             are_keys = are;
             said = λ spell is.
-                let IsOut : Bool → List Key → Type 0 = λ written ks. IsPut (grown (g.O.Output.contents c.args.out.now) (g.O.Output.contents c.put_recordings.new.out)) (list_lines spell h 1 ks) written in
+                let w = grown (g.O.Output.contents c.args.out.now) (g.O.Output.failures c.args.out.now) (g.O.Output.contents c.put_recordings.new.out) (g.O.Output.failures c.put_recordings.new.out) in
+                let IsOut : Bool → List Key → Type 0 = λ written ks. ArePut w (first_list_lines spell h ks) (length ks) written in
                 let put = c.in-Ok-true.ensures.put clean h spell (c.identities.ensures.stays.holdings h holds) all is in
                 let done = subst (IsOut true) c.as_slice.ensures.value (subst (λ (b : Bool). IsOut b c.as_slice.result.now) c.in-Ok-true.field-0-test put) in
-                inl (done, inl (Appends-nil (g.F.Output.contents c.args.err.now), refl));
+                inl (inl (done, refl));
+            silent = nothing-gets (g.F.Output.contents c.args.err.now) (g.F.Output.failures c.args.err.now);
           });
     }
 
@@ -60,10 +64,12 @@ returns-in-Ok-false g c =
             keys = keys;
             are_keys = are;
             said = λ spell is.
-                let IsOut : Bool → List Key → Type 0 = λ written ks. IsPut (grown (g.O.Output.contents c.args.out.now) (g.O.Output.contents c.put_recordings.new.out)) (list_lines spell h 1 ks) written in
+                let w = grown (g.O.Output.contents c.args.out.now) (g.O.Output.failures c.args.out.now) (g.O.Output.contents c.put_recordings.new.out) (g.O.Output.failures c.put_recordings.new.out) in
+                let IsOut : Bool → List Key → Type 0 = λ written ks. ArePut w (first_list_lines spell h ks) (length ks) written in
                 let put = c.in-Ok-false.ensures.put clean h spell (c.identities.ensures.stays.holdings h holds) all is in
                 let done = subst (IsOut false) c.as_slice.ensures.value (subst (λ (b : Bool). IsOut b c.as_slice.result.now) c.in-Ok-false.field-0-test put) in
-                inr (done, Appends-nil (g.F.Output.contents c.args.err.now), refl);
+                trouble-lines w (first_list_lines spell h keys) (length keys) Done done;
+            silent = nothing-gets (g.F.Output.contents c.args.err.now) (g.F.Output.failures c.args.err.now);
           });
     }
 
@@ -86,8 +92,9 @@ returns g c =
             fault = c.in-Err-put_recordings.stop;
             told = then.0;
             first = λ others they. (drop stop.0 keys, keys_are_one h others keys they are ∙ sym (take-append-drop stop.0 keys));
-            said = λ spell is.
-                let IsOut : List Key → Type 0 = λ ks. IsPut (grown (g.O.Output.contents c.args.out.now) (g.O.Output.contents c.put_recordings.new.out)) (list_lines spell h 1 (take stop.0 ks)) true in
-                inl (subst IsOut c.as_slice.ensures.value (then.1 spell is), c.tell_refusal-in-Err-put_recordings.ensures);
+            written = λ spell is.
+                let IsOut : List Key → Type 0 = λ ks. Gets (grown (g.O.Output.contents c.args.out.now) (g.O.Output.failures c.args.out.now) (g.O.Output.contents c.put_recordings.new.out) (g.O.Output.failures c.put_recordings.new.out)) (first_list_lines spell h ks stop.0) in
+                subst IsOut c.as_slice.ensures.value (then.1 spell is);
+            said = c.tell_refusal-in-Err-put_recordings.ensures;
           });
     }

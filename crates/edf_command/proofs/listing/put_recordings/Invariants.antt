@@ -1,10 +1,10 @@
-use Rattle.std.proofs.Common.{ℕ, List, take}
-use Rattle.std.specs.Io.KnownBytes.{Appends}
+use Rattle.std.proofs.Common.{ℕ, List}
 use Rattle.sqlite.specs.State.{HasCleanDisk}
 use Rattle.edf_holdings.specs.Holdings.{Holdings}
 use Rattle.edf_store.specs.Held.{at, Holds, Stays}
 use Rattle.edf_command.specs.Refusals.{IsSpelling}
-use Rattle.edf_command.specs.Lines.{list_lines}
+use Rattle.edf_command.specs.Lines.{first_list_lines}
+use Rattle.edf_command.specs.Output.{grown, Gets}
 use Rattle.edf_command.specs.Run.{AreHeldBy}
 use Rattle.edf_command.proofs.listing.put_recordings.Given as goal
 
@@ -13,5 +13,5 @@ invariant-loop-at g l = record {
   stays : Stays g.S.Store l.fn.store l.store;
   put : HasCleanDisk (at g.S.Store l.store) → (h : Holdings) → Holds g.S.Store l.fn.store h → AreHeldBy h l.recordings
       → (spell : ℕ → List ℕ) → IsSpelling spell
-      → Appends (g.O.Output.contents l.fn.out) (g.O.Output.contents l.out) (list_lines spell h 1 (take l.at l.recordings));
+      → Gets (grown (g.O.Output.contents l.fn.out) (g.O.Output.failures l.fn.out) (g.O.Output.contents l.out) (g.O.Output.failures l.out)) (first_list_lines spell h l.recordings l.at);
 }

@@ -1,18 +1,17 @@
-use Rattle.std.proofs.Common.{◌≡◌, ◌∙◌, List, sym, ap, refl, inl, inr}
+use Rattle.std.proofs.Common.{◌∙◌, List, sym, ap, inl, inr}
 use Rattle.std.specs.Prelude.{Option}
-use Rattle.std.proofs.KnownBytes.{Appends-nil}
 use Rattle.edf_header.specs.Key.{Key}
 use Rattle.edf_store.proofs.ReadyLemmas.{stays_then}
-use Rattle.edf_export.specs.declared.fault.ExportFault.TheVariants.{Store}
 use Rattle.edf_command.specs.Run.{at_place}
 use Rattle.edf_command.specs.Lines.{no_recording_line}
 use Rattle.edf_command.proofs.Kept.{was-clean, is-refusal}
+use Rattle.edf_command.proofs.Puts.{nothing-gets}
 use Rattle.edf_command.proofs.sending.send_place.Goals as goal
 
 pub returns-in-Err : goal.returns-in-Err
 returns-in-Err g c = record {
   stays = c.identities.ensures.stays;
-  sent = λ clean h holds. inr (inr (record { fault = c.in-Err.fault; told = is-refusal c.in-Err.fault (c.in-Err.ensures.own clean) c.in-Err.ensures.unfailed; said = inl (Appends-nil (g.O.Output.contents c.args.out.now), c.tell_refusal.ensures) }));
+  sent = λ clean h holds. inr (inr (record { fault = c.in-Err.fault; told = is-refusal c.in-Err.fault (c.in-Err.ensures.own clean) c.in-Err.ensures.unfailed; said = (nothing-gets (g.O.Output.contents c.args.out.now) (g.O.Output.failures c.args.out.now), c.tell_refusal.ensures) }));
 }
 
 pub returns-in-Some : goal.returns-in-Some
@@ -41,6 +40,6 @@ returns g c =
         keys = c.in-Ok.recordings.items;
         are_keys = c.in-Ok.ensures.keys clean h holds;
         none = ap at (sym c.as_slice.ensures.value) ∙ sym c.in-None.ensures;
-        said = inl (Appends-nil (g.O.Output.contents c.args.out.now), c.tell.ensures (no_recording_line c.args.place) c.no_recording_line.ensures);
+        said = (nothing-gets (g.O.Output.contents c.args.out.now) (g.O.Output.failures c.args.out.now), c.tell.ensures.told (no_recording_line c.args.place) c.no_recording_line.ensures);
       }));
     }

@@ -1,10 +1,10 @@
 use Rattle.std.proofs.Common.{refl, inl, inr}
-use Rattle.std.proofs.KnownBytes.{Appends-nil}
+use Rattle.edf_command.proofs.Puts.{nothing-gets}
 use Rattle.edf_command.proofs.sending.send_recording.Goals as goal
 
 pub returns-in-Ok-clause-sent : goal.returns-in-Ok-clause-sent
 returns-in-Ok-clause-sent g c clean h holds =
-    inl ((c.in-Ok._len, c.in-Ok.ensures.exported clean h holds), Appends-nil (g.F.Output.contents c.args.err.now), refl)
+    inl ((c.in-Ok._len, c.in-Ok.ensures.exported clean h holds), c.in-Ok.ensures.counted, nothing-gets (g.F.Output.contents c.args.err.now) (g.F.Output.failures c.args.err.now), refl)
 
 pub returns-in-Err-clause-sent : goal.returns-in-Err-clause-sent
-returns-in-Err-clause-sent g c clean h holds = inr (c.in-Err.fault, c.in-Err.ensures.refused clean h holds, c.tell_refusal.ensures)
+returns-in-Err-clause-sent g c clean h holds = inr (c.in-Err.fault, c.in-Err.ensures.refused clean h holds, c.in-Err.ensures.counted, c.tell_refusal.ensures)

@@ -1,16 +1,15 @@
-use Rattle.std.proofs.Common.{◌≡◌, ℕ, List, map, ◌∙◌, ap, sym, subst, refl, inl, inr, string_bytes, true, false}
+use Rattle.std.proofs.Common.{ℕ, List, length, map, ◌∙◌, ap, sym, subst, refl, inl, inr, string_bytes, true, false}
 use Rattle.std.specs.Prelude.{Option}
-use Rattle.std.proofs.KnownBytes.{Appends-nil}
 use Rattle.std.proofs.lemmas.Simd.{map-map}
 use Rattle.edf_intake.specs.Refusal.{Answer}
 use Rattle.edf_intake.specs.Source.{Source}
-use Rattle.edf_command.specs.Run.{IsPut}
-use Rattle.edf_command.specs.Lines.{take_lines, take_status}
-use Rattle.edf_command.proofs.Puts.{grown}
+use Rattle.edf_command.specs.Lines.{first_take_lines, take_status}
+use Rattle.edf_command.specs.Output.{grown, ArePut}
+use Rattle.edf_command.proofs.Puts.{nothing-gets, trouble-lines}
 use Rattle.edf_command.proofs.taking.take.Goals as goal
 
 pub returns-in_default-clause-taken : goal.returns-in_default-clause-taken
-returns-in_default-clause-taken g c = inr (refl, inl (Appends-nil (g.O.Output.contents c.args.out.now), c.tell_bytes.ensures))
+returns-in_default-clause-taken g c = inr (refl, nothing-gets (g.O.Output.contents c.args.out.now) (g.O.Output.failures c.args.out.now), c.tell_bytes.ensures)
 
 pub returns-then-put_answers-clause-taken : goal.returns-then-put_answers-clause-taken
 returns-then-put_answers-clause-taken g c =
@@ -31,11 +30,9 @@ returns-then-put_answers-clause-taken g c =
       answered = c.in-Ok-submit_all.ensures.answered;
       said = λ spell is.
           let names = map string_bytes files in
-          let IsOut : List Answer → Type 0 = λ answers. IsPut (grown (g.O.Output.contents c.args.out.now) (g.O.Output.contents c.put_answers.new.out)) (take_lines spell names answers) true in
-          inl (
-            subst IsOut c.as_slice.ensures.value (c.if-put_answers.ensures spell is),
-            inl (Appends-nil (g.F.Output.contents c.args.err.now), c.take_status.ensures ∙ ap take_status c.as_slice-then-put_answers.ensures.value),
-          );
+          let IsOut : List Answer → Type 0 = λ answers. ArePut (grown (g.O.Output.contents c.args.out.now) (g.O.Output.failures c.args.out.now) (g.O.Output.contents c.put_answers.new.out) (g.O.Output.failures c.put_answers.new.out)) (first_take_lines spell names answers) (length answers) true in
+          inl (inl (subst IsOut c.as_slice.ensures.value (c.if-put_answers.ensures spell is), c.take_status.ensures ∙ ap take_status c.as_slice-then-put_answers.ensures.value));
+      silent = nothing-gets (g.F.Output.contents c.args.err.now) (g.F.Output.failures c.args.err.now);
     })
 
 pub returns-clause-taken : goal.returns-clause-taken
@@ -56,6 +53,9 @@ returns-clause-taken g c =
       answered = c.in-Ok-submit_all.ensures.answered;
       said = λ spell is.
           let names = map string_bytes files in
-          let IsOut : List Answer → Type 0 = λ answers. IsPut (grown (g.O.Output.contents c.args.out.now) (g.O.Output.contents c.put_answers.new.out)) (take_lines spell names answers) false in
-          inr (subst IsOut c.as_slice.ensures.value (c.if-put_answers.ensures spell is), Appends-nil (g.F.Output.contents c.args.err.now), refl);
+          let answers = c.in-Ok-submit_all.answers.items in
+          let w = grown (g.O.Output.contents c.args.out.now) (g.O.Output.failures c.args.out.now) (g.O.Output.contents c.put_answers.new.out) (g.O.Output.failures c.put_answers.new.out) in
+          let IsOut : List Answer → Type 0 = λ answers. ArePut w (first_take_lines spell names answers) (length answers) false in
+          trouble-lines w (first_take_lines spell names answers) (length answers) (take_status answers) (subst IsOut c.as_slice.ensures.value (c.if-put_answers.ensures spell is));
+      silent = nothing-gets (g.F.Output.contents c.args.err.now) (g.F.Output.failures c.args.err.now);
     })

@@ -1,0 +1,62 @@
+-- What writers got, and what an answer says of it.
+use Rattle.std.specs.Prelude.{◌≡◌, ◌⊎◌, ℕ, ◌<◌, Bool, List, [], Option}
+use Rattle.std.specs.Bool.{MatchBool}
+use Rattle.std.specs.Io.KnownBytes.{Appends}
+use Rattle.edf_fragment.specs.Failures.{one_more}
+use Rattle.edf_export.specs.Export.{WritesFront}
+use Rattle.edf_command.specs.declared.status.Status.{Status}
+use Rattle.edf_command.specs.declared.status.Status.TheVariants.{Trouble}
+
+-- what a writer holds before and after, where that is known, and how many of its writes failed or took nothing
+pub record Growth : Type 0 where
+  pub before : Option (List ℕ)
+  pub failed_before : ℕ
+  pub after : Option (List ℕ)
+  pub failed_after : ℕ
+
+abbrev pub grown : Option (List ℕ) → ℕ → Option (List ℕ) → ℕ → Growth
+grown before failed_before after failed_after =
+    record { before = before; failed_before = failed_before; after = after; failed_after = failed_after }
+
+-- it got just these bytes, and no write failed
+abbrev pub Gets : Growth → List ℕ → Type 0
+Gets w bytes = Appends w.before w.after bytes × (w.failed_after ≡ w.failed_before)
+
+-- it got a front of them, and then a write failed or took nothing
+abbrev pub GetsFront : Growth → List ℕ → Type 0
+GetsFront w bytes = WritesFront w.before w.after bytes × (w.failed_after ≡ one_more w.failed_before)
+
+-- memory for the text of a line was refused, and of so many lines, of which the first n are `lines n`, it got those before it
+pub record LacksText (w : Growth) (lines : ℕ → List ℕ) (count : ℕ) : Type 0 where
+  pub written : ℕ
+  pub fewer : written < count
+  pub wrote : Gets w (lines written)
+
+-- ---- what is answered by `true`, and by `false`
+
+-- the bytes were written; or a write failed
+abbrev pub IsPut : Growth → List ℕ → Bool → Type 0
+IsPut w bytes written = MatchBool written (Gets w bytes) (GetsFront w bytes)
+
+-- a line was written; or a write failed, or memory for its text was refused
+abbrev pub IsLinePut : Growth → List ℕ → Bool → Type 0
+IsLinePut w text written = MatchBool written (Gets w text) (GetsFront w text ⊎ Gets w [])
+
+-- so many lines were written; or a write failed, or memory for the text of one was refused
+abbrev pub ArePut : Growth → (ℕ → List ℕ) → ℕ → Bool → Type 0
+ArePut w lines count written = MatchBool written (Gets w (lines count)) (GetsFront w (lines count) ⊎ LacksText w lines count)
+
+-- ---- what is answered by the status that is wanted, and by trouble
+
+abbrev pub IsWritten : Growth → List ℕ → Status → Status → Type 0
+IsWritten w bytes wanted status = (Gets w bytes × (status ≡ wanted)) ⊎ (GetsFront w bytes × (status ≡ Trouble))
+
+abbrev pub IsTold : Growth → List ℕ → Status → Status → Type 0
+IsTold w text wanted status = IsWritten w text wanted status ⊎ (Gets w [] × (status ≡ Trouble))
+
+abbrev pub AreTold : Growth → (ℕ → List ℕ) → ℕ → Status → Status → Type 0
+AreTold w lines count wanted status = IsWritten w (lines count) wanted status ⊎ (LacksText w lines count × (status ≡ Trouble))
+
+-- nothing went to `out`, and a line to `err`
+abbrev pub Explains : Growth → Growth → List ℕ → Status → Status → Type 0
+Explains out err text wanted status = Gets out [] × IsTold err text wanted status
