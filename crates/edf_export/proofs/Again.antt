@@ -1,4 +1,4 @@
--- An export is accepted again, since it is a fragment of records that are held.
+-- An export is accepted again, since it is a fragment of records that are held; equal holdings have equal exports.
 use Rattle.std.proofs.Common.{◌≡◌, ◌≢◌, ℕ, List, [], ◌∷◌, sym, ap, ◌∙◌, subst}
 use Rattle.std.proofs.lemmas.Bool.{cond-true}
 use Rattle.edf_header.specs.Key.{Key}
@@ -9,9 +9,10 @@ use Rattle.edf_holdings.specs.Holdings.{Holdings, IsSound, nothing_held}
 use Rattle.edf_holdings.specs.Reply.{after_one}
 use Rattle.edf_holdings.proofs.Same.{same_key-refl}
 use Rattle.edf_holdings.proofs.InSets.{own_list}
+use Rattle.edf_holdings.proofs.Free.{recut_law}
 use Rattle.edf_export.specs.File.{IsCanonicalFile}
-use Rattle.edf_export.specs.Again.{IsAcceptedAgain}
-use Rattle.edf_export.proofs.Files.{its-own}
+use Rattle.edf_export.specs.Again.{IsAcceptedAgain, ExportAlike}
+use Rattle.edf_export.proofs.Files.{its-own, one-file}
 
 has-some : (file : List ℕ) (k : Key) (rs : List DataRecord) → IsCanonicalFile file k rs → rs ≢ []
 has-some file k [] is = absurd is
@@ -28,3 +29,7 @@ accepted_again cap h k file sound is =
       new = own.1;
       again = subst (λ (rs : List DataRecord). IsCanonicalFile file k rs) (sym left) is;
     }
+
+pub export_alike : ExportAlike
+export_alike cap h tolds others sound told other_told free other_free same k file other is other_is =
+    one-file file other k _ is (subst (λ (held : Holdings). IsCanonicalFile other k (held k)) (sym (recut_law cap h tolds others sound told other_told free other_free same)) other_is)

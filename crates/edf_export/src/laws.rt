@@ -7,7 +7,7 @@ ghost use Rattle.edf_fragment.specs.Sound.{AreSound};
 ghost use Rattle.edf_holdings.specs.Holdings.{Holdings, IsSound};
 ghost use Rattle.edf_export.specs.File.{IsCanonicalFile};
 ghost use Rattle.edf_export.specs.Export.{IsExported};
-ghost use Rattle.edf_export.specs.Again.{IsAcceptedAgain};
+ghost use Rattle.edf_export.specs.Again.{IsAcceptedAgain, ExportAlike};
 
 /// Records have one canonical file at most.
 pub fn one_canonical_file()
@@ -40,4 +40,10 @@ pub fn an_export_is_a_fragment()
 pub fn an_export_is_accepted_again()
     ensures { (cap : ℕ) (h : Holdings) (key : Key) (file : List ℕ) →
         IsSound cap h → IsCanonicalFile file key (h key) → IsAcceptedAgain cap h key file }
+{}
+
+/// Lists of submissions that are free of conflicts and hold the same data records, however cut, ordered or repeated, export the
+/// same bytes: what each leaves has one canonical file, and it is that of the other.
+pub fn the_same_records_export_alike()
+    ensures { ExportAlike }
 {}
