@@ -1,0 +1,60 @@
+//! A night, cut into six fragments at places as if by chance.
+
+use crate::chance::Chance;
+use crate::night::{Second, file_of};
+use std::alloc::Global;
+
+/// How many data records each of six fragments has of its own, one at least.
+fn widths(chance: &mut Chance, count: usize) -> [usize; 6] {
+    let mut widths = [1usize; 6];
+    for _ in 6..count {
+        let place = chance.below(6);
+        widths[place] = widths[place].saturating_add(1);
+    }
+    widths
+}
+
+/// Six fragments that have each data record once or more: each reaches up to two records into its neighbours.
+pub(crate) fn fragments(
+    alloc: Global,
+    chance: &mut Chance,
+    night: &[Second],
+) -> Option<Vec<Vec<u8>>> {
+    let mut files = Vec::new(alloc);
+    let mut from = 0usize;
+    for width in widths(chance, night.len()) {
+        let to = from.saturating_add(width);
+        let first = from.saturating_sub(chance.below(3));
+        let last = to.saturating_add(chance.below(3)).min(night.len());
+        let mark = if chance.below(2) == 0 {
+            "EDF+C"
+        } else {
+            "EDF+D"
+        };
+        files
+            .push(file_of(alloc, night.get(first..last)?, mark, chance.below(4))?)
+            .ok()?;
+        from = to;
+    }
+    Some(files)
+}
+
+/// The places of six files, and up to six of them once more.
+fn places(alloc: Global, chance: &mut Chance) -> Option<Vec<usize>> {
+    let mut list = Vec::new(alloc);
+    for place in 0..6 + chance.below(7) {
+        let again = chance.below(6);
+        list.push(if place < 6 { place } else { again }).ok()?;
+    }
+    Some(list)
+}
+
+/// The places of six files, some of them more than once, in an order as if by chance.
+pub(crate) fn shuffled(alloc: Global, chance: &mut Chance) -> Option<Vec<usize>> {
+    let mut list = places(alloc, chance)?;
+    let order = list.as_mut_slice();
+    for place in 0..order.len() {
+        order.swap(place, chance.below(place + 1));
+    }
+    Some(list)
+}
