@@ -1,7 +1,8 @@
 -- What the program does with its words, before an order is run.
-use Rattle.std.specs.Prelude.{◌≡◌, ◌⊎◌, List, ℕ, [], Option, Some, None, Result, Ok, Err, codes, if◌then◌else◌}
+use Rattle.std.specs.Prelude.{◌⊎◌, String, List, ℕ, [], Option, Some, None, Result, Ok, Err, codes, if◌then◌else◌}
+use Rattle.std.specs.Global.{Global}
 use Rattle.std.specs.Str.{bytes_eq}
-use Rattle.edf_order.specs.Order.{Asked, Text, meaning}
+use Rattle.edf_order.specs.Order.{Asked, Text, AreValues, AskFor, AskForNothing}
 use Rattle.edf_order.specs.Order.Asked.{take, list, export, convert}
 use Rattle.edf_order.specs.declared.order.Order.{Order}
 use Rattle.edf_command.specs.Lines.{command_memory_line}
@@ -29,7 +30,8 @@ module _ (out err : Growth) where
   abbrev pub LacksMemory : Status → Type 0
   LacksMemory status = Gets out [] × IsWritten err command_memory_line Trouble status
 
-  -- by what the words ask for: the order, and nothing is written; or they ask for nothing; or there is no memory for them
-  abbrev pub IsRead : Option Asked → Result Order Status → Type 0
-  IsRead asked (Ok order) = (asked ≡ Some (meaning order)) × Gets out [] × Gets err []
-  IsRead asked (Err status) = ((asked ≡ None) × IsExplained status) ⊎ LacksMemory status
+  -- the order that the words ask for, where no word begins with `-`, and nothing is written; or they ask for nothing; or there is no
+  -- memory for them
+  abbrev pub IsRead : List (String Global) → Result Order Status → Type 0
+  IsRead words (Ok order) = (AreValues words → AskFor words order) × Gets out [] × Gets err []
+  IsRead words (Err status) = ((AreValues words → AskForNothing words) × IsExplained status) ⊎ LacksMemory status

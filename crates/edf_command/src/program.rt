@@ -1,7 +1,7 @@
 //! What the program does with its words, before an order is run and where it can't be.
 
 ghost use Rattle.std.specs.Prelude.{◌≡◌, option_map};
-ghost use Rattle.edf_order.specs.Order.{AreValues, asked, meaning, texts};
+ghost use Rattle.edf_order.specs.Order.{meaning};
 ghost use Rattle.edf_command.specs.Command.{IsRead, store_path};
 ghost use Rattle.edf_command.specs.Lines.{store_refused_line};
 ghost use Rattle.edf_command.specs.Output.{grown, IsTold};
@@ -25,10 +25,10 @@ pub fn read_order<O: Output, F: Output>(
     out: &mut O,
     err: &mut F,
 ) -> Result<Order, Status>
-    ensures { AreValues words.now → IsRead
+    ensures { IsRead
         (grown (O.contents out.old) (O.failures out.old) (O.contents out.new) (O.failures out.new))
         (grown (F.contents err.old) (F.failures err.old) (F.contents err.new) (F.failures err.new))
-        (asked (texts words.now)) result }
+        words.now result }
 {
     match parse(alloc, words) {
         Ok(order) => Ok(order),
