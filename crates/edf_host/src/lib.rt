@@ -120,10 +120,12 @@ fn run_order(rt: &HostRuntime, order: &Order) -> io::Result<Status> {
         err: Counted::new(Clearing::new(&meter, rt.stderr())),
     };
     let mut inputs = Files::new(rt, &meter)?;
-    Ok(match store_path(order) {
+    let status = match store_path(order) {
         Some(path) => run_on_file(rt, &terminal, path, order, &mut inputs, &mut streams),
         None => run_in_memory(rt, order, &mut inputs, &mut streams),
-    })
+    };
+    meter.wipe();
+    Ok(status)
 }
 
 /// What the words ask for, done.
