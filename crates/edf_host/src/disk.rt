@@ -1,14 +1,25 @@
 //! Stores in SQLite's files and in memory.
 
+use edf_schema::is_ours;
 use edf_store::{Store, StoreFault};
 use sqlite::{Connection, Error, ErrorCode};
+use sqlite_disk::Tally;
 use sqlite_std_file::File;
 use sqlite_store::FileStore;
 use sqlite_trees::memory::MemStore;
 use std::alloc::Global;
+use std::fs;
 
 /// How many data records a recording may have.
 const CAP: u32 = 99_999_999;
+
+/// Why a store was not opened.
+#[derive(Clone, Copy, Drop)]
+pub(crate) struct Refused {
+    pub(crate) fault: StoreFault,
+    /// Whether the file was opened and has no tables but ours.
+    pub(crate) has_our_tables: bool,
+}
 
 fn fault_of(error: Error) -> StoreFault {
     match error {
@@ -17,20 +28,58 @@ fn fault_of(error: Error) -> StoreFault {
     }
 }
 
+/// Whether there is nothing at the path. Where that can't be told there may be something.
+pub(crate) fn is_missing(rt: &HostRuntime, path: &str) -> bool {
+    match fs::exists(rt, path) {
+        Ok(is_there) => !is_there,
+        Err(_) => false,
+    }
+}
+
 /// The store of the file at a path, which is made where there is none.
-pub(crate) fn open_file(
-    rt: &HostRuntime,
-    path: &str,
-) -> Result<Store<FileStore<File>>, StoreFault> {
-    match Connection::open(rt, path) {
-        Ok(conn) => Store::open(rt.alloc(), conn, CAP),
-        Err(error) => Err(fault_of(error)),
+pub(crate) fn open_file(rt: &HostRuntime, path: &str) -> Result<Store<FileStore<File>>, Refused> {
+    let conn = match Connection::open(rt, path) {
+        Ok(conn) => conn,
+        Err(error) => {
+            return Err(Refused {
+                fault: fault_of(error),
+                has_our_tables: false,
+            });
+        }
+    };
+    let has_our_tables = is_ours(conn.schema());
+    match Store::open(rt.alloc(), conn, CAP) {
+        Ok(store) => Ok(store),
+        Err(fault) => Err(Refused {
+            fault,
+            has_our_tables,
+        }),
+    }
+}
+
+/// What the disk refused, by the count of what its failed calls met.
+fn disk_failure(tally: Tally) -> Option<Error> {
+    if tally.caught > 0 {
+        Some(Error::SqliteFailure(ErrorCode::DatabaseCorrupt))
+    } else if tally.refused > 0 {
+        Some(Error::SqliteFailure(ErrorCode::DiskFull))
+    } else {
+        None
     }
 }
 
 /// Closes the store of a file. What it holds was committed, and stands in the log where it can't be copied into the file.
-pub(crate) fn close_file(store: Store<FileStore<File>>) {
-    let _ = store.into_connection().close();
+///
+/// The answer is what failed of the disk while the store was open, or as it was closed, if that can be told.
+pub(crate) fn close_file(store: Store<FileStore<File>>) -> Option<Error> {
+    match store.into_connection().close_files() {
+        Ok(files) => disk_failure(files.tally()),
+        Err((error, left)) => {
+            let failure = disk_failure(left.tally());
+            drop(left.close());
+            failure.or(Some(error))
+        }
+    }
 }
 
 /// An empty store.

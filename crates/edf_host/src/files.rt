@@ -3,6 +3,7 @@
 ghost use Rattle.std.specs.Io.{ReadsAtMost};
 ghost use Rattle.std.specs.Prelude.{None};
 
+use crate::meter::Meter;
 use edf_command::Inputs;
 use edf_fragment::Counted;
 use std::alloc::{AllocError, Global};
@@ -20,14 +21,15 @@ const STREAM_PIECE: usize = 65_536;
 #[derive(Drop)]
 pub struct Files<'rt> {
     rt: &'rt HostRuntime,
+    meter: &'rt Meter<'rt>,
     stream: Rc<RefCell<BufReader<Stdin>>>,
 }
 
 impl<'rt> Files<'rt> {
-    pub fn new(rt: &'rt HostRuntime) -> io::Result<Files<'rt>> {
+    pub fn new(rt: &'rt HostRuntime, meter: &'rt Meter<'rt>) -> io::Result<Files<'rt>> {
         let stream = BufReader::with_capacity(rt.alloc(), STREAM_PIECE, rt.stdin())?;
         let stream = Rc::new(rt.alloc(), RefCell::new(stream))?;
-        Ok(Files { rt, stream })
+        Ok(Files { rt, meter, stream })
     }
 }
 
@@ -40,16 +42,22 @@ enum Place {
     Ended,
 }
 
-/// A reader of a file or of standard input.
+/// A reader of a file or of standard input, which tells the meter what it reads.
 #[derive(Drop)]
 pub struct Source<'rt> {
     rt: &'rt HostRuntime,
+    meter: &'rt Meter<'rt>,
+    is_begun: bool,
     place: Place,
 }
 
 impl Source<'_> {
     /// Opens the file, if it is not open yet.
     fn begin(&mut self) -> io::Result<()> {
+        if !self.is_begun {
+            self.is_begun = true;
+            self.meter.begin_file();
+        }
         if let Place::Path(path) = &self.place {
             let file = File::open(self.rt, path.as_str())?;
             self.place = Place::Open(BufReader::with_capacity(self.rt.alloc(), PIECE, file)?);
@@ -76,6 +84,7 @@ impl Read for Source<'_> {
     fn read(&mut self, buf: &mut [u8]) -> io::Result<usize> {
         self.begin()?;
         let count = self.pull(buf)?;
+        self.meter.add(count);
         if count == 0 && !buf.is_empty() {
             self.place = Place::Ended;
         }
@@ -94,6 +103,11 @@ impl<'rt> Inputs for Files<'rt> {
         } else {
             Place::Path(String::from_str(alloc, name)?)
         };
-        Ok(Counted::new(Source { rt: self.rt, place }))
+        Ok(Counted::new(Source {
+            rt: self.rt,
+            meter: self.meter,
+            is_begun: false,
+            place,
+        }))
     }
 }

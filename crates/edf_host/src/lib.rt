@@ -3,16 +3,22 @@
 //! - [`run_program`]: what the program does. What is read, written and answered is `edf_command`'s; here the system is handed to it.
 #![tactic(auto)]
 
+mod cause;
 mod disk;
 mod files;
+mod meter;
+mod terminal;
 
-use disk::{close_file, open_file, open_memory};
+use cause::{tell_error, tell_refused};
+use disk::{close_file, is_missing, open_file, open_memory};
 use edf_command::{Order, Status, read_order, refuse_store, run, store_path};
 use edf_fragment::Counted;
 use files::Files;
+use meter::{Clearing, Meter};
 use std::io::{Stderr, Stdout};
 use std::process::ExitCode;
 use std::{env, io};
+use terminal::Terminal;
 
 /// The words after the program's name.
 fn words(rt: &HostRuntime) -> io::Result<Vec<String>> {
@@ -22,34 +28,63 @@ fn words(rt: &HostRuntime) -> io::Result<Vec<String>> {
 
 /// Standard output and standard error.
 #[derive(Drop)]
-struct Streams {
-    out: Counted<Stdout>,
-    err: Counted<Stderr>,
+struct Streams<'m> {
+    out: Counted<Clearing<'m, Stdout>>,
+    err: Counted<Clearing<'m, Stderr>>,
 }
 
-/// Runs an order over the file of the store that it names.
+/// The order that the program's words ask for, or the status where there is none.
+fn order_of_words(rt: &HostRuntime) -> io::Result<Result<Order, Status>> {
+    let words = words(rt)?;
+    let mut out = Counted::new(rt.stdout());
+    let mut err = Counted::new(rt.stderr());
+    Ok(read_order(rt.alloc(), words.as_slice(), &mut out, &mut err))
+}
+
+/// The meter of an order: `take` tells how far it is, where a person sees it.
+fn meter_of<'rt>(rt: &'rt HostRuntime, terminal: &Terminal<'rt>, order: &Order) -> Meter<'rt> {
+    match order {
+        Order::Take { store: _, files } if terminal.is_there() => Meter::new(rt, files.len()),
+        _ => Meter::new(rt, 0),
+    }
+}
+
+/// Runs an order over the file of the store that it names. A person is told where that is made, and why it is refused.
 fn run_on_file(
     rt: &HostRuntime,
+    terminal: &Terminal<'_>,
     path: &str,
     order: &Order,
     inputs: &mut Files<'_>,
-    streams: &mut Streams,
+    streams: &mut Streams<'_>,
 ) -> Status {
-    match open_file(rt, path) {
-        Ok(mut store) => {
-            let status = run(
-                rt.alloc(),
-                order,
-                &mut store,
-                inputs,
-                &mut streams.out,
-                &mut streams.err,
-            );
-            close_file(store);
-            status
+    let is_new = terminal.is_there() && is_missing(rt, path);
+    let mut store = match open_file(rt, path) {
+        Ok(store) => store,
+        Err(refused) => {
+            let status = refuse_store(rt.alloc(), &refused.fault, &mut streams.err);
+            tell_refused(rt, terminal, path, &refused);
+            return status;
         }
-        Err(fault) => refuse_store(rt.alloc(), &fault, &mut streams.err),
+    };
+    if is_new {
+        terminal.say(path, "no such file; made a new, empty store");
     }
+    let status = run(
+        rt.alloc(),
+        order,
+        &mut store,
+        inputs,
+        &mut streams.out,
+        &mut streams.err,
+    );
+    if let Some(failure) = close_file(store)
+        && status == Status::Trouble
+        && terminal.is_there()
+    {
+        tell_error(rt, terminal, path, failure);
+    }
+    status
 }
 
 /// Runs an order over an empty store in memory.
@@ -57,7 +92,7 @@ fn run_in_memory(
     rt: &HostRuntime,
     order: &Order,
     inputs: &mut Files<'_>,
-    streams: &mut Streams,
+    streams: &mut Streams<'_>,
 ) -> Status {
     match open_memory(rt.alloc()) {
         Ok(mut store) => {
@@ -76,27 +111,29 @@ fn run_in_memory(
     }
 }
 
-/// What the words ask for, done over the system's files and streams.
-fn run_words(rt: &HostRuntime) -> io::Result<Status> {
-    let words = words(rt)?;
+/// What the order asks for, done over the system's files and streams.
+fn run_order(rt: &HostRuntime, order: &Order) -> io::Result<Status> {
+    let terminal = Terminal::new(rt);
+    let meter = meter_of(rt, &terminal, order);
     let mut streams = Streams {
-        out: Counted::new(rt.stdout()),
-        err: Counted::new(rt.stderr()),
+        out: Counted::new(Clearing::new(&meter, rt.stdout())),
+        err: Counted::new(Clearing::new(&meter, rt.stderr())),
     };
-    let order = match read_order(
-        rt.alloc(),
-        words.as_slice(),
-        &mut streams.out,
-        &mut streams.err,
-    ) {
-        Ok(order) => order,
-        Err(status) => return Ok(status),
+    let mut inputs = Files::new(rt, &meter)?;
+    let status = match store_path(order) {
+        Some(path) => run_on_file(rt, &terminal, path, order, &mut inputs, &mut streams),
+        None => run_in_memory(rt, order, &mut inputs, &mut streams),
     };
-    let mut inputs = Files::new(rt)?;
-    Ok(match store_path(&order) {
-        Some(path) => run_on_file(rt, path, &order, &mut inputs, &mut streams),
-        None => run_in_memory(rt, &order, &mut inputs, &mut streams),
-    })
+    meter.wipe();
+    Ok(status)
+}
+
+/// What the words ask for, done.
+fn run_words(rt: &HostRuntime) -> io::Result<Status> {
+    match order_of_words(rt)? {
+        Ok(order) => run_order(rt, &order),
+        Err(status) => Ok(status),
+    }
 }
 
 /// Does what the program's words ask for, and answers the status that it ends with: 0 to 3.

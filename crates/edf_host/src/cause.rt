@@ -1,0 +1,99 @@
+//! Why a store was refused, in plain words for a person.
+
+use crate::disk::Refused;
+use crate::terminal::Terminal;
+use edf_store::StoreFault;
+use sqlite::{Error, ErrorCode};
+use sqlite_std_file::{OpenError, Unknown};
+use std::io::{self, ErrorKind};
+
+const BUSY: &str = "another program has it open; run this again when that has ended";
+
+const FULL: &str = "the disk is full";
+
+const OTHER_TABLES: &str = "a database with other tables than a store's; it was left as it is";
+
+const OTHER_ROWS: &str = "its rows are such as no submissions leave; put it aside, as it is";
+
+/// What the system answered, if the words of the system itself would not do.
+fn system_words(error: &io::Error) -> Option<&'static str> {
+    match error.kind() {
+        ErrorKind::NotFound => Some("no such file or directory"),
+        ErrorKind::NotADirectory => Some("a directory of its path is a file"),
+        ErrorKind::PermissionDenied => Some("no leave to read and write it, or files beside it"),
+        ErrorKind::ReadOnlyFilesystem => Some("no leave to write: the file system is read-only"),
+        ErrorKind::StorageFull | ErrorKind::QuotaExceeded => Some(FULL),
+        ErrorKind::Unsupported | ErrorKind::IsADirectory => Some(
+            "not a plain file, but a directory, a device or a linked file",
+        ),
+        _ => None,
+    }
+}
+
+fn tell_system_error(terminal: &Terminal<'_>, path: &str, error: io::Error) {
+    match system_words(&error) {
+        Some(words) => terminal.say(path, words),
+        None => terminal.say(path, error),
+    }
+}
+
+/// Tells why there is no file to be had at the path, for which it is asked for once more: the port of SQLite does not tell.
+fn tell_unopened(rt: &HostRuntime, terminal: &Terminal<'_>, path: &str) {
+    if path.starts_with("file:") {
+        return terminal.say(path, "a path that begins with 'file:' is written './file:'");
+    }
+    match sqlite_std_file::open(rt, path, Unknown) {
+        Ok(_) => terminal.say(
+            path,
+            "it could not be opened, but now it can: run this again",
+        ),
+        Err(OpenError::Io(error)) => tell_system_error(terminal, path, error),
+        Err(OpenError::Busy) => terminal.say(path, BUSY),
+        Err(error) => terminal.say(path, error),
+    }
+}
+
+/// What `sqlite` answered, if its own words would not do.
+fn code_words(code: ErrorCode) -> Option<&'static str> {
+    match code {
+        ErrorCode::NotADatabase => Some("not a database, or none that can be read here"),
+        ErrorCode::DatabaseCorrupt => Some("the file is damaged"),
+        ErrorCode::DatabaseBusy => Some(BUSY),
+        ErrorCode::DiskFull => Some(FULL),
+        ErrorCode::SystemIoFailure => Some("the disk could not be read or written"),
+        ErrorCode::Closed => Some("a failure of the disk closed it"),
+        _ => None,
+    }
+}
+
+/// Tells what `sqlite` refused a store for.
+pub(crate) fn tell_error(rt: &HostRuntime, terminal: &Terminal<'_>, path: &str, error: Error) {
+    let Error::SqliteFailure(code) = error else {
+        return terminal.say(path, error);
+    };
+    if code == ErrorCode::CannotOpen {
+        return tell_unopened(rt, terminal, path);
+    }
+    match code_words(code) {
+        Some(words) => terminal.say(path, words),
+        None => terminal.say(path, code),
+    }
+}
+
+/// Tells why a store was not opened. Want of memory has no further cause.
+pub(crate) fn tell_refused(
+    rt: &HostRuntime,
+    terminal: &Terminal<'_>,
+    path: &str,
+    refused: &Refused,
+) {
+    if !terminal.is_there() {
+        return;
+    }
+    match refused.fault {
+        StoreFault::Store(Some(error)) => tell_error(rt, terminal, path, error),
+        StoreFault::Foreign if refused.has_our_tables => terminal.say(path, OTHER_ROWS),
+        StoreFault::Foreign => terminal.say(path, OTHER_TABLES),
+        _ => {}
+    }
+}
