@@ -84,10 +84,16 @@ fn last_refusal(alloc: Global, cap: u32, names: &[&str]) -> Option<(Refusal, Str
     Some((*refusal, String::from_utf8(text).ok()?))
 }
 
-/// Whether the last of some files is refused so, in this text.
-fn is_refused(alloc: Global, cap: u32, names: &[&str], want: Refusal, words: &str) -> Option<bool> {
+/// Whether the last of some files is refused so, in these words.
+fn is_refused(
+    alloc: Global,
+    cap: u32,
+    names: &[&str],
+    want: Option<Refusal>,
+    words: &str,
+) -> Option<bool> {
     let (refusal, text) = last_refusal(alloc, cap, names)?;
-    Some(refusal == want && text.as_str() == words)
+    Some(refusal == want? && text.as_str() == words)
 }
 
 #[test]
@@ -110,58 +116,64 @@ fn a_refusal_of_the_form_tells_its_place(rt: HostRuntime) {
             "E21 CutRecord record=3",
         ),
     ] {
-        let names = ["q.edf", name];
-        let told = is_refused(rt.alloc(), CAP, &names, Refusal::Form(fault), words);
+        let want = Some(Refusal::Form(fault));
+        let told = is_refused(rt.alloc(), CAP, &["q.edf", name], want, words);
         assert_eq!(rt; told, Some(true), "{name}");
     }
 }
 
 #[test]
 fn a_full_recording_tells_its_counts(rt: HostRuntime) {
-    let full = Refusal::Full {
+    let names = ["n1.edf", "n2.edf", "n3.edf"];
+    let want = Some(Refusal::Full {
         held: 2,
         new: 1,
         cap: 2,
-    };
-    let names = ["n1.edf", "n2.edf", "n3.edf"];
-    let told = is_refused(rt.alloc(), 2, &names, full, "E32 Full held=2 new=1 cap=2");
+    });
+    let told = is_refused(rt.alloc(), 2, &names, want, "E32 Full held=2 new=1 cap=2");
     assert_eq!(rt; told, Some(true));
 }
 
-/// Whether the last of some files overlaps a stored data record, by the nanoseconds of both starts.
-fn is_overlap(alloc: Global, names: &[&str], start: u64, stored: u64) -> Option<bool> {
-    let (refusal, _) = last_refusal(alloc, CAP, names)?;
+/// The refusal by its starts, in nanoseconds.
+fn overlap(start: u64, stored: u64) -> Option<Refusal> {
     let start = Instant::at(start)?;
     let stored = Instant::at(stored)?;
-    Some(refusal == Refusal::Overlap { start, stored })
+    Some(Refusal::Overlap { start, stored })
 }
 
 #[test]
 fn an_overlap_tells_both_starts(rt: HostRuntime) {
-    let start = 541_727_990_500_000_000u64;
-    let stored = 541_727_990_000_000_000u64;
-    let beside = is_overlap(rt.alloc(), &["q.edf", "half.edf"], start, stored);
-    assert_eq!(rt; beside, Some(true));
-    let both = ["q.edf", "after.edf", "half_alone.edf"];
-    let between = is_overlap(rt.alloc(), &both, start, stored);
+    let words = "E30 Overlap start=2002-03-02T23:59:50.5 stored=2002-03-02T23:59:50";
+    let want = overlap(541_727_990_500_000_000, 541_727_990_000_000_000);
+    let one = is_refused(rt.alloc(), CAP, &["q.edf", "half.edf"], want, words);
+    assert_eq!(rt; one, Some(true));
+    let two = ["q.edf", "after.edf", "half_alone.edf"];
+    let between = is_refused(rt.alloc(), CAP, &two, want, words);
     assert_eq!(rt; between, Some(true));
 }
 
-/// Whether the last of some files differs from a stored data record at this start, in nanoseconds.
-fn is_difference(alloc: Global, cap: u32, names: &[&str], nanos: u64) -> Option<bool> {
-    let (refusal, _) = last_refusal(alloc, cap, names)?;
+/// The refusal by its start, in nanoseconds.
+fn difference(nanos: u64) -> Option<Refusal> {
     let start = Instant::at(nanos)?;
-    Some(refusal == Refusal::Differs { start })
+    Some(Refusal::Differs { start })
 }
 
 #[test]
 fn other_samples_at_a_start_are_told_before_a_full_recording(rt: HostRuntime) {
-    let other = ["q.edf", "other.edf"];
-    let told = is_difference(rt.alloc(), CAP, &other, 541_727_990_000_000_000);
-    assert_eq!(rt; told, Some(true));
-    let third = ["n1.edf", "n3.edf", "other_third.edf"];
-    let told = is_difference(rt.alloc(), 2, &third, 541_731_602_000_000_000);
-    assert_eq!(rt; told, Some(true));
+    let words = "E31 Differs start=2002-03-02T23:59:50";
+    let want = difference(541_727_990_000_000_000);
+    let other = is_refused(rt.alloc(), CAP, &["q.edf", "other.edf"], want, words);
+    assert_eq!(rt; other, Some(true));
+    let words = "E31 Differs start=2002-03-03T01:00:02";
+    let names = ["n1.edf", "n3.edf", "other_third.edf"];
+    let third = is_refused(
+        rt.alloc(),
+        2,
+        &names,
+        difference(541_731_602_000_000_000),
+        words,
+    );
+    assert_eq!(rt; third, Some(true));
 }
 
 /// The identity of Q's recording.

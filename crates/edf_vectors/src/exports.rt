@@ -46,10 +46,19 @@ fn refused_files_are_not_exported(rt: HostRuntime) {
 }
 
 #[test]
-fn a_recording_stays_below_its_cap(rt: HostRuntime) {
-    let line = "take night.db n1.edf k.edf";
-    let told = exported(rt.alloc(), 2, line, "export night.db 1", "n1.edf");
-    assert_eq!(rt; told, Some(778));
+fn a_full_recording_is_exported_as_it_was(rt: HostRuntime) {
+    for (line, want, len) in [
+        ("take night.db n1.edf k.edf", "n1.edf", 778usize),
+        (
+            "take night.db n1.edf n2.edf n3.edf n1.edf",
+            "n1_and_n2.edf",
+            788,
+        ),
+        ("take night.db n3.edf n2.edf n1.edf", "n2_and_n3.edf", 788),
+    ] {
+        let told = exported(rt.alloc(), 2, line, "export night.db 1", want);
+        assert_eq!(rt; told, Some(len), "{line}");
+    }
 }
 
 #[test]

@@ -180,6 +180,8 @@ pub(crate) fn expected(alloc: Global, name: &str) -> Option<Vec<u8>> {
     match name {
         "q_and_p5.edf" => q_and_p5(alloc),
         "q_r9_and_p5.edf" => q_r9_and_p5(alloc),
+        "n1_and_n2.edf" => night(alloc, "01.00.00", b"\x0a", b"\x0b"),
+        "n2_and_n3.edf" => night(alloc, "01.00.01", b"\x0b", b"\x0c"),
         "before_q_and_after.edf" => before_q_and_after(alloc),
         "canonical_k.edf" => patched(alloc, &file_k(alloc).ok()?, 196, b"D").ok(),
         "canonical_u.edf" => canonical_u(alloc).ok(),
@@ -217,4 +219,14 @@ fn before_q_and_after(alloc: Global) -> Option<Vec<u8>> {
         &[first, second, third],
     )
     .ok()
+}
+
+/// Two seconds of the third of March with these first bytes of their samples.
+fn night(alloc: Global, time: &'static str, first: &[u8], second: &[u8]) -> Option<Vec<u8>> {
+    let header = evening(time, "2", "3")
+        .recording("Startdate 03-MAR-2002 N1 T3 REC5")
+        .start("03.03.02", time);
+    let begin = b"\0\0\0+0\x14\x14\0\0";
+    let next = b"\0\0\0+1\x14\x14\0\0";
+    file(alloc, &header, &[first, begin, second, next]).ok()
 }

@@ -16,3 +16,5 @@ mod shelf;
 mod stage;
 #[cfg(test)]
 mod stories;
+#[cfg(test)]
+mod words;
