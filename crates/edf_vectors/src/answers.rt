@@ -20,10 +20,10 @@ use std::alloc::Global;
 fn answers(
     alloc: Global,
     store: &mut Store<MemStore>,
-    names: &[&str],
+    names: &str,
 ) -> Option<Vec<Result<Receipt, Refusal>>> {
     let mut inputs = Vec::new(alloc);
-    for name in names {
+    for name in names.split_whitespace() {
         let input = Counted::new(Shelved::new(file_named(alloc, name)));
         inputs.push(input).ok()?;
     }
@@ -42,7 +42,7 @@ fn counts(answer: &Result<Receipt, Refusal>) -> Result<(u32, u32), Refusal> {
 fn are_answered(
     alloc: Global,
     cap: u32,
-    names: &[&str],
+    names: &str,
     want: &[Result<(u32, u32), Refusal>],
 ) -> Option<bool> {
     let mut store = empty_store(alloc, cap)?;
@@ -54,29 +54,35 @@ fn are_answered(
     Some(same)
 }
 
+/// What a recording with a cap of two has to answer to a third data record.
+const FULL: Result<(u32, u32), Refusal> = Err(Refusal::Full {
+    held: 2,
+    new: 1,
+    cap: 2,
+});
+
 #[test]
 fn a_recording_takes_no_more_than_its_cap_and_repeats_all_the_same(rt: HostRuntime) {
-    let full = Err(Refusal::Full {
-        held: 2,
-        new: 1,
-        cap: 2,
-    });
-    let one = Ok((1, 0));
-    let rising = ["n1.edf", "n2.edf", "n3.edf", "n1.edf"];
-    let told = are_answered(rt.alloc(), 2, &rising, &[one, one, full, Ok((0, 1))]);
+    let rising = "n1.edf n2.edf n3.edf n1.edf";
+    let told = are_answered(
+        rt.alloc(),
+        2,
+        rising,
+        &[Ok((1, 0)), Ok((1, 0)), FULL, Ok((0, 1))],
+    );
     assert_eq!(rt; told, Some(true));
-    let falling = ["n3.edf", "n2.edf", "n1.edf"];
-    let told = are_answered(rt.alloc(), 2, &falling, &[one, one, full]);
+    let falling = "n3.edf n2.edf n1.edf";
+    let told = are_answered(rt.alloc(), 2, falling, &[Ok((1, 0)), Ok((1, 0)), FULL]);
     assert_eq!(rt; told, Some(true));
 }
 
 #[test]
 fn no_files_have_no_answers(rt: HostRuntime) {
-    assert_eq!(rt; are_answered(rt.alloc(), CAP, &[], &[]), Some(true));
+    assert_eq!(rt; are_answered(rt.alloc(), CAP, "", &[]), Some(true));
 }
 
 /// The refusal of the last of some files, and its text.
-fn last_refusal(alloc: Global, cap: u32, names: &[&str]) -> Option<(Refusal, String)> {
+fn last_refusal(alloc: Global, cap: u32, names: &str) -> Option<(Refusal, String)> {
     let mut store = empty_store(alloc, cap)?;
     let answers = answers(alloc, &mut store, names)?;
     let refusal = answers.last()?.as_ref().err()?;
@@ -88,7 +94,7 @@ fn last_refusal(alloc: Global, cap: u32, names: &[&str]) -> Option<(Refusal, Str
 fn is_refused(
     alloc: Global,
     cap: u32,
-    names: &[&str],
+    names: &str,
     want: Option<Refusal>,
     words: &str,
 ) -> Option<bool> {
@@ -102,35 +108,39 @@ fn a_refusal_of_the_form_tells_its_place(rt: HostRuntime) {
         nth: 1,
         fault: TalFault::Tal { offset: 5 },
     };
-    for (name, fault, words) in [
-        ("spoilt.edf", spoilt, "E22 Tal record=1 offset=5"),
-        ("trailing.edf", FragmentFault::Trailing, "E29 Trailing"),
+    for (names, fault, words) in [
+        ("q.edf spoilt.edf", spoilt, "E22 Tal record=1 offset=5"),
         (
-            "cut.edf",
+            "q.edf trailing.edf",
+            FragmentFault::Trailing,
+            "E29 Trailing",
+        ),
+        (
+            "q.edf cut.edf",
             FragmentFault::CutRecord { nth: 1 },
             "E21 CutRecord record=1",
         ),
         (
-            "cut_third.edf",
+            "q.edf cut_third.edf",
             FragmentFault::CutRecord { nth: 3 },
             "E21 CutRecord record=3",
         ),
     ] {
         let want = Some(Refusal::Form(fault));
-        let told = is_refused(rt.alloc(), CAP, &["q.edf", name], want, words);
-        assert_eq!(rt; told, Some(true), "{name}");
+        let told = is_refused(rt.alloc(), CAP, names, want, words);
+        assert_eq!(rt; told, Some(true), "{names}");
     }
 }
 
 #[test]
 fn a_full_recording_tells_its_counts(rt: HostRuntime) {
-    let names = ["n1.edf", "n2.edf", "n3.edf"];
+    let names = "n1.edf n2.edf n3.edf";
     let want = Some(Refusal::Full {
         held: 2,
         new: 1,
         cap: 2,
     });
-    let told = is_refused(rt.alloc(), 2, &names, want, "E32 Full held=2 new=1 cap=2");
+    let told = is_refused(rt.alloc(), 2, names, want, "E32 Full held=2 new=1 cap=2");
     assert_eq!(rt; told, Some(true));
 }
 
@@ -144,12 +154,11 @@ fn overlap(start: u64, stored: u64) -> Option<Refusal> {
 #[test]
 fn an_overlap_tells_both_starts(rt: HostRuntime) {
     let words = "E30 Overlap start=2002-03-02T23:59:50.5 stored=2002-03-02T23:59:50";
-    let want = overlap(541_727_990_500_000_000, 541_727_990_000_000_000);
-    let one = is_refused(rt.alloc(), CAP, &["q.edf", "half.edf"], want, words);
-    assert_eq!(rt; one, Some(true));
-    let two = ["q.edf", "after.edf", "half_alone.edf"];
-    let between = is_refused(rt.alloc(), CAP, &two, want, words);
-    assert_eq!(rt; between, Some(true));
+    for names in ["q.edf half.edf", "q.edf after.edf half_alone.edf"] {
+        let want = overlap(541_727_990_500_000_000, 541_727_990_000_000_000);
+        let told = is_refused(rt.alloc(), CAP, names, want, words);
+        assert_eq!(rt; told, Some(true), "{names}");
+    }
 }
 
 /// The refusal by its start, in nanoseconds.
@@ -162,14 +171,14 @@ fn difference(nanos: u64) -> Option<Refusal> {
 fn other_samples_at_a_start_are_told_before_a_full_recording(rt: HostRuntime) {
     let words = "E31 Differs start=2002-03-02T23:59:50";
     let want = difference(541_727_990_000_000_000);
-    let other = is_refused(rt.alloc(), CAP, &["q.edf", "other.edf"], want, words);
+    let other = is_refused(rt.alloc(), CAP, "q.edf other.edf", want, words);
     assert_eq!(rt; other, Some(true));
     let words = "E31 Differs start=2002-03-03T01:00:02";
-    let names = ["n1.edf", "n3.edf", "other_third.edf"];
+    let names = "n1.edf n3.edf other_third.edf";
     let third = is_refused(
         rt.alloc(),
         2,
-        &names,
+        names,
         difference(541_731_602_000_000_000),
         words,
     );
@@ -202,27 +211,28 @@ fn a_receipt_names_the_recording(rt: HostRuntime) {
     }
 }
 
-/// Of each recording that is held after some files, whether it is dated.
-fn dated(alloc: Global, names: &[&str]) -> Option<Vec<bool>> {
+/// Of each recording that is held after some files, whether it is dated: `D` or `X`.
+fn dated(alloc: Global, names: &str) -> Option<String> {
     let mut store = empty_store(alloc, CAP)?;
     answers(alloc, &mut store, names)?;
-    let mut dated = Vec::new(alloc);
+    let mut dated = String::new(alloc);
     for identity in store.identities().ok()?.iter() {
-        dated.push(identity.dated()).ok()?;
+        let letter = if identity.dated() { 'D' } else { 'X' };
+        dated.push(letter).ok()?;
     }
     Some(dated)
 }
 
 #[test]
 fn recordings_are_listed_by_their_bytes_and_none_of_a_refused_file(rt: HostRuntime) {
-    let two = dated(rt.alloc(), &["undated.edf", "q.edf"]);
-    assert_eq!(rt; two.as_deref(), Some([true, false].as_slice()));
-    let none = dated(rt.alloc(), &["cut.edf", "cut_second.edf", "past.edf"]);
-    assert_eq!(rt; none.as_deref(), Some([].as_slice()));
+    let two = dated(rt.alloc(), "undated.edf q.edf");
+    assert_eq!(rt; two.as_deref(), Some("DX"));
+    let none = dated(rt.alloc(), "cut.edf cut_second.edf past.edf");
+    assert_eq!(rt; none.as_deref(), Some(""));
 }
 
 /// Of Q's recording after some files: the number of its data records, and the seconds of the first and the last behind Q's.
-fn summary(alloc: Global, names: &[&str]) -> Option<(u32, i64, i64)> {
+fn summary(alloc: Global, names: &str) -> Option<(u32, i64, i64)> {
     let mut store = empty_store(alloc, CAP)?;
     answers(alloc, &mut store, names)?;
     let summary = store.summary(&identity(alloc)?).ok()??;
@@ -234,20 +244,20 @@ fn summary(alloc: Global, names: &[&str]) -> Option<(u32, i64, i64)> {
 
 #[test]
 fn a_summary_spans_the_records_that_were_accepted(rt: HostRuntime) {
-    let touching = summary(rt.alloc(), &["q.edf", "after.edf", "before.edf"]);
+    let touching = summary(rt.alloc(), "q.edf after.edf before.edf");
     assert_eq!(rt; touching, Some((3, -1, 1)));
-    let shared = summary(rt.alloc(), &["p5.edf", "q.edf", "r9.edf"]);
+    let shared = summary(rt.alloc(), "p5.edf q.edf r9.edf");
     assert_eq!(rt; shared, Some((3, 0, 15)));
-    let refused = summary(rt.alloc(), &["q.edf", "half.edf", "cut_third.edf"]);
+    let refused = summary(rt.alloc(), "q.edf half.edf cut_third.edf");
     assert_eq!(rt; refused, Some((1, 0, 0)));
-    let other = summary(rt.alloc(), &["undated.edf", "u.edf"]);
+    let other = summary(rt.alloc(), "undated.edf u.edf");
     assert_eq!(rt; other, None);
 }
 
 /// Why a recording that is not held is not exported beside Q's, and how many bytes went out.
 fn not_exported(alloc: Global) -> Option<(ExportFault, usize)> {
     let mut store = empty_store(alloc, CAP)?;
-    answers(alloc, &mut store, &["q.edf"])?;
+    answers(alloc, &mut store, "q.edf")?;
     let missing = undated_identity(alloc)?;
     let mut bytes = Vec::new(alloc);
     let mut out = Counted::new(Sink::whole(&mut bytes, 100));

@@ -13,6 +13,9 @@ pub(crate) const CAP: u32 = 99_999_999;
 
 /// An empty store.
 pub(crate) fn empty_store(alloc: Global, cap: u32) -> Option<Store<MemStore>> {
+    if cap == 0 || cap > CAP {
+        return None;
+    }
     let conn = Connection::open_in_memory(alloc).ok()?;
     Store::open(alloc, conn, cap).ok()
 }
@@ -77,11 +80,11 @@ fn push_told(alloc: Global, text: &mut Vec<u8>, told: &Outcome) -> Option<()> {
     text.extend_from_slice(status.as_bytes()).ok()
 }
 
-/// What lines of words write, one after another over one store, and how each ends.
-pub(crate) fn story(alloc: Global, cap: u32, lines: &[&str]) -> Option<String> {
+/// What orders write, one after another over one store, and how each ends. A semicolon stands between two.
+pub(crate) fn story(alloc: Global, cap: u32, orders: &str) -> Option<String> {
     let mut store = empty_store(alloc, cap)?;
     let mut text = Vec::new(alloc);
-    for line in lines {
+    for line in orders.split(';') {
         let told = told(alloc, &mut store, Shelf::new(b""), usize::MAX, line)?;
         push_told(alloc, &mut text, &told)?;
     }

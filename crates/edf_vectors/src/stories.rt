@@ -14,33 +14,52 @@ fn files_that_fit_are_accepted_with_what_they_add(rt: HostRuntime) {
         ),
         (
             "take night.db p5.edf q.edf r9.edf",
-            "p5.edf accepted new=1 known=0\nq.edf accepted new=1 known=0\nr9.edf accepted new=1 known=1\nstatus 0\n",
+            "p5.edf accepted new=1 known=0\n\
+                q.edf accepted new=1 known=0\n\
+                r9.edf accepted new=1 known=1\n\
+                status 0\n",
         ),
         (
             "take night.db q.edf after.edf before.edf",
-            "q.edf accepted new=1 known=0\nafter.edf accepted new=1 known=0\nbefore.edf accepted new=1 known=0\nstatus 0\n",
+            "q.edf accepted new=1 known=0\n\
+                after.edf accepted new=1 known=0\n\
+                before.edf accepted new=1 known=0\n\
+                status 0\n",
         ),
         (
             "take night.db n1.edf n2.edf k.edf n3.edf",
-            "n1.edf accepted new=1 known=0\nn2.edf accepted new=1 known=0\nk.edf accepted new=1 known=2\nn3.edf accepted new=0 known=1\nstatus 0\n",
+            "n1.edf accepted new=1 known=0\n\
+                n2.edf accepted new=1 known=0\n\
+                k.edf accepted new=1 known=2\n\
+                n3.edf accepted new=0 known=1\n\
+                status 0\n",
         ),
         (
-            "take night.db q_and_p5.edf fraction.edf last.edf u.edf",
-            "q_and_p5.edf accepted new=2 known=0\nfraction.edf refused E30 Overlap start=2002-03-02T23:59:50.999999999 stored=2002-03-02T23:59:50\nlast.edf accepted new=1 known=0\nu.edf accepted new=2 known=0\nstatus 1\n",
+            "take night.db q_and_p5.edf undated.edf last.edf u.edf",
+            "q_and_p5.edf accepted new=2 known=0\n\
+                undated.edf accepted new=1 known=0\n\
+                last.edf accepted new=1 known=0\n\
+                u.edf accepted new=2 known=0\n\
+                status 0\n",
+        ),
+        (
+            "take night.db fraction.edf",
+            "fraction.edf accepted new=1 known=0\nstatus 0\n",
         ),
         (
             "take night.db long.edf",
             "long.edf accepted new=1000 known=0\nstatus 0\n",
         ),
     ] {
-        let got = story(rt.alloc(), CAP, &[line]);
+        let got = story(rt.alloc(), CAP, line);
         assert_eq!(rt; got.as_deref(), Some(want), "{line}");
     }
 }
 
 /// Whether an empty store refuses a file with this line, lists nothing then and exports nothing.
 fn is_refused_alone(alloc: Global, line: &str, want: &str) -> Option<bool> {
-    let got = story(alloc, CAP, &[line, "list night.db", "export night.db 1"])?;
+    let orders = format!(in alloc; "{line}; list night.db; export night.db 1").ok()?;
+    let got = story(alloc, CAP, &orders)?;
     let nothing = "status 0\nerr: no recording at place 1\nstatus 1\n";
     let all = format!(in alloc; "{want}status 1\n{nothing}").ok()?;
     Some(got == all)
@@ -90,7 +109,8 @@ const Q_LISTED: &str =
 
 /// Whether a file behind Q is refused with this line, and Q is listed as before.
 fn is_refused_behind_q(alloc: Global, line: &str, want: &str) -> Option<bool> {
-    let got = story(alloc, CAP, &["take night.db q.edf", line, "list night.db"])?;
+    let orders = format!(in alloc; "take night.db q.edf; {line}; list night.db").ok()?;
+    let got = story(alloc, CAP, &orders)?;
     let begin = "q.edf accepted new=1 known=0\nstatus 0\n";
     let all = format!(in alloc; "{begin}{want}status 1\n{Q_LISTED}").ok()?;
     Some(got == all)
@@ -125,33 +145,48 @@ fn files_that_clash_are_refused_with_the_starts(rt: HostRuntime) {
 fn a_full_recording_refuses_what_it_has_no_room_for(rt: HostRuntime) {
     for (line, want) in [
         (
-            "take night.db n1.edf k.edf",
-            "n1.edf accepted new=1 known=0\nk.edf refused E32 Full held=1 new=2 cap=2\nstatus 1\n1 records=1 first=2002-03-03T01:00:00 patient=P7 investigation=N1\nstatus 0\n",
+            "take night.db n1.edf k.edf; list night.db",
+            "n1.edf accepted new=1 known=0\n\
+                k.edf refused E32 Full held=1 new=2 cap=2\n\
+                status 1\n\
+                1 records=1 first=2002-03-03T01:00:00 patient=P7 investigation=N1\n\
+                status 0\n",
         ),
         (
-            "take night.db n3.edf n2.edf n1.edf",
-            "n3.edf accepted new=1 known=0\nn2.edf accepted new=1 known=0\nn1.edf refused E32 Full held=2 new=1 cap=2\nstatus 1\n1 records=2 first=2002-03-03T01:00:01 patient=P7 investigation=N1\nstatus 0\n",
+            "take night.db n3.edf n2.edf n1.edf; list night.db",
+            "n3.edf accepted new=1 known=0\n\
+                n2.edf accepted new=1 known=0\n\
+                n1.edf refused E32 Full held=2 new=1 cap=2\n\
+                status 1\n\
+                1 records=2 first=2002-03-03T01:00:01 patient=P7 investigation=N1\n\
+                status 0\n",
         ),
         (
-            "take night.db n1.edf n3.edf other_third.edf",
-            "n1.edf accepted new=1 known=0\nn3.edf accepted new=1 known=0\nother_third.edf refused E31 Differs start=2002-03-03T01:00:02\nstatus 1\n1 records=2 first=2002-03-03T01:00:00 patient=P7 investigation=N1\nstatus 0\n",
+            "take night.db n1.edf n3.edf other_third.edf; list night.db",
+            "n1.edf accepted new=1 known=0\n\
+                n3.edf accepted new=1 known=0\n\
+                other_third.edf refused E31 Differs start=2002-03-03T01:00:02\n\
+                status 1\n\
+                1 records=2 first=2002-03-03T01:00:00 patient=P7 investigation=N1\n\
+                status 0\n",
         ),
     ] {
-        let got = story(rt.alloc(), 2, &[line, "list night.db"]);
+        let got = story(rt.alloc(), 2, line);
         assert_eq!(rt; got.as_deref(), Some(want), "{line}");
     }
 }
 
 #[test]
 fn a_night_is_taken_and_listed_and_has_no_second_place(rt: HostRuntime) {
-    let lines = [
-        "take night.db q.edf half.edf",
-        "list night.db",
-        "export night.db 2",
-    ];
-    let want =
-        "q.edf accepted new=1 known=0\nhalf.edf refused E30 Overlap start=2002-03-02T23:59:50.5 stored=2002-03-02T23:59:50\nstatus 1\n1 records=1 first=2002-03-02T23:59:50 patient=P7 investigation=N1\nstatus 0\nerr: no recording at place 2\nstatus 1\n";
-    let got = story(rt.alloc(), CAP, &lines);
+    let orders = "take night.db q.edf half.edf; list night.db; export night.db 2";
+    let want = "q.edf accepted new=1 known=0\n\
+            half.edf refused E30 Overlap start=2002-03-02T23:59:50.5 stored=2002-03-02T23:59:50\n\
+            status 1\n\
+            1 records=1 first=2002-03-02T23:59:50 patient=P7 investigation=N1\n\
+            status 0\n\
+            err: no recording at place 2\n\
+            status 1\n";
+    let got = story(rt.alloc(), CAP, orders);
     assert_eq!(rt; got.as_deref(), Some(want));
 }
 
@@ -160,11 +195,13 @@ fn recordings_are_listed_by_the_bytes_of_their_identities(rt: HostRuntime) {
     for (line, want) in [
         (
             "take night.db undated.edf q.edf",
-            "1 records=1 first=2002-03-02T23:59:50 patient=P7 investigation=N1\n2 records=1 first=2002-03-02T23:59:50 patient=P7 investigation=N1\n",
+            "1 records=1 first=2002-03-02T23:59:50 patient=P7 investigation=N1\n\
+                2 records=1 first=2002-03-02T23:59:50 patient=P7 investigation=N1\n",
         ),
         (
             "take night.db u.edf fraction.edf",
-            "1 records=1 first=2002-03-02T23:59:50.999999999 patient=P7 investigation=N1\n2 records=2 first=2002-03-02T22:00:00 patient=X investigation=X\n",
+            "1 records=1 first=2002-03-02T23:59:50.999999999 patient=P7 investigation=N1\n\
+                2 records=2 first=2002-03-02T22:00:00 patient=X investigation=X\n",
         ),
     ] {
         let told = listed(rt.alloc(), usize::MAX, line);
@@ -206,7 +243,10 @@ fn a_missing_file_is_a_failed_read_and_the_next_is_taken(rt: HostRuntime) {
         ),
         (
             "take night.db cut.edf missing.edf q.edf",
-            "cut.edf refused E21 CutRecord record=1\nmissing.edf refused E40 Read\nq.edf accepted new=1 known=0\nstatus 3\n",
+            "cut.edf refused E21 CutRecord record=1\n\
+                missing.edf refused E40 Read\n\
+                q.edf accepted new=1 known=0\n\
+                status 3\n",
         ),
         (
             "convert missing.edf",
@@ -222,7 +262,7 @@ fn a_missing_file_is_a_failed_read_and_the_next_is_taken(rt: HostRuntime) {
         ),
         ("list night.db", "status 0\n"),
     ] {
-        let got = story(rt.alloc(), CAP, &[line]);
+        let got = story(rt.alloc(), CAP, line);
         assert_eq!(rt; got.as_deref(), Some(want), "{line}");
     }
 }
