@@ -14,8 +14,6 @@ mod help;
 mod matches;
 mod order;
 mod place;
-#[cfg(test)]
-mod tests;
 
 pub use command_line::parse;
 pub use fault::CommandFault;

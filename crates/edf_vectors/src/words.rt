@@ -1,0 +1,89 @@
+//! Words after the program's name, read as an order or told why not.
+
+use edf_command::{CommandFault, Order, parse};
+use std::alloc::{AllocError, Global};
+
+/// The order of the words of a line and its values, or which fault they have, with its text.
+fn answer(alloc: Global, line: &str) -> Result<String, AllocError> {
+    let mut words = Vec::new(alloc);
+    for word in line.split_whitespace() {
+        words.push(String::from_str(alloc, word)?)?;
+    }
+    match parse(alloc, words.as_slice()) {
+        Ok(Order::Take { store, files }) => format!(in alloc; "take {store} {files:?}"),
+        Ok(Order::List { store }) => format!(in alloc; "list {store}"),
+        Ok(Order::Export { store, place }) => format!(in alloc; "export {store} {place}"),
+        Ok(Order::Convert { file }) => format!(in alloc; "convert {file}"),
+        Err(CommandFault::Help(text)) => format!(in alloc; "help: {text}"),
+        Err(CommandFault::Usage(text)) => format!(in alloc; "usage: {text}"),
+        Err(CommandFault::Memory) => format!(in alloc; "memory"),
+    }
+}
+
+/// Whether the answer to a line begins so and has this text in it.
+fn shows(alloc: Global, line: &str, begin: &str, text: &str) -> Option<bool> {
+    let got = answer(alloc, line).ok()?;
+    Some(got.as_str().starts_with(begin) && got.as_str().contains(text))
+}
+
+#[test]
+fn words_that_ask_for_something_are_its_order(rt: HostRuntime) {
+    for (line, want) in [
+        ("", "convert -"),
+        ("convert -", "convert -"),
+        ("convert a.edf", "convert a.edf"),
+        ("list night.db", "list night.db"),
+        ("export night.db 007", "export night.db 7"),
+        ("export :memory: 4294967295", "export :memory: 4294967295"),
+        ("take night.db a.edf", "take night.db [\"a.edf\"]"),
+        ("take night.db - a.edf", "take night.db [\"-\", \"a.edf\"]"),
+        (
+            "take list c.edf a.edf b.edf",
+            "take list [\"c.edf\", \"a.edf\", \"b.edf\"]",
+        ),
+    ] {
+        let got = answer(rt.alloc(), line).ok();
+        assert_eq!(rt; got.as_deref(), Some(want), "at {line}");
+    }
+}
+
+#[test]
+fn words_that_ask_for_help_or_for_nothing_are_told_so(rt: HostRuntime) {
+    for (line, begin, text) in [
+        ("list", "usage: ", "<STORE>"),
+        ("list night.db 1", "usage: ", "'1'"),
+        ("list -x", "usage: ", "'-x'"),
+        ("take night.db", "usage: ", "<FILE>"),
+        ("frob", "usage: ", "'frob'"),
+        ("frob night.db", "usage: ", "'frob'"),
+        ("export night.db 0", "usage: ", "from 1 to 4294967295"),
+        ("export night.db +7", "usage: ", "from 1 to 4294967295"),
+        ("export night.db 7th", "usage: ", "from 1 to 4294967295"),
+        (
+            "export night.db 4294967296",
+            "usage: ",
+            "edfstore export <STORE> <PLACE>",
+        ),
+        ("--help", "help: ", "\n  take "),
+        ("--help", "help: ", "\n  list "),
+        ("--help", "help: ", "\n  export "),
+        ("--help", "help: ", "\n  convert "),
+        ("-h", "help: ", "\n  edfstore take night.db "),
+        ("take --help", "help: ", "\n  edfstore take night.db "),
+        ("list --help", "help: ", "\n  edfstore list night.db\n"),
+        ("export --help", "help: ", "\n  edfstore export night.db 1 "),
+        (
+            "convert --help",
+            "help: ",
+            "\n  edfstore convert recorder.edf ",
+        ),
+        (
+            "help convert",
+            "help: ",
+            "\n  edfstore convert recorder.edf ",
+        ),
+    ] {
+        let told = shows(rt.alloc(), line, begin, text);
+        assert_eq!(rt; told, Some(true), "at {line}");
+    }
+}
