@@ -7,6 +7,8 @@
 #[cfg(test)]
 mod cuts;
 #[cfg(test)]
+mod lines;
+#[cfg(test)]
 mod memory;
 #[cfg(test)]
 mod promises;

@@ -1,11 +1,15 @@
 //! Memory that runs out, under each budget until one suffices.
 
-use crate::stage::{Answer, canonical_both, empty, held, holds_both, store_of_both, taken};
+use crate::stage::{
+    Answer, canonical_both, empty, held, holds_both, store_of_both, submitted, taken,
+};
 use edf_export::export;
 use edf_fragment::Counted;
 use edf_intake::{Receipt, Refusal, submit_all};
 use edf_sample::named::{file_n1, file_n2, file_p5, file_q};
-use edf_sample::{Scarce, Sink, Source, StopsOnce};
+use edf_sample::{Scarce, Sink, Source};
+use edf_store::Store;
+use sqlite::MemStore;
 use std::alloc::Global;
 
 /// What is tried under each budget.
@@ -39,7 +43,7 @@ fn again(answer: Answer) -> Answer {
 }
 
 /// How the budget served of which two submissions were answered so; `None` where an answer is another.
-fn served(first: Answer, second: Answer) -> Option<Served> {
+fn serves(first: Answer, second: Answer) -> Option<Served> {
     let short = Err(Refusal::Memory);
     if first == Ok((1, 0)) && second == Ok((1, 0)) {
         return Some(Served::Whole);
@@ -69,7 +73,7 @@ fn submit_under(alloc: Global, scarce: &mut Scarce, budget: usize) -> Option<Ser
         return None;
     }
     if holds_both(alloc, &mut store) {
-        served(first, second)
+        serves(first, second)
     } else {
         None
     }
@@ -113,25 +117,27 @@ fn accepted(answers: &[Result<Receipt, Refusal>]) -> Option<u32> {
     Some(count)
 }
 
-/// How the budget served under which a list of two had so many answers and acceptances, or none at all, after so many reads, and
-/// left so many data records.
-fn served_list(told: Option<(usize, u32)>, reads: usize, records: u32) -> Option<Served> {
-    match told {
-        None if reads == 0 && records == 0 => Some(Served::Unbegun),
-        Some((2, 2)) if reads == 1_558 && records == 2 => Some(Served::Whole),
-        Some((2, count)) if count < 2 && records == count => Some(Served::Short),
-        _ => None,
+/// Whether each input is accepted, with one new data record. So none of them was read before.
+fn accepts_all(
+    alloc: Global,
+    store: &mut Store<MemStore>,
+    inputs: &mut [Counted<Source<'_>>],
+) -> bool {
+    for input in inputs.iter_mut() {
+        if submitted(alloc, store, input) != Ok((1, 0)) {
+            return false;
+        }
     }
+    true
 }
 
-/// Submits N1 and N2 in one list under a budget, each from a reader that gives a byte a read.
+/// Submits N1 and N2 in one list under a budget. A list that is not begun is accepted behind that, from the same readers.
 fn list_under(alloc: Global, scarce: &mut Scarce, budget: usize) -> Option<Served> {
     let (n1, n2) = (file_n1(alloc).ok()?, file_n2(alloc).ok()?);
     let mut store = empty(alloc)?;
-    let (mut first, mut second) = (0usize, 0usize);
     let mut inputs = [
-        Counted::new(StopsOnce::new(&n1, usize::MAX, false, &mut first)),
-        Counted::new(StopsOnce::new(&n2, usize::MAX, false, &mut second)),
+        Counted::new(Source::whole(&n1, 300)),
+        Counted::new(Source::whole(&n2, 300)),
     ];
     if !scarce.leave(alloc, budget) {
         return None;
@@ -140,10 +146,16 @@ fn list_under(alloc: Global, scarce: &mut Scarce, budget: usize) -> Option<Serve
         Ok(answers) => Some((answers.len(), accepted(&answers)?)),
         Err(_) => None,
     };
-    drop(inputs);
     scarce.ease();
     let (records, _) = held(alloc, &mut store)?;
-    served_list(told, first.saturating_add(second), records)
+    match told {
+        None if records == 0 && accepts_all(alloc, &mut store, &mut inputs) => {
+            Some(Served::Unbegun)
+        }
+        Some((2, 2)) if records == 2 => Some(Served::Whole),
+        Some((2, count)) if count < 2 && records == count => Some(Served::Short),
+        _ => None,
+    }
 }
 
 fn tried(alloc: Global, trial: Trial, scarce: &mut Scarce, budget: usize) -> Option<Served> {
