@@ -2,53 +2,71 @@
 
 use std::alloc::{AllocError, Global};
 
-/// All memory that the process can name, but for blocks of rising sizes, which are given back one at a time.
+/// The size from which blocks are large: one such block is free where memory is not scarce.
+const LARGE: usize = 1 << 24;
+
+/// All memory that the process can name, but for what is left free.
 #[derive(Drop)]
 pub struct Scarce {
     kept: Vec<Vec<u8>>,
-    budgets: Vec<Vec<u8>>,
+    large: usize,
 }
 
 impl Scarce {
-    // The C library keeps freed blocks below 1,033 bytes in bins by their size, so no budget is that small.
-    pub fn new(alloc: Global, count: usize, step: usize) -> Result<Scarce, AllocError> {
-        let mut kept = Vec::with_capacity(alloc, 200_000)?;
-        let mut budgets = Vec::with_capacity(alloc, count)?;
-        let mut size = 1_100usize;
-        for _ in 0..count {
-            budgets.push(Vec::<u8>::with_capacity(alloc, size)?)?;
-            // A block between two budgets keeps them apart.
-            kept.push(Vec::<u8>::with_capacity(alloc, 1_100)?)?;
-            size = size.saturating_add(step);
-        }
-        budgets.reverse();
-        let mut scarce = Scarce { kept, budgets };
-        scarce.hoard(alloc, 1 << 34);
+    /// Takes all large blocks but one.
+    pub fn new(alloc: Global) -> Result<Scarce, AllocError> {
+        let kept = Vec::with_capacity(alloc, 200_000)?;
+        let mut scarce = Scarce { kept, large: 0 };
+        scarce.hoard(alloc, 1 << 34, LARGE);
+        drop(scarce.kept.pop());
+        scarce.large = scarce.kept.len();
         Ok(scarce)
     }
 
-    /// Takes blocks of a size until one is refused, then of half the size, and so on.
-    fn hoard(&mut self, alloc: Global, most: usize) {
-        let mut size = most;
-        for _ in 0..40u8 {
-            if size < 16 {
+    /// Takes blocks of one size until one is refused.
+    fn take(&mut self, alloc: Global, size: usize) {
+        for _ in 0..100_000u32 {
+            let Ok(block) = Vec::<u8>::with_capacity(alloc, size) else {
+                return;
+            };
+            if self.kept.push(block).is_err() {
                 return;
             }
-            for _ in 0..100_000u32 {
-                let Ok(block) = Vec::<u8>::with_capacity(alloc, size) else {
-                    break;
-                };
-                if self.kept.push(block).is_err() {
-                    return;
-                }
+        }
+    }
+
+    /// Takes blocks of a size until one is refused, then of half the size, and so on down to the least.
+    fn hoard(&mut self, alloc: Global, most: usize, least: usize) {
+        let mut size = most;
+        for _ in 0..40u8 {
+            if size < least {
+                return;
             }
+            self.take(alloc, size);
             size /= 2;
         }
     }
 
-    /// Takes what is free, and gives the next budget back. Whether there was one.
-    pub fn give(&mut self, alloc: Global) -> bool {
-        self.hoard(alloc, 1 << 17);
-        self.budgets.pop().is_some()
+    /// Leaves one block of so many bytes free, and no other. Whether there was one.
+    ///
+    /// The C library keeps freed blocks up to 1,032 bytes in bins by their sizes, which are emptied too: a block that small would
+    /// serve its own size alone. With 0 nothing is free.
+    pub fn leave(&mut self, alloc: Global, bytes: usize) -> bool {
+        let Ok(block) = Vec::<u8>::with_capacity(alloc, bytes) else {
+            return false;
+        };
+        self.hoard(alloc, LARGE, 1);
+        for bin in 1..66usize {
+            self.take(alloc, 16 * bin);
+        }
+        drop(block);
+        true
+    }
+
+    /// Gives back all that is not large, so that memory is not scarce.
+    pub fn ease(&mut self) {
+        for _ in self.large..self.kept.len() {
+            drop(self.kept.pop());
+        }
     }
 }

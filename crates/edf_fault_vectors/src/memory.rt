@@ -1,0 +1,220 @@
+//! Memory that runs out, under each budget until one suffices.
+
+use crate::stage::{
+    Answer, canonical_both, empty, held, holds_both, store_of_both, submitted, taken,
+};
+use edf_export::export;
+use edf_fragment::Counted;
+use edf_intake::{Receipt, Refusal, submit_all};
+use edf_sample::named::{file_n1, file_n2, file_p5, file_q};
+use edf_sample::{Scarce, Sink, Source};
+use edf_store::Store;
+use sqlite::MemStore;
+use std::alloc::Global;
+
+/// What is tried under each budget.
+#[derive(Clone, Copy)]
+enum Trial {
+    /// P5 and then Q, to an empty store.
+    Submissions,
+    /// The export of both.
+    Export,
+    /// N1 and N2 in one list.
+    List,
+}
+
+/// How a budget served.
+#[derive(Clone, Copy, Debug, PartialEq, Eq)]
+enum Served {
+    /// Nothing was begun.
+    Unbegun,
+    /// Memory ran out.
+    Short,
+    /// It sufficed.
+    Whole,
+}
+
+/// What a submission that was answered so is answered again, where there is memory.
+fn again(answer: Answer) -> Answer {
+    match answer {
+        Ok(_) => Ok((0, 1)),
+        Err(_) => Ok((1, 0)),
+    }
+}
+
+/// How the budget served of which two submissions were answered so; `None` where an answer is another.
+fn serves(first: Answer, second: Answer) -> Option<Served> {
+    let short = Err(Refusal::Memory);
+    if first == Ok((1, 0)) && second == Ok((1, 0)) {
+        return Some(Served::Whole);
+    }
+    let fits = (first == Ok((1, 0)) || first == short) && (second == Ok((1, 0)) || second == short);
+    if fits { Some(Served::Short) } else { None }
+}
+
+/// Submits P5 and then Q under a budget. What was accepted is held then and nothing else, and both are accepted again where there
+/// is memory.
+fn submit_under(alloc: Global, scarce: &mut Scarce, budget: usize) -> Option<Served> {
+    let (p5, q) = (file_p5(alloc).ok()?, file_q(alloc).ok()?);
+    let mut store = empty(alloc)?;
+    if !scarce.leave(alloc, budget) {
+        return None;
+    }
+    let first = taken(alloc, &mut store, &p5);
+    let second = taken(alloc, &mut store, &q);
+    scarce.ease();
+    let (records, _) = held(alloc, &mut store)?;
+    if records != u32::from(first.is_ok()) + u32::from(second.is_ok()) {
+        return None;
+    }
+    if taken(alloc, &mut store, &p5) != again(first)
+        || taken(alloc, &mut store, &q) != again(second)
+    {
+        return None;
+    }
+    if holds_both(alloc, &mut store) {
+        serves(first, second)
+    } else {
+        None
+    }
+}
+
+/// Exports P5 and Q under a budget: a front of the file, or all of it.
+fn export_under(alloc: Global, scarce: &mut Scarce, budget: usize) -> Option<Served> {
+    let wanted = canonical_both(alloc)?;
+    let mut store = store_of_both(alloc)?;
+    let identity = store.identities().ok()?.pop()?;
+    let mut got = Vec::with_capacity(alloc, 1_000).ok()?;
+    if !scarce.leave(alloc, budget) {
+        return None;
+    }
+    let mut out = Counted::new(Sink::whole(&mut got, 100));
+    let answer = export(alloc, &mut store, &identity, &mut out);
+    drop(out);
+    scarce.ease();
+    if !holds_both(alloc, &mut store) || !wanted.as_slice().starts_with(&got) {
+        return None;
+    }
+    match answer {
+        Ok(len) if len == 840 && got.len() == 840 => Some(Served::Whole),
+        Err(fault) if fault.number() == 41 => Some(Served::Short),
+        _ => None,
+    }
+}
+
+/// How many were accepted with one new data record; `None` where another was answered anything but want of memory.
+fn accepted(answers: &[Result<Receipt, Refusal>]) -> Option<u32> {
+    let mut count = 0u32;
+    for answer in answers {
+        match answer {
+            Ok(receipt) if receipt.new == 1 && receipt.known == 0 => {
+                count = count.saturating_add(1);
+            }
+            Err(Refusal::Memory) => {}
+            _ => return None,
+        }
+    }
+    Some(count)
+}
+
+/// Whether each input is accepted, with one new data record. So none of them was read before.
+fn accepts_all(
+    alloc: Global,
+    store: &mut Store<MemStore>,
+    inputs: &mut [Counted<Source<'_>>],
+) -> bool {
+    for input in inputs.iter_mut() {
+        if submitted(alloc, store, input) != Ok((1, 0)) {
+            return false;
+        }
+    }
+    true
+}
+
+/// Submits N1 and N2 in one list under a budget. A list that is not begun is accepted behind that, from the same readers.
+fn list_under(alloc: Global, scarce: &mut Scarce, budget: usize) -> Option<Served> {
+    let (n1, n2) = (file_n1(alloc).ok()?, file_n2(alloc).ok()?);
+    let mut store = empty(alloc)?;
+    let mut inputs = [
+        Counted::new(Source::whole(&n1, 300)),
+        Counted::new(Source::whole(&n2, 300)),
+    ];
+    if !scarce.leave(alloc, budget) {
+        return None;
+    }
+    let told = match submit_all(alloc, &mut store, &mut inputs) {
+        Ok(answers) => Some((answers.len(), accepted(&answers)?)),
+        Err(_) => None,
+    };
+    scarce.ease();
+    let (records, _) = held(alloc, &mut store)?;
+    match told {
+        None if records == 0 && accepts_all(alloc, &mut store, &mut inputs) => {
+            Some(Served::Unbegun)
+        }
+        Some((2, 2)) if records == 2 => Some(Served::Whole),
+        Some((2, count)) if count < 2 && records == count => Some(Served::Short),
+        _ => None,
+    }
+}
+
+fn tried(alloc: Global, trial: Trial, scarce: &mut Scarce, budget: usize) -> Option<Served> {
+    match trial {
+        Trial::Submissions => submit_under(alloc, scarce, budget),
+        Trial::Export => export_under(alloc, scarce, budget),
+        Trial::List => list_under(alloc, scarce, budget),
+    }
+}
+
+/// Tries it with no memory, and with one block of 1,100 bytes and more, until a budget suffices. How many do not even let it begin,
+/// and under how many memory runs out; `None` where an answer is another, or no budget suffices.
+fn tried_until_whole(alloc: Global, trial: Trial) -> Option<(u32, u32)> {
+    // The stack grows now, while there are pages for it.
+    let mut ample = store_of_both(alloc)?;
+    if !holds_both(alloc, &mut ample) {
+        return None;
+    }
+    let mut scarce = Scarce::new(alloc).ok()?;
+    let (mut unbegun, mut short) = (0u32, 0u32);
+    for turn in 0..8_000usize {
+        let budget = if turn == 0 { 0 } else { 1_036 + 64 * turn };
+        match tried(alloc, trial, &mut scarce, budget)? {
+            Served::Unbegun => unbegun = unbegun.saturating_add(1),
+            Served::Short => short = short.saturating_add(1),
+            Served::Whole => return Some((unbegun, short)),
+        }
+    }
+    None
+}
+
+#[test]
+fn submissions_without_memory_leave_what_is_held_and_are_accepted_again(rt: HostRuntime) {
+    let told = tried_until_whole(rt.alloc(), Trial::Submissions);
+    assert!(rt; matches!(told, Some((0, 1..))), "{told:?}");
+}
+
+#[test]
+fn an_export_without_memory_is_a_front_of_the_file(rt: HostRuntime) {
+    let told = tried_until_whole(rt.alloc(), Trial::Export);
+    assert!(rt; matches!(told, Some((0, 1..))), "{told:?}");
+}
+
+#[test]
+fn a_list_without_memory_for_its_answers_is_not_begun(rt: HostRuntime) {
+    let told = tried_until_whole(rt.alloc(), Trial::List);
+    assert!(rt; matches!(told, Some((1.., 1..))), "{told:?}");
+}
+
+/// How many answers a list of no files has, and how many data records are held then.
+fn empty_list(alloc: Global) -> Option<(usize, u32)> {
+    let mut store = empty(alloc)?;
+    let inputs: &mut [Counted<Source<'_>>] = &mut [];
+    let answers = submit_all(alloc, &mut store, inputs).ok()?;
+    let (records, _) = held(alloc, &mut store)?;
+    Some((answers.len(), records))
+}
+
+#[test]
+fn a_list_of_no_files_has_no_answers(rt: HostRuntime) {
+    assert_eq!(rt; empty_list(rt.alloc()), Some((0, 0)));
+}

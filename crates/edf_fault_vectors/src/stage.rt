@@ -1,0 +1,120 @@
+//! Stores in memory, what they answer and what they hold.
+
+use edf_export::export;
+use edf_fragment::{Counted, Input};
+use edf_header::Identity;
+use edf_intake::{Refusal, submit};
+use edf_sample::named::{file_p5, file_q};
+use edf_sample::{Sink, Source, file, q};
+use edf_store::Store;
+use sqlite::{Connection, MemStore};
+use std::alloc::Global;
+
+/// What a submission is answered: how many data records were added and how many were known, or why it is refused.
+pub(crate) type Answer = Result<(u32, u32), Refusal>;
+
+/// A store of nothing.
+pub(crate) fn empty(alloc: Global) -> Option<Store<MemStore>> {
+    let conn = Connection::open_in_memory(alloc).ok()?;
+    Store::open(alloc, conn, 99_999_999).ok()
+}
+
+pub(crate) fn submitted<R: Input>(
+    alloc: Global,
+    store: &mut Store<MemStore>,
+    input: &mut R,
+) -> Answer {
+    match submit(alloc, store, input) {
+        Ok(receipt) => Ok((receipt.new, receipt.known)),
+        Err(refusal) => Err(refusal),
+    }
+}
+
+/// What a file is answered that is read whole.
+pub(crate) fn taken(alloc: Global, store: &mut Store<MemStore>, bytes: &[u8]) -> Answer {
+    let mut input = Counted::new(Source::whole(bytes, 300));
+    submitted(alloc, store, &mut input)
+}
+
+/// A store of Q.
+pub(crate) fn store_of_q(alloc: Global) -> Option<Store<MemStore>> {
+    let bytes = file_q(alloc).ok()?;
+    let mut store = empty(alloc)?;
+    taken(alloc, &mut store, &bytes).ok()?;
+    Some(store)
+}
+
+/// A store of P5 and Q.
+pub(crate) fn store_of_both(alloc: Global) -> Option<Store<MemStore>> {
+    let bytes = file_p5(alloc).ok()?;
+    let mut store = store_of_q(alloc)?;
+    taken(alloc, &mut store, &bytes).ok()?;
+    Some(store)
+}
+
+/// The canonical file of P5 and Q: 840 bytes.
+pub(crate) fn canonical_both(alloc: Global) -> Option<Vec<u8>> {
+    let header = q().count("2").annotations_samples("16");
+    let first = b"\x01\0\xff\xff+0\x14\x14\0";
+    let second = b"\x02\0\xfe\xff+15\x14\x14\0+15.5\x14Snore\x14\0+15.5\x14Turn\x14\0\0";
+    file(alloc, &header, &[first, &[0; 27], second]).ok()
+}
+
+/// The canonical file of an identity.
+fn exported(alloc: Global, store: &mut Store<MemStore>, identity: &Identity) -> Option<Vec<u8>> {
+    let mut bytes = Vec::new(alloc);
+    let mut out = Counted::new(Sink::whole(&mut bytes, 1_000));
+    let answer = export(alloc, store, identity, &mut out);
+    drop(out);
+    answer.ok()?;
+    Some(bytes)
+}
+
+/// What a store of one recording at most holds: how many data records, and their canonical file.
+pub(crate) fn held(alloc: Global, store: &mut Store<MemStore>) -> Option<(u32, Vec<u8>)> {
+    let all = store.identities().ok()?;
+    match all.as_slice() {
+        [] => Some((0, Vec::new(alloc))),
+        [identity] => {
+            let summary = store.summary(identity).ok()??;
+            Some((summary.records, exported(alloc, store, identity)?))
+        }
+        _ => None,
+    }
+}
+
+/// Whether a store holds so many data records, and this is their canonical file.
+pub(crate) fn holds(
+    alloc: Global,
+    store: &mut Store<MemStore>,
+    records: u32,
+    wanted: &[u8],
+) -> bool {
+    match held(alloc, store) {
+        Some((count, bytes)) => count == records && bytes.as_slice() == wanted,
+        None => false,
+    }
+}
+
+/// Whether a store holds Q and nothing else. Q is its own canonical file.
+pub(crate) fn holds_q(alloc: Global, store: &mut Store<MemStore>) -> bool {
+    match file_q(alloc) {
+        Ok(bytes) => holds(alloc, store, 1, &bytes),
+        Err(_) => false,
+    }
+}
+
+/// Whether a store holds P5 and Q and nothing else.
+pub(crate) fn holds_both(alloc: Global, store: &mut Store<MemStore>) -> bool {
+    match canonical_both(alloc) {
+        Some(bytes) => holds(alloc, store, 2, &bytes),
+        None => false,
+    }
+}
+
+/// What a store of Q answers these bytes, and whether it then still holds Q alone.
+pub(crate) fn told(alloc: Global, bytes: &[u8]) -> Option<(Answer, bool)> {
+    let mut store = store_of_q(alloc)?;
+    let answer = taken(alloc, &mut store, bytes);
+    Some((answer, holds_q(alloc, &mut store)))
+}

@@ -1,0 +1,67 @@
+//! Exports to writers that take their bytes in pieces, and stop.
+
+use crate::stage::{canonical_both, store_of_both};
+use edf_export::{ExportFault, export};
+use edf_fragment::Counted;
+use edf_header::Identity;
+use edf_sample::Sink;
+use edf_store::Store;
+use sqlite::MemStore;
+use std::alloc::Global;
+
+/// What an export is answered, and whether just so many bytes went out, those at the front of the file.
+type Sent = (Result<u64, ExportFault>, bool);
+
+/// An export of P5 and Q to a writer of so much room, which then fails, or takes none.
+fn stopped(
+    alloc: Global,
+    store: &mut Store<MemStore>,
+    identity: &Identity,
+    room: usize,
+    full: bool,
+) -> Option<Sent> {
+    let wanted = canonical_both(alloc)?;
+    let mut got = Vec::new(alloc);
+    let mut out = Counted::new(Sink::of_room(&mut got, room, full));
+    let answer = export(alloc, store, identity, &mut out);
+    drop(out);
+    Some((answer, got.as_slice() == wanted.get(..room)?))
+}
+
+/// The least room for which the export is not refused so, and what it is then answered.
+fn least_room(alloc: Global, full: bool) -> Option<(usize, Sent)> {
+    let mut store = store_of_both(alloc)?;
+    let identity = store.identities().ok()?.pop()?;
+    for room in 0..841usize {
+        let sent = stopped(alloc, &mut store, &identity, room, full)?;
+        if sent != (Err(ExportFault::Write), true) {
+            return Some((room, sent));
+        }
+    }
+    None
+}
+
+#[test]
+fn a_writer_that_stops_has_the_front_of_the_file(rt: HostRuntime) {
+    for full in [false, true] {
+        let told = least_room(rt.alloc(), full);
+        assert_eq!(rt; told, Some((840, (Ok(840), true))), "takes none: {full}");
+    }
+}
+
+/// An export to a writer that takes one byte a write.
+fn byte_by_byte(alloc: Global) -> Option<Sent> {
+    let wanted = canonical_both(alloc)?;
+    let mut store = store_of_both(alloc)?;
+    let identity = store.identities().ok()?.pop()?;
+    let mut got = Vec::new(alloc);
+    let mut out = Counted::new(Sink::whole(&mut got, 1));
+    let answer = export(alloc, &mut store, &identity, &mut out);
+    drop(out);
+    Some((answer, got.as_slice() == wanted.as_slice()))
+}
+
+#[test]
+fn a_writer_that_takes_a_byte_at_a_time_has_the_file(rt: HostRuntime) {
+    assert_eq!(rt; byte_by_byte(rt.alloc()), Some((Ok(840), true)));
+}
