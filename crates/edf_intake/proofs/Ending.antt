@@ -1,5 +1,5 @@
 -- How a submission ends: what its steps left, joined.
-use Rattle.std.proofs.Common.{◌≡◌, ◌≢◌, ℕ, List, Err, refl, sym, subst, ◌∙◌, inl, inr, arith}
+use Rattle.std.proofs.Common.{◌≡◌, ◌≢◌, ℕ, List, Err, IsTrue, refl, sym, subst, ◌∙◌, inl, inr, arith}
 use Rattle.sqlite_trees.specs.declared.store.Store.{Ghosts}
 use Rattle.sqlite.specs.State.{HasCleanDisk, Survives}
 use Rattle.sqlite.proofs.StateLemmas.{survives_weaker}
@@ -69,14 +69,15 @@ module _ {S : Type 0} (g : Ghosts S) (old first last : Kept S) (from to : Source
         (λ clean rows seen h held. subst (λ (n : ℕ). AreKept n rows (after_one old.cap h told)) stays.cap (seen (after_one old.cap h told) (left told is h held))) survives)
 
     pub accepts : (receipt : Receipt) → IsTaken g first last from to receipt → new.cap ≡ last.cap → ((h : Holdings) → Sees g last h → Holds g new h)
-        → Survives (at g last) (at g new) (IsSeen g last) → Accepts g old new from to receipt
-    accepts receipt t same committed survives = record {
+        → (HasCleanDisk (at g new) → IsTrue (at g new).is_open) → Survives (at g last) (at g new) (IsSeen g last) → Accepts g old new from to receipt
+    accepts receipt t same committed is_open survives = record {
       records = t.records;
       read = t.read;
       reply_is = λ clean h held. replied (Fragment receipt.identity t.records) _ t.reply_is (omega (arith, survives.clean)) h held;
       leaves = record {
         cap = same ∙ stays.cap;
         holdings = λ h held. committed (after_one old.cap h (Fragment receipt.identity t.records)) (left (Fragment receipt.identity t.records) t.sees h held);
+        is_open = is_open;
         crash = crash_left (Fragment receipt.identity t.records) t.sees survives;
       };
     }

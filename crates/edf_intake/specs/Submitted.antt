@@ -1,5 +1,5 @@
 -- What a submission answers, and what it leaves.
-use Rattle.std.specs.Prelude.{◌≡◌, ◌≢◌, ◌⊎◌, List, None, Ok, Err}
+use Rattle.std.specs.Prelude.{◌≡◌, ◌≢◌, ◌⊎◌, false, List, None, Ok, Err, IsTrue}
 use Rattle.sqlite_trees.specs.declared.store.Store.{Ghosts}
 use Rattle.sqlite_trees.specs.Tree.{Trees}
 use Rattle.sqlite.specs.State.{HasCleanDisk, Survives}
@@ -13,7 +13,7 @@ use Rattle.edf_store.specs.Held.{Kept, at, Holds, Stays}
 use Rattle.edf_store.specs.Fault.{IsStoreRefusal}
 use Rattle.edf_store.specs.declared.fault.StoreFault.{StoreFault}
 use Rattle.edf_store.specs.declared.fault.StoreFault.TheVariants as store
-use Rattle.edf_intake.specs.Refusal.{Answer}
+use Rattle.edf_intake.specs.Refusal.{Answer, IsStopped}
 use Rattle.edf_intake.specs.Source.{Source, Hears, ReadsWhole, FailsToRead, ReadsFront}
 use Rattle.edf_intake.specs.declared.receipt.Receipt.{Receipt}
 use Rattle.edf_intake.specs.declared.refusal.Refusal.TheVariants as refusal
@@ -27,6 +27,10 @@ pub record IsRefusal {S : Type 0} (g : Ghosts S) (new : Kept S) (fault : StoreFa
   pub other : fault ≢ store.Memory
   pub own : HasCleanDisk (at g new) → IsStoreRefusal fault
 
+-- the transaction was ended, but where memory ran out or the store refused
+abbrev pub IsEnded : {S : Type 0} → Ghosts S → Kept S → Answer → Type 0
+IsEnded g new answer = HasCleanDisk (at g new) → IsStopped answer ⊎ ((at g new).in_transaction ≡ false)
+
 module _ {S : Type 0} (g : Ghosts S) (old new : Kept S) where
   -- whatever the store held, this is the reply to what is told
   abbrev pub RepliesWith : Told → Reply → Type 0
@@ -36,10 +40,11 @@ module _ {S : Type 0} (g : Ghosts S) (old new : Kept S) where
   abbrev pub AreLeft : Told → Trees → Type 0
   AreLeft told rows = (h : Holdings) → Holds g old h → AreKept old.cap rows (after_one old.cap h told)
 
-  -- what is told was submitted; a crash leaves what it could leave before, or that
+  -- what is told was submitted, and the store is open; a crash leaves what it could leave before, or that
   pub record Leaves (told : Told) : Type 0 where
     pub cap : new.cap ≡ old.cap
     pub holdings : (h : Holdings) → Holds g old h → Holds g new (after_one old.cap h told)
+    pub is_open : HasCleanDisk (at g new) → IsTrue (at g new).is_open
     pub crash : Survives (at g old) (at g new) (AreLeft told)
 
   -- what is held stays; but a crash leaves what it could leave before, or that what is told was submitted

@@ -1,6 +1,6 @@
-ghost use Rattle.std.specs.Prelude.{◌≡◌, ◌≢◌};
+ghost use Rattle.std.specs.Prelude.{◌≡◌, ◌≢◌, Err};
 ghost use Rattle.edf_intake.specs.Inside.Halt.{refusal_by};
-ghost use Rattle.edf_intake.specs.Refusal.{refusal_number};
+ghost use Rattle.edf_intake.specs.Refusal.{refusal_number, IsStopped};
 
 use edf_fragment::FragmentFault;
 use edf_store::StoreFault;
@@ -75,6 +75,7 @@ pub(crate) fn refusal_by(fault: FragmentFault) -> Refusal
 pub(crate) fn refusal_of(fault: StoreFault) -> Refusal
     ensures memory { fault ≡ StoreFault.Memory → result ≡ Refusal.Memory }
     ensures other { fault ≢ StoreFault.Memory → result ≡ Refusal.Store fault }
+    ensures stopped { IsStopped (Err result) }
 {
     match fault {
         StoreFault::Memory => Refusal::Memory,

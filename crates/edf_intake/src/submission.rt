@@ -2,7 +2,7 @@
 
 ghost use Rattle.std.specs.Prelude.{◌≡◌, IsTrue};
 ghost use Rattle.edf_store.specs.Held.{at};
-ghost use Rattle.edf_intake.specs.Submitted.{IsSubmitted, found_busy};
+ghost use Rattle.edf_intake.specs.Submitted.{IsSubmitted, IsEnded, found_busy};
 
 use crate::fragment::take_fragment;
 use crate::receipt::Receipt;
@@ -35,6 +35,7 @@ pub fn submit<S: Alter, R: Input>(
     ensures submitted { IsSubmitted S.Store store.old store.new
         (record { left = R.remaining input.old; failed = R.failures input.old })
         (record { left = R.remaining input.new; failed = R.failures input.new }) result }
+    ensures ended { IsEnded S.Store store.new result }
     ensures busy { IsTrue (at S.Store store.old).in_transaction → (input.new ≡ input.old) × (result ≡ found_busy) }
 {
     let cap = store.cap();

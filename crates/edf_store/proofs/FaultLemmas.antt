@@ -1,7 +1,7 @@
 -- Refusals of a helper that are refusals of the store.
-use Rattle.std.proofs.Common.{◌≡◌, ◌≢◌, ◌⊎◌, inl, inr, Result, Ok, Err, IfErr, sym, subst, ◌∙◌}
+use Rattle.std.proofs.Common.{◌≡◌, ◌≢◌, ◌⊎◌, inl, inr, None, Result, Ok, Err, IfErr, OnOk, sym, subst, ◌∙◌}
 use Rattle.edf_store.specs.declared.fault.StoreFault.{StoreFault}
-use Rattle.edf_store.specs.declared.fault.StoreFault.TheVariants.{Memory, Foreign, Failed}
+use Rattle.edf_store.specs.declared.fault.StoreFault.TheVariants.{Memory, Store, Foreign, Failed}
 use Rattle.edf_store.specs.Fault.{IsStoreRefusal}
 
 pub refused_by : {A : Type 0} (r : Result A StoreFault) (Own : StoreFault → Type 0) → ((e : StoreFault) → Own e → e ≢ Foreign)
@@ -14,3 +14,12 @@ pub unfailed_by : {A : Type 0} (r : Result A StoreFault) → IfErr r (λ e. (e �
 unfailed_by (Ok x) told = tt
 unfailed_by (Err e) (inl m) = λ f. absurd (let c : Memory ≡ Failed = sym m ∙ f in cc)
 unfailed_by (Err e) (inr m) = λ f. absurd (let c : Foreign ≡ Failed = sym m ∙ f in cc)
+
+pub caused_by : {A : Type 0} (r : Result A StoreFault) → IfErr r (λ e. (e ≡ Memory) ⊎ (e ≡ Foreign)) → IfErr r (λ e. e ≢ Store None)
+caused_by (Ok x) told = tt
+caused_by (Err e) (inl m) = λ f. absurd (let c : Memory ≡ Store None = sym m ∙ f in cc)
+caused_by (Err e) (inr m) = λ f. absurd (let c : Foreign ≡ Store None = sym m ∙ f in cc)
+
+pub on_ok : {A E P : Type 0} (r : Result A E) → P → OnOk r P
+on_ok (Ok x) p = p
+on_ok (Err e) p = tt

@@ -49,6 +49,7 @@ settled_now cap old new P s clean same none settles sound =
     let now : new.now ≡ old.committed = same.0.now_is ∙ settles was_open in
     record {
       is_open = same.0.is_open;
+      idle = same.0.mode ∙ none;
       settled = now ∙ sym same.0.committed_is;
       schema = ap (λ (d : Database). d.schema) now ∙ sound.schema was_clean was_open;
       holdings = (held.0, subst (λ (d : Database). AreKept cap d.trees held.0) (sym now) held.1);
@@ -64,6 +65,7 @@ named_apart cap s it = record { schema = it.schema; apart = identities_rise s.no
 pub still_settled : (cap : ℕ) (old new : State) → IsUnchanged old new → IsSettled cap old → IsSettled cap new
 still_settled cap old new same it = record {
   is_open = same.0.is_open;
+  idle = same.0.mode ∙ it.idle;
   settled = same.0.now_is ∙ it.settled ∙ sym same.0.committed_is;
   schema = ap (λ (d : Database). d.schema) same.0.now_is ∙ it.schema;
   holdings = (it.holdings.0, subst (λ (d : Database). AreKept cap d.trees it.holdings.0) (sym same.0.now_is) it.holdings.1);

@@ -61,6 +61,7 @@ module _ (cap : ℕ) (s : State) (id after : ℤ) (h : Holdings) (k : Key) (n : 
     pub ended_behind : n ≡ length (h k) → StandsBehind cap t None after h k n
     ended_behind all = record {
       is_open = same.0.is_open;
+      idle = same.0.mode ∙ it.idle;
       settled = same.0.now_is ∙ it.settled ∙ sym same.0.committed_is;
       schema = ap (λ (d : Database). d.schema) same.0.now_is ∙ it.schema;
       kept = subst (λ (d : Database). AreKept cap d.trees h) (sym same.0.now_is) it.kept;
@@ -73,6 +74,7 @@ module _ (cap : ℕ) (s : State) (id after : ℤ) (h : Holdings) (k : Key) (n : 
     pub then_behind : (r : DataRecord) → slice_get (h k) n ≡ Some r → StandsBehind cap t (Some id) (pos r.start) h k (n + 1)
     then_behind r place = record {
       is_open = same.0.is_open;
+      idle = same.0.mode ∙ it.idle;
       settled = same.0.now_is ∙ it.settled ∙ sym same.0.committed_is;
       schema = ap (λ (d : Database). d.schema) same.0.now_is ∙ it.schema;
       kept = subst (λ (d : Database). AreKept cap d.trees h) (sym same.0.now_is) it.kept;
@@ -89,6 +91,7 @@ module _ (cap : ℕ) (s : State) (id after : ℤ) (h : Holdings) (k : Key) (n : 
 pub at_start : (cap : ℕ) (s : State) (id : Option ℤ) (after : ℤ) (h : Holdings) (k : Key) → after <ℤ pos 0 → IsSettled cap s → AreKept cap s.now.trees h → IsKey k → IsFoundIn s k h id → StandsBehind cap s id after h k 0
 at_start cap s id after h k low it kept key found = record {
   is_open = it.is_open;
+  idle = it.idle;
   settled = it.settled;
   schema = it.schema;
   kept = kept;

@@ -1,5 +1,5 @@
 -- Words of the functions that only this crate calls.
-use Rattle.std.specs.Prelude.{◌≡◌, ℕ, ℤ, [], Option, MatchOption, IsTrue}
+use Rattle.std.specs.Prelude.{◌≡◌, ℕ, ℤ, false, [], Option, MatchOption, IsTrue}
 use Rattle.sqlite.specs.State.{State}
 use Rattle.edf_header.specs.Key.{Key}
 use Rattle.edf_holdings.specs.Holdings.{Holdings}
@@ -9,6 +9,7 @@ use Rattle.edf_rows.specs.Rows.{IsThere, AreKept}
 -- no transaction is open, and the tables are what is held
 pub record IsSettled (cap : ℕ) (s : State) : Type 0 where
   pub is_open : IsTrue s.is_open
+  pub idle : s.in_transaction ≡ false
   pub settled : s.now ≡ s.committed
   pub schema : s.now.schema ≡ both_schema
   pub holdings : (h : Holdings) × AreKept cap s.now.trees h

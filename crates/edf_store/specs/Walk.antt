@@ -1,5 +1,5 @@
 -- How far a walk over the records of a recording has come.
-use Rattle.std.specs.Prelude.{◌≡◌, ℕ, ◌+◌, ◌≤◌, ℤ, pos, Bool, List, length, drop, filter, slice_get, Option, Some, None, IsTrue, MatchOption}
+use Rattle.std.specs.Prelude.{◌≡◌, ℕ, ◌+◌, ◌≤◌, ℤ, pos, Bool, false, List, length, drop, filter, slice_get, Option, Some, None, IsTrue, MatchOption}
 use Rattle.std.specs.Ordering.{int_cmp, is_gt}
 use Rattle.sqlite.specs.State.{State, HasCleanDisk}
 use Rattle.edf_header.specs.Key.{Key, IsKey}
@@ -15,6 +15,7 @@ starts_behind after r = is_gt (int_cmp (pos r.start) after)
 -- first n. Without a recording all its records are given
 pub record StandsBehind (cap : ℕ) (s : State) (recording : Option ℤ) (after : ℤ) (h : Holdings) (k : Key) (n : ℕ) : Type 0 where
   pub is_open : IsTrue s.is_open
+  pub idle : s.in_transaction ≡ false
   pub settled : s.now ≡ s.committed
   pub schema : s.now.schema ≡ both_schema
   pub kept : AreKept cap s.now.trees h

@@ -1,6 +1,6 @@
 //! A recording or a data record more.
 
-ghost use Rattle.std.specs.Prelude.{◌≡◌, IfOk, IfErr};
+ghost use Rattle.std.specs.Prelude.{◌≡◌, ◌≢◌, None, IfOk, IfErr};
 ghost use Rattle.edf_store.specs.Fault.{IsStoreRefusal};
 ghost use Rattle.edf_store.specs.Held.{Stays};
 ghost use Rattle.edf_store.specs.Transaction.{IsRunning, IsOf, SeesAsBefore, HasNoMore, HasAtMost, MayTake, IsAdded};
@@ -24,6 +24,7 @@ pub(crate) fn find_or_make<S: Alter>(
     ensures same { IfOk result (λ _. SeesAsBefore S.Store store.old store.new) }
     ensures only { IfOk result (λ _. HasAtMost S.Store identity.now store.old store.new) }
     ensures told { IfErr result IsStoreRefusal }
+    ensures caused { IfErr result (λ e. e ≢ StoreFault.Store None) }
 {
     let _ = identity.signals();
     let Ok(bytes) = identity.to_bytes(store.alloc) else {
@@ -52,6 +53,7 @@ pub(crate) fn add_record<S: Alter>(
     ensures added { IfOk result (λ _. IsAdded S.Store store.old store.new id data_record.now) }
     ensures only { IfOk result (λ _. HasNoMore S.Store store.old store.new) }
     ensures told { IfErr result IsStoreRefusal }
+    ensures caused { IfErr result (λ e. e ≢ StoreFault.Store None) }
 {
     let Ok(block) = block_of(store.alloc, data_record) else {
         return Err(StoreFault::Memory);

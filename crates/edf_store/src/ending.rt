@@ -1,6 +1,6 @@
 //! The begin and the end of a transaction.
 
-ghost use Rattle.std.specs.Prelude.{◌≡◌, false, None, Err, IsTrue, OnOk, IfOk, IfErr};
+ghost use Rattle.std.specs.Prelude.{◌≡◌, ◌≢◌, false, None, Err, IsTrue, OnOk, IfOk, IfErr};
 ghost use Rattle.sqlite.specs.State.{HasCleanDisk, Survives};
 ghost use Rattle.edf_holdings.specs.Holdings.{Holdings};
 ghost use Rattle.edf_store.specs.Fault.{IsStoreRefusal};
@@ -19,6 +19,7 @@ pub(crate) fn begin_all<S: Alter>(store: &mut Store<S>) -> Result<(), StoreFault
     ensures whole { IfOk result (λ _. IsWhole S.Store store.new) }
     ensures told { IfErr result IsStoreRefusal }
     ensures busy { IsTrue (at S.Store store.old).in_transaction → result ≡ Err (StoreFault.Store None) }
+    ensures caused { IfErr result (λ e. e ≡ StoreFault.Store None → IsTrue (at S.Store store.old).in_transaction) }
 {
     if !store.conn.is_autocommit() {
         return Err(StoreFault::Store(None));
@@ -37,7 +38,9 @@ pub(crate) fn commit_all<S: Alter>(store: &mut Store<S>) -> Result<(), StoreFaul
     ensures refused { IfErr result (λ _. (h : Holdings) → Holds S.Store store.old h → Holds S.Store store.new h) }
     ensures survives { Survives (at S.Store store.old) (at S.Store store.new) (IsSeen S.Store store.old) }
     ensures ended { HasCleanDisk (at S.Store store.new) → OnOk result ((at S.Store store.new).in_transaction ≡ false) }
+    ensures is_open { HasCleanDisk (at S.Store store.new) → OnOk result (IsTrue (at S.Store store.new).is_open) }
     ensures told { IfErr result IsStoreRefusal }
+    ensures caused { IfErr result (λ e. e ≢ StoreFault.Store None) }
 {
     if let Err(error) = commit(&mut store.conn) {
         return Err(fault_of(error));
@@ -49,6 +52,7 @@ pub(crate) fn undo<S: Alter>(store: &mut Store<S>) -> Result<(), StoreFault>
     ensures stays { Stays S.Store store.old store.new }
     ensures ended { HasCleanDisk (at S.Store store.new) → OnOk result ((at S.Store store.new).in_transaction ≡ false) }
     ensures told { IfErr result IsStoreRefusal }
+    ensures caused { IfErr result (λ e. e ≢ StoreFault.Store None) }
 {
     if let Err(error) = roll_back(&mut store.conn) {
         return Err(fault_of(error));

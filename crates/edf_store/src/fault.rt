@@ -1,4 +1,4 @@
-ghost use Rattle.std.specs.Prelude.{◌≡◌, ◌≢◌, Some};
+ghost use Rattle.std.specs.Prelude.{◌≡◌, ◌≢◌, Some, None};
 ghost use Rattle.sqlite.specs.declared.error.ErrorCode.TheVariants.{OutOfMemory};
 ghost use Rattle.edf_store.specs.Fault.{number, IsStoreRefusal};
 
@@ -42,6 +42,7 @@ pub(crate) fn fault_of(error: Error) -> StoreFault
     ensures told { IsStoreRefusal result }
     ensures own { result ≢ StoreFault.Foreign }
     ensures unfailed { result ≢ StoreFault.Failed }
+    ensures caused { result ≢ StoreFault.Store None }
     ensures other { (error ≢ Error.SqliteFailure OutOfMemory) → (result ≡ StoreFault.Store (Some error)) }
 {
     match error {

@@ -1,6 +1,6 @@
 //! What is held, at a glance.
 
-ghost use Rattle.std.specs.Prelude.{◌≡◌, ◌≢◌, ◌≤◌, ◌<◌, ℕ, pos, Some, None, Err, IsTrue, IfOk, IfErr, MatchOption, map};
+ghost use Rattle.std.specs.Prelude.{◌≡◌, ◌≢◌, ◌≤◌, ◌<◌, ℕ, pos, false, Some, None, Err, IsTrue, OnOk, IfOk, IfErr, MatchOption, map};
 ghost use Rattle.std.specs.List.{AllByRecursion};
 ghost use Rattle.sqlite.specs.State.{HasCleanDisk};
 ghost use Rattle.edf_time.specs.Civil.{window};
@@ -39,6 +39,8 @@ impl<S: Alter> Store<S> {
         ensures own { HasCleanDisk (at S.Store self.new) → IfErr result (λ e. e ≢ StoreFault.Foreign) }
         ensures unfailed { IfErr result (λ e. e ≢ StoreFault.Failed) }
         ensures busy { IsTrue (at S.Store self.old).in_transaction → result ≡ Err (StoreFault.Store None) }
+        ensures caused { IfErr result (λ e. e ≡ StoreFault.Store None → IsTrue (at S.Store self.old).in_transaction) }
+        ensures idle { HasCleanDisk (at S.Store self.new) → OnOk result ((at S.Store self.new).in_transaction ≡ false) }
     {
         if let Err(fault) = ready(self) {
             return Err(fault);
@@ -56,6 +58,8 @@ impl<S: Alter> Store<S> {
         ensures own { HasCleanDisk (at S.Store self.new) → IfErr result (λ e. e ≢ StoreFault.Foreign) }
         ensures unfailed { IfErr result (λ e. e ≢ StoreFault.Failed) }
         ensures busy { IsTrue (at S.Store self.old).in_transaction → result ≡ Err (StoreFault.Store None) }
+        ensures caused { IfErr result (λ e. e ≡ StoreFault.Store None → IsTrue (at S.Store self.old).in_transaction) }
+        ensures idle { HasCleanDisk (at S.Store self.new) → OnOk result ((at S.Store self.new).in_transaction ≡ false) }
     {
         if let Err(fault) = ready(self) {
             return Err(fault);
@@ -75,6 +79,8 @@ fn list<S: Alter>(store: &mut Store<S>) -> Result<Vec<Identity>, StoreFault>
     ensures keys { HasCleanDisk (at S.Store store.new) → IfOk result (λ all. AreKeysHeld S.Store store.old all.items) }
     ensures own { HasCleanDisk (at S.Store store.new) → IfErr result (λ e. e ≢ StoreFault.Foreign) }
     ensures unfailed { IfErr result (λ e. e ≢ StoreFault.Failed) }
+    ensures caused { IfErr result (λ e. e ≢ StoreFault.Store None) }
+    ensures idle { HasCleanDisk (at S.Store store.new) → OnOk result ((at S.Store store.new).in_transaction ≡ false) }
 {
     let all = match edf_tables::identities(&mut store.conn) {
         Ok(all) => all,
@@ -88,6 +94,7 @@ fn identities_in(alloc: Global, all: Vec<Vec<u8>>) -> Result<Vec<Identity>, Stor
     ensures read { IfOk result (λ found. map key_bytes found.items ≡ map (λ b. b.items) all.items) }
     ensures keys { IfOk result (λ found. AllByRecursion IsKey found.items) }
     ensures unfailed { IfErr result (λ e. e ≢ StoreFault.Failed) }
+    ensures caused { IfErr result (λ e. e ≢ StoreFault.Store None) }
     ensures foreign { IfErr result (λ e. AllByRecursion (λ b. (k : Key) × IsKey k × (b.items ≡ key_bytes k)) all.items → e ≢ StoreFault.Foreign) }
 {
     let mut found = Vec::new(alloc);
@@ -107,6 +114,8 @@ fn identities_in(alloc: Global, all: Vec<Vec<u8>>) -> Result<Vec<Identity>, Stor
 fn refusal_of(fault: IdentityFault) -> StoreFault
     ensures memory { (fault ≡ IdentityFault.Memory) → (result ≡ StoreFault.Memory) }
     ensures own { result ≢ StoreFault.Failed }
+    ensures other { (fault ≢ IdentityFault.Memory) → (result ≡ StoreFault.Foreign) }
+    ensures caused { result ≢ StoreFault.Store None }
 {
     match fault {
         IdentityFault::Memory => StoreFault::Memory,
@@ -122,6 +131,8 @@ fn summary_of<S: Alter>(store: &mut Store<S>, id: i64) -> Result<Summary, StoreF
     ensures summary { HasCleanDisk (at S.Store store.new) → IfOk result (λ summary. (h : Holdings) (k : Key) → Holds S.Store store.old h → IsThere (at S.Store store.old).now.trees id k → IsSummary (h k) (Some summary)) }
     ensures own { HasCleanDisk (at S.Store store.new) → IfErr result (λ e. e ≢ StoreFault.Foreign) }
     ensures unfailed { IfErr result (λ e. e ≢ StoreFault.Failed) }
+    ensures caused { IfErr result (λ e. e ≢ StoreFault.Store None) }
+    ensures idle { HasCleanDisk (at S.Store store.new) → OnOk result ((at S.Store store.new).in_transaction ≡ false) }
 {
     let count = match count_rows(&mut store.conn, id) {
         Ok(count) => count,
@@ -141,6 +152,7 @@ fn summary_of<S: Alter>(store: &mut Store<S>, id: i64) -> Result<Summary, StoreF
 fn summary_from(count: u64, first: Option<i64>, last: Option<i64>) -> Result<Summary, StoreFault>
     ensures summary { IfOk result (λ s. (s.records ≡ count) × (first ≡ Some (pos s.first)) × (last ≡ Some (pos s.last))) }
     ensures unfailed { IfErr result (λ e. e ≢ StoreFault.Failed) }
+    ensures caused { IfErr result (λ e. e ≢ StoreFault.Store None) }
     ensures own { IfErr result (λ e. (a b : ℕ) → count ≤ 99_999_999 → a < window → b < window → first ≡ Some (pos a) → last ≡ Some (pos b) → e ≢ StoreFault.Foreign) }
 {
     let Ok(records) = u32::try_from(count) else {

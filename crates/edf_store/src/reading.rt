@@ -1,6 +1,6 @@
 //! What a transaction reads of a recording.
 
-ghost use Rattle.std.specs.Prelude.{◌≡◌, ◌≢◌, ◌≤◌, length, IfOk, IfErr};
+ghost use Rattle.std.specs.Prelude.{◌≡◌, ◌≢◌, ◌≤◌, None, length, IfOk, IfErr};
 ghost use Rattle.sqlite.specs.State.{HasCleanDisk};
 ghost use Rattle.edf_field.specs.Number.{duration_of};
 ghost use Rattle.edf_header.specs.Key.{Key};
@@ -31,6 +31,7 @@ pub(crate) fn records_near<S: Alter>(
     ensures only { IfOk result (λ _. HasNoMore S.Store store.old store.new) }
     ensures told { HasCleanDisk (at S.Store store.new) → IfErr result IsStoreRefusal }
     ensures unfailed { IfErr result (λ e. e ≢ StoreFault.Failed) }
+    ensures caused { IfErr result (λ e. e ≢ StoreFault.Store None) }
 {
     let begin = start.nanos() as i64;
     let length = duration as i64;

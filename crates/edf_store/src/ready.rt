@@ -34,6 +34,7 @@ pub(crate) fn ready<S: Alter>(store: &mut Store<S>) -> Result<(), StoreFault>
     ensures unfailed { IfErr result (λ e. e ≢ StoreFault.Failed) }
     ensures settled { HasCleanDisk (at S.Store store.new) → OnOk result (IsSettled store.new.cap (at S.Store store.new)) }
     ensures busy { IsTrue (at S.Store store.old).in_transaction → result ≡ Err (StoreFault.Store None) }
+    ensures caused { IfErr result (λ e. e ≡ StoreFault.Store None → IsTrue (at S.Store store.old).in_transaction) }
 {
     if !store.conn.is_autocommit() {
         return Err(StoreFault::Store(None));
@@ -53,6 +54,7 @@ pub(crate) fn find<S: Alter>(
     ensures stays { Stays S.Store store.old store.new }
     ensures own { IfErr result (λ e. e ≢ StoreFault.Foreign) }
     ensures unfailed { IfErr result (λ e. e ≢ StoreFault.Failed) }
+    ensures caused { IfErr result (λ e. e ≢ StoreFault.Store None) }
     ensures key { IsKey identity.now }
     ensures settled { HasCleanDisk (at S.Store store.new) → OnOk result (IsSettled store.new.cap (at S.Store store.new)) }
     ensures found { HasCleanDisk (at S.Store store.new) → IfOk result (λ id. (h : Holdings) → AreKept store.new.cap (at S.Store store.new).now.trees h → IsFoundIn (at S.Store store.new) identity.now h id) }

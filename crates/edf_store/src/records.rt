@@ -55,6 +55,7 @@ impl<S: Alter> Store<S> {
         ensures own { IfErr result (λ e. e ≢ StoreFault.Foreign) }
         ensures unfailed { IfErr result (λ e. e ≢ StoreFault.Failed) }
         ensures busy { IsTrue (at S.Store self.old).in_transaction → result ≡ Err (StoreFault.Store None) }
+        ensures caused { IfErr result (λ e. e ≡ StoreFault.Store None → IsTrue (at S.Store self.old).in_transaction) }
         ensures ready { IfOk result (λ it. (it.failed ≡ false) × StandsSomewhere it.store.now.cap (at S.Store it.store.now) it.recording it.after) }
         ensures at_first { IfOk result (λ it. (h : Holdings) → Holds S.Store self.old h → IsBehind it.store.now.cap (at S.Store it.store.now) it.recording it.after h identity.now 0) }
     {
@@ -84,6 +85,7 @@ impl<S: Alter> Records<'_, S> {
         ensures stays { Stays S.Store self.old.store.now self.new.store.now }
         ensures own { HasCleanDisk (at S.Store self.new.store.now) → IfErr result (λ e. e ≢ StoreFault.Foreign) }
         ensures unfailed { self.old.failed ≡ false → IfErr result (λ e. e ≢ StoreFault.Failed) }
+        ensures caused { IfErr result (λ e. e ≢ StoreFault.Store None) }
         ensures ends { IfOk result (λ o. o ≡ None → self.new.recording ≡ None) }
         ensures ended { self.old.failed ≡ false → self.old.recording ≡ None → (result ≡ Ok None) × (self.new.recording ≡ None) }
         ensures failed { self.old.failed ≡ true → result ≡ Err StoreFault.Failed }

@@ -82,6 +82,7 @@ impl<S: Alter> Store<S> {
         ensures told { IfErr result IsStoreRefusal }
         ensures whole { IfOk result (λ tx. IsWhole S.Store tx.store.now) }
         ensures busy { IsTrue (at S.Store self.old).in_transaction → result ≡ Err (StoreFault.Store None) }
+        ensures caused { IfErr result (λ e. e ≡ StoreFault.Store None → IsTrue (at S.Store self.old).in_transaction) }
         ensures sees { IfOk result (λ tx. (h : Holdings) → Holds S.Store self.old h → Sees S.Store tx.store.now h) }
     {
         if let Err(fault) = begin_all(self) {

@@ -1,6 +1,6 @@
 //! What a transaction does.
 
-ghost use Rattle.std.specs.Prelude.{◌≡◌, ◌≢◌, ◌≤◌, false, true, length, OnOk, IfOk, IfErr};
+ghost use Rattle.std.specs.Prelude.{◌≡◌, ◌≢◌, ◌≤◌, false, true, None, IsTrue, length, OnOk, IfOk, IfErr};
 ghost use Rattle.sqlite.specs.State.{HasCleanDisk, Survives};
 ghost use Rattle.edf_field.specs.Number.{duration_of};
 ghost use Rattle.edf_header.specs.Key.{Key};
@@ -49,6 +49,7 @@ impl<S: Alter> StoreTx<'_, S> {
         ensures same { IfOk result (λ _. SeesAsBefore S.Store self.old.store.now self.new.store.now) }
         ensures only { IfOk result (λ _. HasAtMost S.Store identity.now self.old.store.now self.new.store.now) }
         ensures told { IfErr result IsStoreRefusal }
+        ensures caused { IfErr result (λ e. e ≢ StoreFault.Store None) }
     {
         match find_or_make(self.store, identity) {
             Ok(row) => Ok(RecordingId { row }),
@@ -83,6 +84,7 @@ impl<S: Alter> StoreTx<'_, S> {
         ensures only { IfOk result (λ _. HasNoMore S.Store self.old.store.now self.new.store.now) }
         ensures told { HasCleanDisk (at S.Store self.new.store.now) → IfErr result IsStoreRefusal }
         ensures unfailed { IfErr result (λ e. e ≢ StoreFault.Failed) }
+        ensures caused { IfErr result (λ e. e ≢ StoreFault.Store None) }
     {
         match records_near(self.store, id.row, start, duration) {
             Ok(records) => Ok(records),
@@ -134,6 +136,7 @@ impl<S: Alter> StoreTx<'_, S> {
         ensures added { IfOk result (λ _. IsAdded S.Store self.old.store.now self.new.store.now id.row data_record.now) }
         ensures only { IfOk result (λ _. HasNoMore S.Store self.old.store.now self.new.store.now) }
         ensures told { IfErr result IsStoreRefusal }
+        ensures caused { IfErr result (λ e. e ≢ StoreFault.Store None) }
     {
         match add_record(self.store, id.row, data_record) {
             Ok(()) => Ok(()),
@@ -157,7 +160,9 @@ impl<S: Alter> StoreTx<'_, S> {
         ensures refused { IfErr result (λ _. (h : Holdings) → Holds S.Store self.entry.store.now h → Holds S.Store self.exit.0.now h) }
         ensures survives { Survives (at S.Store self.entry.store.now) (at S.Store self.exit.0.now) (IsSeen S.Store self.entry.store.now) }
         ensures ended { HasCleanDisk (at S.Store self.exit.0.now) → OnOk result ((at S.Store self.exit.0.now).in_transaction ≡ false) }
+        ensures is_open { HasCleanDisk (at S.Store self.exit.0.now) → OnOk result (IsTrue (at S.Store self.exit.0.now).is_open) }
         ensures told { IfErr result IsStoreRefusal }
+        ensures caused { IfErr result (λ e. e ≢ StoreFault.Store None) }
     {
         let StoreTx { store, refused: _ } = self;
         commit_all(store)
@@ -171,6 +176,7 @@ impl<S: Alter> StoreTx<'_, S> {
         ensures stays { Stays S.Store self.entry.store.now self.exit.0.now }
         ensures ended { HasCleanDisk (at S.Store self.exit.0.now) → OnOk result ((at S.Store self.exit.0.now).in_transaction ≡ false) }
         ensures told { IfErr result IsStoreRefusal }
+        ensures caused { IfErr result (λ e. e ≢ StoreFault.Store None) }
     {
         let StoreTx { store, refused: _ } = self;
         undo(store)

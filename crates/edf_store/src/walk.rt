@@ -24,6 +24,7 @@ pub(crate) fn next_record<S: Alter>(
     ensures stays { Stays S.Store store.old store.new }
     ensures own { HasCleanDisk (at S.Store store.new) → IfErr result (λ e. e ≢ StoreFault.Foreign) }
     ensures unfailed { IfErr result (λ e. e ≢ StoreFault.Failed) }
+    ensures caused { IfErr result (λ e. e ≢ StoreFault.Store None) }
     ensures step { HasCleanDisk (at S.Store store.new) → IfOk result (λ o. (h : Holdings) (k : Key) (n : ℕ) → IsBehind store.old.cap (at S.Store store.old) (Some recording) after h k n → IsStep (h k) n o) }
     ensures moved { IfOk result (λ o. (h : Holdings) (k : Key) (n : ℕ) → IsBehind store.old.cap (at S.Store store.old) (Some recording) after h k n →
         MatchOption o (IsBehind store.new.cap (at S.Store store.new) None after h k n)

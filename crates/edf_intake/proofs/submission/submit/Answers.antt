@@ -1,7 +1,7 @@
-use Rattle.std.proofs.Common.{◌≡◌, ◌∙◌, inl, inr, sym, subst, rules, arith, Err}
+use Rattle.std.proofs.Common.{◌≡◌, ◌∙◌, inl, inr, sym, subst, rules, arith, Ok, Err}
 use Rattle.edf_store.specs.Held.{Kept}
 use Rattle.edf_intake.specs.Source.{Source}
-use Rattle.edf_intake.specs.Submitted.{Accepts, IsSubmitted}
+use Rattle.edf_intake.specs.Submitted.{Accepts, IsSubmitted, IsEnded}
 use Rattle.edf_intake.proofs.Ending.{refused_by, accepts, stops_at_commit, submitted, stops_at_undo, stops_before}
 use Rattle.edf_intake.proofs.submission.submit.Goals as goal
 
@@ -17,7 +17,7 @@ returns-in-Ok-commit-clause-submitted g c =
     let to : Source = record { left = g.R.Input.remaining c.take_fragment.new.input; failed = g.R.Input.failures c.take_fragment.new.input } in
     subst (λ (s : Kept g.row.S.Denot). Accepts g.S.Store c.args.store.now s from to c.in-Ok-take_fragment.receipt) same
     (accepts g.S.Store c.args.store.now c.in-Ok.transaction.store.now c.take_fragment.new.transaction.store.now from to c.in-Ok.ensures.stays c.in-Ok.ensures.sees c.in-Ok-take_fragment.ensures.stays
-    c.commit.new.self.0 c.in-Ok-take_fragment.receipt c.in-Ok-take_fragment.ensures.taken c.commit.ensures.cap c.in-Ok-commit.ensures.committed c.commit.ensures.survives)
+    c.commit.new.self.0 c.in-Ok-take_fragment.receipt c.in-Ok-take_fragment.ensures.taken c.commit.ensures.cap c.in-Ok-commit.ensures.committed c.in-Ok-commit.ensures.is_open c.commit.ensures.survives)
 
 pub returns-in-Err-commit-clause-cap : goal.returns-in-Err-commit-clause-cap
 returns-in-Err-commit-clause-cap g c =
@@ -75,3 +75,22 @@ returns-in-Err-Store-clause-submitted g c =
     (stops_before g.S.Store c.args.store.now c.in-Ok.transaction.store.now c.take_fragment.new.transaction.store.now from to c.in-Ok.ensures.stays c.in-Ok.ensures.sees c.in-Err-Store.ensures.stays
     c.give_up-in-Err-Store.new.self.0 undone (inr (inl stop.0)))
     (λ clean. stop.1 (omega (arith, undone.crash.clean))))
+
+pub returns-in-Ok-commit-clause-ended : goal.returns-in-Ok-commit-clause-ended
+returns-in-Ok-commit-clause-ended g c =
+    let same : c.commit.new.self.0 ≡ c.store-in-Ok-take_fragment-1.given.0 = sym (c.store-in-Ok-take_fragment-1.given.1 (sym (c.in-Ok-take_fragment.ensures.same_reference ∙ c.in-Ok.ensures.same_reference))) in
+    subst (λ (s : Kept g.row.S.Denot). IsEnded g.S.Store s (Ok c.in-Ok-take_fragment.receipt)) same (λ clean. inr (c.in-Ok-commit.ensures.ended clean))
+
+pub returns-in-Err-commit-clause-ended : goal.returns-in-Err-commit-clause-ended
+returns-in-Err-commit-clause-ended g c clean = inl c.refusal_of-in-Err-commit.ensures.stopped
+
+pub returns-in-Ok-give_up-clause-ended : goal.returns-in-Ok-give_up-clause-ended
+returns-in-Ok-give_up-clause-ended g c =
+    let same : c.give_up.new.self.0 ≡ c.store-in-Err-Input-1.given.0 = search rules in
+    subst (λ (s : Kept g.row.S.Denot). IsEnded g.S.Store s (Err c.in-Err-Input.refusal)) same (λ clean. inr (c.in-Ok-give_up.ensures.ended clean))
+
+pub returns-in-Err-give_up-clause-ended : goal.returns-in-Err-give_up-clause-ended
+returns-in-Err-give_up-clause-ended g c clean = inl c.refusal_of-in-Err-give_up.ensures.stopped
+
+pub returns-in-Err-Store-clause-ended : goal.returns-in-Err-Store-clause-ended
+returns-in-Err-Store-clause-ended g c clean = inl c.refusal_of-in-Err-Store.ensures.stopped

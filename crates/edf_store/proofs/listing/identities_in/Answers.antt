@@ -9,6 +9,7 @@ returns-in-Err c = record {
   read = tt;
   keys = tt;
   unfailed = c.refusal_of.ensures.own;
+  caused = λ is. absurd (c.refusal_of.ensures.caused is);
   foreign = λ all told.
       let item = c.bytes-item.is in
       let value = c.deref-bytes-items.ensures.value in

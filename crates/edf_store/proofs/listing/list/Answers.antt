@@ -1,7 +1,8 @@
-use Rattle.std.proofs.Common.{arith}
+use Rattle.std.proofs.Common.{arith, ◌∙◌}
 use Rattle.sqlite.specs.Held.{state}
 use Rattle.sqlite.specs.State.{HasCleanDisk}
 use Rattle.edf_store.proofs.ReadyLemmas.{named_apart, held_now}
+use Rattle.edf_store.proofs.FaultLemmas.{on_ok}
 use Rattle.edf_store.proofs.KeysReadLemmas.{keys_read, identities_of_keys, if_both, if_refused}
 use Rattle.edf_store.proofs.listing.list.Goals as goal
 
@@ -26,3 +27,10 @@ returns-clause-own g c clean =
     let was_clean : HasCleanDisk a = omega (arith, c.identities.ensures.survives.clean) in
     let it = (settled was_clean).holdings in
     if_refused c.identities_in.result c.identities_in.ensures.foreign (λ e own. own (identities_of_keys a.now.trees it.0 c.in-Ok.all.items it.1.stand (c.in-Ok.ensures.identities clean)))
+
+pub returns-clause-idle : goal.returns-clause-idle
+returns-clause-idle g c clean =
+    let a = state g.S.Store c.store.inside.conn in
+    let settled = rw (← c.store.view_is) at c.requires.settled in
+    let was_clean : HasCleanDisk a = omega (arith, c.identities.ensures.survives.clean) in
+    on_ok c.identities_in.result ((c.in-Ok.ensures.same clean).0.mode ∙ (settled was_clean).idle)

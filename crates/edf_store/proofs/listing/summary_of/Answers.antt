@@ -1,4 +1,4 @@
-use Rattle.std.proofs.Common.{w64, arith}
+use Rattle.std.proofs.Common.{w64, arith, ◌∙◌}
 use Rattle.std.proofs.lemmas.Int.{to_z-of_z}
 use Rattle.sqlite.specs.Held.{state}
 use Rattle.sqlite.specs.State.{HasCleanDisk}
@@ -6,6 +6,7 @@ use Rattle.sqlite_exec.proofs.MarkLemmas.{if_ok_then}
 use Rattle.edf_store.proofs.ReadyLemmas.{stays_so, three_survive, three_keep}
 use Rattle.edf_store.proofs.SummaryLemmas.{ready_at, still_ready, summary_read, bounds_read}
 use Rattle.edf_store.proofs.KeysReadLemmas.{if_refused}
+use Rattle.edf_store.proofs.FaultLemmas.{on_ok}
 use Rattle.edf_store.proofs.listing.summary_of.Goals as goal
 
 pub first_start-requires : goal.first_start-requires
@@ -84,3 +85,14 @@ returns-clause-own g c clean =
     bounds_read c.store.inside.cap a b d e c.args.id c.in-Ok.count c.in-Ok-first_start.first c.in-Ok-last_start.last c.store.invariant.cap_to settled
     c.count_rows.ensures.survives c.first_start.ensures.survives c.last_start.ensures.survives c.in-Ok.ensures.same c.in-Ok-first_start.ensures.same
     (λ clean. rw size at (c.in-Ok.ensures.count clean)) (λ clean. rw size at (c.in-Ok-first_start.ensures.first clean)) (λ clean. rw size at (c.in-Ok-last_start.ensures.last clean)) clean there _ own)
+
+pub returns-clause-idle : goal.returns-clause-idle
+returns-clause-idle g c clean =
+    let a = state g.S.Store c.store.inside.conn in
+    let b = state g.S.Store c.count_rows.new.conn in
+    let d = state g.S.Store c.first_start.new.conn in
+    let settled = rw (← c.store.view_is) at c.requires.settled in
+    let clean_d : HasCleanDisk d = omega (arith, c.last_start.ensures.survives.clean) in
+    let clean_b : HasCleanDisk b = omega (arith, c.first_start.ensures.survives.clean, clean_d) in
+    let was_clean : HasCleanDisk a = omega (arith, c.count_rows.ensures.survives.clean, clean_b) in
+    on_ok c.summary_from.result ((c.in-Ok-last_start.ensures.same clean).0.mode ∙ ((c.in-Ok-first_start.ensures.same clean_d).0.mode ∙ ((c.in-Ok.ensures.same clean_b).0.mode ∙ (settled was_clean).idle)))

@@ -6,7 +6,7 @@ use Rattle.edf_store.proofs.DecodeLemmas.{nat_fits, fits_sub}
 use Rattle.edf_store.proofs.DurationLemmas.{duration_small}
 use Rattle.edf_store.proofs.HeldLemmas.{still_sound, still_held, sees_on}
 use Rattle.edf_store.proofs.StepLemmas.{ready_in, near_is, two_near, sound_near, none_made, if_ok}
-use Rattle.edf_store.proofs.FaultLemmas.{refused_by, unfailed_by}
+use Rattle.edf_store.proofs.FaultLemmas.{refused_by, unfailed_by, caused_by}
 use Rattle.edf_store.proofs.NearLemmas.{near_shown}
 use Rattle.sqlite.specs.State.{HasCleanDisk}
 use Rattle.edf_store.proofs.reading.records_near.Goals as goal
@@ -119,3 +119,6 @@ returns-clause-same g c =
 
 pub returns-clause-unfailed : goal.returns-clause-unfailed
 returns-clause-unfailed g c = unfailed_by c.records_in.result c.records_in.ensures.told
+
+pub returns-clause-caused : goal.returns-clause-caused
+returns-clause-caused g c = caused_by c.records_in.result c.records_in.ensures.told

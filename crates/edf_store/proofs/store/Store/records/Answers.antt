@@ -20,6 +20,7 @@ returns-in-Err g c = (
     own = c.in-Err.ensures.own;
     unfailed = c.in-Err.ensures.unfailed;
     busy = λ left. told_on c.in-Err.fault (fault.Store None) (c.in-Err.ensures.busy left);
+    caused = c.in-Err.ensures.caused;
     ready = tt;
     at_first = tt;
   },
@@ -35,6 +36,7 @@ returns-in-Err-find g c = (
     own = c.in-Err-find.ensures.own;
     unfailed = c.in-Err-find.ensures.unfailed;
     busy = λ left. absurd (let e = c.in_default.ensures.busy left in cc);
+    caused = λ is. absurd (c.in-Err-find.ensures.caused is);
     ready = tt;
     at_first = tt;
   },
@@ -54,6 +56,7 @@ returns-in-Ok g c =
         own = tt;
         unfailed = tt;
         busy = λ left. absurd (let e = c.in_default.ensures.busy left in cc);
+        caused = tt;
         ready = (
           refl,
           λ clean.

@@ -38,3 +38,6 @@ returns-clause-summary g c clean h held =
     let kept = held_now c.find.new.store.cap s was_clean (c.in_ok-id.ensures.settled was_clean) h now in
     let there = rw c.in-Some.is at (c.in_ok-id.ensures.found was_clean h kept) in
     c.in_ok-summary.ensures.summary clean h c.args.identity.now now (rw (to_z-of_z w64 c.in-Some.id (search rules)) there)
+
+pub returns-in_default-2-clause-idle : goal.returns-in_default-2-clause-idle
+returns-in_default-2-clause-idle g c clean = (c.in_ok-id.ensures.settled clean).idle
