@@ -1,8 +1,8 @@
-//! Lines that cannot be written.
+//! Lines and files that cannot be written.
 
 ghost use Rattle.std.specs.Prelude.{None};
 
-use crate::stage::{empty, holds_both};
+use crate::stage::{canonical_both, empty, holds_both, store_of_both};
 use edf_command::{Inputs, Order, Status, run};
 use edf_fragment::Counted;
 use edf_sample::named::{file_p5, file_q};
@@ -13,9 +13,9 @@ use std::alloc::{AllocError, Global};
 
 /// The files `p5.edf` and `q.edf`.
 #[derive(Drop)]
-struct Shelf<'a> {
-    p5: &'a [u8],
-    q: &'a [u8],
+pub(crate) struct Shelf<'a> {
+    pub(crate) p5: &'a [u8],
+    pub(crate) q: &'a [u8],
 }
 
 impl<'a> Inputs for Shelf<'a> {
@@ -30,7 +30,7 @@ impl<'a> Inputs for Shelf<'a> {
 }
 
 /// The order to take both.
-fn take_both(alloc: Global) -> Option<Order> {
+pub(crate) fn take_both(alloc: Global) -> Option<Order> {
     let mut files = Vec::new(alloc);
     files.push(String::from_str(alloc, "p5.edf").ok()?).ok()?;
     files.push(String::from_str(alloc, "q.edf").ok()?).ok()?;
@@ -38,34 +38,57 @@ fn take_both(alloc: Global) -> Option<Order> {
     Some(Order::Take { store, files })
 }
 
-const LINES: &[u8] = b"p5.edf accepted new=1 known=0\nq.edf accepted new=1 known=0\n";
+/// What that writes.
+pub(crate) const LINES: &[u8] = b"p5.edf accepted new=1 known=0\nq.edf accepted new=1 known=0\n";
 
-/// Runs an order over both files, with so much room for what is written. Its status, and whether just so many bytes of the two
-/// lines went out, and nothing else.
-fn ran(
-    alloc: Global,
-    store: &mut Store<MemStore>,
-    shelf: &mut Shelf<'_>,
-    room: usize,
-    full: bool,
-) -> Option<(Status, bool)> {
-    let order = take_both(alloc)?;
-    let (mut got, mut got_err) = (Vec::new(alloc), Vec::new(alloc));
-    let mut out = Counted::new(Sink::of_room(&mut got, room, full));
-    let mut err = Counted::new(Sink::whole(&mut got_err, 100));
-    let status = run(alloc, &order, store, shelf, &mut out, &mut err);
-    drop(out);
-    drop(err);
-    let front = got.as_slice() == LINES.get(..room)?;
-    Some((status, front && got_err.is_empty()))
+/// What an order wrote.
+#[derive(Drop)]
+pub(crate) struct Said {
+    pub(crate) out: Vec<u8>,
+    pub(crate) err: Vec<u8>,
 }
 
-/// The same of an empty store, which then holds both files.
-fn took(alloc: Global, room: usize, full: bool) -> Option<(Status, bool)> {
+/// Nothing yet, with room for what is written.
+pub(crate) fn silence(alloc: Global) -> Option<Said> {
+    let out = Vec::with_capacity(alloc, 1_000).ok()?;
+    let err = Vec::with_capacity(alloc, 1_000).ok()?;
+    Some(Said { out, err })
+}
+
+/// Where an order writes: so many bytes on `out` and on `err`, and then writes fail, or take none.
+#[derive(Clone, Copy)]
+pub(crate) struct Room {
+    pub(crate) out: usize,
+    pub(crate) err: usize,
+    pub(crate) full: bool,
+}
+
+/// Runs an order over a store and these files.
+pub(crate) fn ran(
+    alloc: Global,
+    order: &Order,
+    store: &mut Store<MemStore>,
+    shelf: &mut Shelf<'_>,
+    said: &mut Said,
+    room: Room,
+) -> Status {
+    let mut out = Counted::new(Sink::of_room(&mut said.out, room.out, room.full));
+    let mut err = Counted::new(Sink::of_room(&mut said.err, room.err, room.full));
+    run(alloc, order, store, shelf, &mut out, &mut err)
+}
+
+/// Takes both files into an empty store with so much room on `out`. The status, and whether just so many bytes of the two lines
+/// went out, and nothing else, and the store holds both.
+fn took(alloc: Global, out: usize, full: bool) -> Option<(Status, bool)> {
     let (p5, q) = (file_p5(alloc).ok()?, file_q(alloc).ok()?);
     let mut shelf = Shelf { p5: &p5, q: &q };
     let mut store = empty(alloc)?;
-    let (status, front) = ran(alloc, &mut store, &mut shelf, room, full)?;
+    let mut said = silence(alloc)?;
+    let order = take_both(alloc)?;
+    let err = 100;
+    let room = Room { out, err, full };
+    let status = ran(alloc, &order, &mut store, &mut shelf, &mut said, room);
+    let front = said.out.as_slice() == LINES.get(..out)? && said.err.is_empty();
     Some((status, front && holds_both(alloc, &mut store)))
 }
 
@@ -78,4 +101,68 @@ fn files_are_taken_whose_lines_cannot_be_written(rt: HostRuntime) {
         }
         assert_eq!(rt; took(rt.alloc(), 59, full), Some((Status::Done, true)));
     }
+}
+
+/// Runs an order over a store of P5 and Q.
+fn ran_over_both(alloc: Global, order: &Order, out: usize, err: usize) -> Option<(Status, Said)> {
+    let mut shelf = Shelf { p5: b"", q: b"" };
+    let mut store = store_of_both(alloc)?;
+    let mut said = silence(alloc)?;
+    let full = false;
+    let room = Room { out, err, full };
+    let status = ran(alloc, order, &mut store, &mut shelf, &mut said, room);
+    Some((status, said))
+}
+
+/// Lists the recording with so much room. The status, and whether just so many bytes of its line went out, and nothing else.
+fn listed(alloc: Global, out: usize) -> Option<(Status, bool)> {
+    let store = String::from_str(alloc, "night.db").ok()?;
+    let (status, said) = ran_over_both(alloc, &Order::List { store }, out, 100)?;
+    let line = b"1 records=2 first=2002-03-02T23:59:50 patient=P7 investigation=N1\n";
+    let front = said.out.as_slice() == line.get(..out)?;
+    Some((status, front && said.err.is_empty()))
+}
+
+#[test]
+fn a_list_whose_line_cannot_be_written_is_trouble(rt: HostRuntime) {
+    for room in 0..66usize {
+        let told = listed(rt.alloc(), room);
+        assert_eq!(rt; told, Some((Status::Trouble, true)), "room for {room}");
+    }
+    assert_eq!(rt; listed(rt.alloc(), 66), Some((Status::Done, true)));
+}
+
+/// Exports the recording at a place with so much room.
+fn sent(alloc: Global, place: u32, out: usize, err: usize) -> Option<(Status, Said)> {
+    let store = String::from_str(alloc, "night.db").ok()?;
+    ran_over_both(alloc, &Order::Export { store, place }, out, err)
+}
+
+/// The status where there is so much room for the file, and whether just so many bytes of it went out, and a line why no more.
+fn sent_file(alloc: Global, out: usize) -> Option<(Status, bool)> {
+    let wanted = canonical_both(alloc)?;
+    let (status, said) = sent(alloc, 1, out, 100)?;
+    let front = said.out.as_slice() == wanted.get(..out)?;
+    Some((
+        status,
+        front && said.err.as_slice() == &b"export refused E43 Write\n"[..],
+    ))
+}
+
+/// The status where there is so much room for the line that a place is not there, and whether just so many bytes of it went out.
+fn missed_place(alloc: Global, err: usize) -> Option<(Status, bool)> {
+    let (status, said) = sent(alloc, 2, 100, err)?;
+    let front = said.err.as_slice() == b"no recording at place 2\n".get(..err)?;
+    Some((status, front && said.out.is_empty()))
+}
+
+#[test]
+fn an_export_whose_file_or_line_cannot_be_written_is_trouble(rt: HostRuntime) {
+    for room in 0..24usize {
+        let file = sent_file(rt.alloc(), 35 * room);
+        assert_eq!(rt; file, Some((Status::Trouble, true)), "{room}");
+        let line = missed_place(rt.alloc(), room);
+        assert_eq!(rt; line, Some((Status::Trouble, true)), "{room}");
+    }
+    assert_eq!(rt; missed_place(rt.alloc(), 24), Some((Status::Refused, true)));
 }

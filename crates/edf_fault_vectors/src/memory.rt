@@ -1,8 +1,10 @@
 //! Memory that runs out, under each budget until one suffices.
 
+use crate::lines::{LINES, Room, Said, Shelf, ran, silence, take_both};
 use crate::stage::{
     Answer, canonical_both, empty, held, holds_both, store_of_both, submitted, taken,
 };
+use edf_command::Status;
 use edf_export::export;
 use edf_fragment::Counted;
 use edf_intake::{Receipt, Refusal, submit_all};
@@ -21,6 +23,8 @@ enum Trial {
     Export,
     /// N1 and N2 in one list.
     List,
+    /// The order to take P5 and Q.
+    Order,
 }
 
 /// How a budget served.
@@ -158,15 +162,82 @@ fn list_under(alloc: Global, scarce: &mut Scarce, budget: usize) -> Option<Serve
     }
 }
 
+/// Whether an order to take P5 and Q may write so where memory runs out, and leave so many data records. The files behind a line
+/// that is not written were submitted all the same.
+fn tells_of_shortage(out: &[u8], records: u32) -> bool {
+    let texts: [(&[u8], u32, u32); 6] = [
+        (b"", 0, 2),
+        (b"p5.edf accepted new=1 known=0\n", 1, 2),
+        (b"p5.edf refused E41 Memory\n", 0, 1),
+        (
+            b"p5.edf accepted new=1 known=0\nq.edf refused E41 Memory\n",
+            1,
+            1,
+        ),
+        (
+            b"p5.edf refused E41 Memory\nq.edf accepted new=1 known=0\n",
+            1,
+            1,
+        ),
+        (
+            b"p5.edf refused E41 Memory\nq.edf refused E41 Memory\n",
+            0,
+            0,
+        ),
+    ];
+    for (text, least, most) in texts {
+        if out == text {
+            return least <= records && records <= most;
+        }
+    }
+    false
+}
+
+/// How the budget served under which an order to take P5 and Q ended so, wrote so and left so many data records.
+fn served_order(status: Status, said: &Said, records: u32) -> Option<Served> {
+    if !said.err.is_empty() {
+        let told = said.err.as_slice() == &b"take refused E41 Memory\n"[..];
+        let unbegun = told && said.out.is_empty() && records == 0 && status == Status::Trouble;
+        return if unbegun { Some(Served::Unbegun) } else { None };
+    }
+    match status {
+        Status::Done if said.out.as_slice() == LINES && records == 2 => Some(Served::Whole),
+        Status::Trouble if tells_of_shortage(said.out.as_slice(), records) => Some(Served::Short),
+        _ => None,
+    }
+}
+
+/// Takes P5 and Q by an order under a budget.
+fn take_under(alloc: Global, scarce: &mut Scarce, budget: usize) -> Option<Served> {
+    let (p5, q) = (file_p5(alloc).ok()?, file_q(alloc).ok()?);
+    let mut shelf = Shelf { p5: &p5, q: &q };
+    let order = take_both(alloc)?;
+    let mut store = empty(alloc)?;
+    let mut said = silence(alloc)?;
+    if !scarce.leave(alloc, budget) {
+        return None;
+    }
+    let room = Room {
+        out: 1_000,
+        err: 1_000,
+        full: false,
+    };
+    let status = ran(alloc, &order, &mut store, &mut shelf, &mut said, room);
+    scarce.ease();
+    let (records, _) = held(alloc, &mut store)?;
+    served_order(status, &said, records)
+}
+
 fn tried(alloc: Global, trial: Trial, scarce: &mut Scarce, budget: usize) -> Option<Served> {
     match trial {
         Trial::Submissions => submit_under(alloc, scarce, budget),
         Trial::Export => export_under(alloc, scarce, budget),
         Trial::List => list_under(alloc, scarce, budget),
+        Trial::Order => take_under(alloc, scarce, budget),
     }
 }
 
-/// Tries it with no memory, and with one block of 1,100 bytes and more, until a budget suffices. How many do not even let it begin,
+/// Tries it with no memory, and with one block of 1,100 bytes, of 16 more and so on, until a budget suffices. How many do not even let it begin,
 /// and under how many memory runs out; `None` where an answer is another, or no budget suffices.
 fn tried_until_whole(alloc: Global, trial: Trial) -> Option<(u32, u32)> {
     // The stack grows now, while there are pages for it.
@@ -176,8 +247,8 @@ fn tried_until_whole(alloc: Global, trial: Trial) -> Option<(u32, u32)> {
     }
     let mut scarce = Scarce::new(alloc).ok()?;
     let (mut unbegun, mut short) = (0u32, 0u32);
-    for turn in 0..8_000usize {
-        let budget = if turn == 0 { 0 } else { 1_036 + 64 * turn };
+    for turn in 0..32_000usize {
+        let budget = if turn == 0 { 0 } else { 1_084 + 16 * turn };
         match tried(alloc, trial, &mut scarce, budget)? {
             Served::Unbegun => unbegun = unbegun.saturating_add(1),
             Served::Short => short = short.saturating_add(1),
@@ -202,6 +273,12 @@ fn an_export_without_memory_is_a_front_of_the_file(rt: HostRuntime) {
 #[test]
 fn a_list_without_memory_for_its_answers_is_not_begun(rt: HostRuntime) {
     let told = tried_until_whole(rt.alloc(), Trial::List);
+    assert!(rt; matches!(told, Some((1.., 1..))), "{told:?}");
+}
+
+#[test]
+fn an_order_without_memory_tells_what_became_of_each_file(rt: HostRuntime) {
+    let told = tried_until_whole(rt.alloc(), Trial::Order);
     assert!(rt; matches!(told, Some((1.., 1..))), "{told:?}");
 }
 
