@@ -1,6 +1,6 @@
 //! Files that hold what no submissions leave, on a disk.
 
-use crate::lent::{Lent, lend};
+use crate::lent::Lent;
 use crate::run::{connected, is_accepted, opened};
 use edf_sample::named::file_q;
 use edf_store::Store;
@@ -8,15 +8,29 @@ use sqlite::{Alter, Connection, Files};
 use sqlite_disk::Memory;
 use std::alloc::Global;
 
+/// A log and a database file, lent.
+fn lend<'a>(log: &'a mut Memory, db: &'a mut Memory) -> Files<Lent<'a, Memory>> {
+    Files {
+        log: Lent::new(log),
+        db: Lent::new(db),
+    }
+}
+
+const RECORDINGS: &str =
+    "SELECT coalesce(group_concat(id || ' ' || hex(identity)), 'none') FROM recording";
+
+const RECORDS: &str =
+    "SELECT coalesce(group_concat(recording || ' ' || start || ' ' || hex(samples) || ' ' || hex(block)), 'none') FROM record";
+
+fn text_of<S: Alter>(conn: &mut Connection<S>, sql: &str) -> Option<String> {
+    conn.query_row(sql, &[]).ok()?.get(0).ok()
+}
+
 /// All rows of both tables, as one text.
 fn rows_of<S: Alter>(conn: &mut Connection<S>) -> Option<String> {
-    let row = conn
-        .query_row(
-            "SELECT (SELECT count(*) || coalesce(group_concat(id || ' ' || hex(identity)), '') FROM recording) || '/' || (SELECT count(*) || coalesce(group_concat(recording || ' ' || start || ' ' || hex(samples) || ' ' || hex(block)), '') FROM record)",
-            &[],
-        )
-        .ok()?;
-    row.get(0).ok()
+    let mut rows = text_of(conn, RECORDINGS)?;
+    rows.push_str(text_of(conn, RECORDS)?.as_str()).ok()?;
+    Some(rows)
 }
 
 /// Makes a store that holds Q's data record.

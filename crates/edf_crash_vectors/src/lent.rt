@@ -1,6 +1,6 @@
 //! A disk that is lent.
 
-use sqlite_disk::{Disk, Files, Memory, Tally};
+use sqlite_disk::{Disk, Tally};
 use std::io;
 
 /// Passes each call on to the disk that it borrows, which is there again when what was opened over this one is gone.
@@ -78,13 +78,5 @@ impl<D: Disk> Disk for Lent<'_, D> {
 
     fn sync(&mut self) -> io::Result<()> {
         self.disk.sync()
-    }
-}
-
-/// A log and a database file, lent.
-pub(crate) fn lend<'a>(log: &'a mut Memory, db: &'a mut Memory) -> Files<Lent<'a, Memory>> {
-    Files {
-        log: Lent::new(log),
-        db: Lent::new(db),
     }
 }

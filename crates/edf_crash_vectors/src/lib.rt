@@ -6,6 +6,7 @@
 //! - `run`: a store opened, filled and closed over disks that may stop.
 //! - `stops`: the tests, each over a range of stops.
 //! - `many`: three hundred recordings, on a disk that is opened again.
+//! - `foreign`: files that hold what no submissions leave, refused with their rows as they were.
 #![tactic(auto)]
 
 #[cfg(test)]

@@ -11,7 +11,7 @@ pub(crate) struct Night {
     pub(crate) exports: Vec<Vec<u8>>,
 }
 
-/// P5's data record alone: its header stays, and the shorter onset leaves a sample of annotations less.
+/// P5's file with its onsets spelled as short as they can be, which saves a sample of annotations.
 fn after_p5(alloc: Global) -> Result<Vec<u8>, AllocError> {
     let header = q()
         .recording("Startdate 03-MAR-2002 N1 T3 REC5")
@@ -21,7 +21,7 @@ fn after_p5(alloc: Global) -> Result<Vec<u8>, AllocError> {
     file(alloc, &header, &[record])
 }
 
-/// A data record that has no annotation, with 32 bytes of annotations.
+/// What fills a block of annotations of 32 bytes.
 const EMPTY: &[u8] = &[0; 32];
 
 /// P5's data record in a file that begins with Q's.

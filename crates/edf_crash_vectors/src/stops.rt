@@ -67,30 +67,50 @@ fn is_met_at_the_ends(stops: Option<[usize; 4]>) -> bool {
     counts[0] > 0 && counts[3] > 0
 }
 
+/// Whether the log, and whether the database file, loses what was not synced. Where neither does, the program died and the
+/// machine went on.
+const LOSSES: [(bool, bool); 4] = [(false, false), (true, true), (true, false), (false, true)];
+
 #[test]
 fn what_was_accepted_is_held_wherever_the_log_stops(rt: HostRuntime) {
-    let stops = stopped(&rt, rt.alloc(), true, 1000, (false, false));
-    println!(rt; "{stops:?}").ok();
-    assert!(rt; is_met_everywhere(stops), "{stops:?}");
+    for loses in LOSSES {
+        let stops = stopped(&rt, rt.alloc(), true, 1000, loses);
+        assert!(rt; is_met_everywhere(stops), "{loses:?}: {stops:?}");
+    }
 }
 
 #[test]
 fn what_was_accepted_is_held_wherever_the_database_file_stops(rt: HostRuntime) {
-    let stops = stopped(&rt, rt.alloc(), false, 1000, (false, false));
-    println!(rt; "{stops:?}").ok();
-    assert!(rt; is_met_at_the_ends(stops), "{stops:?}");
+    for loses in LOSSES {
+        let stops = stopped(&rt, rt.alloc(), false, 1000, loses);
+        assert!(rt; is_met_at_the_ends(stops), "{loses:?}: {stops:?}");
+    }
 }
 
 #[test]
 fn what_was_accepted_is_held_wherever_a_log_that_is_copied_soon_stops(rt: HostRuntime) {
-    let stops = stopped(&rt, rt.alloc(), true, 2, (false, false));
-    println!(rt; "{stops:?}").ok();
-    assert!(rt; is_met_everywhere(stops), "{stops:?}");
+    for loses in LOSSES {
+        let stops = stopped(&rt, rt.alloc(), true, 2, loses);
+        assert!(rt; is_met_everywhere(stops), "{loses:?}: {stops:?}");
+    }
 }
 
 #[test]
 fn what_was_accepted_is_held_wherever_the_copying_of_the_log_stops(rt: HostRuntime) {
-    let stops = stopped(&rt, rt.alloc(), false, 2, (false, false));
-    println!(rt; "{stops:?}").ok();
-    assert!(rt; is_met_everywhere(stops), "{stops:?}");
+    for loses in LOSSES {
+        let stops = stopped(&rt, rt.alloc(), false, 2, loses);
+        assert!(rt; is_met_everywhere(stops), "{loses:?}: {stops:?}");
+    }
+}
+
+/// How long the file is that is exported after so many submissions.
+fn exported_length(alloc: Global, count: usize) -> Option<usize> {
+    Some(three_files(alloc)?.exports.get(count)?.len())
+}
+
+#[test]
+fn the_exports_that_are_wanted_have_their_lengths(rt: HostRuntime) {
+    for (count, len) in [(0usize, 0usize), (1, 800), (2, 840), (3, 948)] {
+        assert_eq!(rt; exported_length(rt.alloc(), count), Some(len), "{count}");
+    }
 }
