@@ -7,7 +7,7 @@ use Rattle.edf_header.specs.Key.{Key, patient_code, investigation_code}
 use Rattle.edf_fragment.specs.Fragment.{DataRecord}
 use Rattle.edf_store.specs.Listed.{start_at}
 use Rattle.edf_intake.specs.Refusal.{refusal_number}
-use Rattle.edf_intake.specs.declared.refusal.Refusal.{Refusal}
+use Rattle.edf_intake.specs.declared.answer.Refusal.{Refusal}
 use Rattle.edf_command.specs.Refusals.{IsSpelling, details, refusal_text}
 use Rattle.edf_command.specs.Lines.{first_start, list_line}
 

@@ -6,7 +6,7 @@ use Rattle.edf_fragment.specs.Fragment.{DataRecord}
 use Rattle.edf_holdings.specs.Holdings.{Holdings}
 use Rattle.edf_store.specs.declared.fault.StoreFault.{StoreFault}
 use Rattle.edf_intake.specs.Refusal.{Answer, refusal_number}
-use Rattle.edf_intake.specs.declared.refusal.Refusal.{Refusal}
+use Rattle.edf_intake.specs.declared.answer.Refusal.{Refusal}
 use Rattle.edf_export.specs.Export.{export_fault_number}
 use Rattle.edf_export.specs.declared.fault.ExportFault.{ExportFault}
 use Rattle.edf_command.specs.Refusals.{refusal_text, store_text, export_text}

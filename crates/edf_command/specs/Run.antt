@@ -12,8 +12,8 @@ use Rattle.edf_intake.specs.Refusal.{Answer, refusal_number}
 use Rattle.edf_intake.specs.Source.{Source}
 use Rattle.edf_intake.specs.Submitted.{IsSubmitted}
 use Rattle.edf_intake.specs.Batch.{AreSubmitted, AnswersAll}
-use Rattle.edf_intake.specs.declared.receipt.Receipt.{Receipt}
-use Rattle.edf_intake.specs.declared.refusal.Refusal.{Refusal}
+use Rattle.edf_intake.specs.declared.answer.Receipt.{Receipt}
+use Rattle.edf_intake.specs.declared.answer.Refusal.{Refusal}
 use Rattle.edf_export.specs.Export.{IsExported, IsNotExported, CountsExportFault}
 use Rattle.edf_export.specs.declared.fault.ExportFault.{ExportFault}
 use Rattle.edf_export.specs.declared.fault.ExportFault.TheVariants.{Store}

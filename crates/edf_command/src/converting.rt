@@ -5,8 +5,8 @@ ghost use Rattle.edf_command.specs.Lines.{convert_memory_line};
 ghost use Rattle.edf_command.specs.Output.{grown};
 ghost use Rattle.edf_command.specs.Run.{IsConverted};
 
-use crate::inputs::Inputs;
 use crate::output::tell;
+use crate::running::Inputs;
 use crate::sending::send_recording;
 use crate::status::{Status, status_of_number};
 use crate::taking::refused_line;

@@ -9,7 +9,6 @@
 #![tactic(auto)]
 
 mod converting;
-mod inputs;
 mod listing;
 mod output;
 mod program;
@@ -20,8 +19,7 @@ mod status;
 mod taking;
 
 pub use edf_order::{CommandFault, Order, parse};
-pub use inputs::Inputs;
 pub use program::{read_order, refuse_store, store_path};
 pub use refusal::refusal_text;
-pub use running::run;
+pub use running::{Inputs, run};
 pub use status::Status;

@@ -1,21 +1,39 @@
 //! An order, run.
 
-ghost use Rattle.std.specs.Prelude.{◌≡◌, ℕ, List};
+ghost use Rattle.std.specs.Prelude.{◌≡◌, ℕ, List, Option, IfOk};
 ghost use Rattle.edf_order.specs.Order.{meaning};
 ghost use Rattle.edf_command.specs.Output.{grown};
 ghost use Rattle.edf_command.specs.Run.{IsDone};
 
 use crate::converting::convert;
-use crate::inputs::Inputs;
 use crate::listing::list;
 use crate::sending::send_place;
 use crate::status::Status;
 use crate::taking::take;
-use edf_fragment::Output;
+use edf_fragment::{Input, Output};
 use edf_order::Order;
 use edf_store::Store;
 use sqlite::Alter;
-use std::alloc::Global;
+use std::alloc::{AllocError, Global};
+
+/// What gives each name its reader.
+///
+/// Contracts speak of the bytes that a name stands for, where they are known: those of a file are not.
+pub trait Inputs {
+    /// The readers.
+    type Reader: Input + Drop;
+
+    // The bytes that a name stands for, where they are known.
+    ghost bytes: { Self → List ℕ → Option (List ℕ) };
+
+    /// A reader of just the bytes that the name stands for. A name that stands for nothing gives a reader whose first read fails.
+    ///
+    /// # Errors
+    /// Where memory ran out.
+    fn open(&mut self, alloc: Global, name: &str) -> Result<Self::Reader, AllocError>
+        ensures reader { IfOk result (λ r. Self.Reader.remaining r ≡ bytes self.old name.now) }
+        ensures same { (other : List ℕ) → bytes self.new other ≡ bytes self.old other };
+}
 
 /// Runs an order over a store, which is the one that the order names; for `Convert` it is an empty one.
 ///

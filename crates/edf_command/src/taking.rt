@@ -6,9 +6,9 @@ ghost use Rattle.edf_command.specs.Refusals.{IsSpelling, refusal_text};
 ghost use Rattle.edf_command.specs.Output.{grown, ArePut};
 ghost use Rattle.edf_command.specs.Run.{IsTaken};
 
-use crate::inputs::Inputs;
 use crate::output::{put_line, tell_bytes};
 use crate::refusal::{joined, refusal_text};
+use crate::running::Inputs;
 use crate::status::{Status, status_of_number, worse};
 use edf_fragment::Output;
 use edf_intake::{Receipt, Refusal, submit_all};

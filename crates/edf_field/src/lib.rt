@@ -8,16 +8,12 @@
 //! - [`laws`]: what the definitions of these texts come to; functions that do nothing, each with a law for a contract.
 #![tactic(auto)]
 
+mod identification;
 pub mod laws;
 pub mod laws_grammar;
 mod number;
-mod patient;
 mod physical;
-mod recording;
-mod subfield;
 
+pub use identification::{is_behind_startdate, is_patient, next_subfield, read_recording};
 pub use number::{are_spaces, read_duration, read_signed, read_whole};
-pub use patient::is_patient;
 pub use physical::physical_values_differ;
-pub use recording::{is_behind_startdate, read_recording};
-pub use subfield::next_subfield;

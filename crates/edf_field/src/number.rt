@@ -3,7 +3,7 @@ ghost use Rattle.std.specs.Char.{is_ascii_digit};
 ghost use Rattle.std.specs.Str.Parse.{digits_value};
 ghost use Rattle.edf_field.specs.Number.{AreSpaces, digits_len, digits, behind_digits, IsWhole, whole_value, unsigned, IsSigned, signed_value, IsDuration};
 
-use crate::subfield::front_len;
+use crate::identification::front_len;
 use edf_time::read_seconds;
 
 /// The place of the first byte that is no digit, or the length.

@@ -14,9 +14,9 @@ use Rattle.edf_fragment.specs.Fault.{ReadsUpTo, IsCutRecord, IsRefusedBlock, IsT
 use Rattle.edf_fragment.specs.Reading.{ReadsHeader, ReadsHeaderFault, IsOpenFault, EndsThere, EndsInRecord, RefusesBlock, FindsMore, IsNextFault, IsNext, at_first, progress_after, AnswersIn, IsAnswer}
 use Rattle.edf_fragment.specs.Whole.{HasRead, FailsBehind, ReadsFragment, IsFirstWhereKnown, IsFragmentFault}
 use Rattle.edf_fragment.specs.Inside.Steps.{ReadsRecords}
-use Rattle.edf_fragment.specs.declared.progress.Progress.{Progress}
-use Rattle.edf_fragment.specs.declared.progress.Status.{Status}
-use Rattle.edf_fragment.specs.declared.progress.Status.TheVariants.{Reading}
+use Rattle.edf_fragment.specs.declared.advance.Progress.{Progress}
+use Rattle.edf_fragment.specs.declared.advance.Status.{Status}
+use Rattle.edf_fragment.specs.declared.advance.Status.TheVariants.{Reading}
 use Rattle.edf_fragment.specs.declared.fault.FragmentFault.{FragmentFault}
 use Rattle.edf_fragment.specs.declared.fault.FragmentFault.TheVariants.{Header as BadHeader, CutRecord, Tal, Trailing, Read, Memory, Failed}
 use Rattle.edf_fragment.proofs.HeaderParts.{field_front}

@@ -8,7 +8,7 @@ use Rattle.edf_tal.specs.declared.place.TalFault.{TalFault}
 use Rattle.edf_tal.specs.declared.place.TalFault.TheVariants.{Tal as NotTals, Text, NotTimed, FirstOnset, Window, Order, TooMany, Memory as TalMemory}
 use Rattle.edf_fragment.specs.Fragment.{DataRecord, IsDataRecord, block, ordinary_bytes}
 use Rattle.edf_fragment.specs.Reading.{ReadsFewer, GivesRecord, RefusesBlock, IsNextFault}
-use Rattle.edf_fragment.specs.declared.progress.Progress.{Progress}
+use Rattle.edf_fragment.specs.declared.advance.Progress.{Progress}
 use Rattle.edf_fragment.specs.Inside.Steps.{IsCutShort, IsPartFault}
 use Rattle.edf_fragment.specs.declared.fault.FragmentFault.{FragmentFault}
 use Rattle.edf_fragment.specs.declared.fault.FragmentFault.TheVariants.{Header, CutRecord, Tal, Trailing, Read, Memory, Failed}

@@ -15,9 +15,9 @@ use Rattle.edf_tal.specs.declared.place.Place.TheVariants.{First}
 use Rattle.edf_fragment.specs.Fragment.{DataRecord, IsDataRecord, AreDataRecords, place_behind}
 use Rattle.edf_fragment.specs.Reading.{GivesRecord, AnswersIn, IsAnswer, progress_after}
 use Rattle.edf_fragment.specs.Whole.{HasRead}
-use Rattle.edf_fragment.specs.declared.progress.Progress.{Progress}
-use Rattle.edf_fragment.specs.declared.progress.Status.{Status}
-use Rattle.edf_fragment.specs.declared.progress.Status.TheVariants.{Reading}
+use Rattle.edf_fragment.specs.declared.advance.Progress.{Progress}
+use Rattle.edf_fragment.specs.declared.advance.Status.{Status}
+use Rattle.edf_fragment.specs.declared.advance.Status.TheVariants.{Reading}
 use Rattle.edf_fragment.proofs.HeaderParts.{field_front}
 
 -- ---- lists of data records

@@ -18,7 +18,7 @@ use Rattle.edf_fragment.specs.Fragment.{DataRecord, IsDataRecord, AreDataRecords
 use Rattle.edf_fragment.specs.Sound.{IsKept, IsSoundRecord, AreSound}
 use Rattle.edf_fragment.specs.Reading.{ReadsHeader, IsNext}
 use Rattle.edf_fragment.specs.Whole.{HasRead}
-use Rattle.edf_fragment.specs.declared.progress.Progress.{Progress}
+use Rattle.edf_fragment.specs.declared.advance.Progress.{Progress}
 use Rattle.edf_fragment.specs.declared.fault.FragmentFault.{FragmentFault}
 use Rattle.edf_fragment.proofs.OneFragment.{goes_on}
 use Rattle.edf_fragment.proofs.Runs.{AreDataRecords-more, IsHeader-more}

@@ -10,9 +10,9 @@ use Rattle.edf_tal.specs.declared.place.Place.TheVariants.{First}
 use Rattle.edf_tal.specs.declared.place.TalFault.{TalFault}
 use Rattle.edf_fragment.specs.Failures.{one_more}
 use Rattle.edf_fragment.specs.Fragment.{DataRecord, IsDataRecord, block, place_behind}
-use Rattle.edf_fragment.specs.declared.progress.Progress.{Progress}
-use Rattle.edf_fragment.specs.declared.progress.Status.{Status}
-use Rattle.edf_fragment.specs.declared.progress.Status.TheVariants.{Reading, Ended, Stopped}
+use Rattle.edf_fragment.specs.declared.advance.Progress.{Progress}
+use Rattle.edf_fragment.specs.declared.advance.Status.{Status}
+use Rattle.edf_fragment.specs.declared.advance.Status.TheVariants.{Reading, Ended, Stopped}
 use Rattle.edf_fragment.specs.declared.fault.FragmentFault.{FragmentFault}
 use Rattle.edf_fragment.specs.declared.fault.FragmentFault.TheVariants.{Header as BadHeader, CutRecord, Tal, Trailing, Read, Memory, Failed}
 

@@ -6,7 +6,7 @@ use Rattle.edf_tal.specs.declared.place.Place.TheVariants.{First}
 use Rattle.edf_fragment.specs.Fragment.{DataRecord, AreDataRecords, Spells}
 use Rattle.edf_fragment.specs.Fault.{IsFirstFault}
 use Rattle.edf_fragment.specs.Reading.{ReadsHeader, IsOpenFault, IsNextFault}
-use Rattle.edf_fragment.specs.declared.progress.Progress.{Progress}
+use Rattle.edf_fragment.specs.declared.advance.Progress.{Progress}
 use Rattle.edf_fragment.specs.declared.fault.FragmentFault.{FragmentFault}
 use Rattle.edf_fragment.specs.declared.fault.FragmentFault.TheVariants.{Read, Memory, Failed}
 

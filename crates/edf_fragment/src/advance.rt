@@ -1,15 +1,54 @@
+//! How far a reader is, and its next data record.
+
 ghost use Rattle.std.specs.Prelude.{◌≡◌, ◌≢◌, ℕ, ◌+◌, ◌-◌, ◌^◌, ◌<◌, ◌≤◌, ◌++◌, length, take, drop, IfOk, IfSome, MatchResult};
 ghost use Rattle.std.specs.Io.KnownBytes.{Consumes};
 ghost use Rattle.edf_fragment.specs.Reading.{GivesRecord, IsNextFault, IsNext, CountsAnswer, progress_after};
 ghost use Rattle.edf_fragment.specs.Inside.Steps.{IsPartFault, ReadsEnd, IsEndFault};
 
 use crate::fault::FragmentFault;
-use crate::progress::{Progress, Status};
 use crate::record::Record;
 use crate::streams::{Filled, Input, fill};
 use edf_header::Header;
 use edf_tal::{Place, TalFault, read_block};
 use std::alloc::Global;
+
+/// Whether a reader may go on.
+#[derive(Clone, Copy, Debug, PartialEq, Eq)]
+pub enum Status {
+    /// It met neither the end nor a fault.
+    Reading,
+    /// It gave the last data record, and the input ended.
+    Ended,
+    /// It met a fault.
+    Stopped,
+}
+
+/// How far a reader of data records is.
+#[derive(Clone, Copy, Debug, PartialEq, Eq)]
+pub struct Progress {
+    /// How many data records it gave.
+    pub given: u32,
+    /// Where the next one must stand.
+    pub place: Place,
+    /// Whether it may go on.
+    pub status: Status,
+}
+
+impl Progress {
+    ghost use Rattle.std.specs.Prelude.{◌≡◌};
+    ghost use Rattle.edf_fragment.specs.Reading.{at_first};
+
+    /// How far a reader is that gave no record yet.
+    pub(crate) fn at_first() -> Progress
+        ensures { result ≡ at_first }
+    {
+        Progress {
+            given: 0,
+            place: Place::First,
+            status: Status::Reading,
+        }
+    }
+}
 
 /// The refusal for a fault of the nth data record's block. Want of memory has its own.
 fn block_refusal(nth: u32, fault: TalFault) -> FragmentFault

@@ -9,8 +9,8 @@ ghost use Rattle.edf_fragment.specs.Told.{Told, Tells};
 ghost use Rattle.edf_fragment.specs.Sound.{AreSound};
 ghost use Rattle.edf_fragment.specs.Reading.{ReadsHeader, IsOpenFault, IsAnswer, at_first};
 ghost use Rattle.edf_fragment.specs.Whole.{HasRead, ReadsFragment, IsFragmentFault};
-ghost use Rattle.edf_fragment.specs.declared.progress.Progress.{Progress};
-ghost use Rattle.edf_fragment.specs.declared.progress.Status.TheVariants.{Reading};
+ghost use Rattle.edf_fragment.specs.declared.advance.Progress.{Progress};
+ghost use Rattle.edf_fragment.specs.declared.advance.Status.TheVariants.{Reading};
 ghost use Rattle.edf_fragment.specs.declared.fault.FragmentFault.{FragmentFault};
 ghost use Rattle.edf_fragment.specs.declared.fault.FragmentFault.TheVariants.{Read, Memory};
 

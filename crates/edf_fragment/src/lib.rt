@@ -13,19 +13,18 @@ mod fault;
 mod laws;
 mod open_fragment;
 mod opening;
-mod progress;
 mod reader;
 mod record;
 mod streams;
 mod whole;
 
+pub use advance::{Progress, Status};
 pub use fault::FragmentFault;
 pub use laws::{
     answers_join, each_tells_one, known_bytes, no_fault_where_spelled, one_fault, one_fragment,
     records_are_sound, records_so_far,
 };
 pub use open_fragment::OpenFragment;
-pub use progress::{Progress, Status};
 pub use reader::FragmentReader;
 pub use record::Record;
 pub use streams::{Counted, Filled, Input, Output, fill, send};

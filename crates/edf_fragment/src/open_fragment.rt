@@ -2,10 +2,9 @@ ghost use Rattle.std.specs.Prelude.{◌≡◌, ℕ, ◌≤◌, vec_len, MatchRes
 ghost use Rattle.edf_fragment.specs.Sound.{IsSoundRecord};
 ghost use Rattle.edf_fragment.specs.Reading.{ReadsHeader, IsOpenFault, IsAnswer, IsNext, CountsAnswer, at_first, progress_after};
 
-use crate::advance::{progress_behind, record_or_end};
+use crate::advance::{Progress, Status, progress_behind, record_or_end};
 use crate::fault::FragmentFault;
 use crate::opening::read_header;
-use crate::progress::{Progress, Status};
 use crate::record::Record;
 use crate::streams::Input;
 use edf_header::Header;

@@ -1,16 +1,19 @@
+//! The checks of the bytes of an identity, in the order of their faults.
+
 ghost use Rattle.std.specs.Prelude.{◌≡◌, ◌≤◌, ◌+◌, ◌*◌, ◌↔◌, IsTrue, MatchResult, All, length};
 ghost use Rattle.edf_field.specs.Number.{duration_of};
 ghost use Rattle.edf_field.specs.Text.{IsBehindStartdate};
-ghost use Rattle.edf_header.specs.Signal.{samples_in_all, Passes};
+ghost use Rattle.edf_header.specs.Signal.{samples_in_all, Passes, rows_of, ordinary, HasSamples};
 ghost use Rattle.edf_header.specs.Key.{key_at};
 ghost use Rattle.edf_header.specs.Identity.{HasLength, HasMark, signals_at, IsCleanKey, IsFirstKeyFault};
 ghost use Rattle.edf_header.specs.Inside.Shape.{IsIdentity, IsKeyFront, place_of_check};
 
-use crate::fields::{KEY_AFTER, KEY_DURATION, KEY_FILL, KEY_MARK, KEY_PATIENT, KEY_SIGNALS};
+use crate::fields::{
+    KEY_AFTER, KEY_DURATION, KEY_FILL, KEY_MARK, KEY_PATIENT, KEY_SIGNALS, SAMPLES, SIGNAL_RESERVED,
+};
 use crate::identity::IdentityFault;
-use crate::rows::ordinary_samples;
-use crate::signal_checks::{Check, first_bad, first_unprintable};
-use edf_field::{are_spaces, is_behind_startdate, is_patient, read_duration};
+use crate::signal_checks::{Check, first_bad, first_unprintable, is_labelled};
+use edf_field::{are_spaces, is_behind_startdate, is_patient, read_duration, read_whole};
 
 /// Whether the length is that of an identity.
 fn has_length(bytes: &[u8]) -> bool
@@ -136,4 +139,25 @@ pub(crate) fn check_key(bytes: &[u8]) -> Result<KeyNumbers, IdentityFault>
         duration,
         ordinary_bytes,
     })
+}
+
+/// How many samples the ordinary signals have in a data record.
+pub(crate) fn ordinary_samples(rows: &[u8]) -> u64
+    requires few { length rows.now ≤ 256 * 640 }
+    requires each { All HasSamples (rows_of rows.now) }
+    ensures value { result ≡ samples_in_all (ordinary (rows_of rows.now)) }
+    ensures bound { result ≤ 64_000_000_000 }
+{
+    let mut total = 0;
+    for i in 0..rows.len() / 256 {
+        let row = &rows[256 * i..256 * i + 256];
+        if is_labelled(row) {
+            continue;
+        }
+        let Some(n) = read_whole(&row[SAMPLES..SIGNAL_RESERVED]) else {
+            continue;
+        };
+        total += u64::from(n);
+    }
+    total
 }

@@ -6,9 +6,8 @@
 //! - [`HeaderFault`]: why a header is refused, E1 to E20.
 //! - [`Identity`], [`IdentityFault`]: to which recording a file belongs, as bytes and back.
 //! - [`write_header`]: the one header that a canonical file has.
-//! - [`laws`], [`laws_fixed`], [`laws_canonical`]: a header says one thing, and what is written is read again; functions that do
-//!   nothing, each with a law for a contract.
-//! - [`laws_grammar`]: number texts are read exactly where the grammar has them.
+//! - [`laws`], [`laws_canonical`]: a header says one thing, and what is written is read again; functions that do nothing, each
+//!   with a law for a contract.
 #![tactic(auto)]
 
 mod canonical;
@@ -23,8 +22,6 @@ mod identity;
 mod identity_checks;
 pub mod laws;
 pub mod laws_canonical;
-pub mod laws_fixed;
-mod rows;
 mod signal_checks;
 mod signals;
 

@@ -10,10 +10,8 @@
 //! The functions of [`laws`] and [`meaning`] do nothing: each has laws for a contract.
 #![tactic(auto)]
 
-mod intervals;
-mod kind;
+mod clash;
 pub mod laws;
 pub mod meaning;
 
-pub use intervals::clash;
-pub use kind::Clash;
+pub use clash::{Clash, clash};

@@ -23,7 +23,7 @@ use Rattle.edf_intake.specs.Refusal.{Answer, reply_told}
 use Rattle.edf_intake.specs.Source.{Source, IsOfForm, Hears}
 use Rattle.edf_intake.specs.Submitted.{IsSubmitted}
 use Rattle.edf_intake.specs.Batch.{Turn, somes, told_in, replies_in, MayBeAnswered, IsTurn, AreUnended, IsOwnRefusal, AreLeftBy, AreSubmitted, AnswersAll}
-use Rattle.edf_intake.specs.declared.refusal.Refusal.TheVariants as refusal
+use Rattle.edf_intake.specs.declared.answer.Refusal.TheVariants as refusal
 use Rattle.edf_intake.proofs.Turns.{IsMade, told-next, replies-next, map-next, all-next, turn_of}
 
 -- what was no refusal of a clean disk is none later

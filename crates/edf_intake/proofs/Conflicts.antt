@@ -10,11 +10,11 @@ use Rattle.edf_holdings.specs.Reply.{IsSoundTold, Reply, Overlap, Differs, Full,
 use Rattle.edf_holdings.proofs.Joining.{IsGood}
 use Rattle.edf_holdings.proofs.Walked.{Taken, Stopped, reply_stopped, reply_full, reply_accepted, after_accepted}
 use Rattle.edf_intake.specs.Refusal.{reply_told}
-use Rattle.edf_intake.specs.declared.refusal.Refusal.{Refusal}
-use Rattle.edf_intake.specs.declared.refusal.Refusal.TheVariants as refusal
+use Rattle.edf_intake.specs.declared.answer.Refusal.{Refusal}
+use Rattle.edf_intake.specs.declared.answer.Refusal.TheVariants as refusal
 use Rattle.edf_intake.specs.Inside.Step.{CountsAll, NamesClash, IsTally}
-use Rattle.edf_intake.specs.declared.tally.Starts.{Starts}
-use Rattle.edf_intake.specs.declared.tally.Tally.{Tally}
+use Rattle.edf_intake.specs.declared.walk.Starts.{Starts}
+use Rattle.edf_intake.specs.declared.walk.Tally.{Tally}
 
 -- where no clash was met
 pub counts_all : (key : Key) (h : Holdings) (records : List DataRecord) (tally : Tally) → tally.clash ≡ None → IsTally key h records tally → CountsAll key h records tally

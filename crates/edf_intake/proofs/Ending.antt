@@ -20,10 +20,10 @@ use Rattle.edf_store.proofs.ReadyLemmas.{stays_then}
 use Rattle.edf_intake.specs.Source.{Source, ReadsFront}
 use Rattle.edf_intake.specs.Submitted.{AreLeft, Accepts, Refuses, StopsThere, IsSubmitted}
 use Rattle.edf_intake.specs.Inside.Taken.{IsTaken, IsStop, IsRefused}
-use Rattle.edf_intake.specs.declared.receipt.Receipt.{Receipt}
-use Rattle.edf_intake.specs.declared.refusal.Refusal.{Refusal}
-use Rattle.edf_intake.specs.declared.refusal.Refusal.TheVariants as refusal
-use Rattle.edf_intake.specs.declared.refusal.Stop.TheVariants.{Input}
+use Rattle.edf_intake.specs.declared.answer.Receipt.{Receipt}
+use Rattle.edf_intake.specs.declared.answer.Refusal.{Refusal}
+use Rattle.edf_intake.specs.declared.answer.Refusal.TheVariants as refusal
+use Rattle.edf_intake.specs.declared.answer.Stop.TheVariants.{Input}
 
 -- a fault of the store, told as a refusal
 pub refused_by : {S : Type 0} (g : Ghosts S) (old new : Kept S) (from to : Source) (fault : StoreFault) (told : Refusal)

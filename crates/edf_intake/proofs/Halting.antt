@@ -17,9 +17,9 @@ use Rattle.edf_store.specs.declared.fault.StoreFault.{StoreFault}
 use Rattle.edf_intake.specs.Source.{Source, SpellsNothing, ReadsWhole, ReadsSome}
 use Rattle.edf_intake.specs.Inside.Halt.{refusal_by, HaltsThere}
 use Rattle.edf_intake.specs.Inside.Taken.{IsStop}
-use Rattle.edf_intake.specs.declared.refusal.Refusal.{Refusal}
-use Rattle.edf_intake.specs.declared.refusal.Stop.{Stop}
-use Rattle.edf_intake.specs.declared.refusal.Stop.TheVariants.{Input, Store}
+use Rattle.edf_intake.specs.declared.answer.Refusal.{Refusal}
+use Rattle.edf_intake.specs.declared.answer.Stop.{Stop}
+use Rattle.edf_intake.specs.declared.answer.Stop.TheVariants.{Input, Store}
 
 spells_none : (left : Option (List ℕ)) (fault : FragmentFault) → IfSome left (λ all. IsFirstFault all fault) → IfSome left SpellsNothing
 spells_none None fault first = tt

@@ -7,8 +7,8 @@ use Rattle.edf_header.specs.Header.{Layout}
 use Rattle.edf_fragment.specs.Fragment.{DataRecord}
 use Rattle.edf_fragment.specs.Reading.{ReadsHeader, IsAnswer, at_first}
 use Rattle.edf_fragment.specs.Whole.{HasRead, ReadsFragment}
-use Rattle.edf_fragment.specs.declared.progress.Progress.{Progress}
-use Rattle.edf_fragment.specs.declared.progress.Status.TheVariants.{Reading}
+use Rattle.edf_fragment.specs.declared.advance.Progress.{Progress}
+use Rattle.edf_fragment.specs.declared.advance.Status.TheVariants.{Reading}
 use Rattle.edf_fragment.proofs.Fragments.{reads_none, one_more_read, all_read}
 use Rattle.edf_fragment.proofs.Sound.{read-key, read-sound}
 use Rattle.edf_holdings.specs.Rising.{IsApart}
@@ -19,8 +19,8 @@ use Rattle.edf_rows.proofs.RowsLemmas.{one-holdings}
 use Rattle.edf_store.specs.Held.{Kept, at}
 use Rattle.edf_store.specs.Transaction.{Sees, IsRunning}
 use Rattle.edf_intake.specs.Inside.Step.{IsNext, IsTally}
-use Rattle.edf_intake.specs.declared.tally.Starts.{Starts}
-use Rattle.edf_intake.specs.declared.tally.Tally.{Tally}
+use Rattle.edf_intake.specs.declared.walk.Starts.{Starts}
+use Rattle.edf_intake.specs.declared.walk.Tally.{Tally}
 use Rattle.edf_intake.proofs.Walking.{Walking, starts_of, met_next}
 
 -- what a transaction sees is one

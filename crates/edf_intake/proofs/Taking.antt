@@ -12,10 +12,10 @@ use Rattle.edf_holdings.specs.Holdings.{Holdings, put}
 use Rattle.edf_store.specs.Held.{Kept, at}
 use Rattle.edf_store.specs.Transaction.{AreSeen, Sees, IsRunning, IsOf, SeesAsBefore, HasNoMore, AreNear, MayTake, IsAdded}
 use Rattle.edf_intake.specs.Inside.Step.{IsStep, Counts, IsNext}
-use Rattle.edf_intake.specs.declared.step.Step.{Step}
-use Rattle.edf_intake.specs.declared.step.Step.TheVariants.{Clashes, Known, New}
-use Rattle.edf_intake.specs.declared.tally.Starts.{Starts}
-use Rattle.edf_intake.specs.declared.tally.Tally.{Tally}
+use Rattle.edf_intake.specs.declared.walk.Step.{Step}
+use Rattle.edf_intake.specs.declared.walk.Step.TheVariants.{Clashes, Known, New}
+use Rattle.edf_intake.specs.declared.walk.Starts.{Starts}
+use Rattle.edf_intake.specs.declared.walk.Tally.{Tally}
 use Rattle.edf_intake.proofs.Steps.{seen_is_one}
 
 pub none_of : {A : Type 0} (o : Option A) → is_some o ≡ false → o ≡ None

@@ -15,7 +15,7 @@ use Rattle.edf_intake.specs.Refusal.{Answer, reply_told, IsStopped}
 use Rattle.edf_intake.specs.Source.{Source, Hears, FailsToRead, ReadsFront}
 use Rattle.edf_intake.specs.Submitted.{AreLeft, Leaves, MayLeave, Refuses, StopsThere, IsSubmitted}
 use Rattle.edf_intake.specs.Batch.{Turn, somes, told_in, replies_in, GoesWith, IsTurn, MayBeAnswered, AreUnended, IsOwnRefusal}
-use Rattle.edf_intake.specs.declared.refusal.Refusal.TheVariants as refusal
+use Rattle.edf_intake.specs.declared.answer.Refusal.TheVariants as refusal
 
 -- ---- lists
 

@@ -8,7 +8,7 @@ use Rattle.edf_header.specs.Key.{Key, IsKey}
 use Rattle.edf_header.specs.Header.{Layout}
 use Rattle.edf_fragment.specs.Fragment.{DataRecord}
 use Rattle.edf_fragment.specs.Whole.{HasRead}
-use Rattle.edf_fragment.specs.declared.progress.Progress.{Progress}
+use Rattle.edf_fragment.specs.declared.advance.Progress.{Progress}
 use Rattle.edf_holdings.specs.Clash.{near_of}
 use Rattle.edf_holdings.specs.Rising.{IsApart}
 use Rattle.edf_holdings.specs.Holdings.{Holdings}
@@ -16,10 +16,10 @@ use Rattle.edf_holdings.proofs.Walked.{Taken, Stopped, Walked, still_stopped, af
 use Rattle.edf_store.specs.Held.{Kept, at}
 use Rattle.edf_store.specs.Transaction.{Sees}
 use Rattle.edf_intake.specs.Inside.Step.{IsStep, Counts, IsNext}
-use Rattle.edf_intake.specs.declared.step.Step.{Step}
-use Rattle.edf_intake.specs.declared.step.Step.TheVariants.{Clashes, Known, New}
-use Rattle.edf_intake.specs.declared.tally.Starts.{Starts}
-use Rattle.edf_intake.specs.declared.tally.Tally.{Tally}
+use Rattle.edf_intake.specs.declared.walk.Step.{Step}
+use Rattle.edf_intake.specs.declared.walk.Step.TheVariants.{Clashes, Known, New}
+use Rattle.edf_intake.specs.declared.walk.Starts.{Starts}
+use Rattle.edf_intake.specs.declared.walk.Tally.{Tally}
 
 abbrev pub starts_of : Option Starts → Option (ℕ × ℕ)
 starts_of None = None

@@ -17,10 +17,10 @@ use Rattle.edf_intake.specs.Refusal.{reply_told}
 use Rattle.edf_intake.specs.Source.{Source, ReadsWhole}
 use Rattle.edf_intake.specs.Inside.Step.{IsTally}
 use Rattle.edf_intake.specs.Inside.Taken.{IsConflict, IsTaken, IsStop}
-use Rattle.edf_intake.specs.declared.tally.Tally.{Tally}
-use Rattle.edf_intake.specs.declared.refusal.Refusal.{Refusal}
-use Rattle.edf_intake.specs.declared.refusal.Refusal.TheVariants as refusal
-use Rattle.edf_intake.specs.declared.refusal.Stop.TheVariants.{Input}
+use Rattle.edf_intake.specs.declared.walk.Tally.{Tally}
+use Rattle.edf_intake.specs.declared.answer.Refusal.{Refusal}
+use Rattle.edf_intake.specs.declared.answer.Refusal.TheVariants as refusal
+use Rattle.edf_intake.specs.declared.answer.Stop.TheVariants.{Input}
 use Rattle.edf_intake.proofs.Steps.{seen_is_one}
 use Rattle.edf_intake.proofs.Conflicts.{counts_all, accepted_here, left_here}
 

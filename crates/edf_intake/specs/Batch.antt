@@ -11,7 +11,7 @@ use Rattle.edf_rows.specs.Rows.{AreKept}
 use Rattle.edf_store.specs.Held.{Kept, at, Holds}
 use Rattle.edf_intake.specs.Refusal.{Answer, reply_told, IsStopped}
 use Rattle.edf_intake.specs.Submitted.{IsRefusal}
-use Rattle.edf_intake.specs.declared.refusal.Refusal.TheVariants as refusal
+use Rattle.edf_intake.specs.declared.answer.Refusal.TheVariants as refusal
 use Rattle.edf_intake.specs.Source.{Source, Hears, FailsToRead, ReadsFront}
 
 -- one input's turn: how it was found and left, its answer, and what it told, which is nothing where that was E40 to E42

@@ -3,9 +3,9 @@ use Rattle.std.specs.Prelude.{ℕ, Option, Some, None, Result, Ok, Err}
 use Rattle.edf_fragment.specs.Fault.{fragment_fault_number}
 use Rattle.edf_store.specs.Fault.{number}
 use Rattle.edf_holdings.specs.Reply.{Reply, Form, Overlap, Differs, Full, Accepted}
-use Rattle.edf_intake.specs.declared.receipt.Receipt.{Receipt}
-use Rattle.edf_intake.specs.declared.refusal.Refusal.{Refusal}
-use Rattle.edf_intake.specs.declared.refusal.Refusal.TheVariants as refusal
+use Rattle.edf_intake.specs.declared.answer.Receipt.{Receipt}
+use Rattle.edf_intake.specs.declared.answer.Refusal.{Refusal}
+use Rattle.edf_intake.specs.declared.answer.Refusal.TheVariants as refusal
 
 abbrev pub refusal_number : Refusal → ℕ
 refusal_number (refusal.Form fault) = fragment_fault_number fault

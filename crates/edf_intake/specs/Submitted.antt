@@ -15,8 +15,8 @@ use Rattle.edf_store.specs.declared.fault.StoreFault.{StoreFault}
 use Rattle.edf_store.specs.declared.fault.StoreFault.TheVariants as store
 use Rattle.edf_intake.specs.Refusal.{Answer, IsStopped}
 use Rattle.edf_intake.specs.Source.{Source, Hears, ReadsWhole, FailsToRead, ReadsFront}
-use Rattle.edf_intake.specs.declared.receipt.Receipt.{Receipt}
-use Rattle.edf_intake.specs.declared.refusal.Refusal.TheVariants as refusal
+use Rattle.edf_intake.specs.declared.answer.Receipt.{Receipt}
+use Rattle.edf_intake.specs.declared.answer.Refusal.TheVariants as refusal
 
 -- the answer of a store whose connection was found in a transaction: E42 without a cause
 abbrev pub found_busy : Answer

@@ -14,10 +14,8 @@ ghost use Rattle.edf_intake.specs.Refusal.{reply_told};
 ghost use Rattle.edf_intake.specs.Inside.Step.{IsTally};
 ghost use Rattle.edf_intake.specs.Inside.Taken.{IsConflict, IsTaken, IsStop};
 
-use crate::receipt::Receipt;
-use crate::refusal::{Refusal, Stop, refusal_by};
-use crate::tally::{Starts, Tally};
-use crate::walk::{Recording, take_records};
+use crate::answer::{Receipt, Refusal, Stop, refusal_by};
+use crate::walk::{Recording, Starts, Tally, take_records};
 use edf_fragment::{Input, OpenFragment};
 use edf_header::Identity;
 use edf_store::{StoreFault, StoreTx};

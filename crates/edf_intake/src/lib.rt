@@ -8,18 +8,12 @@
 //!   each with laws for a contract.
 #![tactic(auto)]
 
-mod batch;
+mod answer;
 mod fragment;
 pub mod laws;
-mod receipt;
-mod refusal;
-mod step;
 mod submission;
-mod tally;
 mod walk;
 
-pub use batch::submit_all;
+pub use answer::{Receipt, Refusal};
 pub use edf_holdings::{Clash, clash};
-pub use receipt::Receipt;
-pub use refusal::Refusal;
-pub use submission::submit;
+pub use submission::{submit, submit_all};

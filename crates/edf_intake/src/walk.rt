@@ -10,16 +10,59 @@ ghost use Rattle.edf_holdings.specs.Holdings.{Holdings, put};
 ghost use Rattle.edf_store.specs.Fault.{IsStoreRefusal};
 ghost use Rattle.edf_store.specs.Held.{at, Stays};
 ghost use Rattle.edf_store.specs.Transaction.{Sees, IsRunning, IsOf, HasNoMore};
-ghost use Rattle.edf_intake.specs.Inside.Step.{IsNext, IsTally};
+ghost use Rattle.edf_intake.specs.Inside.Step.{IsNext, IsTally, IsStep};
 ghost use Rattle.edf_intake.specs.Inside.Halt.{HaltsThere};
 
-use crate::refusal::{Stop, refusal_by};
-use crate::step::{Step, step_of};
-use crate::tally::{Starts, Tally};
+use crate::answer::{Stop, refusal_by};
 use edf_fragment::{Input, OpenFragment, Record};
 use edf_header::Identity;
 use edf_store::{RecordingId, StoreFault, StoreTx};
+use edf_time::Instant;
 use sqlite::Alter;
+
+/// What the stored data records near a data record say of it.
+#[derive(Clone, Copy)]
+pub(crate) enum Step {
+    /// It clashes with the one that starts there, and with none before that.
+    Clashes { stored: Instant },
+    /// It is stored.
+    Known,
+    /// Nothing is near it.
+    New,
+}
+
+/// What the stored data records near one say of it.
+pub(crate) fn step_of(data_record: &Record, near: &[Record]) -> Step
+    ensures { IsStep data_record.now near.now result }
+{
+    for stored in near {
+        if !data_record.same(stored) {
+            return Step::Clashes {
+                stored: stored.start(),
+            };
+        }
+    }
+    if near.is_empty() {
+        Step::New
+    } else {
+        Step::Known
+    }
+}
+
+/// The starts of a data record and of a stored one with which it clashes.
+#[derive(Clone, Copy)]
+pub(crate) struct Starts {
+    pub(crate) start: Instant,
+    pub(crate) stored: Instant,
+}
+
+/// What the data records of a fragment met so far: how many are new and known, up to the first that clashes.
+#[derive(Clone, Copy)]
+pub(crate) struct Tally {
+    pub(crate) new: u32,
+    pub(crate) known: u32,
+    pub(crate) clash: Option<Starts>,
+}
 
 /// A recording in a transaction, which begins with so many data records and may take so many more.
 #[derive(Clone, Copy)]

@@ -13,7 +13,6 @@ mod fault;
 mod help;
 mod matches;
 mod order;
-mod place;
 
 pub use command_line::parse;
 pub use fault::CommandFault;

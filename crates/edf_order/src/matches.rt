@@ -5,8 +5,7 @@ ghost use Rattle.clap.specs.Words.{all_of, first_of, found_of, rows_of, subcomma
 ghost use Rattle.edf_order.specs.Matches.{asked_in, found_by};
 ghost use Rattle.edf_order.specs.Order.{meaning};
 
-use crate::order::Order;
-use crate::place::read_place;
+use crate::order::{Order, read_place};
 use clap::ArgMatches;
 use std::alloc::{AllocError, Global};
 

@@ -14,13 +14,11 @@ mod ending;
 mod fault;
 pub mod laws;
 mod listing;
-mod open;
 mod reading;
 mod ready;
 mod records;
 mod store;
 mod transaction;
-mod walk;
 
 pub use fault::StoreFault;
 pub use listing::Summary;

@@ -13,7 +13,6 @@
 
 mod create;
 mod list;
-mod query;
 mod records;
 mod row;
 mod transaction;

@@ -8,8 +8,7 @@ ghost use Rattle.sqlite_value.specs.Order.{column};
 ghost use Rattle.edf_tables.specs.Schema.{both_schema};
 ghost use Rattle.edf_tables.specs.Recordings.{AreNamedApart, IsIdIn, by_identity, named, shown_recording};
 
-use crate::query::rows_shown;
-use crate::row::{first_count, first_number, identities_in};
+use crate::row::{first_count, first_number, identities_in, rows_shown};
 use sqlite::{Alter, Connection, Error, Row, params};
 
 /// The id of a recording with this identity.

@@ -10,8 +10,7 @@ ghost use Rattle.edf_tables.specs.Schema.{both_schema};
 ghost use Rattle.edf_tables.specs.Cells.{cells_of};
 ghost use Rattle.edf_tables.specs.Records.{IsReady, records_of, shown_record, starts_after, starts_between};
 
-use crate::query::rows_shown;
-use crate::row::{RecordRow, first_count, first_number, record_rows};
+use crate::row::{RecordRow, first_count, first_number, record_rows, rows_shown};
 use sqlite::{Alter, Connection, Error, params};
 
 /// The records of a recording that start after one instant and before another, by their starts.

@@ -1,12 +1,18 @@
 //! Rows of SQL values as typed values.
 
-ghost use Rattle.std.specs.Prelude.{◌≡◌, ◌∷◌, [], pos, ℕ, List, Some, IfOk, map, slice_get};
+ghost use Rattle.std.specs.Prelude.{◌≡◌, ◌∷◌, [], pos, ℕ, List, Some, IfOk, map, slice_get, OnOk};
 ghost use Rattle.std.specs.Option.{option_map};
 ghost use Rattle.sqlite.specs.declared.types.Value.TheVariants.{Int, Blob};
 ghost use Rattle.sqlite_value.specs.Order.{column};
+ghost use Rattle.sqlite.specs.Held.{state};
+ghost use Rattle.sqlite.specs.Given.{IsPlain};
+ghost use Rattle.sqlite.specs.Listing.{understood};
+ghost use Rattle.sqlite.specs.State.{HasCleanDisk, Survives, KeepsCommit, IsUnchanged, Shown};
+ghost use Rattle.sqlite.specs.Values.{bound};
 ghost use Rattle.edf_tables.specs.Cells.{cells_of, first_three};
 
-use sqlite::{Error, Row};
+use sqlite::types::ValueRef;
+use sqlite::{Alter, Connection, Error, Row};
 
 /// A row of the table `record`, without its recording.
 #[derive(Debug, PartialEq, Eq, Drop)]
@@ -67,4 +73,19 @@ pub(crate) fn first_count(rows: Vec<Row>) -> Result<u64, Error>
         Some(row) => row.get(0),
         None => Err(Error::QueryReturnedNoRows),
     }
+}
+
+/// The rows that a query shows, which changes nothing.
+pub(crate) fn rows_shown<S: Alter>(
+    conn: &mut Connection<S>,
+    sql: &str,
+    params: &[ValueRef<'_>],
+) -> Result<Vec<Row>, Error>
+    requires { HasCleanDisk (state S.Store conn.old) → IsPlain (understood (state S.Store conn.old).now.schema sql.now) }
+    ensures shown { HasCleanDisk (state S.Store conn.new) → IfOk result (λ rows. Shown sql.now (bound params.now) (state S.Store conn.old) (state S.Store conn.new) rows.items) }
+    ensures same { HasCleanDisk (state S.Store conn.new) → OnOk result (IsUnchanged (state S.Store conn.old) (state S.Store conn.new)) }
+    ensures kept { HasCleanDisk (state S.Store conn.new) → KeepsCommit (state S.Store conn.old) (state S.Store conn.new) }
+    ensures survives { Survives (state S.Store conn.old) (state S.Store conn.new) (λ _. ⊥) }
+{
+    conn.query_all(sql, params)
 }

@@ -5,10 +5,10 @@ use Rattle.edf_fragment.specs.Whole.{IsFragmentFault}
 use Rattle.edf_fragment.specs.declared.fault.FragmentFault.{FragmentFault}
 use Rattle.edf_fragment.specs.declared.fault.FragmentFault.TheVariants.{Read as NoRead, Memory as NoMemory}
 use Rattle.edf_intake.specs.Source.{Source, ReadsSome}
-use Rattle.edf_intake.specs.declared.refusal.Refusal.{Refusal}
-use Rattle.edf_intake.specs.declared.refusal.Refusal.TheVariants.{Form, Read, Memory}
-use Rattle.edf_intake.specs.declared.refusal.Stop.{Stop}
-use Rattle.edf_intake.specs.declared.refusal.Stop.TheVariants.{Input, Store}
+use Rattle.edf_intake.specs.declared.answer.Refusal.{Refusal}
+use Rattle.edf_intake.specs.declared.answer.Refusal.TheVariants.{Form, Read, Memory}
+use Rattle.edf_intake.specs.declared.answer.Stop.{Stop}
+use Rattle.edf_intake.specs.declared.answer.Stop.TheVariants.{Input, Store}
 
 -- a failed read and want of memory are told as such, and any other fault as one of form
 abbrev pub refusal_by : FragmentFault → Refusal

@@ -7,10 +7,10 @@ use Rattle.edf_holdings.specs.Clash.{near_of, other_of}
 use Rattle.edf_holdings.specs.Rising.{holds, new_of}
 use Rattle.edf_holdings.specs.Holdings.{Holdings, put}
 use Rattle.edf_holdings.specs.Reply.{first_clash}
-use Rattle.edf_intake.specs.declared.step.Step.{Step}
-use Rattle.edf_intake.specs.declared.step.Step.TheVariants.{Clashes, Known, New}
-use Rattle.edf_intake.specs.declared.tally.Starts.{Starts}
-use Rattle.edf_intake.specs.declared.tally.Tally.{Tally}
+use Rattle.edf_intake.specs.declared.walk.Step.{Step}
+use Rattle.edf_intake.specs.declared.walk.Step.TheVariants.{Clashes, Known, New}
+use Rattle.edf_intake.specs.declared.walk.Starts.{Starts}
+use Rattle.edf_intake.specs.declared.walk.Tally.{Tally}
 
 -- what the stored records near one say of it
 abbrev pub IsStep : DataRecord → List DataRecord → Step → Type 0

@@ -11,11 +11,11 @@ use Rattle.edf_store.specs.Held.{Kept, at}
 use Rattle.edf_store.specs.Fault.{IsStoreRefusal}
 use Rattle.edf_store.specs.Transaction.{Sees}
 use Rattle.edf_intake.specs.Source.{Source, ReadsWhole, ReadsFault, FailsToRead, ReadsSome, LacksMemory}
-use Rattle.edf_intake.specs.declared.receipt.Receipt.{Receipt}
-use Rattle.edf_intake.specs.declared.refusal.Refusal.{Refusal}
-use Rattle.edf_intake.specs.declared.refusal.Refusal.TheVariants as refusal
-use Rattle.edf_intake.specs.declared.refusal.Stop.{Stop}
-use Rattle.edf_intake.specs.declared.refusal.Stop.TheVariants.{Input, Store}
+use Rattle.edf_intake.specs.declared.answer.Receipt.{Receipt}
+use Rattle.edf_intake.specs.declared.answer.Refusal.{Refusal}
+use Rattle.edf_intake.specs.declared.answer.Refusal.TheVariants as refusal
+use Rattle.edf_intake.specs.declared.answer.Stop.{Stop}
+use Rattle.edf_intake.specs.declared.answer.Stop.TheVariants.{Input, Store}
 
 -- E30 to E32
 abbrev pub IsConflict : Refusal → Type 0

@@ -3,7 +3,7 @@ use Rattle.edf_header.specs.Header.{Layout}
 use Rattle.edf_fragment.specs.Fragment.{DataRecord}
 use Rattle.edf_fragment.specs.Reading.{progress_after, GivesRecord}
 use Rattle.edf_fragment.specs.Whole.{HasRead}
-use Rattle.edf_fragment.specs.declared.progress.Progress.{Progress}
+use Rattle.edf_fragment.specs.declared.advance.Progress.{Progress}
 use Rattle.edf_fragment.proofs.Runs.{next_of, reads_more}
 use Rattle.edf_fragment.proofs.whole.read_records.Goals as goal
 

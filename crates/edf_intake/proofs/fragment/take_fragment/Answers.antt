@@ -14,10 +14,10 @@ use Rattle.edf_intake.specs.Refusal.{reply_told}
 use Rattle.edf_intake.specs.Inside.Step.{IsTally}
 use Rattle.edf_intake.specs.Inside.Halt.{HaltsThere}
 use Rattle.edf_intake.specs.Inside.Taken.{IsTaken, IsStop}
-use Rattle.edf_intake.specs.declared.receipt.Receipt.{Receipt}
-use Rattle.edf_intake.specs.declared.refusal.Refusal.{Refusal}
-use Rattle.edf_intake.specs.declared.refusal.Stop.{Stop}
-use Rattle.edf_intake.specs.declared.refusal.Stop.TheVariants.{Input}
+use Rattle.edf_intake.specs.declared.answer.Receipt.{Receipt}
+use Rattle.edf_intake.specs.declared.answer.Refusal.{Refusal}
+use Rattle.edf_intake.specs.declared.answer.Stop.{Stop}
+use Rattle.edf_intake.specs.declared.answer.Stop.TheVariants.{Input}
 use Rattle.edf_intake.proofs.Halting.{stopped_by, reads_header_alone, reads_whole, halted}
 use Rattle.edf_intake.proofs.Wholes.{some_read, put_seen, is_taken, is_refused, still_whole}
 use Rattle.edf_intake.proofs.fragment.take_fragment.Goals as goal

@@ -2,7 +2,7 @@ use Rattle.std.proofs.Common.{List, sym, subst, ◌∙◌, arith}
 use Rattle.edf_fragment.specs.Fragment.{DataRecord}
 use Rattle.edf_store.proofs.ReadyLemmas.{stays_then}
 use Rattle.edf_intake.specs.Inside.Step.{IsStep}
-use Rattle.edf_intake.specs.declared.step.Step.TheVariants.{Clashes, Known, New}
+use Rattle.edf_intake.specs.declared.walk.Step.TheVariants.{Clashes, Known, New}
 use Rattle.edf_intake.proofs.Taking.{none_of, no_more, clash_next, known_next, full_next, added_next, may_take}
 use Rattle.edf_intake.proofs.walk.take_record.Goals as goal
 use Rattle.edf_intake.proofs.walk.take_record.Goals.{then-tally-recording+in_default, else-tally-recording}

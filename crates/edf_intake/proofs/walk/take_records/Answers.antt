@@ -4,7 +4,7 @@ use Rattle.edf_header.specs.Key.{Key}
 use Rattle.edf_header.specs.Header.{Layout, IsLayout}
 use Rattle.edf_fragment.specs.Fragment.{DataRecord}
 use Rattle.edf_fragment.specs.Reading.{IsAnswer, CountsFault, at_first}
-use Rattle.edf_fragment.specs.declared.progress.Progress.{Progress}
+use Rattle.edf_fragment.specs.declared.advance.Progress.{Progress}
 use Rattle.edf_fragment.proofs.Runs.{next_of}
 use Rattle.edf_fragment.proofs.Fragments.{one_more_read, refused_then}
 use Rattle.edf_header.proofs.Cited.{header-has-layout}
@@ -14,7 +14,7 @@ use Rattle.edf_store.specs.Fault.{IsStoreRefusal}
 use Rattle.edf_store.specs.Transaction.{Sees, IsOf}
 use Rattle.edf_store.proofs.ReadyLemmas.{stays_then}
 use Rattle.edf_intake.specs.Inside.Step.{IsNext}
-use Rattle.edf_intake.specs.declared.tally.Tally.{Tally}
+use Rattle.edf_intake.specs.declared.walk.Tally.{Tally}
 use Rattle.edf_intake.proofs.Walking.{Walking}
 use Rattle.edf_intake.proofs.Steps.{at_begin, few_seen, one_turn, at_end}
 use Rattle.edf_intake.proofs.Taking.{no_more}

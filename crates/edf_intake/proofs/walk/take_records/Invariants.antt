@@ -1,5 +1,5 @@
 use Rattle.std.proofs.Common.{◌≡◌, ◌-◌, false}
-use Rattle.edf_fragment.specs.declared.progress.Status.TheVariants.{Reading}
+use Rattle.edf_fragment.specs.declared.advance.Status.TheVariants.{Reading}
 use Rattle.edf_store.specs.Held.{Stays}
 use Rattle.edf_store.specs.Transaction.{IsRunning, IsOf, HasNoMore}
 use Rattle.edf_intake.proofs.Walking.{Walking}

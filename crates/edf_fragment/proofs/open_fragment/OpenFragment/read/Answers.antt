@@ -1,5 +1,5 @@
 use Rattle.std.proofs.Common.{ap, arith}
-use Rattle.edf_fragment.specs.declared.progress.Progress.{Progress}
+use Rattle.edf_fragment.specs.declared.advance.Progress.{Progress}
 use Rattle.edf_fragment.proofs.HeaderParts.{in-header}
 use Rattle.edf_fragment.proofs.open_fragment.OpenFragment.read.Goals as goal
 

@@ -1,0 +1,133 @@
+//! The patient and the recording identification, and their subfields: the parts between runs of spaces.
+
+ghost use Rattle.std.specs.Prelude.{◌≡◌, ◌∷◌, ◌==◌, [], not, MatchOption, ◌↔◌, IsTrue, ◌≤◌, List, ℕ, ℤ, Option, length};
+ghost use Rattle.std.specs.List.{prefix_len};
+ghost use Rattle.edf_field.specs.Number.{front_len};
+ghost use Rattle.edf_field.specs.Text.{subfields, IsPatient, IsSex, IsBirthdate, IsStartdate, IsRecording, IsBehindStartdate};
+
+use edf_time::{Day, id_date};
+
+/// How many spaces stand at the front.
+fn spaces_len(text: &[u8]) -> usize
+    ensures { result ≡ prefix_len (λ b. b == 32) text.now }
+{
+    for (i, b) in text.iter().enumerate() {
+        if *b != b' ' {
+            return i;
+        }
+    }
+    text.len()
+}
+
+/// How many bytes stand before the first space.
+pub(crate) fn front_len(text: &[u8]) -> usize
+    ensures { result ≡ front_len text.now }
+{
+    for (i, b) in text.iter().enumerate() {
+        if *b == b' ' {
+            return i;
+        }
+    }
+    text.len()
+}
+
+/// The first subfield of a text, and what follows it.
+pub fn next_subfield(text: &[u8]) -> Option<(&[u8], &[u8])>
+    ensures { MatchOption result
+        (subfields text.now ≡ [])
+        (λ found. subfields text.now ≡ found.0.now ∷ subfields found.1.now) }
+{
+    let (_, text) = text.split_at(spaces_len(text));
+    if text.is_empty() {
+        return None;
+    }
+    Some(text.split_at(front_len(text)))
+}
+
+/// Whether a subfield is a sex: `F`, `M` or `X`.
+fn is_sex(text: &[u8]) -> bool
+    ensures { IsTrue result ↔ IsSex text.now }
+{
+    matches!(text, [b'F' | b'M' | b'X'])
+}
+
+/// Whether a subfield is a birthdate: a date dd-MMM-yyyy, or `X`.
+fn is_birthdate(text: &[u8]) -> bool
+    ensures { IsTrue result ↔ IsBirthdate text.now }
+{
+    text == b"X".as_slice() || id_date(text).is_some()
+}
+
+/// Whether a text is a patient identification: code, sex, birthdate and name, and maybe more subfields.
+pub fn is_patient(text: &[u8]) -> bool
+    ensures { IsTrue result ↔ IsPatient text.now }
+{
+    let Some((_, rest)) = next_subfield(text) else {
+        return false;
+    };
+    let Some((sex, rest)) = next_subfield(rest) else {
+        return false;
+    };
+    let Some((birthdate, behind)) = next_subfield(rest) else {
+        return false;
+    };
+    next_subfield(behind).is_some() && is_sex(sex) && is_birthdate(birthdate)
+}
+
+/// Whether a text has three subfields or more.
+fn has_three(text: &[u8]) -> bool
+    ensures { IsTrue result ↔ (3 ≤ length (subfields text.now)) }
+{
+    let Some((_, rest)) = next_subfield(text) else {
+        return false;
+    };
+    let Some((_, rest)) = next_subfield(rest) else {
+        return false;
+    };
+    next_subfield(rest).is_some()
+}
+
+/// Whether what follows a Startdate subfield is a space, and has an investigation code, a technician and an equipment code.
+pub fn is_behind_startdate(after: &[u8]) -> bool
+    ensures { IsTrue result ↔ IsBehindStartdate after.now }
+{
+    match after {
+        [b' ', ..] => has_three(after),
+        _ => false,
+    }
+}
+
+/// The Startdate subfield behind `Startdate` and a space: its day, or none where it is `X`; and what follows it.
+fn read_startdate(text: &[u8]) -> Option<(Option<Day>, &[u8])>
+    requires { length text.now ≡ 80 }
+    ensures { MatchOption result
+        ((startdate : Option ℤ) (after : List ℕ) → ¬ IsStartdate text.now startdate after)
+        (λ found. IsStartdate text.now found.0 found.1.now) }
+{
+    if &text[..10] != b"Startdate ".as_slice() {
+        return None;
+    }
+    if text[10] == b'X' {
+        return Some((None, &text[11..]));
+    }
+    let Some(day) = id_date(&text[10..21]) else {
+        return None;
+    };
+    Some((Some(day), &text[21..]))
+}
+
+/// Reads a recording field: the day of its Startdate subfield, or none where that is `X`; and what follows it.
+pub fn read_recording(text: &[u8]) -> Option<(Option<Day>, &[u8])>
+    requires { length text.now ≡ 80 }
+    ensures { MatchOption result
+        ((startdate : Option ℤ) (after : List ℕ) → ¬ IsRecording text.now startdate after)
+        (λ found. IsRecording text.now found.0 found.1.now) }
+{
+    let Some((startdate, after)) = read_startdate(text) else {
+        return None;
+    };
+    if !is_behind_startdate(after) {
+        return None;
+    }
+    Some((startdate, after))
+}

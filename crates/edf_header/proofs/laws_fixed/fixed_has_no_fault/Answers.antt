@@ -1,5 +1,0 @@
-use Rattle.edf_header.proofs.Cited.{fixed-clean}
-use Rattle.edf_header.proofs.laws_fixed.fixed_has_no_fault.Goals as goal
-
-pub returns : goal.returns
-returns c = fixed-clean

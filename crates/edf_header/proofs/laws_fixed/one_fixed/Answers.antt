@@ -1,5 +1,0 @@
-use Rattle.edf_header.proofs.FixedLaws.{one-fixed}
-use Rattle.edf_header.proofs.laws_fixed.one_fixed.Goals as goal
-
-pub returns : goal.returns
-returns c = one-fixed

@@ -1,5 +1,0 @@
-use Rattle.edf_header.proofs.Cited.{is-fixed}
-use Rattle.edf_header.proofs.laws_fixed.spelled_is_fixed.Goals as goal
-
-pub returns : goal.returns
-returns c = is-fixed

@@ -1,0 +1,36 @@
+//! Whether two data records of one recording clash, and how.
+
+ghost use Rattle.std.specs.Prelude.{◌<◌, MatchOption};
+ghost use Rattle.edf_holdings.specs.Clash.{Clash as DoClash};
+ghost use Rattle.edf_holdings.specs.Kind.{IsKind};
+
+use edf_fragment::Record;
+
+/// How two data records of one recording clash.
+#[derive(Clone, Copy, Debug, PartialEq, Eq)]
+pub enum Clash {
+    /// They start at different instants, less than a data record's duration apart.
+    Overlap,
+    /// They start at the same instant, and their samples or annotations differ.
+    Differs,
+}
+
+/// How the data records clash, of which each lasts `duration` nanoseconds.
+///
+/// `None` where they don't: they are the same, or the one starts no earlier than the other ends.
+pub fn clash(a: &Record, b: &Record, duration: u64) -> Option<Clash>
+    requires { 0 < duration }
+    ensures { MatchOption result (¬ DoClash duration a.now b.now) (IsKind duration a.now b.now) }
+{
+    if a.start() == b.start() {
+        if a.same(b) {
+            None
+        } else {
+            Some(Clash::Differs)
+        }
+    } else if a.start().nanos().abs_diff(b.start().nanos()) < duration {
+        Some(Clash::Overlap)
+    } else {
+        None
+    }
+}
