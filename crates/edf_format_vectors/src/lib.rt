@@ -1,5 +1,6 @@
-//! Tests of the crates below data records, by values from the standards' text: times and decimals, headers, identities,
-//! annotations blocks. They stand in a crate of their own, so that none of those crates is proved once more for its tests.
+//! Tests of the crates below data records, by values from the standards' text: times and decimals, texts of fields, headers,
+//! identities, annotations blocks. They stand in a crate of their own, so that none of those crates is proved once more for its
+//! tests.
 #![tactic(auto)]
 
 #[cfg(test)]
@@ -12,5 +13,7 @@ mod headers;
 mod identities;
 #[cfg(test)]
 mod signal_parts;
+#[cfg(test)]
+mod texts;
 #[cfg(test)]
 mod times;

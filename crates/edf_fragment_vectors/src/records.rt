@@ -1,12 +1,15 @@
-//! Data records, made of their parts.
+//! Data records, made of their parts, compared, and whether two of a recording clash.
 
 use edf_fragment::Record;
+use edf_holdings::{Clash, clash};
 use edf_tal::Note;
 use edf_time::Instant;
 use std::alloc::Global;
 
 /// 2002-03-02 23:59:50.
 const START: u64 = 541_727_990_000_000_000;
+
+const SECOND: u64 = 1_000_000_000;
 
 /// Annotations at the start, with this text.
 fn notes(alloc: Global, count: usize, text: &str) -> Option<Vec<Note>> {
@@ -72,5 +75,38 @@ fn records_are_the_same_where_all_their_parts_are(rt: HostRuntime) {
     ] {
         let told = is_same(rt.alloc(), start, byte, text);
         assert_eq!(rt; told, Some(same), "{text}");
+    }
+}
+
+/// How the data record of these parts clashes with one of a second at `START`, and that one with it.
+fn clashes(
+    alloc: Global,
+    start: u64,
+    byte: u8,
+    text: &str,
+) -> Option<(Option<Clash>, Option<Clash>)> {
+    let one = record(alloc, START, 1, "Turn")?;
+    let other = record(alloc, start, byte, text)?;
+    Some((clash(&other, &one, SECOND), clash(&one, &other, SECOND)))
+}
+
+#[test]
+fn records_clash_where_they_share_an_instant_and_are_not_the_same(rt: HostRuntime) {
+    let overlap = Some(Clash::Overlap);
+    let differs = Some(Clash::Differs);
+    for (start, byte, text, want) in [
+        (START, 1u8, "Turn", None),
+        (START, 2, "Turn", differs),
+        (START, 1, "Snore", differs),
+        (START + 1, 1, "Turn", overlap),
+        (START + SECOND - 1, 1, "Turn", overlap),
+        (START + SECOND, 1, "Turn", None),
+        (START - 1, 2, "Turn", overlap),
+        (START - SECOND + 1, 1, "Snore", overlap),
+        (START - SECOND, 1, "Snore", None),
+        (START + 3_600 * SECOND, 2, "Snore", None),
+    ] {
+        let told = clashes(rt.alloc(), start, byte, text);
+        assert_eq!(rt; told, Some((want, want)), "at {start}");
     }
 }

@@ -2,8 +2,8 @@
 use Rattle.std.specs.Prelude.{◌≡◌, ◌≢◌, ℕ}
 use Rattle.edf_fragment.specs.Fragment.{DataRecord}
 use Rattle.edf_holdings.specs.Clash.{Clash}
-use Rattle.edf_holdings.specs.declared.clash.Clash.{Clash as ClashKind}
-use Rattle.edf_holdings.specs.declared.clash.Clash.TheVariants.{Overlap, Differs}
+use Rattle.edf_holdings.specs.declared.kind.Clash.{Clash as ClashKind}
+use Rattle.edf_holdings.specs.declared.kind.Clash.TheVariants.{Overlap, Differs}
 
 -- they clash, from different starts or from the same
 abbrev pub IsKind : ℕ → DataRecord → DataRecord → ClashKind → Type 0

@@ -10,8 +10,10 @@
 //! The functions of [`laws`] and [`meaning`] do nothing: each has laws for a contract.
 #![tactic(auto)]
 
-mod clash;
+mod intervals;
+mod kind;
 pub mod laws;
 pub mod meaning;
 
-pub use clash::{Clash, clash};
+pub use intervals::clash;
+pub use kind::Clash;

@@ -1,19 +1,9 @@
-//! Whether two data records of one recording clash, and how.
-
 ghost use Rattle.std.specs.Prelude.{◌<◌, MatchOption};
 ghost use Rattle.edf_holdings.specs.Clash.{Clash as DoClash};
 ghost use Rattle.edf_holdings.specs.Kind.{IsKind};
 
+use crate::kind::Clash;
 use edf_fragment::Record;
-
-/// How two data records of one recording clash.
-#[derive(Clone, Copy, Debug, PartialEq, Eq)]
-pub enum Clash {
-    /// They start at different instants, less than a data record's duration apart.
-    Overlap,
-    /// They start at the same instant, and their samples or annotations differ.
-    Differs,
-}
 
 /// How the data records clash, of which each lasts `duration` nanoseconds.
 ///
