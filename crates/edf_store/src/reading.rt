@@ -14,7 +14,7 @@ use crate::store::Store;
 use edf_fragment::Record;
 use edf_tables::{count_rows, near_rows};
 use edf_time::Instant;
-use sqlite::Alter;
+use sqlite::{Alter, Error};
 
 pub(crate) fn records_near<S: Alter>(
     store: &mut Store<S>,
@@ -51,13 +51,14 @@ pub(crate) fn count_records<S: Alter>(store: &mut Store<S>, id: i64) -> Result<u
     ensures same { IfOk result (λ _. SeesAsBefore S.Store store.old store.new) }
     ensures only { IfOk result (λ _. HasNoMore S.Store store.old store.new) }
     ensures told { IfErr result IsStoreRefusal }
+    ensures caused { IfErr result (λ e. e ≢ StoreFault.Store None) }
 {
     let count = match count_rows(&mut store.conn, id) {
         Ok(count) => count,
         Err(error) => return Err(fault_of(error)),
     };
     let Ok(count) = u32::try_from(count) else {
-        return Err(StoreFault::Store(None));
+        return Err(fault_of(Error::IntegralValueOutOfRange(0)));
     };
     Ok(count)
 }

@@ -111,6 +111,7 @@ impl<S: Alter> StoreTx<'_, S> {
         ensures same { IfOk result (λ _. SeesAsBefore S.Store self.old.store.now self.new.store.now) }
         ensures only { IfOk result (λ _. HasNoMore S.Store self.old.store.now self.new.store.now) }
         ensures told { IfErr result IsStoreRefusal }
+        ensures caused { IfErr result (λ e. e ≢ StoreFault.Store None) }
     {
         match count_records(self.store, id.row) {
             Ok(count) => Ok(count),
