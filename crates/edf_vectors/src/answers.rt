@@ -1,6 +1,7 @@
 //! Receipts, refusals and what is held after them, by value.
 
 use crate::files::undated_identity;
+use crate::intake::{Answer, counts};
 use crate::shelf::{Shelved, file_named};
 use crate::stage::{CAP, empty_store};
 use edf_command::refusal_text;
@@ -30,21 +31,8 @@ fn answers(
     submit_all(alloc, store, inputs.as_mut_slice()).ok()
 }
 
-/// What is known of an answer beside the identity: the new and the known data records, or the refusal.
-fn counts(answer: &Result<Receipt, Refusal>) -> Result<(u32, u32), Refusal> {
-    match answer {
-        Ok(receipt) => Ok((receipt.new, receipt.known)),
-        Err(refusal) => Err(*refusal),
-    }
-}
-
 /// Whether files are answered so by a store of this cap, all in one list.
-fn are_answered(
-    alloc: Global,
-    cap: u32,
-    names: &str,
-    want: &[Result<(u32, u32), Refusal>],
-) -> Option<bool> {
+fn are_answered(alloc: Global, cap: u32, names: &str, want: &[Answer]) -> Option<bool> {
     let mut store = empty_store(alloc, cap)?;
     let answers = answers(alloc, &mut store, names)?;
     let mut same = answers.len() == want.len();
@@ -55,7 +43,7 @@ fn are_answered(
 }
 
 /// What a recording with a cap of two has to answer to a third data record.
-const FULL: Result<(u32, u32), Refusal> = Err(Refusal::Full {
+const FULL: Answer = Err(Refusal::Full {
     held: 2,
     new: 1,
     cap: 2,

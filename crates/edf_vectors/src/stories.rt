@@ -34,6 +34,15 @@ fn files_that_fit_are_accepted_with_what_they_add(rt: HostRuntime) {
                 n3.edf accepted new=0 known=1\n\
                 status 0\n",
         ),
+    ] {
+        let got = story(rt.alloc(), CAP, line);
+        assert_eq!(rt; got.as_deref(), Some(want), "{line}");
+    }
+}
+
+#[test]
+fn files_of_several_recordings_and_of_many_records_are_accepted(rt: HostRuntime) {
+    for (line, want) in [
         (
             "take night.db q_and_p5.edf undated.edf last.edf u.edf",
             "q_and_p5.edf accepted new=2 known=0\n\

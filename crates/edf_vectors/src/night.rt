@@ -1,8 +1,33 @@
-//! Nights of data records of one second, and their files.
+//! Nights of data records of one second, made as if by chance, and their files.
 
-use crate::chance::Chance;
+ghost use Rattle.std.specs.Prelude.{◌<◌};
+
 use edf_sample::{file, q};
 use std::alloc::{AllocError, Global};
+
+/// Numbers as if by chance, the same in each run: a linear congruential generator.
+#[derive(Drop)]
+pub(crate) struct Chance {
+    state: u32,
+}
+
+impl Chance {
+    pub(crate) fn new(seed: u32) -> Chance {
+        Chance { state: seed }
+    }
+
+    /// A number below `count`.
+    pub(crate) fn below(&mut self, count: usize) -> usize
+        requires { 0 < count }
+        ensures { result < count }
+    {
+        self.state = self
+            .state
+            .wrapping_mul(1_664_525)
+            .wrapping_add(1_013_904_223);
+        (self.state >> 16) as usize % count
+    }
+}
 
 /// A data record of one second: when it starts, in half seconds behind 2002-03-02 23:59:40, its samples, and whether it has an
 /// annotation, which stands a second before it starts.

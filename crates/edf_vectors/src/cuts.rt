@@ -1,7 +1,6 @@
 //! A night, cut into six fragments at places as if by chance.
 
-use crate::chance::Chance;
-use crate::night::{Second, file_of};
+use crate::night::{Chance, Second, file_of};
 use std::alloc::Global;
 
 /// How many data records each of six fragments has of its own, one at least.

@@ -1,9 +1,9 @@
 //! Nights, cut and sent as if by chance, end as the whole night.
 
-use crate::chance::Chance;
 use crate::cuts::{fragments, shuffled};
-use crate::intake::{added, empty, exported, picked, take};
-use crate::night::{Second, file_of, night, turn};
+use crate::intake::{added, exported, picked, take};
+use crate::night::{Chance, Second, file_of, night, turn};
+use crate::stage::empty_store;
 use std::alloc::Global;
 
 /// Whether the fragments of these data records, each sent once or more, are all accepted, add as many and leave this file.
@@ -11,7 +11,7 @@ fn end_as(alloc: Global, chance: &mut Chance, records: &[Second], file: &[u8]) -
     let files = fragments(alloc, chance, records)?;
     let order = shuffled(alloc, chance)?;
     let list = picked(alloc, files.as_slice(), order.as_slice())?;
-    let mut store = empty(alloc, 20)?;
+    let mut store = empty_store(alloc, 20)?;
     let answers = take(alloc, &mut store, list.as_slice())?;
     let count = added(answers.as_slice())? as usize;
     let held = exported(alloc, &mut store)?;

@@ -1,28 +1,17 @@
 //! Files taken into a store, and what the store holds then.
 
+use crate::stage::empty_store;
 use edf_export::export;
 use edf_fragment::Counted;
 use edf_intake::{Receipt, Refusal, submit_all};
 use edf_sample::{Sink, Source};
 use edf_store::Store;
 use edf_time::Instant;
-use sqlite::{Connection, MemStore};
+use sqlite::MemStore;
 use std::alloc::Global;
-
-/// The most data records that a recording may have.
-pub(crate) const MOST: u32 = 99_999_999;
 
 /// How many data records of a file were added and were there; or why it was refused.
 pub(crate) type Answer = Result<(u32, u32), Refusal>;
-
-/// A store in memory that holds nothing. There is none where no recording may have so many data records.
-pub(crate) fn empty(alloc: Global, cap: u32) -> Option<Store<MemStore>> {
-    if cap == 0 || cap > MOST {
-        return None;
-    }
-    let conn = Connection::open_in_memory(alloc).ok()?;
-    Store::open(alloc, conn, cap).ok()
-}
 
 /// The files that stand at these places of a list.
 pub(crate) fn picked<'a>(
@@ -46,7 +35,8 @@ fn readers<'a>(alloc: Global, files: &[&'a [u8]]) -> Option<Vec<Counted<Source<'
     Some(list)
 }
 
-fn answer_of(answer: &Result<Receipt, Refusal>) -> Answer {
+/// What is known of an answer beside the identity.
+pub(crate) fn counts(answer: &Result<Receipt, Refusal>) -> Answer {
     match answer {
         Ok(receipt) => Ok((receipt.new, receipt.known)),
         Err(refusal) => Err(*refusal),
@@ -63,7 +53,7 @@ pub(crate) fn take(
     let answers = submit_all(alloc, store, inputs.as_mut_slice()).ok()?;
     let mut list = Vec::new(alloc);
     for answer in answers.as_slice() {
-        list.push(answer_of(answer)).ok()?;
+        list.push(counts(answer)).ok()?;
     }
     Some(list)
 }
@@ -100,7 +90,7 @@ pub(crate) fn leave(
     answers: &[Answer],
     file: &[u8],
 ) -> Option<bool> {
-    let mut store = empty(alloc, cap)?;
+    let mut store = empty_store(alloc, cap)?;
     let told = take(alloc, &mut store, files)?;
     let held = exported(alloc, &mut store)?;
     Some(told.as_slice() == answers && held.as_slice() == file)

@@ -1,9 +1,9 @@
 //! Lists that break off and are sent again from their front.
 
-use crate::chance::Chance;
 use crate::cuts::{fragments, shuffled};
-use crate::intake::{added, empty, exported, picked, take};
-use crate::night::{file_of, night};
+use crate::intake::{added, exported, picked, take};
+use crate::night::{Chance, file_of, night};
+use crate::stage::empty_store;
 use std::alloc::Global;
 
 /// The first half of a file's bytes, and none of no file.
@@ -16,7 +16,7 @@ fn half<'a>(bytes: Option<&&'a [u8]>) -> Option<&'a [u8]> {
 
 /// Whether files of `canonical` are accepted but for one that breaks off behind so many of them, and then all of them again.
 fn ends_alike(alloc: Global, files: &[&[u8]], sent: usize, canonical: &[u8]) -> Option<bool> {
-    let mut store = empty(alloc, 20)?;
+    let mut store = empty_store(alloc, 20)?;
     let front = take(alloc, &mut store, files.get(..sent)?)?;
     let cut = take(alloc, &mut store, &[half(files.get(sent))?])?;
     let all = take(alloc, &mut store, files)?;
