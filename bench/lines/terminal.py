@@ -20,6 +20,7 @@ from checks import Checks  # noqa: E402
 Q = edf.small_files()["Q"]
 MADE = "no such file; made a new, empty store\n"
 WIPED = "\r" + 60 * " " + "\r"
+NONE = "no such file or directory"
 STORE = "store refused E42 Store\n"
 
 
@@ -33,12 +34,14 @@ def told(terminal: int) -> bytes:
             return b"".join(pieces)
 
 
-def on_terminal(checks: Checks, words: str, out="", err="", status: int = 0) -> None:
-    """Runs words that have no spaces with a terminal for standard error."""
+def on_terminal(checks: Checks, words: str, out="", err="", status: int = 0, given: Path = Path(os.devnull)) -> None:
+    """Runs words that have no spaces with a terminal for standard error, and this file or folder for standard input."""
     terminal, inside = pty.openpty()
     tty.setraw(inside)
-    ran = subprocess.run([checks.program, *words.split(" ")], stdin=subprocess.DEVNULL, stdout=subprocess.PIPE, stderr=inside,
+    source = os.open(given, os.O_RDONLY)
+    ran = subprocess.run([checks.program, *words.split(" ")], stdin=source, stdout=subprocess.PIPE, stderr=inside,
                          cwd=checks.folder, check=False)
+    os.close(source)
     os.close(inside)
     ran.stderr = told(terminal)
     os.close(terminal)
@@ -71,14 +74,14 @@ def how_far(checks: Checks) -> None:
     steps = [(1, 0), (2, 0), (2, 1), (2, 2), (3, 2)]
     on_terminal(checks, "take s.db a.edf large.edf none.edf",
                 "a.edf accepted new=0 known=1\nlarge.edf accepted new=12 known=0\nnone.edf refused E40 Read\n",
-                "".join(f"\rfile {n} of 3, {megabytes} MB read" for n, megabytes in steps) + WIPED, status=3)
+                "".join(f"\rfile {n} of 3, {megabytes} MB read" for n, megabytes in steps) + WIPED + f"none.edf: {NONE}\n", status=3)
 
 
 def causes(checks: Checks) -> None:
     begun(checks, "why a store is refused")
     (checks.folder / "folder").mkdir()
     no_file = "not a plain file, but a directory, a device or a linked file"
-    for path, cause in (("none/s.db", "no such file or directory"), ("a.edf/s.db", "a directory of its path is a file"),
+    for path, cause in (("none/s.db", NONE), ("a.edf/s.db", "a directory of its path is a file"),
                         ("folder", no_file), ("/dev/full", no_file), ("a.edf", "not a database, or none that can be read here"),
                         ("file:s.db", "a path that begins with 'file:' is written './file:'")):
         on_terminal(checks, f"list {path}", err=f"{STORE}{path}: {cause}\n", status=3)
@@ -101,12 +104,33 @@ def causes(checks: Checks) -> None:
         other.wait()
 
 
+def unread_files(checks: Checks) -> None:
+    begun(checks, "why a file can't be read")
+    (checks.folder / "folder").mkdir()
+    causes = [("none.edf", NONE), ("none/a.edf", NONE), ("", NONE), ("a.edf/b.edf", "a directory of its path is a file"),
+              ("folder", "a directory")]
+    if os.geteuid() != 0:
+        checks.file("secret.edf", Q)
+        (checks.folder / "secret.edf").chmod(0)
+        causes.append(("secret.edf", "no leave to read it"))
+    for path, cause in causes:
+        on_terminal(checks, f"convert {path}", err=f"{path}: {cause}\n{path} refused E40 Read\n", status=3)
+        on_terminal(checks, f"take s.db {path} a.edf", f"{path} refused E40 Read\na.edf accepted new=0 known=1\n",
+                    f"\rfile 1 of 2, 0 MB read{WIPED}{path}: {cause}\n\rfile 2 of 2, 0 MB read{WIPED}", status=3)
+        checks.run("convert", path, err=f"{path} refused E40 Read\n", status=3)
+    on_terminal(checks, "take s.db -", "- refused E40 Read\n", f"\rfile 1 of 1, 0 MB read{WIPED}-: a directory\n", status=3,
+                given=checks.folder)
+    on_terminal(checks, "convert -", err="-: a directory\n- refused E40 Read\n", status=3, given=checks.folder)
+    checks.file("cut.edf", Q[:100])
+    on_terminal(checks, "convert cut.edf", err="cut.edf refused E1 Cut\n", status=1)
+
+
 def main() -> None:
     program, _ = measure.program(sys.argv[1:])
     measure.need("bash", "sqlite3")
     with measure.scratch() as name:
         checks = Checks(program, Path(name))
-        for case in (new_stores, how_far, causes):
+        for case in (new_stores, how_far, causes, unread_files):
             case(checks)
     checks.end()
 

@@ -1,4 +1,4 @@
-//! Why a store was refused, in plain words for a person.
+//! Why a store was refused, or a file could not be read, in plain words for a person.
 
 use crate::disk::Refused;
 use crate::terminal::Terminal;
@@ -34,6 +34,23 @@ fn tell_system_error(terminal: &Terminal<'_>, path: &str, error: io::Error) {
     match system_words(&error) {
         Some(words) => terminal.say(path, words),
         None => terminal.say(path, error),
+    }
+}
+
+/// What the system answered to one who only reads, if its own words would not do.
+fn reading_words(error: &io::Error) -> Option<&'static str> {
+    match error.kind() {
+        ErrorKind::PermissionDenied => Some("no leave to read it"),
+        ErrorKind::IsADirectory => Some("a directory"),
+        _ => system_words(error),
+    }
+}
+
+/// Tells why a file of this name, or standard input, could not be read.
+pub(crate) fn tell_unread(terminal: &Terminal<'_>, name: &str, error: &io::Error) {
+    match reading_words(error) {
+        Some(words) => terminal.say(name, words),
+        None => terminal.say(name, error),
     }
 }
 

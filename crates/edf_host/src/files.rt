@@ -3,7 +3,8 @@
 ghost use Rattle.std.specs.Io.{ReadsAtMost};
 ghost use Rattle.std.specs.Prelude.{None};
 
-use crate::meter::Meter;
+use crate::cause::tell_unread;
+use crate::terminal::Terminal;
 use edf_command::Inputs;
 use edf_fragment::Counted;
 use std::alloc::{AllocError, Global};
@@ -21,32 +22,37 @@ const STREAM_PIECE: usize = 65_536;
 #[derive(Drop)]
 pub struct Files<'rt> {
     rt: &'rt HostRuntime,
-    meter: &'rt Meter<'rt>,
+    terminal: &'rt Terminal<'rt>,
     stream: Rc<RefCell<BufReader<Stdin>>>,
 }
 
 impl<'rt> Files<'rt> {
-    pub fn new(rt: &'rt HostRuntime, meter: &'rt Meter<'rt>) -> io::Result<Files<'rt>> {
+    pub fn new(rt: &'rt HostRuntime, terminal: &'rt Terminal<'rt>) -> io::Result<Files<'rt>> {
         let stream = BufReader::with_capacity(rt.alloc(), STREAM_PIECE, rt.stdin())?;
         let stream = Rc::new(rt.alloc(), RefCell::new(stream))?;
-        Ok(Files { rt, meter, stream })
+        Ok(Files {
+            rt,
+            terminal,
+            stream,
+        })
     }
 }
 
 /// Where a reader reads from. A file is opened at its first read, and closed at its end.
 #[derive(Drop)]
 enum Place {
-    Path(String),
+    Closed,
     Open(BufReader<File>),
     Stream(Rc<RefCell<BufReader<Stdin>>>),
     Ended,
 }
 
-/// A reader of a file or of standard input, which tells the meter what it reads.
+/// A reader of a file or of standard input, which tells a person how far it is, and why a read failed.
 #[derive(Drop)]
 pub struct Source<'rt> {
     rt: &'rt HostRuntime,
-    meter: &'rt Meter<'rt>,
+    terminal: &'rt Terminal<'rt>,
+    name: String,
     is_begun: bool,
     place: Place,
 }
@@ -56,19 +62,20 @@ impl Source<'_> {
     fn begin(&mut self) -> io::Result<()> {
         if !self.is_begun {
             self.is_begun = true;
-            self.meter.begin_file();
+            self.terminal.begin_file();
         }
-        if let Place::Path(path) = &self.place {
-            let file = File::open(self.rt, path.as_str())?;
+        if let Place::Closed = self.place {
+            let file = File::open(self.rt, self.name.as_str())?;
             self.place = Place::Open(BufReader::with_capacity(self.rt.alloc(), PIECE, file)?);
         }
         Ok(())
     }
 
-    /// Reads from the place as it is.
+    /// Reads from the place, as it is once it was begun.
     fn pull(&mut self, buf: &mut [u8]) -> io::Result<usize>
         ensures { ReadsAtMost result buf.new }
     {
+        self.begin()?;
         match &mut self.place {
             Place::Open(file) => file.read(buf),
             Place::Stream(stream) => match stream.try_borrow_mut() {
@@ -82,13 +89,19 @@ impl Source<'_> {
 
 impl Read for Source<'_> {
     fn read(&mut self, buf: &mut [u8]) -> io::Result<usize> {
-        self.begin()?;
-        let count = self.pull(buf)?;
-        self.meter.add(count);
-        if count == 0 && !buf.is_empty() {
-            self.place = Place::Ended;
+        match self.pull(buf) {
+            Ok(count) => {
+                self.terminal.add_bytes(count);
+                if count == 0 && !buf.is_empty() {
+                    self.place = Place::Ended;
+                }
+                Ok(count)
+            }
+            Err(error) => {
+                tell_unread(self.terminal, self.name.as_str(), &error);
+                Err(error)
+            }
         }
-        Ok(count)
     }
 }
 
@@ -101,11 +114,12 @@ impl<'rt> Inputs for Files<'rt> {
         let place = if name == "-" {
             Place::Stream(self.stream.clone()?)
         } else {
-            Place::Path(String::from_str(alloc, name)?)
+            Place::Closed
         };
         Ok(Counted::new(Source {
             rt: self.rt,
-            meter: self.meter,
+            terminal: self.terminal,
+            name: String::from_str(alloc, name)?,
             is_begun: false,
             place,
         }))

@@ -6,7 +6,6 @@
 mod cause;
 mod disk;
 mod files;
-mod meter;
 mod terminal;
 
 use cause::{tell_error, tell_refused};
@@ -14,11 +13,10 @@ use disk::{close_file, is_missing, open_file, open_memory};
 use edf_command::{Order, Status, read_order, refuse_store, run, store_path};
 use edf_fragment::Counted;
 use files::Files;
-use meter::{Clearing, Meter};
 use std::io::{Stderr, Stdout};
 use std::process::ExitCode;
 use std::{env, io};
-use terminal::Terminal;
+use terminal::{Clearing, Terminal};
 
 /// The words after the program's name.
 fn words(rt: &HostRuntime) -> io::Result<Vec<String>> {
@@ -28,9 +26,9 @@ fn words(rt: &HostRuntime) -> io::Result<Vec<String>> {
 
 /// Standard output and standard error.
 #[derive(Drop)]
-struct Streams<'m> {
-    out: Counted<Clearing<'m, Stdout>>,
-    err: Counted<Clearing<'m, Stderr>>,
+struct Streams<'t> {
+    out: Counted<Clearing<'t, Stdout>>,
+    err: Counted<Clearing<'t, Stderr>>,
 }
 
 /// The order that the program's words ask for, or the status where there is none.
@@ -41,11 +39,11 @@ fn order_of_words(rt: &HostRuntime) -> io::Result<Result<Order, Status>> {
     Ok(read_order(rt.alloc(), words.as_slice(), &mut out, &mut err))
 }
 
-/// The meter of an order: `take` tells how far it is, where a person sees it.
-fn meter_of<'rt>(rt: &'rt HostRuntime, terminal: &Terminal<'rt>, order: &Order) -> Meter<'rt> {
+/// The terminal of an order: a person is told how far `take` is.
+fn terminal_of<'rt>(rt: &'rt HostRuntime, order: &Order) -> Terminal<'rt> {
     match order {
-        Order::Take { store: _, files } if terminal.is_there() => Meter::new(rt, files.len()),
-        _ => Meter::new(rt, 0),
+        Order::Take { store: _, files } => Terminal::new(rt, files.len()),
+        _ => Terminal::new(rt, 0),
     }
 }
 
@@ -113,18 +111,17 @@ fn run_in_memory(
 
 /// What the order asks for, done over the system's files and streams.
 fn run_order(rt: &HostRuntime, order: &Order) -> io::Result<Status> {
-    let terminal = Terminal::new(rt);
-    let meter = meter_of(rt, &terminal, order);
+    let terminal = terminal_of(rt, order);
     let mut streams = Streams {
-        out: Counted::new(Clearing::new(&meter, rt.stdout())),
-        err: Counted::new(Clearing::new(&meter, rt.stderr())),
+        out: Counted::new(Clearing::new(&terminal, rt.stdout())),
+        err: Counted::new(Clearing::new(&terminal, rt.stderr())),
     };
-    let mut inputs = Files::new(rt, &meter)?;
+    let mut inputs = Files::new(rt, &terminal)?;
     let status = match store_path(order) {
         Some(path) => run_on_file(rt, &terminal, path, order, &mut inputs, &mut streams),
         None => run_in_memory(rt, order, &mut inputs, &mut streams),
     };
-    meter.wipe();
+    terminal.wipe_progress();
     Ok(status)
 }
 
