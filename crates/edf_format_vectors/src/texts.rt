@@ -4,7 +4,7 @@ use edf_field::{
     are_spaces, is_behind_startdate, is_patient, next_subfield, physical_values_differ,
     read_duration, read_recording, read_signed, read_whole,
 };
-use edf_time::id_date;
+use edf_time::{Day, Instant};
 
 #[test]
 fn whole_numbers_are_read_or_refused(rt: HostRuntime) {
@@ -130,26 +130,30 @@ fn a_patient_identification_has_code_sex_birthdate_and_name(rt: HostRuntime) {
     }
 }
 
+/// The day of an instant, which is told in nanoseconds.
+fn day_at(nanos: u64) -> Option<Day> {
+    Some(Instant::at(nanos)?.day())
+}
+
 /// Whether a recording identification has this startdate, or none where that is `X`, and this behind it.
-fn is_recorded(text: &[u8; 80], startdate: Option<&[u8]>, behind: &[u8]) -> Option<bool> {
-    let (day, after) = read_recording(text)?;
-    let same = match startdate {
-        Some(date) => day.is_some() && day == id_date(date),
-        None => day.is_none(),
-    };
-    Some(same && after == behind)
+fn is_recorded(text: &[u8; 80], startdate: Option<Day>, behind: &[u8]) -> bool {
+    match read_recording(text) {
+        Some((day, after)) => day == startdate && after == behind,
+        None => false,
+    }
 }
 
 #[test]
 fn a_recording_identification_has_a_startdate_and_three_codes(rt: HostRuntime) {
     let dated = b"Startdate 02-MAR-2002 EMG561 BK/JOP Sony. MNC R Median Nerve.                   ";
     let code = b" EMG561 BK/JOP Sony. MNC R Median Nerve.                   ";
-    let date = b"02-MAR-2002".as_slice();
-    assert_eq!(rt; is_recorded(dated, Some(date), code), Some(true));
+    let startdate = day_at(541_641_600_000_000_000);
+    assert!(rt; startdate.is_some());
+    assert!(rt; is_recorded(dated, startdate, code));
     let undated =
         b"Startdate X X X X                                                               ";
     let codes = b" X X X                                                               ";
-    assert_eq!(rt; is_recorded(undated, None, codes), Some(true));
+    assert!(rt; is_recorded(undated, None, codes));
     for text in [
         b"Startdate 02-MAR-2002 EMG561 BK/JOP                                             ",
         b"Startdate 30-FEB-2002 EMG561 BK/JOP Sony.                                       ",
