@@ -1,4 +1,4 @@
-//! The program `edfstore`, run: a night's files, of which one overlaps and one is missing.
+//! The program `edfstore`, run: a night's files, of which one overlaps and one is missing, one of a pipe, and the card that has them all.
 #![tactic(auto)]
 
 use edf_host::run_program;

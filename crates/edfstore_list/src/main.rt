@@ -1,4 +1,4 @@
-//! The program `edfstore`, run: a file that is cut is refused, and nothing is written.
+//! The program `edfstore`, run: the recordings of a store that lies there, in the order of their identities.
 #![tactic(auto)]
 
 use edf_host::run_program;

@@ -1,4 +1,4 @@
-//! The program `edfstore`, run: a file from a pipe, in canonical form.
+//! The program `edfstore`, run: the second recording of a store that lies there, as its canonical file.
 #![tactic(auto)]
 
 use edf_host::run_program;
