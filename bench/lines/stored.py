@@ -4,7 +4,8 @@
     bench/lines/stored.py [--program PATH] [--write]       --write: writes stdin, stdout and data/ of the five crates
 
 What goes in is built field by field; what must come out is written below by hand, and compared with the plain model. Of the
-program's own making is only the store that `list` and `export` are given, and of that each row is compared with the model.
+program's own making is only the store that `list` and `export` are given: the identity, start and samples of each row of it are
+compared with the model. It needs no SQLite but Python's.
 """
 import shutil
 import sqlite3
@@ -106,32 +107,29 @@ def by_model() -> None:
 
 
 def rows(path: Path, folder: Path) -> list:
-    """Every row of a store's file, of which a copy is opened."""
+    """The identity, start and samples of every row of a store's file, of which a copy is opened."""
     copy = folder / "copy.db"
     measure.remove_store(copy)
     shutil.copy(path, copy)
     with sqlite3.connect(copy) as held:
-        return list(held.execute("SELECT identity, start, samples, block FROM record JOIN recording ON recording.id = recording "
+        return list(held.execute("SELECT identity, start, samples FROM record JOIN recording ON recording.id = recording "
                                  "ORDER BY identity, start"))
 
 
 def rows_by_model() -> list:
-    """The identity and start and samples of each data record that is held."""
+    """The same of each data record that is to be held."""
     held = model.Store()
     for data in HELD:
         held.take(data)
     return [(key.to_bytes(), record.start, record.samples) for key in held.keys() for record in held.held[key][1]]
 
 
-def differing(files: dict, folder: Path) -> list:
-    """The stored files that are others than these; of a store its rows are compared, by identity, start and samples."""
-    found = []
-    for path, wanted in files.items():
-        at = CRATES / path
-        if not at.exists() or path.endswith(".db") and [row[:3] for row in rows(at, folder)] != rows_by_model() or \
-                not path.endswith(".db") and at.read_bytes() != wanted:
-            found.append(path)
-    return found
+def is_stored(path: str, wanted: bytes, folder: Path) -> bool:
+    """Whether a stored file is this one; of a store its rows are compared."""
+    at = CRATES / path
+    if not at.exists():
+        return False
+    return rows(at, folder) == rows_by_model() if path.endswith(".db") else at.read_bytes() == wanted
 
 
 def run(program: Path, crate: Path, folder: Path) -> bool:
@@ -159,7 +157,7 @@ def main() -> None:
             for path, data in files.items():
                 (CRATES / path).parent.mkdir(parents=True, exist_ok=True)
                 (CRATES / path).write_bytes(data)
-        others = differing(files, folder)
+        others = [path for path, wanted in files.items() if not is_stored(path, wanted, folder)]
         for path in others:
             print(f"{path} is not what is made here")
         ran = [run(program, crate, folder) for crate in sorted(CRATES.glob("edfstore*"))]
