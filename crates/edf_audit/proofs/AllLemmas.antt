@@ -26,13 +26,13 @@ use Rattle.edf_audit.proofs.CountLemmas.{IsUpTo, counted_push, up_push}
 use Rattle.edf_audit.proofs.ApartLemmas.{other_ids, other_identities}
 
 pub rows_same : (a : State) → KeepsRows a a
-rows_same a = record { now_is = refl; commit = same_keeps a; stays = λ h. h }
+rows_same a = record { now_is = refl; commit = same_keeps a; mode = refl; stays = λ h. h }
 
 pub rows_left : (a b : State) → IsUnchanged a b → KeepsRows a b
-rows_left a b h = record { now_is = h.0.now_is; commit = same_left a b h; stays = λ _. h.0.is_open }
+rows_left a b h = record { now_is = h.0.now_is; commit = same_left a b h; mode = h.0.mode; stays = λ _. h.0.is_open }
 
 pub rows_then : (a b c : State) → KeepsRows a b → KeepsRows b c → KeepsRows a c
-rows_then a b c p q = record { now_is = q.now_is ∙ p.now_is; commit = keeps_then a b c p.commit q.commit; stays = λ h. q.stays (p.stays h) }
+rows_then a b c p q = record { now_is = q.now_is ∙ p.now_is; commit = keeps_then a b c p.commit q.commit; mode = q.mode ∙ p.mode; stays = λ h. q.stays (p.stays h) }
 
 -- ---- the records that are owned
 pub any_here : (rows : List Row) (g r : Row) → Contains rows g → owns g r ≡ true → list_any (λ g. owns g r) rows ≡ true

@@ -24,7 +24,7 @@ use Rattle.edf_audit.specs.Walk.{Tells}
 use Rattle.edf_audit.specs.Kept.{KeepsRows, Checks}
 
 pub kept_if : {X E : Type 0} (r : Result X E) (a b : State) → OnOk r (IsUnchanged a b) → OnOk r (KeepsRows a b)
-kept_if (Ok x) a b h = record { now_is = h.0.now_is; commit = same_left a b h; stays = λ _. h.0.is_open }
+kept_if (Ok x) a b h = record { now_is = h.0.now_is; commit = same_left a b h; mode = h.0.mode; stays = λ _. h.0.is_open }
 kept_if (Err e) a b h = tt
 
 all_any : (xs : List Row) → AllByRecursion (λ (x : Row). Unit {0}) xs

@@ -75,7 +75,7 @@ were_own cap old new h (from_both both same) kept (foreign_rows was foreign) = n
 were_own cap old new h (from_both both same) kept (only_recordings was some) = one_not_both (sym was ∙ both)
 
 -- the answer about the tables is one about the file
-pub audited : (cap : ℕ) (old new : State) (r : Result Bool Error) → OnOk r (HasTables old.now new.now) → IfOk r (Answers cap new.now.trees) → OnOk r (IsTrue new.is_open) → OnOk r (new.committed ≡ new.now) → IfOk r (Audits cap old new)
-audited cap old new (Ok true) tables kept opened settled = record { is_open = opened; tables = tables; settled = settled; holdings = kept; own = were_own cap old.now new.now kept.0 tables kept.1 }
-audited cap old new (Ok false) tables foreign opened settled = were_foreign cap old.now new.now tables foreign
-audited cap old new (Err e) tables none opened settled = tt
+pub audited : (cap : ℕ) (old new : State) (r : Result Bool Error) → OnOk r (HasTables old.now new.now) → IfOk r (Answers cap new.now.trees) → OnOk r (IsTrue new.is_open) → OnOk r (new.committed ≡ new.now) → OnOk r (new.in_transaction ≡ false) → IfOk r (Audits cap old new)
+audited cap old new (Ok true) tables kept opened settled idle = record { is_open = opened; tables = tables; settled = settled; idle = idle; holdings = kept; own = were_own cap old.now new.now kept.0 tables kept.1 }
+audited cap old new (Ok false) tables foreign opened settled idle = were_foreign cap old.now new.now tables foreign
+audited cap old new (Err e) tables none opened settled idle = tt

@@ -15,11 +15,13 @@ pub data IsForeignFile (cap : ℕ) (db : Database) : Type 0 where
   foreign_rows : db.schema ≡ both_schema → IsForeign cap db.trees → IsForeignFile cap db
   only_recordings : db.schema ≡ one_schema → db.trees 0 ≢ [] → IsForeignFile cap db
 
--- the file had our tables, or those that are missing are made; the rows that it had are there, and stand for holdings
+-- the file had our tables, or those that are missing are made; the rows that it had are there, and stand for holdings; no
+-- transaction is open
 pub record HasKept (cap : ℕ) (old new : State) : Type 0 where
   pub is_open : IsTrue new.is_open
   pub tables : HasTables old.now new.now
   pub settled : new.committed ≡ new.now
+  pub idle : new.in_transaction ≡ false
   pub holdings : (h : Holdings) × AreKept cap new.now.trees h
   pub own : ¬ IsForeignFile cap old.now
 

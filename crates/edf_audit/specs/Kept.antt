@@ -7,10 +7,11 @@ use Rattle.edf_rows.specs.Cells.{recordings_in, records_in}
 use Rattle.edf_rows.specs.Foreign.{IsForeign}
 use Rattle.edf_rows.specs.Shape.{HasRecords}
 
--- the rows are as they were, and nothing was committed
+-- the rows are as they were, nothing was committed, and no transaction began or ended
 pub record KeepsRows (old new : State) : Type 0 where
   pub now_is : new.now ≡ old.now
   pub commit : KeepsCommit old new
+  pub mode : new.in_transaction ≡ old.in_transaction
   pub stays : IsTrue old.is_open → IsTrue new.is_open
 
 -- the row is a recording's with so many records, or the rows are foreign

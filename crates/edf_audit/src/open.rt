@@ -22,6 +22,7 @@ fn audit_tables<S: Alter>(alloc: Global, conn: &mut Connection<S>, cap: u32) -> 
     ensures answers { HasCleanDisk (state S.Store conn.new) → IfOk result (Answers cap (state S.Store conn.new).now.trees) }
     ensures is_open { HasCleanDisk (state S.Store conn.new) → OnOk result (IsTrue (state S.Store conn.new).is_open) }
     ensures settled { HasCleanDisk (state S.Store conn.new) → OnOk result ((state S.Store conn.new).committed ≡ (state S.Store conn.new).now) }
+    ensures idle { HasCleanDisk (state S.Store conn.new) → OnOk result ((state S.Store conn.new).in_transaction ≡ false) }
     ensures survives { Survives (state S.Store conn.old) (state S.Store conn.new) (IsMadeOf (state S.Store conn.old).now) }
 {
     create_tables(conn)?;

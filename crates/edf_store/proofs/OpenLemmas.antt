@@ -12,6 +12,7 @@ use Rattle.edf_store.specs.Open.{IsOpened}
 pub opened : {S : Type 0} (g : Ghosts S) (cap : ℕ) (old new : Held S) → (HasCleanDisk (state g new) → HasKept cap (state g old) (state g new)) → Survives (state g old) (state g new) (IsMadeOf (state g old).now) → IsOpened g old (record { held = new; cap = cap })
 opened g cap old new kept survives = record {
   is_open = λ clean. (kept clean).is_open;
+  idle = λ clean. (kept clean).idle;
   tables = λ clean. let it = kept clean in subst (λ (d : Database). HasTables (state g old).now d) (sym it.settled) it.tables;
   holdings = λ clean. let it = kept clean in (it.holdings.0, subst (λ (d : Database). AreKept cap d.trees it.holdings.0) (sym it.settled) it.holdings.1);
   own = λ clean. (kept clean).own;

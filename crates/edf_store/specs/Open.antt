@@ -1,5 +1,5 @@
 -- How a store is opened.
-use Rattle.std.specs.Prelude.{◌≡◌, ◌⊎◌, ℕ, IsTrue}
+use Rattle.std.specs.Prelude.{◌≡◌, ◌⊎◌, ℕ, false, IsTrue}
 use Rattle.sqlite_trees.specs.declared.store.Store.{Ghosts}
 use Rattle.sqlite.specs.Held.{Held, state}
 use Rattle.sqlite.specs.State.{HasCleanDisk, Survives}
@@ -12,9 +12,11 @@ use Rattle.edf_store.specs.Fault.{IsStoreRefusal}
 use Rattle.edf_store.specs.declared.fault.StoreFault.{StoreFault}
 use Rattle.edf_store.specs.declared.fault.StoreFault.TheVariants.{Foreign}
 
--- the store has the rows that were there, which stand for holdings; a crash leaves missing tables made, and the rows as they were
+-- the store has the rows that were there, which stand for holdings, and no transaction is open; a crash leaves missing tables
+-- made, and the rows as they were
 pub record IsOpened {S : Type 0} (g : Ghosts S) (conn : Held S) (store : Kept S) : Type 0 where
   pub is_open : HasCleanDisk (at g store) → IsTrue (at g store).is_open
+  pub idle : HasCleanDisk (at g store) → (at g store).in_transaction ≡ false
   pub tables : HasCleanDisk (at g store) → HasTables (state g conn).now (at g store).committed
   pub holdings : HasCleanDisk (at g store) → (h : Holdings) × AreKept store.cap (at g store).committed.trees h
   pub own : HasCleanDisk (at g store) → ¬ IsForeignFile store.cap (state g conn).now

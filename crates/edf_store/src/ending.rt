@@ -37,7 +37,7 @@ pub(crate) fn commit_all<S: Alter>(store: &mut Store<S>) -> Result<(), StoreFaul
     ensures committed { IfOk result (λ _. (h : Holdings) → Sees S.Store store.old h → Holds S.Store store.new h) }
     ensures refused { IfErr result (λ _. (h : Holdings) → Holds S.Store store.old h → Holds S.Store store.new h) }
     ensures survives { Survives (at S.Store store.old) (at S.Store store.new) (IsSeen S.Store store.old) }
-    ensures ended { HasCleanDisk (at S.Store store.new) → OnOk result ((at S.Store store.new).in_transaction ≡ false) }
+    ensures ended { HasCleanDisk (at S.Store store.new) → (at S.Store store.new).in_transaction ≡ false }
     ensures is_open { HasCleanDisk (at S.Store store.new) → OnOk result (IsTrue (at S.Store store.new).is_open) }
     ensures told { IfErr result IsStoreRefusal }
     ensures caused { IfErr result (λ e. e ≢ StoreFault.Store None) }

@@ -151,7 +151,8 @@ impl<S: Alter> StoreTx<'_, S> {
     /// Makes what the transaction sees what is held.
     ///
     /// # Errors
-    /// E41 or E42: what was held before stays. A crash leaves that, or all that the transaction saw, refused or not.
+    /// E41 or E42: what was held before stays, and the transaction is over. A crash leaves that, or all that the transaction saw,
+    /// refused or not.
     pub fn commit(self) -> Result<(), StoreFault>
         requires spared { self.refused ≡ false }
         requires running { IsRunning S.Store self.store.now }
@@ -160,7 +161,7 @@ impl<S: Alter> StoreTx<'_, S> {
         ensures committed { IfOk result (λ _. (h : Holdings) → Sees S.Store self.entry.store.now h → Holds S.Store self.exit.0.now h) }
         ensures refused { IfErr result (λ _. (h : Holdings) → Holds S.Store self.entry.store.now h → Holds S.Store self.exit.0.now h) }
         ensures survives { Survives (at S.Store self.entry.store.now) (at S.Store self.exit.0.now) (IsSeen S.Store self.entry.store.now) }
-        ensures ended { HasCleanDisk (at S.Store self.exit.0.now) → OnOk result ((at S.Store self.exit.0.now).in_transaction ≡ false) }
+        ensures ended { HasCleanDisk (at S.Store self.exit.0.now) → (at S.Store self.exit.0.now).in_transaction ≡ false }
         ensures is_open { HasCleanDisk (at S.Store self.exit.0.now) → OnOk result (IsTrue (at S.Store self.exit.0.now).is_open) }
         ensures told { IfErr result IsStoreRefusal }
         ensures caused { IfErr result (λ e. e ≢ StoreFault.Store None) }

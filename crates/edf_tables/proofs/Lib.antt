@@ -2,6 +2,7 @@ pub mod AnswerLemmas
 pub mod ApartLemmas
 pub mod CommitLemmas
 pub mod CreateLemmas
+pub mod EndLemmas
 pub mod HeldLemmas
 pub mod KeepLemmas
 pub mod Queries

@@ -24,10 +24,12 @@ pub fn begin<S: Alter>(conn: &mut Connection<S>) -> Result<(), Error>
 /// Commits the transaction: what it shows is what is held.
 ///
 /// # Errors
-/// `sqlite`'s, also where none is open; what was committed before stays. A crash leaves that, or all of the transaction.
+/// `sqlite`'s, also where none is open; what was committed before stays, and the transaction is over. A crash leaves that, or all
+/// of the transaction.
 pub fn commit<S: Alter>(conn: &mut Connection<S>) -> Result<(), Error>
     ensures committed { HasCleanDisk (state S.Store conn.new) → OnOk result (Shows (state S.Store conn.old) (state S.Store conn.new) (state S.Store conn.old).now (state S.Store conn.old).now false) }
     ensures refused { HasCleanDisk (state S.Store conn.new) → OnErr result (KeepsCommit (state S.Store conn.old) (state S.Store conn.new)) }
+    ensures ended { HasCleanDisk (state S.Store conn.new) → (state S.Store conn.new).in_transaction ≡ false }
     ensures survives { Survives (state S.Store conn.old) (state S.Store conn.new) (λ db. db ≡ (state S.Store conn.old).now.trees) }
 {
     match conn.execute("COMMIT", &[]) {
