@@ -79,7 +79,7 @@ returns-in-Err-Store-clause-submitted g c =
 pub returns-in-Ok-commit-clause-ended : goal.returns-in-Ok-commit-clause-ended
 returns-in-Ok-commit-clause-ended g c =
     let same : c.commit.new.self.0 ≡ c.store-in-Ok-take_fragment-1.given.0 = sym (c.store-in-Ok-take_fragment-1.given.1 (sym (c.in-Ok-take_fragment.ensures.same_reference ∙ c.in-Ok.ensures.same_reference))) in
-    subst (λ (s : Kept g.row.S.Denot). IsEnded g.S.Store s (Ok c.in-Ok-take_fragment.receipt)) same (λ clean. inr (c.in-Ok-commit.ensures.ended clean))
+    subst (λ (s : Kept g.row.S.Denot). IsEnded g.S.Store s (Ok c.in-Ok-take_fragment.receipt)) same (λ clean. inr (c.commit.ensures.ended clean))
 
 pub returns-in-Err-commit-clause-ended : goal.returns-in-Err-commit-clause-ended
 returns-in-Err-commit-clause-ended g c clean = inl c.refusal_of-in-Err-commit.ensures.stopped
