@@ -1,4 +1,4 @@
-//! Stores in memory, what they answer and what they hold.
+//! Stores, what they answer and what they hold.
 
 use edf_export::export;
 use edf_fragment::{Counted, Input};
@@ -7,21 +7,21 @@ use edf_intake::{Refusal, submit};
 use edf_sample::named::{file_p5, file_q};
 use edf_sample::{Sink, Source, file, q};
 use edf_store::Store;
-use sqlite::{Connection, MemStore};
+use sqlite::{Alter, Connection, MemStore};
 use std::alloc::Global;
 
 /// What a submission is answered: how many data records were added and how many were known, or why it is refused.
 pub(crate) type Answer = Result<(u32, u32), Refusal>;
 
-/// A store of nothing.
+/// A store in memory, of nothing.
 pub(crate) fn empty(alloc: Global) -> Option<Store<MemStore>> {
     let conn = Connection::open_in_memory(alloc).ok()?;
     Store::open(alloc, conn, 99_999_999).ok()
 }
 
-pub(crate) fn submitted<R: Input>(
+pub(crate) fn submitted<S: Alter, R: Input>(
     alloc: Global,
-    store: &mut Store<MemStore>,
+    store: &mut Store<S>,
     input: &mut R,
 ) -> Answer {
     match submit(alloc, store, input) {
@@ -31,7 +31,7 @@ pub(crate) fn submitted<R: Input>(
 }
 
 /// What a file is answered that is read whole.
-pub(crate) fn taken(alloc: Global, store: &mut Store<MemStore>, bytes: &[u8]) -> Answer {
+pub(crate) fn taken<S: Alter>(alloc: Global, store: &mut Store<S>, bytes: &[u8]) -> Answer {
     let mut input = Counted::new(Source::whole(bytes, 300));
     submitted(alloc, store, &mut input)
 }
@@ -61,7 +61,11 @@ pub(crate) fn canonical_both(alloc: Global) -> Option<Vec<u8>> {
 }
 
 /// The canonical file of an identity.
-fn exported(alloc: Global, store: &mut Store<MemStore>, identity: &Identity) -> Option<Vec<u8>> {
+pub(crate) fn exported<S: Alter>(
+    alloc: Global,
+    store: &mut Store<S>,
+    identity: &Identity,
+) -> Option<Vec<u8>> {
     let mut bytes = Vec::new(alloc);
     let mut out = Counted::new(Sink::whole(&mut bytes, 1_000));
     let answer = export(alloc, store, identity, &mut out);
@@ -71,7 +75,7 @@ fn exported(alloc: Global, store: &mut Store<MemStore>, identity: &Identity) -> 
 }
 
 /// What a store of one recording at most holds: how many data records, and their canonical file.
-pub(crate) fn held(alloc: Global, store: &mut Store<MemStore>) -> Option<(u32, Vec<u8>)> {
+pub(crate) fn held<S: Alter>(alloc: Global, store: &mut Store<S>) -> Option<(u32, Vec<u8>)> {
     let all = store.identities().ok()?;
     match all.as_slice() {
         [] => Some((0, Vec::new(alloc))),

@@ -1,7 +1,30 @@
-//! A disk that is lent.
+//! Disks in memory that are lent, and stop.
 
-use sqlite_disk::{Disk, Tally};
+use sqlite::Files;
+use sqlite_disk::{Disk, Fuse, Memory, Tally};
 use std::io;
+
+/// A file in memory that is there again when the store over it is gone, and stops behind so many calls. Each store over disks is one over
+/// this type, so that its code is compiled once.
+pub(crate) type Lendable<'a> = Fuse<Lent<'a, Memory>>;
+
+/// A log and a database file, of which so many calls reach each.
+pub(crate) fn stopping<'a>(
+    log: &'a mut Memory,
+    db: &'a mut Memory,
+    log_calls: u64,
+    db_calls: u64,
+) -> Files<Lendable<'a>> {
+    Files {
+        log: Fuse::new(Lent::new(log), log_calls),
+        db: Fuse::new(Lent::new(db), db_calls),
+    }
+}
+
+/// A log and a database file that stop at nothing.
+pub(crate) fn lend<'a>(log: &'a mut Memory, db: &'a mut Memory) -> Files<Lendable<'a>> {
+    stopping(log, db, u64::MAX, u64::MAX)
+}
 
 /// Passes each call on to the disk that it borrows, which is there again when what was opened over this one is gone.
 #[derive(Drop)]

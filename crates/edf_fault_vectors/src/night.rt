@@ -1,5 +1,6 @@
 //! Three files of one recording, and its canonical file after each.
 
+use crate::stage::canonical_both;
 use edf_sample::named::{file_k, file_p5, file_q};
 use edf_sample::{file, q};
 use std::alloc::{AllocError, Global};
@@ -27,12 +28,6 @@ const EMPTY: &[u8] = &[0; 32];
 /// P5's data record in a file that begins with Q's.
 const P5_BEHIND_Q: &[u8] =
     b"\x02\x00\xfe\xff+15\x14\x14\0+15.5\x14Snore\x14\0+15.5\x14Turn\x14\0\0";
-
-fn after_q(alloc: Global) -> Result<Vec<u8>, AllocError> {
-    let header = q().count("2").annotations_samples("16");
-    let pieces: [&[u8]; 3] = [b"\x01\x00\xff\xff+0\x14\x14\0", &EMPTY[5..], P5_BEHIND_Q];
-    file(alloc, &header, &pieces)
-}
 
 fn after_k(alloc: Global) -> Result<Vec<u8>, AllocError> {
     let header = q().count("5").annotations_samples("16");
@@ -62,7 +57,7 @@ pub(crate) fn three_files(alloc: Global) -> Option<Night> {
     let exports = vec![in alloc;
         nothing,
         after_p5(alloc).ok()?,
-        after_q(alloc).ok()?,
+        canonical_both(alloc)?,
         after_k(alloc).ok()?,
     ]
     .ok()?;

@@ -1,20 +1,12 @@
 //! Files that hold what no submissions leave, on a disk.
 
-use crate::lent::Lent;
-use crate::run::{connected, is_accepted, opened};
+use crate::disk::lend;
+use crate::run::{connected, filled};
 use edf_sample::named::file_q;
 use edf_store::Store;
 use sqlite::{Alter, Connection, Files};
-use sqlite_disk::Memory;
+use sqlite_disk::{Disk, Memory};
 use std::alloc::Global;
-
-/// A log and a database file, lent.
-fn lend<'a>(log: &'a mut Memory, db: &'a mut Memory) -> Files<Lent<'a, Memory>> {
-    Files {
-        log: Lent::new(log),
-        db: Lent::new(db),
-    }
-}
 
 const RECORDINGS: &str =
     "SELECT coalesce(group_concat(id || ' ' || hex(identity)), 'none') FROM recording";
@@ -33,23 +25,38 @@ fn rows_of<S: Alter>(conn: &mut Connection<S>) -> Option<String> {
     Some(rows)
 }
 
-/// Makes a store that holds Q's data record.
-fn fill(alloc: Global, files: Files<Lent<'_, Memory>>) -> Option<()> {
-    let mut store = opened(alloc, files, 1000)?;
-    let file = file_q(alloc).ok()?;
-    if !is_accepted(alloc, &mut store, file.as_slice()) {
-        return None;
-    }
-    store.into_connection().close().ok()
+/// Whether disks are made a store that holds Q's data record.
+fn fill<D: Disk + Drop>(alloc: Global, disks: Files<D>) -> Option<bool> {
+    let files = vec![in alloc; file_q(alloc).ok()?].ok()?;
+    Some(filled(alloc, disks, files.as_slice(), 1000) == (1, true))
 }
 
-/// Runs a statement, and gives the rows that it left.
-fn change(alloc: Global, files: Files<Lent<'_, Memory>>, sql: &str) -> Option<String> {
-    let mut conn = connected(alloc, files, 1000)?;
+/// The rows that a statement leaves.
+fn rows_behind<S: Alter>(conn: &mut Connection<S>, sql: &str) -> Option<String> {
     conn.execute(sql, &[]).ok()?;
-    let rows = rows_of(&mut conn)?;
+    rows_of(conn)
+}
+
+/// Runs a statement, gives the rows that it left, and closes.
+fn change<D: Disk + Drop>(alloc: Global, disks: Files<D>, sql: &str) -> Option<String> {
+    let mut conn = connected(alloc, disks, 1000)?;
+    let rows = rows_behind(&mut conn, sql);
     conn.close().ok()?;
-    Some(rows)
+    rows
+}
+
+fn all_rows<S: Alter + Drop>(mut conn: Connection<S>) -> Option<String> {
+    rows_of(&mut conn)
+}
+
+/// The rows of disks.
+fn found<D: Disk + Drop>(alloc: Global, disks: Files<D>) -> Option<String> {
+    all_rows(connected(alloc, disks, 1000)?)
+}
+
+/// With what number disks are refused as a store, 0 where they are taken.
+fn refusal<D: Disk + Drop>(alloc: Global, disks: Files<D>, cap: u32) -> Option<u8> {
+    answered(alloc, connected(alloc, disks, 1000)?, cap)
 }
 
 /// The number of the refusal with which a connection is taken for a store, 0 where it is taken.
@@ -67,12 +74,11 @@ fn answered<S: Alter + Drop>(alloc: Global, conn: Connection<S>, cap: u32) -> Op
 fn opened_behind(alloc: Global, sql: &str, cap: u32) -> Option<(u8, bool)> {
     let mut log = Memory::new(alloc);
     let mut db = Memory::new(alloc);
-    fill(alloc, lend(&mut log, &mut db))?;
+    let filled = fill(alloc, lend(&mut log, &mut db))?;
     let left = change(alloc, lend(&mut log, &mut db), sql)?;
-    let conn = connected(alloc, lend(&mut log, &mut db), 1000)?;
-    let number = answered(alloc, conn, cap)?;
-    let found = rows_of(&mut connected(alloc, Files { log, db }, 1000)?)?;
-    Some((number, found.as_str() == left.as_str()))
+    let number = refusal(alloc, lend(&mut log, &mut db), cap)?;
+    let stays = found(alloc, lend(&mut log, &mut db))?.as_str() == left.as_str();
+    Some((number, filled && stays))
 }
 
 const TOUCHING: &str =

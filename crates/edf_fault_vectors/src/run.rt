@@ -1,15 +1,14 @@
 //! A store that is opened, filled and closed.
+//!
+//! What is done with an open store stands in functions over any kind of store, which take it whole: a proof at the kind that lies over
+//! disks is long.
 
-use crate::lent::Lent;
+use crate::disk::{lend, stopping};
 use crate::night::Night;
-use edf_export::export;
-use edf_fragment::Counted;
-use edf_header::Identity;
-use edf_intake::submit;
-use edf_sample::{Sink, Source};
+use crate::stage::{held, taken};
 use edf_store::Store;
 use sqlite::{Alter, Connection, FileStore, Files, Options};
-use sqlite_disk::{Crash, Disk, Fuse, Memory};
+use sqlite_disk::{Crash, Disk, Memory};
 use std::alloc::Global;
 
 /// How a disk stops, and how the next run finds it.
@@ -84,98 +83,89 @@ pub(crate) fn opened<D: Disk + Drop>(
     store_of(alloc, connected(alloc, files, frames)?)
 }
 
-pub(crate) fn is_accepted<S: Alter>(alloc: Global, store: &mut Store<S>, file: &[u8]) -> bool {
-    let mut input = Counted::new(Source::whole(file, 1000));
-    submit(alloc, store, &mut input).is_ok()
-}
-
 /// How many of the files are accepted. Those behind one that is refused are submitted too.
-fn accepted<S: Alter>(alloc: Global, store: &mut Store<S>, night: &Night) -> usize {
+fn accepted<S: Alter>(alloc: Global, store: &mut Store<S>, files: &[Vec<u8>]) -> usize {
     let mut count = 0usize;
-    for file in night.files.iter() {
-        if is_accepted(alloc, store, file.as_slice()) {
+    for file in files {
+        if taken(alloc, store, file.as_slice()).is_ok() {
             count = count.saturating_add(1);
         }
     }
     count
 }
 
-/// The canonical file of a recording.
-pub(crate) fn exported<S: Alter>(
-    alloc: Global,
-    store: &mut Store<S>,
-    identity: &Identity,
-) -> Option<Vec<u8>> {
-    let mut bytes = Vec::new(alloc);
-    let mut out = Counted::new(Sink::whole(&mut bytes, 100));
-    let told = export(alloc, store, identity, &mut out);
-    drop(out);
-    told.ok()?;
-    Some(bytes)
-}
-
-/// The canonical file of the one recording, or nothing where there is none.
-fn held<S: Alter>(alloc: Global, store: &mut Store<S>) -> Option<Vec<u8>> {
-    let all = store.identities().ok()?;
-    match all.as_slice() {
-        [] => Some(Vec::new(alloc)),
-        [identity] => exported(alloc, store, identity),
-        _ => None,
-    }
-}
-
 /// After how many submissions the store stands.
 fn found<S: Alter>(alloc: Global, store: &mut Store<S>, night: &Night) -> Option<usize> {
-    let bytes = held(alloc, store)?;
+    let (_, bytes) = held(alloc, store)?;
     night
         .exports
         .iter()
         .position(|file| file.as_slice() == bytes.as_slice())
 }
 
-/// Opens a store, submits and closes: how many submissions were accepted, and whether the files were closed.
-fn filled<D: Disk + Drop>(
+/// Submits files, and gives the connection of the store behind how many of them are accepted.
+fn submitted_to<S: Alter>(
     alloc: Global,
-    files: Files<D>,
-    night: &Night,
-    frames: usize,
-) -> (usize, bool) {
-    let Some(mut store) = opened(alloc, files, frames) else {
-        return (0, false);
-    };
-    let count = accepted(alloc, &mut store, night);
-    (count, store.into_connection().close().is_ok())
+    mut store: Store<S>,
+    files: &[Vec<u8>],
+) -> (usize, Connection<S>) {
+    let count = accepted(alloc, &mut store, files);
+    (count, store.into_connection())
 }
 
-/// Opens what a run left, and submits all again: after how many submissions it stood, and whether it is whole now.
-fn refilled(alloc: Global, files: Files<Memory>, night: &Night) -> (Option<usize>, bool) {
-    let Some(mut store) = opened(alloc, files, 1000) else {
-        return (None, false);
-    };
+/// Opens a store over disks, submits files and closes: how many were accepted, and whether the disks were closed.
+pub(crate) fn filled<D: Disk + Drop>(
+    alloc: Global,
+    disks: Files<D>,
+    files: &[Vec<u8>],
+    frames: usize,
+) -> (usize, bool) {
+    match opened(alloc, disks, frames) {
+        Some(store) => {
+            let (count, conn) = submitted_to(alloc, store, files);
+            (count, conn.close().is_ok())
+        }
+        None => (0, false),
+    }
+}
+
+/// Submits all again to what a run left: after how many submissions it stood, and whether it is whole now.
+fn made_whole<S: Alter + Drop>(
+    alloc: Global,
+    mut store: Store<S>,
+    night: &Night,
+) -> (Option<usize>, bool) {
     let before = found(alloc, &mut store, night);
-    let count = accepted(alloc, &mut store, night);
-    (
-        before,
-        count == 3 && found(alloc, &mut store, night) == Some(3),
-    )
+    let count = accepted(alloc, &mut store, night.files.as_slice());
+    let after = found(alloc, &mut store, night);
+    (before, count == 3 && after == Some(3))
+}
+
+/// The same of disks that a run left.
+fn refilled<D: Disk + Drop>(
+    alloc: Global,
+    disks: Files<D>,
+    night: &Night,
+) -> (Option<usize>, bool) {
+    match opened(alloc, disks, 1000) {
+        Some(store) => made_whole(alloc, store, night),
+        None => (None, false),
+    }
 }
 
 /// A run over disks that stop, and what is found when they are opened again.
 pub(crate) fn run(alloc: Global, night: &Night, stop: Stop) -> Outcome {
     let mut log = Memory::new(alloc);
     let mut db = Memory::new(alloc);
-    let files = Files {
-        log: Fuse::new(Lent::new(&mut log), stop.log_calls),
-        db: Fuse::new(Lent::new(&mut db), stop.db_calls),
-    };
-    let (accepted, closed) = filled(alloc, files, night, stop.frames);
+    let disks = stopping(&mut log, &mut db, stop.log_calls, stop.db_calls);
+    let (accepted, closed) = filled(alloc, disks, night.files.as_slice(), stop.frames);
     if stop.log_loses {
         log.crash();
     }
     if stop.db_loses {
         db.crash();
     }
-    let (found, whole) = refilled(alloc, Files { log, db }, night);
+    let (found, whole) = refilled(alloc, lend(&mut log, &mut db), night);
     Outcome {
         accepted,
         closed,

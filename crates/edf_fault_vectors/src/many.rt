@@ -1,11 +1,13 @@
 //! Many recordings on one disk.
 
-use crate::run::{exported, is_accepted, opened};
+use crate::disk::lend;
+use crate::run::{filled, opened};
+use crate::stage::exported;
 use edf_sample::named::file_q;
 use edf_sample::patched;
 use edf_store::Store;
 use sqlite::{Alter, Files};
-use sqlite_disk::Memory;
+use sqlite_disk::{Disk, Memory};
 use std::alloc::Global;
 
 /// The patient code of a recording by its number below 1000.
@@ -25,45 +27,43 @@ fn file_of(alloc: Global, number: usize) -> Option<Vec<u8>> {
     patched(alloc, named.as_slice(), 768, &code(number)).ok()
 }
 
-/// Whether each of three hundred files is accepted, in an order that is not that of their codes.
-fn takes_all<S: Alter>(alloc: Global, store: &mut Store<S>) -> Option<bool> {
+/// Three hundred files, in an order that is not that of their codes.
+fn files(alloc: Global) -> Option<Vec<Vec<u8>>> {
+    let mut list = Vec::new(alloc);
     for turn in 0..300usize {
-        let file = file_of(alloc, turn * 7 % 300)?;
-        if !is_accepted(alloc, store, file.as_slice()) {
-            return Some(false);
-        }
+        list.push(file_of(alloc, turn * 7 % 300)?).ok()?;
     }
-    Some(true)
+    Some(list)
 }
 
 /// How many of the identities, in their order, are those of the codes, each with its file.
-fn given_back<S: Alter>(alloc: Global, store: &mut Store<S>) -> Option<usize> {
+fn given_back<S: Alter + Drop>(alloc: Global, mut store: Store<S>) -> Option<usize> {
     let all = store.identities().ok()?;
     let mut count = 0usize;
     for (number, identity) in all.iter().enumerate() {
         let file = file_of(alloc, number)?;
-        if exported(alloc, store, identity)?.as_slice() == file.as_slice() {
+        if exported(alloc, &mut store, identity)?.as_slice() == file.as_slice() {
             count = count.saturating_add(1);
         }
     }
     Some(count)
 }
 
-/// How many recordings are given back by a disk that is opened again.
-fn given_back_again(alloc: Global) -> Option<usize> {
-    let files = Files {
-        log: Memory::new(alloc),
-        db: Memory::new(alloc),
-    };
-    let mut store = opened(alloc, files, 1000)?;
-    if !takes_all(alloc, &mut store)? {
-        return None;
-    }
-    let files = store.into_connection().close_files().ok()?;
-    given_back(alloc, &mut opened(alloc, files, 1000)?)
+fn given_back_by<D: Disk + Drop>(alloc: Global, disks: Files<D>) -> Option<usize> {
+    given_back(alloc, opened(alloc, disks, 1000)?)
+}
+
+/// Whether each of them is accepted by disks that are closed then, and how many recordings are given back when they are opened again.
+fn given_back_again(alloc: Global) -> Option<(bool, usize)> {
+    let mut log = Memory::new(alloc);
+    let mut db = Memory::new(alloc);
+    let list = files(alloc)?;
+    let told = filled(alloc, lend(&mut log, &mut db), list.as_slice(), 1000);
+    let count = given_back_by(alloc, lend(&mut log, &mut db))?;
+    Some((told == (300, true), count))
 }
 
 #[test]
 fn three_hundred_recordings_are_given_back_in_the_order_of_their_identities(rt: HostRuntime) {
-    assert_eq!(rt; given_back_again(rt.alloc()), Some(300));
+    assert_eq!(rt; given_back_again(rt.alloc()), Some((true, 300)));
 }
