@@ -78,7 +78,8 @@ def built(folder: Path) -> Path:
 
 def parts_of(run: measure.Run) -> dict:
     """Seconds by part, as a run of the parts told them."""
-    return {name: int(micros) / 1e6 for name, micros in (line.split() for line in run.err.decode().splitlines())}
+    lines = [line.split() for line in run.err.decode().splitlines()]
+    return {name: int(seconds) + int(micros) / 1e6 for name, seconds, micros in lines}
 
 
 def words_of(program: Path, name: str, files: dict, folder: Path) -> dict:

@@ -6,7 +6,7 @@
 //!     edf_parts export STORE           a store is opened, its first recording is exported to standard output, it is closed
 //!     edf_parts convert FILE           the file is submitted to a store in memory and exported to standard output
 //!
-//! Each part's microseconds stand in a line of standard error. No words are read as the program does, no lines are written.
+//! Each part's seconds and microseconds stand in a line of standard error. No words are read as the program does, no lines are written.
 #![tactic(auto)]
 
 use edf_export::export;
@@ -14,9 +14,13 @@ use edf_fragment::Counted;
 use edf_intake::submit;
 use edf_store::Store;
 use sqlite::{Alter, Connection};
+use sqlite_std_file::File as StoreFile;
+use sqlite_store::FileStore;
+use sqlite_trees::memory::MemStore;
+use std::alloc::Global;
 use std::env;
 use std::fs::File;
-use std::io::BufReader;
+use std::io::{self, BufReader};
 use std::process::ExitCode;
 use std::time::Instant;
 
@@ -25,23 +29,33 @@ const CAP: u32 = 99_999_999;
 /// As the program asks for a file's bytes.
 const PIECE: usize = 16_384;
 
-/// Tells how long a part took, and begins the next.
+/// Tells how long a part took in seconds and microseconds, and begins the next.
 fn tell(rt: &HostRuntime, part: &str, begun: &mut Instant) {
     if let Ok(now) = Instant::now(rt) {
-        let took = now.duration_since(*begun).as_micros();
-        let _ = eprintln!(rt; "{part} {took}");
+        let took = now.duration_since(*begun);
+        let (seconds, micros) = (took.as_secs(), took.subsec_micros());
+        let _ = eprintln!(rt; "{part} {seconds} {micros}");
         *begun = now;
     }
 }
 
+fn open_input(rt: &HostRuntime, path: &str) -> io::Result<Counted<BufReader<File>>> {
+    let file = File::open(rt, path)?;
+    Ok(Counted::new(BufReader::with_capacity(
+        rt.alloc(),
+        PIECE,
+        file,
+    )?))
+}
+
 fn submit_file<S: Alter>(rt: &HostRuntime, store: &mut Store<S>, path: &str) -> bool {
-    let Ok(file) = File::open(rt, path) else {
-        return false;
-    };
-    let Ok(file) = BufReader::with_capacity(rt.alloc(), PIECE, file) else {
-        return false;
-    };
-    submit(rt.alloc(), store, &mut Counted::new(file)).is_ok()
+    match open_input(rt, path) {
+        Ok(mut input) => match submit(rt.alloc(), store, &mut input) {
+            Ok(_) => true,
+            Err(_) => false,
+        },
+        Err(_) => false,
+    }
 }
 
 fn submit_files<S: Alter>(rt: &HostRuntime, store: &mut Store<S>, files: &[String]) -> bool {
@@ -76,68 +90,126 @@ fn export_first<S: Alter>(rt: &HostRuntime, store: &mut Store<S>) -> bool {
     }
 }
 
-/// The parts over the file of a store.
-fn on_file(rt: &HostRuntime, word: &str, path: &str, files: &[String]) -> bool {
-    let Ok(mut begun) = Instant::now(rt) else {
-        return false;
-    };
-    let Ok(conn) = Connection::open(rt, path) else {
-        return false;
-    };
-    tell(rt, "port", &mut begun);
-    if word == "port" {
-        let is_closed = conn.close_files().is_ok();
-        tell(rt, "close", &mut begun);
-        return is_closed;
+/// What is done with a store that is open.
+fn work<S: Alter>(rt: &HostRuntime, word: &str, store: &mut Store<S>, files: &[String]) -> bool {
+    if word == "take" {
+        submit_files(rt, store, files)
+    } else if word == "list" {
+        glance(store)
+    } else {
+        export_first(rt, store)
     }
-    let Ok(mut store) = Store::open(rt.alloc(), conn, CAP) else {
-        return false;
+}
+
+type OnFile = FileStore<StoreFile>;
+
+fn close_port(conn: Connection<OnFile>) -> bool {
+    match conn.close_files() {
+        Ok(_) => true,
+        Err((_, left)) => {
+            drop(left.close());
+            false
+        }
+    }
+}
+
+fn port_alone(rt: &HostRuntime, path: &str, begun: &mut Instant) -> bool {
+    match Connection::open(rt, path) {
+        Ok(conn) => {
+            tell(rt, "port", begun);
+            let is_closed = close_port(conn);
+            tell(rt, "close", begun);
+            is_closed
+        }
+        Err(_) => false,
+    }
+}
+
+fn open_file(rt: &HostRuntime, path: &str, begun: &mut Instant) -> Option<Store<OnFile>> {
+    let conn = match Connection::open(rt, path) {
+        Ok(conn) => conn,
+        Err(_) => return None,
     };
-    tell(rt, "open", &mut begun);
-    let is_done = match word {
-        "take" => submit_files(rt, &mut store, files),
-        "list" => glance(&mut store),
-        _ => export_first(rt, &mut store),
-    };
-    tell(rt, word, &mut begun);
-    let is_closed = store.into_connection().close_files().is_ok();
-    tell(rt, "close", &mut begun);
-    is_done && is_closed
+    tell(rt, "port", begun);
+    match Store::open(rt.alloc(), conn, CAP) {
+        Ok(store) => Some(store),
+        Err(_) => None,
+    }
+}
+
+/// The parts over the file of a store.
+fn on_file(
+    rt: &HostRuntime,
+    word: &str,
+    path: &str,
+    files: &[String],
+    begun: &mut Instant,
+) -> bool {
+    match open_file(rt, path, begun) {
+        Some(mut store) => {
+            tell(rt, "open", begun);
+            let is_done = work(rt, word, &mut store, files);
+            tell(rt, word, begun);
+            let is_closed = close_port(store.into_connection());
+            tell(rt, "close", begun);
+            is_done && is_closed
+        }
+        None => false,
+    }
+}
+
+fn open_memory(alloc: Global) -> Option<Store<MemStore>> {
+    match Connection::open_in_memory(alloc) {
+        Ok(conn) => match Store::open(alloc, conn, CAP) {
+            Ok(store) => Some(store),
+            Err(_) => None,
+        },
+        Err(_) => None,
+    }
 }
 
 /// A file through a store in memory.
-fn in_memory(rt: &HostRuntime, file: &str) -> bool {
-    let Ok(mut begun) = Instant::now(rt) else {
+fn in_memory(rt: &HostRuntime, file: &str, begun: &mut Instant) -> bool {
+    match open_memory(rt.alloc()) {
+        Some(mut store) => {
+            tell(rt, "open", begun);
+            let is_taken = submit_file(rt, &mut store, file);
+            tell(rt, "submit", begun);
+            let is_written = export_first(rt, &mut store);
+            tell(rt, "export", begun);
+            drop(store.into_connection());
+            tell(rt, "close", begun);
+            is_taken && is_written
+        }
+        None => false,
+    }
+}
+
+fn words(rt: &HostRuntime) -> io::Result<Vec<String>> {
+    let words: Vec<String> = env::args(rt)?.skip(1).collect(rt.alloc())?;
+    Ok(words)
+}
+
+fn run(rt: &HostRuntime, words: &[String], begun: &mut Instant) -> bool {
+    let Some((word, behind)) = words.split_first() else {
         return false;
     };
-    let Ok(conn) = Connection::open_in_memory(rt.alloc()) else {
+    let Some((path, files)) = behind.split_first() else {
         return false;
     };
-    let Ok(mut store) = Store::open(rt.alloc(), conn, CAP) else {
-        return false;
-    };
-    tell(rt, "open", &mut begun);
-    let is_taken = submit_file(rt, &mut store, file);
-    tell(rt, "submit", &mut begun);
-    let is_written = export_first(rt, &mut store);
-    tell(rt, "export", &mut begun);
-    drop(store.into_connection());
-    tell(rt, "close", &mut begun);
-    is_taken && is_written
+    if word.as_str() == "port" {
+        port_alone(rt, path.as_str(), begun)
+    } else if word.as_str() == "convert" {
+        in_memory(rt, path.as_str(), begun)
+    } else {
+        on_file(rt, word.as_str(), path.as_str(), files, begun)
+    }
 }
 
 fn main(rt: HostRuntime) -> ExitCode {
-    let Ok(words) = env::args(&rt) else {
-        return ExitCode::from(2);
+    let (Ok(words), Ok(mut begun)) = (words(&rt), Instant::now(&rt)) else {
+        return ExitCode::from(3);
     };
-    let words: Vec<String> = match words.skip(1).collect(rt.alloc()) {
-        Ok(words) => words,
-        Err(_) => return ExitCode::from(3),
-    };
-    let is_done = match words.as_slice() {
-        [word, file] if word.as_str() == "convert" => in_memory(&rt, file.as_str()),
-        [word, path, files @ ..] => on_file(&rt, word.as_str(), path.as_str(), files),
-        _ => false,
-    };
+    let is_done = run(&rt, words.as_slice(), &mut begun);
     ExitCode::from(if is_done { 0 } else { 1 })
 }
