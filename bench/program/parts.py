@@ -3,7 +3,7 @@
 
     bench/program/parts.py [--program PATH] [--parts PATH] [RUNS]      best of RUNS runs of each, 5 if left out
 
-The parts are those of bench/program/parts.rt: the port of SQLite opens the file, the store is opened over it, files are
+The parts are those of bench/program/parts.txt: the port of SQLite opens the file, the store is opened over it, files are
 submitted or a recording exported, the file is closed. That program is proved and built in a scratch folder, over copies of this
 clone's crates; `--parts` names one that was built before, and `--keep PATH` puts the built one there. It is a night of 195 MB, as
 in run.py. Each part is its best of all runs, and the sum is theirs; the program's run has the start of a process besides, the
@@ -66,7 +66,7 @@ def built(folder: Path) -> Path:
     (folder / "HANDLES").write_text((measure.TOP / "HANDLES").read_text())
     crate = folder / "crates" / NAME
     (crate / "src").mkdir(parents=True)
-    shutil.copy(Path(__file__).parent / "parts.rt", crate / "src" / "main.rt")
+    shutil.copy(Path(__file__).parent / "parts.txt", crate / "src" / "main.rt")
     log = folder / "build.log"
     with open(log, "wb") as told:
         subprocess.run(["rt", "run"], cwd=crate, stdin=subprocess.DEVNULL, stdout=told, stderr=told, check=False)
