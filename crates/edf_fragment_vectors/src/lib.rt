@@ -11,5 +11,3 @@ mod records;
 mod stops;
 #[cfg(test)]
 mod wholes;
-#[cfg(test)]
-mod writes;

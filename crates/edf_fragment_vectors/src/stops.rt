@@ -1,9 +1,9 @@
-//! Readers that end or fail once and then go on: nothing is read behind that.
+//! Readers that end or fail once and then go on, behind which nothing is read; and writers that fail.
 
-use edf_fragment::{Counted, FragmentFault, FragmentReader};
+use edf_fragment::{Counted, FragmentFault, FragmentReader, send};
 use edf_header::HeaderFault;
 use edf_sample::named::file_q;
-use edf_sample::{StopsOnce, patched};
+use edf_sample::{Sink, StopsOnce, patched};
 use std::alloc::Global;
 
 /// Reads a fragment to its end or its fault, and once more.
@@ -89,5 +89,29 @@ fn nothing_is_read_behind_a_refusal(rt: HostRuntime) {
     for (at, text, reads) in refused {
         let told = reads_of_refused(rt.alloc(), at, text);
         assert_eq!(rt; told, Some(reads), "at {at}");
+    }
+}
+
+/// Whether 300 bytes go into this much room.
+fn sends(alloc: Global, room: usize, full: bool) -> bool {
+    let mut got = Vec::new(alloc);
+    let mut out = Counted::new(Sink::of_room(&mut got, room, full));
+    send(&mut out, &[7u8; 300])
+}
+
+#[test]
+fn bytes_are_sent_whole_or_a_write_failed(rt: HostRuntime) {
+    for (room, whole) in [
+        (0usize, false),
+        (1, false),
+        (50, false),
+        (299, false),
+        (300, true),
+        (400, true),
+    ] {
+        for full in [false, true] {
+            let sent = sends(rt.alloc(), room, full);
+            assert_eq!(rt; sent, whole, "room for {room}");
+        }
     }
 }
