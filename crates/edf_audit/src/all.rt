@@ -11,8 +11,11 @@ ghost use Rattle.edf_audit.specs.All.{IsAfter, Counts, Answers};
 use crate::check::check_row;
 use edf_tables::{count_all_rows, recordings};
 use sqlite::types::ValueRef;
-use sqlite::{Alter, Connection, Error, Row};
+use sqlite::{Alter, Connection, Error, ErrorCode, Row};
 use std::alloc::Global;
+
+/// The first number of records that `count_all_rows` does not tell from larger ones.
+const MOST_COUNTED: u64 = 9_223_372_036_854_775_807;
 
 /// The id of a row, if it comes after the last one.
 fn next_id(row: &Row, last: Option<i64>) -> Option<i64>
@@ -32,6 +35,10 @@ fn next_id(row: &Row, last: Option<i64>) -> Option<i64>
 }
 
 /// How many records the recordings have, or `None` where one of them may not stand.
+///
+/// # Errors
+/// `sqlite`'s; `OutOfMemory` where memory runs out; `DatabaseCorrupt` where rows come out of the order that was asked for;
+/// `IntegerOverflow` where there are `MOST_COUNTED` records or more.
 fn count_owned<S: Alter>(
     alloc: Global,
     conn: &mut Connection<S>,
@@ -54,11 +61,11 @@ fn count_owned<S: Alter>(
             return Ok(None);
         };
         let Some(id) = next_id(row, last) else {
-            return Err(Error::QueryReturnedNoRows);
+            return Err(Error::SqliteFailure(ErrorCode::DatabaseCorrupt));
         };
         let more = sum + u64::from(count);
-        if more >= 9_223_372_036_854_775_807 {
-            return Err(Error::QueryReturnedNoRows);
+        if more >= MOST_COUNTED {
+            return Err(Error::SqliteFailure(ErrorCode::IntegerOverflow));
         }
         sum = more;
         last = Some(id);
@@ -76,7 +83,8 @@ fn obey<S: Alter>(conn: &Connection<S>)
 /// Whether the rows are those of submissions under the cap.
 ///
 /// # Errors
-/// `sqlite`'s, and want of memory in its words.
+/// `sqlite`'s; `OutOfMemory` where memory runs out; `DatabaseCorrupt` where rows come out of the order that was asked for;
+/// `IntegerOverflow` where there are 9,223,372,036,854,775,807 records or more.
 pub fn check_all<S: Alter>(alloc: Global, conn: &mut Connection<S>, cap: u32) -> Result<bool, Error>
     requires cap { cap < 2 ^ 32 - 1 }
     requires schema { HasCleanDisk (state S.Store conn.old) → (state S.Store conn.old).now.schema ≡ both_schema }

@@ -15,7 +15,7 @@ use std::alloc::Global;
 /// How many records a recording has, or `None` where the row is no recording, or its records are bad.
 ///
 /// # Errors
-/// `sqlite`'s, and want of memory in its words.
+/// `sqlite`'s; `OutOfMemory` where memory runs out; `DatabaseCorrupt` where the records come out of the order that was asked for.
 pub fn check_row<S: Alter>(
     alloc: Global,
     conn: &mut Connection<S>,

@@ -10,11 +10,14 @@ ghost use Rattle.edf_audit.specs.File.{Audits};
 use crate::all::check_all;
 use edf_schema::is_ours;
 use edf_tables::create_tables;
-use sqlite::{Alter, Connection, Error};
+use sqlite::{Alter, Connection, Error, ErrorCode};
 use std::alloc::Global;
 
 /// Makes the tables where they are missing in a file that has no other, and tells whether their rows are those of
 /// submissions under the cap.
+///
+/// # Errors
+/// As `audit` has them.
 fn audit_tables<S: Alter>(alloc: Global, conn: &mut Connection<S>, cap: u32) -> Result<bool, Error>
     requires cap { cap < 2 ^ 32 - 1 }
     requires ours { HasCleanDisk (state S.Store conn.old) → IsOurs (state S.Store conn.old).now }
@@ -27,7 +30,7 @@ fn audit_tables<S: Alter>(alloc: Global, conn: &mut Connection<S>, cap: u32) -> 
 {
     create_tables(conn)?;
     if !conn.is_autocommit() {
-        return Err(Error::QueryReturnedNoRows);
+        return Err(Error::SqliteFailure(ErrorCode::TransactionState));
     }
     check_all(alloc, conn, cap)
 }
@@ -37,8 +40,9 @@ fn audit_tables<S: Alter>(alloc: Global, conn: &mut Connection<S>, cap: u32) -> 
 /// A file with any other table, index or view, or with other columns under our names, is left as it is.
 ///
 /// # Errors
-/// `sqlite`'s, and want of memory in its words; the rows stay, and tables may have been made. `QueryReturnedNoRows` where a
-/// transaction is open. A crash leaves no table, the first, or both.
+/// `sqlite`'s; the rows stay, and tables may have been made. Of its own, in `sqlite`'s words: `OutOfMemory` where memory runs out;
+/// `TransactionState` where a transaction is open; `DatabaseCorrupt` where rows come out of the order that was asked for;
+/// `IntegerOverflow` where there are 9,223,372,036,854,775,807 records or more. A crash leaves no table, the first, or both.
 pub fn audit<S: Alter>(alloc: Global, conn: &mut Connection<S>, cap: u32) -> Result<bool, Error>
     requires { cap < 2 ^ 32 - 1 }
     ensures other { ¬ IsOurs (state S.Store conn.old).now → (result ≡ Ok false) × (conn.new ≡ conn.old) }

@@ -35,7 +35,8 @@ fn start_in(alloc: Global, identity: &Identity, row: &Row) -> Result<Option<Inst
 /// The start of a row, if it may stand behind the last.
 ///
 /// # Errors
-/// Where memory runs out, or where the row comes before the last.
+/// `OutOfMemory` where memory runs out; `DatabaseCorrupt` where the row comes before the last, as rows are asked for by their
+/// starts.
 fn next_start(
     alloc: Global,
     identity: &Identity,
@@ -53,7 +54,7 @@ fn next_start(
         return Ok(Some(start));
     };
     if start < last {
-        return Err(Error::QueryReturnedNoRows);
+        return Err(Error::SqliteFailure(ErrorCode::DatabaseCorrupt));
     }
     if start.nanos() - last.nanos() < identity.duration() {
         Ok(None)
@@ -66,7 +67,7 @@ fn next_start(
 /// identity, two lie less than a duration apart, there is none, or there are more than `cap`.
 ///
 /// # Errors
-/// `sqlite`'s, and want of memory in its words.
+/// `sqlite`'s; `OutOfMemory` where memory runs out; `DatabaseCorrupt` where rows come out of the order that was asked for.
 pub fn check_recording<S: Alter>(
     alloc: Global,
     conn: &mut Connection<S>,
