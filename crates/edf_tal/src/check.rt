@@ -5,9 +5,15 @@ ghost use Rattle.edf_tal.specs.Inside.Scan.{TellsOnset, AreZeros, IsSurvey, Keep
 ghost use Rattle.edf_tal.specs.declared.place.Place.{Place};
 
 use crate::place::{Place, TalFault};
-use crate::scan::first_tal;
+use crate::scan::{TEXT_END, first_tal};
 use crate::survey::{Totals, onset_instant, survey};
 use edf_time::Instant;
+
+/// The most annotations that a data record may have, without the time-keeping one.
+const MOST_NOTES: usize = 10_000;
+
+/// The most bytes that their texts may have together.
+const MOST_TEXT_BYTES: usize = 1_000_000;
 
 /// What a block without a fault has.
 #[derive(Clone, Copy)]
@@ -32,7 +38,7 @@ fn is_timed(texts: &[u8]) -> bool
 {
     match texts {
         [] => false,
-        [first, ..] => *first == 20,
+        [first, ..] => *first == TEXT_END,
     }
 }
 
@@ -65,7 +71,7 @@ fn keeps_order(place: &Place, start: Instant) -> bool
 fn is_within_limits(count: usize, text_bytes: usize) -> bool
     ensures { IsTrue result ↔ ((count ≤ 10_001) × (text_bytes ≤ 1_000_000)) }
 {
-    count <= 10_001 && text_bytes <= 1_000_000
+    count <= MOST_NOTES + 1 && text_bytes <= MOST_TEXT_BYTES
 }
 
 /// The TALs of a block that is TALs and zeros, with UTF-8 texts.

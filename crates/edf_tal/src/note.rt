@@ -5,12 +5,15 @@ ghost use Rattle.edf_tal.specs.Tal.{Annotation, IsText};
 ghost use Rattle.edf_tal.specs.Tal.{IsAnnotation};
 ghost use Rattle.edf_time.specs.Civil.{window};
 
+use crate::scan::{TAL_END, TEXT_END};
 use edf_time::Instant;
 use std::marker::Model;
 
-/// An annotation of a data record: an instant, a duration or none, and a text.
+/// An annotation of a data record: an instant, a duration in nanoseconds or none, and a text (EDF+, time-stamped annotations
+/// lists).
 ///
-/// A duration of 0 is not the same as none. The text is UTF-8 without the bytes 0 and 20, which end texts and TALs.
+/// A duration of 0 is not the same as none. The text is UTF-8 without byte 20, which ends a text, and byte 0, which ends a TAL;
+/// byte 21, which stands before a duration, may stand in it.
 #[derive(Drop)]
 pub struct Note {
     onset: Instant,
@@ -36,7 +39,7 @@ impl Model for Note {
 fn is_text(text: &[u8]) -> bool
     ensures { IsTrue result ↔ IsText text.now }
 {
-    text.iter().all(|b| *b != 0 && *b != 20)
+    text.iter().all(|b| *b != TAL_END && *b != TEXT_END)
 }
 
 /// Whether the duration is shorter than the window, or none.
@@ -91,7 +94,7 @@ impl Note {
         self.onset
     }
 
-    /// Its duration in nanoseconds, or none.
+    /// Its duration in nanoseconds, or none: below 3,155,760,000,000,000,000.
     pub fn duration(&self) -> Option<u64>
         ensures value { result ≡ self.now.duration }
         ensures note { IsAnnotation self.now }
@@ -99,7 +102,7 @@ impl Note {
         self.duration
     }
 
-    /// Its text.
+    /// Its text, without the bytes 0 and 20.
     pub fn text(&self) -> &str
         ensures value { result.now ≡ self.now.text }
         ensures note { IsAnnotation self.now }

@@ -125,10 +125,11 @@ fn list_notes(
     Ok(list)
 }
 
-/// The start and the annotations of a data record, from its annotations block.
+/// The start and the annotations of a data record, from its annotations block (EDF+, time-stamped annotations lists).
 ///
 /// `block` is the bytes of the annotations signal in the data record: TALs one behind the other, then bytes 0 to the
-/// end. Onsets count from `file_start`, the instant of the header's startdate and starttime. The first annotation of
+/// end. A TAL is an onset in seconds, maybe byte 21 and a duration in seconds, byte 20, each text with a byte 20 behind it, and
+/// byte 0. Onsets count from `file_start`, the instant of the header's startdate and starttime. The first annotation of
 /// the first TAL is empty: it keeps time, its TAL's onset is the data record's start, and it is not in the list. All
 /// annotations of a TAL share its onset and duration.
 ///

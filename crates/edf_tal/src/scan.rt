@@ -5,6 +5,15 @@ ghost use Rattle.edf_tal.specs.Inside.Scan.{Lacks, NoTal, capped, IsTimes, IsHea
 
 use edf_time::{DecimalFault, read_seconds};
 
+/// The byte behind the times of a TAL, and behind each of its texts.
+pub(crate) const TEXT_END: u8 = 20;
+
+/// The byte between an onset and a duration.
+pub(crate) const DURATION_MARK: u8 = 21;
+
+/// The byte behind a TAL, with which a block is filled too.
+pub(crate) const TAL_END: u8 = 0;
+
 /// The onset and the duration of a TAL, in nanoseconds; what does not fit 63 bits counts as 2 ^ 63.
 #[derive(Clone, Copy)]
 pub(crate) struct Times {
@@ -17,7 +26,7 @@ pub(crate) struct Times {
 #[derive(Clone, Copy)]
 pub(crate) struct FrontTal<'a> {
     pub(crate) times: Times,
-    /// Its texts, each with its byte 20.
+    /// Its texts, each with the byte that ends it.
     pub(crate) texts: &'a [u8],
     /// What stands behind it.
     pub(crate) rest: &'a [u8],
@@ -55,7 +64,7 @@ fn spans(bytes: &[u8]) -> Option<(u64, Option<u64>)>
         (λ r. (n : ℕ) × (d : Option ℕ) × IsTimes bytes.now n d
         × (r.0 ≡ capped n) × TellsDuration r.1 d) }
 {
-    match split_first(bytes, 21) {
+    match split_first(bytes, DURATION_MARK) {
         None => {
             let onset = capped_seconds(bytes)?;
             Some((onset, None))
@@ -103,7 +112,7 @@ fn head_times(head: &[u8]) -> Option<Times>
 fn is_ended(bytes: &[u8]) -> bool
     ensures { IsTrue result ↔ IsEnded bytes.now }
 {
-    bytes.is_empty() || bytes[bytes.len() - 1] == 20
+    bytes.is_empty() || bytes[bytes.len() - 1] == TEXT_END
 }
 
 /// The TAL at the front.
@@ -113,8 +122,8 @@ pub(crate) fn first_tal(bytes: &[u8]) -> Option<FrontTal<'_>>
         × TellsOnset f.times.ahead f.times.onset t.onset
         × TellsDuration f.times.duration t.duration) }
 {
-    let (body, rest) = split_first(bytes, 0)?;
-    let (head, texts) = split_first(body, 20)?;
+    let (body, rest) = split_first(bytes, TAL_END)?;
+    let (head, texts) = split_first(body, TEXT_END)?;
     if !is_ended(texts) {
         return None;
     }
@@ -135,7 +144,7 @@ pub(crate) fn check_texts(texts: &[u8]) -> Result<usize, usize>
     let len = texts.len();
     let mut rest = texts;
     let mut count = 0;
-    while let Some((text, more)) = split_first(rest, 20) {
+    while let Some((text, more)) = split_first(rest, TEXT_END) {
         if !is_utf8(text) {
             return Err(len - rest.len());
         }

@@ -8,6 +8,7 @@ ghost use Rattle.edf_tal.specs.Block.{IsWithinLimits};
 ghost use Rattle.edf_tal.specs.Canonical.{onset_text, duration_text, tal_text, block_text};
 
 use crate::note::Note;
+use crate::scan::{DURATION_MARK, TAL_END, TEXT_END};
 use edf_time::{Instant, seconds_len, write_seconds};
 use std::alloc::{AllocError, Global};
 
@@ -56,7 +57,7 @@ fn push_duration(
     match duration {
         None => Ok(()),
         Some(nanos) => {
-            block.push(21)?;
+            block.push(DURATION_MARK)?;
             push_seconds(alloc, block, nanos)
         }
     }
@@ -76,9 +77,9 @@ fn push_annotation(
 {
     push_onset(alloc, block, base, onset)?;
     push_duration(alloc, block, duration)?;
-    block.push(20)?;
+    block.push(TEXT_END)?;
     block.extend_from_slice(text)?;
-    block.extend_from_slice(&[20, 0])
+    block.extend_from_slice(&[TEXT_END, TAL_END])
 }
 
 /// The length of a decimal of the window.
@@ -113,8 +114,8 @@ fn annotation_len(base: Instant, onset: Instant, duration: Option<u64>, text: &[
     1 + short_len(distance(base, onset)) + duration_len(duration) + 3 + text.len()
 }
 
-/// The length in bytes of the block that `write_block` writes, at most 1,450,045. Contracts also learn what each annotation of
-/// the list is.
+/// The length in bytes of the block that `write_block` writes (EDF+, time-stamped annotations lists): at most 1,450,045. Contracts
+/// also learn what each annotation of the list is.
 pub fn block_len(start: Instant, notes: &[Note], base: Instant) -> usize
     requires { IsWithinLimits notes.now }
     ensures value { result ≡ length (block_text base start notes.now) }
@@ -128,10 +129,15 @@ pub fn block_len(start: Instant, notes: &[Note], base: Instant) -> usize
     len
 }
 
-/// The canonical annotations block of a data record, without the bytes 0 that fill its signal.
+/// The canonical annotations block of a data record, without the bytes 0 that fill its signal (EDF+, time-stamped annotations
+/// lists).
 ///
 /// The time-keeping annotation stands alone in the first TAL, then each annotation in a TAL of its own, in order. Onsets
-/// count from `base`, with `+` where they do not lie before it; every decimal is the shortest.
+/// count from `base`, with `+` where they do not lie before it; every decimal is the shortest. The block has at most 1,450,045
+/// bytes.
+///
+/// # Errors
+/// Where memory runs out.
 pub fn write_block(
     alloc: Global,
     start: Instant,
