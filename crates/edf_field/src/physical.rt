@@ -27,7 +27,7 @@ fn split_fraction(text: &[u8]) -> (&[u8], &[u8])
     }
 }
 
-/// Reads a physical value.
+/// Reads a physical value, the field of at most eight bytes; `None` where it is none.
 fn read_physical(field: &[u8]) -> Option<Physical>
     requires { length field.now ≤ 8 }
     ensures { MatchOption result
@@ -56,8 +56,10 @@ fn differ(a: Physical, b: Physical) -> bool
     a_unscaled != b_unscaled || (a.negative != b.negative && a_unscaled != 0)
 }
 
-/// Whether two texts of at most eight bytes are physical values that differ as numbers: a sign or none, digits, maybe a dot and
-/// digits, and then only spaces.
+/// Whether two texts of at most eight bytes are physical values that differ as numbers: a sign or none, one digit or more, maybe a
+/// dot and zero or more digits, and then only spaces. Also false where one of them is no such text.
+///
+/// In a header: each signal's physical minimum and maximum, 8 bytes at 104 and 8 at 112 of its row of 256 (EDF, header record).
 pub fn physical_values_differ(minimum: &[u8], maximum: &[u8]) -> bool
     requires minimum { length minimum.now ≤ 8 }
     requires maximum { length maximum.now ≤ 8 }
