@@ -102,7 +102,8 @@ fn parts(text: &[u8]) -> Option<(&[u8], &[u8])>
     }
 }
 
-/// The nanoseconds that a decimal of seconds is worth, as onsets and durations are written.
+/// The nanoseconds that a decimal of seconds is worth, as the duration of a data record is written (EDF, header record), and the
+/// onsets and durations of annotations (EDF+, time-stamped annotations lists).
 ///
 /// A decimal is one or more digits, or such digits, a dot and one or more digits. Zeros may lead, and zeros may follow the
 /// ninth digit after the dot.

@@ -47,7 +47,8 @@ fn dotted(first: u8, second: u8, third: u8) -> [u8; 8]
     ]
 }
 
-/// The startdate of a header, `dd.mm.yy`: the 8 bytes of the field.
+/// The startdate of a header, `dd.mm.yy`: 8 bytes, at 168 to 175 of the file (EDF, header record). The last two digits of the
+/// year stand for 1985 to 2084 (EDF+, the clipping date).
 pub fn date_field(instant: Instant) -> [u8; 8]
     ensures { IsDateText result (day_of instant) }
 {
@@ -55,7 +56,8 @@ pub fn date_field(instant: Instant) -> [u8; 8]
     dotted(date.day, date.month, (date.year % 100) as u8)
 }
 
-/// The starttime of a header, `hh.mm.ss`: the 8 bytes of the field. A fraction of a second is left out.
+/// The starttime of a header, `hh.mm.ss`: 8 bytes, at 176 to 183 of the file (EDF, header record). A fraction of a second is
+/// left out.
 pub fn time_field(instant: Instant) -> [u8; 8]
     ensures { IsTimeText result (second_of_day instant) }
 {
@@ -63,7 +65,8 @@ pub fn time_field(instant: Instant) -> [u8; 8]
     dotted(clock.hour, clock.minute, clock.second)
 }
 
-/// The day of the instant as the identification fields write one, `dd-MMM-yyyy`: 11 bytes.
+/// The day of the instant as the identification fields write one, `dd-MMM-yyyy`: 11 bytes, the months JAN to DEC in capitals
+/// (EDF+, additional specifications). Behind `Startdate ` it stands at bytes 98 to 108 of the file.
 pub fn id_date_text(instant: Instant) -> [u8; 11]
     ensures { IsIdDate result (pos (day_of instant)) }
 {
@@ -86,10 +89,11 @@ pub fn id_date_text(instant: Instant) -> [u8; 11]
     ]
 }
 
-/// The day that a text `dd-MMM-yyyy` names, as the identification fields write one.
+/// The day that a text `dd-MMM-yyyy` of 11 bytes names, as the identification fields write one (EDF+, additional
+/// specifications).
 ///
 /// The months are JAN to DEC, in capitals; the years 0000 to 9999 are those of the Gregorian calendar, carried backwards. `None`
-/// where the text is no such date.
+/// where the text has another length or form, or names no day of the calendar.
 pub fn id_date(text: &[u8]) -> Option<Day>
     ensures { MatchOption result ((days : ℤ) → ¬ IsIdDate text.now days) (IsIdDate text.now) }
 {
@@ -104,7 +108,11 @@ pub fn id_date(text: &[u8]) -> Option<Day>
     Some(Day::from_days(days))
 }
 
-/// An instant as `yyyy-mm-ddThh:mm:ss`, then, where its second has a fraction, a dot and the decimals without trailing zeros.
+/// An instant as `yyyy-mm-ddThh:mm:ss`, 19 bytes; then, where its second has a fraction, a dot and the decimals without
+/// trailing zeros, at most nine. For a reader's eyes: no field of EDF has this form.
+///
+/// # Errors
+/// Where memory runs out.
 pub fn instant_text(alloc: Global, instant: Instant) -> Result<Vec<u8>, AllocError>
     ensures { IfOk result (λ v. IsInstantText v.items instant) }
 {

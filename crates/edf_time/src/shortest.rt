@@ -5,7 +5,12 @@ ghost use Rattle.edf_time.specs.Decimal.{IsShortest, short, fraction_text};
 use std::alloc::{AllocError, Global};
 
 /// The shortest decimal of so many nanoseconds, in seconds: no zero leads but one before the dot, none trails, and no dot
-/// stands without a fraction.
+/// stands without a fraction. It has at most 21 bytes.
+///
+/// So the onsets and durations of annotations are written (EDF+, time-stamped annotations lists).
+///
+/// # Errors
+/// Where memory runs out.
 pub fn write_seconds(alloc: Global, nanos: u64) -> Result<Vec<u8>, AllocError>
     ensures text { IfOk result (λ v. v.items ≡ short nanos) }
     ensures shortest { IfOk result (λ v. IsShortest v.items nanos) }
@@ -16,6 +21,9 @@ pub fn write_seconds(alloc: Global, nanos: u64) -> Result<Vec<u8>, AllocError>
 }
 
 /// Appends a dot and the decimals of a part of a second, in nanoseconds, where it is not 0.
+///
+/// # Errors
+/// Where memory runs out.
 pub(crate) fn push_fraction(text: &mut Vec<u8>, mut part: u64) -> Result<(), AllocError>
     requires { part < 10 ^ 9 }
     ensures { OnOk result (text.new.items ≡ text.old.items ++ fraction_text part) }
@@ -33,7 +41,7 @@ pub(crate) fn push_fraction(text: &mut Vec<u8>, mut part: u64) -> Result<(), All
     Ok(())
 }
 
-/// The length in bytes of the shortest decimal of so many nanoseconds.
+/// The length in bytes of the shortest decimal of so many nanoseconds, as `write_seconds` writes it: 1 to 21.
 pub fn seconds_len(nanos: u64) -> usize
     ensures { result ≡ length (short nanos) }
 {
