@@ -117,7 +117,8 @@ fn push_signals(
     Ok(())
 }
 
-/// The canonical header of `count` data records of a recording, the first of which starts in the second of `start`.
+/// The canonical header of `count` data records of a recording, the first of which starts in the second of `start` (EDF, header
+/// record; EDF+, additional specifications and the annotations signal).
 ///
 /// It is EDF+D: 256 bytes, then 256 for each ordinary signal and for the annotations signal, which stands last and has
 /// `block_samples` samples per data record, two bytes each. `count` is 1 to 99,999,999, `block_samples` 1 to 2,097,152. Every

@@ -3,7 +3,8 @@ ghost use Rattle.edf_header.specs.Fault.{header_fault_number};
 
 use thiserror::Error;
 
-/// Why a header is refused, the first condition by number. Signals count from 1, offsets in bytes from the file's first.
+/// Why a header is refused, the first condition by number (EDF, header record; EDF+, additional specifications and the annotations
+/// signal). Signals count from 1, offsets in bytes from the file's first, which is 0.
 #[derive(Clone, Copy, Debug, PartialEq, Eq, Drop, Error)]
 pub enum HeaderFault {
     /// E1: the file has fewer than 256 bytes.
@@ -21,10 +22,10 @@ pub enum HeaderFault {
     /// E5: the recording field is no recording identification of EDF+.
     #[error("the recording identification is not that of EDF+")]
     Recording,
-    /// E6: the startdate is no day of 1985 to 2084.
+    /// E6: the startdate is not `dd.mm.yy` of a day of 1985 to 2084.
     #[error("the startdate is no date")]
     Startdate,
-    /// E7: the starttime is no second of a day.
+    /// E7: the starttime is not `hh.mm.ss` of a second of a day.
     #[error("the starttime is no time")]
     Starttime,
     /// E8: the Startdate subfield is a date, and not the startdate's.
@@ -51,13 +52,14 @@ pub enum HeaderFault {
     /// E15: a byte of the signal part is not 32 to 126.
     #[error("byte {offset} is not printable")]
     UnprintableSignals { offset: usize },
-    /// E16: not exactly one signal is an annotations signal, or its digital or physical values are not as they must be.
+    /// E16: not exactly one signal is labelled `EDF Annotations` and a space; or its digital minimum is not -32,768, its maximum
+    /// not 32,767; or its physical ones are no numbers, or equal.
     #[error("there is not exactly one well-formed annotations signal")]
     Annotations,
     /// E17: an ordinary signal's physical minimum and maximum are no numbers, or equal.
     #[error("signal {signal} has no two different physical values")]
     Physical { signal: u32 },
-    /// E18: an ordinary signal's digital minimum and maximum are no numbers of 16 bits, or do not rise.
+    /// E18: an ordinary signal's digital minimum and maximum are no whole numbers of -32,768 to 32,767, or do not rise.
     #[error("signal {signal} has no two rising digital values of 16 bits")]
     Digital { signal: u32 },
     /// E19: a signal's samples per data record are no whole number from 1 on.

@@ -1,4 +1,4 @@
-//! Where the fields of a header begin, in bytes. Each ends where the next begins.
+//! Where the fields of a header begin, in bytes (EDF, header record). Each ends where the next begins.
 
 // In the fixed part.
 pub(crate) const VERSION: usize = 0;
@@ -59,6 +59,9 @@ pub(crate) const KEY_FILL: usize = 140;
 pub(crate) const KEY_DURATION: usize = 150;
 
 pub(crate) const KEY_SIGNALS: usize = 158;
+
+/// The most bytes that a data record's ordinary samples may have, and the most that its annotations block may have.
+pub(crate) const MOST_PART_BYTES: u64 = 4_194_304;
 
 /// All fields of a row: where each begins, and its bytes.
 pub(crate) const ROW: [(usize, usize); 10] = [

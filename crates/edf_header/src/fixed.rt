@@ -13,8 +13,8 @@ use crate::fixed_fields::{
 use edf_time::{Day, Instant};
 use std::marker::Model;
 
-/// What the fixed part of a header says, its first 256 bytes: whose recording the file belongs to, when it starts, how many
-/// data records and signals it has.
+/// What the fixed part of a header says, its first 256 bytes (EDF, header record): whose recording the file belongs to, when it
+/// starts, how many data records and signals it has.
 ///
 /// Of the startdate, the starttime and the recording field only their meaning is kept: the instant at which the file starts,
 /// the day of the Startdate subfield or none where that is `X`, and what follows that subfield.
@@ -44,7 +44,8 @@ impl Model for Fixed {
 }
 
 impl Fixed {
-    /// The number of signals, 2 to 640, the annotations signal among them: so many headers of 256 bytes follow the fixed part.
+    /// The number of signals, 2 to 640, bytes 252 to 255 of the header, the annotations signal among them: so many headers of 256
+    /// bytes follow the fixed part.
     pub fn signals(&self) -> usize
         ensures value { result ≡ self.now.signal_count }
         ensures from { 2 ≤ result }
@@ -92,14 +93,14 @@ impl Fixed {
         self.count
     }
 
-    /// The duration field, 8 bytes.
+    /// The field of the duration of a data record, 8 bytes.
     pub(crate) fn duration(&self) -> &[u8]
         ensures { result.now ≡ self.now.duration }
     {
         self.duration.as_slice()
     }
 
-    /// The duration in nanoseconds.
+    /// The duration of a data record in nanoseconds.
     pub(crate) fn nanos(&self) -> u64
         ensures { result ≡ duration_of self.now.duration }
     {
@@ -135,7 +136,7 @@ fn fixed_of(
     }
 }
 
-/// Reads the fixed part of a header, its first 256 bytes.
+/// Reads the fixed part of a header, its first 256 bytes (EDF, header record; EDF+, additional specifications).
 ///
 /// The fields are those of EDF with the identification fields of EDF+: version, bytes 0 to 7; patient, 8 to 87; recording, 88 to
 /// 167; startdate, 168 to 175; starttime, 176 to 183; number of header bytes, 184 to 191; reserved, 192 to 235, which begins with

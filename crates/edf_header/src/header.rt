@@ -6,7 +6,7 @@ use edf_time::Instant;
 use std::marker::Model;
 
 /// What a header says of its data records: whose they are, from where their onsets count, how many there are, and where the
-/// annotations block stands in each.
+/// annotations block stands in each (EDF, header record and data records; EDF+, the annotations signal).
 #[derive(Drop)]
 pub struct Header {
     pub(crate) identity: Identity,
@@ -56,14 +56,14 @@ impl Header {
         self.identity
     }
 
-    /// The startdate and starttime, a whole second, from where the onsets of annotations count.
+    /// The startdate and starttime, bytes 168 to 183 of the header: a whole second, from where the onsets of annotations count.
     pub fn start(&self) -> Instant
         ensures { result ≡ self.now.start }
     {
         self.start
     }
 
-    /// How many data records there are, from 1 on.
+    /// How many data records there are: 1 to 99,999,999, bytes 236 to 243 of the header.
     pub fn count(&self) -> u32
         ensures value { result ≡ self.now.count }
         ensures layout { IsLayout self.now }
@@ -71,7 +71,7 @@ impl Header {
         self.count
     }
 
-    /// At which byte of a data record the annotations block begins.
+    /// At which byte of a data record, from 0, the annotations block begins: two for each sample of the signals before it.
     pub fn block_at(&self) -> usize
         ensures value { result ≡ self.now.block_at }
         ensures layout { IsLayout self.now }
@@ -79,7 +79,8 @@ impl Header {
         self.block_at
     }
 
-    /// How many bytes the annotations block has in each data record.
+    /// How many bytes the annotations block has in each data record: 2 to 4,194,304, two for each sample of the annotations
+    /// signal.
     pub fn block_bytes(&self) -> usize
         ensures value { result ≡ self.now.block_bytes }
         ensures layout { IsLayout self.now }
@@ -87,7 +88,7 @@ impl Header {
         self.block_bytes
     }
 
-    /// How many bytes a data record has.
+    /// How many bytes a data record has, two for each sample of all signals: at most 8,388,608.
     pub fn record_bytes(&self) -> usize
         ensures value { result ≡ self.now.record_bytes }
         ensures layout { IsLayout self.now }

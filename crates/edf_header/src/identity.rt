@@ -54,12 +54,12 @@ pub enum IdentityFault {
 }
 
 /// To which recording a fragment belongs: the patient identification, the recording identification without its date, the
-/// duration of a data record, and the headers of the ordinary signals. Two fragments are of one recording where all these
-/// bytes are the same.
+/// duration of a data record, and the headers of the ordinary signals (EDF, header record; EDF+, additional specifications).
+/// Two fragments are of one recording where all these bytes are the same.
 ///
 /// Its bytes: 0 to 79 the patient field; 80 `D` where the Startdate subfield is a date, else `X`; 81 to 149 what follows
-/// that subfield, filled with spaces; 150 to 157 the duration field; then 256 for each ordinary signal, its ten fields
-/// one behind the other.
+/// that subfield, filled with spaces; 150 to 157 the duration field; then 256 for each of 1 to 639 ordinary signals, its ten
+/// fields one behind the other, as `read_signals` has them.
 #[derive(Drop)]
 pub struct Identity {
     pub(crate) bytes: Vec<u8>,
@@ -110,7 +110,8 @@ impl Identity {
     /// The identity that the bytes stand for.
     ///
     /// # Errors
-    /// The first condition that is true of the bytes, in the order of `IdentityFault`.
+    /// The first condition that is true of the bytes, in the order of `IdentityFault`; `Memory` where memory runs out and none
+    /// is true.
     pub fn from_bytes(alloc: Global, bytes: &[u8]) -> Result<Identity, IdentityFault>
         ensures { MatchResult result (λ i. (key_bytes i ≡ bytes.now) × IsKey i) (IsFirstKeyFault bytes.now) }
     {
@@ -150,7 +151,7 @@ impl Identity {
         })
     }
 
-    /// The bytes of the identity.
+    /// The bytes of the identity: 158, and 256 for each ordinary signal.
     ///
     /// # Errors
     /// Where memory runs out.
@@ -184,7 +185,7 @@ impl Identity {
         (self.bytes.len() - KEY_SIGNALS) / 256
     }
 
-    /// How many bytes the ordinary samples of a data record have, two for each.
+    /// How many bytes the ordinary samples of a data record have, two for each: at most 4,194,304.
     pub fn ordinary_bytes(&self) -> usize
         ensures value { result ≡ 2 * samples_in_all self.now.signals }
         ensures bound { result ≤ 4_194_304 }
@@ -193,7 +194,7 @@ impl Identity {
         self.ordinary_bytes
     }
 
-    /// The duration of a data record in nanoseconds.
+    /// The duration of a data record in nanoseconds: above 0, at most 100,000,000 seconds.
     pub fn duration(&self) -> u64
         ensures value { result ≡ duration_of self.now.duration }
         ensures positive { 0 < result }

@@ -9,7 +9,8 @@ ghost use Rattle.edf_header.specs.Identity.{HasLength, HasMark, signals_at, IsCl
 ghost use Rattle.edf_header.specs.Inside.Shape.{IsIdentity, IsKeyFront, place_of_check};
 
 use crate::fields::{
-    KEY_AFTER, KEY_DURATION, KEY_FILL, KEY_MARK, KEY_PATIENT, KEY_SIGNALS, SAMPLES, SIGNAL_RESERVED,
+    KEY_AFTER, KEY_DURATION, KEY_FILL, KEY_MARK, KEY_PATIENT, KEY_SIGNALS, MOST_PART_BYTES, SAMPLES,
+    SIGNAL_RESERVED,
 };
 use crate::identity::IdentityFault;
 use crate::signal_checks::{Check, first_bad, first_unprintable, is_labelled};
@@ -117,7 +118,7 @@ fn check_size(bytes: &[u8]) -> Result<usize, IdentityFault>
         (IsFirstKeyFault bytes.now) }
 {
     let size = 2 * ordinary_samples(&bytes[KEY_SIGNALS..]);
-    if size > 4_194_304 {
+    if size > MOST_PART_BYTES {
         return Err(IdentityFault::Size);
     }
     Ok(size as usize)

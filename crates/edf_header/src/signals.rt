@@ -125,10 +125,17 @@ fn check_signals(bytes: &[u8], n: usize) -> Result<Extents, HeaderFault>
 }
 
 /// Reads the signal part of a header, which stands behind the fixed part: 256 bytes a signal, field by field, each for all
-/// signals in turn.
+/// signals in turn (EDF, header record; EDF+, the annotations signal).
+///
+/// The ten fields with their bytes, and where they stand in a signal's row, in which they are laid one behind the other: label
+/// 16 at 0; transducer type 80 at 16; physical dimension 8 at 96; physical minimum 8 at 104; physical maximum 8 at 112; digital
+/// minimum 8 at 120; digital maximum 8 at 128; prefiltering 80 at 136; samples per data record 8 at 216; reserved 32 at 224. Of
+/// `n` signals the field of signal `i`, from 0, with `width` bytes at `at` stands at `256 + n * at + i * width` of the file.
 ///
 /// # Errors
-/// The first of E14 to E20 that is true of the bytes; `Memory` where memory runs out and none of them is true.
+/// The first of E14 to E20 that is true of the bytes: `CutSignals`, `UnprintableSignals` with the offset in the file of the first
+/// such byte, `Annotations`, `Physical`, `Digital`, `Samples`, `Size`, as `HeaderFault` tells them; `Memory` where memory runs out
+/// and none of them is true.
 pub fn read_signals(alloc: Global, fixed: Fixed, bytes: &[u8]) -> Result<Header, HeaderFault>
     requires { length bytes.now ≤ 256 * fixed.signal_count }
     ensures { MatchResult result
