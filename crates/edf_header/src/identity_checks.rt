@@ -9,8 +9,8 @@ ghost use Rattle.edf_header.specs.Identity.{HasLength, HasMark, signals_at, IsCl
 ghost use Rattle.edf_header.specs.Inside.Shape.{IsIdentity, IsKeyFront, place_of_check};
 
 use crate::fields::{
-    KEY_AFTER, KEY_DURATION, KEY_FILL, KEY_MARK, KEY_PATIENT, KEY_SIGNALS, MOST_PART_BYTES, SAMPLES,
-    SIGNAL_RESERVED,
+    KEY_AFTER, KEY_DURATION, KEY_FILL, KEY_MARK, KEY_PATIENT, KEY_SIGNALS, MOST_PART_BYTES,
+    SAMPLES, SIGNAL_RESERVED,
 };
 use crate::identity::IdentityFault;
 use crate::signal_checks::{Check, first_bad, first_unprintable, is_labelled};
