@@ -29,6 +29,10 @@ pub write_refused : (sql : List ℕ) (params : Row) (old new : State) (r : Resul
 write_refused sql params old new (Ok count) h = tt
 write_refused sql params old new (Err e) h = left_keeps old new (refused_left sql params old new (Err e) h)
 
+pub on_err : {T E P : Type 0} (r : Result T E) → P → OnErr r P
+on_err (Ok x) h = tt
+on_err (Err e) h = h
+
 pub keeps_then : (a b c : State) → KeepsCommit a b → KeepsCommit b c → KeepsCommit a c
 keeps_then a b c p q = record { was_open = λ h. p.was_open (q.was_open h); committed = λ h. q.committed h ∙ p.committed (q.was_open h) }
 

@@ -25,14 +25,12 @@ pub fn select_recording<S: Alter>(
     ensures kept { HasCleanDisk (state S.Store conn.new) → KeepsCommit (state S.Store conn.old) (state S.Store conn.new) }
     ensures survives { Survives (state S.Store conn.old) (state S.Store conn.new) (λ _. ⊥) }
 {
-    match rows_shown(
+    let rows = rows_shown(
         conn,
         "SELECT id FROM recording WHERE identity = ?1",
         params![identity],
-    ) {
-        Ok(rows) => first_number(rows),
-        Err(error) => Err(error),
-    }
+    )?;
+    first_number(rows)
 }
 
 /// The identities of all recordings, by their bytes.
@@ -46,14 +44,12 @@ pub fn identities<S: Alter>(conn: &mut Connection<S>) -> Result<Vec<Vec<u8>>, Er
     ensures kept { HasCleanDisk (state S.Store conn.new) → KeepsCommit (state S.Store conn.old) (state S.Store conn.new) }
     ensures survives { Survives (state S.Store conn.old) (state S.Store conn.new) (λ _. ⊥) }
 {
-    match rows_shown(
+    let rows = rows_shown(
         conn,
         "SELECT identity FROM recording ORDER BY identity",
         &[],
-    ) {
-        Ok(rows) => identities_in(rows),
-        Err(error) => Err(error),
-    }
+    )?;
+    identities_in(rows)
 }
 
 /// The id and the identity of all recordings, as they stand, also where a cell has another type.
@@ -83,8 +79,6 @@ pub fn count_all_rows<S: Alter>(conn: &mut Connection<S>) -> Result<u64, Error>
     ensures kept { HasCleanDisk (state S.Store conn.new) → KeepsCommit (state S.Store conn.old) (state S.Store conn.new) }
     ensures survives { Survives (state S.Store conn.old) (state S.Store conn.new) (λ _. ⊥) }
 {
-    match rows_shown(conn, "SELECT count(*) FROM record", &[]) {
-        Ok(rows) => first_count(rows),
-        Err(error) => Err(error),
-    }
+    let rows = rows_shown(conn, "SELECT count(*) FROM record", &[])?;
+    first_count(rows)
 }

@@ -29,14 +29,12 @@ pub fn near_rows<S: Alter>(
     ensures kept { HasCleanDisk (state S.Store conn.new) → KeepsCommit (state S.Store conn.old) (state S.Store conn.new) }
     ensures survives { Survives (state S.Store conn.old) (state S.Store conn.new) (λ _. ⊥) }
 {
-    match rows_shown(
+    let rows = rows_shown(
         conn,
         "SELECT start, samples, block FROM record WHERE recording = ?1 AND start > ?2 AND start < ?3 ORDER BY start",
         params![recording, after, before],
-    ) {
-        Ok(rows) => record_rows(rows),
-        Err(error) => Err(error),
-    }
+    )?;
+    record_rows(rows)
 }
 
 /// The first `limit` records of a recording that start after an instant, by their starts.
@@ -55,14 +53,12 @@ pub fn page_rows<S: Alter>(
     ensures kept { HasCleanDisk (state S.Store conn.new) → KeepsCommit (state S.Store conn.old) (state S.Store conn.new) }
     ensures survives { Survives (state S.Store conn.old) (state S.Store conn.new) (λ _. ⊥) }
 {
-    match rows_shown(
+    let rows = rows_shown(
         conn,
         "SELECT start, samples, block FROM record WHERE recording = ?1 AND start > ?2 ORDER BY start LIMIT ?3",
         params![recording, after, limit],
-    ) {
-        Ok(rows) => record_rows(rows),
-        Err(error) => Err(error),
-    }
+    )?;
+    record_rows(rows)
 }
 
 /// The number of records of a recording, 2^63 - 1 where there are more.
@@ -76,14 +72,12 @@ pub fn count_rows<S: Alter>(conn: &mut Connection<S>, recording: i64) -> Result<
     ensures kept { HasCleanDisk (state S.Store conn.new) → KeepsCommit (state S.Store conn.old) (state S.Store conn.new) }
     ensures survives { Survives (state S.Store conn.old) (state S.Store conn.new) (λ _. ⊥) }
 {
-    match rows_shown(
+    let rows = rows_shown(
         conn,
         "SELECT count(*) FROM record WHERE recording = ?1",
         params![recording],
-    ) {
-        Ok(rows) => first_count(rows),
-        Err(error) => Err(error),
-    }
+    )?;
+    first_count(rows)
 }
 
 /// The first start of a recording's records.
@@ -97,14 +91,12 @@ pub fn first_start<S: Alter>(conn: &mut Connection<S>, recording: i64) -> Result
     ensures kept { HasCleanDisk (state S.Store conn.new) → KeepsCommit (state S.Store conn.old) (state S.Store conn.new) }
     ensures survives { Survives (state S.Store conn.old) (state S.Store conn.new) (λ _. ⊥) }
 {
-    match rows_shown(
+    let rows = rows_shown(
         conn,
         "SELECT start FROM record WHERE recording = ?1 ORDER BY start LIMIT 1",
         params![recording],
-    ) {
-        Ok(rows) => first_number(rows),
-        Err(error) => Err(error),
-    }
+    )?;
+    first_number(rows)
 }
 
 /// The last start of a recording's records.
@@ -118,12 +110,10 @@ pub fn last_start<S: Alter>(conn: &mut Connection<S>, recording: i64) -> Result<
     ensures kept { HasCleanDisk (state S.Store conn.new) → KeepsCommit (state S.Store conn.old) (state S.Store conn.new) }
     ensures survives { Survives (state S.Store conn.old) (state S.Store conn.new) (λ _. ⊥) }
 {
-    match rows_shown(
+    let rows = rows_shown(
         conn,
         "SELECT start FROM record WHERE recording = ?1 ORDER BY start DESC LIMIT 1",
         params![recording],
-    ) {
-        Ok(rows) => first_number(rows),
-        Err(error) => Err(error),
-    }
+    )?;
+    first_number(rows)
 }

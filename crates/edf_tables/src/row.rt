@@ -17,8 +17,11 @@ use sqlite::{Alter, Connection, Error, Row};
 /// A row of the table `record`, without its recording.
 #[derive(Debug, PartialEq, Eq, Drop)]
 pub struct RecordRow {
+    /// By which the rows of a recording are ordered: nanoseconds from 1985-01-01 00:00:00, as `edf_rows` counts them.
     pub start: i64,
+    /// The sample bytes of the data record.
     pub samples: Vec<u8>,
+    /// The block that `edf_rows` writes for the data record's annotations.
     pub block: Vec<u8>,
 }
 
@@ -57,10 +60,7 @@ pub(crate) fn first_number(rows: Vec<Row>) -> Result<Option<i64>, Error>
     ensures { IfOk result (λ found. option_map Int found ≡ option_map (λ row. column row 0) (slice_get rows.items 0)) }
 {
     match rows.first() {
-        Some(row) => match row.get(0) {
-            Ok(number) => Ok(Some(number)),
-            Err(error) => Err(error),
-        },
+        Some(row) => Ok(Some(row.get(0)?)),
         None => Ok(None),
     }
 }

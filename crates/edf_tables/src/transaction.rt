@@ -15,10 +15,8 @@ pub fn begin<S: Alter>(conn: &mut Connection<S>) -> Result<(), Error>
     ensures refused { HasCleanDisk (state S.Store conn.new) → OnErr result (KeepsCommit (state S.Store conn.old) (state S.Store conn.new)) }
     ensures survives { Survives (state S.Store conn.old) (state S.Store conn.new) (λ _. ⊥) }
 {
-    match conn.execute("BEGIN", &[]) {
-        Ok(_) => Ok(()),
-        Err(error) => Err(error),
-    }
+    conn.execute("BEGIN", &[])?;
+    Ok(())
 }
 
 /// Commits the transaction: what it shows is what is held.
@@ -32,10 +30,8 @@ pub fn commit<S: Alter>(conn: &mut Connection<S>) -> Result<(), Error>
     ensures ended { HasCleanDisk (state S.Store conn.new) → (state S.Store conn.new).in_transaction ≡ false }
     ensures survives { Survives (state S.Store conn.old) (state S.Store conn.new) (λ db. db ≡ (state S.Store conn.old).now.trees) }
 {
-    match conn.execute("COMMIT", &[]) {
-        Ok(_) => Ok(()),
-        Err(error) => Err(error),
-    }
+    conn.execute("COMMIT", &[])?;
+    Ok(())
 }
 
 /// Undoes the transaction: what is held is as before it began.
@@ -47,8 +43,6 @@ pub fn roll_back<S: Alter>(conn: &mut Connection<S>) -> Result<(), Error>
     ensures kept { HasCleanDisk (state S.Store conn.new) → KeepsCommit (state S.Store conn.old) (state S.Store conn.new) }
     ensures survives { Survives (state S.Store conn.old) (state S.Store conn.new) (λ _. ⊥) }
 {
-    match conn.execute("ROLLBACK", &[]) {
-        Ok(_) => Ok(()),
-        Err(error) => Err(error),
-    }
+    conn.execute("ROLLBACK", &[])?;
+    Ok(())
 }

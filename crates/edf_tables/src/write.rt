@@ -18,13 +18,11 @@ pub fn insert_recording<S: Alter>(conn: &mut Connection<S>, identity: &[u8]) -> 
     ensures refused { HasCleanDisk (state S.Store conn.new) → OnErr result (KeepsCommit (state S.Store conn.old) (state S.Store conn.new)) }
     ensures survives { Survives (state S.Store conn.old) (state S.Store conn.new) (λ _. ⊥) }
 {
-    match conn.execute(
+    conn.execute(
         "INSERT INTO recording (identity) VALUES (?1)",
         params![identity],
-    ) {
-        Ok(_) => Ok(conn.last_insert_rowid()),
-        Err(error) => Err(error),
-    }
+    )?;
+    Ok(conn.last_insert_rowid())
 }
 
 /// Adds a row to `record`.

@@ -8,5 +8,5 @@ use Rattle.edf_tables.proofs.list.identities.Goals as goal
 pub rows_shown-requires : goal.rows_shown-requires
 rows_shown-requires g c clean = plain_at identities_text _ _ identities_is (state g.S.Store c.args.conn.now) (c.requires.apart clean).schema
 
-pub returns-in-Ok-clause-identities : goal.returns-in-Ok-clause-identities
-returns-in-Ok-clause-identities g c clean = if_ok_then c.identities_in.result c.identities_in.ensures (λ found e. e ∙ identities_shown (state g.S.Store c.args.conn.now) (state g.S.Store c.rows_shown.new.conn) c.in-Ok.rows.items (c.requires.apart (omega (arith, c.rows_shown.ensures.survives.clean))) (c.in-Ok.ensures.shown clean))
+pub returns-clause-identities : goal.returns-clause-identities
+returns-clause-identities g c clean = if_ok_then c.identities_in.result c.identities_in.ensures (λ found e. e ∙ identities_shown (state g.S.Store c.args.conn.now) (state g.S.Store c.rows_shown.new.conn) c.in_ok-rows.rows.items (c.requires.apart (omega (arith, c.rows_shown.ensures.survives.clean))) (c.in_ok-rows.ensures.shown clean))

@@ -8,5 +8,5 @@ use Rattle.edf_tables.proofs.list.select_recording.Goals as goal
 pub rows_shown-requires : goal.rows_shown-requires
 rows_shown-requires g c clean = plain_at id_text _ _ id_is (state g.S.Store c.args.conn.now) (c.requires.schema clean)
 
-pub returns-in-Ok-clause-id : goal.returns-in-Ok-clause-id
-returns-in-Ok-clause-id g c clean = if_ok_then c.first_number.result c.first_number.ensures (λ found e. id_shown c.args.identity.now found (state g.S.Store c.args.conn.now) (state g.S.Store c.rows_shown.new.conn) c.in-Ok.rows.items (c.requires.schema (omega (arith, c.rows_shown.ensures.survives.clean))) (rw (c.params-to_sql.ensures) at (c.in-Ok.ensures.shown clean)) e)
+pub returns-clause-id : goal.returns-clause-id
+returns-clause-id g c clean = if_ok_then c.first_number.result c.first_number.ensures (λ found e. id_shown c.args.identity.now found (state g.S.Store c.args.conn.now) (state g.S.Store c.rows_shown.new.conn) c.in_ok-rows.rows.items (c.requires.schema (omega (arith, c.rows_shown.ensures.survives.clean))) (rw (c.params-to_sql.ensures) at (c.in_ok-rows.ensures.shown clean)) e)

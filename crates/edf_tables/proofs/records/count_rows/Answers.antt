@@ -10,5 +10,5 @@ use Rattle.edf_tables.proofs.records.count_rows.Goals as goal
 pub rows_shown-requires : goal.rows_shown-requires
 rows_shown-requires g c clean = plain_at count_text _ _ count_is (state g.S.Store c.args.conn.now) (c.requires.schema clean)
 
-pub returns-in-Ok-clause-count : goal.returns-in-Ok-clause-count
-returns-in-Ok-clause-count g c clean = if_ok_then c.first_count.result c.first_count.ensures (λ found e. count_shown c.args.recording found (state g.S.Store c.args.conn.now) (state g.S.Store c.rows_shown.new.conn) c.in-Ok.rows.items (c.requires.schema (omega (arith, c.rows_shown.ensures.survives.clean))) (rw (c.params-to_sql.ensures ∙ ap Int (to_z-of_z w64 c.args.recording c.ranges.recording)) at (c.in-Ok.ensures.shown clean)) e)
+pub returns-clause-count : goal.returns-clause-count
+returns-clause-count g c clean = if_ok_then c.first_count.result c.first_count.ensures (λ found e. count_shown c.args.recording found (state g.S.Store c.args.conn.now) (state g.S.Store c.rows_shown.new.conn) c.in_ok-rows.rows.items (c.requires.schema (omega (arith, c.rows_shown.ensures.survives.clean))) (rw (c.params-to_sql.ensures ∙ ap Int (to_z-of_z w64 c.args.recording c.ranges.recording)) at (c.in_ok-rows.ensures.shown clean)) e)

@@ -10,5 +10,5 @@ use Rattle.edf_tables.proofs.records.last_start.Goals as goal
 pub rows_shown-requires : goal.rows_shown-requires
 rows_shown-requires g c clean = plain_at last_text _ _ last_is (state g.S.Store c.args.conn.now) (c.requires.ready clean).schema
 
-pub returns-in-Ok-clause-last : goal.returns-in-Ok-clause-last
-returns-in-Ok-clause-last g c clean = if_ok_then c.first_number.result c.first_number.ensures (λ found e. last_shown c.args.recording found (state g.S.Store c.args.conn.now) (state g.S.Store c.rows_shown.new.conn) c.in-Ok.rows.items (c.requires.ready (omega (arith, c.rows_shown.ensures.survives.clean))) (rw (c.params-to_sql.ensures ∙ ap Int (to_z-of_z w64 c.args.recording c.ranges.recording)) at (c.in-Ok.ensures.shown clean)) e)
+pub returns-clause-last : goal.returns-clause-last
+returns-clause-last g c clean = if_ok_then c.first_number.result c.first_number.ensures (λ found e. last_shown c.args.recording found (state g.S.Store c.args.conn.now) (state g.S.Store c.rows_shown.new.conn) c.in_ok-rows.rows.items (c.requires.ready (omega (arith, c.rows_shown.ensures.survives.clean))) (rw (c.params-to_sql.ensures ∙ ap Int (to_z-of_z w64 c.args.recording c.ranges.recording)) at (c.in_ok-rows.ensures.shown clean)) e)

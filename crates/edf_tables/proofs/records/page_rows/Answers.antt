@@ -10,5 +10,5 @@ use Rattle.edf_tables.proofs.records.page_rows.Goals as goal
 pub rows_shown-requires : goal.rows_shown-requires
 rows_shown-requires g c clean = plain_at page_text _ _ page_is (state g.S.Store c.args.conn.now) (c.requires.ready clean).schema
 
-pub returns-in-Ok-clause-page : goal.returns-in-Ok-clause-page
-returns-in-Ok-clause-page g c clean = if_ok_then c.record_rows.result c.record_rows.ensures (λ found e. typed found.items c.in-Ok.rows.items _ e (page_shown c.args.recording c.args.after c.args.limit (state g.S.Store c.args.conn.now) (state g.S.Store c.rows_shown.new.conn) c.in-Ok.rows.items (c.requires.ready (omega (arith, c.rows_shown.ensures.survives.clean))) (rw (c.params-to_sql.ensures ∙ ap Int (to_z-of_z w64 c.args.recording c.ranges.recording), c.params-to_sql-2.ensures ∙ ap Int (to_z-of_z w64 c.args.after c.ranges.after), c.params-to_sql-3.ensures) at (c.in-Ok.ensures.shown clean))))
+pub returns-clause-page : goal.returns-clause-page
+returns-clause-page g c clean = if_ok_then c.record_rows.result c.record_rows.ensures (λ found e. typed found.items c.in_ok-rows.rows.items _ e (page_shown c.args.recording c.args.after c.args.limit (state g.S.Store c.args.conn.now) (state g.S.Store c.rows_shown.new.conn) c.in_ok-rows.rows.items (c.requires.ready (omega (arith, c.rows_shown.ensures.survives.clean))) (rw (c.params-to_sql.ensures ∙ ap Int (to_z-of_z w64 c.args.recording c.ranges.recording), c.params-to_sql-2.ensures ∙ ap Int (to_z-of_z w64 c.args.after c.ranges.after), c.params-to_sql-3.ensures) at (c.in_ok-rows.ensures.shown clean))))

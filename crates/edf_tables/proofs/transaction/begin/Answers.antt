@@ -1,17 +1,17 @@
 use Rattle.sqlite.specs.Held.{state}
 use Rattle.edf_tables.proofs.CommitLemmas.{begun, begin_survives}
-use Rattle.edf_tables.proofs.KeepLemmas.{write_refused}
+use Rattle.edf_tables.proofs.KeepLemmas.{on_err, write_refused}
 use Rattle.edf_tables.proofs.transaction.begin.Goals as goal
 
-pub returns-in-Ok-clause-begun : goal.returns-in-Ok-clause-begun
-returns-in-Ok-clause-begun g c clean =
-    begun (state g.S.Store c.args.conn.now) (state g.S.Store c.execute.new.self) _ (c.in-Ok.ensures.runs clean)
+pub returns-clause-begun : goal.returns-clause-begun
+returns-clause-begun g c clean =
+    begun (state g.S.Store c.args.conn.now) (state g.S.Store c.execute.new.self) _ (c.in_ok-execute.ensures.runs clean)
 
-pub returns-in-Ok-clause-survives : goal.returns-in-Ok-clause-survives
-returns-in-Ok-clause-survives g c = begin_survives (state g.S.Store c.args.conn.now) (state g.S.Store c.execute.new.self) c.execute.ensures.survives
+pub returns-clause-survives : goal.returns-clause-survives
+returns-clause-survives g c = begin_survives (state g.S.Store c.args.conn.now) (state g.S.Store c.execute.new.self) c.execute.ensures.survives
 
-pub returns-in-Err-clause-survives : goal.returns-in-Err-clause-survives
-returns-in-Err-clause-survives g c = begin_survives (state g.S.Store c.args.conn.now) (state g.S.Store c.execute.new.self) c.execute.ensures.survives
+pub returns-in_err-execute-clause-survives : goal.returns-in_err-execute-clause-survives
+returns-in_err-execute-clause-survives g c = begin_survives (state g.S.Store c.args.conn.now) (state g.S.Store c.execute.new.self) c.execute.ensures.survives
 
-pub returns-in-Err-clause-refused : goal.returns-in-Err-clause-refused
-returns-in-Err-clause-refused g c clean = write_refused _ _ (state g.S.Store c.args.conn.now) (state g.S.Store c.execute.new.self) _ (c.in-Err.ensures.runs clean)
+pub returns-in_err-execute-clause-refused : goal.returns-in_err-execute-clause-refused
+returns-in_err-execute-clause-refused g c clean = on_err c.from_residual.result (write_refused _ _ (state g.S.Store c.args.conn.now) (state g.S.Store c.execute.new.self) _ (c.in_err-execute.ensures.runs clean))

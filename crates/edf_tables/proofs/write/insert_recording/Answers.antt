@@ -4,23 +4,23 @@ use Rattle.std.proofs.lemmas.Int.{to_z-of_z}
 use Rattle.sqlite.specs.Held.{state}
 use Rattle.edf_tables.proofs.TextLemmas.{insert_recording_text, insert_recording_is}
 use Rattle.edf_tables.proofs.CommitLemmas.{insert_survives}
-use Rattle.edf_tables.proofs.KeepLemmas.{write_refused}
+use Rattle.edf_tables.proofs.KeepLemmas.{on_err, write_refused}
 use Rattle.edf_tables.proofs.WriteLemmas.{recording_added}
 use Rattle.edf_tables.proofs.write.insert_recording.Goals as goal
 
-pub returns-in-Ok-clause-added : goal.returns-in-Ok-clause-added
-returns-in-Ok-clause-added g c clean =
-    let all = recording_added (state g.S.Store c.args.conn.now) (state g.S.Store c.execute.new.self) c.args.identity.now _ (c.requires (omega (arith, c.execute.ensures.survives.clean))) (rw c.params-to_sql.ensures at (c.in-Ok.ensures.runs clean)) in
+pub returns-clause-added : goal.returns-clause-added
+returns-clause-added g c clean =
+    let all = recording_added (state g.S.Store c.args.conn.now) (state g.S.Store c.execute.new.self) c.args.identity.now _ (c.requires (omega (arith, c.execute.ensures.survives.clean))) (rw c.params-to_sql.ensures at (c.in_ok-execute.ensures.runs clean)) in
     let fits = c.last_insert_rowid.type_inv in
     (all.0, to_z-of_z w64 c.last_insert_rowid.result (record { sfits = fits }) ∙ c.last_insert_rowid.ensures ∙ all.1)
 
-pub returns-in-Ok-clause-survives : goal.returns-in-Ok-clause-survives
-returns-in-Ok-clause-survives g c =
+pub returns-clause-survives : goal.returns-clause-survives
+returns-clause-survives g c =
     insert_survives (state g.S.Store c.args.conn.now) (state g.S.Store c.execute.new.self) insert_recording_text _ _ _ insert_recording_is.0 insert_recording_is.1 (λ clean. let was = c.requires clean in (was.schema, was.mode)) c.execute.ensures.survives
 
-pub returns-in-Err-clause-survives : goal.returns-in-Err-clause-survives
-returns-in-Err-clause-survives g c =
+pub returns-in_err-execute-clause-survives : goal.returns-in_err-execute-clause-survives
+returns-in_err-execute-clause-survives g c =
     insert_survives (state g.S.Store c.args.conn.now) (state g.S.Store c.execute.new.self) insert_recording_text _ _ _ insert_recording_is.0 insert_recording_is.1 (λ clean. let was = c.requires clean in (was.schema, was.mode)) c.execute.ensures.survives
 
-pub returns-in-Err-clause-refused : goal.returns-in-Err-clause-refused
-returns-in-Err-clause-refused g c clean = write_refused _ _ (state g.S.Store c.args.conn.now) (state g.S.Store c.execute.new.self) _ (c.in-Err.ensures.runs clean)
+pub returns-in_err-execute-clause-refused : goal.returns-in_err-execute-clause-refused
+returns-in_err-execute-clause-refused g c clean = on_err c.from_residual.result (write_refused _ _ (state g.S.Store c.args.conn.now) (state g.S.Store c.execute.new.self) _ (c.in_err-execute.ensures.runs clean))
