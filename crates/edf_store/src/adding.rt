@@ -5,7 +5,7 @@ ghost use Rattle.edf_store.specs.Fault.{IsStoreRefusal};
 ghost use Rattle.edf_store.specs.Held.{Stays};
 ghost use Rattle.edf_store.specs.Transaction.{IsRunning, IsOf, SeesAsBefore, HasNoMore, HasAtMost, MayTake, IsAdded};
 
-use crate::fault::{StoreFault, fault_of};
+use crate::fault::StoreFault;
 use crate::store::Store;
 use edf_fragment::Record;
 use edf_header::Identity;
@@ -26,19 +26,15 @@ pub(crate) fn find_or_make<S: Alter>(
     ensures told { IfErr result IsStoreRefusal }
     ensures caused { IfErr result (λ e. e ≢ StoreFault.Store None) }
 {
+    // contracts learn from this call what bounds the identity keeps
     let _ = identity.signals();
     let Ok(bytes) = identity.to_bytes(store.alloc) else {
         return Err(StoreFault::Memory);
     };
-    match select_recording(&mut store.conn, bytes.as_slice()) {
-        Ok(Some(id)) => return Ok(id),
-        Ok(None) => {}
-        Err(error) => return Err(fault_of(error)),
+    if let Some(id) = select_recording(&mut store.conn, bytes.as_slice())? {
+        return Ok(id);
     }
-    let id = match insert_recording(&mut store.conn, bytes.as_slice()) {
-        Ok(id) => id,
-        Err(error) => return Err(fault_of(error)),
-    };
+    let id = insert_recording(&mut store.conn, bytes.as_slice())?;
     Ok(id)
 }
 
@@ -59,14 +55,12 @@ pub(crate) fn add_record<S: Alter>(
         return Err(StoreFault::Memory);
     };
     let start = start_of(data_record.start());
-    if let Err(error) = insert_record(
+    insert_record(
         &mut store.conn,
         id,
         start,
         data_record.samples(),
         block.as_slice(),
-    ) {
-        return Err(fault_of(error));
-    }
+    )?;
     Ok(())
 }

@@ -78,10 +78,7 @@ pub(crate) fn records_in(alloc: Global, rows: Vec<RecordRow>) -> Result<Vec<Reco
         let Ok(samples) = Vec::from_slice(alloc, row.samples.as_slice()) else {
             return Err(StoreFault::Memory);
         };
-        let data_record = match record_from(alloc, samples, row.block.as_slice()) {
-            Ok(data_record) => data_record,
-            Err(fault) => return Err(fault),
-        };
+        let data_record = record_from(alloc, samples, row.block.as_slice())?;
         if records.push(data_record).is_err() {
             return Err(StoreFault::Memory);
         }

@@ -7,7 +7,7 @@ ghost use Rattle.edf_store.specs.Fault.{IsStoreRefusal};
 ghost use Rattle.edf_store.specs.Held.{at, Holds, Stays};
 ghost use Rattle.edf_store.specs.Transaction.{Sees, IsRunning, IsWhole, IsSeen};
 
-use crate::fault::{StoreFault, fault_of};
+use crate::fault::StoreFault;
 use crate::store::Store;
 use edf_tables::{begin, commit, roll_back};
 use sqlite::Alter;
@@ -24,9 +24,7 @@ pub(crate) fn begin_all<S: Alter>(store: &mut Store<S>) -> Result<(), StoreFault
     if !store.conn.is_autocommit() {
         return Err(StoreFault::Store(None));
     }
-    if let Err(error) = begin(&mut store.conn) {
-        return Err(fault_of(error));
-    }
+    begin(&mut store.conn)?;
     Ok(())
 }
 
@@ -42,9 +40,7 @@ pub(crate) fn commit_all<S: Alter>(store: &mut Store<S>) -> Result<(), StoreFaul
     ensures told { IfErr result IsStoreRefusal }
     ensures caused { IfErr result (λ e. e ≢ StoreFault.Store None) }
 {
-    if let Err(error) = commit(&mut store.conn) {
-        return Err(fault_of(error));
-    }
+    commit(&mut store.conn)?;
     Ok(())
 }
 
@@ -54,8 +50,6 @@ pub(crate) fn undo<S: Alter>(store: &mut Store<S>) -> Result<(), StoreFault>
     ensures told { IfErr result IsStoreRefusal }
     ensures caused { IfErr result (λ e. e ≢ StoreFault.Store None) }
 {
-    if let Err(error) = roll_back(&mut store.conn) {
-        return Err(fault_of(error));
-    }
+    roll_back(&mut store.conn)?;
     Ok(())
 }

@@ -1,6 +1,5 @@
-ghost use Rattle.std.specs.Prelude.{◌≡◌, ◌≢◌, Some, None};
-ghost use Rattle.sqlite.specs.declared.error.ErrorCode.TheVariants.{OutOfMemory};
-ghost use Rattle.edf_store.specs.Fault.{number, IsStoreRefusal};
+ghost use Rattle.std.specs.Prelude.{◌≡◌};
+ghost use Rattle.edf_store.specs.Fault.{number};
 
 use sqlite::{Error, ErrorCode};
 
@@ -36,17 +35,16 @@ impl StoreFault {
     }
 }
 
-/// The refusal that one of `sqlite`'s is.
-pub(crate) fn fault_of(error: Error) -> StoreFault
-    ensures memory { (error ≡ Error.SqliteFailure OutOfMemory) → (result ≡ StoreFault.Memory) }
-    ensures told { IsStoreRefusal result }
-    ensures own { result ≢ StoreFault.Foreign }
-    ensures unfailed { result ≢ StoreFault.Failed }
-    ensures caused { result ≢ StoreFault.Store None }
-    ensures other { (error ≢ Error.SqliteFailure OutOfMemory) → (result ≡ StoreFault.Store (Some error)) }
-{
-    match error {
-        Error::SqliteFailure(ErrorCode::OutOfMemory) => StoreFault::Memory,
-        error => StoreFault::Store(Some(error)),
+/// The refusal that one of `sqlite`'s is: `Memory` where memory ran out, else `Store` with the error.
+impl From<Error> for StoreFault {
+    ghost use Rattle.edf_store.specs.Fault.{IsRefusalOf};
+
+    ghost from_gives = { IsRefusalOf };
+
+    fn from(error: Error) -> StoreFault {
+        match error {
+            Error::SqliteFailure(ErrorCode::OutOfMemory) => StoreFault::Memory,
+            error => StoreFault::Store(Some(error)),
+        }
     }
 }

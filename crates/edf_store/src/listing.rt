@@ -11,7 +11,7 @@ ghost use Rattle.edf_store.specs.Held.{at, Holds, Stays};
 ghost use Rattle.edf_store.specs.Listed.{AreKeysHeld, IsSummary, IsSummaryOf};
 ghost use Rattle.edf_store.specs.Shape.{IsSettled};
 
-use crate::fault::{StoreFault, fault_of};
+use crate::fault::StoreFault;
 use crate::ready::{find, ready};
 use crate::store::Store;
 use edf_header::{Identity, IdentityFault};
@@ -23,8 +23,11 @@ use std::alloc::Global;
 /// What is held of a recording: how many data records, and the first and the last start.
 #[derive(Clone, Copy, Debug, PartialEq, Eq, Drop)]
 pub struct Summary {
+    /// How many data records.
     pub records: u32,
+    /// When the first starts, to the nanosecond.
     pub first: Instant,
+    /// When the last starts, to the nanosecond.
     pub last: Instant,
 }
 
@@ -32,7 +35,8 @@ impl<S: Alter> Store<S> {
     /// The identities that hold data records, in the order of their bytes.
     ///
     /// # Errors
-    /// E41 or E42; E42 without a cause where the connection was left in a transaction.
+    /// `Memory` (E41) or `Store` (E42), without a cause where the connection was left in a transaction; or `Foreign` (E45)
+    /// where the disk returned what was not written.
     pub fn identities(&mut self) -> Result<Vec<Identity>, StoreFault>
         ensures stays { Stays S.Store self.old self.new }
         ensures keys { HasCleanDisk (at S.Store self.new) → IfOk result (λ all. AreKeysHeld S.Store self.old all.items) }
@@ -42,16 +46,15 @@ impl<S: Alter> Store<S> {
         ensures caused { IfErr result (λ e. e ≡ StoreFault.Store None → IsTrue (at S.Store self.old).in_transaction) }
         ensures idle { HasCleanDisk (at S.Store self.new) → OnOk result ((at S.Store self.new).in_transaction ≡ false) }
     {
-        if let Err(fault) = ready(self) {
-            return Err(fault);
-        }
+        ready(self)?;
         list(self)
     }
 
     /// How many data records an identity holds, and their first and last start; `None` where it holds nothing.
     ///
     /// # Errors
-    /// E41 or E42; E42 without a cause where the connection was left in a transaction.
+    /// `Memory` (E41) or `Store` (E42), without a cause where the connection was left in a transaction; or `Foreign` (E45)
+    /// where the disk returned what was not written.
     pub fn summary(&mut self, identity: &Identity) -> Result<Option<Summary>, StoreFault>
         ensures stays { Stays S.Store self.old self.new }
         ensures summary { HasCleanDisk (at S.Store self.new) → IfOk result (IsSummaryOf S.Store self.old identity.now) }
@@ -61,9 +64,7 @@ impl<S: Alter> Store<S> {
         ensures caused { IfErr result (λ e. e ≡ StoreFault.Store None → IsTrue (at S.Store self.old).in_transaction) }
         ensures idle { HasCleanDisk (at S.Store self.new) → OnOk result ((at S.Store self.new).in_transaction ≡ false) }
     {
-        if let Err(fault) = ready(self) {
-            return Err(fault);
-        }
+        ready(self)?;
         let Some(id) = find(self, identity)? else {
             return Ok(None);
         };
@@ -82,10 +83,7 @@ fn list<S: Alter>(store: &mut Store<S>) -> Result<Vec<Identity>, StoreFault>
     ensures caused { IfErr result (λ e. e ≢ StoreFault.Store None) }
     ensures idle { HasCleanDisk (at S.Store store.new) → OnOk result ((at S.Store store.new).in_transaction ≡ false) }
 {
-    let all = match edf_tables::identities(&mut store.conn) {
-        Ok(all) => all,
-        Err(error) => return Err(fault_of(error)),
-    };
+    let all = edf_tables::identities(&mut store.conn)?;
     identities_in(store.alloc, all)
 }
 
@@ -134,18 +132,9 @@ fn summary_of<S: Alter>(store: &mut Store<S>, id: i64) -> Result<Summary, StoreF
     ensures caused { IfErr result (λ e. e ≢ StoreFault.Store None) }
     ensures idle { HasCleanDisk (at S.Store store.new) → OnOk result ((at S.Store store.new).in_transaction ≡ false) }
 {
-    let count = match count_rows(&mut store.conn, id) {
-        Ok(count) => count,
-        Err(error) => return Err(fault_of(error)),
-    };
-    let first = match first_start(&mut store.conn, id) {
-        Ok(first) => first,
-        Err(error) => return Err(fault_of(error)),
-    };
-    let last = match last_start(&mut store.conn, id) {
-        Ok(last) => last,
-        Err(error) => return Err(fault_of(error)),
-    };
+    let count = count_rows(&mut store.conn, id)?;
+    let first = first_start(&mut store.conn, id)?;
+    let last = last_start(&mut store.conn, id)?;
     summary_from(count, first, last)
 }
 

@@ -9,7 +9,7 @@ ghost use Rattle.edf_store.specs.Held.{at, Stays};
 ghost use Rattle.edf_store.specs.Transaction.{IsRunning, IsOf, SeesAsBefore, HasNoMore, AreNear, IsCountOf};
 
 use crate::decode::records_in;
-use crate::fault::{StoreFault, fault_of};
+use crate::fault::StoreFault;
 use crate::store::Store;
 use edf_fragment::Record;
 use edf_tables::{count_rows, near_rows};
@@ -35,10 +35,7 @@ pub(crate) fn records_near<S: Alter>(
 {
     let begin = start.nanos() as i64;
     let length = duration as i64;
-    let rows = match near_rows(&mut store.conn, id, begin - length, begin + length) {
-        Ok(rows) => rows,
-        Err(error) => return Err(fault_of(error)),
-    };
+    let rows = near_rows(&mut store.conn, id, begin - length, begin + length)?;
     records_in(store.alloc, rows)
 }
 
@@ -53,12 +50,9 @@ pub(crate) fn count_records<S: Alter>(store: &mut Store<S>, id: i64) -> Result<u
     ensures told { IfErr result IsStoreRefusal }
     ensures caused { IfErr result (λ e. e ≢ StoreFault.Store None) }
 {
-    let count = match count_rows(&mut store.conn, id) {
-        Ok(count) => count,
-        Err(error) => return Err(fault_of(error)),
-    };
+    let count = count_rows(&mut store.conn, id)?;
     let Ok(count) = u32::try_from(count) else {
-        return Err(fault_of(Error::IntegralValueOutOfRange(0)));
+        return Err(StoreFault::from(Error::IntegralValueOutOfRange(0)));
     };
     Ok(count)
 }

@@ -9,7 +9,7 @@ ghost use Rattle.edf_rows.specs.Rows.{AreKept};
 ghost use Rattle.edf_store.specs.Held.{at, Stays};
 ghost use Rattle.edf_store.specs.Shape.{IsSettled, IsFoundIn};
 
-use crate::fault::{StoreFault, fault_of};
+use crate::fault::StoreFault;
 use crate::store::Store;
 use edf_header::Identity;
 use edf_tables::select_recording;
@@ -21,10 +21,8 @@ fn run_nothing<S: Alter>(conn: &mut Connection<S>) -> Result<(), Error>
     ensures kept { HasCleanDisk (state S.Store conn.new) → KeepsCommit (state S.Store conn.old) (state S.Store conn.new) }
     ensures survives { Survives (state S.Store conn.old) (state S.Store conn.new) (λ _. ⊥) }
 {
-    match conn.execute("", &[]) {
-        Ok(_) => Ok(()),
-        Err(error) => Err(error),
-    }
+    conn.execute("", &[])?;
+    Ok(())
 }
 
 /// Sees to it that the connection is open and in no transaction, so that its tables are what is held.
@@ -39,10 +37,8 @@ pub(crate) fn ready<S: Alter>(store: &mut Store<S>) -> Result<(), StoreFault>
     if !store.conn.is_autocommit() {
         return Err(StoreFault::Store(None));
     }
-    match run_nothing(&mut store.conn) {
-        Ok(()) => Ok(()),
-        Err(error) => Err(fault_of(error)),
-    }
+    run_nothing(&mut store.conn)?;
+    Ok(())
 }
 
 /// The id of the identity's recording, if it has one.
@@ -59,12 +55,11 @@ pub(crate) fn find<S: Alter>(
     ensures settled { HasCleanDisk (at S.Store store.new) → OnOk result (IsSettled store.new.cap (at S.Store store.new)) }
     ensures found { HasCleanDisk (at S.Store store.new) → IfOk result (λ id. (h : Holdings) → AreKept store.new.cap (at S.Store store.new).now.trees h → IsFoundIn (at S.Store store.new) identity.now h id) }
 {
+    // contracts learn from this call what bounds the identity keeps
     let _ = identity.signals();
     let Ok(bytes) = identity.to_bytes(store.alloc) else {
         return Err(StoreFault::Memory);
     };
-    match select_recording(&mut store.conn, bytes.as_slice()) {
-        Ok(id) => Ok(id),
-        Err(error) => Err(fault_of(error)),
-    }
+    let id = select_recording(&mut store.conn, bytes.as_slice())?;
+    Ok(id)
 }

@@ -9,7 +9,7 @@ ghost use Rattle.edf_store.specs.Held.{at, Holds, Stays};
 ghost use Rattle.edf_store.specs.Walk.{IsBehind, StandsSomewhere, IsStep, moved};
 
 use crate::decode::record_in;
-use crate::fault::{StoreFault, fault_of};
+use crate::fault::StoreFault;
 use crate::ready::{find, ready};
 use crate::store::Store;
 use edf_fragment::Record;
@@ -34,17 +34,12 @@ pub(crate) fn next_record<S: Alter>(
         MatchOption o (IsBehind store.new.cap (at S.Store store.new) None after h k n)
         (λ r. IsBehind store.new.cap (at S.Store store.new) (Some recording) (pos r.start) h k (n + 1))) }
 {
-    let mut rows = match page_rows(&mut store.conn, recording, after, 1) {
-        Ok(rows) => rows,
-        Err(error) => return Err(fault_of(error)),
-    };
+    let mut rows = page_rows(&mut store.conn, recording, after, 1)?;
     let Some(row) = rows.pop() else {
         return Ok(None);
     };
-    match record_in(store.alloc, row) {
-        Ok(data_record) => Ok(Some(data_record)),
-        Err(fault) => Err(fault),
-    }
+    let data_record = record_in(store.alloc, row)?;
+    Ok(Some(data_record))
 }
 
 /// A walk over the data records of one recording, by their starts. It may be dropped at any of them, and the store is then as
@@ -77,7 +72,7 @@ impl<S: Alter> Store<S> {
     /// Begins a walk over the data records that an identity holds.
     ///
     /// # Errors
-    /// E41 or E42; E42 without a cause where the connection was left in a transaction.
+    /// `Memory` (E41) or `Store` (E42), without a cause where the connection was left in a transaction.
     pub fn records(&mut self, identity: &Identity) -> Result<Records<'_, S>, StoreFault>
         ensures* refused { sem 𝓛 (RestsIfErr (the_row S.row S.Store) self.entry (λ it. it.store.ghost_name) result (Stays S.Store self.old)) }
         ensures same_reference { IfOk result (λ it. it.store.ghost_name ≡ self.entry.ghost_name) }
@@ -89,18 +84,14 @@ impl<S: Alter> Store<S> {
         ensures ready { IfOk result (λ it. (it.failed ≡ false) × StandsSomewhere it.store.now.cap (at S.Store it.store.now) it.recording it.after) }
         ensures at_first { IfOk result (λ it. (h : Holdings) → Holds S.Store self.old h → IsBehind it.store.now.cap (at S.Store it.store.now) it.recording it.after h identity.now 0) }
     {
-        if let Err(fault) = ready(self) {
-            return Err(fault);
-        }
-        match find(self, identity) {
-            Ok(recording) => Ok(Records {
-                store: self,
-                recording,
-                after: -1,
-                failed: false,
-            }),
-            Err(fault) => Err(fault),
-        }
+        ready(self)?;
+        let recording = find(self, identity)?;
+        Ok(Records {
+            store: self,
+            recording,
+            after: -1,
+            failed: false,
+        })
     }
 }
 
@@ -108,7 +99,8 @@ impl<S: Alter> Records<'_, S> {
     /// The next data record; `None` where all were given, and at every later call.
     ///
     /// # Errors
-    /// E41 or E42, and `Failed` at every later call.
+    /// `Memory` (E41), `Store` (E42), or `Foreign` (E45) where the disk returned what was not written; and `Failed` at every
+    /// later call.
     pub fn next(&mut self) -> Result<Option<Record>, StoreFault>
         requires ready { self.old.failed ≡ false → StandsSomewhere self.old.store.now.cap (at S.Store self.old.store.now) self.old.recording self.old.after }
         ensures same_reference { self.new.store.ghost_name ≡ self.old.store.ghost_name }

@@ -12,7 +12,7 @@ ghost use Rattle.edf_store.specs.Transaction.{Sees, IsRunning, IsWhole};
 ghost use Rattle.edf_store.specs.Open.{IsOpened, IsGivenUp, StaysClean};
 
 use crate::ending::begin_all;
-use crate::fault::{StoreFault, fault_of};
+use crate::fault::StoreFault;
 use crate::transaction::StoreTx;
 use edf_audit::audit;
 use sqlite::{Alter, Connection};
@@ -21,8 +21,9 @@ use std::marker::Model;
 
 /// Recordings in the two tables of a connection, each with at most `cap` data records.
 ///
-/// What is held of a recording are its data records, by rising starts. A call that reads or adds them is refused, E42
-/// without a cause, where an earlier refusal left the connection in a transaction; then the file is to be opened again.
+/// What is held of a recording are its data records, by rising starts. A call that reads or adds them is refused by
+/// `Store` (E42) without a cause where an earlier refusal left the connection in a transaction; then the file is to be opened
+/// again.
 pub struct Store<S: Alter> {
     pub(crate) alloc: Global,
     pub(crate) conn: Connection<S>,
@@ -78,7 +79,7 @@ impl<S: Alter> Store<S> {
     /// Begins a transaction, which sees what is held.
     ///
     /// # Errors
-    /// E41 or E42; what is held stays. E42 without a cause where the connection was left in a transaction.
+    /// `Memory` (E41) or `Store` (E42), without a cause where the connection was left in a transaction; what is held stays.
     pub fn transaction(&mut self) -> Result<StoreTx<'_, S>, StoreFault>
         ensures* refused { sem 𝓛 (RestsIfErr (the_row S.row S.Store) self.entry (λ tx. tx.store.ghost_name) result (Stays S.Store self.old)) }
         ensures same_reference { IfOk result (λ tx. tx.store.ghost_name ≡ self.entry.ghost_name) }
@@ -90,9 +91,7 @@ impl<S: Alter> Store<S> {
         ensures caused { IfErr result (λ e. e ≡ StoreFault.Store None → IsTrue (at S.Store self.old).in_transaction) }
         ensures sees { IfOk result (λ tx. (h : Holdings) → Holds S.Store self.old h → Sees S.Store tx.store.now h) }
     {
-        if let Err(fault) = begin_all(self) {
-            return Err(fault);
-        }
+        begin_all(self)?;
         Ok(StoreTx {
             store: self,
             refused: false,
@@ -106,9 +105,9 @@ impl<S: Alter + Drop> Store<S> {
     /// No recording has, or will have, more than `cap` data records; `cap` is 1 to 99,999,999.
     ///
     /// # Errors
-    /// E45 where the file has any other table, index or view, other columns under our names, or rows that submissions do not
-    /// leave under this cap; else E41 or E42. The connection is given up. Its rows are as they were, and a table that was
-    /// missing beside none but ours may have been made.
+    /// `Foreign` (E45) where the file has any other table, index or view, other columns under our names, or rows that
+    /// submissions do not leave under this cap; else `Memory` (E41) or `Store` (E42). The connection is given up. Its rows are
+    /// as they were, and a table that was missing beside none but ours may have been made.
     pub fn open(alloc: Global, mut conn: Connection<S>, cap: u32) -> Result<Store<S>, StoreFault>
         requires cap_from { 1 ≤ cap }
         requires cap_to { cap ≤ 99_999_999 }
@@ -119,10 +118,7 @@ impl<S: Alter + Drop> Store<S> {
         ensures other { ¬ IsOurs (state S.Store conn).now → result ≡ Err StoreFault.Foreign }
         ensures foreign { StaysClean S.Store conn → result ≡ Err StoreFault.Foreign → IsForeignFile cap (state S.Store conn).now }
     {
-        let kept = match audit(alloc, &mut conn, cap) {
-            Ok(kept) => kept,
-            Err(error) => return Err(fault_of(error)),
-        };
+        let kept = audit(alloc, &mut conn, cap)?;
         if kept {
             Ok(Store { alloc, conn, cap })
         } else {

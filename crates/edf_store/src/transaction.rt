@@ -37,7 +37,7 @@ impl<S: Alter> StoreTx<'_, S> {
     /// Finds the identity's recording, or makes it.
     ///
     /// # Errors
-    /// E41 or E42, and the transaction is to be given up.
+    /// `Memory` (E41) or `Store` (E42), and the transaction is to be given up.
     pub fn recording(&mut self, identity: &Identity) -> Result<RecordingId, StoreFault>
         requires spared { self.old.refused ≡ false }
         requires running { IsRunning S.Store self.old.store.now }
@@ -64,7 +64,8 @@ impl<S: Alter> StoreTx<'_, S> {
     /// two at most. `duration` is the recording's, in nanoseconds.
     ///
     /// # Errors
-    /// E41 or E42, or E45 where the disk returned what was not written, and the transaction is to be given up.
+    /// `Memory` (E41), `Store` (E42), or `Foreign` (E45) where the disk returned what was not written, and the transaction is
+    /// to be given up.
     pub fn near(
         &mut self,
         id: RecordingId,
@@ -98,7 +99,7 @@ impl<S: Alter> StoreTx<'_, S> {
     /// How many data records a recording has.
     ///
     /// # Errors
-    /// E41 or E42, and the transaction is to be given up.
+    /// `Memory` (E41) or `Store` (E42), and the transaction is to be given up.
     pub fn count(&mut self, id: RecordingId) -> Result<u32, StoreFault>
         requires spared { self.old.refused ≡ false }
         requires running { IsRunning S.Store self.old.store.now }
@@ -125,7 +126,7 @@ impl<S: Alter> StoreTx<'_, S> {
     /// Adds a data record to a recording, which has none near it and fewer than the cap.
     ///
     /// # Errors
-    /// E41 or E42, and the transaction is to be given up.
+    /// `Memory` (E41) or `Store` (E42), and the transaction is to be given up.
     pub fn add(&mut self, id: RecordingId, data_record: &Record) -> Result<(), StoreFault>
         requires spared { self.old.refused ≡ false }
         requires running { IsRunning S.Store self.old.store.now }
@@ -151,8 +152,8 @@ impl<S: Alter> StoreTx<'_, S> {
     /// Makes what the transaction sees what is held.
     ///
     /// # Errors
-    /// E41 or E42: what was held before stays, and the transaction is over. A crash leaves that, or all that the transaction saw,
-    /// refused or not.
+    /// `Memory` (E41) or `Store` (E42): what was held before stays, and the transaction is over. A crash leaves that, or all
+    /// that the transaction saw, refused or not.
     pub fn commit(self) -> Result<(), StoreFault>
         requires spared { self.refused ≡ false }
         requires running { IsRunning S.Store self.store.now }
@@ -173,7 +174,7 @@ impl<S: Alter> StoreTx<'_, S> {
     /// Undoes the transaction: what was held when it began stays, also where a fault is told.
     ///
     /// # Errors
-    /// E41 or E42.
+    /// `Memory` (E41) or `Store` (E42).
     pub fn give_up(self) -> Result<(), StoreFault>
         ensures stays { Stays S.Store self.entry.store.now self.exit.0.now }
         ensures ended { HasCleanDisk (at S.Store self.exit.0.now) → OnOk result ((at S.Store self.exit.0.now).in_transaction ≡ false) }

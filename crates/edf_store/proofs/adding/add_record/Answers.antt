@@ -11,12 +11,12 @@ use Rattle.edf_store.proofs.StepLemmas.{added_in, none_added}
 use Rattle.edf_store.proofs.adding.add_record.Goals as goal
 
 pub invariant_of-store : goal.invariant_of-store
-invariant_of-store g c = still_sound c.store.inside.cap (state g.S.Store c.store.inside.conn) (state g.S.Store c.insert_record.new.conn) _ c.insert_record.ensures.survives c.in-Err.ensures.refused c.store.invariant
+invariant_of-store g c = still_sound c.store.inside.cap (state g.S.Store c.store.inside.conn) (state g.S.Store c.insert_record.new.conn) _ c.insert_record.ensures.survives c.in_err-insert_record.ensures.refused c.store.invariant
 
 pub invariant_of-store-2 : goal.invariant_of-store-2
 invariant_of-store-2 g c =
     still_sound c.store.inside.cap (state g.S.Store c.store.inside.conn) (state g.S.Store c.insert_record.new.conn) _ c.insert_record.ensures.survives
-    (λ clean. record_keeps (state g.S.Store c.store.inside.conn) (state g.S.Store c.insert_record.new.conn) _ (c.in_default-insert_record.ensures.added clean)) c.store.invariant
+    (λ clean. record_keeps (state g.S.Store c.store.inside.conn) (state g.S.Store c.insert_record.new.conn) _ (c.in_ok-insert_record.ensures.added clean)) c.store.invariant
 
 pub returns-clause-added : goal.returns-clause-added
 returns-clause-added g c =
@@ -28,8 +28,8 @@ returns-clause-added g c =
     let start : c.start_of-start.result ≡ pos r.start = search rules in
     let block : c.as_slice.result.now ≡ block_text 0 r.start r.annotations = search rules in
     let has : HasCleanDisk new → HasRecord old new (cells c.args.id (pos r.start) r.samples (block_text 0 r.start r.annotations)) =
-    λ clean. rw (to_z-of_z w64 c.args.id c.ranges.id, start, start_fits r.start room.sound.start, c.samples.ensures.value, block) at (c.in_default-insert_record.ensures.added clean) in
+    λ clean. rw (to_z-of_z w64 c.args.id c.ranges.id, start, start_fits r.start room.sound.start, c.samples.ensures.value, block) at (c.in_ok-insert_record.ensures.added clean) in
     rw (← c.store.view_is) (added_in c.store.inside.cap old new _ c.insert_record.ensures.survives c.args.id r has room running)
 
 pub returns-clause-only : goal.returns-clause-only
-returns-clause-only g c = rw (← c.store.view_is) (none_added (state g.S.Store c.store.inside.conn) (state g.S.Store c.insert_record.new.conn) _ c.in_default-insert_record.ensures.added)
+returns-clause-only g c = rw (← c.store.view_is) (none_added (state g.S.Store c.store.inside.conn) (state g.S.Store c.insert_record.new.conn) _ c.in_ok-insert_record.ensures.added)

@@ -1,4 +1,4 @@
-use Rattle.std.proofs.Common.{◌≡◌, rules, w64, arith}
+use Rattle.std.proofs.Common.{◌≡◌, None, rules, w64, arith}
 use Rattle.std.proofs.lemmas.Int.{to_z-of_z}
 use Rattle.sqlite.specs.Held.{state}
 use Rattle.edf_header.specs.Key.{key_bytes}
@@ -8,20 +8,20 @@ use Rattle.edf_store.proofs.HeldLemmas.{still_sound}
 use Rattle.edf_store.proofs.StepLemmas.{found_in, made_under, made_sees, made_only, made_keeps}
 use Rattle.edf_store.proofs.adding.find_or_make.Goals as goal
 
-pub returns-in-Ok-Some-clause-found : goal.returns-in-Ok-Some-clause-found
-returns-in-Ok-Some-clause-found g c =
+pub returns-in-Some-clause-found : goal.returns-in-Some-clause-found
+returns-in-Some-clause-found g c =
     let running = rw (← c.store.view_is) at c.requires.running in
-    rw (to_z-of_z w64 c.in-Ok-Some.id (search rules))
-    (found_in c.store.inside.cap (state g.S.Store c.store.inside.conn) (state g.S.Store c.select_recording.new.conn) c.in-Ok-Some.id c.args.identity.now c.as_slice.result.now (search rules)
-    c.signals.ensures.key c.select_recording.ensures.survives c.in-Ok-Some.ensures.same running (λ clean. rw c.in-Ok-Some.field-0-is at (c.in-Ok-Some.ensures.id clean)))
+    rw (to_z-of_z w64 c.in-Some.id (search rules))
+    (found_in c.store.inside.cap (state g.S.Store c.store.inside.conn) (state g.S.Store c.select_recording.new.conn) c.in-Some.id c.args.identity.now c.as_slice.result.now (search rules)
+    c.signals.ensures.key c.select_recording.ensures.survives c.in_ok-id.ensures.same running (λ clean. rw c.in-Some.is at (c.in_ok-id.ensures.id clean)))
 
-pub invariant_of-store-in-Err-insert_recording : goal.invariant_of-store-in-Err-insert_recording
-invariant_of-store-in-Err-insert_recording g c =
+pub invariant_of-store-in_err-id-2 : goal.invariant_of-store-in_err-id-2
+invariant_of-store-in_err-id-2 g c =
     let a = state g.S.Store c.store.inside.conn in
     let b = state g.S.Store c.select_recording.new.conn in
     let d = state g.S.Store c.insert_recording.new.conn in
     still_sound c.store.inside.cap a d _ (quiet_then a b d _ c.select_recording.ensures.survives c.insert_recording.ensures.survives)
-    (λ clean. keeps_then a b d (c.select_recording.ensures.kept (omega (arith, c.insert_recording.ensures.survives.clean))) (c.in-Err-insert_recording.ensures.refused clean)) c.store.invariant
+    (λ clean. keeps_then a b d (c.select_recording.ensures.kept (omega (arith, c.insert_recording.ensures.survives.clean))) (c.in_err-id-2.ensures.refused clean)) c.store.invariant
 
 pub invariant_of-store-2 : goal.invariant_of-store-2
 invariant_of-store-2 g c =
@@ -31,9 +31,10 @@ invariant_of-store-2 g c =
     let k = c.args.identity.now in
     let running = rw (← c.store.view_is) at c.requires.running in
     let is : c.as_slice.result.now ≡ key_bytes k = search rules in
+    let none : c.in_ok-id.field-0 ≡ None = search rules in
     let again : c.as_slice-2.result.now ≡ c.as_slice.result.now = search rules in
     still_sound c.store.inside.cap a d _ (quiet_then a b d _ c.select_recording.ensures.survives c.insert_recording.ensures.survives)
-    (made_keeps c.store.inside.cap a b c.in-Ok-insert_recording.id k c.as_slice.result.now is c.signals.ensures.key c.select_recording.ensures.survives c.in-Ok-None.ensures.same running d c.insert_recording.ensures.survives (λ clean. rw c.in-Ok-None.field-0-is at (c.in-Ok-None.ensures.id clean)) (λ clean. rw again at (c.in-Ok-insert_recording.ensures.added clean)))
+    (made_keeps c.store.inside.cap a b c.in_ok-id-2.id k c.as_slice.result.now is c.signals.ensures.key c.select_recording.ensures.survives c.in_ok-id.ensures.same running d c.insert_recording.ensures.survives (λ clean. rw none at (c.in_ok-id.ensures.id clean)) (λ clean. rw again at (c.in_ok-id-2.ensures.added clean)))
     c.store.invariant
 
 pub returns-clause-found : goal.returns-clause-found
@@ -44,9 +45,10 @@ returns-clause-found g c =
     let k = c.args.identity.now in
     let running = rw (← c.store.view_is) at c.requires.running in
     let is : c.as_slice.result.now ≡ key_bytes k = search rules in
+    let none : c.in_ok-id.field-0 ≡ None = search rules in
     let again : c.as_slice-2.result.now ≡ c.as_slice.result.now = search rules in
-    rw (to_z-of_z w64 c.in-Ok-insert_recording.id (search rules))
-    (made_under c.store.inside.cap a b c.in-Ok-insert_recording.id k c.as_slice.result.now is c.signals.ensures.key c.select_recording.ensures.survives c.in-Ok-None.ensures.same running d c.insert_recording.ensures.survives (λ clean. rw c.in-Ok-None.field-0-is at (c.in-Ok-None.ensures.id clean)) (λ clean. rw again at (c.in-Ok-insert_recording.ensures.added clean)))
+    rw (to_z-of_z w64 c.in_ok-id-2.id (search rules))
+    (made_under c.store.inside.cap a b c.in_ok-id-2.id k c.as_slice.result.now is c.signals.ensures.key c.select_recording.ensures.survives c.in_ok-id.ensures.same running d c.insert_recording.ensures.survives (λ clean. rw none at (c.in_ok-id.ensures.id clean)) (λ clean. rw again at (c.in_ok-id-2.ensures.added clean)))
 
 pub returns-clause-same : goal.returns-clause-same
 returns-clause-same g c =
@@ -56,9 +58,10 @@ returns-clause-same g c =
     let k = c.args.identity.now in
     let running = rw (← c.store.view_is) at c.requires.running in
     let is : c.as_slice.result.now ≡ key_bytes k = search rules in
+    let none : c.in_ok-id.field-0 ≡ None = search rules in
     let again : c.as_slice-2.result.now ≡ c.as_slice.result.now = search rules in
     rw (← c.store.view_is)
-    (made_sees c.store.inside.cap a b c.in-Ok-insert_recording.id k c.as_slice.result.now is c.signals.ensures.key c.select_recording.ensures.survives c.in-Ok-None.ensures.same running d c.insert_recording.ensures.survives (λ clean. rw c.in-Ok-None.field-0-is at (c.in-Ok-None.ensures.id clean)) (λ clean. rw again at (c.in-Ok-insert_recording.ensures.added clean)))
+    (made_sees c.store.inside.cap a b c.in_ok-id-2.id k c.as_slice.result.now is c.signals.ensures.key c.select_recording.ensures.survives c.in_ok-id.ensures.same running d c.insert_recording.ensures.survives (λ clean. rw none at (c.in_ok-id.ensures.id clean)) (λ clean. rw again at (c.in_ok-id-2.ensures.added clean)))
 
 pub returns-clause-only : goal.returns-clause-only
 returns-clause-only g c =
@@ -68,11 +71,17 @@ returns-clause-only g c =
     let k = c.args.identity.now in
     let running = rw (← c.store.view_is) at c.requires.running in
     let is : c.as_slice.result.now ≡ key_bytes k = search rules in
+    let none : c.in_ok-id.field-0 ≡ None = search rules in
     let again : c.as_slice-2.result.now ≡ c.as_slice.result.now = search rules in
     rw (← c.store.view_is)
-    (made_only c.store.inside.cap a b c.in-Ok-insert_recording.id k c.as_slice.result.now is c.signals.ensures.key c.select_recording.ensures.survives c.in-Ok-None.ensures.same running d c.insert_recording.ensures.survives (λ clean. rw c.in-Ok-None.field-0-is at (c.in-Ok-None.ensures.id clean)) (λ clean. rw again at (c.in-Ok-insert_recording.ensures.added clean)))
+    (made_only c.store.inside.cap a b c.in_ok-id-2.id k c.as_slice.result.now is c.signals.ensures.key c.select_recording.ensures.survives c.in_ok-id.ensures.same running d c.insert_recording.ensures.survives (λ clean. rw none at (c.in_ok-id.ensures.id clean)) (λ clean. rw again at (c.in_ok-id-2.ensures.added clean)))
 
 pub invariant_of-store : goal.invariant_of-store
 invariant_of-store g c =
+    still_sound c.store.inside.cap (state g.S.Store c.store.inside.conn) (state g.S.Store c.select_recording.new.conn) _ c.select_recording.ensures.survives c.select_recording.ensures.kept
+    c.store.invariant
+
+pub invariant_of-store-in-Some : goal.invariant_of-store-in-Some
+invariant_of-store-in-Some g c =
     still_sound c.store.inside.cap (state g.S.Store c.store.inside.conn) (state g.S.Store c.select_recording.new.conn) _ c.select_recording.ensures.survives c.select_recording.ensures.kept
     c.store.invariant

@@ -18,7 +18,7 @@ first_start-requires g c =
     record {
       ready = λ clean.
           let was_clean : HasCleanDisk a = omega (arith, c.count_rows.ensures.survives.clean) in
-          rw (to_z-of_z w64 c.args.id c.ranges.id) (still_ready a b c.args.id (c.in-Ok.ensures.same clean) (ready_at c.store.inside.cap a c.args.id (there was_clean).0 (settled was_clean) (there was_clean).1));
+          rw (to_z-of_z w64 c.args.id c.ranges.id) (still_ready a b c.args.id (c.in_ok-count.ensures.same clean) (ready_at c.store.inside.cap a c.args.id (there was_clean).0 (settled was_clean) (there was_clean).1));
     }
 
 pub last_start-requires : goal.last_start-requires
@@ -33,11 +33,11 @@ last_start-requires g c =
           let clean_b : HasCleanDisk b = omega (arith, c.first_start.ensures.survives.clean) in
           let was_clean : HasCleanDisk a = omega (arith, c.count_rows.ensures.survives.clean, clean_b) in
           rw (to_z-of_z w64 c.args.id c.ranges.id)
-          (still_ready b d c.args.id (c.in-Ok-first_start.ensures.same clean) (still_ready a b c.args.id (c.in-Ok.ensures.same clean_b) (ready_at c.store.inside.cap a c.args.id (there was_clean).0 (settled was_clean) (there was_clean).1)));
+          (still_ready b d c.args.id (c.in_ok-first.ensures.same clean) (still_ready a b c.args.id (c.in_ok-count.ensures.same clean_b) (ready_at c.store.inside.cap a c.args.id (there was_clean).0 (settled was_clean) (there was_clean).1)));
     }
 
-pub returns-in-Err-last_start-clause-stays : goal.returns-in-Err-last_start-clause-stays
-returns-in-Err-last_start-clause-stays g c =
+pub returns-in_err-last-clause-stays : goal.returns-in_err-last-clause-stays
+returns-in_err-last-clause-stays g c =
     let a = state g.S.Store c.store.inside.conn in
     let b = state g.S.Store c.count_rows.new.conn in
     let d = state g.S.Store c.first_start.new.conn in
@@ -68,9 +68,9 @@ returns-clause-summary g c clean =
     let settled = rw (← c.store.view_is) at c.requires.settled in
     rw (← c.store.view_is)
     (if_ok_then c.summary_from.result c.summary_from.ensures.summary (λ summary is.
-    summary_read c.store.inside.cap a b d e c.args.id c.in-Ok.count c.in-Ok-first_start.first c.in-Ok-last_start.last c.store.invariant.cap_to settled
-    c.count_rows.ensures.survives c.first_start.ensures.survives c.last_start.ensures.survives c.in-Ok.ensures.same c.in-Ok-first_start.ensures.same
-    (λ clean. rw size at (c.in-Ok.ensures.count clean)) (λ clean. rw size at (c.in-Ok-first_start.ensures.first clean)) (λ clean. rw size at (c.in-Ok-last_start.ensures.last clean)) clean summary is))
+    summary_read c.store.inside.cap a b d e c.args.id c.in_ok-count.count c.in_ok-first.first c.in_ok-last.last c.store.invariant.cap_to settled
+    c.count_rows.ensures.survives c.first_start.ensures.survives c.last_start.ensures.survives c.in_ok-count.ensures.same c.in_ok-first.ensures.same
+    (λ clean. rw size at (c.in_ok-count.ensures.count clean)) (λ clean. rw size at (c.in_ok-first.ensures.first clean)) (λ clean. rw size at (c.in_ok-last.ensures.last clean)) clean summary is))
 
 pub returns-clause-own : goal.returns-clause-own
 returns-clause-own g c clean =
@@ -82,9 +82,9 @@ returns-clause-own g c clean =
     let settled = rw (← c.store.view_is) at c.requires.settled in
     let there = rw (← c.store.view_is) at c.requires.there in
     if_refused c.summary_from.result c.summary_from.ensures.own (λ fault own.
-    bounds_read c.store.inside.cap a b d e c.args.id c.in-Ok.count c.in-Ok-first_start.first c.in-Ok-last_start.last c.store.invariant.cap_to settled
-    c.count_rows.ensures.survives c.first_start.ensures.survives c.last_start.ensures.survives c.in-Ok.ensures.same c.in-Ok-first_start.ensures.same
-    (λ clean. rw size at (c.in-Ok.ensures.count clean)) (λ clean. rw size at (c.in-Ok-first_start.ensures.first clean)) (λ clean. rw size at (c.in-Ok-last_start.ensures.last clean)) clean there _ own)
+    bounds_read c.store.inside.cap a b d e c.args.id c.in_ok-count.count c.in_ok-first.first c.in_ok-last.last c.store.invariant.cap_to settled
+    c.count_rows.ensures.survives c.first_start.ensures.survives c.last_start.ensures.survives c.in_ok-count.ensures.same c.in_ok-first.ensures.same
+    (λ clean. rw size at (c.in_ok-count.ensures.count clean)) (λ clean. rw size at (c.in_ok-first.ensures.first clean)) (λ clean. rw size at (c.in_ok-last.ensures.last clean)) clean there _ own)
 
 pub returns-clause-idle : goal.returns-clause-idle
 returns-clause-idle g c clean =
@@ -95,4 +95,4 @@ returns-clause-idle g c clean =
     let clean_d : HasCleanDisk d = omega (arith, c.last_start.ensures.survives.clean) in
     let clean_b : HasCleanDisk b = omega (arith, c.first_start.ensures.survives.clean, clean_d) in
     let was_clean : HasCleanDisk a = omega (arith, c.count_rows.ensures.survives.clean, clean_b) in
-    on_ok c.summary_from.result ((c.in-Ok-last_start.ensures.same clean).0.mode ∙ ((c.in-Ok-first_start.ensures.same clean_d).0.mode ∙ ((c.in-Ok.ensures.same clean_b).0.mode ∙ (settled was_clean).idle)))
+    on_ok c.summary_from.result ((c.in_ok-last.ensures.same clean).0.mode ∙ ((c.in_ok-first.ensures.same clean_d).0.mode ∙ ((c.in_ok-count.ensures.same clean_b).0.mode ∙ (settled was_clean).idle)))

@@ -16,5 +16,5 @@ invariant_of-store-2 g c = still_sound c.store.inside.cap (state g.S.Store c.sto
 
 pub returns-clause-count : goal.returns-clause-count
 returns-clause-count g c clean =
-    let size = rw (to_z-of_z w64 c.args.id c.ranges.id) at (c.in-Ok.ensures.count clean) in
-    rw (← c.store.view_is) (count_is c.store.inside.cap (state g.S.Store c.store.inside.conn) (state g.S.Store c.count_rows.new.conn) _ c.count_rows.ensures.survives c.args.id c.in-Ok.count c.in-Ok-try_from.count clean c.store.invariant.cap_to size (search rules))
+    let size = rw (to_z-of_z w64 c.args.id c.ranges.id) at (c.in_ok-count.ensures.count clean) in
+    rw (← c.store.view_is) (count_is c.store.inside.cap (state g.S.Store c.store.inside.conn) (state g.S.Store c.count_rows.new.conn) _ c.count_rows.ensures.survives c.args.id c.in_ok-count.count c.in-Ok.count clean c.store.invariant.cap_to size (search rules))

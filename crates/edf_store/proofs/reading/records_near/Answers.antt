@@ -43,8 +43,8 @@ invariant_of-store g c = still_sound c.store.inside.cap (state g.S.Store c.store
 pub invariant_of-store-2 : goal.invariant_of-store-2
 invariant_of-store-2 g c = still_sound c.store.inside.cap (state g.S.Store c.store.inside.conn) (state g.S.Store c.near_rows.new.conn) _ c.near_rows.ensures.survives c.near_rows.ensures.kept c.store.invariant
 
-pub returns-in-Err-clause-stays : goal.returns-in-Err-clause-stays
-returns-in-Err-clause-stays g c = rw (← c.store.view_is) (record {
+pub returns-in_err-rows-clause-stays : goal.returns-in_err-rows-clause-stays
+returns-in_err-rows-clause-stays g c = rw (← c.store.view_is) (record {
   cap = refl;
   holdings = still_held c.store.inside.cap (state g.S.Store c.store.inside.conn) (state g.S.Store c.near_rows.new.conn) _ c.near_rows.ensures.survives c.near_rows.ensures.kept;
   crash = c.near_rows.ensures.survives;
@@ -70,7 +70,7 @@ returns-clause-near g c clean =
     let low = c.nanos-begin.ensures.bound in
     let down = fits_sub start d (omega (arith, low)) (omega (arith, small, same)) in
     let up : FitsSigned w64 (pos start +ℤ pos d) = record { sfits = omega (arith, ints, small, same, low) } in
-    let rows = rw (to_z-of_z w64 c.args.id c.ranges.id, nat_fits start (omega (arith, low)), nat_fits d (omega (arith, small, same)), to_z-of_z w64 (pos start -ℤ pos d) down, to_z-of_z w64 (pos start +ℤ pos d) up) at (c.in-Ok.ensures.near clean) in
+    let rows = rw (to_z-of_z w64 c.args.id c.ranges.id, nat_fits start (omega (arith, low)), nat_fits d (omega (arith, small, same)), to_z-of_z w64 (pos start -ℤ pos d) down, to_z-of_z w64 (pos start +ℤ pos d) up) at (c.in_ok-rows.ensures.near clean) in
     rw (← c.store.view_is, ← c.nanos-begin.ensures.value)
     (if_ok c.records_in.result _ _
     (λ records read. near_is cap old new _ c.near_rows.ensures.survives c.args.id start d mine.0 records.items clean mine.1 same
@@ -89,7 +89,7 @@ returns-clause-two g c clean =
 pub returns-clause-only : goal.returns-clause-only
 returns-clause-only g c =
     rw (← c.store.view_is)
-    (if_ok c.records_in.result _ _ (λ records read. none_made (state g.S.Store c.store.inside.conn) (state g.S.Store c.near_rows.new.conn) c.in-Ok.ensures.same) c.records_in.ensures.read)
+    (if_ok c.records_in.result _ _ (λ records read. none_made (state g.S.Store c.store.inside.conn) (state g.S.Store c.near_rows.new.conn) c.in_ok-rows.ensures.same) c.records_in.ensures.read)
 
 pub returns-clause-told : goal.returns-clause-told
 returns-clause-told g c clean =
@@ -106,7 +106,7 @@ returns-clause-told g c clean =
     let low = c.nanos-begin.ensures.bound in
     let down = fits_sub start d (omega (arith, low)) (omega (arith, small, same)) in
     let up : FitsSigned w64 (pos start +ℤ pos d) = record { sfits = omega (arith, ints, small, same, low) } in
-    let rows = rw (to_z-of_z w64 c.args.id c.ranges.id, nat_fits start (omega (arith, low)), nat_fits d (omega (arith, small, same)), to_z-of_z w64 (pos start -ℤ pos d) down, to_z-of_z w64 (pos start +ℤ pos d) up) at (c.in-Ok.ensures.near clean) in
+    let rows = rw (to_z-of_z w64 c.args.id c.ranges.id, nat_fits start (omega (arith, low)), nat_fits d (omega (arith, small, same)), to_z-of_z w64 (pos start -ℤ pos d) down, to_z-of_z w64 (pos start +ℤ pos d) up) at (c.in_ok-rows.ensures.near clean) in
     refused_by c.records_in.result _
     (λ e own. own mine.0 (near_of d start (it.0 mine.0)) mine.1.key (sound_near c.store.inside.cap it.0 mine.0 d start it.1.sound) (rows ∙ near_shown old.now.trees it.0 c.args.id mine.0 start d it.1.stand (mine.1.there was)))
     c.records_in.ensures.told c.records_in.ensures.own
@@ -115,7 +115,7 @@ pub returns-clause-same : goal.returns-clause-same
 returns-clause-same g c =
     let running = rw (← c.store.view_is) at c.requires.running in
     rw (← c.store.view_is)
-    (if_ok c.records_in.result _ _ (λ records read. sees_on c.store.inside.cap (state g.S.Store c.store.inside.conn) (state g.S.Store c.near_rows.new.conn) _ c.near_rows.ensures.survives c.in-Ok.ensures.same running) c.records_in.ensures.read)
+    (if_ok c.records_in.result _ _ (λ records read. sees_on c.store.inside.cap (state g.S.Store c.store.inside.conn) (state g.S.Store c.near_rows.new.conn) _ c.near_rows.ensures.survives c.in_ok-rows.ensures.same running) c.records_in.ensures.read)
 
 pub returns-clause-unfailed : goal.returns-clause-unfailed
 returns-clause-unfailed g c = unfailed_by c.records_in.result c.records_in.ensures.told

@@ -1,5 +1,6 @@
 use Rattle.std.proofs.Common.{◌≡◌, Result, Err, None, refl, ap, arith, negsuc}
 use Rattle.std.proofs.lemmas.Int.{ints}
+use Rattle.std.proofs.lemmas.Result.{err_from_is_err_and}
 use Rattle.edf_store.specs.declared.fault.StoreFault.{StoreFault}
 use Rattle.edf_store.specs.declared.fault.StoreFault.TheVariants as fault
 use Rattle.edf_store.specs.Held.{at}
@@ -10,44 +11,48 @@ use Rattle.edf_store.proofs.store.Store.records.Goals as goal
 told_on : {A B : Type 0} (e f : StoreFault) → ◌≡◌ {A = Result A StoreFault} (Err e) (Err f) → ◌≡◌ {A = Result B StoreFault} (Err e) (Err f)
 told_on e f h = let same : e ≡ f = cc in ap Err same
 
-pub returns-in-Err : goal.returns-in-Err
-returns-in-Err g c = (
+pub returns-in_err-ready : goal.returns-in_err-ready
+returns-in_err-ready g c =
+    let told = err_from_is_err_and c.from_residual.result c.from_residual.ensures.1 in
+    rw (told.1, told.2) (
   (refl, (λ w. tt), c.ready.ensures.stays),
   record {
     refused = tt;
     same_reference = tt;
     stays = tt;
-    own = c.in-Err.ensures.own;
-    unfailed = c.in-Err.ensures.unfailed;
-    busy = λ left. told_on c.in-Err.fault (fault.Store None) (c.in-Err.ensures.busy left);
-    caused = c.in-Err.ensures.caused;
+    own = c.in_err-ready.ensures.own;
+    unfailed = c.in_err-ready.ensures.unfailed;
+    busy = λ left. told_on c.in_err-ready.field-0.0 (fault.Store None) (c.in_err-ready.ensures.busy left);
+    caused = c.in_err-ready.ensures.caused;
     ready = tt;
     at_first = tt;
   },
 )
 
-pub returns-in-Err-find : goal.returns-in-Err-find
-returns-in-Err-find g c = (
+pub returns-in_err-recording : goal.returns-in_err-recording
+returns-in_err-recording g c =
+    let told = err_from_is_err_and c.from_residual-in_err-recording.result c.from_residual-in_err-recording.ensures.1 in
+    rw (told.1, told.2) (
   (refl, (λ w. tt), stays_then g.S.Store c.args.self.now c.ready.new.store c.find.new.store c.ready.ensures.stays c.find.ensures.stays),
   record {
     refused = tt;
     same_reference = tt;
     stays = tt;
-    own = c.in-Err-find.ensures.own;
-    unfailed = c.in-Err-find.ensures.unfailed;
-    busy = λ left. absurd (let e = c.in_default.ensures.busy left in cc);
-    caused = λ is. absurd (c.in-Err-find.ensures.caused is);
+    own = c.in_err-recording.ensures.own;
+    unfailed = c.in_err-recording.ensures.unfailed;
+    busy = λ left. absurd (let e = c.in_ok-ready.ensures.busy left in cc);
+    caused = λ is. absurd (c.in_err-recording.ensures.caused is);
     ready = tt;
     at_first = tt;
   },
 )
 
-pub returns-in-Ok : goal.returns-in-Ok
-returns-in-Ok g c =
+pub returns : goal.returns
+returns g c =
     let s = at g.S.Store c.find.new.store in
     let cap = c.find.new.store.cap in
     let k = c.args.identity.now in
-    let id = c.in-Ok.recording in (
+    let id = c.in_ok-recording.recording in (
       (refl, (λ w. refl), tt),
       record {
         refused = tt;
@@ -55,17 +60,17 @@ returns-in-Ok g c =
         stays = stays_then g.S.Store c.args.self.now c.ready.new.store c.find.new.store c.ready.ensures.stays c.find.ensures.stays;
         own = tt;
         unfailed = tt;
-        busy = λ left. absurd (let e = c.in_default.ensures.busy left in cc);
+        busy = λ left. absurd (let e = c.in_ok-ready.ensures.busy left in cc);
         caused = tt;
         ready = (
           refl,
           λ clean.
-              let it = c.in-Ok.ensures.settled clean in
-              (it.holdings.0, k, 0, at_start cap s id (negsuc 0) it.holdings.0 k (omega (arith, ints)) it it.holdings.1 c.find.ensures.key (c.in-Ok.ensures.found clean it.holdings.0 it.holdings.1)),
+              let it = c.in_ok-recording.ensures.settled clean in
+              (it.holdings.0, k, 0, at_start cap s id (negsuc 0) it.holdings.0 k (omega (arith, ints)) it it.holdings.1 c.find.ensures.key (c.in_ok-recording.ensures.found clean it.holdings.0 it.holdings.1)),
         );
         at_first = λ h held clean.
-            let it = c.in-Ok.ensures.settled clean in
+            let it = c.in_ok-recording.ensures.settled clean in
             let kept = held_now cap s clean it h (c.find.ensures.stays.holdings h (c.ready.ensures.stays.holdings h held)) in
-            at_start cap s id (negsuc 0) h k (omega (arith, ints)) it kept c.find.ensures.key (c.in-Ok.ensures.found clean h kept);
+            at_start cap s id (negsuc 0) h k (omega (arith, ints)) it kept c.find.ensures.key (c.in_ok-recording.ensures.found clean h kept);
       },
     )

@@ -8,11 +8,11 @@ use Rattle.edf_store.proofs.store.Store.summary.Goals as goal
 pub returns-in_err-id-clause-stays : goal.returns-in_err-id-clause-stays
 returns-in_err-id-clause-stays g c = stays_then g.S.Store c.args.self.now c.ready.new.store c.find.new.store c.ready.ensures.stays c.find.ensures.stays
 
-pub returns-in_default-2-clause-stays : goal.returns-in_default-2-clause-stays
-returns-in_default-2-clause-stays g c = stays_then g.S.Store c.args.self.now c.ready.new.store c.find.new.store c.ready.ensures.stays c.find.ensures.stays
+pub returns-in_default-clause-stays : goal.returns-in_default-clause-stays
+returns-in_default-clause-stays g c = stays_then g.S.Store c.args.self.now c.ready.new.store c.find.new.store c.ready.ensures.stays c.find.ensures.stays
 
-pub returns-in_default-2-clause-summary : goal.returns-in_default-2-clause-summary
-returns-in_default-2-clause-summary g c clean h held =
+pub returns-in_default-clause-summary : goal.returns-in_default-clause-summary
+returns-in_default-clause-summary g c clean h held =
     let s = at g.S.Store c.find.new.store in
     let none : c.in_ok-id.field-0 ≡ None = search rules in
     let kept = held_now c.find.new.store.cap s clean (c.in_ok-id.ensures.settled clean) h (c.find.ensures.stays.holdings h (c.ready.ensures.stays.holdings h held)) in
@@ -39,5 +39,5 @@ returns-clause-summary g c clean h held =
     let there = rw c.in-Some.is at (c.in_ok-id.ensures.found was_clean h kept) in
     c.in_ok-summary.ensures.summary clean h c.args.identity.now now (rw (to_z-of_z w64 c.in-Some.id (search rules)) there)
 
-pub returns-in_default-2-clause-idle : goal.returns-in_default-2-clause-idle
-returns-in_default-2-clause-idle g c clean = (c.in_ok-id.ensures.settled clean).idle
+pub returns-in_default-clause-idle : goal.returns-in_default-clause-idle
+returns-in_default-clause-idle g c clean = (c.in_ok-id.ensures.settled clean).idle
