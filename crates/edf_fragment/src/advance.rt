@@ -99,10 +99,8 @@ fn fill_around<R: Input>(
     ensures counted { CountsAnswer (R.failures input.old) (R.failures input.new) result }
 {
     fill_part(input, front, nth)?;
-    match fill_part(input, block, nth) {
-        Ok(()) => fill_part(input, back, nth),
-        Err(fault) => Err(fault),
-    }
+    fill_part(input, block, nth)?;
+    fill_part(input, back, nth)
 }
 
 /// Fills a data record's buffers: its samples, and its block, which stands behind so many of their bytes.

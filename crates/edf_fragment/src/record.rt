@@ -11,8 +11,9 @@ use std::marker::Model;
 
 /// A data record: its start, its ordinary sample bytes in signal order, and its annotations in order.
 ///
-/// The time-keeping annotation is no member of the list; its onset is the start. A record has at most 4,194,304 sample
-/// bytes, 10,000 annotations and 1,000,000 bytes of their texts.
+/// A sample is 16 bits, two's complement, the lower byte first (EDF, data records). The time-keeping annotation is no member
+/// of the list; its onset is the start. A record has at most 4,194,304 sample bytes, 10,000 annotations and 1,000,000 bytes
+/// of their texts.
 #[derive(Drop)]
 pub struct Record {
     start: Instant,
@@ -51,7 +52,8 @@ fn are_within_limits(notes: &[Note]) -> bool
 }
 
 impl Record {
-    /// The data record of these parts, or `None` where they are past its limits.
+    /// The data record of these parts, or `None` where there are more than 4,194,304 sample bytes, 10,000 annotations or
+    /// 1,000,000 bytes of their texts.
     pub fn new(start: Instant, samples: Vec<u8>, notes: Vec<Note>) -> Option<Record>
         ensures { let parts : DataRecord = record { start = start; samples = samples.items; annotations = notes.items } in
             MatchOption result (¬ IsWithinSize parts) (λ r. IsKept r × (r ≡ parts)) }
@@ -77,7 +79,7 @@ impl Record {
         }
     }
 
-    /// Its start.
+    /// Its start: the onset of its time-keeping annotation.
     pub fn start(&self) -> Instant
         ensures value { result ≡ self.now.start }
         ensures kept { IsKept self.now }
@@ -94,7 +96,7 @@ impl Record {
         self.samples.as_slice()
     }
 
-    /// Its annotations.
+    /// Its annotations in order, without the time-keeping one.
     pub fn notes(&self) -> &[Note]
         ensures value { result.now ≡ self.now.annotations }
         ensures limits { IsWithinLimits result.now }

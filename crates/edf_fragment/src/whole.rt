@@ -25,14 +25,13 @@ fn read_records<R: Input>(
 {
     let mut records = Vec::new(alloc);
     'records: loop {
-        match fragment.next(input) {
-            Ok(Some(record)) => {
+        match fragment.next(input)? {
+            Some(record) => {
                 if records.push(record).is_err() {
                     return Err(FragmentFault::Memory);
                 }
             }
-            Ok(None) => return Ok(records),
-            Err(fault) => return Err(fault),
+            None => return Ok(records),
         }
     }
 }
@@ -51,12 +50,7 @@ pub fn read_fragment<R: Input>(
         (IsFragmentFault (R.remaining input.old) (R.remaining input.new)) }
     ensures counted { CountsAnswer (R.failures input.old) (R.failures input.new) result }
 {
-    let mut fragment = match OpenFragment::read(alloc, input) {
-        Ok(fragment) => fragment,
-        Err(fault) => return Err(fault),
-    };
-    match read_records(alloc, &mut fragment, input) {
-        Ok(records) => Ok((fragment.into_header(), records)),
-        Err(fault) => Err(fault),
-    }
+    let mut fragment = OpenFragment::read(alloc, input)?;
+    let records = read_records(alloc, &mut fragment, input)?;
+    Ok((fragment.into_header(), records))
 }
