@@ -1,5 +1,5 @@
 -- A walk over the records of a recording: the longest block so far, and what a fault on the way is.
-use Rattle.std.proofs.Common.{inl, ◌≡◌, ◌≢◌, ℕ, ℤ, ◌+◌, ◌*◌, ◌/◌, ◌%◌, ◌≤◌, ◌<◌, max, List, [], ◌∷◌, length, take, refl, ap, arith, Option, Some, None}
+use Rattle.std.proofs.Common.{inl, false, ◌≡◌, ◌≢◌, ℕ, ℤ, ◌+◌, ◌*◌, ◌/◌, ◌%◌, ◌≤◌, ◌<◌, max, List, [], ◌∷◌, length, take, refl, ap, arith, Option, Some, None}
 use Rattle.std.specs.List.{slice_get}
 use Rattle.std.proofs.lemmas.Option.{slice_get_within, get_or_from_slice_get}
 use Rattle.std.proofs.lemmas.List.Elements.{All-nil, All-weaker}
@@ -19,7 +19,10 @@ use Rattle.edf_holdings.proofs.Sound.{Each-from_All}
 use Rattle.edf_holdings.proofs.InSets.{are-sound-from}
 use Rattle.edf_store.specs.Walk.{StandsBehind}
 use Rattle.edf_export.specs.File.{block_of, Hold}
+use Rattle.edf_export.specs.Export.{IsIdleBehind}
 use Rattle.edf_export.specs.Inside.Walks.{IsLongest, IsSoundRecording}
+use Rattle.edf_export.specs.declared.fault.ExportFault.{ExportFault}
+use Rattle.edf_export.specs.declared.fault.ExportFault.TheVariants.{NoRecording, Store as Refused, Memory as NoRoom, Write}
 use Rattle.edf_export.proofs.Longest.{holds-more, least-more}
 
 pub refusal_told : (fault : StoreFault) → fault ≢ Foreign → fault ≢ Failed → IsStoreRefusal fault
@@ -27,6 +30,13 @@ refusal_told Memory a b = tt
 refusal_told (Store cause) a b = tt
 refusal_told Foreign a b = absurd (a refl)
 refusal_told Failed a b = absurd (b refl)
+
+-- behind no refusal is a transaction open where none is
+pub idle_behind : (s : State) (fault : ExportFault) → s.in_transaction ≡ false → IsIdleBehind s fault
+idle_behind s NoRecording idle = idle
+idle_behind s (Refused fault) idle = tt
+idle_behind s NoRoom idle = idle
+idle_behind s Write idle = idle
 
 pub longest_none : (file_start : ℕ) → IsLongest file_start 0 []
 longest_none file_start = record { holds = All-nil (λ r. length (block_of file_start r) ≤ 0); least = λ n all. omega arith }

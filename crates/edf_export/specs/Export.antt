@@ -1,6 +1,7 @@
 -- What an export does: the canonical file of what is held under a key goes out, or a front of it.
-use Rattle.std.specs.Prelude.{◌≡◌, ℕ, List, [], ◌∷◌, ◌++◌, length, Option, Result, MatchResult}
+use Rattle.std.specs.Prelude.{◌≡◌, ℕ, false, List, [], ◌∷◌, ◌++◌, length, Option, Result, MatchResult}
 use Rattle.std.specs.Io.KnownBytes.{Appends, Keeps}
+use Rattle.sqlite.specs.State.{State}
 use Rattle.edf_header.specs.Key.{Key}
 use Rattle.edf_fragment.specs.Failures.{one_more}
 use Rattle.edf_fragment.specs.Fragment.{DataRecord}
@@ -52,6 +53,16 @@ CountsExportFault old new Write = new ≡ one_more old
 
 abbrev pub CountsExport : ℕ → ℕ → Result ℕ ExportFault → Type 0
 CountsExport old new result = MatchResult result (λ len. new ≡ old) (CountsExportFault old new)
+
+-- no transaction is open behind a file, nor behind a refusal that is not the store's
+abbrev pub IsIdleBehind : State → ExportFault → Type 0
+IsIdleBehind s NoRecording = s.in_transaction ≡ false
+IsIdleBehind s (Store fault) = Unit {0}
+IsIdleBehind s Memory = s.in_transaction ≡ false
+IsIdleBehind s Write = s.in_transaction ≡ false
+
+abbrev pub LeavesIdle : {A : Type 0} → State → Result A ExportFault → Type 0
+LeavesIdle s result = MatchResult result (λ _. s.in_transaction ≡ false) (IsIdleBehind s)
 
 -- the number of a fault, by which the program names it
 abbrev pub export_fault_number : ExportFault → ℕ

@@ -1,6 +1,6 @@
 //! What is known of a file before its first byte is written.
 
-ghost use Rattle.std.specs.Prelude.{◌≡◌, Err, None, IsTrue, ◌≤◌, ◌<◌, ℕ, false, length, IfOk, IfErr, IfSome, MatchOption};
+ghost use Rattle.std.specs.Prelude.{◌≡◌, ◌≢◌, Err, None, IsTrue, ◌≤◌, ◌<◌, ℕ, false, length, IfOk, OnOk, IfErr, IfSome, MatchOption};
 ghost use Rattle.sqlite.specs.State.{HasCleanDisk};
 ghost use Rattle.edf_header.specs.Key.{Key};
 ghost use Rattle.edf_holdings.specs.Holdings.{Holdings};
@@ -42,6 +42,9 @@ fn longest_block<S: Alter>(
     ensures told { HasCleanDisk (at S.Store walk.new.store.now) → IfErr result (λ fault. (h : Holdings) (k : Key) →
         IsBehind walk.old.store.now.cap (at S.Store walk.old.store.now) walk.old.recording walk.old.after h k 0 →
         length (h k) ≡ count → IsStoreRefusal fault) }
+    ensures unfailed { IfErr result (λ e. e ≢ StoreFault.Failed) }
+    ensures caused { IfErr result (λ e. e ≢ StoreFault.Store None) }
+    ensures idle { HasCleanDisk (at S.Store walk.new.store.now) → OnOk result ((at S.Store walk.new.store.now).in_transaction ≡ false) }
 {
     let mut longest = 0usize;
     for _ in 0..count {
@@ -73,6 +76,9 @@ fn measure<S: Alter>(
     ensures some { IfOk result (λ longest. 0 < count → 0 < longest) }
     ensures told { HasCleanDisk (at S.Store store.new) → IfErr result (λ fault. (h : Holdings) → Holds S.Store store.old h →
         length (h identity.now) ≡ count → IsStoreRefusal fault) }
+    ensures unfailed { IfErr result (λ e. e ≢ StoreFault.Failed) }
+    ensures caused { IfErr result (λ e. e ≡ StoreFault.Store None → IsTrue (at S.Store store.old).in_transaction) }
+    ensures idle { HasCleanDisk (at S.Store store.new) → OnOk result ((at S.Store store.new).in_transaction ≡ false) }
 {
     let mut walk = match store.records(identity) {
         Ok(walk) => walk,
@@ -93,7 +99,10 @@ pub(crate) fn plan_file<S: Alter>(
     ensures samples { IfOk result (λ plan. IfSome plan (λ p. (1 ≤ p.samples) × (p.samples ≤ 725_023))) }
     ensures told { HasCleanDisk (at S.Store store.new) → IfErr result (λ fault. (h : Holdings) → Holds S.Store store.old h →
         IsStoreRefusal fault) }
+    ensures unfailed { IfErr result (λ e. e ≢ StoreFault.Failed) }
     ensures busy { IsTrue (at S.Store store.old).in_transaction → result ≡ Err (StoreFault.Store None) }
+    ensures caused { HasCleanDisk (at S.Store store.new) → IfErr result (λ e. e ≡ StoreFault.Store None → IsTrue (at S.Store store.old).in_transaction) }
+    ensures idle { HasCleanDisk (at S.Store store.new) → OnOk result ((at S.Store store.new).in_transaction ≡ false) }
 {
     let summary = match store.summary(identity) {
         Ok(Some(summary)) => summary,

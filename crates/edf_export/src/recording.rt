@@ -1,11 +1,11 @@
 //! One recording out of the store, as its canonical file.
 
-ghost use Rattle.std.specs.Prelude.{◌≡◌, None, Err, IsTrue, IfOk, IfErr};
+ghost use Rattle.std.specs.Prelude.{◌≡◌, ◌≢◌, None, Err, IsTrue, IfOk, IfErr};
 ghost use Rattle.std.specs.Io.KnownBytes.{Keeps};
 ghost use Rattle.sqlite.specs.State.{HasCleanDisk};
 ghost use Rattle.edf_holdings.specs.Holdings.{Holdings};
 ghost use Rattle.edf_store.specs.Held.{at, Holds, Stays};
-ghost use Rattle.edf_export.specs.Export.{IsExported, IsNotExported, CountsExport};
+ghost use Rattle.edf_export.specs.Export.{IsExported, IsNotExported, CountsExport, LeavesIdle};
 
 use crate::fault::ExportFault;
 use crate::plan::plan_file;
@@ -38,7 +38,11 @@ pub fn export<S: Alter, W: Output>(
         IsNotExported (W.contents out.old) (W.contents out.new) identity.now (h identity.now) fault) }
     ensures nothing { result ≡ Err ExportFault.NoRecording → Keeps (W.contents out.old) (W.contents out.new) }
     ensures counted { CountsExport (W.failures out.old) (W.failures out.new) result }
+    ensures unfailed { result ≢ Err (ExportFault.Store StoreFault.Failed) }
     ensures busy { IsTrue (at S.Store store.old).in_transaction → result ≡ Err (ExportFault.Store (StoreFault.Store None)) }
+    ensures caused { HasCleanDisk (at S.Store store.new) → result ≡ Err (ExportFault.Store (StoreFault.Store None)) →
+        IsTrue (at S.Store store.old).in_transaction }
+    ensures idle { HasCleanDisk (at S.Store store.new) → LeavesIdle (at S.Store store.new) result }
 {
     let plan = match plan_file(store, identity) {
         Ok(Some(plan)) => plan,

@@ -1,6 +1,6 @@
 //! A file written data record by data record, in a second walk.
 
-ghost use Rattle.std.specs.Prelude.{◌≡◌, ℕ, ◌*◌, ◌≤◌, ◌++◌, false, length, IfOk, IfErr};
+ghost use Rattle.std.specs.Prelude.{◌≡◌, ◌≢◌, ℕ, ◌*◌, ◌≤◌, ◌++◌, false, length, None, Err, IsTrue, IfOk, IfErr};
 ghost use Rattle.std.specs.List.{flat_map};
 ghost use Rattle.sqlite.specs.State.{HasCleanDisk};
 ghost use Rattle.edf_header.specs.Key.{Key};
@@ -8,7 +8,7 @@ ghost use Rattle.edf_holdings.specs.Holdings.{Holdings};
 ghost use Rattle.edf_store.specs.Held.{at, Holds, Stays};
 ghost use Rattle.edf_store.specs.Walk.{IsBehind, StandsSomewhere};
 ghost use Rattle.edf_export.specs.File.{second_of, block_of, record_text};
-ghost use Rattle.edf_export.specs.Export.{IsExported, IsNotExported};
+ghost use Rattle.edf_export.specs.Export.{IsExported, IsNotExported, LeavesIdle};
 ghost use Rattle.edf_export.specs.Inside.Output.{buffered};
 ghost use Rattle.edf_export.specs.Inside.Walks.{refusal_of, IsPlanOf, IsPutOut, IsSentOut, CountsWriting};
 
@@ -47,6 +47,8 @@ fn put_fitting<W: Output>(
         (buffered (W.contents out.new) (W.failures out.new) held.new.items)
         (record_text file_start size data_record.now) result }
     ensures counted { CountsWriting (W.failures out.old) (W.failures out.new) result }
+    ensures unfailed { result ≢ Err (ExportFault.Store StoreFault.Failed) }
+    ensures caused { result ≢ Err (ExportFault.Store (StoreFault.Store None)) }
 {
     if block_len(data_record.start(), data_record.notes(), file_start) > size {
         return Err(ExportFault::Store(StoreFault::Foreign));
@@ -76,6 +78,9 @@ fn put_walk<S: Alter, W: Output>(
         (buffered (W.contents out.new) (W.failures out.new) held.new.items)
         (flat_map (record_text (second_of plan.first) (2 * plan.samples)) (h k)) result }
     ensures counted { CountsWriting (W.failures out.old) (W.failures out.new) result }
+    ensures unfailed { result ≢ Err (ExportFault.Store StoreFault.Failed) }
+    ensures caused { result ≢ Err (ExportFault.Store (StoreFault.Store None)) }
+    ensures idle { HasCleanDisk (at S.Store walk.new.store.now) → LeavesIdle (at S.Store walk.new.store.now) result }
 {
     let file_start = plan.first.second();
     let size = 2 * plan.samples as usize;
@@ -111,6 +116,9 @@ fn send_file<S: Alter, W: Output>(
         IsSentOut (W.contents out.old) (W.contents out.new)
         (header.now ++ flat_map (record_text (second_of plan.first) (2 * plan.samples)) (h k)) result }
     ensures counted { CountsWriting (W.failures out.old) (W.failures out.new) result }
+    ensures unfailed { result ≢ Err (ExportFault.Store StoreFault.Failed) }
+    ensures caused { result ≢ Err (ExportFault.Store (StoreFault.Store None)) }
+    ensures idle { HasCleanDisk (at S.Store walk.new.store.now) → LeavesIdle (at S.Store walk.new.store.now) result }
 {
     let mut held = Vec::new(alloc);
     match put(out, &mut held, header) {
@@ -142,6 +150,9 @@ fn send_recording<S: Alter, W: Output>(
         IsSentOut (W.contents out.old) (W.contents out.new)
         (header.now ++ flat_map (record_text (second_of plan.first) (2 * plan.samples)) (h identity.now)) result }
     ensures counted { CountsWriting (W.failures out.old) (W.failures out.new) result }
+    ensures unfailed { result ≢ Err (ExportFault.Store StoreFault.Failed) }
+    ensures caused { result ≡ Err (ExportFault.Store (StoreFault.Store None)) → IsTrue (at S.Store store.old).in_transaction }
+    ensures idle { HasCleanDisk (at S.Store store.new) → LeavesIdle (at S.Store store.new) result }
 {
     let mut walk = match store.records(identity) {
         Ok(walk) => walk,
@@ -168,6 +179,10 @@ pub(crate) fn write_planned<S: Alter, W: Output>(
         IsPlanOf identity.now (h identity.now) plan →
         IsNotExported (W.contents out.old) (W.contents out.new) identity.now (h identity.now) fault) }
     ensures counted { CountsWriting (W.failures out.old) (W.failures out.new) result }
+    ensures unfailed { result ≢ Err (ExportFault.Store StoreFault.Failed) }
+    ensures caused { result ≡ Err (ExportFault.Store (StoreFault.Store None)) → IsTrue (at S.Store store.old).in_transaction }
+    ensures idle { HasCleanDisk (at S.Store store.new) → (at S.Store store.old).in_transaction ≡ false →
+        LeavesIdle (at S.Store store.new) result }
 {
     let Plan {
         records,

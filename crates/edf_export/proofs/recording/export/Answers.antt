@@ -24,3 +24,13 @@ returns-clause-refused g c clean =
     let was = clean_before g.S.Store c.plan_file.new.store c.write_planned.new.store c.write_planned.ensures.stays clean in
     let planned = rw c.in-Ok-Some.field-0-is at (c.in-Ok-Some.ensures.planned was) in
     IfErr-weaker c.write_planned.result _ _ (λ fault found h held. found h (c.plan_file.ensures.stays.holdings h held) (planned h held)) (c.write_planned.ensures.refused clean)
+
+pub returns-clause-idle : goal.returns-clause-idle
+returns-clause-idle g c clean =
+    let was = clean_before g.S.Store c.plan_file.new.store c.write_planned.new.store c.write_planned.ensures.stays clean in
+    c.write_planned.ensures.idle clean (c.in-Ok-Some.ensures.idle was)
+
+pub returns-clause-caused : goal.returns-clause-caused
+returns-clause-caused g c clean told =
+    let was = clean_before g.S.Store c.plan_file.new.store c.write_planned.new.store c.write_planned.ensures.stays clean in
+    absurd (let opened = c.write_planned.ensures.caused told in let idle = c.in-Ok-Some.ensures.idle was in cc)

@@ -1,7 +1,8 @@
 use Rattle.std.proofs.Common.{◌∙◌, ◌*◌, refl}
+use Rattle.edf_store.specs.Held.{at}
 use Rattle.edf_store.proofs.ReadyLemmas.{stays_then}
 use Rattle.edf_export.specs.File.{second_of}
-use Rattle.edf_export.proofs.WalkLemmas.{clean_before, refusal_told}
+use Rattle.edf_export.proofs.WalkLemmas.{clean_before, refusal_told, idle_behind}
 use Rattle.edf_export.proofs.Texts.{fits_here, texts_more, texts_stop, texts_end}
 use Rattle.edf_export.proofs.writing.put_walk.Goals as goal
 
@@ -36,6 +37,9 @@ returns-in-Err-put_fitting-clause-put g c clean h k behind plan =
       texts_stop base samples fs (2 * samples) c.loop.counter (h k) r c.second-file_start.ensures refl place plan.holds _ _ _ put.0.0 (i.wrote was h k behind plan) put.0.1,
       put.1,
     )
+
+pub returns-in-Err-put_fitting-clause-idle : goal.returns-in-Err-put_fitting-clause-idle
+returns-in-Err-put_fitting-clause-idle g c clean = idle_behind (at g.S.Store c.next.new.self.store.now) c.in-Err-put_fitting.fault (c.in-Ok-Some.ensures.ready.1 clean).3.idle
 
 pub loop-preserved : goal.loop-preserved
 loop-preserved g c =
