@@ -35,7 +35,7 @@ own-one g mid new was (Err (refusal.Differs start)) own = tt
 own-one g mid new was (Err (refusal.Full held more cap)) own = tt
 own-one g mid new was (Err refusal.Read) own = tt
 own-one g mid new was (Err refusal.Memory) own = tt
-own-one g mid new was (Err (refusal.Store fault)) own = record { other = own.other; own = λ clean. own.own (was clean) }
+own-one g mid new was (Err (refusal.Store fault)) own = record { other = own.other; told = own.told; own = λ clean. own.own (was clean) }
 
 own-later : {S : Type 0} (g : Ghosts S) (mid new : Kept S) → (HasCleanDisk (at g new) → HasCleanDisk (at g mid)) → (answers : List Answer) → AllByRecursion (IsOwnRefusal g mid) answers → AllByRecursion (IsOwnRefusal g new) answers
 own-later g mid new was [] all = tt

@@ -1,5 +1,5 @@
 -- How a submission ends: what its steps left, joined.
-use Rattle.std.proofs.Common.{◌≡◌, ◌≢◌, ℕ, List, Err, IsTrue, refl, sym, subst, ◌∙◌, inl, inr, arith}
+use Rattle.std.proofs.Common.{◌≡◌, ◌≢◌, ◌⊎◌, ℕ, List, Err, IsTrue, refl, sym, subst, ◌∙◌, inl, inr, arith}
 use Rattle.sqlite_trees.specs.declared.store.Store.{Ghosts}
 use Rattle.sqlite.specs.State.{HasCleanDisk, Survives}
 use Rattle.sqlite.proofs.StateLemmas.{survives_weaker}
@@ -17,8 +17,10 @@ use Rattle.edf_store.specs.Transaction.{Sees, IsSeen}
 use Rattle.edf_store.specs.declared.fault.StoreFault.{StoreFault}
 use Rattle.edf_store.specs.declared.fault.StoreFault.TheVariants.{Memory, Store, Foreign, Failed}
 use Rattle.edf_store.proofs.ReadyLemmas.{stays_then}
+use Rattle.edf_intake.specs.Refusal.{IsInDoubt}
 use Rattle.edf_intake.specs.Source.{Source, ReadsFront}
 use Rattle.edf_intake.specs.Submitted.{AreLeft, Accepts, Refuses, StopsThere, IsSubmitted}
+use Rattle.edf_intake.specs.Inside.Halt.{refusal_of}
 use Rattle.edf_intake.specs.Inside.Taken.{IsTaken, IsStop, IsRefused}
 use Rattle.edf_intake.specs.declared.answer.Receipt.{Receipt}
 use Rattle.edf_intake.specs.declared.answer.Refusal.{Refusal}
@@ -27,22 +29,30 @@ use Rattle.edf_intake.specs.declared.answer.Stop.TheVariants.{Input}
 
 -- a fault of the store, told as a refusal
 pub refused_by : {S : Type 0} (g : Ghosts S) (old new : Kept S) (from to : Source) (fault : StoreFault) (told : Refusal)
-    → (fault ≡ Memory → told ≡ refusal.Memory) → (fault ≢ Memory → told ≡ refusal.Store fault)
-    → StopsThere g old new from to → (HasCleanDisk (at g new) → IsStoreRefusal fault) → IsSubmitted g old new from to (Err told)
-refused_by g old new from to Memory told is other stops own = subst (λ (r : Refusal). IsSubmitted g old new from to (Err r)) (sym (is refl)) stops
-refused_by g old new from to (Store cause) told is other stops own =
-    let no : Store cause ≢ Memory = λ e. cc in
-    subst (λ (r : Refusal). IsSubmitted g old new from to (Err r)) (sym (other no)) (stops, record { other = no; own = own })
-refused_by g old new from to Foreign told is other stops own =
-    let no : Foreign ≢ Memory = λ e. cc in
-    subst (λ (r : Refusal). IsSubmitted g old new from to (Err r)) (sym (other no)) (stops, record { other = no; own = own })
-refused_by g old new from to Failed told is other stops own =
-    let no : Failed ≢ Memory = λ e. cc in
-    subst (λ (r : Refusal). IsSubmitted g old new from to (Err r)) (sym (other no)) (stops, record { other = no; own = own })
+    → told ≡ refusal_of fault → StopsThere g old new from to (Err (refusal_of fault)) → (fault ≡ Foreign) ⊎ IsStoreRefusal fault → (HasCleanDisk (at g new) → IsStoreRefusal fault)
+    → IsSubmitted g old new from to (Err told)
+refused_by g old new from to fault told is stops which own = subst (λ (r : Refusal). IsSubmitted g old new from to (Err r)) (sym is) (by fault stops which own)
+  where
+    by : (fault : StoreFault) → StopsThere g old new from to (Err (refusal_of fault)) → (fault ≡ Foreign) ⊎ IsStoreRefusal fault → (HasCleanDisk (at g new) → IsStoreRefusal fault)
+        → IsSubmitted g old new from to (Err (refusal_of fault))
+    by Memory stops which own = stops
+    by (Store cause) stops which own = (stops, record { other = λ e. cc; told = which; own = own })
+    by Foreign stops which own = (stops, record { other = λ e. cc; told = which; own = own })
+    by Failed stops which own = (stops, record { other = λ e. cc; told = which; own = own })
+
+in_doubt : (fault : StoreFault) → IsStoreRefusal fault → IsInDoubt (Err (refusal_of fault))
+in_doubt Memory told = tt
+in_doubt (Store cause) told = tt
+in_doubt Foreign told = absurd told
+in_doubt Failed told = absurd told
 
 reply_to_fault : (cap : ℕ) (h : Holdings) (fault : FragmentFault) → reply cap h (Fault fault) ≡ Form fault
 unfolding reply
 reply_to_fault cap h fault = refl
+
+-- no refusal of the input is one of the store
+pub of_input : {S : Type 0} (g : Ghosts S) (first last : Kept S) (from to : Source) (told : Refusal) → IsStop g first last from to (Input told) → (fault : StoreFault) → told ≢ refusal.Store fault
+of_input g first last from to told r fault e = absurd (subst (λ (t : Refusal). IsStop g first last from to (Input t)) e r)
 
 -- old was held, a transaction saw it as first, and last as it was to end, and new is held then
 module _ {S : Type 0} (g : Ghosts S) (old first last : Kept S) (from to : Source) (begun : Stays g old first) (sees : (h : Holdings) → Holds g old h → Sees g first h)
@@ -84,16 +94,14 @@ module _ {S : Type 0} (g : Ghosts S) (old first last : Kept S) (from to : Source
 
     -- the commit was refused
     pub stops_at_commit : (receipt : Receipt) → IsTaken g first last from to receipt → new.cap ≡ last.cap → ((h : Holdings) → Holds g last h → Holds g new h)
-        → Survives (at g last) (at g new) (IsSeen g last) → StopsThere g old new from to
-    stops_at_commit receipt t same refused survives = inr (
-      receipt.identity,
-      t.records,
-      t.read,
-      record {
+        → Survives (at g last) (at g new) (IsSeen g last) → (fault : StoreFault) → IsStoreRefusal fault → StopsThere g old new from to (Err (refusal_of fault))
+    stops_at_commit receipt t same refused survives fault told = inr (
+      in_doubt fault told,
+      (receipt.identity, t.records, t.read, record {
         cap = same ∙ stays.cap;
         holdings = λ h held. refused h (stays.holdings h held);
         crash = crash_left (Fragment receipt.identity t.records) t.sees survives;
-      },
+      }),
     )
 
     -- the transaction was given up
@@ -126,9 +134,9 @@ module _ {S : Type 0} (g : Ghosts S) (old first last : Kept S) (from to : Source
       front_of (refusal.Store fault) r = absurd r
 
       -- and that was refused
-      pub stops_at_undo : (told : Refusal) → IsStop g first last from to (Input told) → StopsThere g old new from to
-      stops_at_undo told r = inl (all_stays, front_of told r)
+      pub stops_at_undo : (told : Refusal) → IsStop g first last from to (Input told) → (fault : StoreFault) → StopsThere g old new from to (Err (refusal_of fault))
+      stops_at_undo told r fault = inl (all_stays, front_of told r)
 
       -- or a call before it
-      pub stops_before : ReadsFront from to → StopsThere g old new from to
-      stops_before front = inl (all_stays, front)
+      pub stops_before : ReadsFront from to → (fault : StoreFault) → StopsThere g old new from to (Err (refusal_of fault))
+      stops_before front fault = inl (all_stays, front)

@@ -11,7 +11,7 @@ use Rattle.edf_holdings.specs.Reply.{IsSoundTold, Reply, Form, Overlap, Differs,
 use Rattle.edf_holdings.proofs.Accepted.{refused_changes_nothing}
 use Rattle.edf_rows.specs.Rows.{AreKept}
 use Rattle.edf_store.specs.Held.{Kept, at, Holds, Stays}
-use Rattle.edf_intake.specs.Refusal.{Answer, reply_told, IsStopped}
+use Rattle.edf_intake.specs.Refusal.{Answer, reply_told, IsStopped, IsInDoubt}
 use Rattle.edf_intake.specs.Source.{Source, Hears, FailsToRead, ReadsFront}
 use Rattle.edf_intake.specs.Submitted.{AreLeft, Leaves, MayLeave, Refuses, StopsThere, IsSubmitted}
 use Rattle.edf_intake.specs.Batch.{Turn, somes, told_in, replies_in, GoesWith, IsTurn, MayBeAnswered, AreUnended, IsOwnRefusal}
@@ -93,21 +93,21 @@ module _ {S : Type 0} (g : Ghosts S) (old new : Kept S) (from to : Source) where
     crash = survives_weaker (at g old) (at g new) (λ _. ⊥) _ (λ clean rows none. absurd none) stays.crash;
   }
 
-  unended_turn : (answer : Answer) (told : Told) → IsOwnRefusal g new answer → reply_told answer ≡ None → IsStopped answer → Hears from to told → MayLeave g old new told
+  unended_turn : (answer : Answer) (told : Told) → IsOwnRefusal g new answer → reply_told answer ≡ None → IsStopped answer → IsInDoubt answer → Hears from to told → MayLeave g old new told
       → IsMade g old new (record { from = from; to = to; answer = answer; told = None })
-  unended_turn answer told own tells why heard may = record {
+  unended_turn answer told own tells why doubt heard may = record {
     own = own;
     is_turn = subst (GoesWith (record { from = from; to = to; answer = answer; told = None }) None) (sym tells) (inr why, inr (inr (inr (inr (told, heard)))));
     cap = may.cap;
     replied = λ clean h held. ap (λ (o : Option Reply). somes (o ∷ [])) tells;
     holdings = may.holdings;
-    crash = survives_weaker (at g old) (at g new) (AreLeft g old new told) _ (λ clean rows left h held. inr (why, (told, heard, left h held))) may.crash;
+    crash = survives_weaker (at g old) (at g new) (AreLeft g old new told) _ (λ clean rows left h held. inr (doubt, (told, heard, left h held))) may.crash;
   }
 
-  stopped_turn : (answer : Answer) → IsOwnRefusal g new answer → reply_told answer ≡ None → IsStopped answer → StopsThere g old new from to
+  stopped_turn : (answer : Answer) → IsOwnRefusal g new answer → reply_told answer ≡ None → IsStopped answer → StopsThere g old new from to answer
       → (told : Option Told) × IsMade g old new (record { from = from; to = to; answer = answer; told = told })
   stopped_turn answer own tells why (inl (stays, front)) = (None, silent_turn answer own tells (inr why) front stays)
-  stopped_turn answer own tells why (inr (key, records, read, may)) = (None, unended_turn answer (Fragment key records) own tells why read may)
+  stopped_turn answer own tells why (inr (doubt, (key, records, read, may))) = (None, unended_turn answer (Fragment key records) own tells why doubt read may)
 
   pub turn_of : (answer : Answer) → IsSubmitted g old new from to answer → (told : Option Told) × IsMade g old new (record { from = from; to = to; answer = answer; told = told })
   turn_of (Ok receipt) a = (

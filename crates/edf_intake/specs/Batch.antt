@@ -9,7 +9,7 @@ use Rattle.edf_holdings.specs.Holdings.{Holdings}
 use Rattle.edf_holdings.specs.Reply.{Reply, Form, Accepted, after_one, after, replies}
 use Rattle.edf_rows.specs.Rows.{AreKept}
 use Rattle.edf_store.specs.Held.{Kept, at, Holds}
-use Rattle.edf_intake.specs.Refusal.{Answer, reply_told, IsStopped}
+use Rattle.edf_intake.specs.Refusal.{Answer, reply_told, IsStopped, IsInDoubt}
 use Rattle.edf_intake.specs.Submitted.{IsRefusal}
 use Rattle.edf_intake.specs.declared.answer.Refusal.TheVariants as refusal
 use Rattle.edf_intake.specs.Source.{Source, Hears, FailsToRead, ReadsFront}
@@ -53,7 +53,7 @@ IsTurn t = GoesWith t t.told (reply_told t.answer)
 -- rows that stand for this being submitted which the next input tells, whose answer is E41 or E42
 abbrev pub AreUnended : ℕ → Holdings → List Turn → Trees → Type 0
 AreUnended cap h [] rows = ⊥
-AreUnended cap h (t ∷ ts) rows = IsStopped t.answer × ((told : Told) × Hears t.from t.to told × AreKept cap rows (after_one cap h told))
+AreUnended cap h (t ∷ ts) rows = IsInDoubt t.answer × ((told : Told) × Hears t.from t.to told × AreKept cap rows (after_one cap h told))
 
 -- rows that stand for what some first inputs leave, or for that and the next
 pub record AreLeftBy (cap : ℕ) (h : Holdings) (turns : List Turn) (rows : Trees) : Type 0 where

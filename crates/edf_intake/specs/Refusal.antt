@@ -1,7 +1,7 @@
 -- The numbers of the refusals, and the answers that tell a reply.
 use Rattle.std.specs.Prelude.{ℕ, Option, Some, None, Result, Ok, Err}
 use Rattle.edf_fragment.specs.Fault.{fragment_fault_number}
-use Rattle.edf_store.specs.Fault.{number}
+use Rattle.edf_store.specs.Fault.{number, IsStoreRefusal}
 use Rattle.edf_holdings.specs.Reply.{Reply, Form, Overlap, Differs, Full, Accepted}
 use Rattle.edf_intake.specs.declared.answer.Receipt.{Receipt}
 use Rattle.edf_intake.specs.declared.answer.Refusal.{Refusal}
@@ -36,3 +36,9 @@ abbrev pub IsStopped : Answer → Type 0
 IsStopped (Err refusal.Memory) = Unit {0}
 IsStopped (Err (refusal.Store fault)) = Unit {0}
 IsStopped answer = ⊥
+
+-- E41 or E42: a crash may leave that the input was submitted
+abbrev pub IsInDoubt : Answer → Type 0
+IsInDoubt (Err refusal.Memory) = Unit {0}
+IsInDoubt (Err (refusal.Store fault)) = IsStoreRefusal fault
+IsInDoubt answer = ⊥

@@ -13,7 +13,7 @@ use Rattle.edf_store.specs.Held.{Kept, at, Holds, Stays}
 use Rattle.edf_store.specs.Fault.{IsStoreRefusal}
 use Rattle.edf_store.specs.declared.fault.StoreFault.{StoreFault}
 use Rattle.edf_store.specs.declared.fault.StoreFault.TheVariants as store
-use Rattle.edf_intake.specs.Refusal.{Answer, IsStopped}
+use Rattle.edf_intake.specs.Refusal.{Answer, IsStopped, IsInDoubt}
 use Rattle.edf_intake.specs.Source.{Source, Hears, ReadsWhole, FailsToRead, ReadsFront}
 use Rattle.edf_intake.specs.declared.answer.Receipt.{Receipt}
 use Rattle.edf_intake.specs.declared.answer.Refusal.TheVariants as refusal
@@ -22,9 +22,10 @@ use Rattle.edf_intake.specs.declared.answer.Refusal.TheVariants as refusal
 abbrev pub found_busy : Answer
 found_busy = Err (refusal.Store (store.Store None))
 
--- what the store refused: want of memory has a refusal of its own, and a clean disk gives back what was written
+-- what the store refused, E42 or E45: want of memory has a refusal of its own, and a clean disk gives back what was written
 pub record IsRefusal {S : Type 0} (g : Ghosts S) (new : Kept S) (fault : StoreFault) : Type 0 where
   pub other : fault ≢ store.Memory
+  pub told : (fault ≡ store.Foreign) ⊎ IsStoreRefusal fault
   pub own : HasCleanDisk (at g new) → IsStoreRefusal fault
 
 -- the transaction was ended, but where memory ran out or the store refused
@@ -75,11 +76,11 @@ module _ {S : Type 0} (g : Ghosts S) (old new : Kept S) where
       pub read : FailsToRead from to
       pub stays : Stays g old new
 
-    -- memory ran out or the store refused; what is held stays. Only where the whole input was read, and told a fragment, may a
-    -- crash leave that it was submitted
-    abbrev pub StopsThere : Type 0
-    StopsThere = (Stays g old new × ReadsFront from to)
-        ⊎ ((key : Key) × (records : List DataRecord) × ReadsWhole from to key records × MayLeave (Fragment key records))
+    -- memory ran out or the store refused; what is held stays. Only behind E41 and E42, and where the whole input was read and
+    -- told a fragment, may a crash leave that it was submitted
+    abbrev pub StopsThere : Answer → Type 0
+    StopsThere answer = (Stays g old new × ReadsFront from to)
+        ⊎ (IsInDoubt answer × ((key : Key) × (records : List DataRecord) × ReadsWhole from to key records × MayLeave (Fragment key records)))
 
     -- each answer, what it says of the input and what it leaves
     abbrev pub IsSubmitted : Answer → Type 0
@@ -89,5 +90,5 @@ module _ {S : Type 0} (g : Ghosts S) (old new : Kept S) where
     IsSubmitted (Err (refusal.Differs start)) = RefusesFragment (Differs start)
     IsSubmitted (Err (refusal.Full held new cap)) = RefusesFragment (Full held new cap)
     IsSubmitted (Err refusal.Read) = FailsThere
-    IsSubmitted (Err refusal.Memory) = StopsThere
-    IsSubmitted (Err (refusal.Store fault)) = StopsThere × IsRefusal g new fault
+    IsSubmitted (Err refusal.Memory) = StopsThere (Err refusal.Memory)
+    IsSubmitted (Err (refusal.Store fault)) = StopsThere (Err (refusal.Store fault)) × IsRefusal g new fault

@@ -1,7 +1,7 @@
 //! How a submission is answered.
 
-ghost use Rattle.std.specs.Prelude.{◌≡◌, ◌≢◌, Err};
-ghost use Rattle.edf_intake.specs.Inside.Halt.{refusal_by};
+ghost use Rattle.std.specs.Prelude.{◌≡◌, None, Err};
+ghost use Rattle.edf_intake.specs.Inside.Halt.{refusal_by, refusal_of};
 ghost use Rattle.edf_intake.specs.Refusal.{refusal_number, IsStopped};
 
 use edf_fragment::FragmentFault;
@@ -87,9 +87,9 @@ pub(crate) fn refusal_by(fault: FragmentFault) -> Refusal
 
 /// The refusal for a fault of the store. Want of memory has its own.
 pub(crate) fn refusal_of(fault: StoreFault) -> Refusal
-    ensures memory { fault ≡ StoreFault.Memory → result ≡ Refusal.Memory }
-    ensures other { fault ≢ StoreFault.Memory → result ≡ Refusal.Store fault }
+    ensures value { result ≡ refusal_of fault }
     ensures stopped { IsStopped (Err result) }
+    ensures caused { result ≡ Refusal.Store (StoreFault.Store None) → fault ≡ StoreFault.Store None }
 {
     match fault {
         StoreFault::Memory => Refusal::Memory,

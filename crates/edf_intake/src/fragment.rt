@@ -40,7 +40,8 @@ fn find_recording<S: Alter>(
     ensures only { IfOk result (λ _. HasAtMost S.Store identity.now transaction.old.store.now transaction.new.store.now) }
     ensures held { IfOk result (λ found. HasCleanDisk (at S.Store transaction.new.store.now) → (h : Holdings) → Sees S.Store transaction.new.store.now h →
         (length (h identity.now) ≡ found.held) × (length (h identity.now) + found.room ≡ cap)) }
-    ensures told { HasCleanDisk (at S.Store transaction.new.store.now) → IfErr result IsStoreRefusal }
+    ensures told { IfErr result IsStoreRefusal }
+    ensures caused { IfErr result (λ e. e ≢ StoreFault.Store None) }
 {
     let id = match transaction.recording(identity) {
         Ok(id) => id,

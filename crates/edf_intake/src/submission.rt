@@ -37,6 +37,7 @@ pub fn submit<S: Alter, R: Input>(
         (record { left = R.remaining input.old; failed = R.failures input.old })
         (record { left = R.remaining input.new; failed = R.failures input.new }) result }
     ensures ended { IsEnded S.Store store.new result }
+    ensures caused { result ≡ found_busy → IsTrue (at S.Store store.old).in_transaction }
     ensures busy { IsTrue (at S.Store store.old).in_transaction → (input.new ≡ input.old) × (result ≡ found_busy) }
 {
     let cap = store.cap();

@@ -7,11 +7,10 @@ ghost use Rattle.edf_fragment.specs.Fragment.{DataRecord};
 ghost use Rattle.edf_fragment.specs.Reading.{ReadsHeader, at_first};
 ghost use Rattle.edf_fragment.specs.Whole.{ReadsFragment};
 ghost use Rattle.edf_holdings.specs.Holdings.{Holdings, put};
-ghost use Rattle.edf_store.specs.Fault.{IsStoreRefusal};
 ghost use Rattle.edf_store.specs.Held.{at, Stays};
 ghost use Rattle.edf_store.specs.Transaction.{Sees, IsRunning, IsOf, HasNoMore};
 ghost use Rattle.edf_intake.specs.Inside.Step.{IsNext, IsTally, IsStep};
-ghost use Rattle.edf_intake.specs.Inside.Halt.{HaltsThere};
+ghost use Rattle.edf_intake.specs.Inside.Halt.{HaltsThere, IsRefusedInside, IsToldInside};
 
 use crate::answer::{Stop, refusal_by};
 use edf_fragment::{Input, OpenFragment, Record};
@@ -97,7 +96,7 @@ fn take_record<S: Alter>(
         (h : Holdings) → Sees S.Store transaction.old.store.now h →
         (t : Holdings) × Sees S.Store transaction.new.store.now t × IsNext recording.room identity.now data_record.now h tally t next) }
     ensures counted { IfOk result (λ next. next.new + next.known ≤ tally.new + tally.known + 1) }
-    ensures told { HasCleanDisk (at S.Store transaction.new.store.now) → IfErr result IsStoreRefusal }
+    ensures told { IfErr result (IsRefusedInside S.Store transaction.new.store.now) }
 {
     if tally.clash.is_some() {
         return Ok(tally);
@@ -160,7 +159,7 @@ pub(crate) fn take_records<S: Alter, R: Input>(
     ensures halted { IfErr result (λ stop. (left : Option (List ℕ)) → ReadsHeader left (R.remaining input.old) fragment.old.header →
         HaltsThere (record { left = left; failed = R.failures input.old })
         (record { left = R.remaining input.new; failed = R.failures input.new }) stop) }
-    ensures told { HasCleanDisk (at S.Store transaction.new.store.now) → (fault : StoreFault) → result ≡ Err (Stop.Store fault) → IsStoreRefusal fault }
+    ensures told { IfErr result (IsToldInside S.Store transaction.new.store.now) }
 {
     let mut tally = Tally {
         new: 0,

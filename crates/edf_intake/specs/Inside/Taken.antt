@@ -8,9 +8,9 @@ use Rattle.edf_fragment.specs.Told.{Fragment}
 use Rattle.edf_holdings.specs.Holdings.{Holdings}
 use Rattle.edf_holdings.specs.Reply.{Reply, Overlap, Differs, Full, Accepted, reply, after_one}
 use Rattle.edf_store.specs.Held.{Kept, at}
-use Rattle.edf_store.specs.Fault.{IsStoreRefusal}
 use Rattle.edf_store.specs.Transaction.{Sees}
 use Rattle.edf_intake.specs.Source.{Source, ReadsWhole, ReadsFault, FailsToRead, ReadsSome, LacksMemory}
+use Rattle.edf_intake.specs.Inside.Halt.{IsRefusedInside}
 use Rattle.edf_intake.specs.declared.answer.Receipt.{Receipt}
 use Rattle.edf_intake.specs.declared.answer.Refusal.{Refusal}
 use Rattle.edf_intake.specs.declared.answer.Refusal.TheVariants as refusal
@@ -49,4 +49,4 @@ module _ {S : Type 0} (g : Ghosts S) (old new : Kept S) (from to : Source) where
   IsStop (Input refusal.Read) = FailsToRead from to
   IsStop (Input refusal.Memory) = LacksMemory from to
   IsStop (Input (refusal.Store fault)) = ⊥
-  IsStop (Store fault) = ReadsSome from to × (HasCleanDisk (at g new) → IsStoreRefusal fault)
+  IsStop (Store fault) = ReadsSome from to × IsRefusedInside g new fault

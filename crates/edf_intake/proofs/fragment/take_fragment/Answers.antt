@@ -1,4 +1,4 @@
-use Rattle.std.proofs.Common.{◌≡◌, ◌+◌, ℕ, Some, length, Err, sym, ap, subst, ◌∙◌, arith}
+use Rattle.std.proofs.Common.{◌≡◌, ◌+◌, ℕ, Some, length, Err, sym, ap, subst, ◌∙◌, inr, arith}
 use Rattle.sqlite.specs.State.{HasCleanDisk}
 use Rattle.edf_header.specs.Key.{Key}
 use Rattle.edf_header.specs.Header.{Layout}
@@ -37,7 +37,7 @@ pub returns-in-Err-find_recording-clause-stopped : goal.returns-in-Err-find_reco
 returns-in-Err-find_recording-clause-stopped g c =
     let from : Source = record { left = g.R.Input.remaining c.args.input.now; failed = g.R.Input.failures c.args.input.now } in
     let to : Source = record { left = g.R.Input.remaining c.read.new.input; failed = g.R.Input.failures c.read.new.input } in
-    (reads_header_alone from to c.in-Ok.fragment.header c.in-Ok.ensures.step.0 c.in-Ok.ensures.counted, c.in-Err-find_recording.ensures.told)
+    (reads_header_alone from to c.in-Ok.fragment.header c.in-Ok.ensures.step.0 c.in-Ok.ensures.counted, record { told = inr c.in-Err-find_recording.ensures.told; caused = c.in-Err-find_recording.ensures.caused; own = λ clean. c.in-Err-find_recording.ensures.told })
 
 pub take_records-requires-clause-recording : goal.take_records-requires-clause-recording
 take_records-requires-clause-recording g c =
@@ -144,4 +144,4 @@ returns-in-Err-take_records-clause-stopped g c =
     let to : Source = record { left = g.R.Input.remaining c.take_records.new.input; failed = g.R.Input.failures c.take_records.new.input } in
     halted g.S.Store first last from to c.in-Err-take_records.stop
     (subst (λ (n : ℕ). HaltsThere (record { left = from.left; failed = n }) to c.in-Err-take_records.stop) c.in-Ok.ensures.counted (c.in-Err-take_records.ensures.halted from.left c.in-Ok.ensures.step.0))
-    (λ clean fault e. c.in-Err-take_records.ensures.told clean fault (ap (λ (s : Stop). Err s) e))
+    c.in-Err-take_records.ensures.told

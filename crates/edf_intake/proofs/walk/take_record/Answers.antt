@@ -1,11 +1,18 @@
-use Rattle.std.proofs.Common.{List, sym, subst, ◌∙◌, arith}
+use Rattle.std.proofs.Common.{List, sym, subst, ◌∙◌, inr, arith}
 use Rattle.edf_fragment.specs.Fragment.{DataRecord}
 use Rattle.edf_store.proofs.ReadyLemmas.{stays_then}
 use Rattle.edf_intake.specs.Inside.Step.{IsStep}
 use Rattle.edf_intake.specs.declared.walk.Step.TheVariants.{Clashes, Known, New}
+use Rattle.edf_intake.proofs.Halting.{refused_inside}
 use Rattle.edf_intake.proofs.Taking.{none_of, no_more, clash_next, known_next, full_next, added_next, may_take}
 use Rattle.edf_intake.proofs.walk.take_record.Goals as goal
 use Rattle.edf_intake.proofs.walk.take_record.Goals.{then-tally-recording+in_default, else-tally-recording}
+
+pub returns-in-Err-clause-told : goal.returns-in-Err-clause-told
+returns-in-Err-clause-told g c = refused_inside g.S.Store c.near.new.self.store.now c.in-Err.fault c.in-Err.ensures.unfailed c.in-Err.ensures.caused c.in-Err.ensures.told
+
+pub returns-in-Err-add-clause-told : goal.returns-in-Err-add-clause-told
+returns-in-Err-add-clause-told g c = record { told = inr c.in-Err-add.ensures.told; caused = c.in-Err-add.ensures.caused; own = λ clean. c.in-Err-add.ensures.told }
 
 pub returns-in-Clashes-clause-recording : goal.returns-in-Clashes-clause-recording
 returns-in-Clashes-clause-recording g c = c.in-Ok.ensures.same.ids c.args.recording.id.row c.args.identity.now c.requires.recording

@@ -10,7 +10,6 @@ use Rattle.edf_fragment.proofs.Fragments.{one_more_read, refused_then}
 use Rattle.edf_header.proofs.Cited.{header-has-layout}
 use Rattle.edf_holdings.specs.Holdings.{Holdings}
 use Rattle.edf_store.specs.Held.{at}
-use Rattle.edf_store.specs.Fault.{IsStoreRefusal}
 use Rattle.edf_store.specs.Transaction.{Sees, IsOf}
 use Rattle.edf_store.proofs.ReadyLemmas.{stays_then}
 use Rattle.edf_intake.specs.Inside.Step.{IsNext}
@@ -89,11 +88,6 @@ returns-in-Err-take_record-clause-halted g c left head =
       behind = (one_more_read l first mid rest inv.walking.records from to r inv.walking.read inv.status answer).0;
       counted = c.in-Ok-Some.ensures.counted ∙ inv.count;
     }
-
-pub returns-in-Err-take_record-clause-told : goal.returns-in-Err-take_record-clause-told
-returns-in-Err-take_record-clause-told g c clean fault e =
-    let same : c.in-Err-take_record.fault ≡ fault = cc in
-    subst IsStoreRefusal same (c.in-Err-take_record.ensures.told clean)
 
 pub records-preserved : goal.records-preserved
 records-preserved g c =
