@@ -21,8 +21,8 @@ use Rattle.edf_rows.specs.Rows.{AreKept}
 use Rattle.edf_store.specs.Held.{Kept, at, Holds, Stays}
 use Rattle.edf_intake.specs.Refusal.{Answer, reply_told}
 use Rattle.edf_intake.specs.Source.{Source, IsOfForm, Hears}
-use Rattle.edf_intake.specs.Submitted.{IsSubmitted}
-use Rattle.edf_intake.specs.Batch.{Turn, somes, told_in, replies_in, MayBeAnswered, IsTurn, AreUnended, IsOwnRefusal, AreLeftBy, AreSubmitted, AnswersAll}
+use Rattle.edf_intake.specs.Submitted.{IsSubmitted, IsEnded}
+use Rattle.edf_intake.specs.Batch.{Turn, somes, told_in, replies_in, MayBeAnswered, IsTurn, AreUnended, IsOwnRefusal, AreLeftBy, AreEnded, AreSubmitted, AnswersAll}
 use Rattle.edf_intake.specs.declared.answer.Refusal.TheVariants as refusal
 use Rattle.edf_intake.proofs.Turns.{IsMade, told-next, replies-next, map-next, all-next, turn_of}
 
@@ -66,6 +66,12 @@ left-last cap h turns t rows (inl kept) = record {
   stand = inl (subst (λ (z : Holdings). AreKept cap rows z) (after-next cap h turns t) kept);
 }
 left-last cap h turns t rows (inr unended) = record { before = turns; behind = t ∷ []; splits = refl; stand = inr unended }
+
+-- the last of the list is the one that was added
+pub ended-next : {S : Type 0} (g : Ghosts S) (old new : Kept S) (answers : List Answer) (last : Answer) → IsEnded g new last → AreEnded g old new (answers ++ last ∷ [])
+ended-next g old new [] last ended = ended
+ended-next g old new (a ∷ []) last ended = ended
+ended-next g old new (a ∷ b ∷ more) last ended = ended-next g old new (b ∷ more) last ended
 
 module _ {S : Type 0} (g : Ghosts S) where
   pub none_submitted : (old : Kept S) → Stays g old old → AreSubmitted g old old [] [] []

@@ -10,7 +10,7 @@ use Rattle.edf_holdings.specs.Reply.{Reply, Form, Accepted, after_one, after, re
 use Rattle.edf_rows.specs.Rows.{AreKept}
 use Rattle.edf_store.specs.Held.{Kept, at, Holds}
 use Rattle.edf_intake.specs.Refusal.{Answer, reply_told, IsStopped, IsInDoubt}
-use Rattle.edf_intake.specs.Submitted.{IsRefusal}
+use Rattle.edf_intake.specs.Submitted.{IsRefusal, IsEnded}
 use Rattle.edf_intake.specs.declared.answer.Refusal.TheVariants as refusal
 use Rattle.edf_intake.specs.Source.{Source, Hears, FailsToRead, ReadsFront}
 
@@ -66,6 +66,12 @@ pub record AreLeftBy (cap : ℕ) (h : Holdings) (turns : List Turn) (rows : Tree
 abbrev pub IsOwnRefusal : {S : Type 0} → Ghosts S → Kept S → Answer → Type 0
 IsOwnRefusal g new (Err (refusal.Store fault)) = IsRefusal g new fault
 IsOwnRefusal g new answer = Unit {0}
+
+-- the last input's transaction was ended as its answer says; without inputs the store is as it was
+abbrev pub AreEnded : {S : Type 0} → Ghosts S → Kept S → Kept S → List Answer → Type 0
+AreEnded g old new [] = new ≡ old
+AreEnded g old new (answer ∷ []) = IsEnded g new answer
+AreEnded g old new (answer ∷ next ∷ more) = AreEnded g old new (next ∷ more)
 
 module _ {S : Type 0} (g : Ghosts S) (old new : Kept S) where
   -- the inputs were submitted in turn. Those answered E40 to E42 add nothing, and the others are answered and leave what they

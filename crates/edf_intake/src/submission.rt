@@ -4,7 +4,7 @@ ghost use Rattle.std.specs.Prelude.{◌≡◌, IsTrue, map, IfOk, IfErr};
 ghost use Rattle.edf_store.specs.Held.{at};
 ghost use Rattle.edf_intake.specs.Submitted.{IsSubmitted, IsEnded, found_busy};
 ghost use Rattle.edf_intake.specs.Source.{Source};
-ghost use Rattle.edf_intake.specs.Batch.{AreSubmitted, AnswersAll};
+ghost use Rattle.edf_intake.specs.Batch.{AreSubmitted, AnswersAll, AreEnded};
 
 use crate::answer::{Receipt, Refusal, Stop, refusal_of};
 use crate::fragment::take_fragment;
@@ -75,6 +75,7 @@ pub fn submit_all<S: Alter, R: Input>(
     ensures submitted { IfOk result (λ answers. AreSubmitted S.Store store.old store.new
         (map (λ i. record { left = R.remaining i; failed = R.failures i }) inputs.old)
         (map (λ i. record { left = R.remaining i; failed = R.failures i }) inputs.new) answers.items) }
+    ensures ended { IfOk result (λ answers. AreEnded S.Store store.old store.new answers.items) }
     ensures answered { IfOk result (λ answers. AnswersAll S.Store store.old store.new
         (map (λ i. record { left = R.remaining i; failed = R.failures i }) inputs.old) answers.items) }
 {

@@ -6,9 +6,9 @@ use Rattle.edf_store.specs.Held.{Kept}
 use Rattle.edf_intake.specs.Refusal.{Answer}
 use Rattle.edf_intake.specs.Source.{Source}
 use Rattle.edf_intake.specs.Submitted.{IsSubmitted}
-use Rattle.edf_intake.specs.Batch.{AreSubmitted}
+use Rattle.edf_intake.specs.Batch.{AreSubmitted, AreEnded}
 use Rattle.edf_intake.proofs.Places.{olds_more, nows_more, others_same}
-use Rattle.edf_intake.proofs.Batches.{none_submitted, next_submitted, answers_all}
+use Rattle.edf_intake.proofs.Batches.{none_submitted, next_submitted, ended-next, answers_all}
 use Rattle.edf_intake.proofs.submission.submit_all.Goals as goal
 
 -- all of the list was gone through
@@ -24,6 +24,7 @@ loop-input-init g c =
     record {
       cap = refl;
       submitted = subst (λ (l : List Answer). AreSubmitted g.S.Store c.args.store.now c.args.store.now [] [] l) (sym none) (none_submitted g.S.Store c.args.store.now (search rules));
+      ended = subst (λ (l : List Answer). AreEnded g.S.Store c.args.store.now c.args.store.now l) (sym none) refl;
       others = refl;
       counted = search rules;
       reserved = search rules;
@@ -48,6 +49,8 @@ loop-input-preserved g c =
       submitted = subst (λ (l : List Answer). AreSubmitted g.S.Store c.args.store.now c.submit-answer.new.store (map source (take (i + 1) olds)) (map source (take (i + 1) (set nows i new))) l) (sym c.push_reserved.ensures.items)
           (subst (λ (l : List Source). AreSubmitted g.S.Store c.args.store.now c.submit-answer.new.store (map source (take (i + 1) olds)) l (c.loop-input.answers.items ++ c.submit-answer.result ∷ [])) (sym made)
           (subst (λ (l : List Source). AreSubmitted g.S.Store c.args.store.now c.submit-answer.new.store l (map source (take i nows) ++ source new ∷ []) (c.loop-input.answers.items ++ c.submit-answer.result ∷ [])) (sym more) step));
+      ended = subst (λ (l : List Answer). AreEnded g.S.Store c.args.store.now c.submit-answer.new.store l) (sym c.push_reserved.ensures.items)
+          (ended-next g.S.Store c.args.store.now c.submit-answer.new.store c.loop-input.answers.items c.submit-answer.result c.submit-answer.ensures.ended);
       others = others_same source olds nows i old new c.loop-input-test.true inv.others c.input-item.is;
       counted = omega (arith, c.push_reserved.ensures.len, inv.counted);
       reserved = search rules;

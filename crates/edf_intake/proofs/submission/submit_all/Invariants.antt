@@ -1,7 +1,7 @@
 -- What the inputs so far were answered and left; the others are as they were.
 use Rattle.std.proofs.Common.{◌≡◌, ◌≤◌, drop, length, map, take, vec_len, vec_capacity}
 use Rattle.edf_intake.specs.Source.{Source}
-use Rattle.edf_intake.specs.Batch.{AreSubmitted}
+use Rattle.edf_intake.specs.Batch.{AreSubmitted, AreEnded}
 use Rattle.edf_intake.proofs.submission.submit_all.Given as goal
 
 abbrev pub invariant-loop-input : goal.invariant-loop-input
@@ -10,6 +10,7 @@ invariant-loop-input g l = record {
   submitted : AreSubmitted g.S.Store l.initial.store l.store
       (map (λ i. let s : Source = record { left = g.R.Input.remaining i; failed = g.R.Input.failures i } in s) (take l.input-index l.initial.inputs))
       (map (λ i. let s : Source = record { left = g.R.Input.remaining i; failed = g.R.Input.failures i } in s) (take l.input-index l.inputs)) l.answers.items;
+  ended : AreEnded g.S.Store l.initial.store l.store l.answers.items;
   others : drop l.input-index l.inputs ≡ drop l.input-index l.initial.inputs;
   counted : vec_len l.answers ≡ l.input-index;
   reserved : length l.inputs ≤ vec_capacity l.answers;
