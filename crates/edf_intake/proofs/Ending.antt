@@ -1,5 +1,5 @@
 -- How a submission ends: what its steps left, joined.
-use Rattle.std.proofs.Common.{◌≡◌, ◌≢◌, ◌⊎◌, ℕ, List, Err, IsTrue, refl, sym, subst, ◌∙◌, inl, inr, arith}
+use Rattle.std.proofs.Common.{◌≡◌, ◌⊎◌, ℕ, List, None, Err, IsTrue, refl, sym, subst, ◌∙◌, inl, inr, arith}
 use Rattle.sqlite_trees.specs.declared.store.Store.{Ghosts}
 use Rattle.sqlite.specs.State.{HasCleanDisk, Survives}
 use Rattle.sqlite.proofs.StateLemmas.{survives_weaker}
@@ -17,7 +17,7 @@ use Rattle.edf_store.specs.Transaction.{Sees, IsSeen}
 use Rattle.edf_store.specs.declared.fault.StoreFault.{StoreFault}
 use Rattle.edf_store.specs.declared.fault.StoreFault.TheVariants.{Memory, Store, Foreign, Failed}
 use Rattle.edf_store.proofs.ReadyLemmas.{stays_then}
-use Rattle.edf_intake.specs.Refusal.{IsInDoubt}
+use Rattle.edf_intake.specs.Refusal.{IsStopped, IsInDoubt}
 use Rattle.edf_intake.specs.Source.{Source, ReadsFront}
 use Rattle.edf_intake.specs.Submitted.{AreLeft, Accepts, Refuses, StopsThere, IsSubmitted}
 use Rattle.edf_intake.specs.Inside.Halt.{refusal_of}
@@ -40,6 +40,19 @@ refused_by g old new from to fault told is stops which own = subst (λ (r : Refu
     by Foreign stops which own = (stops, record { other = λ e. cc; told = which; own = own })
     by Failed stops which own = (stops, record { other = λ e. cc; told = which; own = own })
 
+pub is_stopped : (fault : StoreFault) → IsStopped (Err (refusal_of fault))
+is_stopped Memory = tt
+is_stopped (Store cause) = tt
+is_stopped Foreign = tt
+is_stopped Failed = tt
+
+-- only where the store has no cause the refusal has none
+pub without_cause : (fault : StoreFault) → refusal_of fault ≡ refusal.Store (Store None) → fault ≡ Store None
+without_cause Memory e = cc
+without_cause (Store cause) e = cc
+without_cause Foreign e = cc
+without_cause Failed e = cc
+
 in_doubt : (fault : StoreFault) → IsStoreRefusal fault → IsInDoubt (Err (refusal_of fault))
 in_doubt Memory told = tt
 in_doubt (Store cause) told = tt
@@ -49,10 +62,6 @@ in_doubt Failed told = absurd told
 reply_to_fault : (cap : ℕ) (h : Holdings) (fault : FragmentFault) → reply cap h (Fault fault) ≡ Form fault
 unfolding reply
 reply_to_fault cap h fault = refl
-
--- no refusal of the input is one of the store
-pub of_input : {S : Type 0} (g : Ghosts S) (first last : Kept S) (from to : Source) (told : Refusal) → IsStop g first last from to (Input told) → (fault : StoreFault) → told ≢ refusal.Store fault
-of_input g first last from to told r fault e = absurd (subst (λ (t : Refusal). IsStop g first last from to (Input t)) e r)
 
 -- old was held, a transaction saw it as first, and last as it was to end, and new is held then
 module _ {S : Type 0} (g : Ghosts S) (old first last : Kept S) (from to : Source) (begun : Stays g old first) (sees : (h : Holdings) → Holds g old h → Sees g first h)

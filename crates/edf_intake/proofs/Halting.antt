@@ -1,5 +1,5 @@
 -- Why a submission ends early, said of its input.
-use Rattle.std.proofs.Common.{◌≡◌, ◌≢◌, ◌⊎◌, ℕ, List, [], Option, Some, None, refl, sym, subst, IfSome, inl, inr}
+use Rattle.std.proofs.Common.{◌≡◌, ℕ, List, [], Option, Some, None, sym, subst, IfSome}
 use Rattle.edf_header.specs.Header.{Layout}
 use Rattle.edf_fragment.specs.Fault.{IsFirstFault}
 use Rattle.edf_fragment.specs.Reading.{ReadsHeader, CountsFault, at_first}
@@ -10,13 +10,9 @@ use Rattle.edf_fragment.specs.declared.fault.FragmentFault.TheVariants.{Header, 
 use Rattle.edf_fragment.proofs.Fragments.{reads_none}
 use Rattle.edf_fragment.proofs.OneFragment.{spelled-no-fault}
 use Rattle.sqlite_trees.specs.declared.store.Store.{Ghosts}
-use Rattle.sqlite.specs.State.{HasCleanDisk}
-use Rattle.edf_store.specs.Held.{Kept, at}
-use Rattle.edf_store.specs.Fault.{IsStoreRefusal}
-use Rattle.edf_store.specs.declared.fault.StoreFault.{StoreFault}
-use Rattle.edf_store.specs.declared.fault.StoreFault.TheVariants as store
+use Rattle.edf_store.specs.Held.{Kept}
 use Rattle.edf_intake.specs.Source.{Source, SpellsNothing, ReadsWhole, ReadsSome}
-use Rattle.edf_intake.specs.Inside.Halt.{refusal_by, HaltsThere, IsRefusedInside, IsToldInside}
+use Rattle.edf_intake.specs.Inside.Halt.{refusal_by, HaltsThere, IsToldInside}
 use Rattle.edf_intake.specs.Inside.Taken.{IsStop}
 use Rattle.edf_intake.specs.declared.answer.Refusal.{Refusal}
 use Rattle.edf_intake.specs.declared.answer.Stop.{Stop}
@@ -43,17 +39,6 @@ reads_header_alone from to l header n = record { layout = l; mid = to.left; reco
 
 pub reads_whole : (from to : Source) (l : Layout) (records : List DataRecord) → ReadsFragment from.left to.left l records → to.failed ≡ from.failed → ReadsWhole from to l.key records
 reads_whole from to l records r n = record { bytes = r.bytes; read = r.read; end = r.end; spells = r.spells; counted = n }
-
--- a call inside a transaction was refused
-pub refused_inside : {S : Type 0} (g : Ghosts S) (new : Kept S) (fault : StoreFault) → fault ≢ store.Failed → fault ≢ store.Store None → (HasCleanDisk (at g new) → IsStoreRefusal fault)
-    → IsRefusedInside g new fault
-refused_inside g new fault fresh caused own = record { told = which fault fresh; caused = caused; own = own }
-  where
-    which : (fault : StoreFault) → fault ≢ store.Failed → (fault ≡ store.Foreign) ⊎ IsStoreRefusal fault
-    which store.Memory fresh = inr tt
-    which (store.Store cause) fresh = inr tt
-    which store.Foreign fresh = inl refl
-    which store.Failed fresh = absurd (fresh refl)
 
 -- why the data records stopped, said of the whole submission
 pub halted : {S : Type 0} (g : Ghosts S) (old new : Kept S) (from to : Source) (stop : Stop) → HaltsThere from to stop

@@ -1,8 +1,8 @@
 //! How a submission is answered.
 
-ghost use Rattle.std.specs.Prelude.{◌≡◌, None, Err};
-ghost use Rattle.edf_intake.specs.Inside.Halt.{refusal_by, refusal_of};
-ghost use Rattle.edf_intake.specs.Refusal.{refusal_number, IsStopped};
+ghost use Rattle.std.specs.Prelude.{◌≡◌};
+ghost use Rattle.edf_intake.specs.Inside.Halt.{refusal_by};
+ghost use Rattle.edf_intake.specs.Refusal.{refusal_number};
 
 use edf_fragment::FragmentFault;
 use edf_header::Identity;
@@ -65,6 +65,20 @@ impl Refusal {
     }
 }
 
+/// Want of memory has a refusal of its own.
+impl From<StoreFault> for Refusal {
+    ghost use Rattle.edf_intake.specs.Inside.Halt.{refusal_of};
+
+    ghost from_gives = { λ fault refusal. refusal ≡ refusal_of fault };
+
+    fn from(fault: StoreFault) -> Refusal {
+        match fault {
+            StoreFault::Memory => Refusal::Memory,
+            fault => Refusal::Store(fault),
+        }
+    }
+}
+
 /// Why a submission is not accepted, before its transaction is given up.
 #[derive(Clone, Copy)]
 pub(crate) enum Stop {
@@ -82,17 +96,5 @@ pub(crate) fn refusal_by(fault: FragmentFault) -> Refusal
         FragmentFault::Read => Refusal::Read,
         FragmentFault::Memory => Refusal::Memory,
         fault => Refusal::Form(fault),
-    }
-}
-
-/// The refusal for a fault of the store. Want of memory has its own.
-pub(crate) fn refusal_of(fault: StoreFault) -> Refusal
-    ensures value { result ≡ refusal_of fault }
-    ensures stopped { IsStopped (Err result) }
-    ensures caused { result ≡ Refusal.Store (StoreFault.Store None) → fault ≡ StoreFault.Store None }
-{
-    match fault {
-        StoreFault::Memory => Refusal::Memory,
-        fault => Refusal::Store(fault),
     }
 }

@@ -43,18 +43,13 @@ fn find_recording<S: Alter>(
     ensures told { IfErr result IsStoreRefusal }
     ensures caused { IfErr result (λ e. e ≢ StoreFault.Store None) }
 {
-    let id = match transaction.recording(identity) {
-        Ok(id) => id,
-        Err(fault) => return Err(fault),
-    };
-    match transaction.count(id) {
-        Ok(held) => Ok(Recording {
-            id,
-            held,
-            room: cap.saturating_sub(held),
-        }),
-        Err(fault) => Err(fault),
-    }
+    let id = transaction.recording(identity)?;
+    let held = transaction.count(id)?;
+    Ok(Recording {
+        id,
+        held,
+        room: cap.saturating_sub(held),
+    })
 }
 
 /// The refusal for a clash.

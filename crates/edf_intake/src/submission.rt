@@ -6,7 +6,7 @@ ghost use Rattle.edf_intake.specs.Submitted.{IsSubmitted, IsEnded, found_busy};
 ghost use Rattle.edf_intake.specs.Source.{Source};
 ghost use Rattle.edf_intake.specs.Batch.{AreSubmitted, AnswersAll, AreEnded};
 
-use crate::answer::{Receipt, Refusal, Stop, refusal_of};
+use crate::answer::{Receipt, Refusal, Stop};
 use crate::fragment::take_fragment;
 use edf_fragment::Input;
 use edf_store::Store;
@@ -41,22 +41,19 @@ pub fn submit<S: Alter, R: Input>(
     ensures busy { IsTrue (at S.Store store.old).in_transaction → (input.new ≡ input.old) × (result ≡ found_busy) }
 {
     let cap = store.cap();
-    let mut transaction = match store.transaction() {
-        Ok(transaction) => transaction,
-        Err(fault) => return Err(refusal_of(fault)),
-    };
+    let mut transaction = store.transaction()?;
     match take_fragment(alloc, &mut transaction, cap, input) {
-        Ok(receipt) => match transaction.commit() {
-            Ok(()) => Ok(receipt),
-            Err(fault) => Err(refusal_of(fault)),
-        },
-        Err(Stop::Input(refusal)) => match transaction.give_up() {
-            Ok(()) => Err(refusal),
-            Err(fault) => Err(refusal_of(fault)),
-        },
+        Ok(receipt) => {
+            transaction.commit()?;
+            Ok(receipt)
+        }
+        Err(Stop::Input(refusal)) => {
+            transaction.give_up()?;
+            Err(refusal)
+        }
         Err(Stop::Store(fault)) => {
             let _ = transaction.give_up();
-            Err(refusal_of(fault))
+            Err(Refusal::from(fault))
         }
     }
 }

@@ -102,10 +102,7 @@ fn take_record<S: Alter>(
         return Ok(tally);
     }
     let start = data_record.start();
-    let near = match transaction.near(recording.id, start, identity.duration()) {
-        Ok(near) => near,
-        Err(fault) => return Err(fault),
-    };
+    let near = transaction.near(recording.id, start, identity.duration())?;
     match step_of(data_record, near.as_slice()) {
         Step::Clashes { stored } => Ok(Tally {
             clash: Some(Starts { start, stored }),
@@ -117,9 +114,7 @@ fn take_record<S: Alter>(
         }),
         Step::New => {
             if tally.new < recording.room {
-                if let Err(fault) = transaction.add(recording.id, data_record) {
-                    return Err(fault);
-                }
+                transaction.add(recording.id, data_record)?;
             }
             Ok(Tally {
                 new: tally.new + 1,
