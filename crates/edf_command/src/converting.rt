@@ -36,6 +36,7 @@ pub(crate) fn convert<S: Alter, I: Inputs, O: Output, F: Output>(
         (grown (O.contents out.old) (O.failures out.old) (O.contents out.new) (O.failures out.new))
         (grown (F.contents err.old) (F.failures err.old) (F.contents err.new) (F.failures err.new))
         (I.bytes inputs.old file.now) file.now result }
+    ensures cap { store.new.cap ≡ store.old.cap }
     ensures same { (name : List ℕ) → I.bytes inputs.new name ≡ I.bytes inputs.old name }
 {
     let Ok(mut reader) = inputs.open(alloc, file) else {

@@ -52,6 +52,7 @@ pub fn run<S: Alter, I: Inputs, O: Output, F: Output>(
         (grown (O.contents out.old) (O.failures out.old) (O.contents out.new) (O.failures out.new))
         (grown (F.contents err.old) (F.failures err.old) (F.contents err.new) (F.failures err.new))
         (I.bytes inputs.old) (meaning order.now) result }
+    ensures cap { store.new.cap ≡ store.old.cap }
     ensures same { (name : List ℕ) → I.bytes inputs.new name ≡ I.bytes inputs.old name }
 {
     match order {

@@ -126,6 +126,7 @@ pub(crate) fn take<S: Alter, I: Inputs, O: Output, F: Output>(
         (grown (O.contents out.old) (O.failures out.old) (O.contents out.new) (O.failures out.new))
         (grown (F.contents err.old) (F.failures err.old) (F.contents err.new) (F.failures err.new))
         (I.bytes inputs.old) (map string_bytes files.now) result }
+    ensures cap { store.new.cap ≡ store.old.cap }
     ensures same { (name : List ℕ) → I.bytes inputs.new name ≡ I.bytes inputs.old name }
 {
     let Ok(mut readers) = open_all(alloc, inputs, files) else {
