@@ -70,8 +70,16 @@ module _ {S : Type 0} (g : Ghosts S) (old new : Kept S) (out err : Growth) where
     pub written : (spell : ℕ → List ℕ) → IsSpelling spell → Gets out (list_lines spell h 1 given)
     pub said : IsTold err (list_refused_line fault) Trouble status
 
+  -- on any disk: it is done, nothing is told and no write failed; or a line could not be written; or why not is told, and no write failed
+  abbrev pub TellsLines : Status → Type 0
+  TellsLines status =
+      ((out.failed_after ≡ out.failed_before) × Gets err [] × (status ≡ Done))
+      ⊎ ((Gets err [] × (status ≡ Trouble))
+      ⊎ ((fault : StoreFault) × (out.failed_after ≡ out.failed_before) × IsTold err (list_refused_line fault) Trouble status))
+
   pub record IsListed (status : Status) : Type 0 where
     pub stays : Stays g old new
+    pub told : TellsLines status
     pub listed : HasCleanDisk (at g new) → (h : Holdings) → Holds g old h → ListsAll h status ⊎ StopsListing h status
 
   -- ---- export
@@ -82,6 +90,12 @@ module _ {S : Type 0} (g : Ghosts S) (old new : Kept S) (out err : Growth) where
       (((len : ℕ) × IsExported out.before out.after k (h k) len) × (out.failed_after ≡ out.failed_before) × Gets err [] × (status ≡ Done))
       ⊎ ((fault : ExportFault) × IsNotExported out.before out.after k (h k) fault × CountsExportFault out.failed_before out.failed_after fault
       × IsTold err (export_refused_line fault) (export_status fault) status)
+
+  -- on any disk: it is done, nothing is told and no write failed; or why not is told, E43 exactly where a write failed
+  abbrev pub TellsWrites : Status → Type 0
+  TellsWrites status =
+      ((out.failed_after ≡ out.failed_before) × Gets err [] × (status ≡ Done))
+      ⊎ ((fault : ExportFault) × CountsExportFault out.failed_before out.failed_after fault × IsTold err (export_refused_line fault) (export_status fault) status)
 
   -- the recording at this place of the list, from 1
   pub record SendsPlace (h : Holdings) (place : ℕ) (status : Status) : Type 0 where
@@ -106,6 +120,7 @@ module _ {S : Type 0} (g : Ghosts S) (old new : Kept S) (out err : Growth) where
 
   pub record IsPlaceSent (place : ℕ) (status : Status) : Type 0 where
     pub stays : Stays g old new
+    pub told : TellsWrites status ⊎ Explains out err (no_recording_line place) Refused status
     pub sent : HasCleanDisk (at g new) → (h : Holdings) → Holds g old h →
         SendsPlace h place status ⊎ (HasNoPlace h place status ⊎ HasNoList status)
 
@@ -130,6 +145,7 @@ module _ {S : Type 0} (g : Ghosts S) (old new : Kept S) (out err : Growth) where
     pub opened : from.left ≡ bytes
     pub submitted : IsSubmitted g old mid from to (Ok receipt)
     pub stays : Stays g mid new
+    pub told : TellsWrites status
     pub sent : HasCleanDisk (at g new) → (h : Holdings) → Holds g mid h → IsSent h receipt.identity status
 
   -- or there was no memory for the reader

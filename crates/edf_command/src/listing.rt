@@ -1,6 +1,6 @@
 //! `list`: a line for each recording.
 
-ghost use Rattle.std.specs.Prelude.{◌≡◌, ◌≢◌, ◌++◌, ◌∷◌, [], ℕ, Some, List, IfOk, IfErr, codes, length};
+ghost use Rattle.std.specs.Prelude.{◌≡◌, ◌≢◌, ◌++◌, ◌∷◌, [], ℕ, Some, List, true, IfOk, IfErr, MatchResult, codes, length};
 ghost use Rattle.edf_header.specs.Key.{patient_code, investigation_code};
 ghost use Rattle.sqlite.specs.State.{HasCleanDisk};
 ghost use Rattle.edf_fragment.specs.Fragment.{DataRecord};
@@ -73,14 +73,14 @@ fn put_recording<S: Alter, O: Output>(
     ensures put { HasCleanDisk (at S.Store store.new) → IfOk result (λ written. (h : Holdings) (spell : ℕ → List ℕ) → Holds S.Store store.old h →
         h identity.now ≢ [] → IsSpelling spell →
         IsLinePut (grown (O.contents out.old) (O.failures out.old) (O.contents out.new) (O.failures out.new)) (list_line spell place identity.now (h identity.now)) written) }
+    ensures counted { IfOk result (λ written. written ≡ true → O.failures out.new ≡ O.failures out.old) }
     ensures nothing { IfErr result (λ _. Gets (grown (O.contents out.old) (O.failures out.old) (O.contents out.new) (O.failures out.new)) []) }
     ensures refused { HasCleanDisk (at S.Store store.new) → IfErr result (λ fault. (h : Holdings) → Holds S.Store store.old h →
         h identity.now ≢ [] → IsStoreRefusal fault) }
 {
-    match store.summary(identity) {
-        Ok(Some(summary)) => Ok(put_line(out, list_line(alloc, place, identity, &summary))),
-        Ok(None) => Err(StoreFault::Foreign),
-        Err(fault) => Err(fault),
+    match store.summary(identity)? {
+        Some(summary) => Ok(put_line(out, list_line(alloc, place, identity, &summary))),
+        None => Err(StoreFault::Foreign),
     }
 }
 
@@ -92,6 +92,7 @@ fn put_recordings<S: Alter, O: Output>(
     recordings: &[Identity],
 ) -> Result<bool, StoreFault>
     ensures stays { Stays S.Store store.old store.new }
+    ensures counted { MatchResult result (λ written. written ≡ true → O.failures out.new ≡ O.failures out.old) (λ _. O.failures out.new ≡ O.failures out.old) }
     ensures put { HasCleanDisk (at S.Store store.new) → IfOk result (λ written. (h : Holdings) (spell : ℕ → List ℕ) → Holds S.Store store.old h →
         AreHeldBy h recordings.now → IsSpelling spell →
         ArePut (grown (O.contents out.old) (O.failures out.old) (O.contents out.new) (O.failures out.new))
@@ -101,10 +102,8 @@ fn put_recordings<S: Alter, O: Output>(
         Gets (grown (O.contents out.old) (O.failures out.old) (O.contents out.new) (O.failures out.new)) (first_list_lines spell h recordings.now n)))) }
 {
     for (at, identity) in recordings.iter().enumerate() {
-        match put_recording(alloc, store, out, at + 1, identity) {
-            Ok(true) => {}
-            Ok(false) => return Ok(false),
-            Err(fault) => return Err(fault),
+        if !put_recording(alloc, store, out, at + 1, identity)? {
+            return Ok(false);
         }
     }
     Ok(true)

@@ -6,7 +6,7 @@ ghost use Rattle.edf_holdings.specs.Holdings.{Holdings};
 ghost use Rattle.edf_store.specs.Held.{at, Holds, Stays};
 ghost use Rattle.edf_command.specs.Lines.{export_refused_line, export_status, no_recording_line};
 ghost use Rattle.edf_command.specs.Output.{grown, IsTold};
-ghost use Rattle.edf_command.specs.Run.{IsSent, IsPlaceSent, at_place};
+ghost use Rattle.edf_command.specs.Run.{IsSent, TellsWrites, IsPlaceSent, at_place};
 
 use crate::output::tell;
 use crate::refusal::export_text;
@@ -51,6 +51,9 @@ pub(crate) fn send_recording<S: Alter, O: Output, F: Output>(
     err: &mut F,
 ) -> Status
     ensures stays { Stays S.Store store.old store.new }
+    ensures told { TellsWrites S.Store store.old store.new
+        (grown (O.contents out.old) (O.failures out.old) (O.contents out.new) (O.failures out.new))
+        (grown (F.contents err.old) (F.failures err.old) (F.contents err.new) (F.failures err.new)) result }
     ensures sent { HasCleanDisk (at S.Store store.new) → (h : Holdings) → Holds S.Store store.old h →
         IsSent S.Store store.old store.new
         (grown (O.contents out.old) (O.failures out.old) (O.contents out.new) (O.failures out.new))

@@ -19,6 +19,7 @@ returns-in-Ok-submit-clause-converted g c = inl (record {
   opened = c.in-Ok.ensures.reader;
   submitted = c.in-Ok-submit.ensures.submitted;
   stays = c.send_recording.ensures.stays;
+  told = c.send_recording.ensures.told;
   sent = c.send_recording.ensures.sent;
 })
 

@@ -13,6 +13,7 @@ use Rattle.edf_command.proofs.listing.list.Goals as goal
 pub returns-in-Err : goal.returns-in-Err
 returns-in-Err g c = record {
   stays = c.identities.ensures.stays;
+  told = inr (inr (c.in-Err.fault, refl, c.tell_refusal.ensures));
   listed = λ clean h holds. inr (record {
     given = [];
     fault = c.in-Err.fault;
@@ -31,6 +32,7 @@ returns-in-Ok-true g c =
     let keys = c.in-Ok.recordings.items in
     record {
       stays = stays_then g.S.Store old mid new c.identities.ensures.stays c.in-Ok-true.ensures.stays;
+      told = inl (c.in-Ok-true.ensures.counted c.in-Ok-true.field-0-test, nothing-gets (g.F.Output.contents c.args.err.now) (g.F.Output.failures c.args.err.now), refl);
       listed = λ clean h holds.
           let are = c.in-Ok.ensures.keys (was-clean g.S.Store mid new c.in-Ok-true.ensures.stays clean) h holds in
           let held : List Key → Type 0 = λ ks. AreHeldBy h ks in
@@ -56,6 +58,7 @@ returns-in-Ok-false g c =
     let keys = c.in-Ok.recordings.items in
     record {
       stays = stays_then g.S.Store old mid new c.identities.ensures.stays c.in-Ok-false.ensures.stays;
+      told = inr (inl (nothing-gets (g.F.Output.contents c.args.err.now) (g.F.Output.failures c.args.err.now), refl));
       listed = λ clean h holds.
           let are = c.in-Ok.ensures.keys (was-clean g.S.Store mid new c.in-Ok-false.ensures.stays clean) h holds in
           let held : List Key → Type 0 = λ ks. AreHeldBy h ks in
@@ -81,6 +84,7 @@ returns g c =
     let keys = c.in-Ok.recordings.items in
     record {
       stays = stays_then g.S.Store old mid new c.identities.ensures.stays c.in-Err-put_recordings.ensures.stays;
+      told = inr (inr (c.in-Err-put_recordings.stop, c.in-Err-put_recordings.ensures.counted, c.tell_refusal-in-Err-put_recordings.ensures));
       listed = λ clean h holds.
           let are = c.in-Ok.ensures.keys (was-clean g.S.Store mid new c.in-Err-put_recordings.ensures.stays clean) h holds in
           let held : List Key → Type 0 = λ ks. AreHeldBy h ks in

@@ -1,4 +1,4 @@
-use Rattle.std.proofs.Common.{ℕ, List}
+use Rattle.std.proofs.Common.{◌≡◌, ℕ, List}
 use Rattle.sqlite.specs.State.{HasCleanDisk}
 use Rattle.edf_holdings.specs.Holdings.{Holdings}
 use Rattle.edf_store.specs.Held.{at, Holds, Stays}
@@ -11,6 +11,7 @@ use Rattle.edf_command.proofs.listing.put_recordings.Given as goal
 abbrev pub invariant-loop-at : goal.invariant-loop-at
 invariant-loop-at g l = record {
   stays : Stays g.S.Store l.fn.store l.store;
+  counted : g.O.Output.failures l.out ≡ g.O.Output.failures l.fn.out;
   put : HasCleanDisk (at g.S.Store l.store) → (h : Holdings) → Holds g.S.Store l.fn.store h → AreHeldBy h l.recordings
       → (spell : ℕ → List ℕ) → IsSpelling spell
       → Gets (grown (g.O.Output.contents l.fn.out) (g.O.Output.failures l.fn.out) (g.O.Output.contents l.out) (g.O.Output.failures l.out)) (first_list_lines spell h l.recordings l.at);

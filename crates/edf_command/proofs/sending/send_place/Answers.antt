@@ -1,9 +1,12 @@
-use Rattle.std.proofs.Common.{◌∙◌, List, sym, ap, inl, inr}
+use Rattle.std.proofs.Common.{◌∙◌, List, sym, ap, refl, inl, inr}
 use Rattle.std.specs.Prelude.{Option}
 use Rattle.edf_header.specs.Key.{Key}
 use Rattle.edf_store.proofs.ReadyLemmas.{stays_then}
 use Rattle.edf_command.specs.Run.{at_place}
+use Rattle.edf_export.specs.declared.fault.ExportFault.TheVariants.{Store}
 use Rattle.edf_command.specs.Lines.{no_recording_line}
+use Rattle.edf_command.specs.Output.{grown, Explains}
+use Rattle.edf_command.specs.declared.status.Status.TheVariants.{Refused}
 use Rattle.edf_command.proofs.Kept.{was-clean, is-refusal}
 use Rattle.edf_command.proofs.Puts.{nothing-gets}
 use Rattle.edf_command.proofs.sending.send_place.Goals as goal
@@ -11,6 +14,7 @@ use Rattle.edf_command.proofs.sending.send_place.Goals as goal
 pub returns-in-Err : goal.returns-in-Err
 returns-in-Err g c = record {
   stays = c.identities.ensures.stays;
+  told = inl (inr (Store c.in-Err.fault, refl, c.tell_refusal.ensures));
   sent = λ clean h holds. inr (inr (record { fault = c.in-Err.fault; told = is-refusal c.in-Err.fault (c.in-Err.ensures.own clean) c.in-Err.ensures.unfailed; said = (nothing-gets (g.O.Output.contents c.args.out.now) (g.O.Output.failures c.args.out.now), c.tell_refusal.ensures) }));
 }
 
@@ -22,6 +26,7 @@ returns-in-Some g c =
     let at : List Key → Option Key = λ keys. at_place keys c.args.place in
     record {
       stays = stays_then g.S.Store old mid new c.identities.ensures.stays c.send_recording.ensures.stays;
+      told = inl c.send_recording.ensures.told;
       sent = λ clean h holds. inl (record {
         keys = c.in-Ok.recordings.items;
         key = c.in-Some.identity.now;
@@ -34,12 +39,15 @@ returns-in-Some g c =
 pub returns : goal.returns
 returns g c =
     let at : List Key → Option Key = λ keys. at_place keys c.args.place in
+    let said : Explains (grown (g.O.Output.contents c.args.out.now) (g.O.Output.failures c.args.out.now) (g.O.Output.contents c.args.out.now) (g.O.Output.failures c.args.out.now)) (grown (g.F.Output.contents c.args.err.now) (g.F.Output.failures c.args.err.now) (g.F.Output.contents c.tell.new.out) (g.F.Output.failures c.tell.new.out)) (no_recording_line c.args.place) Refused c.tell.result
+        = (nothing-gets (g.O.Output.contents c.args.out.now) (g.O.Output.failures c.args.out.now), c.tell.ensures.told (no_recording_line c.args.place) c.no_recording_line.ensures) in
     record {
       stays = c.identities.ensures.stays;
+      told = inr said;
       sent = λ clean h holds. inr (inl (record {
         keys = c.in-Ok.recordings.items;
         are_keys = c.in-Ok.ensures.keys clean h holds;
         none = ap at (sym c.as_slice.ensures.value) ∙ sym c.in-None.ensures;
-        said = (nothing-gets (g.O.Output.contents c.args.out.now) (g.O.Output.failures c.args.out.now), c.tell.ensures.told (no_recording_line c.args.place) c.no_recording_line.ensures);
+        said = said;
       }));
     }
