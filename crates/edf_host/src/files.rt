@@ -23,18 +23,33 @@ const STREAM_PIECE: usize = 65_536;
 pub struct Files<'rt> {
     rt: &'rt HostRuntime,
     terminal: &'rt Terminal<'rt>,
-    stream: Rc<RefCell<BufReader<Stdin>>>,
+    /// Standard input, once a `-` was opened.
+    stream: Option<Rc<RefCell<BufReader<Stdin>>>>,
 }
 
 impl<'rt> Files<'rt> {
-    pub fn new(rt: &'rt HostRuntime, terminal: &'rt Terminal<'rt>) -> io::Result<Files<'rt>> {
-        let stream = BufReader::with_capacity(rt.alloc(), STREAM_PIECE, rt.stdin())?;
-        let stream = Rc::new(rt.alloc(), RefCell::new(stream))?;
-        Ok(Files {
+    pub fn new(rt: &'rt HostRuntime, terminal: &'rt Terminal<'rt>) -> Files<'rt> {
+        Files {
             rt,
             terminal,
-            stream,
-        })
+            stream: None,
+        }
+    }
+
+    /// Standard input, whose buffer is made for the first `-`.
+    ///
+    /// # Errors
+    /// Where memory ran out.
+    fn stream(&mut self, alloc: Global) -> Result<Rc<RefCell<BufReader<Stdin>>>, AllocError> {
+        if let Some(stream) = &self.stream {
+            return Ok(stream.clone()?);
+        }
+        let Ok(reader) = BufReader::with_capacity(alloc, STREAM_PIECE, self.rt.stdin()) else {
+            return Err(AllocError);
+        };
+        let stream = Rc::new(alloc, RefCell::new(reader))?;
+        self.stream = Some(stream.clone()?);
+        Ok(stream)
     }
 }
 
@@ -112,7 +127,7 @@ impl<'rt> Inputs for Files<'rt> {
 
     fn open(&mut self, alloc: Global, name: &str) -> Result<Counted<Source<'rt>>, AllocError> {
         let place = if name == "-" {
-            Place::Stream(self.stream.clone()?)
+            Place::Stream(self.stream(alloc)?)
         } else {
             Place::Closed
         };

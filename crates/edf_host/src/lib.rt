@@ -12,8 +12,10 @@ use cause::{tell_error, tell_refused};
 use disk::{close_file, is_missing, open_file, open_memory};
 use edf_command::{Order, Status, read_order, refuse_store, run, store_path};
 use edf_fragment::Counted;
+use edf_store::Store;
 use files::Files;
-use std::io::{Stderr, Stdout};
+use sqlite::Alter;
+use std::io::{ErrorKind, Stderr, Stdout};
 use std::process::ExitCode;
 use std::{env, io};
 use terminal::{Clearing, Terminal};
@@ -31,12 +33,28 @@ struct Streams<'t> {
     err: Counted<Clearing<'t, Stderr>>,
 }
 
+/// Tells why the words can't be had: one is not UTF-8, or memory ran out.
+fn refuse_words(rt: &HostRuntime, error: &io::Error) -> Status {
+    let (line, status) = if error.kind() == ErrorKind::InvalidData {
+        ("error: a word is not UTF-8", Status::Usage)
+    } else {
+        ("command refused E41 Memory", Status::Trouble)
+    };
+    match eprintln!(rt; "{line}") {
+        Ok(()) => status,
+        Err(_) => Status::Trouble,
+    }
+}
+
 /// The order that the program's words ask for, or the status where there is none.
-fn order_of_words(rt: &HostRuntime) -> io::Result<Result<Order, Status>> {
-    let words = words(rt)?;
+fn order_of_words(rt: &HostRuntime) -> Result<Order, Status> {
+    let words = match words(rt) {
+        Ok(words) => words,
+        Err(error) => return Err(refuse_words(rt, &error)),
+    };
     let mut out = Counted::new(rt.stdout());
     let mut err = Counted::new(rt.stderr());
-    Ok(read_order(rt.alloc(), words.as_slice(), &mut out, &mut err))
+    read_order(rt.alloc(), words.as_slice(), &mut out, &mut err)
 }
 
 /// The terminal of an order: a person is told how far `take` is.
@@ -45,6 +63,24 @@ fn terminal_of<'rt>(rt: &'rt HostRuntime, order: &Order) -> Terminal<'rt> {
         Order::Take { store: _, files } => Terminal::new(rt, files.len()),
         _ => Terminal::new(rt, 0),
     }
+}
+
+/// Runs an order over an open store.
+fn run_over<S: Alter>(
+    rt: &HostRuntime,
+    order: &Order,
+    store: &mut Store<S>,
+    inputs: &mut Files<'_>,
+    streams: &mut Streams<'_>,
+) -> Status {
+    run(
+        rt.alloc(),
+        order,
+        store,
+        inputs,
+        &mut streams.out,
+        &mut streams.err,
+    )
 }
 
 /// Runs an order over the file of the store that it names. A person is told where that is made, and why it is refused.
@@ -68,14 +104,7 @@ fn run_on_file(
     if is_new {
         terminal.say(path, "no such file; made a new, empty store");
     }
-    let status = run(
-        rt.alloc(),
-        order,
-        &mut store,
-        inputs,
-        &mut streams.out,
-        &mut streams.err,
-    );
+    let status = run_over(rt, order, &mut store, inputs, streams);
     if let Some(failure) = close_file(store)
         && status == Status::Trouble
         && terminal.is_there()
@@ -94,14 +123,7 @@ fn run_in_memory(
 ) -> Status {
     match open_memory(rt.alloc()) {
         Ok(mut store) => {
-            let status = run(
-                rt.alloc(),
-                order,
-                &mut store,
-                inputs,
-                &mut streams.out,
-                &mut streams.err,
-            );
+            let status = run_over(rt, order, &mut store, inputs, streams);
             drop(store.into_connection());
             status
         }
@@ -110,33 +132,26 @@ fn run_in_memory(
 }
 
 /// What the order asks for, done over the system's files and streams.
-fn run_order(rt: &HostRuntime, order: &Order) -> io::Result<Status> {
+fn run_order(rt: &HostRuntime, order: &Order) -> Status {
     let terminal = terminal_of(rt, order);
     let mut streams = Streams {
         out: Counted::new(Clearing::new(&terminal, rt.stdout())),
         err: Counted::new(Clearing::new(&terminal, rt.stderr())),
     };
-    let mut inputs = Files::new(rt, &terminal)?;
+    let mut inputs = Files::new(rt, &terminal);
     let status = match store_path(order) {
         Some(path) => run_on_file(rt, &terminal, path, order, &mut inputs, &mut streams),
         None => run_in_memory(rt, order, &mut inputs, &mut streams),
     };
     terminal.wipe_progress();
-    Ok(status)
-}
-
-/// What the words ask for, done.
-fn run_words(rt: &HostRuntime) -> io::Result<Status> {
-    match order_of_words(rt)? {
-        Ok(order) => run_order(rt, &order),
-        Err(status) => Ok(status),
-    }
+    status
 }
 
 /// Does what the program's words ask for, and answers the status that it ends with: 0 to 3.
 pub fn run_program(rt: &HostRuntime) -> ExitCode {
-    match run_words(rt) {
-        Ok(status) => ExitCode::from(status.code()),
-        Err(_) => ExitCode::from(Status::Trouble.code()),
-    }
+    let status = match order_of_words(rt) {
+        Ok(order) => run_order(rt, &order),
+        Err(status) => status,
+    };
+    ExitCode::from(status.code())
 }
