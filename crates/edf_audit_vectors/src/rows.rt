@@ -23,15 +23,21 @@ fn identity_q(alloc: Global) -> Option<Identity> {
     Identity::from_bytes(alloc, bytes.as_slice()).ok()
 }
 
-/// Whether a row is a data record's; `None` where the two calls that tell disagree.
+/// Whether a row is a data record's that starts there; `None` where the two calls that tell disagree, or tell another start.
 fn is_a_row(alloc: Global, start: i64, samples: &[u8], block: &[u8]) -> Option<bool> {
     let identity = identity_q(alloc)?;
     let row = check_row(alloc, &identity, start, samples, block).ok()?;
     let record = record_of(alloc, &identity, start, samples, block).ok()?;
-    if row.is_some() == record.is_some() {
-        Some(row.is_some())
-    } else {
-        None
+    match (row, record) {
+        (None, None) => Some(false),
+        (Some(told), Some(record)) if start_of(told) == start => {
+            if start_of(record.start()) == start {
+                Some(true)
+            } else {
+                None
+            }
+        }
+        _ => None,
     }
 }
 

@@ -43,23 +43,27 @@ fn are_those_of_q(records: &[Record]) -> bool {
 }
 
 /// Whether they are the data records of U.
-fn are_those_of_u(records: &[Record]) -> bool {
+pub(crate) fn are_those_of_u(records: &[Record]) -> bool {
     match records {
         [first, second] => {
             first.start().nanos() == 541_720_800_000_000_000
+                && first.samples() == [1u8, 0, 2, 0].as_slice()
                 && has_note(first, 541_720_800_500_000_000, "Lights off")
                 && second.start().nanos() == 541_720_801_000_000_000
                 && second.samples() == [3u8, 0, 4, 0].as_slice()
+                && second.notes().is_empty()
         }
         _ => false,
     }
 }
 
-/// Whether the first annotation has this onset and this text.
+/// Whether there is one annotation, with this onset, this text and no duration.
 fn has_note(record: &Record, onset: u64, text: &str) -> bool {
-    match record.notes().first() {
-        Some(note) => note.onset().nanos() == onset && note.text() == text,
-        None => false,
+    match record.notes() {
+        [note] => {
+            note.onset().nanos() == onset && note.text() == text && note.duration().is_none()
+        }
+        _ => false,
     }
 }
 
@@ -172,11 +176,35 @@ fn fault_at(alloc: Global, at: usize, text: &[u8], len: usize) -> Option<Fragmen
 
 #[test]
 fn a_refused_header_is_told_by_its_fault(rt: HostRuntime) {
-    let refused: [(usize, &[u8], usize, HeaderFault); 5] = [
+    let refused: [(usize, &[u8], usize, HeaderFault); 14] = [
         (0, b"0", 255, HeaderFault::Cut),
+        (168, b"31.02.02", 778, HeaderFault::Startdate),
         (176, b"24.00.00", 778, HeaderFault::Starttime),
+        (168, b"03.03.02", 778, HeaderFault::DatesDiffer),
+        (192, b"     ", 778, HeaderFault::NotPlus),
+        (236, b"-1", 778, HeaderFault::Count),
+        (244, b"0", 778, HeaderFault::Duration),
         (0, b"0", 767, HeaderFault::CutSignals),
+        (
+            448,
+            b"\xb5",
+            778,
+            HeaderFault::UnprintableSignals { offset: 448 },
+        ),
         (272, b"EDF annotations", 778, HeaderFault::Annotations),
+        (
+            464,
+            b"0       -1      -0.0",
+            778,
+            HeaderFault::Physical { signal: 1 },
+        ),
+        (
+            496,
+            b"5       -32768  5   ",
+            778,
+            HeaderFault::Digital { signal: 1 },
+        ),
+        (688, b"0", 778, HeaderFault::Samples { signal: 1 }),
         (688, b"2097153", 778, HeaderFault::Size),
     ];
     for (at, text, len, fault) in refused {

@@ -92,11 +92,14 @@ fn nothing_is_read_behind_a_refusal(rt: HostRuntime) {
     }
 }
 
-/// Whether 300 bytes go into this much room.
-fn sends(alloc: Global, room: usize, full: bool) -> bool {
+/// Whether the first 300 bytes of Q go into this much room, and whether just those went out for which there is room.
+fn sends(alloc: Global, room: usize, full: bool) -> Option<(bool, bool)> {
+    let bytes = file_q(alloc).ok()?;
     let mut got = Vec::new(alloc);
     let mut out = Counted::new(Sink::of_room(&mut got, room, full));
-    send(&mut out, &[7u8; 300])
+    let whole = send(&mut out, bytes.get(..300)?);
+    drop(out);
+    Some((whole, got.as_slice() == bytes.get(..room.min(300))?))
 }
 
 #[test]
@@ -111,7 +114,7 @@ fn bytes_are_sent_whole_or_a_write_failed(rt: HostRuntime) {
     ] {
         for full in [false, true] {
             let sent = sends(rt.alloc(), room, full);
-            assert_eq!(rt; sent, whole, "room for {room}");
+            assert_eq!(rt; sent, Some((whole, true)), "room for {room}");
         }
     }
 }

@@ -1,5 +1,6 @@
 //! Fragments, read at once.
 
+use crate::one_by_one::are_those_of_u;
 use edf_fragment::{Counted, FragmentFault, Record, read_fragment};
 use edf_header::{Header, HeaderFault};
 use edf_sample::named::{file_q, file_u};
@@ -26,7 +27,7 @@ fn is_read_twice(alloc: Global) -> Option<bool> {
     let (header, records) = read(alloc, &bytes).ok()?;
     let (again, _) = read(alloc, &bytes).ok()?;
     let same = header.identity().same(again.identity());
-    Some(same && header.count() == 2 && records.len() == 2)
+    Some(same && header.count() == 2 && are_those_of_u(records.as_slice()))
 }
 
 #[test]

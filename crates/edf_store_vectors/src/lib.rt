@@ -6,8 +6,6 @@
 
 mod adding;
 #[cfg(test)]
-mod sample;
-#[cfg(test)]
 mod tests;
 
 pub use adding::{Seen, near, put};

@@ -1,12 +1,42 @@
-use crate::sample::{first_of, instant, record_at};
 use crate::{near, put};
+use edf_fragment::{Counted, FragmentReader, Record};
+use edf_header::Identity;
+use edf_sample::Source;
 use edf_sample::named::{file_p5, file_q};
 use edf_store::Store;
+use edf_time::Instant;
 use sqlite::{Alter, Connection, FileStore, Files, MemStore, Options};
 use sqlite_disk::Memory;
 use std::alloc::Global;
 use std::process::Abort;
 use std::test::Fail;
+
+/// Seconds from 1985-01-01 00:00:00 to 2002-03-02 23:59:50, where file Q starts.
+const START: u64 = 541_727_990;
+
+/// An instant, by the half seconds behind the start of file Q.
+fn instant(halves: i8) -> Result<Instant, Fail> {
+    let start = Instant::at(START * 1_000_000_000).ok_or("an instant")?;
+    Ok(
+        start
+            .after(i64::from(halves) * 500_000_000)
+            .ok_or("an instant")?,
+    )
+}
+
+/// The identity and the first data record of a file.
+fn first_of(alloc: Global, file: &[u8]) -> Result<(Identity, Record), Fail> {
+    let mut input = Counted::new(Source::whole(file, 1000));
+    let mut reader = FragmentReader::open(alloc, &mut input)?;
+    let data_record = reader.next()?.ok_or("a data record")?;
+    Ok((reader.into_header().into_identity(), data_record))
+}
+
+/// A data record of one second of one ordinary signal, without annotations.
+fn record_at(alloc: Global, start: Instant, samples: [u8; 4]) -> Result<Record, Fail> {
+    let samples = Vec::from_slice(alloc, &samples)?;
+    Ok(Record::new(start, samples, Vec::new(alloc)).ok_or("a data record")?)
+}
 
 fn in_memory(alloc: Global) -> Result<Store<MemStore>, Fail> {
     let conn = Connection::open_in_memory(alloc)?;
@@ -40,6 +70,26 @@ fn closed(store: Store<FileStore<Memory>>) -> Result<Files<Memory>, Fail> {
     }
 }
 
+/// Whether a walk gives the first of two data records, and whether it gives the second behind it, where it gives another. `None`
+/// where it gives a third.
+fn walked<S: Alter>(
+    store: &mut Store<S>,
+    identity: &Identity,
+    first: &Record,
+    second: &Record,
+) -> Option<(bool, Option<bool>)> {
+    let mut all = store.records(identity).ok()?;
+    let one = all.next().ok()??.same(first);
+    let two = match all.next().ok()? {
+        Some(other) => Some(other.same(second)),
+        None => None,
+    };
+    match all.next().ok()? {
+        Some(_) => None,
+        None => Some((one, two)),
+    }
+}
+
 /// Q's data record is kept; one that touches it is given up, and then kept.
 fn keep_two<S: Alter>(rt: &impl Abort, alloc: Global, store: &mut Store<S>) -> Result<(), Fail> {
     let (identity, first) = first_of(alloc, file_q(alloc)?.as_slice())?;
@@ -51,6 +101,9 @@ fn keep_two<S: Alter>(rt: &impl Abort, alloc: Global, store: &mut Store<S>) -> R
     assert_eq!(rt; (kept.before, kept.after, kept.near.len()), (0, 1, 1));
     let undone = put(store, &identity, &second, false)?;
     assert_eq!(rt; (undone.before, undone.after, undone.near.len()), (1, 2, 2));
+    assert_eq!(rt; near(store, &identity, instant(1)?)?.len(), 1);
+    let alone = walked(store, &identity, &first, &second);
+    assert_eq!(rt; alone, Some((true, None)));
     let one = store.summary(&identity)?.ok_or("a summary")?;
     assert_eq!(rt;
         (one.records, one.first, one.last),
@@ -58,6 +111,8 @@ fn keep_two<S: Alter>(rt: &impl Abort, alloc: Global, store: &mut Store<S>) -> R
     );
     let both = put(store, &identity, &second, true)?;
     assert_eq!(rt; (both.before, both.after, both.near.len()), (1, 2, 2));
+    let pair = walked(store, &identity, &first, &second);
+    assert_eq!(rt; pair, Some((true, Some(true))));
     let two = store.summary(&identity)?.ok_or("a summary")?;
     assert_eq!(rt;
         (two.records, two.first, two.last),

@@ -87,6 +87,7 @@ fn a_file_is_converted_to_its_canonical_form(rt: HostRuntime) {
     for (line, want, len) in [
         ("", "q.edf", 778usize),
         ("convert -", "q.edf", 778),
+        ("convert spare.edf", "q.edf", 778),
         ("convert u.edf", "canonical_u.edf", 820),
         ("convert k.edf", "canonical_k.edf", 798),
         ("convert q_and_p5.edf", "q_and_p5.edf", 840),

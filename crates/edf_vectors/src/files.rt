@@ -29,7 +29,7 @@ fn at_second(alloc: Global, time: &'static str, record: &[u8]) -> Option<Vec<u8>
     file(alloc, &evening(time, "1", "3"), &[record]).ok()
 }
 
-/// The documents' files and those that fit beside them.
+/// The small named files and those that fit beside them.
 pub(crate) fn fitting(alloc: Global, name: &str) -> Option<Vec<u8>> {
     match name {
         "-" | "q.edf" => file_q(alloc).ok(),
@@ -42,12 +42,21 @@ pub(crate) fn fitting(alloc: Global, name: &str) -> Option<Vec<u8>> {
         "u.edf" => file_u(alloc).ok(),
         "before.edf" => at_second(alloc, "23.59.49", b"\x03\0\xfd\xff+0\x14\x14\0\0"),
         "after.edf" => at_second(alloc, "23.59.51", b"\x02\0\xfe\xff+0\x14\x14\0\0"),
+        "spare.edf" => spare(alloc),
         "undated.edf" => undated(alloc),
         "fraction.edf" => fraction(alloc),
         "last.edf" => last(alloc),
         "long.edf" => long(alloc),
         _ => None,
     }
+}
+
+/// Q as a file without gaps, with 57 samples for annotations: 886 bytes.
+fn spare(alloc: Global) -> Option<Vec<u8>> {
+    let header = evening("23.59.50", "1", "57").reserved("EDF+C");
+    let zeros = [0u8; 108];
+    let pieces: [&[u8]; 2] = [b"\x01\0\xff\xff+0\x14\x14\0\0", &zeros];
+    file(alloc, &header, &pieces).ok()
 }
 
 /// Q's data record under an identity without a date.

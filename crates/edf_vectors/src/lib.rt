@@ -1,4 +1,4 @@
-//! Tests of the product end to end, over stores in memory: what is taken, refused, listed and exported, by the documents' files, and
+//! Tests of the product end to end, over stores in memory: what is taken, refused, listed and exported, by small named files, and
 //! lists of fragments in any order, sent again, broken off, and cut in any way.
 //!
 //! Each file that is wanted is spelled by the builders of files and by no program.

@@ -34,19 +34,22 @@ fn two_hundred_lists_of_fragments_end_as_their_nights(rt: HostRuntime) {
     }
 }
 
-/// Whether the fragments of a night with another sample in one data record leave the canonical file of the night as it was.
+/// Whether the fragments of a night with another sample in one data record leave the canonical file of that night, another one
+/// than before.
 fn ends_as_another_night(alloc: Global, seed: u32, place: usize) -> Option<bool> {
     let mut chance = Chance::new(seed);
     let mut records = night(alloc, &mut chance)?;
-    let whole = file_of(alloc, records.as_slice(), "EDF+D", 0)?;
+    let before = file_of(alloc, records.as_slice(), "EDF+D", 0)?;
     turn(records.as_mut_slice(), place)?;
-    end_as(alloc, &mut chance, records.as_slice(), whole.as_slice())
+    let whole = file_of(alloc, records.as_slice(), "EDF+D", 0)?;
+    let ends = end_as(alloc, &mut chance, records.as_slice(), whole.as_slice())?;
+    Some(ends && whole.as_slice() != before.as_slice())
 }
 
 #[test]
 fn a_night_with_one_other_byte_in_a_sample_ends_as_another_file(rt: HostRuntime) {
     for place in 0..12usize {
         let told = ends_as_another_night(rt.alloc(), 300, place);
-        assert_eq!(rt; told, Some(false), "data record {place}");
+        assert_eq!(rt; told, Some(true), "data record {place}");
     }
 }

@@ -29,7 +29,7 @@ pub(crate) struct Outcome {
 }
 
 /// The words of a line.
-fn words(alloc: Global, line: &str) -> Option<Vec<String>> {
+pub(crate) fn words(alloc: Global, line: &str) -> Option<Vec<String>> {
     let mut words = Vec::new(alloc);
     for word in line.split_whitespace() {
         words.push(String::from_str(alloc, word).ok()?).ok()?;

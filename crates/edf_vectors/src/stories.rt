@@ -2,7 +2,10 @@
 
 use crate::shelf::Shelf;
 use crate::stage::{CAP, empty_store, story, told, told_alone, written};
-use edf_command::Status;
+use edf_command::{Status, refuse_store};
+use edf_fragment::Counted;
+use edf_sample::Sink;
+use edf_store::StoreFault;
 use std::alloc::Global;
 
 #[test]
@@ -266,6 +269,14 @@ fn a_missing_file_is_a_failed_read_and_the_next_is_taken(rt: HostRuntime) {
             "err: cut.edf refused E21 CutRecord record=1\nstatus 1\n",
         ),
         (
+            "convert trailing.edf",
+            "err: trailing.edf refused E29 Trailing\nstatus 1\n",
+        ),
+        (
+            "convert empty.edf",
+            "err: empty.edf refused E1 Cut\nstatus 1\n",
+        ),
+        (
             "export night.db 1",
             "err: no recording at place 1\nstatus 1\n",
         ),
@@ -273,6 +284,27 @@ fn a_missing_file_is_a_failed_read_and_the_next_is_taken(rt: HostRuntime) {
     ] {
         let got = story(rt.alloc(), CAP, line);
         assert_eq!(rt; got.as_deref(), Some(want), "{line}");
+    }
+}
+
+/// The status that a store ends with that can't be opened, and whether it is told so.
+fn is_told(alloc: Global, fault: StoreFault, want: &str) -> Option<(u8, bool)> {
+    let mut bytes = Vec::new(alloc);
+    let mut err = Counted::new(Sink::whole(&mut bytes, 100));
+    let status = refuse_store(alloc, &fault, &mut err);
+    drop(err);
+    Some((status.code(), bytes.as_slice() == want.as_bytes()))
+}
+
+#[test]
+fn a_store_that_cannot_be_opened_is_told_by_its_fault(rt: HostRuntime) {
+    for (fault, want) in [
+        (StoreFault::Memory, "store refused E41 Memory\n"),
+        (StoreFault::Store(None), "store refused E42 Store\n"),
+        (StoreFault::Foreign, "store refused E45 Foreign\n"),
+    ] {
+        let told = is_told(rt.alloc(), fault, want);
+        assert_eq!(rt; told, Some((3, true)), "{want}");
     }
 }
 

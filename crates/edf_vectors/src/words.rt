@@ -1,6 +1,7 @@
 //! Words after the program's name, read as an order or told why not.
 
-use edf_command::{CommandFault, Order, parse};
+use crate::stage;
+use edf_command::{CommandFault, Order, parse, store_path};
 use std::alloc::{AllocError, Global};
 
 /// The order of the words of a line and its values, or which fault they have, with its text.
@@ -44,6 +45,29 @@ fn words_that_ask_for_something_are_its_order(rt: HostRuntime) {
     ] {
         let got = answer(rt.alloc(), line).ok();
         assert_eq!(rt; got.as_deref(), Some(want), "at {line}");
+    }
+}
+
+/// Whether a line's order names a store of this path.
+fn has_path(alloc: Global, line: &str, path: Option<&str>) -> Option<bool> {
+    let words = stage::words(alloc, line)?;
+    let order = parse(alloc, words.as_slice()).ok()?;
+    Some(store_path(&order) == path)
+}
+
+#[test]
+fn an_order_has_the_path_of_its_store_but_for_one_in_memory(rt: HostRuntime) {
+    for (line, path) in [
+        ("take night.db a.edf", Some("night.db")),
+        ("list night.db", Some("night.db")),
+        ("export night.db 1", Some("night.db")),
+        ("take :memory: a.edf", None),
+        ("list :memory:", None),
+        ("export :memory: 1", None),
+        ("convert night.db", None),
+    ] {
+        let told = has_path(rt.alloc(), line, path);
+        assert_eq!(rt; told, Some(true), "at {line}");
     }
 }
 
