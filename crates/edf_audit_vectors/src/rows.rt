@@ -28,10 +28,10 @@ fn is_a_row(alloc: Global, start: i64, samples: &[u8], block: &[u8]) -> Option<b
     let identity = identity_q(alloc)?;
     let row = check_row(alloc, &identity, start, samples, block).ok()?;
     let record = record_of(alloc, &identity, start, samples, block).ok()?;
-    match (row, record) {
+    match (&row, &record) {
         (None, None) => Some(false),
-        (Some(told), Some(record)) if start_of(told) == start => {
-            if start_of(record.start()) == start {
+        (Some(told), Some(record)) => {
+            if start_of(*told) == start && start_of(record.start()) == start {
                 Some(true)
             } else {
                 None

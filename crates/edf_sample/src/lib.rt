@@ -1,7 +1,7 @@
 //! Small EDF+ files, built field by field in the standard's words, and streams that come in pieces and fail: for tests.
 //!
 //! - [`Header`], [`q`], [`file`]: the header of a file of one EEG signal and one annotations signal, and the file's bytes.
-//! - [`named`]: the files that the documents' examples speak of.
+//! - [`named`]: small named files.
 //! - [`Source`], [`StopsOnce`], [`Sink`]: readers that give their bytes in pieces and fail, a writer that takes them so.
 //! - [`Scarce`]: a machine whose memory runs out.
 //!

@@ -1,4 +1,4 @@
-//! Files that the documents' examples speak of, spelled in the standards' words.
+//! Small named files, spelled in the standards' words.
 
 use crate::files::{Header, file, push_field, q};
 use std::alloc::{AllocError, Global};
