@@ -95,7 +95,7 @@ def causes(checks: Checks) -> None:
     on_terminal(checks, "list cut.db", err=f"{STORE}cut.db: the file is damaged\n", status=3)
     if os.geteuid() != 0:
         (checks.folder / "rows.db").chmod(0o400)
-        on_terminal(checks, "list rows.db", err=f"{STORE}rows.db: no leave to read and write it, or files beside it\n", status=3)
+        on_terminal(checks, "list rows.db", err=f"{STORE}rows.db: no permission to read and write it, or files beside it\n", status=3)
     os.mkfifo(checks.folder / "slow")
     with subprocess.Popen([checks.program, "take", "s.db", "slow"], cwd=checks.folder, stdout=subprocess.DEVNULL) as other:
         with open(checks.folder / "slow", "wb"):
@@ -112,7 +112,7 @@ def unread_files(checks: Checks) -> None:
     if os.geteuid() != 0:
         checks.file("secret.edf", Q)
         (checks.folder / "secret.edf").chmod(0)
-        causes.append(("secret.edf", "no leave to read it"))
+        causes.append(("secret.edf", "no permission to read it"))
     for path, cause in causes:
         on_terminal(checks, f"convert {path}", err=f"{path}: {cause}\n{path} refused E40 Read\n", status=3)
         on_terminal(checks, f"take s.db {path} a.edf", f"{path} refused E40 Read\na.edf accepted new=0 known=1\n",

@@ -10,7 +10,7 @@ use crate::survey::{Totals, onset_instant, survey};
 use edf_time::Instant;
 
 /// The most annotations that a data record may have, without the time-keeping one.
-const MOST_NOTES: usize = 10_000;
+const MOST_ANNOTATIONS: usize = 10_000;
 
 /// The most bytes that their texts may have together.
 const MOST_TEXT_BYTES: usize = 1_000_000;
@@ -71,7 +71,7 @@ fn keeps_order(place: &Place, start: Instant) -> bool
 fn is_within_limits(count: usize, text_bytes: usize) -> bool
     ensures { IsTrue result ↔ ((count ≤ 10_001) × (text_bytes ≤ 1_000_000)) }
 {
-    count <= MOST_NOTES + 1 && text_bytes <= MOST_TEXT_BYTES
+    count <= MOST_ANNOTATIONS + 1 && text_bytes <= MOST_TEXT_BYTES
 }
 
 /// The TALs of a block that is TALs and zeros, with UTF-8 texts.
