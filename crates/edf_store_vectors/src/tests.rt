@@ -70,26 +70,6 @@ fn closed(store: Store<FileStore<Memory>>) -> Result<Files<Memory>, Fail> {
     }
 }
 
-/// Whether a walk gives the first of two data records, and whether it gives the second behind it, where it gives another. `None`
-/// where it gives a third.
-fn walked<S: Alter>(
-    store: &mut Store<S>,
-    identity: &Identity,
-    first: &Record,
-    second: &Record,
-) -> Option<(bool, Option<bool>)> {
-    let mut all = store.records(identity).ok()?;
-    let one = all.next().ok()??.same(first);
-    let two = match all.next().ok()? {
-        Some(other) => Some(other.same(second)),
-        None => None,
-    };
-    match all.next().ok()? {
-        Some(_) => None,
-        None => Some((one, two)),
-    }
-}
-
 /// Q's data record is kept; one that touches it is given up, and then kept.
 fn keep_two<S: Alter>(rt: &impl Abort, alloc: Global, store: &mut Store<S>) -> Result<(), Fail> {
     let (identity, first) = first_of(alloc, file_q(alloc)?.as_slice())?;
@@ -101,9 +81,6 @@ fn keep_two<S: Alter>(rt: &impl Abort, alloc: Global, store: &mut Store<S>) -> R
     assert_eq!(rt; (kept.before, kept.after, kept.near.len()), (0, 1, 1));
     let undone = put(store, &identity, &second, false)?;
     assert_eq!(rt; (undone.before, undone.after, undone.near.len()), (1, 2, 2));
-    assert_eq!(rt; near(store, &identity, instant(1)?)?.len(), 1);
-    let alone = walked(store, &identity, &first, &second);
-    assert_eq!(rt; alone, Some((true, None)));
     let one = store.summary(&identity)?.ok_or("a summary")?;
     assert_eq!(rt;
         (one.records, one.first, one.last),
@@ -111,8 +88,6 @@ fn keep_two<S: Alter>(rt: &impl Abort, alloc: Global, store: &mut Store<S>) -> R
     );
     let both = put(store, &identity, &second, true)?;
     assert_eq!(rt; (both.before, both.after, both.near.len()), (1, 2, 2));
-    let pair = walked(store, &identity, &first, &second);
-    assert_eq!(rt; pair, Some((true, Some(true))));
     let two = store.summary(&identity)?.ok_or("a summary")?;
     assert_eq!(rt;
         (two.records, two.first, two.last),

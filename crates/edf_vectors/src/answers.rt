@@ -242,25 +242,6 @@ fn a_summary_spans_the_records_that_were_accepted(rt: HostRuntime) {
     assert_eq!(rt; other, None);
 }
 
-/// How Q is answered once more, behind a walk over Q's data record and P5's that was left at the first.
-fn answer_behind_a_walk(alloc: Global) -> Option<Answer> {
-    let mut store = empty_store(alloc, CAP)?;
-    answers(alloc, &mut store, "p5.edf q.edf")?;
-    let recording = identity(alloc)?;
-    let mut walk = store.records(&recording).ok()?;
-    let first = walk.next().ok()?;
-    drop(walk);
-    first?;
-    let again = answers(alloc, &mut store, "q.edf")?;
-    Some(counts(again.first()?))
-}
-
-#[test]
-fn a_walk_that_was_left_changes_no_answer(rt: HostRuntime) {
-    let told = answer_behind_a_walk(rt.alloc());
-    assert_eq!(rt; told, Some(Ok((0, 1))));
-}
-
 /// Why a recording that is not held is not exported beside Q's, and how many bytes went out.
 fn not_exported(alloc: Global) -> Option<(ExportFault, usize)> {
     let mut store = empty_store(alloc, CAP)?;
