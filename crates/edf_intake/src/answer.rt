@@ -88,6 +88,27 @@ pub(crate) enum Stop {
     Store(StoreFault),
 }
 
+impl From<StoreFault> for Stop {
+    ghost use Rattle.edf_intake.specs.declared.answer.Stop.TheVariants.{Store};
+
+    ghost from_gives = { λ fault stop. stop ≡ Store fault };
+
+    fn from(fault: StoreFault) -> Stop {
+        Stop::Store(fault)
+    }
+}
+
+impl From<FragmentFault> for Stop {
+    ghost use Rattle.edf_intake.specs.Inside.Halt.{refusal_by};
+    ghost use Rattle.edf_intake.specs.declared.answer.Stop.TheVariants.{Input};
+
+    ghost from_gives = { λ fault stop. stop ≡ Input (refusal_by fault) };
+
+    fn from(fault: FragmentFault) -> Stop {
+        Stop::Input(refusal_by(fault))
+    }
+}
+
 /// The refusal for a fault of the fragment. A failed read and want of memory have their own.
 pub(crate) fn refusal_by(fault: FragmentFault) -> Refusal
     ensures { result ≡ refusal_by fault }

@@ -14,7 +14,7 @@ ghost use Rattle.edf_intake.specs.Refusal.{reply_told};
 ghost use Rattle.edf_intake.specs.Inside.Step.{IsTally};
 ghost use Rattle.edf_intake.specs.Inside.Taken.{IsConflict, IsTaken, IsStop};
 
-use crate::answer::{Receipt, Refusal, Stop, refusal_by};
+use crate::answer::{Receipt, Refusal, Stop};
 use crate::walk::{Recording, Starts, Tally, take_records};
 use edf_fragment::{Input, OpenFragment};
 use edf_header::Identity;
@@ -139,22 +139,12 @@ pub(crate) fn take_fragment<S: Alter, R: Input>(
         (record { left = R.remaining input.old; failed = R.failures input.old })
         (record { left = R.remaining input.new; failed = R.failures input.new })) }
 {
-    let mut fragment = match OpenFragment::read(alloc, input) {
-        Ok(fragment) => fragment,
-        Err(fault) => return Err(Stop::Input(refusal_by(fault))),
-    };
-    let recording = match find_recording(transaction, cap, fragment.header().identity()) {
-        Ok(recording) => recording,
-        Err(fault) => return Err(Stop::Store(fault)),
-    };
-    match take_records(transaction, recording, &mut fragment, input) {
-        Ok(tally) => {
-            let identity = fragment.into_header().into_identity();
-            match answer_of(recording, cap, tally, identity) {
-                Ok(receipt) => Ok(receipt),
-                Err(refusal) => Err(Stop::Input(refusal)),
-            }
-        }
-        Err(stop) => Err(stop),
+    let mut fragment = OpenFragment::read(alloc, input)?;
+    let recording = find_recording(transaction, cap, fragment.header().identity())?;
+    let tally = take_records(transaction, recording, &mut fragment, input)?;
+    let identity = fragment.into_header().into_identity();
+    match answer_of(recording, cap, tally, identity) {
+        Ok(receipt) => Ok(receipt),
+        Err(refusal) => Err(Stop::Input(refusal)),
     }
 }
