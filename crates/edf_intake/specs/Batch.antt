@@ -14,7 +14,7 @@ use Rattle.edf_intake.specs.Submitted.{IsRefusal, IsEnded}
 use Rattle.edf_intake.specs.declared.answer.Refusal.TheVariants as refusal
 use Rattle.edf_intake.specs.Source.{Source, Hears, FailsToRead, ReadsFront}
 
--- one input's turn: how it was found and left, its answer, and what it told, which is nothing where that was E40 to E42
+-- one input's turn: how it was found and left, its answer, and what it told, which is nothing where that was E40 to E42 or E45
 pub record Turn : Type 0 where
   pub from : Source
   pub to : Source
@@ -74,7 +74,7 @@ AreEnded g old new (answer ∷ []) = IsEnded g new answer
 AreEnded g old new (answer ∷ next ∷ more) = AreEnded g old new (next ∷ more)
 
 module _ {S : Type 0} (g : Ghosts S) (old new : Kept S) where
-  -- the inputs were submitted in turn. Those answered E40 to E42 add nothing, and the others are answered and leave what they
+  -- the inputs were submitted in turn. Those answered E40 to E42 or E45 add nothing; the others are answered and leave what they
   -- would without those; a crash leaves what it could leave before, or what some first inputs leave
   pub record AreSubmitted (froms tos : List Source) (answers : List Answer) : Type 0 where
     pub turns : List Turn
