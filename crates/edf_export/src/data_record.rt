@@ -28,10 +28,8 @@ fn put_block<W: Output>(
     let Ok(block) = write_block(alloc, data_record.start(), data_record.notes(), file_start) else {
         return Err(OutputFault::Memory);
     };
-    match put(out, held, block.as_slice()) {
-        Ok(()) => put_zeros(out, held, size - block.len()),
-        Err(fault) => Err(fault),
-    }
+    put(out, held, block.as_slice())?;
+    put_zeros(out, held, size - block.len())
 }
 
 /// Puts a data record: its samples, its block and the fill.
@@ -48,8 +46,6 @@ pub(crate) fn put_record<W: Output>(
         (buffered (W.contents out.new) (W.failures out.new) held.new.items)
         (record_text file_start size data_record.now) result }
 {
-    match put(out, held, data_record.samples()) {
-        Ok(()) => put_block(alloc, out, held, data_record, file_start, size),
-        Err(fault) => Err(fault),
-    }
+    put(out, held, data_record.samples())?;
+    put_block(alloc, out, held, data_record, file_start, size)
 }

@@ -37,6 +37,31 @@ impl ExportFault {
     }
 }
 
+impl From<StoreFault> for ExportFault {
+    ghost use Rattle.std.specs.Prelude.{◌≡◌};
+    ghost use Rattle.edf_export.specs.declared.fault.ExportFault.{ExportFault};
+
+    ghost from_gives = { λ refused fault. fault ≡ ExportFault.Store refused };
+
+    fn from(refused: StoreFault) -> ExportFault {
+        ExportFault::Store(refused)
+    }
+}
+
+impl From<OutputFault> for ExportFault {
+    ghost use Rattle.std.specs.Prelude.{◌≡◌};
+    ghost use Rattle.edf_export.specs.Inside.Walks.{refusal_of};
+
+    ghost from_gives = { λ refused fault. fault ≡ refusal_of refused };
+
+    fn from(refused: OutputFault) -> ExportFault {
+        match refused {
+            OutputFault::Write => ExportFault::Write,
+            OutputFault::Memory => ExportFault::Memory,
+        }
+    }
+}
+
 /// Why bytes could not be put out.
 #[derive(Clone, Copy, Debug, PartialEq, Eq, Drop, Error)]
 pub(crate) enum OutputFault {

@@ -26,10 +26,7 @@ fn put_through<W: Output>(out: &mut W, held: &mut Vec<u8>, bytes: &[u8]) -> Resu
     ensures { IsPut (buffered (W.contents out.old) (W.failures out.old) held.old.items)
         (buffered (W.contents out.new) (W.failures out.new) held.new.items) bytes.now result }
 {
-    match flush(out, held) {
-        Ok(()) => {}
-        Err(fault) => return Err(fault),
-    }
+    flush(out, held)?;
     if !send(out, bytes) {
         return Err(OutputFault::Write);
     }
@@ -62,10 +59,8 @@ pub(crate) fn put<W: Output>(
     if bytes.len() <= CAPACITY.saturating_sub(held.len()) {
         return hold(out, held, bytes);
     }
-    match flush(out, held) {
-        Ok(()) => hold(out, held, bytes),
-        Err(fault) => Err(fault),
-    }
+    flush(out, held)?;
+    hold(out, held, bytes)
 }
 
 /// Zeros, as many as are put at once.
@@ -83,10 +78,7 @@ pub(crate) fn put_zeros<W: Output>(
     let mut left = count;
     while left > 0 {
         let piece = left.min(4_096);
-        match put(out, held, &ZEROS[..piece]) {
-            Ok(()) => {}
-            Err(fault) => return Err(fault),
-        }
+        put(out, held, &ZEROS[..piece])?;
         left -= piece;
     }
     Ok(())

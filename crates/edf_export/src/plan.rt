@@ -48,14 +48,11 @@ fn longest_block<S: Alter>(
 {
     let mut longest = 0usize;
     for _ in 0..count {
-        match walk.next() {
-            Ok(Some(data_record)) => {
-                let len = block_len(data_record.start(), data_record.notes(), file_start);
-                longest = longest.max(len);
-            }
-            Ok(None) => return Err(StoreFault::Foreign),
-            Err(fault) => return Err(fault),
-        }
+        let Some(data_record) = walk.next()? else {
+            return Err(StoreFault::Foreign);
+        };
+        let len = block_len(data_record.start(), data_record.notes(), file_start);
+        longest = longest.max(len);
     }
     Ok(longest)
 }
@@ -80,10 +77,7 @@ fn measure<S: Alter>(
     ensures caused { IfErr result (λ e. e ≡ StoreFault.Store None → IsTrue (at S.Store store.old).in_transaction) }
     ensures idle { HasCleanDisk (at S.Store store.new) → OnOk result ((at S.Store store.new).in_transaction ≡ false) }
 {
-    let mut walk = match store.records(identity) {
-        Ok(walk) => walk,
-        Err(fault) => return Err(fault),
-    };
+    let mut walk = store.records(identity)?;
     longest_block(&mut walk, count, file_start)
 }
 
@@ -104,21 +98,16 @@ pub(crate) fn plan_file<S: Alter>(
     ensures caused { HasCleanDisk (at S.Store store.new) → IfErr result (λ e. e ≡ StoreFault.Store None → IsTrue (at S.Store store.old).in_transaction) }
     ensures idle { HasCleanDisk (at S.Store store.new) → OnOk result ((at S.Store store.new).in_transaction ≡ false) }
 {
-    let summary = match store.summary(identity) {
-        Ok(Some(summary)) => summary,
-        Ok(None) => return Ok(None),
-        Err(fault) => return Err(fault),
+    let Some(summary) = store.summary(identity)? else {
+        return Ok(None);
     };
-    let longest = match measure(store, identity, summary.records, summary.first.second()) {
-        Ok(longest) => longest as u32,
-        Err(fault) => return Err(fault),
-    };
+    let longest = measure(store, identity, summary.records, summary.first.second())?;
     if summary.records == 0 || summary.records > store.cap() {
         return Err(StoreFault::Foreign);
     }
     Ok(Some(Plan {
         records: summary.records,
         first: summary.first,
-        samples: longest / 2 + longest % 2,
+        samples: (longest / 2 + longest % 2) as u32,
     }))
 }

@@ -44,10 +44,8 @@ pub fn export<S: Alter, W: Output>(
         IsTrue (at S.Store store.old).in_transaction }
     ensures idle { HasCleanDisk (at S.Store store.new) → LeavesIdle (at S.Store store.new) result }
 {
-    let plan = match plan_file(store, identity) {
-        Ok(Some(plan)) => plan,
-        Ok(None) => return Err(ExportFault::NoRecording),
-        Err(fault) => return Err(ExportFault::Store(fault)),
+    let Some(plan) = plan_file(store, identity)? else {
+        return Err(ExportFault::NoRecording);
     };
     write_planned(alloc, store, identity, out, plan)
 }

@@ -10,10 +10,10 @@ ghost use Rattle.edf_store.specs.Walk.{IsBehind, StandsSomewhere};
 ghost use Rattle.edf_export.specs.File.{second_of, block_of, record_text};
 ghost use Rattle.edf_export.specs.Export.{IsExported, IsNotExported, LeavesIdle};
 ghost use Rattle.edf_export.specs.Inside.Output.{buffered};
-ghost use Rattle.edf_export.specs.Inside.Walks.{refusal_of, IsPlanOf, IsPutOut, IsSentOut, CountsWriting};
+ghost use Rattle.edf_export.specs.Inside.Walks.{IsPlanOf, IsPutOut, IsSentOut, CountsWriting};
 
 use crate::data_record::put_record;
-use crate::fault::{ExportFault, OutputFault};
+use crate::fault::ExportFault;
 use crate::output::{flush, put};
 use crate::plan::Plan;
 use edf_fragment::{Output, Record};
@@ -23,15 +23,6 @@ use edf_tal::block_len;
 use edf_time::Instant;
 use sqlite::Alter;
 use std::alloc::Global;
-
-fn refusal_of(fault: OutputFault) -> ExportFault
-    ensures { result ≡ refusal_of fault }
-{
-    match fault {
-        OutputFault::Write => ExportFault::Write,
-        OutputFault::Memory => ExportFault::Memory,
-    }
-}
 
 /// Puts a data record whose block has at most `size` bytes; a longer one is foreign.
 fn put_fitting<W: Output>(
@@ -53,10 +44,8 @@ fn put_fitting<W: Output>(
     if block_len(data_record.start(), data_record.notes(), file_start) > size {
         return Err(ExportFault::Store(StoreFault::Foreign));
     }
-    match put_record(alloc, out, held, data_record, file_start, size) {
-        Ok(()) => Ok(()),
-        Err(fault) => Err(refusal_of(fault)),
-    }
+    put_record(alloc, out, held, data_record, file_start, size)?;
+    Ok(())
 }
 
 /// Puts the data records of a walk, which are as many as planned.
@@ -85,15 +74,10 @@ fn put_walk<S: Alter, W: Output>(
     let file_start = plan.first.second();
     let size = 2 * plan.samples as usize;
     for _ in 0..plan.records {
-        let data_record = match walk.next() {
-            Ok(Some(data_record)) => data_record,
-            Ok(None) => return Err(ExportFault::Store(StoreFault::Foreign)),
-            Err(fault) => return Err(ExportFault::Store(fault)),
+        let Some(data_record) = walk.next()? else {
+            return Err(ExportFault::Store(StoreFault::Foreign));
         };
-        match put_fitting(alloc, out, held, &data_record, file_start, size) {
-            Ok(()) => {}
-            Err(fault) => return Err(fault),
-        }
+        put_fitting(alloc, out, held, &data_record, file_start, size)?;
     }
     Ok(())
 }
@@ -121,18 +105,10 @@ fn send_file<S: Alter, W: Output>(
     ensures idle { HasCleanDisk (at S.Store walk.new.store.now) → LeavesIdle (at S.Store walk.new.store.now) result }
 {
     let mut held = Vec::new(alloc);
-    match put(out, &mut held, header) {
-        Ok(()) => {}
-        Err(fault) => return Err(refusal_of(fault)),
-    }
-    match put_walk(alloc, walk, out, &mut held, plan) {
-        Ok(()) => {}
-        Err(fault) => return Err(fault),
-    }
-    match flush(out, &mut held) {
-        Ok(()) => Ok(()),
-        Err(fault) => Err(refusal_of(fault)),
-    }
+    put(out, &mut held, header)?;
+    put_walk(alloc, walk, out, &mut held, plan)?;
+    flush(out, &mut held)?;
+    Ok(())
 }
 
 /// Writes a header and behind it the data records that an identity holds.
@@ -154,10 +130,7 @@ fn send_recording<S: Alter, W: Output>(
     ensures caused { result ≡ Err (ExportFault.Store (StoreFault.Store None)) → IsTrue (at S.Store store.old).in_transaction }
     ensures idle { HasCleanDisk (at S.Store store.new) → LeavesIdle (at S.Store store.new) result }
 {
-    let mut walk = match store.records(identity) {
-        Ok(walk) => walk,
-        Err(fault) => return Err(ExportFault::Store(fault)),
-    };
+    let mut walk = store.records(identity)?;
     send_file(alloc, &mut walk, out, header, plan)
 }
 
@@ -192,21 +165,7 @@ pub(crate) fn write_planned<S: Alter, W: Output>(
     let Ok(header) = write_header(alloc, identity, first, records, samples) else {
         return Err(ExportFault::Memory);
     };
-    match send_recording(
-        alloc,
-        store,
-        identity,
-        out,
-        header.as_slice(),
-        Plan {
-            records,
-            first,
-            samples,
-        },
-    ) {
-        Ok(()) => {}
-        Err(fault) => return Err(fault),
-    }
+    send_recording(alloc, store, identity, out, header.as_slice(), plan)?;
     let record_bytes = identity.ordinary_bytes() + 2 * samples as usize;
     Ok(header.len() as u64 + records as u64 * record_bytes as u64)
 }

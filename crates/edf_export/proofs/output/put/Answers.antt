@@ -1,8 +1,9 @@
+use Rattle.std.proofs.lemmas.Result.{err_from_is_err_and}
 use Rattle.edf_export.proofs.Puts.{flush-refused, put-flushed}
 use Rattle.edf_export.proofs.output.put.Goals as goal
 
-pub returns-in-Ok : goal.returns-in-Ok
-returns-in-Ok g c = put-flushed _ _ _ _ _ _ c.in-Ok.ensures c.hold-in-Ok.ensures
+pub returns : goal.returns
+returns g c = put-flushed _ _ _ _ _ _ c.in_ok-flush.ensures c.hold-2.ensures
 
-pub returns-in-Err : goal.returns-in-Err
-returns-in-Err g c = flush-refused _ _ _ _ c.in-Err.ensures
+pub returns-in_err-flush : goal.returns-in_err-flush
+returns-in_err-flush g c = let p = err_from_is_err_and c.from_residual.result c.from_residual.ensures.1 in rw (p.1, p.2) (flush-refused _ _ _ _ c.in_err-flush.ensures)

@@ -1,5 +1,6 @@
 use Rattle.std.proofs.Common.{arith, ◌≡◌, ◌∙◌, ap, sym, ℕ, ◌-◌, ◌++◌, List, replicate, ◌+◌, ◌≤◌, take}
 use Rattle.std.proofs.lemmas.List.{take-replicate, replicate-append-replicate}
+use Rattle.std.proofs.lemmas.Result.{err_from_is_err_and}
 use Rattle.edf_export.proofs.Puts.{writes-then, writes-same, put-fails-between}
 use Rattle.edf_export.proofs.output.put_zeros.Goals as goal
 
@@ -17,7 +18,7 @@ zeros-all count left piece low high small =
 
 pub loop-left-preserved : goal.loop-left-preserved
 loop-left-preserved g c =
-    let e = c.in-Ok.ensures in
+    let e = c.in_ok-put.ensures in
     record {
       within = omega arith;
       wrote = writes-same _ _ _ _ _ (zeros-more c.args.count c.loop-left.left c.min-piece.result (omega (arith, c.min-piece.ensures)) c.loop-left.invariant.within (omega (arith, c.min-piece.ensures)))
@@ -25,7 +26,7 @@ loop-left-preserved g c =
       count_is = e.1 ∙ c.loop-left.invariant.count_is;
     }
 
-pub returns-in-Err : goal.returns-in-Err
-returns-in-Err g c =
-    put-fails-between _ _ _ _ _ _ _ _ c.loop-left.invariant.wrote c.loop-left.invariant.count_is c.in-Err.ensures
-    (zeros-all c.args.count c.loop-left.left c.min-piece.result (omega (arith, c.min-piece.ensures)) c.loop-left.invariant.within (omega (arith, c.min-piece.ensures)))
+pub returns-in_err-put : goal.returns-in_err-put
+returns-in_err-put g c =
+    let p = err_from_is_err_and c.from_residual.result c.from_residual.ensures.1 in rw (p.1, p.2) (put-fails-between _ _ _ _ _ _ _ _ c.loop-left.invariant.wrote c.loop-left.invariant.count_is c.in_err-put.ensures
+    (zeros-all c.args.count c.loop-left.left c.min-piece.result (omega (arith, c.min-piece.ensures)) c.loop-left.invariant.within (omega (arith, c.min-piece.ensures))))

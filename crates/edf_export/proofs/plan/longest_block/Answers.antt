@@ -1,11 +1,12 @@
 use Rattle.std.proofs.Common.{◌≡◌, ◌∙◌, ◌+◌, max, List, length, take, refl, sym, ap, subst, arith}
 use Rattle.std.proofs.lemmas.List.{take_all}
+use Rattle.std.proofs.lemmas.Result.{err_from_is_err_and}
 use Rattle.edf_tal.specs.Tal.{Annotation}
 use Rattle.edf_tal.specs.Canonical.{block_text}
 use Rattle.edf_store.proofs.ReadyLemmas.{stays_then}
 use Rattle.edf_export.specs.File.{block_of}
 use Rattle.edf_export.specs.Inside.Walks.{IsLongest}
-use Rattle.edf_export.proofs.WalkLemmas.{stays_same, clean_before, longest_none, longest_more}
+use Rattle.edf_export.proofs.WalkLemmas.{stays_same, clean_before, refusal_told, longest_none, longest_more}
 use Rattle.edf_export.proofs.plan.longest_block.Goals as goal
 
 pub loop-init : goal.loop-init
@@ -23,17 +24,17 @@ loop-init g c = record {
 pub loop-preserved : goal.loop-preserved
 loop-preserved g c =
     let i = c.loop.invariant in
-    let r = c.in-Ok-Some.data_record in
+    let r = c.in-Some.data_record in
     let fs = c.args.file_start in
-    let moved = rw c.in-Ok-Some.field-0-is at c.in-Ok-Some.ensures.moved in
-    let step = rw c.in-Ok-Some.field-0-is at c.in-Ok-Some.ensures.step in
+    let moved = rw c.in-Some.is at c.in_ok-data_record.ensures.moved in
+    let step = rw c.in-Some.is at c.in_ok-data_record.ensures.step in
     let value : c.block_len-len.result ≡ length (block_of fs r) =
     c.block_len-len.ensures.value ∙ ap (λ n. length (block_text fs n c.notes.result.now)) c.start.ensures.value
     ∙ ap (λ (l : List Annotation). length (block_text fs r.start l)) c.notes.ensures.value in
     let grown : c.max-longest.result ≡ max c.loop.longest (length (block_of fs r)) = c.max-longest.ensures ∙ ap (λ n. max c.loop.longest n) value in
     record {
-      going = c.in-Ok-Some.ensures.ready.0;
-      ready = c.in-Ok-Some.ensures.ready.1;
+      going = c.in_ok-data_record.ensures.ready.0;
+      ready = c.in_ok-data_record.ensures.ready.1;
       same_reference = c.next.ensures.same_reference ∙ i.same_reference;
       stays = stays_then g.S.Store c.args.walk.now.store.now c.loop.walk.store.now c.next.new.self.store.now i.stays c.next.ensures.stays;
       moved = λ h k behind. moved h k c.loop.counter (i.moved h k behind);
@@ -45,11 +46,16 @@ loop-preserved g c =
       some = λ low. omega (arith, c.max-longest.ensures, c.block_len-len.ensures.value);
     }
 
-pub returns-in-Ok-None-clause-stays : goal.returns-in-Ok-None-clause-stays
-returns-in-Ok-None-clause-stays g c = stays_then g.S.Store c.args.walk.now.store.now c.loop.walk.store.now c.next.new.self.store.now c.loop.invariant.stays c.next.ensures.stays
+pub returns-in_default-clause-stays : goal.returns-in_default-clause-stays
+returns-in_default-clause-stays g c = stays_then g.S.Store c.args.walk.now.store.now c.loop.walk.store.now c.next.new.self.store.now c.loop.invariant.stays c.next.ensures.stays
 
-pub returns-in-Err-clause-stays : goal.returns-in-Err-clause-stays
-returns-in-Err-clause-stays g c = stays_then g.S.Store c.args.walk.now.store.now c.loop.walk.store.now c.next.new.self.store.now c.loop.invariant.stays c.next.ensures.stays
+pub returns-in_err-data_record-clause-stays : goal.returns-in_err-data_record-clause-stays
+returns-in_err-data_record-clause-stays g c = stays_then g.S.Store c.args.walk.now.store.now c.loop.walk.store.now c.next.new.self.store.now c.loop.invariant.stays c.next.ensures.stays
+
+pub returns-in_err-data_record-clause-told : goal.returns-in_err-data_record-clause-told
+returns-in_err-data_record-clause-told g c clean =
+    let e = c.in_err-data_record.ensures in
+    let p = err_from_is_err_and c.from_residual.result c.from_residual.ensures.1 in rw (p.1, p.2) (λ h k behind count. refusal_told c.in_err-data_record.field-0.0 (e.own clean) (e.unfailed c.loop.invariant.going))
 
 pub returns-clause-longest : goal.returns-clause-longest
 returns-clause-longest g c clean h k behind count =

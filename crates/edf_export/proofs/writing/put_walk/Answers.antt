@@ -1,4 +1,5 @@
 use Rattle.std.proofs.Common.{◌∙◌, ◌*◌, refl}
+use Rattle.std.proofs.lemmas.Result.{err_from_is_err_and}
 use Rattle.edf_store.specs.Held.{at}
 use Rattle.edf_store.proofs.ReadyLemmas.{stays_then}
 use Rattle.edf_export.specs.File.{second_of}
@@ -6,53 +7,56 @@ use Rattle.edf_export.proofs.WalkLemmas.{clean_before, refusal_told, idle_behind
 use Rattle.edf_export.proofs.Texts.{fits_here, texts_more, texts_stop, texts_end}
 use Rattle.edf_export.proofs.writing.put_walk.Goals as goal
 
-pub returns-in-Ok-None-clause-stays : goal.returns-in-Ok-None-clause-stays
-returns-in-Ok-None-clause-stays g c = stays_then g.S.Store c.args.walk.now.store.now c.loop.walk.store.now c.next.new.self.store.now c.loop.invariant.stays c.next.ensures.stays
+pub returns-in_default-clause-stays : goal.returns-in_default-clause-stays
+returns-in_default-clause-stays g c = stays_then g.S.Store c.args.walk.now.store.now c.loop.walk.store.now c.next.new.self.store.now c.loop.invariant.stays c.next.ensures.stays
 
-pub returns-in-Err-clause-stays : goal.returns-in-Err-clause-stays
-returns-in-Err-clause-stays g c = stays_then g.S.Store c.args.walk.now.store.now c.loop.walk.store.now c.next.new.self.store.now c.loop.invariant.stays c.next.ensures.stays
+pub returns-in_err-data_record-clause-stays : goal.returns-in_err-data_record-clause-stays
+returns-in_err-data_record-clause-stays g c = stays_then g.S.Store c.args.walk.now.store.now c.loop.walk.store.now c.next.new.self.store.now c.loop.invariant.stays c.next.ensures.stays
 
-pub returns-in-Err-clause-put : goal.returns-in-Err-clause-put
-returns-in-Err-clause-put g c clean h k behind plan =
-    let was = clean_before g.S.Store c.loop.walk.store.now c.next.new.self.store.now c.next.ensures.stays clean in
-    let i = c.loop.invariant in (
-      texts_end (second_of c.args.plan.first) c.args.plan.samples c.loop.counter (h k) _ _ (i.wrote was h k behind plan),
-      refusal_told c.in-Err.fault (c.in-Err.ensures.own clean) (c.in-Err.ensures.unfailed i.going),
-    )
-
-pub returns-in-Err-put_fitting-clause-stays : goal.returns-in-Err-put_fitting-clause-stays
-returns-in-Err-put_fitting-clause-stays g c = stays_then g.S.Store c.args.walk.now.store.now c.loop.walk.store.now c.next.new.self.store.now c.loop.invariant.stays c.next.ensures.stays
-
-pub returns-in-Err-put_fitting-clause-put : goal.returns-in-Err-put_fitting-clause-put
-returns-in-Err-put_fitting-clause-put g c clean h k behind plan =
+pub returns-in_err-data_record-clause-put : goal.returns-in_err-data_record-clause-put
+returns-in_err-data_record-clause-put g c clean h k behind plan =
     let was = clean_before g.S.Store c.loop.walk.store.now c.next.new.self.store.now c.next.ensures.stays clean in
     let i = c.loop.invariant in
-    let r = c.in-Ok-Some.data_record in
+    let p = err_from_is_err_and c.from_residual.result c.from_residual.ensures.1 in rw (p.1, p.2) (
+      texts_end (second_of c.args.plan.first) c.args.plan.samples c.loop.counter (h k) _ _ (i.wrote was h k behind plan),
+      refusal_told c.in_err-data_record.field-0.0 (c.in_err-data_record.ensures.own clean) (c.in_err-data_record.ensures.unfailed i.going),
+    )
+
+pub returns-in_err-put_fitting-clause-stays : goal.returns-in_err-put_fitting-clause-stays
+returns-in_err-put_fitting-clause-stays g c = stays_then g.S.Store c.args.walk.now.store.now c.loop.walk.store.now c.next.new.self.store.now c.loop.invariant.stays c.next.ensures.stays
+
+pub returns-in_err-put_fitting-clause-put : goal.returns-in_err-put_fitting-clause-put
+returns-in_err-put_fitting-clause-put g c clean h k behind plan =
+    let was = clean_before g.S.Store c.loop.walk.store.now c.next.new.self.store.now c.next.ensures.stays clean in
+    let i = c.loop.invariant in
+    let r = c.in-Some.data_record in
     let base = second_of c.args.plan.first in
     let samples = c.args.plan.samples in
     let fs = c.second-file_start.result in
-    let step = rw c.in-Ok-Some.field-0-is at c.in-Ok-Some.ensures.step in
+    let step = rw c.in-Some.is at c.in_ok-data_record.ensures.step in
     let place = step clean h k c.loop.counter (i.moved h k behind) in
-    let put = c.in-Err-put_fitting.ensures.put (fits_here base samples fs (2 * samples) c.loop.counter (h k) r c.second-file_start.ensures refl place plan.holds) in (
+    let put = c.in_err-put_fitting.ensures.put (fits_here base samples fs (2 * samples) c.loop.counter (h k) r c.second-file_start.ensures refl place plan.holds) in
+    let p = err_from_is_err_and c.from_residual-in_err-put_fitting.result c.from_residual-in_err-put_fitting.ensures.1 in rw (p.1, p.2) (
       texts_stop base samples fs (2 * samples) c.loop.counter (h k) r c.second-file_start.ensures refl place plan.holds _ _ _ put.0.0 (i.wrote was h k behind plan) put.0.1,
       put.1,
     )
 
-pub returns-in-Err-put_fitting-clause-idle : goal.returns-in-Err-put_fitting-clause-idle
-returns-in-Err-put_fitting-clause-idle g c clean = idle_behind (at g.S.Store c.next.new.self.store.now) c.in-Err-put_fitting.fault (c.in-Ok-Some.ensures.ready.1 clean).3.idle
+pub returns-in_err-put_fitting-clause-idle : goal.returns-in_err-put_fitting-clause-idle
+returns-in_err-put_fitting-clause-idle g c clean =
+    let p = err_from_is_err_and c.from_residual-in_err-put_fitting.result c.from_residual-in_err-put_fitting.ensures.1 in rw (p.1, p.2) (idle_behind (at g.S.Store c.next.new.self.store.now) _ (c.in_ok-data_record.ensures.ready.1 clean).3.idle)
 
 pub loop-preserved : goal.loop-preserved
 loop-preserved g c =
     let i = c.loop.invariant in
-    let r = c.in-Ok-Some.data_record in
+    let r = c.in-Some.data_record in
     let base = second_of c.args.plan.first in
     let samples = c.args.plan.samples in
     let fs = c.second-file_start.result in
-    let moved = rw c.in-Ok-Some.field-0-is at c.in-Ok-Some.ensures.moved in
-    let step = rw c.in-Ok-Some.field-0-is at c.in-Ok-Some.ensures.step in
+    let moved = rw c.in-Some.is at c.in_ok-data_record.ensures.moved in
+    let step = rw c.in-Some.is at c.in_ok-data_record.ensures.step in
     record {
-      going = c.in-Ok-Some.ensures.ready.0;
-      ready = c.in-Ok-Some.ensures.ready.1;
+      going = c.in_ok-data_record.ensures.ready.0;
+      ready = c.in_ok-data_record.ensures.ready.1;
       same_reference = c.next.ensures.same_reference ∙ i.same_reference;
       stays = stays_then g.S.Store c.args.walk.now.store.now c.loop.walk.store.now c.next.new.self.store.now i.stays c.next.ensures.stays;
       moved = λ h k behind. moved h k c.loop.counter (i.moved h k behind);
@@ -61,6 +65,6 @@ loop-preserved g c =
           let place = step clean h k c.loop.counter (i.moved h k behind) in
           let fits = fits_here base samples fs (2 * samples) c.loop.counter (h k) r c.second-file_start.ensures refl place plan.holds in
           texts_more base samples fs (2 * samples) c.loop.counter (h k) r c.second-file_start.ensures refl place plan.holds _ _ _ (i.wrote was h k behind plan)
-          (c.in-Ok.ensures.put fits);
-      count_is = c.in-Ok.ensures.counted ∙ i.count_is;
+          (c.in_ok-put_fitting.ensures.put fits);
+      count_is = c.in_ok-put_fitting.ensures.counted ∙ i.count_is;
     }
