@@ -20,8 +20,12 @@ fn system_words(error: &io::Error) -> Option<&'static str> {
     match error.kind() {
         ErrorKind::NotFound => Some("no such file or directory"),
         ErrorKind::NotADirectory => Some("a directory of its path is a file"),
-        ErrorKind::PermissionDenied => Some("no permission to read and write it, or files beside it"),
-        ErrorKind::ReadOnlyFilesystem => Some("no permission to write: the file system is read-only"),
+        ErrorKind::PermissionDenied => Some(
+            "no permission to read and write it, or files beside it",
+        ),
+        ErrorKind::ReadOnlyFilesystem => Some(
+            "no permission to write: the file system is read-only",
+        ),
         ErrorKind::StorageFull | ErrorKind::QuotaExceeded => Some(FULL),
         ErrorKind::Unsupported | ErrorKind::IsADirectory => Some(
             "not a plain file, but a directory, a device or a linked file",

@@ -106,11 +106,16 @@ module _ {S : Type 0} (g : Ghosts S) (old first last : Kept S) (from to : Source
         → Survives (at g last) (at g new) (IsSeen g last) → (fault : StoreFault) → IsStoreRefusal fault → StopsThere g old new from to (Err (refusal_of fault))
     stops_at_commit receipt t same refused survives fault told = inr (
       in_doubt fault told,
-      (receipt.identity, t.records, t.read, record {
-        cap = same ∙ stays.cap;
-        holdings = λ h held. refused h (stays.holdings h held);
-        crash = crash_left (Fragment receipt.identity t.records) t.sees survives;
-      }),
+      (
+        receipt.identity,
+        t.records,
+        t.read,
+        record {
+          cap = same ∙ stays.cap;
+          holdings = λ h held. refused h (stays.holdings h held);
+          crash = crash_left (Fragment receipt.identity t.records) t.sees survives;
+        },
+      ),
     )
 
     -- the transaction was given up

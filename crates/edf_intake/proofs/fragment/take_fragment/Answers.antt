@@ -54,9 +54,10 @@ returns-in_err-recording-clause-stopped g c =
     let to : Source = record { left = g.R.Input.remaining c.read.new.input; failed = g.R.Input.failures c.read.new.input } in
     let told = c.in_err-recording.ensures.told in
     passed_on c.from_residual-in_err-recording.result (Store c.in_err-recording.field-0.0) (IsStop g.S.Store c.args.transaction.now.store.now c.find_recording.new.transaction.store.now from to)
-    c.from_residual-in_err-recording.ensures.1
-    (reads_header_alone from to c.in_ok-fragment.fragment.header c.in_ok-fragment.ensures.step.0 c.in_ok-fragment.ensures.counted,
-    record { told = inr told; caused = c.in_err-recording.ensures.caused; own = λ clean. told })
+    c.from_residual-in_err-recording.ensures.1 (
+      reads_header_alone from to c.in_ok-fragment.fragment.header c.in_ok-fragment.ensures.step.0 c.in_ok-fragment.ensures.counted,
+      record { told = inr told; caused = c.in_err-recording.ensures.caused; own = λ clean. told },
+    )
 
 pub take_records-requires-clause-recording : goal.take_records-requires-clause-recording
 take_records-requires-clause-recording g c =

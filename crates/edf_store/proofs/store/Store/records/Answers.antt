@@ -15,37 +15,37 @@ pub returns-in_err-ready : goal.returns-in_err-ready
 returns-in_err-ready g c =
     let told = err_from_is_err_and c.from_residual.result c.from_residual.ensures.1 in
     rw (told.1, told.2) (
-  (refl, (λ w. tt), c.ready.ensures.stays),
-  record {
-    refused = tt;
-    same_reference = tt;
-    stays = tt;
-    own = c.in_err-ready.ensures.own;
-    unfailed = c.in_err-ready.ensures.unfailed;
-    busy = λ left. told_on c.in_err-ready.field-0.0 (fault.Store None) (c.in_err-ready.ensures.busy left);
-    caused = c.in_err-ready.ensures.caused;
-    ready = tt;
-    at_first = tt;
-  },
-)
+      (refl, (λ w. tt), c.ready.ensures.stays),
+      record {
+        refused = tt;
+        same_reference = tt;
+        stays = tt;
+        own = c.in_err-ready.ensures.own;
+        unfailed = c.in_err-ready.ensures.unfailed;
+        busy = λ left. told_on c.in_err-ready.field-0.0 (fault.Store None) (c.in_err-ready.ensures.busy left);
+        caused = c.in_err-ready.ensures.caused;
+        ready = tt;
+        at_first = tt;
+      },
+    )
 
 pub returns-in_err-recording : goal.returns-in_err-recording
 returns-in_err-recording g c =
     let told = err_from_is_err_and c.from_residual-in_err-recording.result c.from_residual-in_err-recording.ensures.1 in
     rw (told.1, told.2) (
-  (refl, (λ w. tt), stays_then g.S.Store c.args.self.now c.ready.new.store c.find.new.store c.ready.ensures.stays c.find.ensures.stays),
-  record {
-    refused = tt;
-    same_reference = tt;
-    stays = tt;
-    own = c.in_err-recording.ensures.own;
-    unfailed = c.in_err-recording.ensures.unfailed;
-    busy = λ left. absurd (let e = c.in_ok-ready.ensures.busy left in cc);
-    caused = λ is. absurd (c.in_err-recording.ensures.caused is);
-    ready = tt;
-    at_first = tt;
-  },
-)
+      (refl, (λ w. tt), stays_then g.S.Store c.args.self.now c.ready.new.store c.find.new.store c.ready.ensures.stays c.find.ensures.stays),
+      record {
+        refused = tt;
+        same_reference = tt;
+        stays = tt;
+        own = c.in_err-recording.ensures.own;
+        unfailed = c.in_err-recording.ensures.unfailed;
+        busy = λ left. absurd (let e = c.in_ok-ready.ensures.busy left in cc);
+        caused = λ is. absurd (c.in_err-recording.ensures.caused is);
+        ready = tt;
+        at_first = tt;
+      },
+    )
 
 pub returns : goal.returns
 returns g c =
