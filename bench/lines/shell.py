@@ -38,6 +38,8 @@ def names(checks: Checks) -> None:
     checks.shell("edfstore take s.db ''", " refused E40 Read\n", status=3)
     checks.shell("cp a.edf 'more files.db'; edfstore take 'a store.db' 'more files.db'; edfstore list 'a store.db'",
                  f"more files.db {NEW}{ONE}")
+    checks.shell("edfstore list $'s\\xff.db'", err="error: a word is not UTF-8\n", status=2)
+    checks.shell("edfstore take t.db a.edf $'b\\xff.edf'; test ! -e t.db", err="error: a word is not UTF-8\n")
 
 
 def streams(checks: Checks) -> None:
