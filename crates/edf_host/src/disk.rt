@@ -21,13 +21,6 @@ pub(crate) struct Refused {
     pub(crate) has_our_tables: bool,
 }
 
-fn fault_of(error: Error) -> StoreFault {
-    match error {
-        Error::SqliteFailure(ErrorCode::OutOfMemory) => StoreFault::Memory,
-        error => StoreFault::Store(Some(error)),
-    }
-}
-
 /// Whether there is nothing at the path. Where that can't be told there may be something.
 pub(crate) fn is_missing(rt: &HostRuntime, path: &str) -> bool {
     match fs::exists(rt, path) {
@@ -42,7 +35,7 @@ pub(crate) fn open_file(rt: &HostRuntime, path: &str) -> Result<Store<FileStore<
         Ok(conn) => conn,
         Err(error) => {
             return Err(Refused {
-                fault: fault_of(error),
+                fault: StoreFault::from(error),
                 has_our_tables: false,
             });
         }
