@@ -1,7 +1,7 @@
 #!/usr/bin/env python3
 """The files of the programs' stored runs, which the gate runs: compared with those made here, and run; or written anew.
 
-    bench/lines/stored.py [--program PATH] [--write]       --write: writes stdin, stdout and data/ of the five crates
+    bench/lines/stored.py [--program PATH] [--write]       --write: writes stdin, stdout and data/ of the three crates
 
 What goes in is built field by field; what must come out is written below by hand, and compared with the plain model. Of the
 program's own making is only the store that `list` and `export` are given: the identity, start and samples of each row of it are
@@ -88,9 +88,9 @@ def store(program: Path, folder: Path) -> bytes:
 
 def files_of(held: bytes) -> dict:
     """Every stored file by its path."""
-    night = {f"{crate}/data/night.db": held for crate in ("edfstore_list", "edfstore_export")}
-    return {"edfstore/stdin": Q, "edfstore/stdout": Q, "edfstore_list/stdout": LISTED, "edfstore_export/stdout": exported(), **night,
-            "edfstore_take/data/a.edf": Q, "edfstore_take/data/b.edf": FILES["half"], "edfstore_take/stdin": long_spelling(),
+    orders = b"".join((LISTED, b"status 0\n", exported(), b"status 0\n", b"status 1\n", b"status 2\n"))
+    return {"edfstore/stdin": Q, "edfstore/stdout": Q, "edfstore_orders/data/night.db": held, "edfstore_orders/data/cut.edf": Q[:-1],
+            "edfstore_orders/stdout": orders, "edfstore_take/data/a.edf": Q, "edfstore_take/data/b.edf": FILES["half"], "edfstore_take/stdin": long_spelling(),
             "edfstore_take/data/card.edf": card(), "edfstore_take/stdout": TAKEN}
 
 
@@ -132,6 +132,12 @@ def is_stored(path: str, wanted: bytes, folder: Path) -> bool:
     return rows(at, folder) == rows_by_model() if path.endswith(".db") else at.read_bytes() == wanted
 
 
+def call(program: Path, words: list, given: bytes, room: Path) -> tuple:
+    """What the program writes to standard output, and its status."""
+    ran = subprocess.run([program, *words], input=given, capture_output=True, cwd=room, check=False)
+    return ran.stdout, ran.returncode
+
+
 def run(program: Path, crate: Path, folder: Path) -> bool:
     """Whether a stored run ends as it must, as the gate runs it."""
     room = folder / crate.name
@@ -140,8 +146,13 @@ def run(program: Path, crate: Path, folder: Path) -> bool:
         shutil.copytree(crate / "data", room, dirs_exist_ok=True)
     words, given, wanted, status = (
         (crate / name).read_bytes() if (crate / name).exists() else b"" for name in ("args", "stdin", "stdout", "status"))
-    ran = subprocess.run([program, *words.decode().splitlines()], input=given, capture_output=True, cwd=room, check=False)
-    is_well = ran.stdout == wanted and ran.returncode == int(status or 0)
+    lines = words.decode().splitlines()
+    if crate.name == "edfstore_orders":
+        ended = [call(program, line.split(), given, room) for line in lines]
+        told, ends = b"".join(out + f"status {end}\n".encode() for out, end in ended), 0
+    else:
+        told, ends = call(program, lines, given, room)
+    is_well = told == wanted and ends == int(status or 0)
     print(f"{crate.name} {'ran, and wrote what it must' if is_well else 'FAILED'}")
     return is_well
 

@@ -67,7 +67,7 @@ fn repeated(
 }
 
 /// Blocks of a first record, and what each says.
-const BLOCKS: [(&[u8], &str); 23] = [
+const BLOCKS: &[(&[u8], &str)] = &[
     (b"+0\x14\x14\0", "0"),
     (b"-0\x14\x14\0", "0"),
     (b"+0.999999999\x14\x14\0", "999999999"),
@@ -113,7 +113,7 @@ const BLOCKS: [(&[u8], &str); 23] = [
 
 #[test]
 fn blocks_of_a_first_record_are_read_or_refused(rt: HostRuntime) {
-    for (block, want) in BLOCKS {
+    for (block, want) in BLOCKS.iter().copied() {
         assert_eq!(rt; says(rt.alloc(), block, want), Some(true), "at {want}");
     }
 }
@@ -150,23 +150,24 @@ fn a_later_record_keeps_behind_the_one_before(rt: HostRuntime) {
     assert_eq!(rt; first, yes);
 }
 
+const SPELLINGS: &[(&[u8], &[u8])] = &[
+    (
+        b"+0\x14\x14\0+180\x14Lights off\x14Close door\x14\0\0",
+        b"+0\x14\x14\0+180\x14Lights off\x14\0+180\x14Close door\x14\0",
+    ),
+    (
+        b"+0\x14\x14\0+1.0000000000\x14a\x14\x14\0\0",
+        b"+0\x14\x14\0+1\x14a\x14\0+1\x14\x14\0",
+    ),
+    (
+        b"-0.0\x14\x14b\x14\0-2.50\x1500.250\x14a\x14\0",
+        b"+0\x14\x14\0+0\x14b\x14\0-2.5\x150.25\x14a\x14\0",
+    ),
+];
+
 #[test]
 fn blocks_are_written_in_one_way(rt: HostRuntime) {
-    let blocks: [(&[u8], &[u8]); 3] = [
-        (
-            b"+0\x14\x14\0+180\x14Lights off\x14Close door\x14\0\0",
-            b"+0\x14\x14\0+180\x14Lights off\x14\0+180\x14Close door\x14\0",
-        ),
-        (
-            b"+0\x14\x14\0+1.0000000000\x14a\x14\x14\0\0",
-            b"+0\x14\x14\0+1\x14a\x14\0+1\x14\x14\0",
-        ),
-        (
-            b"-0.0\x14\x14b\x14\0-2.50\x1500.250\x14a\x14\0",
-            b"+0\x14\x14\0+0\x14b\x14\0-2.5\x150.25\x14a\x14\0",
-        ),
-    ];
-    for (block, want) in blocks {
+    for (block, want) in SPELLINGS.iter().copied() {
         let same = is_written_as(rt.alloc(), block, want);
         assert_eq!(rt; same, Some(true), "at {want:?}");
     }
@@ -209,16 +210,18 @@ fn note(alloc: Global, duration: Option<u64>, text: &str) -> Option<Note> {
     Note::new(Instant::at(EVENING)?, duration, text)
 }
 
+const NOTES: &[(Option<u64>, &str, bool)] = &[
+    (None, "", true),
+    (Some(0), "Apnea\x15", true),
+    (Some(3_155_759_999_999_999_999), "a", true),
+    (Some(3_155_760_000_000_000_000), "a", false),
+    (None, "a\x14", false),
+    (None, "\0", false),
+];
+
 #[test]
 fn annotations_that_no_tal_can_hold_are_none(rt: HostRuntime) {
-    for (duration, text, there) in [
-        (None, "", true),
-        (Some(0), "Apnea\x15", true),
-        (Some(3_155_759_999_999_999_999), "a", true),
-        (Some(3_155_760_000_000_000_000), "a", false),
-        (None, "a\x14", false),
-        (None, "\0", false),
-    ] {
+    for (duration, text, there) in NOTES.iter().copied() {
         let found = note(rt.alloc(), duration, text).is_some();
         assert_eq!(rt; found, there, "at {text:?}");
     }

@@ -42,63 +42,65 @@ fn told_with(alloc: Global, at: usize, text: &[u8]) -> Option<(u32, bool, u64)> 
     Some(told(&read_patched(alloc, at, text)?.ok()?))
 }
 
+const CHANGES: &[(usize, &[u8], (u32, bool, u64))] = &[
+    (8, b"P7 M X X more     ", (1, true, 1_000_000_000)),
+    (
+        88,
+        b"Startdate X N1 T3 REC5          ",
+        (1, false, 1_000_000_000),
+    ),
+    (192, b"EDF+C", (1, true, 1_000_000_000)),
+    (236, b"99999999", (99_999_999, true, 1_000_000_000)),
+    (236, b"0002", (2, true, 1_000_000_000)),
+    (244, b"0.5", (1, true, 500_000_000)),
+    (184, b"000768", (1, true, 1_000_000_000)),
+];
+
 #[test]
 fn a_fixed_part_with_one_change_is_read_as_it_says(rt: HostRuntime) {
-    let changes: [(usize, &[u8], (u32, bool, u64)); 7] = [
-        (8, b"P7 M X X more     ", (1, true, 1_000_000_000)),
-        (
-            88,
-            b"Startdate X N1 T3 REC5          ",
-            (1, false, 1_000_000_000),
-        ),
-        (192, b"EDF+C", (1, true, 1_000_000_000)),
-        (236, b"99999999", (99_999_999, true, 1_000_000_000)),
-        (236, b"0002", (2, true, 1_000_000_000)),
-        (244, b"0.5", (1, true, 500_000_000)),
-        (184, b"000768", (1, true, 1_000_000_000)),
-    ];
-    for (at, text, wanted) in changes {
+    for (at, text, wanted) in CHANGES.iter().copied() {
         let found = told_with(rt.alloc(), at, text);
         assert_eq!(rt; found, Some(wanted), "at {at}");
     }
 }
 
+const FAULTS: &[(usize, &[u8], HeaderFault)] = &[
+    (0, b"1", HeaderFault::Version),
+    (8, b"P7 F 02-MAY-1951  ", HeaderFault::Patient),
+    (8, b"P7 F 2-MAY-1951 X ", HeaderFault::Patient),
+    (8, b"P7 f 02-MAY-1951 X", HeaderFault::Patient),
+    (8, b"P7 F 30-FEB-1951 X", HeaderFault::Patient),
+    (
+        88,
+        b"Startdate 02-MAR-2002 N1 T3     ",
+        HeaderFault::Recording,
+    ),
+    (88, b"Startdate 02-Mar-2002", HeaderFault::Recording),
+    (88, b"startdate", HeaderFault::Recording),
+    (168, b"31.02.02", HeaderFault::Startdate),
+    (176, b"24.00.00", HeaderFault::Starttime),
+    (168, b"03.03.02", HeaderFault::DatesDiffer),
+    (192, b"     ", HeaderFault::NotPlus),
+    (192, b"EDF+E", HeaderFault::NotPlus),
+    (236, b"0", HeaderFault::Count),
+    (236, b"-1", HeaderFault::Count),
+    (236, b"-01", HeaderFault::Count),
+    (236, b"1 1", HeaderFault::Count),
+    (244, b"0", HeaderFault::Duration),
+    (244, b"1.", HeaderFault::Duration),
+    (252, b"1", HeaderFault::Signals),
+    (252, b"641", HeaderFault::Signals),
+    (252, b"x", HeaderFault::Signals),
+    (252, b"3", HeaderFault::HeaderBytes),
+    (184, b"512", HeaderFault::HeaderBytes),
+    (20, b"\n", HeaderFault::Unprintable { offset: 20 }),
+    (255, b"\x7f", HeaderFault::Unprintable { offset: 255 }),
+    (0, b"\x1f", HeaderFault::Unprintable { offset: 0 }),
+];
+
 #[test]
 fn a_fixed_part_with_one_fault_is_refused_with_it(rt: HostRuntime) {
-    let changes: [(usize, &[u8], HeaderFault); 27] = [
-        (0, b"1", HeaderFault::Version),
-        (8, b"P7 F 02-MAY-1951  ", HeaderFault::Patient),
-        (8, b"P7 F 2-MAY-1951 X ", HeaderFault::Patient),
-        (8, b"P7 f 02-MAY-1951 X", HeaderFault::Patient),
-        (8, b"P7 F 30-FEB-1951 X", HeaderFault::Patient),
-        (
-            88,
-            b"Startdate 02-MAR-2002 N1 T3     ",
-            HeaderFault::Recording,
-        ),
-        (88, b"Startdate 02-Mar-2002", HeaderFault::Recording),
-        (88, b"startdate", HeaderFault::Recording),
-        (168, b"31.02.02", HeaderFault::Startdate),
-        (176, b"24.00.00", HeaderFault::Starttime),
-        (168, b"03.03.02", HeaderFault::DatesDiffer),
-        (192, b"     ", HeaderFault::NotPlus),
-        (192, b"EDF+E", HeaderFault::NotPlus),
-        (236, b"0", HeaderFault::Count),
-        (236, b"-1", HeaderFault::Count),
-        (236, b"-01", HeaderFault::Count),
-        (236, b"1 1", HeaderFault::Count),
-        (244, b"0", HeaderFault::Duration),
-        (244, b"1.", HeaderFault::Duration),
-        (252, b"1", HeaderFault::Signals),
-        (252, b"641", HeaderFault::Signals),
-        (252, b"x", HeaderFault::Signals),
-        (252, b"3", HeaderFault::HeaderBytes),
-        (184, b"512", HeaderFault::HeaderBytes),
-        (20, b"\n", HeaderFault::Unprintable { offset: 20 }),
-        (255, b"\x7f", HeaderFault::Unprintable { offset: 255 }),
-        (0, b"\x1f", HeaderFault::Unprintable { offset: 0 }),
-    ];
-    for (at, text, fault) in changes {
+    for (at, text, fault) in FAULTS.iter().copied() {
         assert_eq!(rt; fault_at(rt.alloc(), at, text), Some(fault), "at {at}");
     }
 }

@@ -66,27 +66,28 @@ fn fault_at(alloc: Global, at: usize, text: &[u8]) -> Option<IdentityFault> {
     read_patched(alloc, at, text)?.err()
 }
 
+const FAULTS: &[(usize, &[u8], IdentityFault)] = &[
+    (0, b"\xb5", IdentityFault::Unprintable(0)),
+    (413, b"\x7f", IdentityFault::Unprintable(413)),
+    (8, b"May", IdentityFault::Patient),
+    (80, b"Y", IdentityFault::Recording),
+    (81, b"-", IdentityFault::Recording),
+    (88, b"    ", IdentityFault::Recording),
+    (149, b"5", IdentityFault::Recording),
+    (150, b"0", IdentityFault::Duration),
+    (158, b"EDF Annotations ", IdentityFault::Label(1)),
+    (262, b"510 ", IdentityFault::Physical(1)),
+    (262, b"1E3 ", IdentityFault::Physical(1)),
+    (278, b"2047 ", IdentityFault::Digital(1)),
+    (286, b"32768", IdentityFault::Digital(1)),
+    (374, b"0", IdentityFault::Samples(1)),
+    (374, b"2097153", IdentityFault::Size),
+    (150, b"0       EDF Annotations ", IdentityFault::Duration),
+];
+
 #[test]
 fn bytes_with_a_fault_are_refused_with_the_first(rt: HostRuntime) {
-    let changes: [(usize, &[u8], IdentityFault); 16] = [
-        (0, b"\xb5", IdentityFault::Unprintable(0)),
-        (413, b"\x7f", IdentityFault::Unprintable(413)),
-        (8, b"May", IdentityFault::Patient),
-        (80, b"Y", IdentityFault::Recording),
-        (81, b"-", IdentityFault::Recording),
-        (88, b"    ", IdentityFault::Recording),
-        (149, b"5", IdentityFault::Recording),
-        (150, b"0", IdentityFault::Duration),
-        (158, b"EDF Annotations ", IdentityFault::Label(1)),
-        (262, b"510 ", IdentityFault::Physical(1)),
-        (262, b"1E3 ", IdentityFault::Physical(1)),
-        (278, b"2047 ", IdentityFault::Digital(1)),
-        (286, b"32768", IdentityFault::Digital(1)),
-        (374, b"0", IdentityFault::Samples(1)),
-        (374, b"2097153", IdentityFault::Size),
-        (150, b"0       EDF Annotations ", IdentityFault::Duration),
-    ];
-    for (at, text, fault) in changes {
+    for (at, text, fault) in FAULTS.iter().copied() {
         assert_eq!(rt; fault_at(rt.alloc(), at, text), Some(fault), "at {at}");
     }
 }

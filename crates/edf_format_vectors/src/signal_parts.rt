@@ -40,52 +40,54 @@ fn is_read_as(alloc: Global, at: usize, text: &[u8], place: usize, block: usize)
     )
 }
 
+const CHANGES: &[(usize, &[u8], usize, usize)] = &[
+    (464, b"-440.", 262, 6),
+    (472, b"+0.5", 500, 6),
+    (496, b"-02048", 278, 6),
+    (520, b"+32767", 500, 6),
+    (696, b"2097152", 500, 4_194_304),
+];
+
 #[test]
 fn a_signal_part_with_one_change_is_read_as_it_says(rt: HostRuntime) {
-    let changes: [(usize, &[u8], usize, usize); 5] = [
-        (464, b"-440.", 262, 6),
-        (472, b"+0.5", 500, 6),
-        (496, b"-02048", 278, 6),
-        (520, b"+32767", 500, 6),
-        (696, b"2097152", 500, 4_194_304),
-    ];
-    for (at, text, place, block) in changes {
+    for (at, text, place, block) in CHANGES.iter().copied() {
         let same = is_read_as(rt.alloc(), at, text, place, block);
         assert_eq!(rt; same, Some(true), "at {at}");
     }
 }
 
+const FAULTS: &[(usize, &[u8], HeaderFault)] = &[
+    (
+        448,
+        b"\xb5",
+        HeaderFault::UnprintableSignals { offset: 448 },
+    ),
+    (272, b"EDF annotations", HeaderFault::Annotations),
+    (256, b"EDF Annotations ", HeaderFault::Annotations),
+    (488, b"-1", HeaderFault::Annotations),
+    (504, b"-32767", HeaderFault::Annotations),
+    (
+        464,
+        b"0       -1      -0.0",
+        HeaderFault::Physical { signal: 1 },
+    ),
+    (464, b".5  ", HeaderFault::Physical { signal: 1 }),
+    (464, b"1E3 ", HeaderFault::Physical { signal: 1 }),
+    (
+        496,
+        b"5       -32768  5   ",
+        HeaderFault::Digital { signal: 1 },
+    ),
+    (496, b"-32769", HeaderFault::Digital { signal: 1 }),
+    (688, b"0", HeaderFault::Samples { signal: 1 }),
+    (696, b"0", HeaderFault::Samples { signal: 2 }),
+    (688, b"2097153", HeaderFault::Size),
+    (696, b"2097153", HeaderFault::Size),
+];
+
 #[test]
 fn a_signal_part_with_a_fault_is_refused_with_the_first(rt: HostRuntime) {
-    let changes: [(usize, &[u8], HeaderFault); 14] = [
-        (
-            448,
-            b"\xb5",
-            HeaderFault::UnprintableSignals { offset: 448 },
-        ),
-        (272, b"EDF annotations", HeaderFault::Annotations),
-        (256, b"EDF Annotations ", HeaderFault::Annotations),
-        (488, b"-1", HeaderFault::Annotations),
-        (504, b"-32767", HeaderFault::Annotations),
-        (
-            464,
-            b"0       -1      -0.0",
-            HeaderFault::Physical { signal: 1 },
-        ),
-        (464, b".5  ", HeaderFault::Physical { signal: 1 }),
-        (464, b"1E3 ", HeaderFault::Physical { signal: 1 }),
-        (
-            496,
-            b"5       -32768  5   ",
-            HeaderFault::Digital { signal: 1 },
-        ),
-        (496, b"-32769", HeaderFault::Digital { signal: 1 }),
-        (688, b"0", HeaderFault::Samples { signal: 1 }),
-        (696, b"0", HeaderFault::Samples { signal: 2 }),
-        (688, b"2097153", HeaderFault::Size),
-        (696, b"2097153", HeaderFault::Size),
-    ];
-    for (at, text, fault) in changes {
+    for (at, text, fault) in FAULTS.iter().copied() {
         assert_eq!(rt; fault_at(rt.alloc(), at, text), Some(fault), "at {at}");
     }
     assert_eq!(rt; cut_fault(rt.alloc()), Some(HeaderFault::CutSignals));

@@ -12,21 +12,23 @@ const EVENING: u64 = 541_727_990 * SECOND;
 /// 2084-12-31 23:59:59.999999999
 const LAST: u64 = 3_155_759_999_999_999_999;
 
+const DECIMALS: &[(&str, Result<u64, DecimalFault>)] = &[
+    ("0", Ok(0)),
+    ("007.50", Ok(7_500_000_000)),
+    ("1.0000000000", Ok(SECOND)),
+    ("9223372036.854775807", Ok(9_223_372_036_854_775_807)),
+    ("", Err(DecimalFault::Syntax)),
+    ("1.", Err(DecimalFault::Syntax)),
+    (".5", Err(DecimalFault::Syntax)),
+    ("+1", Err(DecimalFault::Syntax)),
+    ("1.0000000001", Err(DecimalFault::TooFine)),
+    ("9223372036.854775808", Err(DecimalFault::TooLarge)),
+    ("99999999999999999999999999999", Err(DecimalFault::TooLarge)),
+];
+
 #[test]
 fn decimals_are_read_or_refused(rt: HostRuntime) {
-    for (text, want) in [
-        ("0", Ok(0)),
-        ("007.50", Ok(7_500_000_000)),
-        ("1.0000000000", Ok(SECOND)),
-        ("9223372036.854775807", Ok(9_223_372_036_854_775_807)),
-        ("", Err(DecimalFault::Syntax)),
-        ("1.", Err(DecimalFault::Syntax)),
-        (".5", Err(DecimalFault::Syntax)),
-        ("+1", Err(DecimalFault::Syntax)),
-        ("1.0000000001", Err(DecimalFault::TooFine)),
-        ("9223372036.854775808", Err(DecimalFault::TooLarge)),
-        ("99999999999999999999999999999", Err(DecimalFault::TooLarge)),
-    ] {
+    for (text, want) in DECIMALS.iter().copied() {
         assert_eq!(rt; read_seconds(text.as_bytes()), want, "at {text}");
     }
 }
@@ -37,16 +39,18 @@ fn is_written(alloc: Global, nanos: u64, text: &str) -> Option<bool> {
     Some(written.as_slice() == text.as_bytes() && seconds_len(nanos) == text.len())
 }
 
+const SHORTEST: &[(u64, &str)] = &[
+    (0, "0"),
+    (1, "0.000000001"),
+    (25_500_000_000, "25.5"),
+    (10 * SECOND, "10"),
+    (LAST, "3155759999.999999999"),
+    (18_446_744_073_709_551_615, "18446744073.709551615"),
+];
+
 #[test]
 fn decimals_are_written_shortest(rt: HostRuntime) {
-    for (nanos, want) in [
-        (0, "0"),
-        (1, "0.000000001"),
-        (25_500_000_000, "25.5"),
-        (10 * SECOND, "10"),
-        (LAST, "3155759999.999999999"),
-        (18_446_744_073_709_551_615, "18446744073.709551615"),
-    ] {
+    for (nanos, want) in SHORTEST.iter().copied() {
         let same = is_written(rt.alloc(), nanos, want);
         assert_eq!(rt; same, Some(true), "at {nanos}");
     }
@@ -60,48 +64,52 @@ fn second_of(date: &[u8; 8], time: &[u8; 8]) -> Result<u64, StartFault> {
     }
 }
 
+const STARTS: &[(&[u8; 8], &[u8; 8], Result<u64, StartFault>)] = &[
+    (b"01.01.85", b"00.00.00", Ok(0)),
+    (b"02.03.02", b"00.00.00", Ok(541_641_600)),
+    (b"02.03.02", b"23.59.50", Ok(541_727_990)),
+    (b"29.02.00", b"00.00.00", Ok(478_396_800)),
+    (b"31.12.84", b"23.59.59", Ok(3_155_759_999)),
+    (b"29.02.01", b"00.00.00", Err(StartFault::Date)),
+    (b"31.02.02", b"23.59.50", Err(StartFault::Date)),
+    (b"31.02.02", b"24.00.00", Err(StartFault::Date)),
+    (b"02-03-02", b"23.59.50", Err(StartFault::Date)),
+    (b"02.03.02", b"24.00.00", Err(StartFault::Time)),
+    (b"02.03.02", b"23.60.00", Err(StartFault::Time)),
+    (b"02.03.02", b"23:59:50", Err(StartFault::Time)),
+];
+
 #[test]
 fn starts_are_read_or_refused(rt: HostRuntime) {
-    for (date, time, want) in [
-        (b"01.01.85", b"00.00.00", Ok(0)),
-        (b"02.03.02", b"00.00.00", Ok(541_641_600)),
-        (b"02.03.02", b"23.59.50", Ok(541_727_990)),
-        (b"29.02.00", b"00.00.00", Ok(478_396_800)),
-        (b"31.12.84", b"23.59.59", Ok(3_155_759_999)),
-        (b"29.02.01", b"00.00.00", Err(StartFault::Date)),
-        (b"31.02.02", b"23.59.50", Err(StartFault::Date)),
-        (b"31.02.02", b"24.00.00", Err(StartFault::Date)),
-        (b"02-03-02", b"23.59.50", Err(StartFault::Date)),
-        (b"02.03.02", b"24.00.00", Err(StartFault::Time)),
-        (b"02.03.02", b"23.60.00", Err(StartFault::Time)),
-        (b"02.03.02", b"23:59:50", Err(StartFault::Time)),
-    ] {
+    for (date, time, want) in STARTS.iter().copied() {
         assert_eq!(rt; second_of(date, time), want, "at {want:?}");
     }
 }
 
+const DATES: &[(&str, bool)] = &[
+    ("02-MAR-2002", true),
+    ("29-FEB-2000", true),
+    ("29-FEB-0000", true),
+    ("31-DEC-9999", true),
+    ("29-FEB-1900", false),
+    ("2-MAR-2002", false),
+    ("02-mar-2002", false),
+    ("02-MRZ-2002", false),
+    ("02-MAR-2002 ", false),
+    ("00-MAR-2002", false),
+    ("X", false),
+];
+
 #[test]
 fn dates_of_identification_are_read_or_refused(rt: HostRuntime) {
-    for (text, there) in [
-        ("02-MAR-2002", true),
-        ("29-FEB-2000", true),
-        ("29-FEB-0000", true),
-        ("31-DEC-9999", true),
-        ("29-FEB-1900", false),
-        ("2-MAR-2002", false),
-        ("02-mar-2002", false),
-        ("02-MRZ-2002", false),
-        ("02-MAR-2002 ", false),
-        ("00-MAR-2002", false),
-        ("X", false),
-    ] {
+    for (text, there) in DATES.iter().copied() {
         assert_eq!(rt; id_date(text.as_bytes()).is_some(), there, "at {text}");
     }
     assert!(rt; id_date(b"02-MAY-1951") < id_date(b"01-JAN-1985"));
 }
 
 /// Instants, each with its date and its time in a header, its date in an identification, and its text.
-const INSTANTS: [(u64, &str, &str, &str, &str); 5] = [
+const INSTANTS: &[(u64, &str, &str, &str, &str)] = &[
     (
         0,
         "01.01.85",
@@ -162,7 +170,7 @@ fn stands_as(
 
 #[test]
 fn instants_are_written_and_read_back(rt: HostRuntime) {
-    for (nanos, date, time, id, text) in INSTANTS {
+    for (nanos, date, time, id, text) in INSTANTS.iter().copied() {
         let same = stands_as(rt.alloc(), nanos, date, time, id, text);
         assert_eq!(rt; same, Some(true), "at {text}");
     }
@@ -186,16 +194,18 @@ fn are_before(nanos: u64, other: u64) -> Option<bool> {
     Some(one < two && one.day() < day)
 }
 
+const MOVES: &[(u64, i64, Option<u64>)] = &[
+    (0, LAST as i64, Some(LAST)),
+    (LAST, -(LAST as i64), Some(0)),
+    (LAST, 1, None),
+    (0, -1, None),
+    (LAST, i64::MAX, None),
+];
+
 #[test]
 fn instants_stay_in_the_window(rt: HostRuntime) {
     assert_eq!(rt; Instant::at(LAST + 1), None);
-    for (nanos, delta, want) in [
-        (0, LAST as i64, Some(LAST)),
-        (LAST, -(LAST as i64), Some(0)),
-        (LAST, 1, None),
-        (0, -1, None),
-        (LAST, i64::MAX, None),
-    ] {
+    for (nanos, delta, want) in MOVES.iter().copied() {
         assert_eq!(rt; moved(nanos, delta), want, "by {delta}");
     }
     assert_eq!(rt; later(LAST, 0), Some(LAST as i64));

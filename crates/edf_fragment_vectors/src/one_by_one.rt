@@ -174,40 +174,41 @@ fn fault_at(alloc: Global, at: usize, text: &[u8], len: usize) -> Option<Fragmen
     opening
 }
 
+const HEADER_FAULTS: &[(usize, &[u8], usize, HeaderFault)] = &[
+    (0, b"0", 255, HeaderFault::Cut),
+    (168, b"31.02.02", 778, HeaderFault::Startdate),
+    (176, b"24.00.00", 778, HeaderFault::Starttime),
+    (168, b"03.03.02", 778, HeaderFault::DatesDiffer),
+    (192, b"     ", 778, HeaderFault::NotPlus),
+    (236, b"-1", 778, HeaderFault::Count),
+    (244, b"0", 778, HeaderFault::Duration),
+    (0, b"0", 767, HeaderFault::CutSignals),
+    (
+        448,
+        b"\xb5",
+        778,
+        HeaderFault::UnprintableSignals { offset: 448 },
+    ),
+    (272, b"EDF annotations", 778, HeaderFault::Annotations),
+    (
+        464,
+        b"0       -1      -0.0",
+        778,
+        HeaderFault::Physical { signal: 1 },
+    ),
+    (
+        496,
+        b"5       -32768  5   ",
+        778,
+        HeaderFault::Digital { signal: 1 },
+    ),
+    (688, b"0", 778, HeaderFault::Samples { signal: 1 }),
+    (688, b"2097153", 778, HeaderFault::Size),
+];
+
 #[test]
 fn a_refused_header_is_told_by_its_fault(rt: HostRuntime) {
-    let refused: [(usize, &[u8], usize, HeaderFault); 14] = [
-        (0, b"0", 255, HeaderFault::Cut),
-        (168, b"31.02.02", 778, HeaderFault::Startdate),
-        (176, b"24.00.00", 778, HeaderFault::Starttime),
-        (168, b"03.03.02", 778, HeaderFault::DatesDiffer),
-        (192, b"     ", 778, HeaderFault::NotPlus),
-        (236, b"-1", 778, HeaderFault::Count),
-        (244, b"0", 778, HeaderFault::Duration),
-        (0, b"0", 767, HeaderFault::CutSignals),
-        (
-            448,
-            b"\xb5",
-            778,
-            HeaderFault::UnprintableSignals { offset: 448 },
-        ),
-        (272, b"EDF annotations", 778, HeaderFault::Annotations),
-        (
-            464,
-            b"0       -1      -0.0",
-            778,
-            HeaderFault::Physical { signal: 1 },
-        ),
-        (
-            496,
-            b"5       -32768  5   ",
-            778,
-            HeaderFault::Digital { signal: 1 },
-        ),
-        (688, b"0", 778, HeaderFault::Samples { signal: 1 }),
-        (688, b"2097153", 778, HeaderFault::Size),
-    ];
-    for (at, text, len, fault) in refused {
+    for (at, text, len, fault) in HEADER_FAULTS.iter().copied() {
         let told = fault_at(rt.alloc(), at, text, len);
         assert_eq!(rt; told, Some(FragmentFault::Header(fault)), "at {at}");
     }

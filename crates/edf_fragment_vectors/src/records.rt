@@ -65,14 +65,16 @@ fn is_same(alloc: Global, start: u64, byte: u8, text: &str) -> Option<bool> {
     Some(one.same(&record(alloc, start, byte, text)?))
 }
 
+const PARTS: &[(u64, u8, &str, bool)] = &[
+    (START, 1, "Turn", true),
+    (START + 1, 1, "Turn", false),
+    (START, 2, "Turn", false),
+    (START, 1, "Snore", false),
+];
+
 #[test]
 fn records_are_the_same_where_all_their_parts_are(rt: HostRuntime) {
-    for (start, byte, text, same) in [
-        (START, 1u8, "Turn", true),
-        (START + 1, 1, "Turn", false),
-        (START, 2, "Turn", false),
-        (START, 1, "Snore", false),
-    ] {
+    for (start, byte, text, same) in PARTS.iter().copied() {
         let told = is_same(rt.alloc(), start, byte, text);
         assert_eq!(rt; told, Some(same), "{text}");
     }

@@ -46,18 +46,20 @@ fn drained_q(alloc: Global, stop: usize, fails: bool) -> Option<(Option<Fragment
     Some(drained(alloc, &file_q(alloc).ok()?, stop, fails))
 }
 
+const ENDS: &[(usize, usize, FragmentFault)] = &[
+    (0, 1, FragmentFault::Header(HeaderFault::Cut)),
+    (255, 256, FragmentFault::Header(HeaderFault::Cut)),
+    (256, 257, FragmentFault::Header(HeaderFault::CutSignals)),
+    (767, 768, FragmentFault::Header(HeaderFault::CutSignals)),
+    (768, 769, FragmentFault::CutRecord { nth: 1 }),
+    (777, 778, FragmentFault::CutRecord { nth: 1 }),
+];
+
 #[test]
 fn nothing_is_read_behind_an_end_or_a_failed_read(rt: HostRuntime) {
     let whole = drained_q(rt.alloc(), usize::MAX, false);
     assert_eq!(rt; whole, Some((None, 779)));
-    for (stop, reads, fault) in [
-        (0usize, 1usize, FragmentFault::Header(HeaderFault::Cut)),
-        (255, 256, FragmentFault::Header(HeaderFault::Cut)),
-        (256, 257, FragmentFault::Header(HeaderFault::CutSignals)),
-        (767, 768, FragmentFault::Header(HeaderFault::CutSignals)),
-        (768, 769, FragmentFault::CutRecord { nth: 1 }),
-        (777, 778, FragmentFault::CutRecord { nth: 1 }),
-    ] {
+    for (stop, reads, fault) in ENDS.iter().copied() {
         let ended = drained_q(rt.alloc(), stop, false);
         assert_eq!(rt; ended, Some((Some(fault), reads)), "{stop} bytes");
         let failed = drained_q(rt.alloc(), stop, true);
@@ -78,15 +80,16 @@ fn reads_of_refused(alloc: Global, at: usize, text: &[u8]) -> Option<usize> {
     }
 }
 
+const REFUSALS: &[(usize, &[u8], usize)] = &[
+    (176, b"24.00.00", 256),
+    (272, b"EDF annotations", 768),
+    (772, b"?", 778),
+    (778, b"-", 779),
+];
+
 #[test]
 fn nothing_is_read_behind_a_refusal(rt: HostRuntime) {
-    let refused: [(usize, &[u8], usize); 4] = [
-        (176, b"24.00.00", 256),
-        (272, b"EDF annotations", 768),
-        (772, b"?", 778),
-        (778, b"-", 779),
-    ];
-    for (at, text, reads) in refused {
+    for (at, text, reads) in REFUSALS.iter().copied() {
         let told = reads_of_refused(rt.alloc(), at, text);
         assert_eq!(rt; told, Some(reads), "at {at}");
     }
@@ -102,16 +105,18 @@ fn sends(alloc: Global, room: usize, full: bool) -> Option<(bool, bool)> {
     Some((whole, got.as_slice() == bytes.get(..room.min(300))?))
 }
 
+const ROOMS: &[(usize, bool)] = &[
+    (0, false),
+    (1, false),
+    (50, false),
+    (299, false),
+    (300, true),
+    (400, true),
+];
+
 #[test]
 fn bytes_are_sent_whole_or_a_write_failed(rt: HostRuntime) {
-    for (room, whole) in [
-        (0usize, false),
-        (1, false),
-        (50, false),
-        (299, false),
-        (300, true),
-        (400, true),
-    ] {
+    for (room, whole) in ROOMS.iter().copied() {
         for full in [false, true] {
             let sent = sends(rt.alloc(), room, full);
             assert_eq!(rt; sent, Some((whole, true)), "room for {room}");

@@ -45,16 +45,18 @@ fn fault_of_cut_u(alloc: Global, len: usize) -> Option<FragmentFault> {
     fault_of(alloc, file_u(alloc).ok()?.get(..len)?)
 }
 
+const CUTS: &[(usize, FragmentFault)] = &[
+    (0, FragmentFault::Header(HeaderFault::Cut)),
+    (255, FragmentFault::Header(HeaderFault::Cut)),
+    (256, FragmentFault::Header(HeaderFault::CutSignals)),
+    (767, FragmentFault::Header(HeaderFault::CutSignals)),
+    (768, FragmentFault::CutRecord { nth: 1 }),
+    (777, FragmentFault::CutRecord { nth: 1 }),
+];
+
 #[test]
 fn a_cut_fragment_is_told_by_what_is_cut(rt: HostRuntime) {
-    for (len, fault) in [
-        (0usize, FragmentFault::Header(HeaderFault::Cut)),
-        (255, FragmentFault::Header(HeaderFault::Cut)),
-        (256, FragmentFault::Header(HeaderFault::CutSignals)),
-        (767, FragmentFault::Header(HeaderFault::CutSignals)),
-        (768, FragmentFault::CutRecord { nth: 1 }),
-        (777, FragmentFault::CutRecord { nth: 1 }),
-    ] {
+    for (len, fault) in CUTS.iter().copied() {
         let told = fault_of_cut_q(rt.alloc(), len);
         assert_eq!(rt; told, Some(fault), "{len} bytes");
     }

@@ -1,6 +1,7 @@
 //! The program over the system: its words, files, stores, standard streams and status.
 //!
 //! - [`run_program`]: what the program does. What is read, written and answered is `edf_command`'s; here the system is handed to it.
+//! - [`run_words`]: the same by words that the caller has.
 #![tactic(auto)]
 
 mod cause;
@@ -46,15 +47,11 @@ fn refuse_words(rt: &HostRuntime, error: &io::Error) -> Status {
     }
 }
 
-/// The order that the program's words ask for, or the status where there is none.
-fn order_of_words(rt: &HostRuntime) -> Result<Order, Status> {
-    let words = match words(rt) {
-        Ok(words) => words,
-        Err(error) => return Err(refuse_words(rt, &error)),
-    };
+/// The order that words ask for, or the status where there is none.
+fn order_of(rt: &HostRuntime, words: &[String]) -> Result<Order, Status> {
     let mut out = Counted::new(rt.stdout());
     let mut err = Counted::new(rt.stderr());
-    read_order(rt.alloc(), words.as_slice(), &mut out, &mut err)
+    read_order(rt.alloc(), words, &mut out, &mut err)
 }
 
 /// The terminal of an order: a person is told how far `take` is.
@@ -147,11 +144,19 @@ fn run_order(rt: &HostRuntime, order: &Order) -> Status {
     status
 }
 
-/// Does what the program's words ask for, and answers the status that it ends with: 0 to 3.
-pub fn run_program(rt: &HostRuntime) -> ExitCode {
-    let status = match order_of_words(rt) {
+/// Does what words ask for, which stand behind the program's name, and answers the status that the program ends with: 0 to 3.
+pub fn run_words(rt: &HostRuntime, words: &[String]) -> Status {
+    match order_of(rt, words) {
         Ok(order) => run_order(rt, &order),
         Err(status) => status,
+    }
+}
+
+/// Does what the program's words ask for, and answers the status that it ends with: 0 to 3.
+pub fn run_program(rt: &HostRuntime) -> ExitCode {
+    let status = match words(rt) {
+        Ok(words) => run_words(rt, words.as_slice()),
+        Err(error) => refuse_words(rt, &error),
     };
     ExitCode::from(status.code())
 }

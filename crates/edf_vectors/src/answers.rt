@@ -186,15 +186,17 @@ fn is_named(alloc: Global, name: &str) -> Option<bool> {
     Some(receipt.identity.same(&identity(alloc)?))
 }
 
+const NAMED: &[(&str, bool)] = &[
+    ("q.edf", true),
+    ("r9.edf", true),
+    ("last.edf", true),
+    ("undated.edf", false),
+    ("u.edf", false),
+];
+
 #[test]
 fn a_receipt_names_the_recording(rt: HostRuntime) {
-    for (name, same) in [
-        ("q.edf", true),
-        ("r9.edf", true),
-        ("last.edf", true),
-        ("undated.edf", false),
-        ("u.edf", false),
-    ] {
+    for (name, same) in NAMED.iter().copied() {
         assert_eq!(rt; is_named(rt.alloc(), name), Some(same), "{name}");
     }
 }

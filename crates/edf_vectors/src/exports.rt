@@ -8,25 +8,27 @@ fn first_of(alloc: Global, line: &str, want: &str) -> Option<usize> {
     exported(alloc, CAP, line, "export night.db 1", want)
 }
 
+const BY_STARTS: &[(&str, &str, usize)] = &[
+    ("take night.db q.edf", "q.edf", 778),
+    ("take night.db q.edf q.edf", "q.edf", 778),
+    ("take night.db p5.edf q.edf", "q_and_p5.edf", 840),
+    ("take night.db q_and_p5.edf", "q_and_p5.edf", 840),
+    (
+        "take night.db q.edf after.edf before.edf",
+        "before_q_and_after.edf",
+        798,
+    ),
+    ("take night.db p5.edf q.edf r9.edf", "q_r9_and_p5.edf", 876),
+    (
+        "take night.db n1.edf n2.edf k.edf n3.edf",
+        "canonical_k.edf",
+        798,
+    ),
+];
+
 #[test]
 fn records_are_exported_once_and_by_their_starts(rt: HostRuntime) {
-    for (line, want, len) in [
-        ("take night.db q.edf", "q.edf", 778usize),
-        ("take night.db q.edf q.edf", "q.edf", 778),
-        ("take night.db p5.edf q.edf", "q_and_p5.edf", 840),
-        ("take night.db q_and_p5.edf", "q_and_p5.edf", 840),
-        (
-            "take night.db q.edf after.edf before.edf",
-            "before_q_and_after.edf",
-            798,
-        ),
-        ("take night.db p5.edf q.edf r9.edf", "q_r9_and_p5.edf", 876),
-        (
-            "take night.db n1.edf n2.edf k.edf n3.edf",
-            "canonical_k.edf",
-            798,
-        ),
-    ] {
+    for (line, want, len) in BY_STARTS.iter().copied() {
         let told = first_of(rt.alloc(), line, want);
         assert_eq!(rt; told, Some(len), "{line}");
     }
@@ -45,29 +47,33 @@ fn refused_files_are_not_exported(rt: HostRuntime) {
     }
 }
 
+const FULL: &[(&str, &str, usize)] = &[
+    ("take night.db n1.edf k.edf", "n1.edf", 778),
+    (
+        "take night.db n1.edf n2.edf n3.edf n1.edf",
+        "n1_and_n2.edf",
+        788,
+    ),
+    ("take night.db n3.edf n2.edf n1.edf", "n2_and_n3.edf", 788),
+];
+
 #[test]
 fn a_full_recording_is_exported_as_it_was(rt: HostRuntime) {
-    for (line, want, len) in [
-        ("take night.db n1.edf k.edf", "n1.edf", 778usize),
-        (
-            "take night.db n1.edf n2.edf n3.edf n1.edf",
-            "n1_and_n2.edf",
-            788,
-        ),
-        ("take night.db n3.edf n2.edf n1.edf", "n2_and_n3.edf", 788),
-    ] {
+    for (line, want, len) in FULL.iter().copied() {
         let told = exported(rt.alloc(), 2, line, "export night.db 1", want);
         assert_eq!(rt; told, Some(len), "{line}");
     }
 }
 
+const ONSETS: &[(&str, &str, usize)] = &[
+    ("take night.db fraction.edf", "fraction.edf", 788),
+    ("take night.db last.edf", "last.edf", 780),
+    ("take night.db past.edf last.edf", "last.edf", 780),
+];
+
 #[test]
 fn onsets_are_exported_to_the_nanosecond_and_up_to_the_windows_end(rt: HostRuntime) {
-    for (line, want, len) in [
-        ("take night.db fraction.edf", "fraction.edf", 788usize),
-        ("take night.db last.edf", "last.edf", 780),
-        ("take night.db past.edf last.edf", "last.edf", 780),
-    ] {
+    for (line, want, len) in ONSETS.iter().copied() {
         let told = first_of(rt.alloc(), line, want);
         assert_eq!(rt; told, Some(len), "{line}");
     }
@@ -82,16 +88,18 @@ fn an_undated_recording_is_exported_beside_a_dated_one(rt: HostRuntime) {
     assert_eq!(rt; undated, Some(778));
 }
 
+const CONVERTED: &[(&str, &str, usize)] = &[
+    ("", "q.edf", 778),
+    ("convert -", "q.edf", 778),
+    ("convert spare.edf", "q.edf", 778),
+    ("convert u.edf", "canonical_u.edf", 820),
+    ("convert k.edf", "canonical_k.edf", 798),
+    ("convert q_and_p5.edf", "q_and_p5.edf", 840),
+];
+
 #[test]
 fn a_file_is_converted_to_its_canonical_form(rt: HostRuntime) {
-    for (line, want, len) in [
-        ("", "q.edf", 778usize),
-        ("convert -", "q.edf", 778),
-        ("convert spare.edf", "q.edf", 778),
-        ("convert u.edf", "canonical_u.edf", 820),
-        ("convert k.edf", "canonical_k.edf", 798),
-        ("convert q_and_p5.edf", "q_and_p5.edf", 840),
-    ] {
+    for (line, want, len) in CONVERTED.iter().copied() {
         let told = converted(rt.alloc(), line, want);
         assert_eq!(rt; told, Some(len), "{line}");
     }

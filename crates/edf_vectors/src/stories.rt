@@ -8,61 +8,65 @@ use edf_sample::Sink;
 use edf_store::StoreFault;
 use std::alloc::Global;
 
+const FIT: &[(&str, &str)] = &[
+    (
+        "take night.db q.edf q.edf",
+        "q.edf accepted new=1 known=0\nq.edf accepted new=0 known=1\nstatus 0\n",
+    ),
+    (
+        "take night.db p5.edf q.edf r9.edf",
+        "p5.edf accepted new=1 known=0\n\
+            q.edf accepted new=1 known=0\n\
+            r9.edf accepted new=1 known=1\n\
+            status 0\n",
+    ),
+    (
+        "take night.db q.edf after.edf before.edf",
+        "q.edf accepted new=1 known=0\n\
+            after.edf accepted new=1 known=0\n\
+            before.edf accepted new=1 known=0\n\
+            status 0\n",
+    ),
+    (
+        "take night.db n1.edf n2.edf k.edf n3.edf",
+        "n1.edf accepted new=1 known=0\n\
+            n2.edf accepted new=1 known=0\n\
+            k.edf accepted new=1 known=2\n\
+            n3.edf accepted new=0 known=1\n\
+            status 0\n",
+    ),
+];
+
 #[test]
 fn files_that_fit_are_accepted_with_what_they_add(rt: HostRuntime) {
-    for (line, want) in [
-        (
-            "take night.db q.edf q.edf",
-            "q.edf accepted new=1 known=0\nq.edf accepted new=0 known=1\nstatus 0\n",
-        ),
-        (
-            "take night.db p5.edf q.edf r9.edf",
-            "p5.edf accepted new=1 known=0\n\
-                q.edf accepted new=1 known=0\n\
-                r9.edf accepted new=1 known=1\n\
-                status 0\n",
-        ),
-        (
-            "take night.db q.edf after.edf before.edf",
-            "q.edf accepted new=1 known=0\n\
-                after.edf accepted new=1 known=0\n\
-                before.edf accepted new=1 known=0\n\
-                status 0\n",
-        ),
-        (
-            "take night.db n1.edf n2.edf k.edf n3.edf",
-            "n1.edf accepted new=1 known=0\n\
-                n2.edf accepted new=1 known=0\n\
-                k.edf accepted new=1 known=2\n\
-                n3.edf accepted new=0 known=1\n\
-                status 0\n",
-        ),
-    ] {
+    for (line, want) in FIT.iter().copied() {
         let got = story(rt.alloc(), CAP, line);
         assert_eq!(rt; got.as_deref(), Some(want), "{line}");
     }
 }
 
+const MANY: &[(&str, &str)] = &[
+    (
+        "take night.db q_and_p5.edf undated.edf last.edf u.edf",
+        "q_and_p5.edf accepted new=2 known=0\n\
+            undated.edf accepted new=1 known=0\n\
+            last.edf accepted new=1 known=0\n\
+            u.edf accepted new=2 known=0\n\
+            status 0\n",
+    ),
+    (
+        "take night.db fraction.edf",
+        "fraction.edf accepted new=1 known=0\nstatus 0\n",
+    ),
+    (
+        "take night.db long.edf",
+        "long.edf accepted new=1000 known=0\nstatus 0\n",
+    ),
+];
+
 #[test]
 fn files_of_several_recordings_and_of_many_records_are_accepted(rt: HostRuntime) {
-    for (line, want) in [
-        (
-            "take night.db q_and_p5.edf undated.edf last.edf u.edf",
-            "q_and_p5.edf accepted new=2 known=0\n\
-                undated.edf accepted new=1 known=0\n\
-                last.edf accepted new=1 known=0\n\
-                u.edf accepted new=2 known=0\n\
-                status 0\n",
-        ),
-        (
-            "take night.db fraction.edf",
-            "fraction.edf accepted new=1 known=0\nstatus 0\n",
-        ),
-        (
-            "take night.db long.edf",
-            "long.edf accepted new=1000 known=0\nstatus 0\n",
-        ),
-    ] {
+    for (line, want) in MANY.iter().copied() {
         let got = story(rt.alloc(), CAP, line);
         assert_eq!(rt; got.as_deref(), Some(want), "{line}");
     }
@@ -77,39 +81,41 @@ fn is_refused_alone(alloc: Global, line: &str, want: &str) -> Option<bool> {
     Some(got == all)
 }
 
+const FORM: &[(&str, &str)] = &[
+    ("take night.db empty.edf", "empty.edf refused E1 Cut\n"),
+    (
+        "take night.db cut.edf",
+        "cut.edf refused E21 CutRecord record=1\n",
+    ),
+    (
+        "take night.db trailing.edf",
+        "trailing.edf refused E29 Trailing\n",
+    ),
+    (
+        "take night.db spoilt.edf",
+        "spoilt.edf refused E22 Tal record=1 offset=5\n",
+    ),
+    (
+        "take night.db late.edf",
+        "late.edf refused E25 FirstOnset record=1\n",
+    ),
+    (
+        "take night.db past.edf",
+        "past.edf refused E26 Window record=2\n",
+    ),
+    (
+        "take night.db cut_second.edf",
+        "cut_second.edf refused E21 CutRecord record=2\n",
+    ),
+    (
+        "take night.db cut_third.edf",
+        "cut_third.edf refused E21 CutRecord record=3\n",
+    ),
+];
+
 #[test]
 fn files_with_a_fault_of_form_are_refused_with_its_place(rt: HostRuntime) {
-    for (line, want) in [
-        ("take night.db empty.edf", "empty.edf refused E1 Cut\n"),
-        (
-            "take night.db cut.edf",
-            "cut.edf refused E21 CutRecord record=1\n",
-        ),
-        (
-            "take night.db trailing.edf",
-            "trailing.edf refused E29 Trailing\n",
-        ),
-        (
-            "take night.db spoilt.edf",
-            "spoilt.edf refused E22 Tal record=1 offset=5\n",
-        ),
-        (
-            "take night.db late.edf",
-            "late.edf refused E25 FirstOnset record=1\n",
-        ),
-        (
-            "take night.db past.edf",
-            "past.edf refused E26 Window record=2\n",
-        ),
-        (
-            "take night.db cut_second.edf",
-            "cut_second.edf refused E21 CutRecord record=2\n",
-        ),
-        (
-            "take night.db cut_third.edf",
-            "cut_third.edf refused E21 CutRecord record=3\n",
-        ),
-    ] {
+    for (line, want) in FORM.iter().copied() {
         let told = is_refused_alone(rt.alloc(), line, want);
         assert_eq!(rt; told, Some(true), "{line}");
     }
@@ -128,61 +134,65 @@ fn is_refused_behind_q(alloc: Global, line: &str, want: &str) -> Option<bool> {
     Some(got == all)
 }
 
+const CLASH: &[(&str, &str)] = &[
+    (
+        "take night.db half.edf",
+        "half.edf refused E30 Overlap start=2002-03-02T23:59:50.5 stored=2002-03-02T23:59:50\n",
+    ),
+    (
+        "take night.db half_alone.edf",
+        "half_alone.edf refused E30 Overlap start=2002-03-02T23:59:50.5 stored=2002-03-02T23:59:50\n",
+    ),
+    (
+        "take night.db other.edf",
+        "other.edf refused E31 Differs start=2002-03-02T23:59:50\n",
+    ),
+    (
+        "take night.db cut_third.edf",
+        "cut_third.edf refused E21 CutRecord record=3\n",
+    ),
+];
+
 #[test]
 fn files_that_clash_are_refused_with_the_starts(rt: HostRuntime) {
-    for (line, want) in [
-        (
-            "take night.db half.edf",
-            "half.edf refused E30 Overlap start=2002-03-02T23:59:50.5 stored=2002-03-02T23:59:50\n",
-        ),
-        (
-            "take night.db half_alone.edf",
-            "half_alone.edf refused E30 Overlap start=2002-03-02T23:59:50.5 stored=2002-03-02T23:59:50\n",
-        ),
-        (
-            "take night.db other.edf",
-            "other.edf refused E31 Differs start=2002-03-02T23:59:50\n",
-        ),
-        (
-            "take night.db cut_third.edf",
-            "cut_third.edf refused E21 CutRecord record=3\n",
-        ),
-    ] {
+    for (line, want) in CLASH.iter().copied() {
         let told = is_refused_behind_q(rt.alloc(), line, want);
         assert_eq!(rt; told, Some(true), "{line}");
     }
 }
 
+const FULL: &[(&str, &str)] = &[
+    (
+        "take night.db n1.edf k.edf; list night.db",
+        "n1.edf accepted new=1 known=0\n\
+            k.edf refused E32 Full held=1 new=2 cap=2\n\
+            status 1\n\
+            1 records=1 first=2002-03-03T01:00:00 patient=P7 investigation=N1\n\
+            status 0\n",
+    ),
+    (
+        "take night.db n3.edf n2.edf n1.edf; list night.db",
+        "n3.edf accepted new=1 known=0\n\
+            n2.edf accepted new=1 known=0\n\
+            n1.edf refused E32 Full held=2 new=1 cap=2\n\
+            status 1\n\
+            1 records=2 first=2002-03-03T01:00:01 patient=P7 investigation=N1\n\
+            status 0\n",
+    ),
+    (
+        "take night.db n1.edf n3.edf other_third.edf; list night.db",
+        "n1.edf accepted new=1 known=0\n\
+            n3.edf accepted new=1 known=0\n\
+            other_third.edf refused E31 Differs start=2002-03-03T01:00:02\n\
+            status 1\n\
+            1 records=2 first=2002-03-03T01:00:00 patient=P7 investigation=N1\n\
+            status 0\n",
+    ),
+];
+
 #[test]
 fn a_full_recording_refuses_what_it_has_no_room_for(rt: HostRuntime) {
-    for (line, want) in [
-        (
-            "take night.db n1.edf k.edf; list night.db",
-            "n1.edf accepted new=1 known=0\n\
-                k.edf refused E32 Full held=1 new=2 cap=2\n\
-                status 1\n\
-                1 records=1 first=2002-03-03T01:00:00 patient=P7 investigation=N1\n\
-                status 0\n",
-        ),
-        (
-            "take night.db n3.edf n2.edf n1.edf; list night.db",
-            "n3.edf accepted new=1 known=0\n\
-                n2.edf accepted new=1 known=0\n\
-                n1.edf refused E32 Full held=2 new=1 cap=2\n\
-                status 1\n\
-                1 records=2 first=2002-03-03T01:00:01 patient=P7 investigation=N1\n\
-                status 0\n",
-        ),
-        (
-            "take night.db n1.edf n3.edf other_third.edf; list night.db",
-            "n1.edf accepted new=1 known=0\n\
-                n3.edf accepted new=1 known=0\n\
-                other_third.edf refused E31 Differs start=2002-03-03T01:00:02\n\
-                status 1\n\
-                1 records=2 first=2002-03-03T01:00:00 patient=P7 investigation=N1\n\
-                status 0\n",
-        ),
-    ] {
+    for (line, want) in FULL.iter().copied() {
         let got = story(rt.alloc(), 2, line);
         assert_eq!(rt; got.as_deref(), Some(want), "{line}");
     }
@@ -202,20 +212,22 @@ fn a_night_is_taken_and_listed_and_has_no_second_place(rt: HostRuntime) {
     assert_eq!(rt; got.as_deref(), Some(want));
 }
 
+const LISTED: &[(&str, &str)] = &[
+    (
+        "take night.db undated.edf q.edf",
+        "1 records=1 first=2002-03-02T23:59:50 patient=P7 investigation=N1\n\
+            2 records=1 first=2002-03-02T23:59:50 patient=P7 investigation=N1\n",
+    ),
+    (
+        "take night.db u.edf fraction.edf",
+        "1 records=1 first=2002-03-02T23:59:50.999999999 patient=P7 investigation=N1\n\
+            2 records=2 first=2002-03-02T22:00:00 patient=X investigation=X\n",
+    ),
+];
+
 #[test]
 fn recordings_are_listed_by_the_bytes_of_their_identities(rt: HostRuntime) {
-    for (line, want) in [
-        (
-            "take night.db undated.edf q.edf",
-            "1 records=1 first=2002-03-02T23:59:50 patient=P7 investigation=N1\n\
-                2 records=1 first=2002-03-02T23:59:50 patient=P7 investigation=N1\n",
-        ),
-        (
-            "take night.db u.edf fraction.edf",
-            "1 records=1 first=2002-03-02T23:59:50.999999999 patient=P7 investigation=N1\n\
-                2 records=2 first=2002-03-02T22:00:00 patient=X investigation=X\n",
-        ),
-    ] {
+    for (line, want) in LISTED.iter().copied() {
         let told = listed(rt.alloc(), usize::MAX, line);
         assert_eq!(rt; told.as_deref(), Some(want), "{line}");
     }
@@ -246,42 +258,44 @@ fn status_in_room(alloc: Global, room: usize, line: &str) -> Option<Status> {
     Some(outcome.status)
 }
 
+const MISSING: &[(&str, &str)] = &[
+    (
+        "take night.db missing.edf q.edf",
+        "missing.edf refused E40 Read\nq.edf accepted new=1 known=0\nstatus 3\n",
+    ),
+    (
+        "take night.db cut.edf missing.edf q.edf",
+        "cut.edf refused E21 CutRecord record=1\n\
+            missing.edf refused E40 Read\n\
+            q.edf accepted new=1 known=0\n\
+            status 3\n",
+    ),
+    (
+        "convert missing.edf",
+        "err: missing.edf refused E40 Read\nstatus 3\n",
+    ),
+    (
+        "convert cut.edf",
+        "err: cut.edf refused E21 CutRecord record=1\nstatus 1\n",
+    ),
+    (
+        "convert trailing.edf",
+        "err: trailing.edf refused E29 Trailing\nstatus 1\n",
+    ),
+    (
+        "convert empty.edf",
+        "err: empty.edf refused E1 Cut\nstatus 1\n",
+    ),
+    (
+        "export night.db 1",
+        "err: no recording at place 1\nstatus 1\n",
+    ),
+    ("list night.db", "status 0\n"),
+];
+
 #[test]
 fn a_missing_file_is_a_failed_read_and_the_next_is_taken(rt: HostRuntime) {
-    for (line, want) in [
-        (
-            "take night.db missing.edf q.edf",
-            "missing.edf refused E40 Read\nq.edf accepted new=1 known=0\nstatus 3\n",
-        ),
-        (
-            "take night.db cut.edf missing.edf q.edf",
-            "cut.edf refused E21 CutRecord record=1\n\
-                missing.edf refused E40 Read\n\
-                q.edf accepted new=1 known=0\n\
-                status 3\n",
-        ),
-        (
-            "convert missing.edf",
-            "err: missing.edf refused E40 Read\nstatus 3\n",
-        ),
-        (
-            "convert cut.edf",
-            "err: cut.edf refused E21 CutRecord record=1\nstatus 1\n",
-        ),
-        (
-            "convert trailing.edf",
-            "err: trailing.edf refused E29 Trailing\nstatus 1\n",
-        ),
-        (
-            "convert empty.edf",
-            "err: empty.edf refused E1 Cut\nstatus 1\n",
-        ),
-        (
-            "export night.db 1",
-            "err: no recording at place 1\nstatus 1\n",
-        ),
-        ("list night.db", "status 0\n"),
-    ] {
+    for (line, want) in MISSING.iter().copied() {
         let got = story(rt.alloc(), CAP, line);
         assert_eq!(rt; got.as_deref(), Some(want), "{line}");
     }
@@ -308,13 +322,15 @@ fn a_store_that_cannot_be_opened_is_told_by_its_fault(rt: HostRuntime) {
     }
 }
 
+const USAGE: &[(&str, u8, bool, bool)] = &[
+    ("export night.db 0", 2, false, true),
+    ("take night.db", 2, false, true),
+    ("--help", 0, true, false),
+];
+
 #[test]
 fn words_that_ask_for_nothing_are_usage_on_standard_error(rt: HostRuntime) {
-    for (line, code, out, err) in [
-        ("export night.db 0", 2u8, false, true),
-        ("take night.db", 2, false, true),
-        ("--help", 0, true, false),
-    ] {
+    for (line, code, out, err) in USAGE.iter().copied() {
         let ended = ended(rt.alloc(), line);
         assert_eq!(rt; ended, Some((code, out, err)), "{line}");
     }

@@ -27,22 +27,24 @@ fn shows(alloc: Global, line: &str, begin: &str, text: &str) -> Option<bool> {
     Some(got.as_str().starts_with(begin) && got.as_str().contains(text))
 }
 
+const ORDERS: &[(&str, &str)] = &[
+    ("", "convert -"),
+    ("convert -", "convert -"),
+    ("convert a.edf", "convert a.edf"),
+    ("list night.db", "list night.db"),
+    ("export night.db 007", "export night.db 7"),
+    ("export :memory: 4294967295", "export :memory: 4294967295"),
+    ("take night.db a.edf", "take night.db [\"a.edf\"]"),
+    ("take night.db - a.edf", "take night.db [\"-\", \"a.edf\"]"),
+    (
+        "take list c.edf a.edf b.edf",
+        "take list [\"c.edf\", \"a.edf\", \"b.edf\"]",
+    ),
+];
+
 #[test]
 fn words_that_ask_for_something_are_its_order(rt: HostRuntime) {
-    for (line, want) in [
-        ("", "convert -"),
-        ("convert -", "convert -"),
-        ("convert a.edf", "convert a.edf"),
-        ("list night.db", "list night.db"),
-        ("export night.db 007", "export night.db 7"),
-        ("export :memory: 4294967295", "export :memory: 4294967295"),
-        ("take night.db a.edf", "take night.db [\"a.edf\"]"),
-        ("take night.db - a.edf", "take night.db [\"-\", \"a.edf\"]"),
-        (
-            "take list c.edf a.edf b.edf",
-            "take list [\"c.edf\", \"a.edf\", \"b.edf\"]",
-        ),
-    ] {
+    for (line, want) in ORDERS.iter().copied() {
         let got = answer(rt.alloc(), line).ok();
         assert_eq!(rt; got.as_deref(), Some(want), "at {line}");
     }
@@ -55,58 +57,62 @@ fn has_path(alloc: Global, line: &str, path: Option<&str>) -> Option<bool> {
     Some(store_path(&order) == path)
 }
 
+const STORES: &[(&str, Option<&str>)] = &[
+    ("take night.db a.edf", Some("night.db")),
+    ("list night.db", Some("night.db")),
+    ("export night.db 1", Some("night.db")),
+    ("take :memory: a.edf", None),
+    ("list :memory:", None),
+    ("export :memory: 1", None),
+    ("convert night.db", None),
+];
+
 #[test]
 fn an_order_has_the_path_of_its_store_but_for_one_in_memory(rt: HostRuntime) {
-    for (line, path) in [
-        ("take night.db a.edf", Some("night.db")),
-        ("list night.db", Some("night.db")),
-        ("export night.db 1", Some("night.db")),
-        ("take :memory: a.edf", None),
-        ("list :memory:", None),
-        ("export :memory: 1", None),
-        ("convert night.db", None),
-    ] {
+    for (line, path) in STORES.iter().copied() {
         let told = has_path(rt.alloc(), line, path);
         assert_eq!(rt; told, Some(true), "at {line}");
     }
 }
 
+const TOLD: &[(&str, &str, &str)] = &[
+    ("list", "usage: ", "<STORE>"),
+    ("list night.db 1", "usage: ", "'1'"),
+    ("list -x", "usage: ", "'-x'"),
+    ("take night.db", "usage: ", "<FILE>"),
+    ("frob", "usage: ", "'frob'"),
+    ("frob night.db", "usage: ", "'frob'"),
+    ("export night.db 0", "usage: ", "from 1 to 4294967295"),
+    ("export night.db +7", "usage: ", "from 1 to 4294967295"),
+    ("export night.db 7th", "usage: ", "from 1 to 4294967295"),
+    (
+        "export night.db 4294967296",
+        "usage: ",
+        "edfstore export <STORE> <PLACE>",
+    ),
+    ("--help", "help: ", "\n  take "),
+    ("--help", "help: ", "\n  list "),
+    ("--help", "help: ", "\n  export "),
+    ("--help", "help: ", "\n  convert "),
+    ("-h", "help: ", "\n  edfstore take night.db "),
+    ("take --help", "help: ", "\n  edfstore take night.db "),
+    ("list --help", "help: ", "\n  edfstore list night.db\n"),
+    ("export --help", "help: ", "\n  edfstore export night.db 1 "),
+    (
+        "convert --help",
+        "help: ",
+        "\n  edfstore convert recorder.edf ",
+    ),
+    (
+        "help convert",
+        "help: ",
+        "\n  edfstore convert recorder.edf ",
+    ),
+];
+
 #[test]
 fn words_that_ask_for_help_or_for_nothing_are_told_so(rt: HostRuntime) {
-    for (line, begin, text) in [
-        ("list", "usage: ", "<STORE>"),
-        ("list night.db 1", "usage: ", "'1'"),
-        ("list -x", "usage: ", "'-x'"),
-        ("take night.db", "usage: ", "<FILE>"),
-        ("frob", "usage: ", "'frob'"),
-        ("frob night.db", "usage: ", "'frob'"),
-        ("export night.db 0", "usage: ", "from 1 to 4294967295"),
-        ("export night.db +7", "usage: ", "from 1 to 4294967295"),
-        ("export night.db 7th", "usage: ", "from 1 to 4294967295"),
-        (
-            "export night.db 4294967296",
-            "usage: ",
-            "edfstore export <STORE> <PLACE>",
-        ),
-        ("--help", "help: ", "\n  take "),
-        ("--help", "help: ", "\n  list "),
-        ("--help", "help: ", "\n  export "),
-        ("--help", "help: ", "\n  convert "),
-        ("-h", "help: ", "\n  edfstore take night.db "),
-        ("take --help", "help: ", "\n  edfstore take night.db "),
-        ("list --help", "help: ", "\n  edfstore list night.db\n"),
-        ("export --help", "help: ", "\n  edfstore export night.db 1 "),
-        (
-            "convert --help",
-            "help: ",
-            "\n  edfstore convert recorder.edf ",
-        ),
-        (
-            "help convert",
-            "help: ",
-            "\n  edfstore convert recorder.edf ",
-        ),
-    ] {
+    for (line, begin, text) in TOLD.iter().copied() {
         let told = shows(rt.alloc(), line, begin, text);
         assert_eq!(rt; told, Some(true), "at {line}");
     }

@@ -1,9 +1,9 @@
 //! Memory that runs out, under each budget until one suffices.
 
-use crate::lines::{LINES, Room, Said, Shelf, ran, silence, take_both};
-use crate::stage::{
+use crate::held::{
     Answer, canonical_both, empty, held, holds_both, store_of_both, submitted, taken,
 };
+use crate::lines::{LINES, Room, Said, Shelf, ran, silence, take_both};
 use edf_command::Status;
 use edf_export::export;
 use edf_fragment::Counted;
@@ -162,30 +162,31 @@ fn list_under(alloc: Global, scarce: &mut Scarce, budget: usize) -> Option<Serve
     }
 }
 
+const SHORTAGES: &[(&[u8], u32, u32)] = &[
+    (b"", 0, 2),
+    (b"p5.edf accepted new=1 known=0\n", 1, 2),
+    (b"p5.edf refused E41 Memory\n", 0, 1),
+    (
+        b"p5.edf accepted new=1 known=0\nq.edf refused E41 Memory\n",
+        1,
+        1,
+    ),
+    (
+        b"p5.edf refused E41 Memory\nq.edf accepted new=1 known=0\n",
+        1,
+        1,
+    ),
+    (
+        b"p5.edf refused E41 Memory\nq.edf refused E41 Memory\n",
+        0,
+        0,
+    ),
+];
+
 /// Whether an order to take P5 and Q may write so where memory runs out, and leave so many data records. The files behind a line
 /// that is not written were submitted all the same.
 fn tells_of_shortage(out: &[u8], records: u32) -> bool {
-    let texts: [(&[u8], u32, u32); 6] = [
-        (b"", 0, 2),
-        (b"p5.edf accepted new=1 known=0\n", 1, 2),
-        (b"p5.edf refused E41 Memory\n", 0, 1),
-        (
-            b"p5.edf accepted new=1 known=0\nq.edf refused E41 Memory\n",
-            1,
-            1,
-        ),
-        (
-            b"p5.edf refused E41 Memory\nq.edf accepted new=1 known=0\n",
-            1,
-            1,
-        ),
-        (
-            b"p5.edf refused E41 Memory\nq.edf refused E41 Memory\n",
-            0,
-            0,
-        ),
-    ];
-    for (text, least, most) in texts {
+    for (text, least, most) in SHORTAGES.iter().copied() {
         if out == text {
             return least <= records && records <= most;
         }

@@ -1,6 +1,6 @@
 //! Three files of one recording, and its canonical file after each.
 
-use crate::stage::canonical_both;
+use crate::held::canonical_both;
 use edf_sample::named::{file_k, file_p5, file_q};
 use edf_sample::{file, q};
 use std::alloc::{AllocError, Global};

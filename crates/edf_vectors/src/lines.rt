@@ -2,7 +2,7 @@
 
 ghost use Rattle.std.specs.Prelude.{None};
 
-use crate::stage::{canonical_both, empty, holds_both, store_of_both};
+use crate::held::{canonical_both, empty, holds_both, store_of_both};
 use edf_command::{Inputs, Order, Status, run};
 use edf_fragment::Counted;
 use edf_sample::named::{file_p5, file_q};

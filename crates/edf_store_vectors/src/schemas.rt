@@ -1,3 +1,5 @@
+//! The tables of a file, which the check makes, leaves or refuses.
+
 use edf_audit::audit;
 use sqlite::{Connection, MemStore};
 use std::alloc::Global;
@@ -29,53 +31,57 @@ fn audited(alloc: Global, made: &str, more: &str) -> Option<(bool, i64, bool)> {
     Some((kept, count, after == before))
 }
 
+const OURS: &[(&str, &str, bool)] = &[
+    ("empty", "", false),
+    ("the first table", RECORDING, false),
+    ("both", BOTH, true),
+];
+
 #[test]
 fn a_file_of_our_tables_alone_gets_those_that_are_missing(rt: HostRuntime) {
-    for (name, made, stays) in [
-        ("empty", "", false),
-        ("the first table", RECORDING, false),
-        ("both", BOTH, true),
-    ] {
+    for (name, made, stays) in OURS.iter().copied() {
         let told = audited(rt.alloc(), made, "");
         assert_eq!(rt; told, Some((true, 4, stays)), "{name}");
     }
 }
 
+const FOREIGN: &[(&str, &str, i64)] = &[
+    ("", "CREATE TABLE record (x)", 1),
+    (RECORDING, "CREATE TABLE record (x)", 3),
+    (RECORDING, "CREATE TABLE another (x)", 3),
+    (BOTH, "CREATE TABLE another (x)", 5),
+    (BOTH, "CREATE INDEX by_block ON record (block)", 5),
+    (BOTH, "CREATE VIEW starts AS SELECT start FROM record", 5),
+    (
+        "",
+        "CREATE TABLE recording (id INTEGER PRIMARY KEY, identity BLOB NOT NULL UNIQUE)",
+        2,
+    ),
+    (
+        "",
+        "CREATE TABLE recording (id INTEGER PRIMARY KEY, identity TEXT NOT NULL UNIQUE) STRICT",
+        2,
+    ),
+    (
+        "",
+        "CREATE TABLE recording (id INTEGER PRIMARY KEY, identity BLOB NOT NULL UNIQUE, sex TEXT) STRICT",
+        2,
+    ),
+    (
+        "",
+        "CREATE TABLE recording (id INTEGER PRIMARY KEY, identity BLOB UNIQUE) STRICT",
+        2,
+    ),
+    (
+        "",
+        "CREATE TABLE recording (id INTEGER PRIMARY KEY, identity BLOB NOT NULL) STRICT",
+        1,
+    ),
+];
+
 #[test]
 fn a_file_of_any_other_table_index_or_view_is_foreign_and_stays(rt: HostRuntime) {
-    for (made, more, left) in [
-        ("", "CREATE TABLE record (x)", 1i64),
-        (RECORDING, "CREATE TABLE record (x)", 3),
-        (RECORDING, "CREATE TABLE another (x)", 3),
-        (BOTH, "CREATE TABLE another (x)", 5),
-        (BOTH, "CREATE INDEX by_block ON record (block)", 5),
-        (BOTH, "CREATE VIEW starts AS SELECT start FROM record", 5),
-        (
-            "",
-            "CREATE TABLE recording (id INTEGER PRIMARY KEY, identity BLOB NOT NULL UNIQUE)",
-            2,
-        ),
-        (
-            "",
-            "CREATE TABLE recording (id INTEGER PRIMARY KEY, identity TEXT NOT NULL UNIQUE) STRICT",
-            2,
-        ),
-        (
-            "",
-            "CREATE TABLE recording (id INTEGER PRIMARY KEY, identity BLOB NOT NULL UNIQUE, sex TEXT) STRICT",
-            2,
-        ),
-        (
-            "",
-            "CREATE TABLE recording (id INTEGER PRIMARY KEY, identity BLOB UNIQUE) STRICT",
-            2,
-        ),
-        (
-            "",
-            "CREATE TABLE recording (id INTEGER PRIMARY KEY, identity BLOB NOT NULL) STRICT",
-            1,
-        ),
-    ] {
+    for (made, more, left) in FOREIGN.iter().copied() {
         let told = audited(rt.alloc(), made, more);
         assert_eq!(rt; told, Some((false, left, true)), "{more}");
     }

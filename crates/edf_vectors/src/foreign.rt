@@ -84,31 +84,33 @@ fn opened_behind(alloc: Global, sql: &str, cap: u32) -> Option<(u8, bool)> {
 const TOUCHING: &str =
     "INSERT INTO record SELECT recording, 541727991000000000, x'0100FFFF', x'2B353431373237393931141400' FROM record";
 
+const FOREIGN: &[(&str, u32, u8)] = &[
+    ("", 1, 0),
+    ("INSERT INTO recording (identity) VALUES (x'00')", 9, 45),
+    ("DELETE FROM record", 9, 45),
+    ("DELETE FROM recording", 9, 45),
+    ("UPDATE record SET start = -1", 9, 45),
+    ("UPDATE record SET start = start + 1", 9, 45),
+    ("UPDATE record SET samples = x'0000'", 9, 45),
+    ("UPDATE record SET block = x'00'", 9, 45),
+    (
+        "UPDATE record SET block = x'2B3534313732373939302E30141400'",
+        9,
+        45,
+    ),
+    (
+        "INSERT INTO record SELECT recording, 541727990500000000, x'0100FFFF', x'2B3534313732373939302E35141400' FROM record",
+        9,
+        45,
+    ),
+    (TOUCHING, 1, 45),
+    (TOUCHING, 2, 0),
+    ("CREATE TABLE another (x)", 9, 45),
+];
+
 #[test]
 fn a_foreign_file_is_refused_and_keeps_its_rows(rt: HostRuntime) {
-    for (sql, cap, number) in [
-        ("", 1u32, 0u8),
-        ("INSERT INTO recording (identity) VALUES (x'00')", 9, 45),
-        ("DELETE FROM record", 9, 45),
-        ("DELETE FROM recording", 9, 45),
-        ("UPDATE record SET start = -1", 9, 45),
-        ("UPDATE record SET start = start + 1", 9, 45),
-        ("UPDATE record SET samples = x'0000'", 9, 45),
-        ("UPDATE record SET block = x'00'", 9, 45),
-        (
-            "UPDATE record SET block = x'2B3534313732373939302E30141400'",
-            9,
-            45,
-        ),
-        (
-            "INSERT INTO record SELECT recording, 541727990500000000, x'0100FFFF', x'2B3534313732373939302E35141400' FROM record",
-            9,
-            45,
-        ),
-        (TOUCHING, 1, 45),
-        (TOUCHING, 2, 0),
-        ("CREATE TABLE another (x)", 9, 45),
-    ] {
+    for (sql, cap, number) in FOREIGN.iter().copied() {
         let told = opened_behind(rt.alloc(), sql, cap);
         assert_eq!(rt; told, Some((number, true)), "{sql}");
     }

@@ -1,8 +1,8 @@
 //! Many recordings on one disk.
 
 use crate::disk::lend;
+use crate::held::exported;
 use crate::run::{filled, opened};
-use crate::stage::exported;
 use edf_sample::named::file_q;
 use edf_sample::patched;
 use edf_store::Store;

@@ -1,3 +1,5 @@
+//! Rows of data records, as they are written and read.
+
 use edf_fragment::Record;
 use edf_header::Identity;
 use edf_rows::{block_of, check_row, record_of, start_of};
@@ -69,63 +71,61 @@ fn a_record_without_annotations_has_a_block(rt: HostRuntime) -> Result<(), Fail>
     Ok(())
 }
 
+const STARTS: &[(i64, &[u8], bool)] = &[
+    (START, BLOCK, true),
+    (0, b"+0\x14\x14\0", true),
+    (3_155_759_999_000_000_000, b"+3155759999\x14\x14\0", true),
+    (3_155_760_000_000_000_000, b"+3155760000\x14\x14\0", false),
+    (-1, b"-0.000000001\x14\x14\0", false),
+    (START + 1, BLOCK, false),
+    (-START, BLOCK, false),
+];
+
 #[test]
 fn a_start_is_that_of_the_block_and_inside_the_window(rt: HostRuntime) -> Result<(), Fail> {
-    for (start, block, good) in [
-        (START, BLOCK, true),
-        (0, &b"+0\x14\x14\0"[..], true),
-        (
-            3_155_759_999_000_000_000,
-            &b"+3155759999\x14\x14\0"[..],
-            true,
-        ),
-        (
-            3_155_760_000_000_000_000,
-            &b"+3155760000\x14\x14\0"[..],
-            false,
-        ),
-        (-1, &b"-0.000000001\x14\x14\0"[..], false),
-        (START + 1, BLOCK, false),
-        (-START, BLOCK, false),
-    ] {
+    for (start, block, good) in STARTS.iter().copied() {
         let told = is_a_row(rt.alloc(), start, FOUR, block);
         assert_eq!(rt; told, Some(good), "{start}");
     }
     Ok(())
 }
 
+const SAMPLES: &[(&[u8], bool)] = &[
+    (FOUR, true),
+    (b"", false),
+    (b"\x01\x00", false),
+    (b"\x01\x00\xff\xff\x00\x00", false),
+];
+
 #[test]
 fn a_row_has_as_many_samples_as_the_identity_says(rt: HostRuntime) -> Result<(), Fail> {
-    for (samples, good) in [
-        (FOUR, true),
-        (&b""[..], false),
-        (&b"\x01\x00"[..], false),
-        (&b"\x01\x00\xff\xff\x00\x00"[..], false),
-    ] {
+    for (samples, good) in SAMPLES.iter().copied() {
         let told = is_a_row(rt.alloc(), START, samples, BLOCK);
         assert_eq!(rt; told, Some(good), "{samples:?}");
     }
     Ok(())
 }
 
+const SPELLINGS: &[(&[u8], bool)] = &[
+    (BLOCK, true),
+    (TWO, true),
+    (b"+541727990.0\x14\x14\0", false),
+    (b"+0541727990\x14\x14\0", false),
+    (b"+541727990\x14\x14\0\0", false),
+    (b"+541727990\x14Turn\x14\0", false),
+    (b"+541727990\x14\x14Turn\x14\0", false),
+    (
+        b"+541727990\x14\x14\0+541727991\x14Snore\x14Turn\x14\0",
+        false,
+    ),
+    (b"+541727990\x14\x14\0+1\x14\xff\x14\0", false),
+    (b"", false),
+    (b"+541727990\x14\x14", false),
+];
+
 #[test]
 fn a_block_is_spelled_as_it_would_be_written(rt: HostRuntime) -> Result<(), Fail> {
-    for (block, good) in [
-        (BLOCK, true),
-        (TWO, true),
-        (&b"+541727990.0\x14\x14\0"[..], false),
-        (&b"+0541727990\x14\x14\0"[..], false),
-        (&b"+541727990\x14\x14\0\0"[..], false),
-        (&b"+541727990\x14Turn\x14\0"[..], false),
-        (&b"+541727990\x14\x14Turn\x14\0"[..], false),
-        (
-            &b"+541727990\x14\x14\0+541727991\x14Snore\x14Turn\x14\0"[..],
-            false,
-        ),
-        (&b"+541727990\x14\x14\0+1\x14\xff\x14\0"[..], false),
-        (&b""[..], false),
-        (&b"+541727990\x14\x14"[..], false),
-    ] {
+    for (block, good) in SPELLINGS.iter().copied() {
         let told = is_a_row(rt.alloc(), START, FOUR, block);
         assert_eq!(rt; told, Some(good), "{block:?}");
     }

@@ -1,6 +1,6 @@
 //! Files that are cut at every byte.
 
-use crate::stage::{holds_q, store_of_q, taken};
+use crate::held::{holds_q, store_of_q, taken};
 use edf_fragment::FragmentFault;
 use edf_header::HeaderFault;
 use edf_intake::Refusal;

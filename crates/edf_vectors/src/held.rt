@@ -1,5 +1,6 @@
 //! Stores, what they answer and what they hold.
 
+use crate::stage::{CAP, empty_store};
 use edf_export::export;
 use edf_fragment::{Counted, Input};
 use edf_header::Identity;
@@ -7,7 +8,7 @@ use edf_intake::{Refusal, submit};
 use edf_sample::named::{file_p5, file_q};
 use edf_sample::{Sink, Source, file, q};
 use edf_store::Store;
-use sqlite::{Alter, Connection, MemStore};
+use sqlite::{Alter, MemStore};
 use std::alloc::Global;
 
 /// What a submission is answered: how many data records were added and how many were known, or why it is refused.
@@ -15,8 +16,7 @@ pub(crate) type Answer = Result<(u32, u32), Refusal>;
 
 /// A store in memory, of nothing.
 pub(crate) fn empty(alloc: Global) -> Option<Store<MemStore>> {
-    let conn = Connection::open_in_memory(alloc).ok()?;
-    Store::open(alloc, conn, 99_999_999).ok()
+    empty_store(alloc, CAP)
 }
 
 pub(crate) fn submitted<S: Alter, R: Input>(

@@ -1,6 +1,6 @@
 //! Headers that promise too much, and annotations that are too long.
 
-use crate::stage::{Answer, empty, taken, told};
+use crate::held::{Answer, empty, taken, told};
 use edf_fragment::FragmentFault;
 use edf_header::HeaderFault;
 use edf_intake::Refusal;
@@ -41,7 +41,7 @@ fn a_header_that_promises_more_than_there_is_is_refused(rt: HostRuntime) {
 
 /// The fields of two EEG signals of 1,048,577 samples and of an annotations signal: each field's width, its text for the EEG
 /// signals and its text for the annotations signal.
-const COLUMNS: [(usize, &str, &str); 10] = [
+const COLUMNS: &[(usize, &str, &str)] = &[
     (16, "EEG Fpz-Cz", "EDF Annotations "),
     (80, "AgAgCl electrode", ""),
     (8, "uV", ""),
@@ -67,7 +67,7 @@ fn push_field(bytes: &mut Vec<u8>, width: usize, text: &str) -> Option<()> {
 fn two_large_signals(alloc: Global) -> Option<Vec<u8>> {
     let mut bytes = file(alloc, &q().signals("3").header_bytes("1024"), &[]).ok()?;
     bytes.truncate(256);
-    for (width, eeg, annotations) in COLUMNS {
+    for (width, eeg, annotations) in COLUMNS.iter().copied() {
         push_field(&mut bytes, width, eeg)?;
         push_field(&mut bytes, width, eeg)?;
         push_field(&mut bytes, width, annotations)?;

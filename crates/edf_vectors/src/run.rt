@@ -4,8 +4,8 @@
 //! disks is long.
 
 use crate::disk::{lend, stopping};
-use crate::night::Night;
-use crate::stage::{held, taken};
+use crate::held::{held, taken};
+use crate::three_files::Night;
 use edf_store::Store;
 use sqlite::{Alter, Connection, FileStore, Files, Options};
 use sqlite_disk::{Crash, Disk, Memory};

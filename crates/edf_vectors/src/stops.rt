@@ -1,7 +1,7 @@
 //! The log stops at each of its calls in turn, and then the database file.
 
-use crate::night::three_files;
 use crate::run::{Stop, run};
+use crate::three_files::three_files;
 use std::alloc::Global;
 use std::process::Abort;
 
@@ -69,11 +69,11 @@ fn is_met_at_the_ends(stops: Option<[usize; 4]>) -> bool {
 
 /// Whether the log, and whether the database file, loses what was not synced. Where neither does, the program died and the
 /// machine went on.
-const LOSSES: [(bool, bool); 4] = [(false, false), (true, true), (true, false), (false, true)];
+const LOSSES: &[(bool, bool)] = &[(false, false), (true, true), (true, false), (false, true)];
 
 #[test]
 fn what_was_accepted_is_held_wherever_the_log_stops(rt: HostRuntime) {
-    for loses in LOSSES {
+    for loses in LOSSES.iter().copied() {
         let stops = stopped(&rt, rt.alloc(), true, 1000, loses);
         assert!(rt; is_met_everywhere(stops), "{loses:?}: {stops:?}");
     }
@@ -81,7 +81,7 @@ fn what_was_accepted_is_held_wherever_the_log_stops(rt: HostRuntime) {
 
 #[test]
 fn what_was_accepted_is_held_wherever_the_database_file_stops(rt: HostRuntime) {
-    for loses in LOSSES {
+    for loses in LOSSES.iter().copied() {
         let stops = stopped(&rt, rt.alloc(), false, 1000, loses);
         assert!(rt; is_met_at_the_ends(stops), "{loses:?}: {stops:?}");
     }
@@ -89,7 +89,7 @@ fn what_was_accepted_is_held_wherever_the_database_file_stops(rt: HostRuntime) {
 
 #[test]
 fn what_was_accepted_is_held_wherever_a_log_that_is_copied_soon_stops(rt: HostRuntime) {
-    for loses in LOSSES {
+    for loses in LOSSES.iter().copied() {
         let stops = stopped(&rt, rt.alloc(), true, 2, loses);
         assert!(rt; is_met_everywhere(stops), "{loses:?}: {stops:?}");
     }
@@ -97,7 +97,7 @@ fn what_was_accepted_is_held_wherever_a_log_that_is_copied_soon_stops(rt: HostRu
 
 #[test]
 fn what_was_accepted_is_held_wherever_the_copying_of_the_log_stops(rt: HostRuntime) {
-    for loses in LOSSES {
+    for loses in LOSSES.iter().copied() {
         let stops = stopped(&rt, rt.alloc(), false, 2, loses);
         assert!(rt; is_met_everywhere(stops), "{loses:?}: {stops:?}");
     }

@@ -1,6 +1,6 @@
 //! Readers that fail.
 
-use crate::stage::{Answer, holds_q, store_of_q, submitted, taken, told};
+use crate::held::{Answer, holds_q, store_of_q, submitted, taken, told};
 use edf_fragment::{Counted, FragmentFault};
 use edf_intake::Refusal;
 use edf_sample::named::file_p5;

@@ -1,6 +1,6 @@
 //! Exports to writers that take their bytes in pieces, and stop.
 
-use crate::stage::{canonical_both, store_of_both};
+use crate::held::{canonical_both, store_of_both};
 use edf_export::{ExportFault, export};
 use edf_fragment::Counted;
 use edf_header::Identity;
