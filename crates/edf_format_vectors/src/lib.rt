@@ -1,6 +1,17 @@
-//! Tests of the crates below data records, by values from the standards' text: times and decimals, texts of fields, headers,
-//! identities, annotations blocks. They stand in a crate of their own, so that none of those crates is proved once more for its
+//! Tests of the crates below the store. They stand in a crate of their own, so that none of those crates is proved once more for its
 //! tests.
+//!
+//! By values from the standards' text:
+//!
+//! - `times`, `texts`: times and decimals, texts of header fields.
+//! - `fixed_parts`, `signal_parts`, `headers`, `identities`: headers and what they say of a recording.
+//! - `blocks`: annotations blocks.
+//!
+//! By small named files:
+//!
+//! - `one_by_one`, `wholes`: fragments, their data records read one at a time and all at once, in pieces of any size.
+//! - `records`: data records, compared with one another.
+//! - `stops`: reads and writes that fail, and what was read behind a refusal.
 #![tactic(auto)]
 
 #[cfg(test)]
@@ -12,8 +23,16 @@ mod headers;
 #[cfg(test)]
 mod identities;
 #[cfg(test)]
+mod one_by_one;
+#[cfg(test)]
+mod records;
+#[cfg(test)]
 mod signal_parts;
+#[cfg(test)]
+mod stops;
 #[cfg(test)]
 mod texts;
 #[cfg(test)]
 mod times;
+#[cfg(test)]
+mod wholes;

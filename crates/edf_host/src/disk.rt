@@ -2,7 +2,7 @@
 
 use edf_schema::is_ours;
 use edf_store::{Store, StoreFault};
-use sqlite::{Connection, Error, ErrorCode};
+use sqlite::{Alter, Connection, Error, ErrorCode};
 use sqlite_disk::Tally;
 use sqlite_std_file::File;
 use sqlite_store::FileStore;
@@ -29,23 +29,25 @@ pub(crate) fn is_missing(rt: &HostRuntime, path: &str) -> bool {
     }
 }
 
-/// The store of the file at a path, which is made where there is none.
-pub(crate) fn open_file(rt: &HostRuntime, path: &str) -> Result<Store<FileStore<File>>, Refused> {
-    let conn = match Connection::open(rt, path) {
-        Ok(conn) => conn,
-        Err(error) => {
-            return Err(Refused {
-                fault: StoreFault::from(error),
-                has_our_tables: false,
-            });
-        }
-    };
+/// The store over a connection.
+fn store_over<S: Alter>(alloc: Global, conn: Connection<S>) -> Result<Store<S>, Refused> {
     let has_our_tables = is_ours(conn.schema());
-    match Store::open(rt.alloc(), conn, CAP) {
+    match Store::open(alloc, conn, CAP) {
         Ok(store) => Ok(store),
         Err(fault) => Err(Refused {
             fault,
             has_our_tables,
+        }),
+    }
+}
+
+/// The store of the file at a path, which is made where there is none.
+pub(crate) fn open_file(rt: &HostRuntime, path: &str) -> Result<Store<FileStore<File>>, Refused> {
+    match Connection::open(rt, path) {
+        Ok(conn) => store_over(rt.alloc(), conn),
+        Err(error) => Err(Refused {
+            fault: StoreFault::from(error),
+            has_our_tables: false,
         }),
     }
 }

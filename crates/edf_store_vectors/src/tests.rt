@@ -36,9 +36,13 @@ fn second_record(alloc: Global) -> Option<Record> {
     Record::new(instant(2)?, samples, Vec::new(alloc))
 }
 
-fn in_memory(alloc: Global) -> Option<Store<MemStore>> {
-    let conn = Connection::open_in_memory(alloc).ok()?;
+/// The store over a connection.
+fn store_over<S: Alter>(alloc: Global, conn: Connection<S>) -> Option<Store<S>> {
     Store::open(alloc, conn, CAP).ok()
+}
+
+fn in_memory(alloc: Global) -> Option<Store<MemStore>> {
+    store_over(alloc, Connection::open_in_memory(alloc).ok()?)
 }
 
 fn on_disk(alloc: Global, files: Files<Memory>) -> Option<Store<FileStore<Memory>>> {
@@ -46,7 +50,7 @@ fn on_disk(alloc: Global, files: Files<Memory>) -> Option<Store<FileStore<Memory
         return None;
     }
     match Connection::open_files(alloc, files, Options::new(1)) {
-        Ok(conn) => Store::open(alloc, conn, CAP).ok(),
+        Ok(conn) => store_over(alloc, conn),
         Err(_) => None,
     }
 }
@@ -189,17 +193,26 @@ fn show_near<S: Alter>(alloc: Global, store: &mut Store<S>) -> Option<Option<i8>
     told_near(store, &identity, &first, &second)
 }
 
+fn keep_in<S: Alter>(alloc: Global, store: Store<S>) -> (Option<Kept>, Store<S>) {
+    let mut store = store;
+    (keep_two(alloc, &mut store), store)
+}
+
+fn near_in<S: Alter>(alloc: Global, store: Store<S>) -> Option<Option<i8>> {
+    let mut store = store;
+    show_near(alloc, &mut store)
+}
+
 fn kept_in_memory(alloc: Global) -> Option<(Kept, Option<i8>)> {
-    let mut store = in_memory(alloc)?;
-    let kept = keep_two(alloc, &mut store)?;
-    Some((kept, show_near(alloc, &mut store)?))
+    let (kept, store) = keep_in(alloc, in_memory(alloc)?);
+    let near = near_in(alloc, store)?;
+    Some((kept?, near))
 }
 
 fn kept_on_disk(alloc: Global) -> Option<(Kept, Option<i8>)> {
-    let mut store = on_disk(alloc, empty_files(alloc))?;
-    let kept = keep_two(alloc, &mut store)?;
-    let mut again = on_disk(alloc, closed(store)?)?;
-    Some((kept, show_near(alloc, &mut again)?))
+    let (kept, store) = keep_in(alloc, on_disk(alloc, empty_files(alloc))?);
+    let near = near_in(alloc, on_disk(alloc, closed(store)?)?)?;
+    Some((kept?, near))
 }
 
 #[test]
@@ -291,12 +304,17 @@ fn walk<S: Alter>(alloc: Global, store: &mut Store<S>) -> Option<Walked> {
     told_of_walks(store, &identity, &first, &later)
 }
 
+fn walk_in<S: Alter>(alloc: Global, store: Store<S>) -> Option<Walked> {
+    let mut store = store;
+    walk(alloc, &mut store)
+}
+
 fn walked_in_memory(alloc: Global) -> Option<Walked> {
-    walk(alloc, &mut in_memory(alloc)?)
+    walk_in(alloc, in_memory(alloc)?)
 }
 
 fn walked_on_disk(alloc: Global) -> Option<Walked> {
-    walk(alloc, &mut on_disk(alloc, empty_files(alloc))?)
+    walk_in(alloc, on_disk(alloc, empty_files(alloc))?)
 }
 
 #[test]
