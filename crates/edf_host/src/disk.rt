@@ -1,5 +1,8 @@
 //! Stores in SQLite's files and in memory.
 
+ghost use Rattle.std.specs.Prelude.{◌≡◌, false};
+ghost use Rattle.sqlite.specs.Held.{state};
+
 use edf_schema::is_ours;
 use edf_store::{Store, StoreFault};
 use sqlite::{Alter, Connection, Error, ErrorCode};
@@ -30,7 +33,9 @@ pub(crate) fn is_missing(rt: &HostRuntime, path: &str) -> bool {
 }
 
 /// The store over a connection.
-fn store_over<S: Alter>(alloc: Global, conn: Connection<S>) -> Result<Store<S>, Refused> {
+fn store_over<S: Alter + Drop>(alloc: Global, conn: Connection<S>) -> Result<Store<S>, Refused>
+    requires autocommit { (state S.Store conn).in_transaction ≡ false }
+{
     let has_our_tables = is_ours(conn.schema());
     match Store::open(alloc, conn, CAP) {
         Ok(store) => Ok(store),

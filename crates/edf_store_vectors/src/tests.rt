@@ -36,8 +36,11 @@ fn second_record(alloc: Global) -> Option<Record> {
     Record::new(instant(2)?, samples, Vec::new(alloc))
 }
 
-/// The store over a connection.
-fn store_over<S: Alter>(alloc: Global, conn: Connection<S>) -> Option<Store<S>> {
+/// The store of a connection that is in no transaction.
+fn store_over<S: Alter + Drop>(alloc: Global, conn: Connection<S>) -> Option<Store<S>> {
+    if !conn.is_autocommit() {
+        return None;
+    }
     Store::open(alloc, conn, CAP).ok()
 }
 
@@ -193,12 +196,12 @@ fn show_near<S: Alter>(alloc: Global, store: &mut Store<S>) -> Option<Option<i8>
     told_near(store, &identity, &first, &second)
 }
 
-fn keep_in<S: Alter>(alloc: Global, store: Store<S>) -> (Option<Kept>, Store<S>) {
+fn keep_in<S: Alter + Drop>(alloc: Global, store: Store<S>) -> (Option<Kept>, Store<S>) {
     let mut store = store;
     (keep_two(alloc, &mut store), store)
 }
 
-fn near_in<S: Alter>(alloc: Global, store: Store<S>) -> Option<Option<i8>> {
+fn near_in<S: Alter + Drop>(alloc: Global, store: Store<S>) -> Option<Option<i8>> {
     let mut store = store;
     show_near(alloc, &mut store)
 }
@@ -304,7 +307,7 @@ fn walk<S: Alter>(alloc: Global, store: &mut Store<S>) -> Option<Walked> {
     told_of_walks(store, &identity, &first, &later)
 }
 
-fn walk_in<S: Alter>(alloc: Global, store: Store<S>) -> Option<Walked> {
+fn walk_in<S: Alter + Drop>(alloc: Global, store: Store<S>) -> Option<Walked> {
     let mut store = store;
     walk(alloc, &mut store)
 }
