@@ -11,11 +11,11 @@ use sqlite::Alter;
 
 /// What a transaction told of a recording before a data record was added to it, and after.
 #[derive(Drop)]
-pub struct Seen {
-    pub before: u32,
-    pub after: u32,
+pub(crate) struct Seen {
+    pub(crate) before: u32,
+    pub(crate) after: u32,
     /// The data records that meet the interval that begins half a second before the one that was added.
-    pub near: Vec<Record>,
+    pub(crate) near: Vec<Record>,
 }
 
 /// Adds a data record of the identity, near which there is none, to its recording, which is made where it is missing.
@@ -81,7 +81,7 @@ fn look<S: Alter>(
 ///
 /// # Errors
 /// The store's, and `Foreign` where the data record may not be added.
-pub fn put<S: Alter>(
+pub(crate) fn put<S: Alter>(
     store: &mut Store<S>,
     identity: &Identity,
     data_record: &Record,
@@ -109,7 +109,7 @@ pub fn put<S: Alter>(
 ///
 /// # Errors
 /// The store's.
-pub fn near<S: Alter>(
+pub(crate) fn near<S: Alter>(
     store: &mut Store<S>,
     identity: &Identity,
     start: Instant,

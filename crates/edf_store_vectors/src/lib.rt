@@ -2,11 +2,11 @@
 //!
 //! - `rows`: rows of data records, as they are written and read.
 //! - `schemas`: the tables of a file, which the check makes, leaves or refuses.
-//! - [`put`]: adds a data record in a transaction of its own, and tells what the transaction saw.
-//! - [`near`]: the data records near an instant, in a transaction of its own.
+//! - `adding`: data records added and looked for, each in a transaction of its own.
 //! - `tests`: data records that are added, given up and read again.
 #![tactic(auto)]
 
+#[cfg(test)]
 mod adding;
 #[cfg(test)]
 mod rows;
@@ -14,5 +14,3 @@ mod rows;
 mod schemas;
 #[cfg(test)]
 mod tests;
-
-pub use adding::{Seen, near, put};

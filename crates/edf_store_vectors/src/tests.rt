@@ -1,6 +1,6 @@
 //! Data records that are added, given up, looked for and read again, in memory and on disks in memory.
 
-use crate::{near, put};
+use crate::adding::{near, put};
 use edf_fragment::{Counted, OpenFragment, Record};
 use edf_header::Identity;
 use edf_sample::Source;
