@@ -90,8 +90,8 @@ def files_of(held: bytes) -> dict:
     """Every stored file by its path."""
     orders = b"".join((LISTED, b"status 0\n", exported(), b"status 0\n", b"status 1\n", b"status 2\n"))
     return {"edfstore/stdin": Q, "edfstore/stdout": Q, "edfstore_orders/data/night.db": held, "edfstore_orders/data/cut.edf": Q[:-1],
-            "edfstore_orders/stdout": orders, "edfstore_take/data/a.edf": Q, "edfstore_take/data/b.edf": FILES["half"], "edfstore_take/stdin": long_spelling(),
-            "edfstore_take/data/card.edf": card(), "edfstore_take/stdout": TAKEN}
+            "edfstore_orders/stdout": orders, "edfstore_take/data/a.edf": Q, "edfstore_take/data/b.edf": FILES["half"],
+            "edfstore_take/stdin": long_spelling(), "edfstore_take/data/card.edf": card(), "edfstore_take/stdout": TAKEN}
 
 
 def by_model() -> None:

@@ -150,6 +150,7 @@ fn a_later_record_keeps_behind_the_one_before(rt: HostRuntime) {
     assert_eq!(rt; first, yes);
 }
 
+/// A block, and how it is written again.
 const SPELLINGS: &[(&[u8], &[u8])] = &[
     (
         b"+0\x14\x14\0+180\x14Lights off\x14Close door\x14\0\0",
@@ -210,6 +211,7 @@ fn note(alloc: Global, duration: Option<u64>, text: &str) -> Option<Note> {
     Note::new(Instant::at(EVENING)?, duration, text)
 }
 
+/// A duration in nanoseconds, a text, and whether there is an annotation of them.
 const NOTES: &[(Option<u64>, &str, bool)] = &[
     (None, "", true),
     (Some(0), "Apnea\x15", true),

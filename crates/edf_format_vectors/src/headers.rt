@@ -67,6 +67,7 @@ fn is_told_as(alloc: Global, fault: HeaderFault, text: &str) -> Option<bool> {
     Some(told.as_str() == text)
 }
 
+/// A fault, what it says, and its number.
 const FAULTS: &[(HeaderFault, &str, u8)] = &[
     (HeaderFault::Cut, "the file has fewer than 256 bytes", 1),
     (

@@ -174,6 +174,7 @@ fn fault_at(alloc: Global, at: usize, text: &[u8], len: usize) -> Option<Fragmen
     opening
 }
 
+/// Where another text stands, the text, the length of the file, and the fault.
 const HEADER_FAULTS: &[(usize, &[u8], usize, HeaderFault)] = &[
     (0, b"0", 255, HeaderFault::Cut),
     (168, b"31.02.02", 778, HeaderFault::Startdate),

@@ -65,6 +65,7 @@ fn is_same(alloc: Global, start: u64, byte: u8, text: &str) -> Option<bool> {
     Some(one.same(&record(alloc, start, byte, text)?))
 }
 
+/// The start, the first byte and the text of a data record, and whether it is the same.
 const PARTS: &[(u64, u8, &str, bool)] = &[
     (START, 1, "Turn", true),
     (START + 1, 1, "Turn", false),

@@ -40,6 +40,7 @@ fn is_read_as(alloc: Global, at: usize, text: &[u8], place: usize, block: usize)
     )
 }
 
+/// Where another text stands in the file, the text, where the identity has it, and the bytes of the annotations block.
 const CHANGES: &[(usize, &[u8], usize, usize)] = &[
     (464, b"-440.", 262, 6),
     (472, b"+0.5", 500, 6),
@@ -56,6 +57,7 @@ fn a_signal_part_with_one_change_is_read_as_it_says(rt: HostRuntime) {
     }
 }
 
+/// Where another text stands, the text, and its fault.
 const FAULTS: &[(usize, &[u8], HeaderFault)] = &[
     (
         448,

@@ -46,6 +46,7 @@ fn drained_q(alloc: Global, stop: usize, fails: bool) -> Option<(Option<Fragment
     Some(drained(alloc, &file_q(alloc).ok()?, stop, fails))
 }
 
+/// Where the input ends or fails, how many bytes are asked for, and the fault of an end.
 const ENDS: &[(usize, usize, FragmentFault)] = &[
     (0, 1, FragmentFault::Header(HeaderFault::Cut)),
     (255, 256, FragmentFault::Header(HeaderFault::Cut)),
@@ -80,6 +81,7 @@ fn reads_of_refused(alloc: Global, at: usize, text: &[u8]) -> Option<usize> {
     }
 }
 
+/// Where another text stands, the text, and how many bytes are read.
 const REFUSALS: &[(usize, &[u8], usize)] = &[
     (176, b"24.00.00", 256),
     (272, b"EDF annotations", 768),
@@ -105,6 +107,7 @@ fn sends(alloc: Global, room: usize, full: bool) -> Option<(bool, bool)> {
     Some((whole, got.as_slice() == bytes.get(..room.min(300))?))
 }
 
+/// How many bytes the writer has room for, and whether all are written.
 const ROOMS: &[(usize, bool)] = &[
     (0, false),
     (1, false),

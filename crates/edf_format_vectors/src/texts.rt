@@ -6,6 +6,7 @@ use edf_field::{
 };
 use edf_time::{Day, Instant};
 
+/// A field, and its whole number.
 const WHOLE: &[(&[u8; 8], Option<u32>)] = &[
     (b"28800   ", Some(28_800)),
     (b"00000000", Some(0)),
@@ -26,6 +27,7 @@ fn whole_numbers_are_read_or_refused(rt: HostRuntime) {
     }
 }
 
+/// A field, and its number.
 const SIGNED: &[(&[u8; 8], Option<i32>)] = &[
     (b"-32768  ", Some(-32_768)),
     (b"+2048   ", Some(2_048)),
@@ -45,6 +47,7 @@ fn signed_numbers_are_read_or_refused(rt: HostRuntime) {
     }
 }
 
+/// A field, and its duration in nanoseconds.
 const DURATIONS: &[(&[u8; 8], Option<u64>)] = &[
     (b"1       ", Some(1_000_000_000)),
     (b"0.050000", Some(50_000_000)),
@@ -66,6 +69,7 @@ fn durations_are_read_in_nanoseconds_or_refused(rt: HostRuntime) {
     }
 }
 
+/// A physical minimum and maximum, and whether they differ.
 const PHYSICAL: &[(&[u8; 8], &[u8; 8], bool)] = &[
     (b"-440    ", b"510     ", true),
     (b"1       ", b"0.999999", true),
@@ -85,6 +89,7 @@ fn physical_values_are_compared_as_numbers(rt: HostRuntime) {
     }
 }
 
+/// A text, and whether it is spaces alone.
 const SPACES: &[(&[u8], bool)] = &[
     (b"   ", true),
     (b"", true),
@@ -105,6 +110,7 @@ fn begins(text: &[u8], subfield: &[u8], behind: &[u8]) -> Option<bool> {
     Some(first == subfield && rest == behind)
 }
 
+/// A text, its first subfield, and what is behind that.
 const SUBFIELDS: &[(&[u8], &[u8], &[u8])] = &[
     (
         b"MCH-0234567 F 02-MAY-1951 Haagse_Harry",
@@ -123,6 +129,7 @@ fn subfields_stand_between_spaces(rt: HostRuntime) {
     assert!(rt; next_subfield(b"    ").is_none());
 }
 
+/// A text, and whether it is a patient identification.
 const PATIENTS: &[(&[u8], bool)] = &[
     (b"MCH-0234567 F 02-MAY-1951 Haagse_Harry   ", true),
     (b"X X X X", true),
@@ -175,6 +182,7 @@ fn a_recording_identification_has_a_startdate_and_three_codes(rt: HostRuntime) {
     }
 }
 
+/// A text, and whether it may stand behind the startdate.
 const BEHIND_STARTDATE: &[(&[u8], bool)] = &[
     (b" EMG561 BK/JOP Sony.", true),
     (b"  X X X MNC R Median Nerve. ", true),

@@ -12,6 +12,7 @@ const EVENING: u64 = 541_727_990 * SECOND;
 /// 2084-12-31 23:59:59.999999999
 const LAST: u64 = 3_155_759_999_999_999_999;
 
+/// A text, and its nanoseconds, or its fault.
 const DECIMALS: &[(&str, Result<u64, DecimalFault>)] = &[
     ("0", Ok(0)),
     ("007.50", Ok(7_500_000_000)),
@@ -39,6 +40,7 @@ fn is_written(alloc: Global, nanos: u64, text: &str) -> Option<bool> {
     Some(written.as_slice() == text.as_bytes() && seconds_len(nanos) == text.len())
 }
 
+/// Nanoseconds, and their shortest text.
 const SHORTEST: &[(u64, &str)] = &[
     (0, "0"),
     (1, "0.000000001"),
@@ -64,6 +66,7 @@ fn second_of(date: &[u8; 8], time: &[u8; 8]) -> Result<u64, StartFault> {
     }
 }
 
+/// A startdate, a starttime, and their second, or their fault.
 const STARTS: &[(&[u8; 8], &[u8; 8], Result<u64, StartFault>)] = &[
     (b"01.01.85", b"00.00.00", Ok(0)),
     (b"02.03.02", b"00.00.00", Ok(541_641_600)),
@@ -86,6 +89,7 @@ fn starts_are_read_or_refused(rt: HostRuntime) {
     }
 }
 
+/// A text, and whether it is a date of an identification.
 const DATES: &[(&str, bool)] = &[
     ("02-MAR-2002", true),
     ("29-FEB-2000", true),
@@ -194,6 +198,7 @@ fn are_before(nanos: u64, other: u64) -> Option<bool> {
     Some(one < two && one.day() < day)
 }
 
+/// Where an instant stands, how far it is moved, and where it stands then.
 const MOVES: &[(u64, i64, Option<u64>)] = &[
     (0, LAST as i64, Some(LAST)),
     (LAST, -(LAST as i64), Some(0)),

@@ -45,6 +45,7 @@ fn fault_of_cut_u(alloc: Global, len: usize) -> Option<FragmentFault> {
     fault_of(alloc, file_u(alloc).ok()?.get(..len)?)
 }
 
+/// The length of the file, and its fault.
 const CUTS: &[(usize, FragmentFault)] = &[
     (0, FragmentFault::Header(HeaderFault::Cut)),
     (255, FragmentFault::Header(HeaderFault::Cut)),

@@ -71,6 +71,7 @@ fn a_record_without_annotations_has_a_block(rt: HostRuntime) -> Result<(), Fail>
     Ok(())
 }
 
+/// A start, a block, and whether they are a row of a data record.
 const STARTS: &[(i64, &[u8], bool)] = &[
     (START, BLOCK, true),
     (0, b"+0\x14\x14\0", true),
@@ -90,6 +91,7 @@ fn a_start_is_that_of_the_block_and_inside_the_window(rt: HostRuntime) -> Result
     Ok(())
 }
 
+/// The samples of a row, and whether it is that of a data record.
 const SAMPLES: &[(&[u8], bool)] = &[
     (FOUR, true),
     (b"", false),
@@ -106,6 +108,7 @@ fn a_row_has_as_many_samples_as_the_identity_says(rt: HostRuntime) -> Result<(),
     Ok(())
 }
 
+/// A block, and whether it is spelled as it would be written.
 const SPELLINGS: &[(&[u8], bool)] = &[
     (BLOCK, true),
     (TWO, true),

@@ -31,6 +31,7 @@ fn audited(alloc: Global, made: &str, more: &str) -> Option<(bool, i64, bool)> {
     Some((kept, count, after == before))
 }
 
+/// A name, what makes the file, and whether it has all of our tables.
 const OURS: &[(&str, &str, bool)] = &[
     ("empty", "", false),
     ("the first table", RECORDING, false),
@@ -45,6 +46,7 @@ fn a_file_of_our_tables_alone_gets_those_that_are_missing(rt: HostRuntime) {
     }
 }
 
+/// What makes the file, what is made behind it, and how many tables, indexes and views it has.
 const FOREIGN: &[(&str, &str, i64)] = &[
     ("", "CREATE TABLE record (x)", 1),
     (RECORDING, "CREATE TABLE record (x)", 3),

@@ -1,4 +1,5 @@
-//! Orders of the program `edfstore`, one after another: each word is a line of words, and behind what they write stands their status.
+//! Orders of the program `edfstore`, one after another. Each of this program's words holds the words of one order; behind what that
+//! writes to standard output stands a line with its status.
 #![tactic(auto)]
 
 use edf_host::run_words;
