@@ -186,6 +186,7 @@ fn is_named(alloc: Global, name: &str) -> Option<bool> {
     Some(receipt.identity.same(&identity(alloc)?))
 }
 
+/// A file, and whether its receipt names Q's recording.
 const NAMED: &[(&str, bool)] = &[
     ("q.edf", true),
     ("r9.edf", true),

@@ -8,6 +8,7 @@ fn first_of(alloc: Global, line: &str, want: &str) -> Option<usize> {
     exported(alloc, CAP, line, "export night.db 1", want)
 }
 
+/// What is taken, the file that is exported then, and its length.
 const BY_STARTS: &[(&str, &str, usize)] = &[
     ("take night.db q.edf", "q.edf", 778),
     ("take night.db q.edf q.edf", "q.edf", 778),
@@ -47,6 +48,7 @@ fn refused_files_are_not_exported(rt: HostRuntime) {
     }
 }
 
+/// What is taken, the file that is exported then, and its length.
 const FULL: &[(&str, &str, usize)] = &[
     ("take night.db n1.edf k.edf", "n1.edf", 778),
     (
@@ -65,6 +67,7 @@ fn a_full_recording_is_exported_as_it_was(rt: HostRuntime) {
     }
 }
 
+/// What is taken, the file that is exported then, and its length.
 const ONSETS: &[(&str, &str, usize)] = &[
     ("take night.db fraction.edf", "fraction.edf", 788),
     ("take night.db last.edf", "last.edf", 780),
@@ -88,6 +91,7 @@ fn an_undated_recording_is_exported_beside_a_dated_one(rt: HostRuntime) {
     assert_eq!(rt; undated, Some(778));
 }
 
+/// What is asked for, the file that is written, and its length.
 const CONVERTED: &[(&str, &str, usize)] = &[
     ("", "q.edf", 778),
     ("convert -", "q.edf", 778),

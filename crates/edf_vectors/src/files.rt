@@ -199,10 +199,11 @@ pub(crate) fn expected(alloc: Global, name: &str) -> Option<Vec<u8>> {
 }
 
 /// The data record of P5, 15 seconds behind Q's: the annotations have TALs of their own.
-const P5_BEHIND_Q: &[u8] = b"\x02\0\xfe\xff+15\x14\x14\0+15.5\x14Snore\x14\0+15.5\x14Turn\x14\0\0";
+pub(crate) const P5_BEHIND_Q: &[u8] =
+    b"\x02\0\xfe\xff+15\x14\x14\0+15.5\x14Snore\x14\0+15.5\x14Turn\x14\0\0";
 
-/// The data records of Q and P5.
-fn q_and_p5(alloc: Global) -> Option<Vec<u8>> {
+/// The data records of Q and P5: 840 bytes.
+pub(crate) fn q_and_p5(alloc: Global) -> Option<Vec<u8>> {
     let header = evening("23.59.50", "2", "16");
     let first = b"\x01\0\xff\xff+0\x14\x14\0";
     file(alloc, &header, &[first, ZEROS, P5_BEHIND_Q]).ok()

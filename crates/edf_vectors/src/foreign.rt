@@ -84,6 +84,7 @@ fn opened_behind(alloc: Global, sql: &str, cap: u32) -> Option<(u8, bool)> {
 const TOUCHING: &str =
     "INSERT INTO record SELECT recording, 541727991000000000, x'0100FFFF', x'2B353431373237393931141400' FROM record";
 
+/// What is done to the file, the cap that it is opened with, and the number of the refusal, 0 for none.
 const FOREIGN: &[(&str, u32, u8)] = &[
     ("", 1, 0),
     ("INSERT INTO recording (identity) VALUES (x'00')", 9, 45),

@@ -1,23 +1,17 @@
 //! Stores, what they answer and what they hold.
 
+use crate::files::q_and_p5;
+use crate::intake::Answer;
 use crate::stage::{CAP, empty_store};
 use edf_export::export;
 use edf_fragment::{Counted, Input};
 use edf_header::Identity;
-use edf_intake::{Refusal, submit};
+use edf_intake::submit;
 use edf_sample::named::{file_p5, file_q};
-use edf_sample::{Sink, Source, file, q};
+use edf_sample::{Sink, Source};
 use edf_store::Store;
 use sqlite::{Alter, MemStore};
 use std::alloc::Global;
-
-/// What a submission is answered: how many data records were added and how many were known, or why it is refused.
-pub(crate) type Answer = Result<(u32, u32), Refusal>;
-
-/// A store in memory, of nothing.
-pub(crate) fn empty(alloc: Global) -> Option<Store<MemStore>> {
-    empty_store(alloc, CAP)
-}
 
 pub(crate) fn submitted<S: Alter, R: Input>(
     alloc: Global,
@@ -39,7 +33,7 @@ pub(crate) fn taken<S: Alter>(alloc: Global, store: &mut Store<S>, bytes: &[u8])
 /// A store of Q.
 pub(crate) fn store_of_q(alloc: Global) -> Option<Store<MemStore>> {
     let bytes = file_q(alloc).ok()?;
-    let mut store = empty(alloc)?;
+    let mut store = empty_store(alloc, CAP)?;
     taken(alloc, &mut store, &bytes).ok()?;
     Some(store)
 }
@@ -50,14 +44,6 @@ pub(crate) fn store_of_both(alloc: Global) -> Option<Store<MemStore>> {
     let mut store = store_of_q(alloc)?;
     taken(alloc, &mut store, &bytes).ok()?;
     Some(store)
-}
-
-/// The canonical file of P5 and Q: 840 bytes.
-pub(crate) fn canonical_both(alloc: Global) -> Option<Vec<u8>> {
-    let header = q().count("2").annotations_samples("16");
-    let first = b"\x01\0\xff\xff+0\x14\x14\0";
-    let second = b"\x02\0\xfe\xff+15\x14\x14\0+15.5\x14Snore\x14\0+15.5\x14Turn\x14\0\0";
-    file(alloc, &header, &[first, &[0; 27], second]).ok()
 }
 
 /// The canonical file of an identity.
@@ -110,7 +96,7 @@ pub(crate) fn holds_q(alloc: Global, store: &mut Store<MemStore>) -> bool {
 
 /// Whether a store holds P5 and Q and nothing else.
 pub(crate) fn holds_both(alloc: Global, store: &mut Store<MemStore>) -> bool {
-    match canonical_both(alloc) {
+    match q_and_p5(alloc) {
         Some(bytes) => holds(alloc, store, 2, &bytes),
         None => false,
     }

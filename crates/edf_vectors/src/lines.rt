@@ -2,7 +2,9 @@
 
 ghost use Rattle.std.specs.Prelude.{None};
 
-use crate::held::{canonical_both, empty, holds_both, store_of_both};
+use crate::files::q_and_p5;
+use crate::held::{holds_both, store_of_both};
+use crate::stage::{CAP, empty_store};
 use edf_command::{Inputs, Order, Status, run};
 use edf_fragment::Counted;
 use edf_sample::named::{file_p5, file_q};
@@ -82,7 +84,7 @@ pub(crate) fn ran(
 fn took(alloc: Global, out: usize, full: bool) -> Option<(Status, bool)> {
     let (p5, q) = (file_p5(alloc).ok()?, file_q(alloc).ok()?);
     let mut shelf = Shelf { p5: &p5, q: &q };
-    let mut store = empty(alloc)?;
+    let mut store = empty_store(alloc, CAP)?;
     let mut said = silence(alloc)?;
     let order = take_both(alloc)?;
     let err = 100;
@@ -140,7 +142,7 @@ fn sent(alloc: Global, place: u32, out: usize, err: usize) -> Option<(Status, Sa
 
 /// The status where there is so much room for the file, and whether just so many bytes of it went out, and a line why no more.
 fn sent_file(alloc: Global, out: usize) -> Option<(Status, bool)> {
-    let wanted = canonical_both(alloc)?;
+    let wanted = q_and_p5(alloc)?;
     let (status, said) = sent(alloc, 1, out, 100)?;
     let front = said.out.as_slice() == wanted.get(..out)?;
     Some((

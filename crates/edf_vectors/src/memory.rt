@@ -1,9 +1,10 @@
 //! Memory that runs out, under each budget until one suffices.
 
-use crate::held::{
-    Answer, canonical_both, empty, held, holds_both, store_of_both, submitted, taken,
-};
+use crate::files::q_and_p5;
+use crate::held::{held, holds_both, store_of_both, submitted, taken};
+use crate::intake::Answer;
 use crate::lines::{LINES, Room, Said, Shelf, ran, silence, take_both};
+use crate::stage::{CAP, empty_store};
 use edf_command::Status;
 use edf_export::export;
 use edf_fragment::Counted;
@@ -60,7 +61,7 @@ fn serves(first: Answer, second: Answer) -> Option<Served> {
 /// is memory.
 fn submit_under(alloc: Global, scarce: &mut Scarce, budget: usize) -> Option<Served> {
     let (p5, q) = (file_p5(alloc).ok()?, file_q(alloc).ok()?);
-    let mut store = empty(alloc)?;
+    let mut store = empty_store(alloc, CAP)?;
     if !scarce.leave(alloc, budget) {
         return None;
     }
@@ -85,7 +86,7 @@ fn submit_under(alloc: Global, scarce: &mut Scarce, budget: usize) -> Option<Ser
 
 /// Exports P5 and Q under a budget: a front of the file, or all of it.
 fn export_under(alloc: Global, scarce: &mut Scarce, budget: usize) -> Option<Served> {
-    let wanted = canonical_both(alloc)?;
+    let wanted = q_and_p5(alloc)?;
     let mut store = store_of_both(alloc)?;
     let identity = store.identities().ok()?.pop()?;
     let mut got = Vec::with_capacity(alloc, 1_000).ok()?;
@@ -138,7 +139,7 @@ fn accepts_all(
 /// Submits N1 and N2 in one list under a budget. A list that is not begun is accepted behind that, from the same readers.
 fn list_under(alloc: Global, scarce: &mut Scarce, budget: usize) -> Option<Served> {
     let (n1, n2) = (file_n1(alloc).ok()?, file_n2(alloc).ok()?);
-    let mut store = empty(alloc)?;
+    let mut store = empty_store(alloc, CAP)?;
     let mut inputs = [
         Counted::new(Source::whole(&n1, 300)),
         Counted::new(Source::whole(&n2, 300)),
@@ -162,6 +163,7 @@ fn list_under(alloc: Global, scarce: &mut Scarce, budget: usize) -> Option<Serve
     }
 }
 
+/// What is written of two files, and how few and how many data records may be held then.
 const SHORTAGES: &[(&[u8], u32, u32)] = &[
     (b"", 0, 2),
     (b"p5.edf accepted new=1 known=0\n", 1, 2),
@@ -213,7 +215,7 @@ fn take_under(alloc: Global, scarce: &mut Scarce, budget: usize) -> Option<Serve
     let (p5, q) = (file_p5(alloc).ok()?, file_q(alloc).ok()?);
     let mut shelf = Shelf { p5: &p5, q: &q };
     let order = take_both(alloc)?;
-    let mut store = empty(alloc)?;
+    let mut store = empty_store(alloc, CAP)?;
     let mut said = silence(alloc)?;
     if !scarce.leave(alloc, budget) {
         return None;
@@ -285,7 +287,7 @@ fn an_order_without_memory_tells_what_became_of_each_file(rt: HostRuntime) {
 
 /// How many answers a list of no files has, and how many data records are held then.
 fn empty_list(alloc: Global) -> Option<(usize, u32)> {
-    let mut store = empty(alloc)?;
+    let mut store = empty_store(alloc, CAP)?;
     let inputs: &mut [Counted<Source<'_>>] = &mut [];
     let answers = submit_all(alloc, &mut store, inputs).ok()?;
     let (records, _) = held(alloc, &mut store)?;

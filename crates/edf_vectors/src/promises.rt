@@ -1,6 +1,8 @@
 //! Headers that promise too much, and annotations that are too long.
 
-use crate::held::{Answer, empty, taken, told};
+use crate::held::{taken, told};
+use crate::intake::Answer;
+use crate::stage::{CAP, empty_store};
 use edf_fragment::FragmentFault;
 use edf_header::HeaderFault;
 use edf_intake::Refusal;
@@ -97,7 +99,7 @@ fn long_text(alloc: Global, len: usize, samples: &str) -> Option<Vec<u8>> {
 /// What an empty store answers a text of as many bytes as a data record may have.
 fn told_of_longest(alloc: Global) -> Option<Answer> {
     let bytes = long_text(alloc, 1_000_000, "500005")?;
-    Some(taken(alloc, &mut empty(alloc)?, &bytes))
+    Some(taken(alloc, &mut empty_store(alloc, CAP)?, &bytes))
 }
 
 /// What a store of Q answers a text of one byte more.

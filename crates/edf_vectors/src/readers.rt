@@ -1,6 +1,7 @@
 //! Readers that fail.
 
-use crate::held::{Answer, holds_q, store_of_q, submitted, taken, told};
+use crate::held::{holds_q, store_of_q, submitted, taken, told};
+use crate::intake::Answer;
 use edf_fragment::{Counted, FragmentFault};
 use edf_intake::Refusal;
 use edf_sample::named::file_p5;

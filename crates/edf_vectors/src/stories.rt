@@ -8,6 +8,7 @@ use edf_sample::Sink;
 use edf_store::StoreFault;
 use std::alloc::Global;
 
+/// Words, and what is told of them.
 const FIT: &[(&str, &str)] = &[
     (
         "take night.db q.edf q.edf",
@@ -45,6 +46,7 @@ fn files_that_fit_are_accepted_with_what_they_add(rt: HostRuntime) {
     }
 }
 
+/// Words, and what is told of them.
 const MANY: &[(&str, &str)] = &[
     (
         "take night.db q_and_p5.edf undated.edf last.edf u.edf",
@@ -81,6 +83,7 @@ fn is_refused_alone(alloc: Global, line: &str, want: &str) -> Option<bool> {
     Some(got == all)
 }
 
+/// Words, and what is told of them.
 const FORM: &[(&str, &str)] = &[
     ("take night.db empty.edf", "empty.edf refused E1 Cut\n"),
     (
@@ -134,6 +137,7 @@ fn is_refused_behind_q(alloc: Global, line: &str, want: &str) -> Option<bool> {
     Some(got == all)
 }
 
+/// Words, and what is told of them.
 const CLASH: &[(&str, &str)] = &[
     (
         "take night.db half.edf",
@@ -161,6 +165,7 @@ fn files_that_clash_are_refused_with_the_starts(rt: HostRuntime) {
     }
 }
 
+/// Words, and what is told of them.
 const FULL: &[(&str, &str)] = &[
     (
         "take night.db n1.edf k.edf; list night.db",
@@ -212,6 +217,7 @@ fn a_night_is_taken_and_listed_and_has_no_second_place(rt: HostRuntime) {
     assert_eq!(rt; got.as_deref(), Some(want));
 }
 
+/// Words, and what is told of them.
 const LISTED: &[(&str, &str)] = &[
     (
         "take night.db undated.edf q.edf",
@@ -258,6 +264,7 @@ fn status_in_room(alloc: Global, room: usize, line: &str) -> Option<Status> {
     Some(outcome.status)
 }
 
+/// Words, and what is told of them.
 const MISSING: &[(&str, &str)] = &[
     (
         "take night.db missing.edf q.edf",
@@ -322,6 +329,7 @@ fn a_store_that_cannot_be_opened_is_told_by_its_fault(rt: HostRuntime) {
     }
 }
 
+/// Words, the status, and whether something is written to standard output and to standard error.
 const USAGE: &[(&str, u8, bool, bool)] = &[
     ("export night.db 0", 2, false, true),
     ("take night.db", 2, false, true),

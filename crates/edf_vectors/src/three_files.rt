@@ -1,6 +1,6 @@
 //! Three files of one recording, and its canonical file after each.
 
-use crate::held::canonical_both;
+use crate::files::{P5_BEHIND_Q, q_and_p5};
 use edf_sample::named::{file_k, file_p5, file_q};
 use edf_sample::{file, q};
 use std::alloc::{AllocError, Global};
@@ -24,10 +24,6 @@ fn after_p5(alloc: Global) -> Result<Vec<u8>, AllocError> {
 
 /// What fills a block of annotations of 32 bytes.
 const EMPTY: &[u8] = &[0; 32];
-
-/// P5's data record in a file that begins with Q's.
-const P5_BEHIND_Q: &[u8] =
-    b"\x02\x00\xfe\xff+15\x14\x14\0+15.5\x14Snore\x14\0+15.5\x14Turn\x14\0\0";
 
 fn after_k(alloc: Global) -> Result<Vec<u8>, AllocError> {
     let header = q().count("5").annotations_samples("16");
@@ -57,7 +53,7 @@ pub(crate) fn three_files(alloc: Global) -> Option<Night> {
     let exports = vec![in alloc;
         nothing,
         after_p5(alloc).ok()?,
-        canonical_both(alloc)?,
+        q_and_p5(alloc)?,
         after_k(alloc).ok()?,
     ]
     .ok()?;

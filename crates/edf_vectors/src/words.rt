@@ -27,6 +27,7 @@ fn shows(alloc: Global, line: &str, begin: &str, text: &str) -> Option<bool> {
     Some(got.as_str().starts_with(begin) && got.as_str().contains(text))
 }
 
+/// Words, and their order.
 const ORDERS: &[(&str, &str)] = &[
     ("", "convert -"),
     ("convert -", "convert -"),
@@ -57,6 +58,7 @@ fn has_path(alloc: Global, line: &str, path: Option<&str>) -> Option<bool> {
     Some(store_path(&order) == path)
 }
 
+/// Words, and the path of the store that their order names.
 const STORES: &[(&str, Option<&str>)] = &[
     ("take night.db a.edf", Some("night.db")),
     ("list night.db", Some("night.db")),
@@ -75,6 +77,7 @@ fn an_order_has_the_path_of_its_store_but_for_one_in_memory(rt: HostRuntime) {
     }
 }
 
+/// Words, how what they are told begins, and a text that it has.
 const TOLD: &[(&str, &str, &str)] = &[
     ("list", "usage: ", "<STORE>"),
     ("list night.db 1", "usage: ", "'1'"),

@@ -1,6 +1,7 @@
 //! Exports to writers that take their bytes in pieces, and stop.
 
-use crate::held::{canonical_both, store_of_both};
+use crate::files::q_and_p5;
+use crate::held::store_of_both;
 use edf_export::{ExportFault, export};
 use edf_fragment::Counted;
 use edf_header::Identity;
@@ -20,7 +21,7 @@ fn stopped(
     room: usize,
     full: bool,
 ) -> Option<Sent> {
-    let wanted = canonical_both(alloc)?;
+    let wanted = q_and_p5(alloc)?;
     let mut got = Vec::new(alloc);
     let mut out = Counted::new(Sink::of_room(&mut got, room, full));
     let answer = export(alloc, store, identity, &mut out);
@@ -51,7 +52,7 @@ fn a_writer_that_stops_has_the_front_of_the_file(rt: HostRuntime) {
 
 /// An export to a writer that takes one byte a write.
 fn byte_by_byte(alloc: Global) -> Option<Sent> {
-    let wanted = canonical_both(alloc)?;
+    let wanted = q_and_p5(alloc)?;
     let mut store = store_of_both(alloc)?;
     let identity = store.identities().ok()?.pop()?;
     let mut got = Vec::new(alloc);
