@@ -1,7 +1,7 @@
 #!/usr/bin/env python3
 """The files of the programs' stored runs, which the gate runs: compared with those made here, and run; or written anew.
 
-    bench/lines/stored.py [--program PATH] [--write]       --write: writes stdin, stdout and data/ of the three crates
+    bench/lines/stored.py [--program PATH] [--write]       --write: writes stdin, stdout and data/ of the two crates
 
 What goes in is built field by field; what must come out is written below by hand, and compared with the plain model. Of the
 program's own making is only the store that `list` and `export` are given: the identity, start and samples of each row of it are
@@ -24,6 +24,7 @@ Q, P5, R9, K, U = (FILES[letter] for letter in ("Q", "P5", "R9", "K", "U"))
 MARCH_3 = {"startdate": "03.03.02", "recording": "Startdate 03-MAR-2002 N1 T3 REC5"}
 HOUR = 3610     # seconds from Q's start to one in the morning
 MANY = 600
+ORDERS = ("list held.db", "export held.db 2", "convert cut.edf", "export held.db 0")     # of edfstore_orders, behind its words
 
 
 def nap() -> bytes:
@@ -88,10 +89,10 @@ def store(program: Path, folder: Path) -> bytes:
 
 def files_of(held: bytes) -> dict:
     """Every stored file by its path."""
-    orders = b"".join((LISTED, b"status 0\n", exported(), b"status 0\n", b"status 1\n", b"status 2\n"))
-    return {"edfstore/stdin": Q, "edfstore/stdout": Q, "edfstore_orders/data/night.db": held, "edfstore_orders/data/cut.edf": Q[:-1],
-            "edfstore_orders/stdout": orders, "edfstore_take/data/a.edf": Q, "edfstore_take/data/b.edf": FILES["half"],
-            "edfstore_take/stdin": long_spelling(), "edfstore_take/data/card.edf": card(), "edfstore_take/stdout": TAKEN}
+    orders = b"".join((TAKEN, LISTED, b"status 0\n", exported(), b"status 0\n", b"status 1\n", b"status 2\n"))
+    return {"edfstore/stdin": Q, "edfstore/stdout": Q, "edfstore_orders/data/held.db": held, "edfstore_orders/data/cut.edf": Q[:-1],
+            "edfstore_orders/data/a.edf": Q, "edfstore_orders/data/b.edf": FILES["half"], "edfstore_orders/data/card.edf": card(),
+            "edfstore_orders/stdin": long_spelling(), "edfstore_orders/stdout": orders}
 
 
 def by_model() -> None:
@@ -146,12 +147,11 @@ def run(program: Path, crate: Path, folder: Path) -> bool:
         shutil.copytree(crate / "data", room, dirs_exist_ok=True)
     words, given, wanted, status = (
         (crate / name).read_bytes() if (crate / name).exists() else b"" for name in ("args", "stdin", "stdout", "status"))
-    lines = words.decode().splitlines()
+    told, ends = call(program, words.decode().splitlines(), given, room)
     if crate.name == "edfstore_orders":
-        ended = [call(program, line.split(), given, room) for line in lines]
-        told, ends = b"".join(out + f"status {end}\n".encode() for out, end in ended), 0
-    else:
-        told, ends = call(program, lines, given, room)
+        for order in ORDERS:
+            out, end = call(program, order.split(), b"", room)
+            told += out + f"status {end}\n".encode()
     is_well = told == wanted and ends == int(status or 0)
     print(f"{crate.name} {'ran, and wrote what it must' if is_well else 'FAILED'}")
     return is_well

@@ -1,10 +1,19 @@
-//! Orders of the program `edfstore`, one after another. Each of this program's words holds the words of one order; behind what that
-//! writes to standard output stands a line with its status.
+//! The program `edfstore`, run, and then orders of it, one after another: behind what each writes to standard output stands a line with
+//! its status.
 #![tactic(auto)]
 
-use edf_host::run_words;
+use edf_host::{run_program, run_words};
 use std::alloc::AllocError;
-use std::{env, io};
+use std::io;
+use std::process::ExitCode;
+
+/// The words of each order.
+const ORDERS: &[&str] = &[
+    "list held.db",
+    "export held.db 2",
+    "convert cut.edf",
+    "export held.db 0",
+];
 
 /// The words of a line.
 fn words_of(rt: &HostRuntime, line: &str) -> Result<Vec<String>, AllocError> {
@@ -15,12 +24,19 @@ fn words_of(rt: &HostRuntime, line: &str) -> Result<Vec<String>, AllocError> {
     Ok(words)
 }
 
-fn main(rt: HostRuntime) -> io::Result<()> {
-    let lines: Vec<String> = env::args(&rt)?.skip(1).collect(rt.alloc())?;
-    for line in lines.as_slice() {
-        let words = words_of(&rt, line)?;
-        let status = run_words(&rt, words.as_slice());
+fn run_orders(rt: &HostRuntime) -> io::Result<()> {
+    for line in ORDERS.iter().copied() {
+        let words = words_of(rt, line)?;
+        let status = run_words(rt, words.as_slice());
         println!(rt; "status {}", status.code())?;
     }
     Ok(())
+}
+
+fn main(rt: HostRuntime) -> ExitCode {
+    let status = run_program(&rt);
+    match run_orders(&rt) {
+        Ok(()) => status,
+        Err(_) => ExitCode::FAILURE,
+    }
 }
