@@ -1,4 +1,5 @@
 pub mod WalkLemmas
+pub mod RefusedLemmas
 pub mod StandLemmas
 pub mod CheckLemmas
 pub mod CountLemmas

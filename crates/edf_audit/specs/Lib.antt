@@ -1,4 +1,5 @@
 pub mod All
 pub mod File
 pub mod Kept
+pub mod Refused
 pub mod Walk

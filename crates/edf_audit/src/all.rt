@@ -1,11 +1,12 @@
 //! All rows of both tables.
 
-ghost use Rattle.std.specs.Prelude.{◌≡◌, ◌<◌, ◌^◌, ◌-◌, IfOk, OnOk, OnErr, IfSome, IsPermutation, IsTrue};
+ghost use Rattle.std.specs.Prelude.{◌≡◌, ◌<◌, ◌^◌, ◌-◌, IfOk, IfErr, OnOk, OnErr, IfSome, IsPermutation, IsTrue};
 ghost use Rattle.sqlite.specs.Held.{state};
 ghost use Rattle.sqlite.specs.State.{HasCleanDisk, IsLive, Survives, KeepsCommit};
 ghost use Rattle.edf_tables.specs.Schema.{both_schema};
 ghost use Rattle.edf_rows.specs.Cells.{recordings_in};
 ghost use Rattle.edf_audit.specs.Kept.{KeepsRows};
+ghost use Rattle.edf_audit.specs.Refused.{IsUnchecked};
 ghost use Rattle.edf_audit.specs.All.{IsAfter, Counts, Answers};
 
 use crate::check::check_row;
@@ -38,7 +39,7 @@ fn next_id(row: &Row, last: Option<i64>) -> Option<i64>
 ///
 /// # Errors
 /// `sqlite`'s; `OutOfMemory` where memory runs out; `DatabaseCorrupt` where rows come out of the order that was asked for;
-/// `IntegerOverflow` where there are `MOST_COUNTED` records or more.
+/// `IntegerOverflow` where the recordings have `MOST_COUNTED` records or more.
 fn count_owned<S: Alter>(
     alloc: Global,
     conn: &mut Connection<S>,
@@ -48,6 +49,7 @@ fn count_owned<S: Alter>(
     requires cap { cap < 2 ^ 32 - 1 }
     requires schema { HasCleanDisk (state S.Store conn.old) → (state S.Store conn.old).now.schema ≡ both_schema }
     requires listed { HasCleanDisk (state S.Store conn.old) → IsPermutation (recordings_in (state S.Store conn.old).now.trees) rows.now }
+    ensures why { HasCleanDisk (state S.Store conn.new) → IfErr result (IsUnchecked (state S.Store conn.old) (state S.Store conn.new)) }
     ensures counts { HasCleanDisk (state S.Store conn.new) → IfOk result (Counts cap (state S.Store conn.old).now.trees rows.now) }
     ensures low { IfOk result (λ o. IfSome o (λ sum. sum < 2 ^ 63 - 1)) }
     ensures same { HasCleanDisk (state S.Store conn.new) → OnOk result (KeepsRows (state S.Store conn.old) (state S.Store conn.new)) }
@@ -84,10 +86,11 @@ fn obey<S: Alter>(conn: &Connection<S>)
 ///
 /// # Errors
 /// `sqlite`'s; `OutOfMemory` where memory runs out; `DatabaseCorrupt` where rows come out of the order that was asked for;
-/// `IntegerOverflow` where there are 9,223,372,036,854,775,807 records or more.
+/// `IntegerOverflow` where the recordings have 9,223,372,036,854,775,807 records or more.
 pub fn check_all<S: Alter>(alloc: Global, conn: &mut Connection<S>, cap: u32) -> Result<bool, Error>
     requires cap { cap < 2 ^ 32 - 1 }
     requires schema { HasCleanDisk (state S.Store conn.old) → (state S.Store conn.old).now.schema ≡ both_schema }
+    ensures why { HasCleanDisk (state S.Store conn.new) → IfErr result (IsUnchecked (state S.Store conn.old) (state S.Store conn.new)) }
     ensures answers { HasCleanDisk (state S.Store conn.new) → IfOk result (Answers cap (state S.Store conn.old).now.trees) }
     ensures same { HasCleanDisk (state S.Store conn.new) → OnOk result (KeepsRows (state S.Store conn.old) (state S.Store conn.new)) }
     ensures is_open { HasCleanDisk (state S.Store conn.new) → OnOk result (IsTrue (state S.Store conn.new).is_open) }

@@ -1,10 +1,11 @@
 //! One row of the table of recordings, and its records.
 
-ghost use Rattle.std.specs.Prelude.{◌≡◌, ◌<◌, ◌^◌, ◌-◌, IfOk, OnOk, OnErr};
+ghost use Rattle.std.specs.Prelude.{◌≡◌, ◌<◌, ◌^◌, ◌-◌, IfOk, IfErr, OnOk, OnErr};
 ghost use Rattle.sqlite.specs.Held.{state};
 ghost use Rattle.sqlite.specs.State.{HasCleanDisk, Survives, KeepsCommit, IsUnchanged};
 ghost use Rattle.edf_tables.specs.Schema.{both_schema};
 ghost use Rattle.edf_audit.specs.Kept.{KeepsRows, Checks};
+ghost use Rattle.edf_audit.specs.Refused.{IsUnchecked};
 
 use crate::walk::check_recording;
 use edf_header::{Identity, IdentityFault};
@@ -24,6 +25,7 @@ pub fn check_row<S: Alter>(
 ) -> Result<Option<u32>, Error>
     requires cap { cap < 2 ^ 32 - 1 }
     requires schema { HasCleanDisk (state S.Store conn.old) → (state S.Store conn.old).now.schema ≡ both_schema }
+    ensures why { HasCleanDisk (state S.Store conn.new) → IfErr result (IsUnchecked (state S.Store conn.old) (state S.Store conn.new)) }
     ensures told { HasCleanDisk (state S.Store conn.new) → IfOk result (Checks cap (state S.Store conn.old).now.trees row.now) }
     ensures same { HasCleanDisk (state S.Store conn.new) → OnOk result (KeepsRows (state S.Store conn.old) (state S.Store conn.new)) }
     ensures refused { HasCleanDisk (state S.Store conn.new) → OnErr result (KeepsCommit (state S.Store conn.old) (state S.Store conn.new)) }

@@ -1,11 +1,12 @@
 //! The tables of a file, made and checked.
 
-ghost use Rattle.std.specs.Prelude.{◌≡◌, ◌<◌, ◌^◌, ◌-◌, Ok, false, IfOk, OnOk, IsTrue};
+ghost use Rattle.std.specs.Prelude.{◌≡◌, ◌<◌, ◌^◌, ◌-◌, Ok, false, IfOk, IfErr, OnOk, IsTrue};
 ghost use Rattle.sqlite.specs.Held.{state};
 ghost use Rattle.sqlite.specs.State.{HasCleanDisk, Survives};
 ghost use Rattle.edf_tables.specs.Made.{IsOurs, HasTables, IsMadeOf};
 ghost use Rattle.edf_audit.specs.All.{Answers};
 ghost use Rattle.edf_audit.specs.File.{Audits};
+ghost use Rattle.edf_audit.specs.Refused.{IsUnaudited};
 
 use crate::all::check_all;
 use edf_schema::is_ours;
@@ -26,6 +27,7 @@ fn audit_tables<S: Alter>(alloc: Global, conn: &mut Connection<S>, cap: u32) -> 
     ensures is_open { HasCleanDisk (state S.Store conn.new) → OnOk result (IsTrue (state S.Store conn.new).is_open) }
     ensures settled { HasCleanDisk (state S.Store conn.new) → OnOk result ((state S.Store conn.new).committed ≡ (state S.Store conn.new).now) }
     ensures idle { HasCleanDisk (state S.Store conn.new) → OnOk result ((state S.Store conn.new).in_transaction ≡ false) }
+    ensures why { HasCleanDisk (state S.Store conn.new) → IfErr result (IsUnaudited (state S.Store conn.old) (state S.Store conn.new)) }
     ensures survives { Survives (state S.Store conn.old) (state S.Store conn.new) (IsMadeOf (state S.Store conn.old).now) }
 {
     create_tables(conn)?;
@@ -40,14 +42,16 @@ fn audit_tables<S: Alter>(alloc: Global, conn: &mut Connection<S>, cap: u32) -> 
 /// A file with any other table, index or view, or with other columns under our names, is left as it is.
 ///
 /// # Errors
-/// `sqlite`'s; the rows stay, and tables may have been made. Of its own, in `sqlite`'s words: `OutOfMemory` where memory runs out;
-/// `TransactionState` where a transaction is open; `DatabaseCorrupt` where rows come out of the order that was asked for;
-/// `IntegerOverflow` where there are 9,223,372,036,854,775,807 records or more. A crash leaves no table, the first, or both.
+/// `sqlite`'s; the committed rows stay, an open transaction may be undone, and tables may have been made. Of its own, in `sqlite`'s
+/// words: `OutOfMemory` where memory runs out; `TransactionState` where a transaction is open; `DatabaseCorrupt` where rows come out
+/// of the order that was asked for; `IntegerOverflow` where the recordings have 9,223,372,036,854,775,807 records or more. A crash
+/// leaves no table, the first, or both.
 pub fn audit<S: Alter>(alloc: Global, conn: &mut Connection<S>, cap: u32) -> Result<bool, Error>
     requires { cap < 2 ^ 32 - 1 }
     ensures other { ¬ IsOurs (state S.Store conn.old).now → (result ≡ Ok false) × (conn.new ≡ conn.old) }
     ensures tables { IsOurs (state S.Store conn.old).now → HasCleanDisk (state S.Store conn.new) → OnOk result (HasTables (state S.Store conn.old).now (state S.Store conn.new).now) }
     ensures answers { HasCleanDisk (state S.Store conn.new) → IfOk result (Audits cap (state S.Store conn.old) (state S.Store conn.new)) }
+    ensures why { HasCleanDisk (state S.Store conn.new) → IfErr result (IsUnaudited (state S.Store conn.old) (state S.Store conn.new)) }
     ensures survives { Survives (state S.Store conn.old) (state S.Store conn.new) (IsMadeOf (state S.Store conn.old).now) }
 {
     if !is_ours(conn.schema()) {

@@ -1,12 +1,13 @@
 //! The rows of one recording, each read once.
 
-ghost use Rattle.std.specs.Prelude.{◌≡◌, ◌<◌, ◌^◌, ◌-◌, ℕ, IfOk, OnOk, OnErr, MatchOption};
+ghost use Rattle.std.specs.Prelude.{◌≡◌, ◌<◌, ◌^◌, ◌-◌, ℕ, IfOk, IfErr, OnOk, OnErr, MatchOption};
 ghost use Rattle.sqlite.specs.Held.{state};
 ghost use Rattle.sqlite.specs.State.{HasCleanDisk, Survives, KeepsCommit, IsUnchanged};
 ghost use Rattle.edf_field.specs.Number.{duration_of};
 ghost use Rattle.edf_tables.specs.Schema.{both_schema};
 ghost use Rattle.edf_rows.specs.Cells.{records_in};
 ghost use Rattle.edf_rows.specs.Foreign.{IsBadRow};
+ghost use Rattle.edf_audit.specs.Refused.{IsRowRefused, IsUnchecked};
 ghost use Rattle.edf_audit.specs.Walk.{IsStartOf, IsNext, IsWrong, Tells};
 
 use edf_header::Identity;
@@ -43,7 +44,8 @@ fn next_start(
     row: &Row,
     last: Option<Instant>,
 ) -> Result<Option<Instant>, Error>
-    ensures { IfOk result (λ o. MatchOption o (IsWrong identity.now last row.now) (IsNext identity.now last row.now)) }
+    ensures told { IfOk result (λ o. MatchOption o (IsWrong identity.now last row.now) (IsNext identity.now last row.now)) }
+    ensures why { IfErr result IsRowRefused }
 {
     let start = match start_in(alloc, identity, row) {
         Ok(Some(start)) => start,
@@ -78,6 +80,7 @@ pub fn check_recording<S: Alter>(
     requires long { 0 < duration_of identity.now.duration }
     requires cap { cap < 2 ^ 32 - 1 }
     requires schema { HasCleanDisk (state S.Store conn.old) → (state S.Store conn.old).now.schema ≡ both_schema }
+    ensures why { HasCleanDisk (state S.Store conn.new) → IfErr result (IsUnchecked (state S.Store conn.old) (state S.Store conn.new)) }
     ensures told { HasCleanDisk (state S.Store conn.new) → IfOk result (Tells cap identity.now (records_in (state S.Store conn.old).now.trees recording)) }
     ensures same { HasCleanDisk (state S.Store conn.new) → OnOk result (IsUnchanged (state S.Store conn.old) (state S.Store conn.new)) }
     ensures refused { HasCleanDisk (state S.Store conn.new) → OnErr result (KeepsCommit (state S.Store conn.old) (state S.Store conn.new)) }

@@ -1,3 +1,4 @@
+pub mod AloneTexts
 pub mod AnswerLemmas
 pub mod ApartLemmas
 pub mod CommitLemmas
@@ -8,10 +9,13 @@ pub mod KeepLemmas
 pub mod Queries
 pub mod QueryTexts
 pub mod ReadLemmas
+pub mod RefusedLemmas
 pub mod ShownLemmas
 pub mod SortLemmas
 pub mod StepLemmas
 pub mod TablesLemmas
 pub mod TermLemmas
 pub mod TextLemmas
+pub mod TurnLemmas
+pub mod UnaddedLemmas
 pub mod WriteLemmas

@@ -1,5 +1,5 @@
 -- What each query shows of the rows.
-use Rattle.std.proofs.Common.{◌≡◌, ℕ, ℤ, pos, Bool, true, ◌&&◌, List, [], ◌∷◌, ◌++◌, map, filter, length, reverse, take, min, slice_get, Option, Some, None, Contains, refl, sym, ap, subst, ◌∙◌, arith, Less, IsPermutation}
+use Rattle.std.proofs.Common.{◌≡◌, ◌≢◌, ℕ, ℤ, pos, Bool, true, ◌&&◌, List, [], ◌∷◌, ◌++◌, map, filter, length, reverse, take, min, slice_get, Option, Some, None, Contains, refl, sym, ap, subst, ◌∙◌, arith, Less, IsPermutation}
 use Rattle.std.specs.Option.{option_map}
 use Rattle.std.proofs.lemmas.List.{take-map}
 use Rattle.std.proofs.lemmas.List.Sorted.{length_permutation, Contains-permutation, IsPermutation-sym}
@@ -114,6 +114,16 @@ pub count_all_shown : (found : ℕ) (old new : State) (rows : List Row) → old.
     → found ≡ min (length (old.now.trees 2)) 9223372036854775807
 count_all_shown found old new rows has h first =
     number_of found _ rows first (counted [] [] (overlay old.now.trees []) rows (answer_of count_all_text _ _ count_all_is [] old new rows has h)) ∙ ap (λ l. min (length l) 9223372036854775807) (filter_true (old.now.trees 2))
+
+-- a count shows a row
+not_none : (m : ℕ) (rows : List Row) → rows ≡ (count m ∷ []) ∷ [] → rows ≢ []
+not_none m rows is none = let e : [] ≡ (count m ∷ []) ∷ [] = sym none ∙ is in cc
+
+pub count_some : (n : ℤ) (old new : State) (rows : List Row) → old.now.schema ≡ both_schema → Shown count_text (Int n ∷ []) old new rows → rows ≢ []
+count_some n old new rows has h = not_none _ rows (counted (of_recording ∷ []) (Int n ∷ []) (overlay old.now.trees []) rows (answer_of count_text _ _ count_is (Int n ∷ []) old new rows has h))
+
+pub count_all_some : (old new : State) (rows : List Row) → old.now.schema ≡ both_schema → Shown count_all_text [] old new rows → rows ≢ []
+count_all_some old new rows has h = not_none _ rows (counted [] [] (overlay old.now.trees []) rows (answer_of count_all_text _ _ count_all_is [] old new rows has h))
 
 head_of : (xs : List Row) → option_map (λ row. column row 0) (slice_get (take 1 (map (λ r. column r 2 ∷ []) xs)) 0) ≡ option_map (λ row. column row 2) (slice_get xs 0)
 head_of [] = refl

@@ -3,4 +3,5 @@ pub mod Made
 pub mod Recordings
 pub mod Records
 pub mod Row
+pub mod Refused
 pub mod Schema

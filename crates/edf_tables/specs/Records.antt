@@ -1,5 +1,5 @@
 -- The rows of the table `record`, by recording and start.
-use Rattle.std.specs.Prelude.{◌≡◌, ◌&&◌, ℕ, ℤ, Bool, List, [], ◌∷◌, filter}
+use Rattle.std.specs.Prelude.{◌≡◌, ◌&&◌, ℤ, Bool, List, [], ◌∷◌, filter}
 use Rattle.std.specs.declared.cmp.Ordering.TheVariants.{Less}
 use Rattle.std.specs.Ordering.{is_lt, is_gt}
 use Rattle.sqlite.specs.declared.types.Value.TheVariants.{Int}

@@ -1,11 +1,12 @@
 //! All recordings.
 
-ghost use Rattle.std.specs.Prelude.{◌≡◌, OnOk, IfOk, IsPermutation, length, map, min};
+ghost use Rattle.std.specs.Prelude.{◌≡◌, OnOk, IfOk, IfErr, IsPermutation, length, map, min};
 ghost use Rattle.sqlite.specs.Held.{state};
 ghost use Rattle.sqlite.specs.State.{HasCleanDisk, Survives, KeepsCommit, IsUnchanged};
 ghost use Rattle.sqlite.specs.declared.types.Value.TheVariants.{Blob};
 ghost use Rattle.sqlite_value.specs.Order.{column};
 ghost use Rattle.edf_tables.specs.Schema.{both_schema};
+ghost use Rattle.edf_tables.specs.Refused.{IsUnread, IsUntold};
 ghost use Rattle.edf_tables.specs.Recordings.{AreNamedApart, IsIdIn, by_identity, named, shown_recording};
 
 use crate::row::{first_count, first_number, identities_in, rows_shown};
@@ -14,12 +15,13 @@ use sqlite::{Alter, Connection, Error, Row, params};
 /// The id of a recording with this identity.
 ///
 /// # Errors
-/// `sqlite`'s, and that of a cell of another type; what is committed stays.
+/// `sqlite`'s, and that of a cell of another type; what is committed stays, and an open transaction may be undone.
 pub fn select_recording<S: Alter>(
     conn: &mut Connection<S>,
     identity: &[u8],
 ) -> Result<Option<i64>, Error>
     requires schema { HasCleanDisk (state S.Store conn.old) → (state S.Store conn.old).now.schema ≡ both_schema }
+    ensures why { HasCleanDisk (state S.Store conn.new) → IfErr result (IsUntold (state S.Store conn.old) (state S.Store conn.new)) }
     ensures id { HasCleanDisk (state S.Store conn.new) → IfOk result (IsIdIn (named identity.now ((state S.Store conn.old).now.trees 0))) }
     ensures same { HasCleanDisk (state S.Store conn.new) → OnOk result (IsUnchanged (state S.Store conn.old) (state S.Store conn.new)) }
     ensures kept { HasCleanDisk (state S.Store conn.new) → KeepsCommit (state S.Store conn.old) (state S.Store conn.new) }
@@ -36,9 +38,10 @@ pub fn select_recording<S: Alter>(
 /// The identities of all recordings, by their bytes.
 ///
 /// # Errors
-/// `sqlite`'s, and that of a cell of another type; what is committed stays.
+/// `sqlite`'s, and that of a cell of another type; what is committed stays, and an open transaction may be undone.
 pub fn identities<S: Alter>(conn: &mut Connection<S>) -> Result<Vec<Vec<u8>>, Error>
     requires apart { HasCleanDisk (state S.Store conn.old) → AreNamedApart (state S.Store conn.old) }
+    ensures why { HasCleanDisk (state S.Store conn.new) → IfErr result (IsUntold (state S.Store conn.old) (state S.Store conn.new)) }
     ensures identities { HasCleanDisk (state S.Store conn.new) → IfOk result (λ all. map (λ b. Blob b.items) all.items ≡ map (λ row. column row 2) (by_identity ((state S.Store conn.old).now.trees 0))) }
     ensures same { HasCleanDisk (state S.Store conn.new) → OnOk result (IsUnchanged (state S.Store conn.old) (state S.Store conn.new)) }
     ensures kept { HasCleanDisk (state S.Store conn.new) → KeepsCommit (state S.Store conn.old) (state S.Store conn.new) }
@@ -57,9 +60,10 @@ pub fn identities<S: Alter>(conn: &mut Connection<S>) -> Result<Vec<Vec<u8>>, Er
 /// They come by their ids; without ORDER BY they would come in the order of the index of identities.
 ///
 /// # Errors
-/// `sqlite`'s, and that of a cell of another type; what is committed stays.
+/// `sqlite`'s; what is committed stays, and an open transaction may be undone.
 pub fn recordings<S: Alter>(conn: &mut Connection<S>) -> Result<Vec<Row>, Error>
     requires schema { HasCleanDisk (state S.Store conn.old) → (state S.Store conn.old).now.schema ≡ both_schema }
+    ensures why { HasCleanDisk (state S.Store conn.new) → IfErr result (IsUnread (state S.Store conn.old) (state S.Store conn.new)) }
     ensures listed { HasCleanDisk (state S.Store conn.new) → IfOk result (λ rows. IsPermutation (map shown_recording ((state S.Store conn.old).now.trees 0)) rows.items) }
     ensures same { HasCleanDisk (state S.Store conn.new) → OnOk result (IsUnchanged (state S.Store conn.old) (state S.Store conn.new)) }
     ensures kept { HasCleanDisk (state S.Store conn.new) → KeepsCommit (state S.Store conn.old) (state S.Store conn.new) }
@@ -71,9 +75,10 @@ pub fn recordings<S: Alter>(conn: &mut Connection<S>) -> Result<Vec<Row>, Error>
 /// The number of records of all recordings, and of those that have none; 2^63 - 1 where there are more.
 ///
 /// # Errors
-/// `sqlite`'s, and that of a cell of another type; what is committed stays.
+/// `sqlite`'s, and that of a cell of another type; what is committed stays, and an open transaction may be undone.
 pub fn count_all_rows<S: Alter>(conn: &mut Connection<S>) -> Result<u64, Error>
     requires schema { HasCleanDisk (state S.Store conn.old) → (state S.Store conn.old).now.schema ≡ both_schema }
+    ensures why { HasCleanDisk (state S.Store conn.new) → IfErr result (IsUntold (state S.Store conn.old) (state S.Store conn.new)) }
     ensures count { HasCleanDisk (state S.Store conn.new) → IfOk result (λ count. count ≡ min (length ((state S.Store conn.old).now.trees 2)) 9223372036854775807) }
     ensures same { HasCleanDisk (state S.Store conn.new) → OnOk result (IsUnchanged (state S.Store conn.old) (state S.Store conn.new)) }
     ensures kept { HasCleanDisk (state S.Store conn.new) → KeepsCommit (state S.Store conn.old) (state S.Store conn.new) }

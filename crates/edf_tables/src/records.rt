@@ -1,6 +1,6 @@
 //! The records of one recording.
 
-ghost use Rattle.std.specs.Prelude.{◌≡◌, OnOk, IfOk, filter, length, map, min, reverse, slice_get, take};
+ghost use Rattle.std.specs.Prelude.{◌≡◌, OnOk, IfOk, IfErr, filter, length, map, min, reverse, slice_get, take};
 ghost use Rattle.std.specs.Option.{option_map};
 ghost use Rattle.sqlite.specs.Held.{state};
 ghost use Rattle.sqlite.specs.State.{HasCleanDisk, Survives, KeepsCommit, IsUnchanged};
@@ -8,6 +8,7 @@ ghost use Rattle.sqlite.specs.declared.types.Value.TheVariants.{Int};
 ghost use Rattle.sqlite_value.specs.Order.{column};
 ghost use Rattle.edf_tables.specs.Schema.{both_schema};
 ghost use Rattle.edf_tables.specs.Cells.{cells_of};
+ghost use Rattle.edf_tables.specs.Refused.{IsUntold};
 ghost use Rattle.edf_tables.specs.Records.{IsReady, records_of, shown_record, starts_after, starts_between};
 
 use crate::row::{RecordRow, first_count, first_number, record_rows, rows_shown};
@@ -16,7 +17,7 @@ use sqlite::{Alter, Connection, Error, params};
 /// The records of a recording that start after one instant and before another, by their starts.
 ///
 /// # Errors
-/// `sqlite`'s, and that of a cell of another type; what is committed stays.
+/// `sqlite`'s, and that of a cell of another type; what is committed stays, and an open transaction may be undone.
 pub fn near_rows<S: Alter>(
     conn: &mut Connection<S>,
     recording: i64,
@@ -24,6 +25,7 @@ pub fn near_rows<S: Alter>(
     before: i64,
 ) -> Result<Vec<RecordRow>, Error>
     requires ready { HasCleanDisk (state S.Store conn.old) → IsReady recording (state S.Store conn.old) }
+    ensures why { HasCleanDisk (state S.Store conn.new) → IfErr result (IsUntold (state S.Store conn.old) (state S.Store conn.new)) }
     ensures near { HasCleanDisk (state S.Store conn.new) → IfOk result (λ rows. map cells_of rows.items ≡ map shown_record (filter (starts_between after before) (records_of recording ((state S.Store conn.old).now.trees 2)))) }
     ensures same { HasCleanDisk (state S.Store conn.new) → OnOk result (IsUnchanged (state S.Store conn.old) (state S.Store conn.new)) }
     ensures kept { HasCleanDisk (state S.Store conn.new) → KeepsCommit (state S.Store conn.old) (state S.Store conn.new) }
@@ -40,7 +42,7 @@ pub fn near_rows<S: Alter>(
 /// The first `limit` records of a recording that start after an instant, by their starts.
 ///
 /// # Errors
-/// `sqlite`'s, and that of a cell of another type; what is committed stays.
+/// `sqlite`'s, and that of a cell of another type; what is committed stays, and an open transaction may be undone.
 pub fn page_rows<S: Alter>(
     conn: &mut Connection<S>,
     recording: i64,
@@ -48,6 +50,7 @@ pub fn page_rows<S: Alter>(
     limit: u32,
 ) -> Result<Vec<RecordRow>, Error>
     requires ready { HasCleanDisk (state S.Store conn.old) → IsReady recording (state S.Store conn.old) }
+    ensures why { HasCleanDisk (state S.Store conn.new) → IfErr result (IsUntold (state S.Store conn.old) (state S.Store conn.new)) }
     ensures page { HasCleanDisk (state S.Store conn.new) → IfOk result (λ rows. map cells_of rows.items ≡ map shown_record (take limit (filter (starts_after after) (records_of recording ((state S.Store conn.old).now.trees 2))))) }
     ensures same { HasCleanDisk (state S.Store conn.new) → OnOk result (IsUnchanged (state S.Store conn.old) (state S.Store conn.new)) }
     ensures kept { HasCleanDisk (state S.Store conn.new) → KeepsCommit (state S.Store conn.old) (state S.Store conn.new) }
@@ -64,9 +67,10 @@ pub fn page_rows<S: Alter>(
 /// The number of records of a recording, 2^63 - 1 where there are more.
 ///
 /// # Errors
-/// `sqlite`'s, and that of a cell of another type; what is committed stays.
+/// `sqlite`'s, and that of a cell of another type; what is committed stays, and an open transaction may be undone.
 pub fn count_rows<S: Alter>(conn: &mut Connection<S>, recording: i64) -> Result<u64, Error>
     requires schema { HasCleanDisk (state S.Store conn.old) → (state S.Store conn.old).now.schema ≡ both_schema }
+    ensures why { HasCleanDisk (state S.Store conn.new) → IfErr result (IsUntold (state S.Store conn.old) (state S.Store conn.new)) }
     ensures count { HasCleanDisk (state S.Store conn.new) → IfOk result (λ count. count ≡ min (length (records_of recording ((state S.Store conn.old).now.trees 2))) 9223372036854775807) }
     ensures same { HasCleanDisk (state S.Store conn.new) → OnOk result (IsUnchanged (state S.Store conn.old) (state S.Store conn.new)) }
     ensures kept { HasCleanDisk (state S.Store conn.new) → KeepsCommit (state S.Store conn.old) (state S.Store conn.new) }
@@ -83,9 +87,10 @@ pub fn count_rows<S: Alter>(conn: &mut Connection<S>, recording: i64) -> Result<
 /// The first start of a recording's records.
 ///
 /// # Errors
-/// `sqlite`'s, and that of a cell of another type; what is committed stays.
+/// `sqlite`'s, and that of a cell of another type; what is committed stays, and an open transaction may be undone.
 pub fn first_start<S: Alter>(conn: &mut Connection<S>, recording: i64) -> Result<Option<i64>, Error>
     requires ready { HasCleanDisk (state S.Store conn.old) → IsReady recording (state S.Store conn.old) }
+    ensures why { HasCleanDisk (state S.Store conn.new) → IfErr result (IsUntold (state S.Store conn.old) (state S.Store conn.new)) }
     ensures first { HasCleanDisk (state S.Store conn.new) → IfOk result (λ start. option_map Int start ≡ option_map (λ row. column row 2) (slice_get (records_of recording ((state S.Store conn.old).now.trees 2)) 0)) }
     ensures same { HasCleanDisk (state S.Store conn.new) → OnOk result (IsUnchanged (state S.Store conn.old) (state S.Store conn.new)) }
     ensures kept { HasCleanDisk (state S.Store conn.new) → KeepsCommit (state S.Store conn.old) (state S.Store conn.new) }
@@ -102,9 +107,10 @@ pub fn first_start<S: Alter>(conn: &mut Connection<S>, recording: i64) -> Result
 /// The last start of a recording's records.
 ///
 /// # Errors
-/// `sqlite`'s, and that of a cell of another type; what is committed stays.
+/// `sqlite`'s, and that of a cell of another type; what is committed stays, and an open transaction may be undone.
 pub fn last_start<S: Alter>(conn: &mut Connection<S>, recording: i64) -> Result<Option<i64>, Error>
     requires ready { HasCleanDisk (state S.Store conn.old) → IsReady recording (state S.Store conn.old) }
+    ensures why { HasCleanDisk (state S.Store conn.new) → IfErr result (IsUntold (state S.Store conn.old) (state S.Store conn.new)) }
     ensures last { HasCleanDisk (state S.Store conn.new) → IfOk result (λ start. option_map Int start ≡ option_map (λ row. column row 2) (slice_get (reverse (records_of recording ((state S.Store conn.old).now.trees 2))) 0)) }
     ensures same { HasCleanDisk (state S.Store conn.new) → OnOk result (IsUnchanged (state S.Store conn.old) (state S.Store conn.new)) }
     ensures kept { HasCleanDisk (state S.Store conn.new) → KeepsCommit (state S.Store conn.old) (state S.Store conn.new) }

@@ -1,10 +1,11 @@
 //! One row more.
 
-ghost use Rattle.std.specs.Prelude.{◌≡◌, OnOk, OnErr, IfOk};
+ghost use Rattle.std.specs.Prelude.{◌≡◌, OnOk, OnErr, IfOk, IfErr};
 ghost use Rattle.sqlite.specs.Held.{state};
 ghost use Rattle.sqlite.specs.State.{HasCleanDisk, Survives, KeepsCommit};
 ghost use Rattle.sqlite_rules.specs.Edit.{next_rowid};
 ghost use Rattle.edf_tables.specs.Row.{cells, named_cells, HasRecord, HasRecording, IsInside};
+ghost use Rattle.edf_tables.specs.Refused.{IsUnadded};
 
 use sqlite::{Alter, Connection, Error, params};
 
@@ -15,6 +16,7 @@ use sqlite::{Alter, Connection, Error, params};
 pub fn insert_recording<S: Alter>(conn: &mut Connection<S>, identity: &[u8]) -> Result<i64, Error>
     requires { HasCleanDisk (state S.Store conn.old) → IsInside (state S.Store conn.old) }
     ensures added { HasCleanDisk (state S.Store conn.new) → IfOk result (λ id. HasRecording (state S.Store conn.old) (state S.Store conn.new) (named_cells identity.now) × (id ≡ next_rowid ((state S.Store conn.old).now.trees 0))) }
+    ensures why { HasCleanDisk (state S.Store conn.new) → IfErr result (IsUnadded (state S.Store conn.old) (state S.Store conn.new)) }
     ensures refused { HasCleanDisk (state S.Store conn.new) → OnErr result (KeepsCommit (state S.Store conn.old) (state S.Store conn.new)) }
     ensures survives { Survives (state S.Store conn.old) (state S.Store conn.new) (λ _. ⊥) }
 {
@@ -38,6 +40,7 @@ pub fn insert_record<S: Alter>(
 ) -> Result<usize, Error>
     requires { HasCleanDisk (state S.Store conn.old) → IsInside (state S.Store conn.old) }
     ensures added { HasCleanDisk (state S.Store conn.new) → OnOk result (HasRecord (state S.Store conn.old) (state S.Store conn.new) (cells recording start samples.now block.now)) }
+    ensures why { HasCleanDisk (state S.Store conn.new) → IfErr result (IsUnadded (state S.Store conn.old) (state S.Store conn.new)) }
     ensures refused { HasCleanDisk (state S.Store conn.new) → OnErr result (KeepsCommit (state S.Store conn.old) (state S.Store conn.new)) }
     ensures survives { Survives (state S.Store conn.old) (state S.Store conn.new) (λ _. ⊥) }
 {

@@ -1,10 +1,15 @@
-use Rattle.std.proofs.Common.{rules, ◌≡◌, ◌<◌, ◌^◌, ◌-◌, IsPermutation, IfSome, refl, subst, ◌∙◌, arith}
+use Rattle.std.proofs.Common.{rules, inl, ◌≡◌, ◌<◌, ◌^◌, ◌-◌, IsPermutation, IfSome, refl, subst, ◌∙◌, arith}
+use Rattle.std.proofs.lemmas.Result.{err_from_is_err_and}
 use Rattle.sqlite.specs.Effect.{Database}
 use Rattle.sqlite.specs.Held.{state}
 use Rattle.sqlite.specs.State.{HasCleanDisk}
 use Rattle.edf_rows.specs.Cells.{recordings_in}
 use Rattle.edf_rows.specs.Foreign.{IsForeign}
 use Rattle.edf_audit.specs.All.{AreCounted, Counts}
+use Rattle.edf_tables.proofs.CommitLemmas.{quiet_then}
+use Rattle.edf_audit.specs.Refused.{IsUnchecked}
+use Rattle.edf_audit.specs.Refused.IsUnchecked.{untold}
+use Rattle.edf_audit.proofs.RefusedLemmas.{unchecked_since, untold_unchecked}
 use Rattle.edf_audit.proofs.AllLemmas.{told_all}
 use Rattle.edf_audit.proofs.all.check_all.Goals as goal
 
@@ -34,3 +39,24 @@ returns-clause-answers g c clean =
     let listed : IsPermutation (recordings_in old.now.trees) c.deref.result.now = subst (IsPermutation (recordings_in old.now.trees)) value (c.in_ok-found.ensures.listed early) in
     told_all c.args.cap old.now mid.now was.now now.now c.deref.result.now c.in-Some.sum c.in_ok-all.all _ first.0.now_is (second.now_is ∙ first.0.now_is) (third.0.now_is ∙ second.now_is ∙ first.0.now_is) (c.requires.schema start)
     listed counted (c.obey.ensures third.0.is_open).0 (omega (arith, below)) (c.in_ok-all.ensures.count clean) refl
+
+pub returns-in_err-found-clause-why : goal.returns-in_err-found-clause-why
+returns-in_err-found-clause-why g c clean =
+    let why : IsUnchecked (state g.S.Store c.args.conn.now) (state g.S.Store c.recordings.new.conn) _ = untold (inl (c.in_err-found.ensures.why clean)) in
+    let told = err_from_is_err_and c.from_residual.result c.from_residual.ensures.1 in
+    rw (told.1, told.2) why
+
+pub returns-in_err-sum-clause-why : goal.returns-in_err-sum-clause-why
+returns-in_err-sum-clause-why g c clean =
+    let why = unchecked_since (state g.S.Store c.args.conn.now) (state g.S.Store c.recordings.new.conn) (state g.S.Store c.count_owned.new.conn) _ _ _ c.recordings.ensures.survives c.count_owned.ensures.survives clean (c.in_err-sum.ensures.why clean) in
+    let told = err_from_is_err_and c.from_residual-in_err-sum.result c.from_residual-in_err-sum.ensures.1 in
+    rw (told.1, told.2) why
+
+pub returns-in_err-all-clause-why : goal.returns-in_err-all-clause-why
+returns-in_err-all-clause-why g c clean =
+    let mid = state g.S.Store c.recordings.new.conn in
+    let was = state g.S.Store c.count_owned.new.conn in
+    let before = quiet_then (state g.S.Store c.args.conn.now) mid was _ c.recordings.ensures.survives c.count_owned.ensures.survives in
+    let why = untold_unchecked (state g.S.Store c.args.conn.now) was (state g.S.Store c.count_all_rows.new.conn) _ _ _ before c.count_all_rows.ensures.survives clean (c.in_err-all.ensures.why clean) in
+    let told = err_from_is_err_and c.from_residual-in_err-all.result c.from_residual-in_err-all.ensures.1 in
+    rw (told.1, told.2) why

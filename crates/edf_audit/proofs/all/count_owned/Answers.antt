@@ -1,5 +1,6 @@
 use Rattle.std.proofs.Common.{rules, None, w64, arith, subst}
 use Rattle.std.proofs.lemmas.Int.{to_z-of_z}
+use Rattle.std.proofs.lemmas.Result.{err_from_is_err_and}
 use Rattle.sqlite.specs.Effect.{Database}
 use Rattle.sqlite.specs.Held.{state}
 use Rattle.sqlite.specs.State.{HasCleanDisk}
@@ -7,6 +8,7 @@ use Rattle.edf_tables.proofs.CommitLemmas.{quiet_then, survives_same}
 use Rattle.edf_rows.specs.Cells.{recordings_in}
 use Rattle.edf_audit.specs.All.{IsAfter}
 use Rattle.edf_audit.specs.Kept.{Checks}
+use Rattle.edf_audit.proofs.RefusedLemmas.{unchecked_since}
 use Rattle.edf_audit.proofs.CountLemmas.{counted_none}
 use Rattle.edf_audit.proofs.AllLemmas.{rows_same, rows_then, row_in, up_more, counted_more}
 use Rattle.edf_audit.proofs.all.count_owned.Goals as goal
@@ -49,3 +51,9 @@ loop-row-preserved g c =
       up_to = rw (to_z-of_z w64 c.in-Some-next_id.id (search rules)) (up_more c.args.rows.now c.loop-row.row-index c.row-item.result c.loop-row.last c.in-Some-next_id.id (search rules) (search rules) inv.up_to after);
       low = search rules;
     }
+
+pub returns-in_err-count-clause-why : goal.returns-in_err-count-clause-why
+returns-in_err-count-clause-why g c clean =
+    let why = unchecked_since (state g.S.Store c.args.conn.now) (state g.S.Store c.loop-row.conn) (state g.S.Store c.check_row.new.conn) _ _ _ c.loop-row.invariant.crash c.check_row.ensures.survives clean (c.in_err-count.ensures.why clean) in
+    let told = err_from_is_err_and c.from_residual.result c.from_residual.ensures.1 in
+    rw (told.1, told.2) why

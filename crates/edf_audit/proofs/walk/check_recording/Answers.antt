@@ -1,9 +1,17 @@
-use Rattle.std.proofs.Common.{rules, ◌≡◌, refl, ap, subst, ◌∙◌, arith, w64}
+use Rattle.std.proofs.Common.{rules, inl, map, [], ◌∷◌, ◌≡◌, refl, ap, subst, ◌∙◌, arith, w64}
 use Rattle.std.proofs.lemmas.Int.{to_z-of_z}
+use Rattle.std.proofs.lemmas.Result.{err_from_is_err_and}
+use Rattle.sqlite.specs.Effect.{Database}
+use Rattle.edf_rows.specs.Cells.{record_cells}
 use Rattle.sqlite.specs.declared.types.Value.TheVariants.{Int}
 use Rattle.sqlite.specs.Held.{Held, state}
 use Rattle.sqlite.specs.State.{HasCleanDisk, Survives, KeepsCommit, IsUnchanged}
 use Rattle.sqlite.proofs.Callers.{begun_plain, unchanged_then}
+use Rattle.edf_tables.proofs.AloneTexts.{walk_alone, walk_taken}
+use Rattle.edf_tables.proofs.RefusedLemmas.{query_unread}
+use Rattle.edf_audit.proofs.RefusedLemmas.{unread_unchecked}
+use Rattle.edf_audit.specs.Refused.{IsUnchecked}
+use Rattle.edf_audit.specs.Refused.IsUnchecked.{untold}
 use Rattle.edf_tables.proofs.QueryTexts.{walk_text, walk_is}
 use Rattle.edf_tables.proofs.ShownLemmas.{plain_at}
 use Rattle.edf_tables.proofs.ReadLemmas.{query_quiet, query_left}
@@ -157,3 +165,32 @@ returns-in_default-clause-told g c clean =
       | then-count-eq0 w ↦ rw w.result-is (ends_empty g.S.Store c.args.recording c.args.identity.now c.requires.long old has c.args.cap c.walk.count c.walk.last was now same stands on (search rules))
       | else-count-eq0 w ↦ rw w.result-is (ends g.S.Store c.args.recording c.args.identity.now c.requires.long old has c.args.cap c.walk.count c.walk.last was now same stands on (search rules) (omega arith))
     ]
+
+pub returns-in_err-rows-clause-why : goal.returns-in_err-rows-clause-why
+returns-in_err-rows-clause-why g c clean =
+    let old = state g.S.Store c.args.conn.now in
+    let new = state g.S.Store c.query.follows.lender-at-none in
+    let held = rw c.in_err-rows.was at c.query.follows.holds-at-none in
+    let early : HasCleanDisk old = omega (arith, held.survives.clean) in
+    let failed = rw (c.params-to_sql.ensures ∙ ap Int (to_z-of_z w64 c.args.recording c.ranges.recording)) at (held.err clean) in
+    let why : IsUnchecked old new _ = untold (inl (query_unread walk_text _ _ walk_is (Int c.args.recording ∷ []) old new _ (c.requires.schema early) walk_alone (walk_taken c.args.recording) failed)) in
+    let told = err_from_is_err_and c.from_residual.result c.from_residual.ensures.1 in
+    rw (told.1, told.2) why
+
+pub returns-in_err-row-clause-why : goal.returns-in_err-row-clause-why
+returns-in_err-row-clause-why g c clean =
+    let old = state g.S.Store c.args.conn.now in
+    let moved = c.next.follows.holds-at-none in
+    let was = c.walk.rows.conn.now in
+    let now = c.next.follows.lender-at-none.conn.now in
+    let inv = c.walk.invariant in
+    let end : now ≡ c.conn-in_err-row-1.given.0 = search rules in
+    let late : HasCleanDisk (state g.S.Store now) = search rules in
+    let early : HasCleanDisk (state g.S.Store was) = omega (arith, moved.survives.clean, late) in
+    let there = ap (λ (b : Database). b.schema) (inv.same early).0.now_is ∙ c.requires.schema (omega (arith, inv.crash.clean, early)) in
+    let stands = rw (to_z-of_z w64 c.args.recording c.ranges.recording) at (inv.stands early) in
+    let failed = (rw c.in_err-row.was at (moved.err late)) walk_text (Int c.args.recording ∷ []) (map record_cells stands.records) stands.given in
+    let unread = query_unread walk_text _ _ walk_is (Int c.args.recording ∷ []) (state g.S.Store was) (state g.S.Store now) c.in_err-row.field-0.0 there walk_alone (walk_taken c.args.recording) failed in
+    let why = unread_unchecked old (state g.S.Store was) (state g.S.Store now) _ _ c.in_err-row.field-0.0 inv.crash moved.survives late unread in
+    let told = err_from_is_err_and c.from_residual-in_err-row.result c.from_residual-in_err-row.ensures.1 in
+    rw (told.1, told.2) (subst (λ (h : Held _). IsUnchecked old (state g.S.Store h) c.in_err-row.field-0.0) end why)

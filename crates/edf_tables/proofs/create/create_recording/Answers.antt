@@ -3,6 +3,7 @@ use Rattle.sqlite.specs.Held.{state}
 use Rattle.sqlite.proofs.StateLemmas.{survives_weaker}
 use Rattle.edf_tables.proofs.CreateLemmas.{first_if, first_crash}
 use Rattle.edf_tables.proofs.KeepLemmas.{write_refused}
+use Rattle.edf_tables.proofs.UnaddedLemmas.{first_unmade}
 use Rattle.edf_tables.proofs.create.create_recording.Goals as goal
 
 pub returns-clause-made : goal.returns-clause-made
@@ -14,3 +15,6 @@ returns-clause-refused g c clean = write_refused _ _ (state g.S.Store c.args.con
 pub returns-clause-survives : goal.returns-clause-survives
 returns-clause-survives g c =
     survives_weaker (state g.S.Store c.args.conn.now) (state g.S.Store c.execute.new.self) _ _ (λ clean db. first_crash (state g.S.Store c.args.conn.now) db (c.requires (omega (arith, c.execute.ensures.survives.clean)))) c.execute.ensures.survives
+
+pub returns-clause-why : goal.returns-clause-why
+returns-clause-why g c clean = first_unmade (state g.S.Store c.args.conn.now) (state g.S.Store c.execute.new.self) c.execute.result (c.requires (omega (arith, c.execute.ensures.survives.clean))) (c.execute.ensures.runs clean)

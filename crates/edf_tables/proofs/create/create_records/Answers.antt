@@ -3,6 +3,7 @@ use Rattle.sqlite.specs.Held.{state}
 use Rattle.sqlite.proofs.StateLemmas.{survives_weaker}
 use Rattle.edf_tables.proofs.CreateLemmas.{second_if, second_crash}
 use Rattle.edf_tables.proofs.KeepLemmas.{write_refused}
+use Rattle.edf_tables.proofs.UnaddedLemmas.{second_unmade}
 use Rattle.edf_tables.proofs.create.create_records.Goals as goal
 
 pub returns-clause-made : goal.returns-clause-made
@@ -14,3 +15,6 @@ returns-clause-survives g c =
 
 pub returns-clause-refused : goal.returns-clause-refused
 returns-clause-refused g c clean = write_refused _ _ (state g.S.Store c.args.conn.now) (state g.S.Store c.execute.new.self) c.execute.result (c.execute.ensures.runs clean)
+
+pub returns-clause-why : goal.returns-clause-why
+returns-clause-why g c clean = second_unmade (state g.S.Store c.args.conn.now) (state g.S.Store c.execute.new.self) c.execute.result (c.requires (omega (arith, c.execute.ensures.survives.clean))) (c.execute.ensures.runs clean)

@@ -1,7 +1,9 @@
+use Rattle.std.proofs.lemmas.Result.{err_from_is_err_and}
 use Rattle.sqlite.specs.Held.{state}
 use Rattle.edf_tables.proofs.CommitLemmas.{committed, commit_survives}
 use Rattle.edf_tables.proofs.EndLemmas.{commit_ends}
 use Rattle.edf_tables.proofs.KeepLemmas.{on_err, write_refused}
+use Rattle.edf_tables.proofs.TurnLemmas.{commit_refused}
 use Rattle.edf_tables.proofs.transaction.commit.Goals as goal
 
 pub returns-clause-committed : goal.returns-clause-committed
@@ -22,3 +24,9 @@ returns-clause-ended g c clean = commit_ends (state g.S.Store c.args.conn.now) (
 
 pub returns-in_err-execute-clause-ended : goal.returns-in_err-execute-clause-ended
 returns-in_err-execute-clause-ended g c clean = commit_ends (state g.S.Store c.args.conn.now) (state g.S.Store c.execute.new.self) _ (c.in_err-execute.ensures.runs clean)
+
+pub returns-in_err-execute-clause-why : goal.returns-in_err-execute-clause-why
+returns-in_err-execute-clause-why g c clean =
+    let why = commit_refused (state g.S.Store c.args.conn.now) (state g.S.Store c.execute.new.self) _ (c.in_err-execute.ensures.runs clean) in
+    let told = err_from_is_err_and c.from_residual.result c.from_residual.ensures.1 in
+    rw (told.1, told.2) why

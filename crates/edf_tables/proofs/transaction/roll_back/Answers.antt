@@ -1,6 +1,8 @@
+use Rattle.std.proofs.lemmas.Result.{err_from_is_err_and}
 use Rattle.sqlite.specs.Held.{state}
 use Rattle.edf_tables.proofs.CommitLemmas.{rolled_back, rollback_survives}
 use Rattle.edf_tables.proofs.KeepLemmas.{write_refused, undone_keeps}
+use Rattle.edf_tables.proofs.TurnLemmas.{rollback_refused}
 use Rattle.edf_tables.proofs.transaction.roll_back.Goals as goal
 
 pub returns-clause-undone : goal.returns-clause-undone
@@ -19,3 +21,9 @@ returns-in_err-execute-clause-kept g c clean = write_refused _ _ (state g.S.Stor
 pub returns-clause-kept : goal.returns-clause-kept
 returns-clause-kept g c clean =
     undone_keeps (state g.S.Store c.args.conn.now) (state g.S.Store c.execute.new.self) (rolled_back (state g.S.Store c.args.conn.now) (state g.S.Store c.execute.new.self) _ (c.in_ok-execute.ensures.runs clean))
+
+pub returns-in_err-execute-clause-why : goal.returns-in_err-execute-clause-why
+returns-in_err-execute-clause-why g c clean =
+    let why = rollback_refused (state g.S.Store c.args.conn.now) (state g.S.Store c.execute.new.self) _ (c.in_err-execute.ensures.runs clean) in
+    let told = err_from_is_err_and c.from_residual.result c.from_residual.ensures.1 in
+    rw (told.1, told.2) why

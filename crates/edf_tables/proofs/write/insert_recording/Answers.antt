@@ -1,3 +1,4 @@
+use Rattle.std.proofs.lemmas.Result.{err_from_is_err_and}
 use Rattle.std.proofs.Common.{arith, ◌∙◌}
 use Rattle.std.proofs.Common.{w64}
 use Rattle.std.proofs.lemmas.Int.{to_z-of_z}
@@ -6,6 +7,7 @@ use Rattle.edf_tables.proofs.TextLemmas.{insert_recording_text, insert_recording
 use Rattle.edf_tables.proofs.CommitLemmas.{insert_survives}
 use Rattle.edf_tables.proofs.KeepLemmas.{on_err, write_refused}
 use Rattle.edf_tables.proofs.WriteLemmas.{recording_added}
+use Rattle.edf_tables.proofs.UnaddedLemmas.{recording_unadded}
 use Rattle.edf_tables.proofs.write.insert_recording.Goals as goal
 
 pub returns-clause-added : goal.returns-clause-added
@@ -24,3 +26,9 @@ returns-in_err-execute-clause-survives g c =
 
 pub returns-in_err-execute-clause-refused : goal.returns-in_err-execute-clause-refused
 returns-in_err-execute-clause-refused g c clean = on_err c.from_residual.result (write_refused _ _ (state g.S.Store c.args.conn.now) (state g.S.Store c.execute.new.self) _ (c.in_err-execute.ensures.runs clean))
+
+pub returns-in_err-execute-clause-why : goal.returns-in_err-execute-clause-why
+returns-in_err-execute-clause-why g c clean =
+    let why = recording_unadded (state g.S.Store c.args.conn.now) (state g.S.Store c.execute.new.self) c.args.identity.now _ (c.requires (omega (arith, c.execute.ensures.survives.clean))) (rw c.params-to_sql.ensures at (c.in_err-execute.ensures.runs clean)) in
+    let told = err_from_is_err_and c.from_residual.result c.from_residual.ensures.1 in
+    rw (told.1, told.2) why

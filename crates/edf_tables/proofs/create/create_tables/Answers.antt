@@ -1,0 +1,12 @@
+use Rattle.std.proofs.lemmas.Result.{err_from_is_err_and}
+use Rattle.sqlite.specs.Held.{state}
+use Rattle.edf_tables.proofs.UnaddedLemmas.{unmade_since}
+use Rattle.edf_tables.proofs.create.create_tables.Goals as goal
+
+pub returns-in_err-create_records-clause-why : goal.returns-in_err-create_records-clause-why
+returns-in_err-create_records-clause-why g c clean =
+    let mid = state g.S.Store c.create_recording.new.conn in
+    let new = state g.S.Store c.create_records.new.conn in
+    let why = unmade_since (state g.S.Store c.args.conn.now) mid new _ _ _ c.create_recording.ensures.survives c.create_records.ensures.survives clean (c.in_err-create_records.ensures.why clean) in
+    let told = err_from_is_err_and c.from_residual-in_err-create_records.result c.from_residual-in_err-create_records.ensures.1 in
+    rw (told.1, told.2) why

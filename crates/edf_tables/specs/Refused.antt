@@ -1,0 +1,51 @@
+-- Why `sqlite` refuses a statement, on a disk that gives back what was written.
+use Rattle.std.specs.Prelude.{◌≡◌, ◌⊎◌, ◌+◌, ◌-◌, ◌^◌, ◌≤◌, ℕ, min, Bool, false, IsTrue, IsSome}
+use Rattle.sqlite.specs.declared.error.ErrorCode.TheVariants.{OutOfMemory, Closed, OperationInterrupted, TransactionState, TooBig}
+use Rattle.sqlite.specs.declared.error.Error.{Error}
+use Rattle.sqlite.specs.declared.error.Error.TheVariants.{SqliteFailure}
+use Rattle.sqlite.specs.declared.types.Value.{Value}
+use Rattle.sqlite.specs.Effect.{edit_error, alter_error}
+use Rattle.sqlite.specs.Reading.{IsReadError}
+use Rattle.sqlite_rules.specs.declared.error.Refusal.{Refusal}
+use Rattle.sqlite_catalog.specs.declared.error.Refusal as alter
+use Rattle.sqlite.specs.State.{State, is_disk_error}
+
+-- a failure of the disk more was counted, unless the count stands at the top of a `u64`
+abbrev pub HasFailed : State → State → Type 0
+HasFailed old new = min (old.faults + 1) (2 ^ 64 - 1) ≤ new.faults
+
+-- memory ran out; the disk failed; or the connection was shut, before the call or since by a failure of the disk
+pub data IsStopped (old new : State) (e : Error) : Type 0 where
+  no_memory : e ≡ SqliteFailure OutOfMemory → IsStopped old new e
+  disk_failed : IsTrue (is_disk_error e) → HasFailed old new → IsStopped old new e
+  was_shut : e ≡ SqliteFailure Closed → (old.is_open ≡ false) ⊎ HasFailed old new → IsStopped old new e
+
+-- a query, besides: the steps that it may take ran out
+pub data IsUnread (old new : State) (e : Error) : Type 0 where
+  stopped : IsStopped old new e → IsUnread old new e
+  limited : e ≡ SqliteFailure OperationInterrupted → IsSome old.step_limit → IsUnread old new e
+
+-- BEGIN, COMMIT or ROLLBACK, besides: a transaction is open where none may be, or none is where one must be
+pub data IsTurnRefused (is_inside : Bool) (old new : State) (e : Error) : Type 0 where
+  stopped : IsStopped old new e → IsTurnRefused is_inside old new e
+  out_of_turn : e ≡ SqliteFailure TransactionState → old.in_transaction ≡ is_inside → IsTurnRefused is_inside old new e
+
+-- a row more, besides: it is too large to be stored, the steps that it may take ran out, or a rule of the table refuses it
+pub data IsUnadded (old new : State) (e : Error) : Type 0 where
+  stopped : IsStopped old new e → IsUnadded old new e
+  too_big : e ≡ SqliteFailure TooBig → IsUnadded old new e
+  limited : e ≡ SqliteFailure OperationInterrupted → IsSome old.step_limit → IsUnadded old new e
+  against_rule : (rule : Refusal) → e ≡ edit_error rule → IsUnadded old new e
+
+-- a table, besides: a rule of the schema refuses it
+pub data IsUnmade (old new : State) (e : Error) : Type 0 where
+  stopped : IsStopped old new e → IsUnmade old new e
+  against_rule : (rule : alter.Refusal) → e ≡ alter_error rule → IsUnmade old new e
+
+-- a cell cannot be read as the value that is asked for, or memory ran out
+abbrev pub IsCellRefused : Error → Type 0
+IsCellRefused e = (at : ℕ) × (value : Value) × IsReadError at value e
+
+-- a query whose cells are read as values
+abbrev pub IsUntold : State → State → Error → Type 0
+IsUntold old new e = IsUnread old new e ⊎ IsCellRefused e
