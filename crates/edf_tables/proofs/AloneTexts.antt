@@ -1,5 +1,5 @@
 -- Each text is one statement, with as many parameters as are given, of types that it takes.
-use Rattle.std.proofs.Common.{◌≡◌, ℕ, ℤ, pos, List, [], ◌∷◌, true, refl, arith}
+use Rattle.std.proofs.Common.{ℕ, ℤ, pos, List, [], ◌∷◌, refl, arith}
 use Rattle.sqlite.specs.declared.types.Value.TheVariants.{Int, Blob}
 use Rattle.sqlite_tied.specs.Compute.{everything}
 use Rattle.sqlite.specs.Term.{lit, col}

@@ -1,5 +1,5 @@
 -- Why a row is not added, and why a table is not made.
-use Rattle.std.proofs.Common.{ap, ◌≡◌, ◌⊎◌, ◌+◌, ◌*◌, ◌^◌, ◌<◌, ◌≤◌, ◌&&◌, ◌||◌, inl, inr, ℕ, ℤ, List, [], ◌∷◌, true, false, Option, Some, None, IsSome, Result, Ok, Err, IfErr, length, slice_get, refl, sym, subst, ◌∙◌, arith, true≢false}
+use Rattle.std.proofs.Common.{ap, ◌≡◌, ◌⊎◌, ◌+◌, ◌*◌, ◌^◌, ◌<◌, ◌&&◌, ◌||◌, inl, inr, ℕ, ℤ, List, [], ◌∷◌, true, false, Option, Some, None, IsSome, Result, Ok, Err, IfErr, length, slice_get, refl, sym, subst, ◌∙◌, arith, true≢false}
 use Rattle.std.proofs.lemmas.Bool.{cases_Bool}
 use Rattle.sqlite.specs.declared.types.Value.TheVariants.{Blob}
 use Rattle.sqlite.specs.Order.{Row}
