@@ -1,4 +1,4 @@
--- Each text is one statement, with as many parameters as are given, of types that it takes.
+-- Each text is one statement, with as many parameters as are given, of types that it takes, and nothing in it overflows.
 use Rattle.std.proofs.Common.{ℕ, ℤ, pos, List, [], ◌∷◌, refl, arith}
 use Rattle.sqlite.specs.declared.types.Value.TheVariants.{Int, Blob}
 use Rattle.sqlite_tied.specs.Compute.{everything}

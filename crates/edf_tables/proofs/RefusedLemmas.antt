@@ -26,7 +26,7 @@ use Rattle.sqlite.specs.Does.{Does}
 use Rattle.sqlite.specs.Calls.{IsWrite}
 use Rattle.sqlite.specs.Effect.{is_query, RefusesToRead}
 use Rattle.sqlite.specs.Listing.{understood, reads_listing, IsSourceOf}
-use Rattle.sqlite.specs.State.{State, HasCleanDisk, Survives, mode_of, Executes, ExecutesIn, IsMisplaced, shows_rows, is_pragma, Fails, HasCause, IsNoStatement, IsNotRun, FailsToQuery, store_error, is_disk_error}
+use Rattle.sqlite.specs.State.{State, HasCleanDisk, Survives, mode_of, Executes, ExecutesIn, IsMisplaced, shows_rows, is_pragma, Fails, HasCause, IsNoStatement, IsNotRun, IsUnchanged, IsRolledBack, FailsToQuery, store_error, is_disk_error}
 use Rattle.sqlite.proofs.Callers.{IsPlain, command_of, statement_of}
 use Rattle.edf_tables.specs.Schema.{both_schema}
 use Rattle.edf_tables.specs.Refused.{HasFailed, IsStopped, IsUnread, IsUntold, IsCellRefused}
@@ -55,8 +55,8 @@ is_statement sql params old alone e (inr (c, known, inl short)) = short.0 (subst
 is_statement sql params old alone e (inr (c, known, inr (inl other))) = other.0 (sym (subst (λ r. names_of r ≡ length params) known alone.inputs))
 is_statement sql params old alone e (inr (c, known, inr (inr timed))) = timed.0 (subst IsPlain known alone.plain).1
 
-disk_error : (old new : State) (e told : Error) → e ≡ told → IsTrue (is_disk_error told) → IsTrue (is_disk_error e)
-disk_error old new e told is h = subst (λ x. IsTrue (is_disk_error x)) (sym is) h
+disk_error : (e told : Error) → e ≡ told → IsTrue (is_disk_error told) → IsTrue (is_disk_error e)
+disk_error e told is h = subst (λ x. IsTrue (is_disk_error x)) (sym is) h
 
 -- the store failed, or what is written is too large for it
 pub stopped_or : (old new : State) (TooLarge : Type 0) (e : Error) → Fails old new TooLarge e → IsStopped old new e ⊎ ((e ≡ SqliteFailure TooBig) × TooLarge)
@@ -64,9 +64,9 @@ stopped_or old new TooLarge e h = go h.0 h.1 h.2
   where
     go : (cause : StoreError) → e ≡ store_error cause → HasCause old new TooLarge cause → IsStopped old new e ⊎ ((e ≡ SqliteFailure TooBig) × TooLarge)
     go OutOfMemory is why = inl (no_memory is)
-    go Io is why = inl (disk_failed (disk_error old new e _ is refl) why)
-    go Corrupt is why = inl (disk_failed (disk_error old new e _ is refl) why)
-    go Full is why = inl (disk_failed (disk_error old new e _ is refl) why)
+    go Io is why = inl (disk_failed (disk_error e _ is refl) why)
+    go Corrupt is why = inl (disk_failed (disk_error e _ is refl) why)
+    go Full is why = inl (disk_failed (disk_error e _ is refl) why)
     go Broken is why = inl (was_shut is (inl why))
     go Unstorable is why = inr (is, why)
 
@@ -102,15 +102,15 @@ untold_since old mid new P Q e one two clean (inr it) = inr it
 -- what a statement is refused for: its place, its rules, or the store
 abbrev pub TurnsDown : State → State → Command → List ℕ → Row → Error → Type 0
 TurnsDown old new command text params e =
-    IsMisplaced old command e ⊎ ((IsWrite command × Does old.step_limit (mode_of old) params old.now text None command (Err (Some e))) ⊎ Fails old new (Does old.step_limit (mode_of old) params old.now text None command (Err None)) e)
+    (IsMisplaced old command e × IsUnchanged old new) ⊎ ((IsWrite command × Does old.step_limit (mode_of old) params old.now text None command (Err (Some e))) ⊎ Fails old new (Does old.step_limit (mode_of old) params old.now text None command (Err None)) e)
 
 -- a text that is one statement, shows no rows and has no RETURNING
 module _ (sql : List ℕ) (params : Row) (old new : State) (schema : Schema) (has : old.now.schema ≡ schema) (command : Command) (is : command_of (understood schema sql) ≡ command) (alone : IsAlone schema sql (length params))
     (dumb : (is_query command || (true && (is_pragma command || false))) ≡ false) where
-  pub turned_down : (e : Error) → Executes sql params old new (Err e) → IsStopped old new e ⊎ TurnsDown old new command (statement_of sql (understood schema sql)) params e
+  pub turned_down : (e : Error) → Executes sql params old new (Err e) → (IsStopped old new e × IsRolledBack old new) ⊎ TurnsDown old new command (statement_of sql (understood schema sql)) params e
   unfolding ExecutesIn IsNotRun
   turned_down e (inl (inl h)) = absurd (is_statement sql params old (subst (λ (s : Schema). IsAlone s sql (length params)) (sym has) alone) e h.0)
-  turned_down e (inl (inr h)) = inl (stopped_by old new e h)
+  turned_down e (inl (inr h)) = inl (stopped_by old new e h, h.3)
   turned_down e (inr h) =
       let known = sym h.1.is ∙ ap (λ s. understood s sql) has in
       let bare = subst IsPlain (sym known) alone.plain in
@@ -120,7 +120,7 @@ module _ (sql : List ℕ) (params : Row) (old new : State) (schema : Schema) (ha
         | inl shows ↦ absurd (true≢false (sym (subst₂ (λ k (r : Option Returning). (is_query k || (true && (is_pragma k || is_some r))) ≡ true) k bare.0 shows) ∙ dumb))
         | inr runs ↦ elim (rw runs at h.2) [
           | inl same ↦ elim same.0 [
-            | inl misplaced ↦ inr (inl (subst (λ k. IsMisplaced old k e) k misplaced))
+            | inl misplaced ↦ inr (inl (subst (λ k. IsMisplaced old k e) k misplaced, same.1))
             | inr may ↦ inr (inr (inl (elim may.0 [ inl writes ↦ subst IsWrite k writes | inr some ↦ absurd (true≢false (sym (subst IsSome bare.0 some))) ], subst₂ (λ k t. Does old.step_limit (mode_of old) params old.now t None k (Err (Some e))) k t (rw (bare.0, bare.1, append-nil params) at may.1))))
           ]
           | inr fails ↦ inr (inr (inr (subst₂ (λ k t. Fails old new (Does old.step_limit (mode_of old) params old.now t None k (Err None)) e) k t (rw (bare.0, bare.1, append-nil params) at fails))))

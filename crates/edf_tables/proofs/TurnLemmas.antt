@@ -50,9 +50,9 @@ in_turn : (sql : List ℕ) (old new : State) (command : Command) (is_inside : Bo
     → (is_query command || (true && (is_pragma command || false))) ≡ false → ¬ IsWrite command → ¬ Does old.step_limit (mode_of old) [] old.now (statement_of sql (understood old.now.schema sql)) None command (Err None)
     → ((e : Error) → IsMisplaced old command e → (e ≡ SqliteFailure TransactionState) × (old.in_transaction ≡ is_inside)) → (e : Error) → Executes sql [] old new (Err e) → IsTurnRefused is_inside old new e
 in_turn sql old new command is_inside is alone dumb calm small turn e h = elim (turned_down sql [] old new old.now.schema refl command is alone dumb e h) [
-  | inl it ↦ stopped it
+  | inl it ↦ stopped it.0
   | inr down ↦ elim down [
-    | inl place ↦ let it = turn e place in out_of_turn it.0 it.1
+    | inl place ↦ let it = turn e place.0 in out_of_turn it.0 it.1
     | inr rest ↦ elim rest [ inl ruled ↦ absurd (calm ruled.0) | inr fails ↦ elim (stopped_or old new _ e fails) [ inl it ↦ stopped it | inr large ↦ absurd (small large.1) ] ]
   ]
 ]

@@ -93,9 +93,9 @@ row_unadded sql params old new at terms width of has is alone listed plain typed
     let command = Insert at (Values terms width) in
     let text = statement_of sql (understood both_schema sql) in
     elim (turned_down sql params old new both_schema has command is alone refl e h) [
-      | inl it ↦ row.stopped it
+      | inl it ↦ row.stopped it.0
       | inr down ↦ elim down [
-        | inl place ↦ absurd (writes_at_any_place old command e tt place)
+        | inl place ↦ absurd (writes_at_any_place old command e tt place.0)
         | inr rest ↦ elim rest [
           | inl ruled ↦
               let does = rw listed at (subst (λ s. Does old.step_limit (mode_of old) params (record old.now { schema = s }) text None command (Err (Some e))) has ruled.1) in
@@ -189,9 +189,9 @@ module _ (sql : List ℕ) (old new : State) (schema : Schema) (has : old.now.sch
       → (IsWrite command × Does old.step_limit (mode_of old) [] old.now (statement_of sql (understood schema sql)) None command (Err (Some e)) → IsAltered e)
       → ¬ Does old.step_limit (mode_of old) [] old.now (statement_of sql (understood schema sql)) None command (Err None) → IsUnmade old new e
   unmade_as command is dumb anywhere rule small = elim (turned_down sql [] old new schema has command is alone dumb e h) [
-    | inl it ↦ table.stopped it
+    | inl it ↦ table.stopped it.0
     | inr down ↦ elim down [
-      | inl place ↦ absurd (anywhere place)
+      | inl place ↦ absurd (anywhere place.0)
       | inr rest ↦ elim rest [
         | inl ruled ↦ let it = rule ruled in table.against_rule it.0 it.1
         | inr fails ↦ elim (stopped_or old new _ e fails) [ inl it ↦ table.stopped it | inr large ↦ absurd (small large.1) ]
