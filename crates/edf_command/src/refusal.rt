@@ -208,6 +208,9 @@ fn differs_text(alloc: Global, number: u8, start: Instant) -> Result<Vec<u8>, Al
 /// The text of a refusal: `E` and its number, its name, and the details.
 ///
 /// Records and signals count from 1, offsets from 0; instants are written by [`instant_text`].
+///
+/// # Errors
+/// Where memory runs out.
 pub fn refusal_text(alloc: Global, refusal: &Refusal) -> Result<Vec<u8>, AllocError>
     ensures { IfOk result (λ r. (spell : ℕ → List ℕ) → IsSpelling spell → r.items ≡ refusal_text spell refusal.now) }
 {

@@ -22,9 +22,10 @@ use std::alloc::Global;
 /// them is in memory at a time, beside a buffer of 64 KiB. The store stays as it is. The writer is not flushed.
 ///
 /// # Errors
-/// `NoRecording` where nothing is held under the identity; then nothing was written. `Store` where the store refuses a read,
-/// E42 without a cause where the connection was left in a transaction. `Memory` where memory runs out, `Write` where a write
-/// fails or takes none of some bytes. Then a front of the file may have been written.
+/// `NoRecording` (E44) where nothing is held under the identity; then nothing was written. `Store` where the store refuses a read:
+/// E41, E42, without a cause where the connection was left in a transaction, or E45 where the disk returned what was not written.
+/// `Memory` (E41) where memory runs out here, `Write` (E43) where a write fails or takes none of some bytes. Then a front of the file
+/// may have been written.
 pub fn export<S: Alter, W: Output>(
     alloc: Global,
     store: &mut Store<S>,

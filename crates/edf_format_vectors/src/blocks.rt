@@ -1,4 +1,4 @@
-use edf_tal::{Note, Place, TalFault, block_len, read_block, same_notes, write_block};
+use edf_tal::{Note, Place, block_len, read_block, same_notes, write_block};
 use edf_time::Instant;
 use std::alloc::{AllocError, Global};
 
@@ -36,7 +36,7 @@ fn says(alloc: Global, block: &[u8], want: &str) -> Option<bool> {
 /// The canonical block of what is read.
 fn written(alloc: Global, block: &[u8]) -> Option<Vec<u8>> {
     let start = Instant::at(EVENING)?;
-    let (first, notes) = read_block(alloc, block, start, Place::Any).ok()?;
+    let (first, notes) = read_block(alloc, block, start, Place::First).ok()?;
     let written = write_block(alloc, first, notes.as_slice(), start).ok()?;
     if written.len() == block_len(first, notes.as_slice(), start) {
         Some(written)

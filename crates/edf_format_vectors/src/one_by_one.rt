@@ -181,8 +181,11 @@ const HEADER_FAULTS: &[(usize, &[u8], usize, HeaderFault)] = &[
     (176, b"24.00.00", 778, HeaderFault::Starttime),
     (168, b"03.03.02", 778, HeaderFault::DatesDiffer),
     (192, b"     ", 778, HeaderFault::NotPlus),
+    (236, b"0", 778, HeaderFault::Count),
     (236, b"-1", 778, HeaderFault::Count),
     (244, b"0", 778, HeaderFault::Duration),
+    (252, b"1", 778, HeaderFault::Signals),
+    (184, b"512", 778, HeaderFault::HeaderBytes),
     (0, b"0", 767, HeaderFault::CutSignals),
     (
         448,

@@ -7,7 +7,9 @@ ghost use Rattle.edf_header.specs.Inside.Rows.{RowsFail, IsSplit, IsSound, AreEx
 
 use crate::columns::row_from;
 use crate::fault::HeaderFault;
-use crate::fields::{DIGITAL_MAXIMUM, DIGITAL_MINIMUM, PREFILTERING, SAMPLES, SIGNAL_RESERVED};
+use crate::fields::{
+    DIGITAL_MAXIMUM, DIGITAL_MINIMUM, MOST_PART_BYTES, PREFILTERING, SAMPLES, SIGNAL_RESERVED,
+};
 use crate::fixed::Fixed;
 use crate::header::Header;
 use crate::header_signals::{first_bad_from, ordinary_samples_before};
@@ -85,10 +87,10 @@ fn extents_at(bytes: &[u8], n: usize, at: usize) -> Option<Extents>
         Some(samples) => 2 * u64::from(samples),
         None => unreachable!(),
     };
-    if ordinary > 4_194_304 {
+    if ordinary > MOST_PART_BYTES {
         return None;
     }
-    if block > 4_194_304 {
+    if block > MOST_PART_BYTES {
         return None;
     }
     Some(Extents {

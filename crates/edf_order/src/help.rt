@@ -53,7 +53,9 @@ Lists the recordings of a store, a line each: its place, how many data records
 are held, the start of the first, patient code and investigation code.
 
 Files belong to one recording where patient identification, recording
-identification, duration of a data record and ordinary signals are the same.";
+identification, duration of a data record and ordinary signals are the same. Of
+the start date in the recording identification it counts only whether there is
+one.";
 
 pub(crate) const LIST_EXAMPLE: &str = "\
 Example:

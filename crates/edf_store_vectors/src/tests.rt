@@ -75,15 +75,63 @@ fn closed(store: Store<FileStore<Memory>>) -> Option<Files<Memory>> {
     }
 }
 
-/// What a transaction that adds a data record tells: how many there were before, how many are there then, and how many near it.
-fn added<S: Alter>(
+/// A recording, and two of its data records.
+#[derive(Drop)]
+struct Two {
+    identity: Identity,
+    first: Record,
+    second: Record,
+}
+
+/// Q's data record and one that touches it.
+fn two_that_touch(alloc: Global) -> Option<Two> {
+    let (identity, first) = first_of(alloc, &file_q(alloc).ok()?)?;
+    let second = second_record(alloc)?;
+    Some(Two {
+        identity,
+        first,
+        second,
+    })
+}
+
+/// Which of two data records a store gave.
+#[derive(Clone, Copy, Debug, Drop, PartialEq, Eq)]
+enum Which {
+    Neither,
+    First,
+    Second,
+    Both,
+    Others,
+}
+
+/// Which of the two these are, in this order.
+fn told_which(found: &[Record], two: &Two) -> Which {
+    match found {
+        [] => Which::Neither,
+        [one] if one.same(&two.first) => Which::First,
+        [one] if one.same(&two.second) => Which::Second,
+        [one, other] if one.same(&two.first) && other.same(&two.second) => Which::Both,
+        _ => Which::Others,
+    }
+}
+
+/// What a transaction tells that adds a data record: how many there were before, how many are there then, and which of them meet the
+/// interval that begins half a second before it.
+fn add<S: Alter>(
     store: &mut Store<S>,
-    identity: &Identity,
+    two: &Two,
     data_record: &Record,
     keeps: bool,
-) -> Option<(u32, u32, usize)> {
-    let seen = put(store, identity, data_record, keeps).ok()?;
-    Some((seen.before, seen.after, seen.near.len()))
+) -> Option<(u32, u32, Which)> {
+    let seen = put(store, &two.identity, data_record, keeps).ok()?;
+    let near = told_which(seen.near.as_slice(), two);
+    Some((seen.before, seen.after, near))
+}
+
+/// Which of the two meet the interval that begins so many half seconds behind the first.
+fn near_at<S: Alter>(store: &mut Store<S>, two: &Two, halves: i8) -> Option<Which> {
+    let found = near(store, &two.identity, instant(halves)?).ok()?;
+    Some(told_which(found.as_slice(), two))
 }
 
 /// How many data records a recording has, and where the first and the last start, in nanoseconds behind Q's.
@@ -111,110 +159,86 @@ fn told_of_nothing<S: Alter>(
 #[derive(Clone, Copy, Debug, Drop, PartialEq, Eq)]
 struct Kept {
     nothing: (u32, usize, bool),
-    first: (u32, u32, usize),
-    given_up: (u32, u32, usize),
+    first: (u32, u32, Which),
+    /// Where the first starts, and half a second behind that.
+    near_one: (Which, Which),
+    given_up: (u32, u32, Which),
     one: (u32, i64, i64),
-    second: (u32, u32, usize),
+    one_is_read: bool,
+    second: (u32, u32, Which),
     two: (u32, i64, i64),
+    two_are_read: bool,
 }
 
 const KEPT: Kept = Kept {
     nothing: (CAP, 0, false),
-    first: (0, 1, 1),
-    given_up: (1, 2, 2),
+    first: (0, 1, Which::First),
+    near_one: (Which::First, Which::First),
+    given_up: (1, 2, Which::Both),
     one: (1, 0, 0),
-    second: (1, 2, 2),
+    one_is_read: true,
+    second: (1, 2, Which::Both),
     two: (2, 0, 1_000_000_000),
+    two_are_read: true,
 };
 
-fn told_of_two<S: Alter>(
-    store: &mut Store<S>,
-    identity: &Identity,
-    first: &Record,
-    second: &Record,
-) -> Option<Kept> {
+/// The two are put into a store.
+fn keep_two<S: Alter>(store: &mut Store<S>, two: &Two) -> Option<Kept> {
     Some(Kept {
-        nothing: told_of_nothing(store, identity)?,
-        first: added(store, identity, first, true)?,
-        given_up: added(store, identity, second, false)?,
-        one: summed(store, identity)?,
-        second: added(store, identity, second, true)?,
-        two: summed(store, identity)?,
+        nothing: told_of_nothing(store, &two.identity)?,
+        first: add(store, two, &two.first, true)?,
+        near_one: (near_at(store, two, 0)?, near_at(store, two, 1)?),
+        given_up: add(store, two, &two.second, false)?,
+        one: summed(store, &two.identity)?,
+        one_is_read: reads_one(store, &two.identity, &two.first).ok()?,
+        second: add(store, two, &two.second, true)?,
+        two: summed(store, &two.identity)?,
+        two_are_read: reads_both(store, &two.identity, &two.first, &two.second).ok()?,
     })
 }
 
-/// Q's data record and one that touches it, put into a store.
-fn keep_two<S: Alter>(alloc: Global, store: &mut Store<S>) -> Option<Kept> {
-    let (identity, first) = first_of(alloc, &file_q(alloc).ok()?)?;
-    let second = second_record(alloc)?;
-    told_of_two(store, &identity, &first, &second)
-}
-
 /// An instant, by the half seconds behind the first of the two, and which of them are near it.
-const NEAR: &[(i8, bool, bool)] = &[
-    (-2, false, false),
-    (-1, true, false),
-    (0, true, false),
-    (1, true, true),
-    (2, false, true),
-    (3, false, true),
-    (4, false, false),
+const NEAR: &[(i8, Which)] = &[
+    (-2, Which::Neither),
+    (-1, Which::First),
+    (0, Which::First),
+    (1, Which::Both),
+    (2, Which::Second),
+    (3, Which::Second),
+    (4, Which::Neither),
 ];
 
-/// Whether what is near is the first, where that is wanted, and then the second, where that is.
-fn are_those(found: &[Record], first: Option<&Record>, second: Option<&Record>) -> bool {
-    match (found, first, second) {
-        ([], None, None) => true,
-        ([one], Some(wanted), None) | ([one], None, Some(wanted)) => one.same(wanted),
-        ([one, two], Some(first), Some(second)) => one.same(first) && two.same(second),
-        _ => false,
-    }
-}
-
 /// The first instant near which others are than those of the table.
-fn told_near<S: Alter>(
-    store: &mut Store<S>,
-    identity: &Identity,
-    first: &Record,
-    second: &Record,
-) -> Option<Option<i8>> {
-    for (halves, has_first, has_second) in NEAR.iter().copied() {
-        let found = near(store, identity, instant(halves)?).ok()?;
-        let first = if has_first { Some(first) } else { None };
-        let second = if has_second { Some(second) } else { None };
-        if !are_those(found.as_slice(), first, second) {
+fn told_near<S: Alter>(store: &mut Store<S>, two: &Two) -> Option<Option<i8>> {
+    for (halves, wanted) in NEAR.iter().copied() {
+        if near_at(store, two, halves)? != wanted {
             return Some(Some(halves));
         }
     }
     Some(None)
 }
 
-/// The same of a store of Q's data record and the one that touches it.
-fn show_near<S: Alter>(alloc: Global, store: &mut Store<S>) -> Option<Option<i8>> {
-    let (identity, first) = first_of(alloc, &file_q(alloc).ok()?)?;
-    let second = second_record(alloc)?;
-    told_near(store, &identity, &first, &second)
+fn keep_in<S: Alter + Drop>(store: Store<S>, two: &Two) -> (Option<Kept>, Store<S>) {
+    let mut store = store;
+    (keep_two(&mut store, two), store)
 }
 
-fn keep_in<S: Alter + Drop>(alloc: Global, store: Store<S>) -> (Option<Kept>, Store<S>) {
+fn near_in<S: Alter + Drop>(store: Store<S>, two: &Two) -> Option<Option<i8>> {
     let mut store = store;
-    (keep_two(alloc, &mut store), store)
-}
-
-fn near_in<S: Alter + Drop>(alloc: Global, store: Store<S>) -> Option<Option<i8>> {
-    let mut store = store;
-    show_near(alloc, &mut store)
+    told_near(&mut store, two)
 }
 
 fn kept_in_memory(alloc: Global) -> Option<(Kept, Option<i8>)> {
-    let (kept, store) = keep_in(alloc, in_memory(alloc)?);
-    let near = near_in(alloc, store)?;
+    let two = two_that_touch(alloc)?;
+    let (kept, store) = keep_in(in_memory(alloc)?, &two);
+    let near = near_in(store, &two)?;
     Some((kept?, near))
 }
 
 fn kept_on_disk(alloc: Global) -> Option<(Kept, Option<i8>)> {
-    let (kept, store) = keep_in(alloc, on_disk(alloc, empty_files(alloc))?);
-    let near = near_in(alloc, on_disk(alloc, closed(store)?)?)?;
+    let two = two_that_touch(alloc)?;
+    let (kept, store) = keep_in(on_disk(alloc, empty_files(alloc))?, &two);
+    let near = near_in(on_disk(alloc, closed(store)?)?, &two)?;
     Some((kept?, near))
 }
 
@@ -247,6 +271,17 @@ fn reads_both<S: Alter>(
     let has_later = is(all.next()?, later);
     let ends = all.next()?.is_none();
     Ok(has_first && has_later && ends && all.next()?.is_none())
+}
+
+/// Whether a recording has this data record, and then no more.
+fn reads_one<S: Alter>(
+    store: &mut Store<S>,
+    identity: &Identity,
+    one: &Record,
+) -> Result<bool, StoreFault> {
+    let mut all = store.records(identity)?;
+    let has_one = is(all.next()?, one);
+    Ok(has_one && all.next()?.is_none())
 }
 
 /// Whether this is the first of a recording's data records, by a walk that is then left.
@@ -302,8 +337,8 @@ fn told_of_walks<S: Alter>(
 fn walk<S: Alter>(alloc: Global, store: &mut Store<S>) -> Option<Walked> {
     let (identity, later) = first_of(alloc, &file_p5(alloc).ok()?)?;
     let (same, first) = first_of(alloc, &file_q(alloc).ok()?)?;
-    added(store, &identity, &later, true)?;
-    added(store, &same, &first, true)?;
+    put(store, &identity, &later, true).ok()?;
+    put(store, &same, &first, true).ok()?;
     told_of_walks(store, &identity, &first, &later)
 }
 

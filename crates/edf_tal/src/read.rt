@@ -8,7 +8,7 @@ ghost use Rattle.edf_tal.specs.Inside.Scan.{AreTexts, TellsTal, AreSoundTals};
 use crate::check::check_block;
 use crate::note::Note;
 use crate::place::{Place, TalFault};
-use crate::scan::{Times, first_tal, split_first};
+use crate::scan::{TEXT_END, Times, first_tal, split_first};
 use crate::survey::onset_instant;
 use edf_time::Instant;
 use std::alloc::{AllocError, Global};
@@ -48,7 +48,7 @@ fn push_texts(
         ++ map (λ text. record { onset = onset; duration = duration; text = text }) xs) }
 {
     let mut rest = texts;
-    while let Some((text, more)) = split_first(rest, 20) {
+    while let Some((text, more)) = split_first(rest, TEXT_END) {
         let note = make_note(alloc, onset, duration, text)?;
         list.push(note)?;
         rest = more;

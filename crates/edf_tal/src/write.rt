@@ -114,8 +114,8 @@ fn annotation_len(base: Instant, onset: Instant, duration: Option<u64>, text: &[
     1 + short_len(distance(base, onset)) + duration_len(duration) + 3 + text.len()
 }
 
-/// The length in bytes of the block that `write_block` writes (EDF+, time-stamped annotations lists): at most 1,450,045. Contracts
-/// also learn what each annotation of the list is.
+/// The length in bytes of the block that `write_block` writes (EDF+, time-stamped annotations lists): at most 1,450,045, of 10,000
+/// annotations at most, with texts of 1,000,000 bytes in all. Contracts also learn what each annotation of the list is.
 pub fn block_len(start: Instant, notes: &[Note], base: Instant) -> usize
     requires { IsWithinLimits notes.now }
     ensures value { result ≡ length (block_text base start notes.now) }
@@ -133,8 +133,8 @@ pub fn block_len(start: Instant, notes: &[Note], base: Instant) -> usize
 /// lists).
 ///
 /// The time-keeping annotation stands alone in the first TAL, then each annotation in a TAL of its own, in order. Onsets
-/// count from `base`, with `+` where they do not lie before it; every decimal is the shortest. The block has at most 1,450,045
-/// bytes.
+/// count from `base`, with `+` where they do not lie before it; every decimal is the shortest. There are at most 10,000 annotations,
+/// with texts of 1,000,000 bytes in all, so the block has at most 1,450,045 bytes.
 ///
 /// # Errors
 /// Where memory runs out.

@@ -1,10 +1,11 @@
--- Each day of the window has parts, and so texts; and each second of a day has one.
-use Rattle.std.proofs.Common.{◌≡◌, ℕ, zero, suc, ◌+◌, ◌/◌, ◌%◌, ◌≤◌, ◌<◌, inl, inr, List, ◌∷◌, ◌++◌, arith, refl, ap, ◌∙◌, pos}
+-- Each day of the window has parts, and so texts; each second of a day has one, and so each instant of the window.
+use Rattle.std.proofs.Common.{◌≡◌, ℕ, zero, suc, ◌+◌, ◌/◌, ◌%◌, ◌^◌, ◌≤◌, ◌<◌, inl, inr, List, ◌∷◌, ◌++◌, arith, refl, ap, ◌∙◌, pos}
 use Rattle.std.proofs.lemmas.Bool.{cases_lt}
 use Rattle.jiff_core.specs.Calendar.{day_count, days_in_month}
 use Rattle.jiff_core.proofs.SignedLemmas.{signed_arith}
 use Rattle.jiff_core.proofs.CalendarLemmas.{days_from_civil-day_count, days_in_month_bounds, day_count-day, day_count-next_month, day_count-next_year, day_count-last_of_year}
-use Rattle.edf_time.specs.Civil.{IsDay, IsDateText, IsTimeText, IsIdDate, two_digits, four_digits, month_name}
+use Rattle.edf_time.specs.Civil.{IsDay, IsClock, IsDateText, IsTimeText, IsIdDate, IsInstantText, window, day_of, second_of_day, two_digits, four_digits, month_name}
+use Rattle.edf_time.specs.Decimal.{fraction_text}
 use Rattle.edf_time.proofs.Days.{first_day, year-from, year-to}
 
 -- a day of the calendar that lies so many days behind 1985-01-01
@@ -80,14 +81,32 @@ id_date-text days lt =
       record { year = f.year; month = f.month; day = f.day; is_text = refl; to = omega (arith, (in-years days f lt).1); is_day = f.is-day },
     )
 
+clock-at : (seconds : ℕ) → seconds < 86_400 → IsClock (seconds / 3_600) (seconds / 60 % 60) (seconds % 60) seconds
+clock-at seconds lt = record { in_day = omega arith; in_hour = omega arith; in_minute = omega arith; count = omega arith }
+
 pub time-text : (seconds : ℕ) → seconds < 86_400 → (text : List ℕ) × IsTimeText text seconds
 time-text seconds lt = (
   two_digits (seconds / 3_600) ++ 46 ∷ two_digits (seconds / 60 % 60) ++ 46 ∷ two_digits (seconds % 60),
-  record {
-    hour = seconds / 3_600;
-    minute = seconds / 60 % 60;
-    second = seconds % 60;
-    is_text = refl;
-    is_clock = record { in_day = omega arith; in_hour = omega arith; in_minute = omega arith; count = omega arith };
-  },
+  record { hour = seconds / 3_600; minute = seconds / 60 % 60; second = seconds % 60; is_text = refl; is_clock = clock-at seconds lt },
 )
+
+pub instant-text : (instant : ℕ) → instant < window → (text : List ℕ) × IsInstantText text instant
+instant-text instant lt =
+    let inside : day_of instant < 36_525 = omega arith in
+    let f = day-at (day_of instant) inside in
+    let seconds = second_of_day instant in (
+      four_digits f.year ++ 45 ∷ two_digits f.month ++ 45 ∷ two_digits f.day
+          ++ 84 ∷ two_digits (seconds / 3_600) ++ 58 ∷ two_digits (seconds / 60 % 60) ++ 58 ∷ two_digits (seconds % 60) ++ fraction_text (instant % 10 ^ 9),
+      record {
+        year = f.year;
+        month = f.month;
+        day = f.day;
+        hour = seconds / 3_600;
+        minute = seconds / 60 % 60;
+        second = seconds % 60;
+        is_text = refl;
+        to = omega (arith, (in-years (day_of instant) f inside).1);
+        is_day = f.is-day;
+        is_clock = clock-at seconds (omega arith);
+      },
+    )

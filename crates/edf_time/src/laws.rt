@@ -113,11 +113,13 @@ pub fn some_date()
         ((days : ℤ) × IsIdDate text days) ⊎ (¬ ((days : ℤ) × IsIdDate text days)) }
 {}
 
-/// Each day of the window has a text `dd.mm.yy` and a text `dd-MMM-yyyy`, and each second of a day a text `hh.mm.ss`.
+/// Each day of the window has a text `dd.mm.yy` and a text `dd-MMM-yyyy`, each second of a day a text `hh.mm.ss`, and each instant of the
+/// window a text `yyyy-mm-ddThh:mm:ss` with its decimals.
 pub fn each_has_a_text()
     ensures date { (days : ℕ) → days < 36_525 → (text : List ℕ) × IsDateText text days }
     ensures id_date { (days : ℕ) → days < 36_525 → (text : List ℕ) × IsIdDate text (pos days) }
     ensures time { (seconds : ℕ) → seconds < 86_400 → (text : List ℕ) × IsTimeText text seconds }
+    ensures instant { (instant : ℕ) → instant < window → (text : List ℕ) × IsInstantText text instant }
 {}
 
 /// The texts of a start name its day and the second of its day; it lies in the window and begins a second.

@@ -115,6 +115,7 @@ pub(crate) fn refused(alloc: Global, name: &str) -> Option<Vec<u8>> {
         "spoilt.edf" => changed_q(alloc, 777, b"\x01"),
         "late.edf" => changed_q(alloc, 773, b"1"),
         "other.edf" => changed_q(alloc, 768, b"\0"),
+        "no_such_hour.edf" => changed_q(alloc, 176, b"24.00.00"),
         "past.edf" => past(alloc),
         "half.edf" => half(alloc),
         "half_alone.edf" => half_alone(alloc),

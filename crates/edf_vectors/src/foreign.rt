@@ -1,8 +1,8 @@
 //! Files that hold what no submissions leave, on a disk.
 
 use crate::disk::lend;
-use crate::run::{connected, filled};
-use edf_sample::named::file_q;
+use crate::run::{connected, opened, submitted_to};
+use edf_sample::named::{file_p5, file_q};
 use edf_store::Store;
 use sqlite::{Alter, Connection, Files};
 use sqlite_disk::{Disk, Memory};
@@ -25,24 +25,10 @@ fn rows_of<S: Alter>(conn: &mut Connection<S>) -> Option<String> {
     Some(rows)
 }
 
-/// Whether disks are made a store that holds Q's data record.
-fn fill<D: Disk + Drop>(alloc: Global, disks: Files<D>) -> Option<bool> {
-    let files = vec![in alloc; file_q(alloc).ok()?].ok()?;
-    Some(filled(alloc, disks, files.as_slice(), 1000) == (1, true))
-}
-
 /// The rows that a statement leaves.
 fn rows_behind<S: Alter>(conn: &mut Connection<S>, sql: &str) -> Option<String> {
     conn.execute(sql, &[]).ok()?;
     rows_of(conn)
-}
-
-/// Runs a statement, gives the rows that it left, and closes.
-fn change<D: Disk + Drop>(alloc: Global, disks: Files<D>, sql: &str) -> Option<String> {
-    let mut conn = connected(alloc, disks, 1000)?;
-    let rows = rows_behind(&mut conn, sql);
-    conn.close().ok()?;
-    rows
 }
 
 fn all_rows<S: Alter + Drop>(mut conn: Connection<S>) -> Option<String> {
@@ -52,11 +38,6 @@ fn all_rows<S: Alter + Drop>(mut conn: Connection<S>) -> Option<String> {
 /// The rows of disks.
 fn found<D: Disk + Drop>(alloc: Global, disks: Files<D>) -> Option<String> {
     all_rows(connected(alloc, disks, 1000)?)
-}
-
-/// With what number disks are refused as a store, 0 where they are taken.
-fn refusal<D: Disk + Drop>(alloc: Global, disks: Files<D>, cap: u32) -> Option<u8> {
-    answered(alloc, connected(alloc, disks, 1000)?, cap)
 }
 
 /// The number of the refusal with which a connection is taken for a store, 0 where it is taken.
@@ -70,49 +51,77 @@ fn answered<S: Alter + Drop>(alloc: Global, conn: Connection<S>, cap: u32) -> Op
     }
 }
 
-/// How a store of Q's data record is opened behind a statement, and whether its rows are then those that the statement left.
-fn opened_behind(alloc: Global, sql: &str, cap: u32) -> Option<(u8, bool)> {
-    let mut log = Memory::new(alloc);
-    let mut db = Memory::new(alloc);
-    let filled = fill(alloc, lend(&mut log, &mut db))?;
-    let left = change(alloc, lend(&mut log, &mut db), sql)?;
-    let number = refusal(alloc, lend(&mut log, &mut db), cap)?;
-    let stays = found(alloc, lend(&mut log, &mut db))?.as_str() == left.as_str();
-    Some((number, filled && stays))
+/// How the connection of a store is opened again behind files, all accepted, and a statement; and the rows that the statement left.
+fn reopened<S: Alter + Drop>(
+    alloc: Global,
+    store: Store<S>,
+    files: &[Vec<u8>],
+    sql: &str,
+    cap: u32,
+) -> Option<(u8, String)> {
+    let (count, mut conn) = submitted_to(alloc, store, files);
+    if count != files.len() {
+        return None;
+    }
+    let rows = rows_behind(&mut conn, sql)?;
+    Some((answered(alloc, conn, cap)?, rows))
 }
 
-const TOUCHING: &str =
-    "INSERT INTO record SELECT recording, 541727991000000000, x'0100FFFF', x'2B353431373237393931141400' FROM record";
+/// The same of a store on disks, and whether these then have the rows that the statement left.
+fn opened_behind(alloc: Global, files: &[Vec<u8>], sql: &str, cap: u32) -> Option<(u8, bool)> {
+    let mut log = Memory::new(alloc);
+    let mut db = Memory::new(alloc);
+    let store = opened(alloc, lend(&mut log, &mut db), 1000)?;
+    let (number, rows) = reopened(alloc, store, files, sql, cap)?;
+    let stays = found(alloc, lend(&mut log, &mut db))?.as_str() == rows.as_str();
+    Some((number, stays))
+}
 
-/// What is done to the file, the cap that it is opened with, and the number of the refusal, 0 for none.
-const FOREIGN: &[(&str, u32, u8)] = &[
-    ("", 1, 0),
-    ("INSERT INTO recording (identity) VALUES (x'00')", 9, 45),
-    ("DELETE FROM record", 9, 45),
-    ("DELETE FROM recording", 9, 45),
-    ("UPDATE record SET start = -1", 9, 45),
-    ("UPDATE record SET start = start + 1", 9, 45),
-    ("UPDATE record SET samples = x'0000'", 9, 45),
-    ("UPDATE record SET block = x'00'", 9, 45),
+/// The same of a store of Q's data record.
+fn q_behind(alloc: Global, sql: &str) -> Option<(u8, bool)> {
+    let files = vec![in alloc; file_q(alloc).ok()?].ok()?;
+    opened_behind(alloc, files.as_slice(), sql, 9)
+}
+
+/// What is done to the file, and the number of the refusal, 0 for none.
+const FOREIGN: &[(&str, u8)] = &[
+    ("", 0),
+    ("INSERT INTO recording (identity) VALUES (x'00')", 45),
+    ("DELETE FROM record", 45),
+    ("DELETE FROM recording", 45),
+    ("UPDATE record SET start = -1", 45),
+    ("UPDATE record SET start = start + 1", 45),
+    ("UPDATE record SET samples = x'0000'", 45),
+    ("UPDATE record SET block = x'00'", 45),
     (
         "UPDATE record SET block = x'2B3534313732373939302E30141400'",
-        9,
         45,
     ),
     (
         "INSERT INTO record SELECT recording, 541727990500000000, x'0100FFFF', x'2B3534313732373939302E35141400' FROM record",
-        9,
         45,
     ),
-    (TOUCHING, 1, 45),
-    (TOUCHING, 2, 0),
-    ("CREATE TABLE another (x)", 9, 45),
+    ("CREATE TABLE another (x)", 45),
 ];
 
 #[test]
 fn a_foreign_file_is_refused_and_keeps_its_rows(rt: HostRuntime) {
-    for (sql, cap, number) in FOREIGN.iter().copied() {
-        let told = opened_behind(rt.alloc(), sql, cap);
+    for (sql, number) in FOREIGN.iter().copied() {
+        let told = q_behind(rt.alloc(), sql);
         assert_eq!(rt; told, Some((number, true)), "{sql}");
+    }
+}
+
+/// The same of a store of P5 and Q, which is opened again with this cap.
+fn both_under(alloc: Global, cap: u32) -> Option<(u8, bool)> {
+    let files = vec![in alloc; file_p5(alloc).ok()?, file_q(alloc).ok()?].ok()?;
+    opened_behind(alloc, files.as_slice(), "", cap)
+}
+
+#[test]
+fn a_recording_above_the_cap_is_foreign(rt: HostRuntime) {
+    for (cap, number) in [(1u32, 45u8), (2, 0)] {
+        let told = both_under(rt.alloc(), cap);
+        assert_eq!(rt; told, Some((number, true)), "{cap}");
     }
 }

@@ -57,17 +57,33 @@ fn serves(first: Answer, second: Answer) -> Option<Served> {
     if fits { Some(Served::Short) } else { None }
 }
 
-/// Submits P5 and then Q under a budget. What was accepted is held then and nothing else, and both are accepted again where there
-/// is memory.
-fn submit_under(alloc: Global, scarce: &mut Scarce, budget: usize) -> Option<Served> {
-    let (p5, q) = (file_p5(alloc).ok()?, file_q(alloc).ok()?);
-    let mut store = empty_store(alloc, CAP)?;
+/// What a file is answered under a budget; `None` where it was refused and what is held is not what was.
+fn taken_under(
+    alloc: Global,
+    store: &mut Store<MemStore>,
+    bytes: &[u8],
+    scarce: &mut Scarce,
+    budget: usize,
+) -> Option<Answer> {
+    let before = held(alloc, store)?;
     if !scarce.leave(alloc, budget) {
         return None;
     }
-    let first = taken(alloc, &mut store, &p5);
-    let second = taken(alloc, &mut store, &q);
+    let answer = taken(alloc, store, bytes);
     scarce.ease();
+    if answer.is_err() && held(alloc, store)? != before {
+        return None;
+    }
+    Some(answer)
+}
+
+/// Submits P5 and then Q, each under a budget. What was accepted is held then and nothing else, and both are accepted again where
+/// there is memory.
+fn submit_under(alloc: Global, scarce: &mut Scarce, budget: usize) -> Option<Served> {
+    let (p5, q) = (file_p5(alloc).ok()?, file_q(alloc).ok()?);
+    let mut store = empty_store(alloc, CAP)?;
+    let first = taken_under(alloc, &mut store, &p5, scarce, budget)?;
+    let second = taken_under(alloc, &mut store, &q, scarce, budget)?;
     let (records, _) = held(alloc, &mut store)?;
     if records != u32::from(first.is_ok()) + u32::from(second.is_ok()) {
         return None;
@@ -264,25 +280,25 @@ fn tried_until_whole(alloc: Global, trial: Trial) -> Option<(u32, u32)> {
 #[test]
 fn submissions_without_memory_leave_what_is_held_and_are_accepted_again(rt: HostRuntime) {
     let told = tried_until_whole(rt.alloc(), Trial::Submissions);
-    assert!(rt; matches!(told, Some((0, 1..))), "{told:?}");
+    assert!(rt; matches!(told, Some((0, 100..))), "{told:?}");
 }
 
 #[test]
 fn an_export_without_memory_is_a_front_of_the_file(rt: HostRuntime) {
     let told = tried_until_whole(rt.alloc(), Trial::Export);
-    assert!(rt; matches!(told, Some((0, 1..))), "{told:?}");
+    assert!(rt; matches!(told, Some((0, 100..))), "{told:?}");
 }
 
 #[test]
 fn a_list_without_memory_for_its_answers_is_not_begun(rt: HostRuntime) {
     let told = tried_until_whole(rt.alloc(), Trial::List);
-    assert!(rt; matches!(told, Some((1.., 1..))), "{told:?}");
+    assert!(rt; matches!(told, Some((1.., 100..))), "{told:?}");
 }
 
 #[test]
 fn an_order_without_memory_tells_what_became_of_each_file(rt: HostRuntime) {
     let told = tried_until_whole(rt.alloc(), Trial::Order);
-    assert!(rt; matches!(told, Some((1.., 1..))), "{told:?}");
+    assert!(rt; matches!(told, Some((1.., 100..))), "{told:?}");
 }
 
 /// How many answers a list of no files has, and how many data records are held then.

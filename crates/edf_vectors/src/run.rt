@@ -104,7 +104,7 @@ fn found<S: Alter>(alloc: Global, store: &mut Store<S>, night: &Night) -> Option
 }
 
 /// Submits files, and gives the connection of the store behind how many of them are accepted.
-fn submitted_to<S: Alter>(
+pub(crate) fn submitted_to<S: Alter>(
     alloc: Global,
     mut store: Store<S>,
     files: &[Vec<u8>],

@@ -61,6 +61,14 @@ const MANY: &[(&str, &str)] = &[
         "fraction.edf accepted new=1 known=0\nstatus 0\n",
     ),
     (
+        "take night.db last.edf",
+        "last.edf accepted new=1 known=0\nstatus 0\n",
+    ),
+    (
+        "take night.db u.edf",
+        "u.edf accepted new=2 known=0\nstatus 0\n",
+    ),
+    (
         "take night.db long.edf",
         "long.edf accepted new=1000 known=0\nstatus 0\n",
     ),
@@ -220,6 +228,11 @@ fn a_night_is_taken_and_listed_and_has_no_second_place(rt: HostRuntime) {
 /// Words, and what is told of them.
 const LISTED: &[(&str, &str)] = &[
     (
+        "take night.db q.edf undated.edf",
+        "1 records=1 first=2002-03-02T23:59:50 patient=P7 investigation=N1\n\
+            2 records=1 first=2002-03-02T23:59:50 patient=P7 investigation=N1\n",
+    ),
+    (
         "take night.db undated.edf q.edf",
         "1 records=1 first=2002-03-02T23:59:50 patient=P7 investigation=N1\n\
             2 records=1 first=2002-03-02T23:59:50 patient=P7 investigation=N1\n",
@@ -292,6 +305,10 @@ const MISSING: &[(&str, &str)] = &[
     (
         "convert empty.edf",
         "err: empty.edf refused E1 Cut\nstatus 1\n",
+    ),
+    (
+        "convert no_such_hour.edf",
+        "err: no_such_hour.edf refused E7 Starttime\nstatus 1\n",
     ),
     (
         "export night.db 1",

@@ -15,11 +15,11 @@ unreachable-requires c =
     let at = one-at c.args.bytes.now c.args.n c.args.at c.row_from.result (omega (arith, c.requires.split.within, length-signals c.args.bytes.now c.args.n)) c.row_from.ensures in
     c.in-None.ensures (member-meets HasSamples (signals_of c.args.bytes.now c.args.n) c.args.at c.row_from.result at.0 at.1 c.requires.samples).whole
 
-pub returns-then-ordinary-gt4194304 : goal.returns-then-ordinary-gt4194304
-returns-then-ordinary-gt4194304 c = inl (omega (arith, all-samples c.args.bytes.now c.args.n c.ordinary_samples_before-ordinary.result c.ordinary_samples_before-ordinary.ensures.value))
+pub returns-then-ordinary-gt-MOST_PART_BYTES : goal.returns-then-ordinary-gt-MOST_PART_BYTES
+returns-then-ordinary-gt-MOST_PART_BYTES c = inl (omega (arith, all-samples c.args.bytes.now c.args.n c.ordinary_samples_before-ordinary.result c.ordinary_samples_before-ordinary.ensures.value))
 
-pub returns-then-block-gt4194304 : goal.returns-then-block-gt4194304
-returns-then-block-gt4194304 c =
+pub returns-then-block-gt-MOST_PART_BYTES : goal.returns-then-block-gt-MOST_PART_BYTES
+returns-then-block-gt-MOST_PART_BYTES c =
     let ss = signals_of c.args.bytes.now c.args.n in
     let here = row-at c.args.bytes.now c.args.n c.args.at (omega (arith, c.requires.split.within, length-signals c.args.bytes.now c.args.n)) in
     let e = block-is ss c.args.at c.row_from.result c.in-Some.samples c.from.result (c.row_from.ensures ∙ sym here) c.in-Some.ensures.1 c.from.ensures in

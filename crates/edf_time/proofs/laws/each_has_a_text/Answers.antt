@@ -1,4 +1,4 @@
-use Rattle.edf_time.proofs.SomeText.{date-text, id_date-text, time-text}
+use Rattle.edf_time.proofs.SomeText.{date-text, id_date-text, time-text, instant-text}
 use Rattle.edf_time.proofs.laws.each_has_a_text.Goals as goal
 
 pub returns-clause-date : goal.returns-clause-date
@@ -9,3 +9,6 @@ returns-clause-id_date c = id_date-text
 
 pub returns-clause-time : goal.returns-clause-time
 returns-clause-time c = time-text
+
+pub returns-clause-instant : goal.returns-clause-instant
+returns-clause-instant c = instant-text
