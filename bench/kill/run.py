@@ -66,8 +66,8 @@ class Bench:
         export = self.ran("export", store, 1)
         if export.returncode:
             lost(f"export ended with status {export.returncode}: {export.stderr!r}")
-        wanted = f"1 records={(len(export.stdout) - 768 - 512) // (NIGHT.record_bytes + 2)} "
-        if not listed.stdout.startswith(b"1 records=") or listed.stdout.count(b"\n") != 1:
+        wanted = b"1 records=%d " % int(export.stdout[236:244])     # the number of data records that the header tells
+        if not listed.stdout.startswith(wanted) or listed.stdout.count(b"\n") != 1:
             lost(f"the list is {listed.stdout!r}, wanted {wanted!r} and so on")
         return export.stdout
 

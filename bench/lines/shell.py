@@ -80,8 +80,8 @@ def stores(checks: Checks) -> None:
     refused = "store refused E42 Store\n"
     checks.shell("edfstore list none/s.db", err=refused, status=3)
     checks.shell("mkdir folder; edfstore take folder a.edf", err=refused, status=3)
-    checks.shell("edfstore list a.edf", err=refused, status=3)
-    checks.shell("cmp a.edf a.edf && edfstore export '' 1", err=refused, status=3)
+    checks.shell("cp a.edf before.edf; edfstore list a.edf", err=refused, status=3)
+    checks.shell("cmp before.edf a.edf && edfstore export '' 1", err=refused, status=3)
     checks.shell("cp s.db copy.db; edfstore list copy.db", ONE)
     checks.shell("edfstore take :memory: a.edf p.edf a.edf", f"a.edf {NEW}p.edf {NEW}a.edf {KNOWN}")
     checks.shell("edfstore export s.db 1 | edfstore take other.db -; edfstore export other.db 1 | cmp - a.edf", f"- {NEW}")
