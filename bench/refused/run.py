@@ -24,10 +24,11 @@ import model  # noqa: E402
 
 FILES = {"p5.edf": edf.small_files()["P5"], "q.edf": edf.small_files()["Q"]}
 NEW, KNOWN = "accepted new=1 known=0", "accepted new=0 known=1"
-REFUSALS = {"memory": {"E41 Memory"}, "disk": {"E40 Read", "E42 Store"}}
+# Want of memory for a file's buffer is a failed read of it.
+REFUSALS = {"memory": {"E40 Read", "E41 Memory"}, "disk": {"E40 Read", "E42 Store"}}
 # What may stand on standard error of a run that was refused something.
 SAID = {
-    "memory": re.compile(rb"((command|take|list|store|export|-) refused E41 Memory\n)?\Z"),
+    "memory": re.compile(rb"((command|take|list|store|export|-) refused E4[01] (Memory|Read)\n)?\Z"),
     "disk": re.compile(rb"((list|store|export|-) refused (E40 Read|E42 Store|E43 Write)\n)?\Z"),
 }
 
@@ -59,7 +60,7 @@ class Bench:
         whole = model.Store()
         for data in FILES.values():
             whole.take(data)
-        self.export, self.lines = whole.export(1), "".join(f"{line}\n" for line in whole.lines()).encode()
+        self.export, self.lines = whole.export(1), whole.lines().encode()
         self.answers = collections.Counter()
 
     def ran(self, *words, refusal: Refusal = None, given: bytes = b"") -> tuple:
