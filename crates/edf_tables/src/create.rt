@@ -9,7 +9,7 @@ ghost use Rattle.edf_tables.specs.Refused.{IsUnmade};
 
 use sqlite::{Alter, Connection, Error};
 
-/// Makes the table `recording` where it is missing.
+/// Makes the table `recording` where it is missing. The number is `sqlite`'s count of changed rows, and nothing is promised of it.
 ///
 /// # Errors
 /// `sqlite`'s; nothing is committed then. A crash leaves the table as it was, or made.
@@ -26,7 +26,7 @@ pub fn create_recording<S: Alter>(conn: &mut Connection<S>) -> Result<usize, Err
     )
 }
 
-/// Makes the table `record` where it is missing and `recording` is there.
+/// Makes the table `record` where it is missing and `recording` is there. Of the number nothing is promised, as above.
 ///
 /// # Errors
 /// `sqlite`'s; nothing is committed then. A crash leaves the table as it was, or made.

@@ -1,6 +1,6 @@
 //! The statements of a store of recordings, over rows of SQL values.
 //!
-//! One SQL text is one function, over any store that `sqlite` takes; it knows nothing of EDF. Two tables are kept: `recording`
+//! One SQL text is one function, over any store that `sqlite` takes; what the cells mean is known above. Two tables are kept: `recording`
 //! has an id and the bytes of an identity, `record` the id of its recording, a start, samples and a block.
 //!
 //! What `sqlite` refuses is for want of memory, a failure of the disk, a connection that is shut, or, by the statement, a limit of

@@ -27,7 +27,7 @@ pub fn insert_recording<S: Alter>(conn: &mut Connection<S>, identity: &[u8]) -> 
     Ok(conn.last_insert_rowid())
 }
 
-/// Adds a row to `record`.
+/// Adds a row to `record`. The number is `sqlite`'s count of changed rows, and nothing is promised of it.
 ///
 /// # Errors
 /// `sqlite`'s, also where the recording has a record of this start; what is committed stays, and the transaction may be undone.
