@@ -57,6 +57,7 @@ static long failed(void) {
 
 ssize_t read(int file, void *bytes, size_t size) { return DISK(syscall(SYS_read, file, bytes, size)); }
 ssize_t write(int file, const void *bytes, size_t size) { return DISK(syscall(SYS_write, file, bytes, size)); }
+ssize_t __write(int file, const void *bytes, size_t size) { return write(file, bytes, size); }
 ssize_t pread(int file, void *bytes, size_t size, off_t at) { return DISK(syscall(SYS_pread64, file, bytes, size, at)); }
 ssize_t pwrite(int file, const void *bytes, size_t size, off_t at) { return DISK(syscall(SYS_pwrite64, file, bytes, size, at)); }
 ssize_t pread64(int file, void *bytes, size_t size, off64_t at) { return DISK(syscall(SYS_pread64, file, bytes, size, at)); }

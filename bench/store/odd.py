@@ -1,5 +1,5 @@
 #!/usr/bin/env python3
-"""Files that are no stores, stores with foreign rows, and a store of a million rows, as the program meets them.
+"""Files that are no stores, our tables made in other ways, foreign rows, and a store of a million rows, as the program meets them.
 
     bench/store/odd.py [--program PATH]
 
@@ -37,6 +37,18 @@ FOREIGN = (
     "UPDATE record SET recording = recording + 1",
     "UPDATE recording SET identity = CAST(identity || x'20' AS BLOB)",
     "INSERT INTO record SELECT recording, 541727990500000000, samples, x'2B3534313732373939302E35141400' FROM record",
+)
+
+# How another program may have made our two tables, and what is answered then
+MADE = (
+    ("our tables", TABLES, ""),
+    ("the first of our tables alone", TABLES[:1], ""),
+    ("our tables behind one that was dropped before they were made", ("CREATE TABLE t (x)", "DROP TABLE t", *TABLES), ""),
+    ("the second of our tables alone", TABLES[1:], "E45"),
+    ("our tables in the other order", TABLES[::-1], "E45"),
+    ("our tables behind one that was dropped later", ("CREATE TABLE t (x)", *TABLES, "DROP TABLE t"), "E45"),
+    ("our tables beside another", (*TABLES, "CREATE TABLE t (x)"), "E45"),
+    ("our tables behind ANALYZE", (*TABLES, "ANALYZE"), "E45"),
 )
 
 
@@ -117,6 +129,13 @@ def no_stores(odd: Odd) -> None:
         odd.check("a store without leave to read", "E42")
 
 
+def made(odd: Odd) -> None:
+    for what, statements, wanted in MADE:
+        odd.clean()
+        changed(odd.store, *statements)
+        odd.check(what, wanted)
+
+
 def foreign(odd: Odd) -> None:
     for statement in FOREIGN:
         changed(odd.held(), statement)
@@ -154,6 +173,7 @@ def main() -> None:
     with measure.scratch() as name:
         odd = Odd(program, Path(name))
         no_stores(odd)
+        made(odd)
         foreign(odd)
         many_rows(odd)
     print(f"{odd.done} files, {odd.wrong} answered otherwise than wanted")
