@@ -1,5 +1,5 @@
 -- The answer to a whole fragment from what its data records met.
-use Rattle.std.proofs.Common.{◌≡◌, ◌≢◌, ℕ, ◌+◌, ◌<◌, ◌≤◌, inl, inr, cond, nat_eq, List, length, Option, MatchOption, Some, None, Err, refl, sym, ap, subst, ◌∙◌, arith}
+use Rattle.std.proofs.Common.{◌≡◌, ◌≢◌, ℕ, ◌+◌, ◌-◌, ◌<◌, ◌≤◌, inl, inr, cond, nat_eq, List, length, Option, MatchOption, Some, None, Err, refl, sym, ap, subst, ◌∙◌, arith}
 use Rattle.std.proofs.lemmas.Bool.Decides.{eqb_tells}
 use Rattle.std.proofs.lemmas.Bool.{cond-true, cond-false}
 use Rattle.edf_header.specs.Key.{Key}
@@ -12,7 +12,7 @@ use Rattle.edf_holdings.proofs.Walked.{Taken, Stopped, reply_stopped, reply_full
 use Rattle.edf_intake.specs.Refusal.{reply_told}
 use Rattle.edf_intake.specs.declared.answer.Refusal.{Refusal}
 use Rattle.edf_intake.specs.declared.answer.Refusal.TheVariants as refusal
-use Rattle.edf_intake.specs.Inside.Step.{CountsAll, NamesClash, IsTally}
+use Rattle.edf_intake.specs.Inside.Step.{IsRoom, CountsAll, NamesClash, IsTally}
 use Rattle.edf_intake.specs.declared.walk.Starts.{Starts}
 use Rattle.edf_intake.specs.declared.walk.Tally.{Tally}
 
@@ -51,18 +51,21 @@ clash_told cap key h records starts told differs overlaps k =
     named : reply cap h (Fragment key records) ≡ cond (nat_eq starts.start starts.stored) (Differs starts.start) (Overlap starts.start starts.stored)
     named = reply_stopped cap key h records (starts.start, starts.stored) (stopped_of key h records starts k)
 
-pub full_here : (cap held room : ℕ) (key : Key) (h : Holdings) (records : List DataRecord) (tally : Tally) → CountsAll key h records tally
-    → length (h key) ≡ held → held + room ≡ cap → room < tally.new → reply cap h (Fragment key records) ≡ Full held tally.new cap
-full_here cap held room key h records tally k same all past =
-    reply_full cap key h records (put key records h) tally.new tally.known (taken_of cap key h records tally k) (omega (arith, past)) (omega (arith, past, same, all))
+-- want of room where a fragment has more new records than there is room for: no less room was found than there is
+pub full_here : (cap room : ℕ) (key : Key) (h : Holdings) (records : List DataRecord) (tally : Tally) → CountsAll key h records tally
+    → IsRoom cap (length (h key)) (length records) room → room < tally.new → reply cap h (Fragment key records) ≡ Full (cap - room) tally.new cap
+full_here cap room key h records tally k it past =
+    let all : length (h key) + room ≡ cap = elim it.enough [ inl same ↦ same | inr many ↦ absurd (omega (arith, many, past, k.all)) ] in
+    let same : length (h key) ≡ cap - room = omega (arith, all) in
+    reply_full cap key h records (put key records h) tally.new tally.known (taken_of cap key h records tally k) (omega (arith, past)) (omega (arith, past, all))
     ∙ ap (λ (n : ℕ). Full n tally.new cap) same
 
 pub accepted_here : (cap room : ℕ) (key : Key) (h : Holdings) (records : List DataRecord) (tally : Tally) → CountsAll key h records tally
-    → length (h key) + room ≡ cap → tally.new ≤ room → reply cap h (Fragment key records) ≡ Accepted key tally.new tally.known
+    → length (h key) + room ≤ cap → tally.new ≤ room → reply cap h (Fragment key records) ≡ Accepted key tally.new tally.known
 accepted_here cap room key h records tally k all low =
     reply_accepted cap key h records (put key records h) tally.new tally.known (taken_of cap key h records tally k) (omega (arith, low, all))
 
 pub left_here : (cap room : ℕ) (key : Key) (h : Holdings) (records : List DataRecord) (tally : Tally) → IsSoundTold (Fragment key records) → IsGood cap h → CountsAll key h records tally
-    → length (h key) + room ≡ cap → tally.new ≤ room → put key records h ≡ after_one cap h (Fragment key records)
+    → length (h key) + room ≤ cap → tally.new ≤ room → put key records h ≡ after_one cap h (Fragment key records)
 left_here cap room key h records tally sound good k all low =
     after_accepted cap key h records (put key records h) tally.new tally.known sound good (taken_of cap key h records tally k) (omega (arith, low, all))

@@ -1,5 +1,5 @@
 -- The loop over the data records of a fragment: its begin, one turn, its end.
-use Rattle.std.proofs.Common.{◌≡◌, ℕ, ◌+◌, ◌<◌, ◌≤◌, List, [], ◌∷◌, ◌++◌, length, Option, Some, None, Ok, sym, subst, arith}
+use Rattle.std.proofs.Common.{◌≡◌, ℕ, ◌+◌, ◌-◌, ◌<◌, ◌≤◌, List, [], ◌∷◌, ◌++◌, length, Option, Some, None, Ok, sym, subst, arith}
 use Rattle.sqlite_trees.specs.declared.store.Store.{Ghosts}
 use Rattle.sqlite.specs.State.{HasCleanDisk}
 use Rattle.edf_field.specs.Number.{duration_of}
@@ -18,10 +18,10 @@ use Rattle.edf_holdings.proofs.Walked.{Taken, Walked, nothing_read, taken_room}
 use Rattle.edf_rows.proofs.RowsLemmas.{one-holdings}
 use Rattle.edf_store.specs.Held.{Kept, at}
 use Rattle.edf_store.specs.Transaction.{Sees, IsRunning}
-use Rattle.edf_intake.specs.Inside.Step.{IsNext, IsTally}
+use Rattle.edf_intake.specs.Inside.Step.{IsNext, IsRoom, IsTally}
 use Rattle.edf_intake.specs.declared.walk.Starts.{Starts}
 use Rattle.edf_intake.specs.declared.walk.Tally.{Tally}
-use Rattle.edf_intake.proofs.Walking.{Walking, starts_of, met_next}
+use Rattle.edf_intake.proofs.Walking.{Walking, starts_of, next_in_all, met_next}
 
 -- what a transaction sees is one
 pub seen_is_one : {S : Type 0} (g : Ghosts S) (now : Kept S) (h t : Holdings) → HasCleanDisk (at g now) → Sees g now h → Sees g now t → h ≡ t
@@ -31,7 +31,7 @@ seen_is_one g now h t clean a b =
     one-holdings (at g now).now.trees h t now.cap now.cap p.stand p.sound q.stand q.sound
 
 module _ {S : Type 0} (g : Ghosts S) (first : Kept S) (l : Layout) (before left : Option (List ℕ)) (header : ReadsHeader before left l) (room : ℕ)
-    (space : HasCleanDisk (at g first) → (h : Holdings) → Sees g first h → length (h l.key) + room ≡ first.cap) where
+    (space : HasCleanDisk (at g first) → (h : Holdings) → Sees g first h → IsRoom first.cap (length (h l.key)) l.count room) where
   held_apart : HasCleanDisk (at g first) → (h : Holdings) → Sees g first h → IsApart (duration_of l.key.duration) 0 (h l.key)
   held_apart clean h seen = (IsGood-from_sound first.cap h (seen clean).sound).apart l.key
 
@@ -56,30 +56,32 @@ module _ {S : Type 0} (g : Ghosts S) (first : Kept S) (l : Layout) (before left 
       let m = w.met clean some.0 start in
       let taken : Taken first.cap l.key some.0 w.records m.0 tally.new tally.known = subst (λ (o : Option Starts). Walked first.cap l.key some.0 w.records m.0 tally.new tally.known (starts_of o)) none m.2 in
       let few = taken_room first.cap l.key some.0 w.records m.0 tally.new tally.known (read-key before left l header) (held_apart (was clean) some.0 start)
-      (read_apart rest w.records p w.read) taken (omega (arith, low, space (was clean) some.0 start)) in
+      (read_apart rest w.records p w.read) taken (omega (arith, low, (space (was clean) some.0 start).fits)) in
       let one : m.0 ≡ h = seen_is_one g now m.0 h clean m.1 seen in
       let said : length (h l.key) < first.cap = subst (λ (z : Holdings). length (z l.key) < first.cap) one few in
       subst (λ (n : ℕ). length (h l.key) < n) (sym same) said
 
   -- one record more
   pub one_turn : (now next : Kept S) (mid rest : Option (List ℕ)) (p q : Progress) (from to : Tally) (r : DataRecord) → Walking g first now l left mid p from
-      → p.status ≡ Reading → IsAnswer l p q mid rest (Ok (Some r)) → q.given ≡ p.given + 1
+      → p.status ≡ Reading → IsAnswer l p q mid rest (Ok (Some r)) → q.given ≡ p.given + 1 → p.given < l.count
       → (HasCleanDisk (at g next) → HasCleanDisk (at g now)) → (HasCleanDisk (at g now) → HasCleanDisk (at g first))
       → (HasCleanDisk (at g next) → (h : Holdings) → Sees g now h → (t : Holdings) × Sees g next t × IsNext room l.key r h from t to)
       → to.new + to.known ≤ from.new + from.known + 1
       → Walking g first next l left rest q to
-  one_turn now next mid rest p q from to r w going answer given was first_was step counted =
+  one_turn now next mid rest p q from to r w going answer given wanted was first_was step counted =
       let read : HasRead l left rest (w.records ++ r ∷ []) q = (one_more_read l left mid rest w.records p q r w.read going answer).0 in
       record {
         records = w.records ++ r ∷ [];
         read = read;
         met = λ clean h seen.
             let m = w.met (was clean) h seen in
-            let n = step clean m.0 m.1 in (
+            let n = step clean m.0 m.1 in
+            let some = space (first_was (was clean)) h seen in
+            let next = next_in_all first.cap (length (h l.key)) l.count room l.key r m.0 from n.0 to some (omega (arith, w.counted, wanted)) n.2 in (
               n.0,
               n.1,
-              met_next first.cap room l.key h (read-key before left l header) (held_apart (first_was (was clean)) h seen) (space (first_was (was clean)) h seen) w.records r
-                  (read_apart rest (w.records ++ r ∷ []) q read) m.0 from n.0 to m.2 n.2,
+              met_next first.cap (first.cap - length (h l.key)) l.key h (read-key before left l header) (held_apart (first_was (was clean)) h seen) (omega (arith, some.fits)) w.records r
+                  (read_apart rest (w.records ++ r ∷ []) q read) m.0 from n.0 to m.2 next,
             );
         counted = omega (arith, w.counted, counted, given);
       }
@@ -104,6 +106,6 @@ module _ {S : Type 0} (g : Ghosts S) (first : Kept S) (l : Layout) (before left 
           tally_of h m.0 w.records tally.new tally.known tally.clash m.2,
           (λ none low.
               let taken : Taken first.cap l.key h w.records m.0 tally.new tally.known = subst (λ (o : Option Starts). Walked first.cap l.key h w.records m.0 tally.new tally.known (starts_of o)) none m.2 in
-              subst (Sees g now) (taken.whole (omega (arith, low, space (was clean) h seen))) m.1),
+              subst (Sees g now) (taken.whole (omega (arith, low, (space (was clean) h seen).fits))) m.1),
         )),
   )

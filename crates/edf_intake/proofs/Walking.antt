@@ -1,5 +1,5 @@
 -- The data records of a fragment, met one by one in a transaction.
-use Rattle.std.proofs.Common.{◌≡◌, ℕ, ◌+◌, ◌≤◌, List, [], ◌∷◌, ◌++◌, length, Option, Some, None, sym, subst, inl, inr, arith}
+use Rattle.std.proofs.Common.{◌≡◌, ◌⊎◌, ℕ, ◌+◌, ◌-◌, ◌<◌, ◌≤◌, List, [], ◌∷◌, ◌++◌, length, Option, Some, None, sym, subst, inl, inr, arith}
 use Rattle.std.proofs.lemmas.Bool.{cases_lt}
 use Rattle.sqlite_trees.specs.declared.store.Store.{Ghosts}
 use Rattle.sqlite.specs.State.{HasCleanDisk}
@@ -15,7 +15,7 @@ use Rattle.edf_holdings.specs.Holdings.{Holdings}
 use Rattle.edf_holdings.proofs.Walked.{Taken, Stopped, Walked, still_stopped, after_clash, after_known, after_added, after_full}
 use Rattle.edf_store.specs.Held.{Kept, at}
 use Rattle.edf_store.specs.Transaction.{Sees}
-use Rattle.edf_intake.specs.Inside.Step.{IsStep, Counts, IsNext}
+use Rattle.edf_intake.specs.Inside.Step.{IsStep, IsRoom, Counts, IsNext}
 use Rattle.edf_intake.specs.declared.walk.Step.{Step}
 use Rattle.edf_intake.specs.declared.walk.Step.TheVariants.{Clashes, Known, New}
 use Rattle.edf_intake.specs.declared.walk.Starts.{Starts}
@@ -35,6 +35,29 @@ pub record Walking {S : Type 0} (g : Ghosts S) (first now : Kept S) (l : Layout)
   pub read : HasRead l left rest records p
   pub met : HasCleanDisk (at g now) → (h : Holdings) → Sees g first h → (t : Holdings) × Sees g now t × Met first.cap l.key h records t tally
   pub counted : tally.new + tally.known ≤ p.given
+
+-- less room than there is, but more than was asked for yet, makes no difference
+counts_wider : (room full wanted : ℕ) (key : Key) (r : DataRecord) (near : List DataRecord) (h : Holdings) (from : Tally) (t : Holdings) (to : Tally) (step : Step) → room ≤ full → (room ≡ full) ⊎ (wanted ≤ room) → from.new < wanted
+    → Counts room key r near h from t to step → Counts full key r near h from t to step
+counts_wider room full wanted key r near h from t to (Clashes stored) low enough below c = c
+counts_wider room full wanted key r near h from t to Known low enough below c = c
+counts_wider room full wanted key r near h from t to New low enough below (added, past, is) = (
+  (λ l. added (elim enough [ inl same ↦ omega (arith, l, same) | inr many ↦ omega (arith, below, many) ])),
+  (λ l. past (omega (arith, low, l))),
+  is,
+)
+
+next_wider : (room full wanted : ℕ) (key : Key) (r : DataRecord) (h : Holdings) (new known : ℕ) (clash : Option Starts) (t : Holdings) (to : Tally) → room ≤ full → (room ≡ full) ⊎ (wanted ≤ room) → new < wanted
+    → IsNext room key r h (record { new = new; known = known; clash = clash }) t to → IsNext full key r h (record { new = new; known = known; clash = clash }) t to
+next_wider room full wanted key r h new known None t to low enough below (step, is, counts) =
+    (step, is, counts_wider room full wanted key r _ h (record { new = new; known = known; clash = None }) t to step low enough below counts)
+next_wider room full wanted key r h new known (Some s) t to low enough below same = same
+
+-- the room that there is, where so much was found
+pub next_in_all : (cap held wanted room : ℕ) (key : Key) (r : DataRecord) (h : Holdings) (from : Tally) (t : Holdings) (to : Tally) → IsRoom cap held wanted room → from.new < wanted → IsNext room key r h from t to → IsNext (cap - held) key r h from t to
+next_in_all cap held wanted room key r h from t to it below next =
+    next_wider room (cap - held) wanted key r h from.new from.known from.clash t to (omega (arith, it.fits))
+    (elim it.enough [ inl all ↦ inl (omega (arith, all)) | inr many ↦ inr many ]) below next
 
 -- one record more
 module _ (cap room : ℕ) (key : Key) (h : Holdings) (is_key : IsKey key) (held : IsApart (duration_of key.duration) 0 (h key)) (space : length (h key) + room ≡ cap)

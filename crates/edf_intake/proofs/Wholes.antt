@@ -1,5 +1,5 @@
 -- A whole fragment that was taken in a transaction.
-use Rattle.std.proofs.Common.{◌≡◌, ◌≢◌, ℕ, ◌+◌, ◌≤◌, List, [], ◌∷◌, length, Some, None, Err, refl, sym, ap, subst, ◌∙◌, inl, inr, arith}
+use Rattle.std.proofs.Common.{◌≡◌, ◌≢◌, ℕ, ◌≤◌, List, [], ◌∷◌, length, Some, None, Err, refl, sym, ap, subst, ◌∙◌, inl, inr, arith}
 use Rattle.sqlite_trees.specs.declared.store.Store.{Ghosts}
 use Rattle.sqlite.specs.State.{HasCleanDisk}
 use Rattle.edf_header.specs.Key.{Key}
@@ -15,7 +15,7 @@ use Rattle.edf_store.specs.Held.{Kept, at}
 use Rattle.edf_store.specs.Transaction.{Sees, IsRunning, HasAtMost, HasNoMore, IsWhole}
 use Rattle.edf_intake.specs.Refusal.{reply_told}
 use Rattle.edf_intake.specs.Source.{Source, ReadsWhole}
-use Rattle.edf_intake.specs.Inside.Step.{IsTally}
+use Rattle.edf_intake.specs.Inside.Step.{IsRoom, IsTally}
 use Rattle.edf_intake.specs.Inside.Taken.{IsConflict, IsTaken, IsStop}
 use Rattle.edf_intake.specs.declared.walk.Tally.{Tally}
 use Rattle.edf_intake.specs.declared.answer.Refusal.{Refusal}
@@ -49,10 +49,10 @@ still_whole g first made last key records some whole running most none was_made 
     ])
 
 module _ {S : Type 0} (g : Ghosts S) (first made last : Kept S) (from to : Source) (key : Key) (records : List DataRecord) (read : ReadsWhole from to key records)
-    (held room : ℕ) (tally : Tally)
+    (room : ℕ) (tally : Tally)
     (was_made : HasCleanDisk (at g last) → HasCleanDisk (at g made)) (was_first : HasCleanDisk (at g made) → HasCleanDisk (at g first))
     (same : (h : Holdings) → Sees g first h → Sees g made h)
-    (space : HasCleanDisk (at g made) → (h : Holdings) → Sees g made h → (length (h key) ≡ held) × (length (h key) + room ≡ first.cap))
+    (space : HasCleanDisk (at g made) → (h : Holdings) → Sees g made h → IsRoom first.cap (length (h key)) (length records) room)
     (met : HasCleanDisk (at g last) → (h : Holdings) → Sees g made h → IsTally key h records tally × (tally.clash ≡ None → tally.new ≤ room → Sees g last (put key records h))) where
   sound : IsSoundTold (Fragment key records)
   sound = (spelled-key read.bytes key records read.spells, spelled-sound read.bytes key records read.spells)
@@ -69,20 +69,18 @@ module _ {S : Type 0} (g : Ghosts S) (first made last : Kept S) (from to : Sourc
     read = read;
     reply_is = λ clean h seen.
         let k = counts_all key h records tally none (met clean h (same h seen)).0 in
-        accepted_here first.cap room key h records tally k (space (was_made clean) h (same h seen)).1 low;
+        accepted_here first.cap room key h records tally k (space (was_made clean) h (same h seen)).fits low;
     sees = λ h seen clean.
         let k = counts_all key h records tally none (met clean h (same h seen)).0 in
         let good = IsGood-from_sound first.cap h (seen (was_first (was_made clean))).sound in
-        subst (Sees g last) (left_here first.cap room key h records tally sound good k (space (was_made clean) h (same h seen)).1 low) (put_seen none low clean h seen) clean;
+        subst (Sees g last) (left_here first.cap room key h records tally sound good k (space (was_made clean) h (same h seen)).fits low) (put_seen none low clean h seen) clean;
   }
 
   -- and where it is refused
   pub is_refused : (told : Refusal) → IsConflict told
-      → ((h : Holdings) → length (h key) ≡ held → held + room ≡ first.cap → IsTally key h records tally → reply_told (Err told) ≡ Some (reply first.cap h (Fragment key records)))
+      → ((h : Holdings) → IsRoom first.cap (length (h key)) (length records) room → IsTally key h records tally → reply_told (Err told) ≡ Some (reply first.cap h (Fragment key records)))
       → IsStop g first last from to (Input told)
-  is_refused told conflict answer = by told conflict (λ clean h seen.
-      let s = space (was_made clean) h (same h seen) in
-      answer h s.0 (omega (arith, s.0, s.1)) (met clean h (same h seen)).0)
+  is_refused told conflict answer = by told conflict (λ clean h seen. answer h (space (was_made clean) h (same h seen)) (met clean h (same h seen)).0)
     where
       by : (told : Refusal) → IsConflict told → (HasCleanDisk (at g last) → (h : Holdings) → Sees g first h → reply_told (Err told) ≡ Some (reply first.cap h (Fragment key records)))
           → IsStop g first last from to (Input told)

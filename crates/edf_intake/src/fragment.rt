@@ -11,7 +11,7 @@ ghost use Rattle.edf_store.specs.Fault.{IsStoreRefusal};
 ghost use Rattle.edf_store.specs.Held.{at, Stays};
 ghost use Rattle.edf_store.specs.Transaction.{Sees, IsRunning, IsOf, HasAtMost, IsWhole};
 ghost use Rattle.edf_intake.specs.Refusal.{reply_told};
-ghost use Rattle.edf_intake.specs.Inside.Step.{IsTally};
+ghost use Rattle.edf_intake.specs.Inside.Step.{IsRoom, IsTally};
 ghost use Rattle.edf_intake.specs.Inside.Taken.{IsConflict, IsTaken, IsStop};
 
 use crate::answer::{Receipt, Refusal, Stop};
@@ -22,11 +22,12 @@ use edf_store::{StoreFault, StoreTx};
 use sqlite::Alter;
 use std::alloc::Global;
 
-/// The recording of an identity, which is made where it is missing.
+/// The recording of an identity, which is made where it is missing, with room for `count` data records if it has so much.
 fn find_recording<S: Alter>(
     transaction: &mut StoreTx<'_, S>,
     cap: u32,
     identity: &Identity,
+    count: u32,
 ) -> Result<Recording, StoreFault>
     requires spared { transaction.old.refused ≡ false }
     requires running { IsRunning S.Store transaction.old.store.now }
@@ -38,18 +39,19 @@ fn find_recording<S: Alter>(
     ensures recording { IfOk result (λ found. IsOf S.Store transaction.new.store.now found.id.row identity.now) }
     ensures same { IfOk result (λ _. (h : Holdings) → Sees S.Store transaction.old.store.now h → Sees S.Store transaction.new.store.now h) }
     ensures only { IfOk result (λ _. HasAtMost S.Store identity.now transaction.old.store.now transaction.new.store.now) }
-    ensures held { IfOk result (λ found. HasCleanDisk (at S.Store transaction.new.store.now) → (h : Holdings) → Sees S.Store transaction.new.store.now h →
-        (length (h identity.now) ≡ found.held) × (length (h identity.now) + found.room ≡ cap)) }
+    ensures room { IfOk result (λ found. HasCleanDisk (at S.Store transaction.new.store.now) → (h : Holdings) → Sees S.Store transaction.new.store.now h →
+        IsRoom cap (length (h identity.now)) count found.room) }
     ensures told { IfErr result IsStoreRefusal }
     ensures caused { IfErr result (λ e. e ≢ StoreFault.Store None) }
 {
     let id = transaction.recording(identity)?;
+    let fits = transaction.has_room(id, identity.duration(), count)?;
+    if fits {
+        return Ok(Recording { id, room: count });
+    }
     let held = transaction.count(id)?;
-    Ok(Recording {
-        id,
-        held,
-        room: cap.saturating_sub(held),
-    })
+    let room = cap.saturating_sub(held);
+    Ok(Recording { id, room })
 }
 
 /// The refusal for a clash.
@@ -71,7 +73,7 @@ fn conflict(recording: Recording, cap: u32, tally: Tally) -> Option<Refusal>
     ensures accepted { result ≡ None → (tally.clash ≡ None) × (tally.new ≤ recording.room) }
     ensures refused { IfSome result IsConflict }
     ensures answer { IfSome result (λ refusal. (key : Key) (h : Holdings) (records : List DataRecord) →
-        length (h key) ≡ recording.held → recording.held + recording.room ≡ cap → IsTally key h records tally →
+        IsRoom cap (length (h key)) (length records) recording.room → IsTally key h records tally →
         reply_told (Err refusal) ≡ Some (reply cap h (Fragment key records))) }
 {
     match tally.clash {
@@ -79,7 +81,7 @@ fn conflict(recording: Recording, cap: u32, tally: Tally) -> Option<Refusal>
         None => {
             if tally.new > recording.room {
                 Some(Refusal::Full {
-                    held: recording.held,
+                    held: cap.saturating_sub(recording.room),
                     new: tally.new,
                     cap,
                 })
@@ -101,7 +103,7 @@ fn answer_of(
         × (tally.clash ≡ None) × (tally.new ≤ recording.room)) }
     ensures refused { IfErr result IsConflict }
     ensures answer { IfErr result (λ refusal. (h : Holdings) (records : List DataRecord) →
-        length (h identity) ≡ recording.held → recording.held + recording.room ≡ cap → IsTally identity h records tally →
+        IsRoom cap (length (h identity)) (length records) recording.room → IsTally identity h records tally →
         reply_told (Err refusal) ≡ Some (reply cap h (Fragment identity records))) }
 {
     let new = tally.new;
@@ -140,7 +142,8 @@ pub(crate) fn take_fragment<S: Alter, R: Input>(
         (record { left = R.remaining input.new; failed = R.failures input.new })) }
 {
     let mut fragment = OpenFragment::read(alloc, input)?;
-    let recording = find_recording(transaction, cap, fragment.header().identity())?;
+    let header = fragment.header();
+    let recording = find_recording(transaction, cap, header.identity(), header.count())?;
     let tally = take_records(transaction, recording, &mut fragment, input)?;
     let identity = fragment.into_header().into_identity();
     match answer_of(recording, cap, tally, identity) {

@@ -9,7 +9,7 @@ ghost use Rattle.edf_fragment.specs.Whole.{ReadsFragment};
 ghost use Rattle.edf_holdings.specs.Holdings.{Holdings, put};
 ghost use Rattle.edf_store.specs.Held.{at, Stays};
 ghost use Rattle.edf_store.specs.Transaction.{Sees, IsRunning, IsOf, HasNoMore};
-ghost use Rattle.edf_intake.specs.Inside.Step.{IsNext, IsTally, IsStep};
+ghost use Rattle.edf_intake.specs.Inside.Step.{IsNext, IsRoom, IsTally, IsStep};
 ghost use Rattle.edf_intake.specs.Inside.Halt.{HaltsThere, IsRefusedInside, IsToldInside};
 
 use crate::answer::{Stop, refusal_by};
@@ -63,11 +63,10 @@ pub(crate) struct Tally {
     pub(crate) clash: Option<Starts>,
 }
 
-/// A recording in a transaction, which begins with so many data records and may take so many more.
+/// A recording in a transaction, which may take so many data records more.
 #[derive(Clone, Copy)]
 pub(crate) struct Recording {
     pub(crate) id: RecordingId,
-    pub(crate) held: u32,
     pub(crate) room: u32,
 }
 
@@ -135,7 +134,7 @@ pub(crate) fn take_records<S: Alter, R: Input>(
     requires running { IsRunning S.Store transaction.old.store.now }
     requires recording { IsOf S.Store transaction.old.store.now recording.id.row fragment.old.header.key }
     requires room { HasCleanDisk (at S.Store transaction.old.store.now) → (h : Holdings) → Sees S.Store transaction.old.store.now h →
-        length (h fragment.old.header.key) + recording.room ≡ transaction.old.store.now.cap }
+        IsRoom transaction.old.store.now.cap (length (h fragment.old.header.key)) fragment.old.header.count recording.room }
     requires header { (left : Option (List ℕ)) × ReadsHeader left (R.remaining input.old) fragment.old.header }
     requires at_first { fragment.old.progress ≡ at_first }
     ensures same_reference { transaction.new.store.ghost_name ≡ transaction.old.store.ghost_name }

@@ -10,6 +10,7 @@ pub mod OpenLemmas
 pub mod PutLemmas
 pub mod ReadyLemmas
 pub mod RowLemmas
+pub mod ShortLemmas
 pub mod StandLemmas
 pub mod StepLemmas
 pub mod SummaryLemmas

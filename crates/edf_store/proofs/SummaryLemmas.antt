@@ -36,10 +36,10 @@ map_turned f (x ∷ xs) acc = map_turned f xs (x ∷ acc)
 map_reverse : {X Y : Type 0} (f : X → Y) (xs : List X) → map f (reverse xs) ≡ reverse (map f xs)
 map_reverse f xs = map_turned f xs []
 
-show_reverse : (rows : List Row) (xs : List DataRecord) → Show rows xs → Show (reverse rows) (reverse xs)
+pub show_reverse : (rows : List Row) (xs : List DataRecord) → Show rows xs → Show (reverse rows) (reverse xs)
 show_reverse rows xs s = show_from (reverse rows) (reverse xs) (map_reverse shown_record rows ∙ ap reverse (from_show rows xs s) ∙ sym (map_reverse record_cells xs))
 
-abbrev number_at : List DataRecord → Option ℤ
+abbrev pub number_at : List DataRecord → Option ℤ
 number_at xs = option_map (λ (r : DataRecord). pos r.start) (slice_get xs 0)
 
 start_is : (xs : List DataRecord) (n : ℕ) → Some (pos n) ≡ number_at xs → start_at xs 0 ≡ Some n
@@ -110,10 +110,10 @@ module _ (cap : ℕ) (trees : Trees) (h : Holdings) (id : ℤ) (k : Key) (kept :
 abbrev CountAt : State → ℤ → ℕ → Type 0
 CountAt s id count = count ≡ min (length (records_of id (s.now.trees 2))) 9223372036854775807
 
-abbrev FirstAt : State → ℤ → Option ℤ → Type 0
+abbrev pub FirstAt : State → ℤ → Option ℤ → Type 0
 FirstAt s id start = option_map Int start ≡ option_map (λ row. column row 2) (slice_get (records_of id (s.now.trees 2)) 0)
 
-abbrev LastAt : State → ℤ → Option ℤ → Type 0
+abbrev pub LastAt : State → ℤ → Option ℤ → Type 0
 LastAt s id start = option_map Int start ≡ option_map (λ row. column row 2) (slice_get (reverse (records_of id (s.now.trees 2))) 0)
 
 -- three reads of a store that nothing changes between them

@@ -1,5 +1,5 @@
 -- What a transaction sees.
-use Rattle.std.specs.Prelude.{◌≡◌, ◌≢◌, ◌⊎◌, ℕ, ℤ, ◌<◌, List, [], ◌∷◌, length, IsTrue}
+use Rattle.std.specs.Prelude.{◌≡◌, ◌≢◌, ◌⊎◌, ℕ, ℤ, Bool, ◌+◌, ◌<◌, nat_le, List, [], ◌∷◌, length, IsTrue}
 use Rattle.sqlite_trees.specs.declared.store.Store.{Ghosts}
 use Rattle.sqlite_trees.specs.Tree.{Trees}
 use Rattle.sqlite.specs.State.{State, HasCleanDisk}
@@ -53,8 +53,12 @@ AreNearIn cap s id start records = (h : Holdings) (k : Key) → AreSeen cap s h 
 abbrev pub IsCountIn : ℕ → State → ℤ → ℕ → Type 0
 IsCountIn cap s id count = (h : Holdings) (k : Key) → AreSeen cap s h → IsUnder s id k → count ≡ length (h k)
 
--- there is room for the record: none is near it, and there are fewer than the cap
-pub record HasRoom (cap : ℕ) (k : Key) (r : DataRecord) (h : Holdings) : Type 0 where
+-- it is told whether with so many more the recording has at most the cap
+abbrev pub TellsRoomIn : ℕ → State → ℤ → ℕ → Bool → Type 0
+TellsRoomIn cap s id more answer = (h : Holdings) (k : Key) → AreSeen cap s h → IsUnder s id k → answer ≡ nat_le (length (h k) + more) cap
+
+-- there is a place for the record: none is near it, and there are fewer than the cap
+pub record HasPlace (cap : ℕ) (k : Key) (r : DataRecord) (h : Holdings) : Type 0 where
   pub none_near : near_of (duration_of k.duration) r.start (h k) ≡ []
   pub few : length (h k) < cap
 
@@ -63,7 +67,7 @@ pub record MayTakeIn (cap : ℕ) (s : State) (id : ℤ) (r : DataRecord) : Type 
   pub key : Key
   pub is_under : IsUnder s id key
   pub sound : IsSoundRecord key r
-  pub room : HasCleanDisk s → (h : Holdings) → AreSeen cap s h → HasRoom cap key r h
+  pub room : HasCleanDisk s → (h : Holdings) → AreSeen cap s h → HasPlace cap key r h
 
 -- the recording has the record beside those that it had, and all else is as it was
 pub record IsAddedIn (cap : ℕ) (old new : State) (id : ℤ) (r : DataRecord) : Type 0 where
@@ -106,6 +110,9 @@ module _ {S : Type 0} (g : Ghosts S) where
 
   abbrev pub IsCountOf : Kept S → ℤ → ℕ → Type 0
   IsCountOf store = IsCountIn store.cap (at g store)
+
+  abbrev pub TellsRoom : Kept S → ℤ → ℕ → Bool → Type 0
+  TellsRoom store = TellsRoomIn store.cap (at g store)
 
   abbrev pub MayTake : Kept S → ℤ → DataRecord → Type 0
   MayTake store = MayTakeIn store.cap (at g store)

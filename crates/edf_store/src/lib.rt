@@ -2,7 +2,7 @@
 //!
 //! - [`Store`]: over a connection of any store that `sqlite` takes. `transaction` begins to add; `identities`, `summary` and
 //!   `records` read what is held.
-//! - [`StoreTx`]: `recording`, `near`, `count` and `add`, until `commit` or `give_up`.
+//! - [`StoreTx`]: `recording`, `near`, `has_room`, `count` and `add`, until `commit` or `give_up`.
 //! - [`Records`]: the data records of one recording, one at a time.
 //! - [`StoreFault`]: why a call was refused.
 //! - [`laws`]: the disk of a store in memory stays clean.

@@ -1,18 +1,19 @@
 //! What a transaction reads of a recording.
 
-ghost use Rattle.std.specs.Prelude.{◌≡◌, ◌≢◌, ◌≤◌, None, length, IfOk, IfErr};
+ghost use Rattle.std.specs.Prelude.{◌≡◌, ◌≢◌, ◌*◌, ◌<◌, ◌≤◌, ℤ, ◌-ℤ◌, unsigned_abs, Some, None, length, IsTrue, IfOk, IfErr};
 ghost use Rattle.sqlite.specs.State.{HasCleanDisk};
 ghost use Rattle.edf_field.specs.Number.{duration_of};
 ghost use Rattle.edf_header.specs.Key.{Key};
+ghost use Rattle.edf_holdings.specs.Holdings.{Holdings};
 ghost use Rattle.edf_store.specs.Fault.{IsStoreRefusal};
 ghost use Rattle.edf_store.specs.Held.{at, Stays};
-ghost use Rattle.edf_store.specs.Transaction.{IsRunning, IsOf, SeesAsBefore, HasNoMore, AreNear, IsCountOf};
+ghost use Rattle.edf_store.specs.Transaction.{Sees, IsRunning, IsOf, SeesAsBefore, HasNoMore, AreNear, IsCountOf, TellsRoom};
 
 use crate::decode::records_in;
 use crate::fault::StoreFault;
 use crate::store::Store;
 use edf_fragment::Record;
-use edf_tables::{count_rows, near_rows};
+use edf_tables::{count_rows, first_start, last_start, near_rows};
 use edf_time::Instant;
 use sqlite::{Alter, Error};
 
@@ -55,4 +56,62 @@ pub(crate) fn count_records<S: Alter>(store: &mut Store<S>, id: i64) -> Result<u
         return Err(StoreFault::from(Error::IntegralValueOutOfRange(0)));
     };
     Ok(count)
+}
+
+/// Whether a recording has room for `more` data records: where its first start and its last do not tell, they are counted.
+pub(crate) fn has_room<S: Alter>(
+    store: &mut Store<S>,
+    id: i64,
+    duration: u64,
+    more: u32,
+) -> Result<bool, StoreFault>
+    requires running { IsRunning S.Store store.old }
+    requires recording { (k : Key) × IsOf S.Store store.old id k × (duration ≡ duration_of k.duration) }
+    ensures stays { Stays S.Store store.old store.new }
+    ensures room { HasCleanDisk (at S.Store store.new) → IfOk result (TellsRoom S.Store store.old id more) }
+    ensures same { IfOk result (λ _. SeesAsBefore S.Store store.old store.new) }
+    ensures only { IfOk result (λ _. HasNoMore S.Store store.old store.new) }
+    ensures told { IfErr result IsStoreRefusal }
+    ensures caused { IfErr result (λ e. e ≢ StoreFault.Store None) }
+{
+    let cap = store.cap;
+    let short = is_short(store, id, duration, cap.saturating_sub(more))?;
+    if short {
+        return Ok(true);
+    }
+    let held = count_records(store, id)?;
+    Ok(more <= cap.saturating_sub(held))
+}
+
+/// Whether a recording has records, and reaches over so little time that it has at most so many.
+fn is_short<S: Alter>(
+    store: &mut Store<S>,
+    id: i64,
+    duration: u64,
+    most: u32,
+) -> Result<bool, StoreFault>
+    requires running { IsRunning S.Store store.old }
+    requires recording { (k : Key) × IsOf S.Store store.old id k × (duration ≡ duration_of k.duration) }
+    ensures stays { Stays S.Store store.old store.new }
+    ensures short { HasCleanDisk (at S.Store store.new) → IfOk result (λ short. IsTrue short → (h : Holdings) (k : Key) → Sees S.Store store.old h → IsOf S.Store store.old id k → (0 < length (h k)) × (length (h k) ≤ most)) }
+    ensures same { IfOk result (λ _. SeesAsBefore S.Store store.old store.new) }
+    ensures only { IfOk result (λ _. HasNoMore S.Store store.old store.new) }
+    ensures told { IfErr result IsStoreRefusal }
+    ensures caused { IfErr result (λ e. e ≢ StoreFault.Store None) }
+{
+    let first = first_start(&mut store.conn, id)?;
+    let last = last_start(&mut store.conn, id)?;
+    Ok(lie_within(first, last, duration, most))
+}
+
+/// Whether two starts are there, and fewer than `most` durations lie between them.
+fn lie_within(first: Option<i64>, last: Option<i64>, duration: u64, most: u32) -> bool
+    ensures { IsTrue result → (a b : ℤ) × (first ≡ Some a) × (last ≡ Some b) × (unsigned_abs (b -ℤ a) < most * duration) }
+{
+    match (first, last) {
+        (Some(first), Some(last)) => {
+            last.abs_diff(first) < u64::from(most).saturating_mul(duration)
+        }
+        _ => false,
+    }
 }

@@ -7,12 +7,12 @@ ghost use Rattle.edf_header.specs.Key.{Key};
 ghost use Rattle.edf_holdings.specs.Holdings.{Holdings};
 ghost use Rattle.edf_store.specs.Fault.{IsStoreRefusal};
 ghost use Rattle.edf_store.specs.Held.{at, Holds, Stays};
-ghost use Rattle.edf_store.specs.Transaction.{Sees, IsRunning, IsOf, SeesAsBefore, HasNoMore, HasAtMost, AreNear, IsCountOf, MayTake, IsAdded, IsWhole, IsSeen};
+ghost use Rattle.edf_store.specs.Transaction.{Sees, IsRunning, IsOf, SeesAsBefore, HasNoMore, HasAtMost, AreNear, IsCountOf, TellsRoom, MayTake, IsAdded, IsWhole, IsSeen};
 
 use crate::adding::{add_record, find_or_make};
 use crate::ending::{commit_all, undo};
 use crate::fault::StoreFault;
-use crate::reading::{count_records, records_near};
+use crate::reading::{self, count_records, records_near};
 use crate::store::Store;
 use edf_fragment::Record;
 use edf_header::Identity;
@@ -116,6 +116,41 @@ impl<S: Alter> StoreTx<'_, S> {
     {
         match count_records(self.store, id.row) {
             Ok(count) => Ok(count),
+            Err(fault) => {
+                self.refused = true;
+                Err(fault)
+            }
+        }
+    }
+
+    /// Whether a recording with `more` data records more has at most the cap. `duration` is the recording's, in nanoseconds.
+    ///
+    /// Data records do not overlap, so where a recording reaches over less time than those take that the cap leaves, there is
+    /// room; only where that does not tell are they counted, each of them.
+    ///
+    /// # Errors
+    /// `Memory` (E41) or `Store` (E42), and the transaction is to be given up.
+    pub fn has_room(
+        &mut self,
+        id: RecordingId,
+        duration: u64,
+        more: u32,
+    ) -> Result<bool, StoreFault>
+        requires spared { self.old.refused ≡ false }
+        requires running { IsRunning S.Store self.old.store.now }
+        requires recording { (k : Key) × IsOf S.Store self.old.store.now id.row k × (duration ≡ duration_of k.duration) }
+        ensures same_reference { self.new.store.ghost_name ≡ self.old.store.ghost_name }
+        ensures stays { Stays S.Store self.old.store.now self.new.store.now }
+        ensures refused { IfErr result (λ _. self.new.refused ≡ true) }
+        ensures spared { IfOk result (λ _. self.new.refused ≡ false) }
+        ensures room { HasCleanDisk (at S.Store self.new.store.now) → IfOk result (TellsRoom S.Store self.old.store.now id.row more) }
+        ensures same { IfOk result (λ _. SeesAsBefore S.Store self.old.store.now self.new.store.now) }
+        ensures only { IfOk result (λ _. HasNoMore S.Store self.old.store.now self.new.store.now) }
+        ensures told { IfErr result IsStoreRefusal }
+        ensures caused { IfErr result (λ e. e ≢ StoreFault.Store None) }
+    {
+        match reading::has_room(self.store, id.row, duration, more) {
+            Ok(fits) => Ok(fits),
             Err(fault) => {
                 self.refused = true;
                 Err(fault)

@@ -1,4 +1,4 @@
-//! Data records added and looked for, each in a transaction of its own.
+//! Data records added and looked for, and room asked for, each in a transaction of its own.
 
 ghost use Rattle.std.specs.Prelude.{◌≡◌, false, IfOk};
 ghost use Rattle.edf_store.specs.Transaction.{IsRunning, IsOf, IsWhole};
@@ -131,4 +131,32 @@ fn find<S: Alter>(
 {
     let id = tx.recording(identity)?;
     tx.near(id, start, identity.duration())
+}
+
+/// Whether the identity's recording, which is made where it is missing, has room for so many data records more.
+///
+/// # Errors
+/// The store's.
+pub(crate) fn has_room<S: Alter>(
+    store: &mut Store<S>,
+    identity: &Identity,
+    more: u32,
+) -> Result<bool, StoreFault> {
+    let mut tx = store.transaction()?;
+    let told = ask(&mut tx, identity, more);
+    tx.give_up()?;
+    told
+}
+
+fn ask<S: Alter>(
+    tx: &mut StoreTx<'_, S>,
+    identity: &Identity,
+    more: u32,
+) -> Result<bool, StoreFault>
+    requires spared { tx.old.refused ≡ false }
+    requires running { IsRunning S.Store tx.old.store.now }
+    ensures same_reference { tx.new.store.ghost_name ≡ tx.old.store.ghost_name }
+{
+    let id = tx.recording(identity)?;
+    tx.has_room(id, identity.duration(), more)
 }

@@ -1,6 +1,6 @@
 //! Data records that are added, given up, looked for and read again, in memory and on disks in memory.
 
-use crate::adding::{near, put};
+use crate::adding::{has_room, near, put};
 use edf_fragment::{Counted, OpenFragment, Record};
 use edf_header::Identity;
 use edf_sample::Source;
@@ -30,10 +30,10 @@ fn first_of(alloc: Global, file: &[u8]) -> Option<(Identity, Record)> {
     Some((fragment.into_header().into_identity(), data_record))
 }
 
-/// A data record of one second of one ordinary signal, without annotations, a second behind Q's.
-fn second_record(alloc: Global) -> Option<Record> {
+/// A data record of one second of one ordinary signal, without annotations, so many half seconds behind Q's.
+fn record_behind(alloc: Global, halves: i8) -> Option<Record> {
     let samples = Vec::from_slice(alloc, &[2, 0, 0xFE, 0xFF]).ok()?;
-    Record::new(instant(2)?, samples, Vec::new(alloc))
+    Record::new(instant(halves)?, samples, Vec::new(alloc))
 }
 
 /// The store of a connection that is in no transaction.
@@ -86,7 +86,7 @@ struct Two {
 /// Q's data record and one that touches it.
 fn two_that_touch(alloc: Global) -> Option<Two> {
     let (identity, first) = first_of(alloc, &file_q(alloc).ok()?)?;
-    let second = second_record(alloc)?;
+    let second = record_behind(alloc, 2)?;
     Some(Two {
         identity,
         first,
@@ -250,6 +250,75 @@ fn two_records_that_touch_are_kept_in_memory(rt: HostRuntime) {
 #[test]
 fn two_records_that_touch_are_there_when_a_disk_is_opened_again(rt: HostRuntime) {
     assert_eq!(rt; kept_on_disk(rt.alloc()), Some((KEPT, None)));
+}
+
+/// A cap of a few data records.
+const FEW: u32 = 5;
+
+fn with_few(alloc: Global) -> Option<Store<MemStore>> {
+    let conn = Connection::open_in_memory(alloc).ok()?;
+    if !conn.is_autocommit() {
+        return None;
+    }
+    Store::open(alloc, conn, FEW).ok()
+}
+
+/// Whether a recording has room for as many data records as the cap leaves, and for one more: without a data record, with one
+/// and with two; and whether for the most that can be asked for.
+#[derive(Clone, Copy, Debug, Drop, PartialEq, Eq)]
+struct Rooms {
+    of_none: (bool, bool),
+    of_one: (bool, bool),
+    of_two: (bool, bool),
+    most: bool,
+}
+
+const ROOMS: Rooms = Rooms {
+    of_none: (true, false),
+    of_one: (true, false),
+    of_two: (true, false),
+    most: false,
+};
+
+fn room_for<S: Alter>(
+    store: &mut Store<S>,
+    identity: &Identity,
+    left: u32,
+) -> Option<(bool, bool)> {
+    let fits = has_room(store, identity, left).ok()?;
+    let fits_more = has_room(store, identity, left.saturating_add(1)).ok()?;
+    Some((fits, fits_more))
+}
+
+/// What is told of room as Q's data record is kept, and one so many half seconds behind it.
+fn rooms<S: Alter>(alloc: Global, store: &mut Store<S>, halves: i8) -> Option<Rooms> {
+    let (identity, first) = first_of(alloc, &file_q(alloc).ok()?)?;
+    let later = record_behind(alloc, halves)?;
+    let of_none = room_for(store, &identity, 5)?;
+    put(store, &identity, &first, true).ok()?;
+    let of_one = room_for(store, &identity, 4)?;
+    put(store, &identity, &later, true).ok()?;
+    Some(Rooms {
+        of_none,
+        of_one,
+        of_two: room_for(store, &identity, 3)?,
+        most: has_room(store, &identity, u32::MAX).ok()?,
+    })
+}
+
+fn told_rooms(alloc: Global, halves: i8) -> Option<Rooms> {
+    let mut store = with_few(alloc)?;
+    rooms(alloc, &mut store, halves)
+}
+
+#[test]
+fn there_is_room_up_to_the_cap_in_a_recording_without_gaps(rt: HostRuntime) {
+    assert_eq!(rt; told_rooms(rt.alloc(), 2), Some(ROOMS));
+}
+
+#[test]
+fn there_is_room_up_to_the_cap_in_a_recording_with_a_long_gap(rt: HostRuntime) {
+    assert_eq!(rt; told_rooms(rt.alloc(), 120), Some(ROOMS));
 }
 
 fn is(found: Option<Record>, wanted: &Record) -> bool {

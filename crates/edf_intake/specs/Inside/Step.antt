@@ -1,5 +1,5 @@
 -- What one data record of a fragment meets in the store, and what all that were read so far have met.
-use Rattle.std.specs.Prelude.{◌≡◌, ℕ, ◌+◌, ◌<◌, ◌≤◌, true, List, [], ◌∷◌, length, Some, None, MatchOption}
+use Rattle.std.specs.Prelude.{◌≡◌, ◌⊎◌, ℕ, ◌+◌, ◌<◌, ◌≤◌, true, List, [], ◌∷◌, length, Some, None, MatchOption}
 use Rattle.edf_field.specs.Number.{duration_of}
 use Rattle.edf_header.specs.Key.{Key}
 use Rattle.edf_fragment.specs.Fragment.{DataRecord}
@@ -11,6 +11,11 @@ use Rattle.edf_intake.specs.declared.walk.Step.{Step}
 use Rattle.edf_intake.specs.declared.walk.Step.TheVariants.{Clashes, Known, New}
 use Rattle.edf_intake.specs.declared.walk.Starts.{Starts}
 use Rattle.edf_intake.specs.declared.walk.Tally.{Tally}
+
+-- room in a recording that holds so many, never past the cap: all that the cap leaves, or as many as are wanted at least
+pub record IsRoom (cap held wanted room : ℕ) : Type 0 where
+  pub fits : held + room ≤ cap
+  pub enough : (held + room ≡ cap) ⊎ (wanted ≤ room)
 
 -- what the stored records near one say of it
 abbrev pub IsStep : DataRecord → List DataRecord → Step → Type 0

@@ -1,11 +1,13 @@
-use Rattle.std.proofs.Common.{◌≡◌, ◌+◌, ℕ, Some, length, Result, Ok, Err, sym, ap, subst, ◌∙◌, inr, arith}
+use Rattle.std.proofs.Common.{◌≡◌, ℕ, List, Option, Some, length, Result, Ok, Err, sym, ap, subst, ◌∙◌, inr, arith}
 use Rattle.std.specs.Result.{IfErr, IsErrAnd}
 use Rattle.sqlite_trees.specs.declared.store.Store.{Ghosts}
 use Rattle.sqlite.specs.State.{HasCleanDisk}
 use Rattle.edf_header.specs.Key.{Key}
 use Rattle.edf_header.specs.Header.{Layout}
 use Rattle.edf_fragment.proofs.Fragments.{open_refused}
+use Rattle.edf_fragment.specs.Fragment.{DataRecord}
 use Rattle.edf_fragment.specs.Told.{Fragment}
+use Rattle.edf_fragment.specs.Whole.{ReadsFragment}
 use Rattle.edf_holdings.specs.Holdings.{Holdings}
 use Rattle.edf_holdings.specs.Reply.{reply}
 use Rattle.edf_store.specs.Held.{Kept, at}
@@ -13,7 +15,7 @@ use Rattle.edf_store.specs.Transaction.{Sees, IsOf, HasAtMost}
 use Rattle.edf_store.proofs.ReadyLemmas.{stays_then}
 use Rattle.edf_intake.specs.Source.{Source, ReadsWhole}
 use Rattle.edf_intake.specs.Refusal.{reply_told}
-use Rattle.edf_intake.specs.Inside.Step.{IsTally}
+use Rattle.edf_intake.specs.Inside.Step.{IsRoom, IsTally}
 use Rattle.edf_intake.specs.Inside.Halt.{refusal_by, HaltsThere}
 use Rattle.edf_intake.specs.Inside.Taken.{IsTaken, IsStop}
 use Rattle.edf_intake.specs.declared.answer.Receipt.{Receipt}
@@ -31,13 +33,18 @@ passed_on : {T : Type 0} (r : Result T Stop) (stop : Stop) (P : Stop → Type 0)
 passed_on (Ok x) stop P is p = absurd is
 passed_on (Err s) stop P is p = subst P (sym is) p
 
--- what was found under the identity is there under the layout's key
-space_of : {S : Type 0} (g : Ghosts S) (made : Kept S) (k l : Key) (m n held room : ℕ) → k ≡ l → m ≡ n
-    → (HasCleanDisk (at g made) → (h : Holdings) → Sees g made h → (length (h k) ≡ held) × (length (h k) + room ≡ m))
-    → HasCleanDisk (at g made) → (h : Holdings) → Sees g made h → (length (h l) ≡ held) × (length (h l) + room ≡ n)
-space_of g made k l m n held room named capped space =
-    subst (λ (y : ℕ). HasCleanDisk (at g made) → (h : Holdings) → Sees g made h → (length (h l) ≡ held) × (length (h l) + room ≡ y)) capped
-    (subst (λ (x : Key). HasCleanDisk (at g made) → (h : Holdings) → Sees g made h → (length (h x) ≡ held) × (length (h x) + room ≡ m)) named space)
+-- the room that was found under the identity is there under the layout's key
+space_of : {S : Type 0} (g : Ghosts S) (made : Kept S) (k l : Key) (m n asked wanted room : ℕ) → k ≡ l → m ≡ n → asked ≡ wanted
+    → (HasCleanDisk (at g made) → (h : Holdings) → Sees g made h → IsRoom m (length (h k)) asked room)
+    → HasCleanDisk (at g made) → (h : Holdings) → Sees g made h → IsRoom n (length (h l)) wanted room
+space_of g made k l m n asked wanted room named capped counted space =
+    subst (λ (z : ℕ). HasCleanDisk (at g made) → (h : Holdings) → Sees g made h → IsRoom n (length (h l)) z room) counted
+    (subst (λ (y : ℕ). HasCleanDisk (at g made) → (h : Holdings) → Sees g made h → IsRoom y (length (h l)) asked room) capped
+    (subst (λ (x : Key). HasCleanDisk (at g made) → (h : Holdings) → Sees g made h → IsRoom m (length (h x)) asked room) named space))
+
+-- a whole fragment has as many data records as its header says
+as_many : (left rest : Option (List ℕ)) (l : Layout) (records : List DataRecord) → ReadsFragment left rest l records → l.count ≡ length records
+as_many left rest l records read = ap (λ (x : Layout). x.count) read.layout_is ∙ sym read.spells.count
 
 pub returns-in_err-fragment-clause-stopped : goal.returns-in_err-fragment-clause-stopped
 returns-in_err-fragment-clause-stopped g c =
@@ -67,9 +74,9 @@ take_records-requires-clause-recording g c =
 pub take_records-requires-clause-room : goal.take_records-requires-clause-room
 take_records-requires-clause-room g c clean h seen =
     let same : c.identity.result.now ≡ c.in_ok-fragment.fragment.header.key = c.identity.ensures ∙ ap (λ (l : Layout). l.key) c.header.ensures in
-    let held = (c.in_ok-recording.ensures.held clean h seen).1 in
-    subst (λ (k : Key). length (h k) + c.in_ok-recording.recording.room ≡ c.find_recording.new.transaction.store.now.cap) same
-    (held ∙ (c.requires.cap ∙ sym c.in_ok-recording.ensures.stays.cap))
+    let counted : c.count.result ≡ c.in_ok-fragment.fragment.header.count = c.count.ensures.value ∙ ap (λ (l : Layout). l.count) c.header.ensures in
+    space_of g.S.Store c.find_recording.new.transaction.store.now c.identity.result.now c.in_ok-fragment.fragment.header.key c.args.cap c.find_recording.new.transaction.store.now.cap
+    c.count.result c.in_ok-fragment.fragment.header.count c.in_ok-recording.recording.room same (c.requires.cap ∙ sym c.in_ok-recording.ensures.stays.cap) counted c.in_ok-recording.ensures.room clean h seen
 
 pub returns-in-Ok-clause-stays : goal.returns-in-Ok-clause-stays
 returns-in-Ok-clause-stays g c =
@@ -90,11 +97,12 @@ returns-in-Ok-clause-whole g c =
     let read : ReadsWhole from to l.key r.0 = reads_whole from to l r.0 (r.1 from.left c.in_ok-fragment.ensures.step.0) (c.in_ok-tally.ensures.counted ∙ c.in_ok-fragment.ensures.counted) in
     let was_made : HasCleanDisk (at g.S.Store last) → HasCleanDisk (at g.S.Store made) = λ clean. omega (arith, c.in_ok-tally.ensures.stays.crash.clean) in
     let was_first : HasCleanDisk (at g.S.Store made) → HasCleanDisk (at g.S.Store first) = λ clean. omega (arith, c.in_ok-recording.ensures.stays.crash.clean) in
-    let space = space_of g.S.Store made c.identity.result.now l.key c.args.cap first.cap recording.held recording.room named c.requires.cap c.in_ok-recording.ensures.held in
+    let counted : c.count.result ≡ length r.0 = c.count.ensures.value ∙ ap (λ (x : Layout). x.count) c.header.ensures ∙ as_many from.left to.left l r.0 (r.1 from.left c.in_ok-fragment.ensures.step.0) in
+    let space = space_of g.S.Store made c.identity.result.now l.key c.args.cap first.cap c.count.result (length r.0) recording.room named c.requires.cap counted c.in_ok-recording.ensures.room in
     let accepted = c.in-Ok.ensures.accepted in
-    still_whole g.S.Store first made last l.key r.0 (some_read g.S.Store first made last from to l.key r.0 read recording.held recording.room tally was_made was_first c.in_ok-recording.ensures.same space r.2) c.requires.whole c.requires.running
+    still_whole g.S.Store first made last l.key r.0 (some_read g.S.Store first made last from to l.key r.0 read recording.room tally was_made was_first c.in_ok-recording.ensures.same space r.2) c.requires.whole c.requires.running
     (subst (λ (k : Key). HasAtMost g.S.Store k first made) named c.in_ok-recording.ensures.only) c.in_ok-tally.ensures.only was_made was_first
-    (put_seen g.S.Store first made last from to l.key r.0 read recording.held recording.room tally was_made was_first c.in_ok-recording.ensures.same space r.2 accepted.1 accepted.2)
+    (put_seen g.S.Store first made last from to l.key r.0 read recording.room tally was_made was_first c.in_ok-recording.ensures.same space r.2 accepted.1 accepted.2)
 
 pub returns-in-Ok-clause-taken : goal.returns-in-Ok-clause-taken
 returns-in-Ok-clause-taken g c =
@@ -111,12 +119,13 @@ returns-in-Ok-clause-taken g c =
     let read : ReadsWhole from to l.key r.0 = reads_whole from to l r.0 (r.1 from.left c.in_ok-fragment.ensures.step.0) (c.in_ok-tally.ensures.counted ∙ c.in_ok-fragment.ensures.counted) in
     let was_made : HasCleanDisk (at g.S.Store last) → HasCleanDisk (at g.S.Store made) = λ clean. omega (arith, c.in_ok-tally.ensures.stays.crash.clean) in
     let was_first : HasCleanDisk (at g.S.Store made) → HasCleanDisk (at g.S.Store first) = λ clean. omega (arith, c.in_ok-recording.ensures.stays.crash.clean) in
-    let space = space_of g.S.Store made c.identity.result.now l.key c.args.cap first.cap recording.held recording.room named c.requires.cap c.in_ok-recording.ensures.held in
+    let counted : c.count.result ≡ length r.0 = c.count.ensures.value ∙ ap (λ (x : Layout). x.count) c.header.ensures ∙ as_many from.left to.left l r.0 (r.1 from.left c.in_ok-fragment.ensures.step.0) in
+    let space = space_of g.S.Store made c.identity.result.now l.key c.args.cap first.cap c.count.result (length r.0) recording.room named c.requires.cap counted c.in_ok-recording.ensures.room in
     let identity : c.into_identity-identity.result ≡ l.key = c.into_identity-identity.ensures ∙ ap (λ (x : Layout). x.key) (c.into_header.ensures ∙ c.in_ok-tally.ensures.header) in
     let accepted = c.in-Ok.ensures.accepted in
     let receipt : c.in-Ok.receipt ≡ receipt_of l.key tally.new tally.known = accepted.0 ∙ ap (λ (k : Key). receipt_of k tally.new tally.known) identity in
     subst (IsTaken g.S.Store first last from to) (sym receipt)
-    (is_taken g.S.Store first made last from to l.key r.0 read recording.held recording.room tally was_made was_first c.in_ok-recording.ensures.same space r.2 accepted.1 accepted.2)
+    (is_taken g.S.Store first made last from to l.key r.0 read recording.room tally was_made was_first c.in_ok-recording.ensures.same space r.2 accepted.1 accepted.2)
 
 pub returns-in-Err-clause-stays : goal.returns-in-Err-clause-stays
 returns-in-Err-clause-stays g c =
@@ -137,12 +146,13 @@ returns-in-Err-clause-stopped g c =
     let read : ReadsWhole from to l.key r.0 = reads_whole from to l r.0 (r.1 from.left c.in_ok-fragment.ensures.step.0) (c.in_ok-tally.ensures.counted ∙ c.in_ok-fragment.ensures.counted) in
     let was_made : HasCleanDisk (at g.S.Store last) → HasCleanDisk (at g.S.Store made) = λ clean. omega (arith, c.in_ok-tally.ensures.stays.crash.clean) in
     let was_first : HasCleanDisk (at g.S.Store made) → HasCleanDisk (at g.S.Store first) = λ clean. omega (arith, c.in_ok-recording.ensures.stays.crash.clean) in
-    let space = space_of g.S.Store made c.identity.result.now l.key c.args.cap first.cap recording.held recording.room named c.requires.cap c.in_ok-recording.ensures.held in
+    let counted : c.count.result ≡ length r.0 = c.count.ensures.value ∙ ap (λ (x : Layout). x.count) c.header.ensures ∙ as_many from.left to.left l r.0 (r.1 from.left c.in_ok-fragment.ensures.step.0) in
+    let space = space_of g.S.Store made c.identity.result.now l.key c.args.cap first.cap c.count.result (length r.0) recording.room named c.requires.cap counted c.in_ok-recording.ensures.room in
     let identity : c.into_identity-identity.result ≡ l.key = c.into_identity-identity.ensures ∙ ap (λ (x : Layout). x.key) (c.into_header.ensures ∙ c.in_ok-tally.ensures.header) in
     let answer = c.in-Err.ensures.answer in
-    is_refused g.S.Store first made last from to l.key r.0 read recording.held recording.room tally was_made was_first c.in_ok-recording.ensures.same space r.2 c.in-Err.refusal c.in-Err.ensures.refused
-    (subst (λ (n : ℕ). (h : Holdings) → length (h l.key) ≡ recording.held → recording.held + recording.room ≡ n → IsTally l.key h r.0 tally → reply_told (Err c.in-Err.refusal) ≡ Some (reply n h (Fragment l.key r.0))) c.requires.cap
-    (subst (λ (k : Key). (h : Holdings) → length (h k) ≡ recording.held → recording.held + recording.room ≡ c.args.cap → IsTally k h r.0 tally → reply_told (Err c.in-Err.refusal) ≡ Some (reply c.args.cap h (Fragment k r.0))) identity
+    is_refused g.S.Store first made last from to l.key r.0 read recording.room tally was_made was_first c.in_ok-recording.ensures.same space r.2 c.in-Err.refusal c.in-Err.ensures.refused
+    (subst (λ (n : ℕ). (h : Holdings) → IsRoom n (length (h l.key)) (length r.0) recording.room → IsTally l.key h r.0 tally → reply_told (Err c.in-Err.refusal) ≡ Some (reply n h (Fragment l.key r.0))) c.requires.cap
+    (subst (λ (k : Key). (h : Holdings) → IsRoom c.args.cap (length (h k)) (length r.0) recording.room → IsTally k h r.0 tally → reply_told (Err c.in-Err.refusal) ≡ Some (reply c.args.cap h (Fragment k r.0))) identity
     (λ h. answer h r.0)))
 
 pub returns-in_err-tally-clause-stays : goal.returns-in_err-tally-clause-stays

@@ -120,7 +120,7 @@ records-preserved g c =
       status = ap (λ (p : Progress). p.status) step.0;
       count = c.in-Ok-Some.ensures.counted ∙ inv.count;
       walking = one_turn g.S.Store first l c.requires.header.0 left c.requires.header.1 c.args.recording.room c.requires.room
-          now next mid rest from to c.records.tally c.in-Ok.next r inv.walking inv.status answer (ap (λ (p : Progress). p.given) step.0) was was_first
+          now next mid rest from to c.records.tally c.in-Ok.next r inv.walking inv.status answer (ap (λ (p : Progress). p.given) step.0) step.1.wanted was was_first
           (subst (λ (k : Key). HasCleanDisk (at g.S.Store next) → (h : Holdings) → Sees g.S.Store now h → (t : Holdings) × Sees g.S.Store next t × IsNext c.args.recording.room k r h c.records.tally t c.in-Ok.next) same e.next)
           e.counted;
     }
