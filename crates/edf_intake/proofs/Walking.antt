@@ -50,7 +50,7 @@ counts_wider room full wanted key r near h from t to New low enough below (added
 next_wider : (room full wanted : ℕ) (key : Key) (r : DataRecord) (h : Holdings) (new known : ℕ) (clash : Option Starts) (t : Holdings) (to : Tally) → room ≤ full → (room ≡ full) ⊎ (wanted ≤ room) → new < wanted
     → IsNext room key r h (record { new = new; known = known; clash = clash }) t to → IsNext full key r h (record { new = new; known = known; clash = clash }) t to
 next_wider room full wanted key r h new known None t to low enough below (step, is, counts) =
-    (step, is, counts_wider room full wanted key r _ h (record { new = new; known = known; clash = None }) t to step low enough below counts)
+    (step, is, counts_wider room full wanted key r (near_of (duration_of key.duration) r.start (h key)) h (record { new = new; known = known; clash = None }) t to step low enough below counts)
 next_wider room full wanted key r h new known (Some s) t to low enough below same = same
 
 -- the room that there is, where so much was found

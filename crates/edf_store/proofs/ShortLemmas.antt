@@ -1,5 +1,5 @@
 -- What the first start and the last tell of how many data records lie between them.
-use Rattle.std.proofs.Common.{◌≡◌, ℕ, suc, ◌+◌, ◌-◌, ◌*◌, ◌<◌, ◌≤◌, ℤ, pos, ◌-ℤ◌, unsigned_abs, min, true, nat_le, List, [], ◌∷◌, length, reverse, Option, Some, None, option_map, slice_get, refl, sym, ap, subst, ◌∙◌, arith, inl, inr, mul-le-mul_right, le-leb, leb-true}
+use Rattle.std.proofs.Common.{◌≡◌, ℕ, suc, ◌+◌, ◌-◌, ◌*◌, ◌<◌, ◌≤◌, ℤ, pos, ◌-ℤ◌, unsigned_abs, nat_le, List, [], ◌∷◌, length, reverse, Option, Some, None, option_map, slice_get, sym, ap, subst, ◌∙◌, arith, inl, inr, mul-le-mul_right, le-leb, leb-true}
 use Rattle.std.proofs.lemmas.Int.{ints}
 use Rattle.std.proofs.lemmas.Bool.{cases_lt, cases_Bool, lt-leb, leb-false}
 use mathlib.Core.List.{reverse_aux}
@@ -12,7 +12,7 @@ use Rattle.edf_header.specs.Key.{Key}
 use Rattle.edf_fragment.specs.Fragment.{DataRecord}
 use Rattle.edf_holdings.specs.Holdings.{Holdings}
 use Rattle.edf_holdings.specs.Rising.{IsApart}
-use Rattle.edf_holdings.proofs.Joining.{IsGood-from_sound, lasting}
+use Rattle.edf_holdings.proofs.Joining.{IsGood-from_sound}
 use Rattle.edf_tables.specs.Records.{records_of}
 use Rattle.edf_store.specs.Transaction.{AreSeen, IsUnder, SeesOn, MakesNone}
 use Rattle.edf_store.proofs.KeyLemmas.{first_is}
@@ -74,10 +74,7 @@ module _ (cap : ℕ) (a b c : State) (id : ℤ) (first last : Option ℤ)
       let of_q : d ≡ duration_of q.duration = duration ∙ ap (λ (z : Key). duration_of z.duration) key in
       short_list (duration_of q.duration) most (h q) ((IsGood-from_sound cap h it.sound).apart q) x y (sym began_is ∙ f) (sym ended_is ∙ l) (subst (λ n. unsigned_abs (y -ℤ x) < most * n) of_q near)
 
--- there is room where there are at most as many as leave it
-pub room_short : (cap more most n : ℕ) → most ≡ cap - more → 0 < n → n ≤ most → true ≡ nat_le (n + more) cap
-room_short cap more most n is some few = sym (le-leb (n + more) cap (omega (arith, is, some, few)))
-
+-- there is room where the cap leaves as many
 pub room_counted : (cap more left held n : ℕ) → left ≡ cap - held → held ≡ n → n ≤ cap → nat_le more left ≡ nat_le (n + more) cap
 room_counted cap more left held n is same few = elim (cases_Bool (nat_le (n + more) cap)) [
   | inl fits ↦ le-leb more left (omega (arith, is, same, few, leb-true (n + more) cap fits)) ∙ sym fits

@@ -68,13 +68,13 @@ returns-in_err-recording-clause-stopped g c =
 
 pub take_records-requires-clause-recording : goal.take_records-requires-clause-recording
 take_records-requires-clause-recording g c =
-    let same : c.identity.result.now ≡ c.in_ok-fragment.fragment.header.key = c.identity.ensures ∙ ap (λ (l : Layout). l.key) c.header.ensures in
+    let same : c.identity.result.now ≡ c.in_ok-fragment.fragment.header.key = c.identity.ensures ∙ ap (λ (l : Layout). l.key) c.header-header.ensures in
     subst (IsOf g.S.Store c.find_recording.new.transaction.store.now c.in_ok-recording.recording.id.row) same c.in_ok-recording.ensures.recording
 
 pub take_records-requires-clause-room : goal.take_records-requires-clause-room
 take_records-requires-clause-room g c clean h seen =
-    let same : c.identity.result.now ≡ c.in_ok-fragment.fragment.header.key = c.identity.ensures ∙ ap (λ (l : Layout). l.key) c.header.ensures in
-    let counted : c.count.result ≡ c.in_ok-fragment.fragment.header.count = c.count.ensures.value ∙ ap (λ (l : Layout). l.count) c.header.ensures in
+    let same : c.identity.result.now ≡ c.in_ok-fragment.fragment.header.key = c.identity.ensures ∙ ap (λ (l : Layout). l.key) c.header-header.ensures in
+    let counted : c.count.result ≡ c.in_ok-fragment.fragment.header.count = c.count.ensures.value ∙ ap (λ (l : Layout). l.count) c.header-header.ensures in
     space_of g.S.Store c.find_recording.new.transaction.store.now c.identity.result.now c.in_ok-fragment.fragment.header.key c.args.cap c.find_recording.new.transaction.store.now.cap
     c.count.result c.in_ok-fragment.fragment.header.count c.in_ok-recording.recording.room same (c.requires.cap ∙ sym c.in_ok-recording.ensures.stays.cap) counted c.in_ok-recording.ensures.room clean h seen
 
@@ -92,12 +92,12 @@ returns-in-Ok-clause-whole g c =
     let to : Source = record { left = g.R.Input.remaining c.take_records.new.input; failed = g.R.Input.failures c.take_records.new.input } in
     let recording = c.in_ok-recording.recording in
     let tally = c.in_ok-tally.tally in
-    let named : c.identity.result.now ≡ l.key = c.identity.ensures ∙ ap (λ (x : Layout). x.key) c.header.ensures in
+    let named : c.identity.result.now ≡ l.key = c.identity.ensures ∙ ap (λ (x : Layout). x.key) c.header-header.ensures in
     let r = c.in_ok-tally.ensures.read in
     let read : ReadsWhole from to l.key r.0 = reads_whole from to l r.0 (r.1 from.left c.in_ok-fragment.ensures.step.0) (c.in_ok-tally.ensures.counted ∙ c.in_ok-fragment.ensures.counted) in
     let was_made : HasCleanDisk (at g.S.Store last) → HasCleanDisk (at g.S.Store made) = λ clean. omega (arith, c.in_ok-tally.ensures.stays.crash.clean) in
     let was_first : HasCleanDisk (at g.S.Store made) → HasCleanDisk (at g.S.Store first) = λ clean. omega (arith, c.in_ok-recording.ensures.stays.crash.clean) in
-    let counted : c.count.result ≡ length r.0 = c.count.ensures.value ∙ ap (λ (x : Layout). x.count) c.header.ensures ∙ as_many from.left to.left l r.0 (r.1 from.left c.in_ok-fragment.ensures.step.0) in
+    let counted : c.count.result ≡ length r.0 = c.count.ensures.value ∙ ap (λ (x : Layout). x.count) c.header-header.ensures ∙ as_many from.left to.left l r.0 (r.1 from.left c.in_ok-fragment.ensures.step.0) in
     let space = space_of g.S.Store made c.identity.result.now l.key c.args.cap first.cap c.count.result (length r.0) recording.room named c.requires.cap counted c.in_ok-recording.ensures.room in
     let accepted = c.in-Ok.ensures.accepted in
     still_whole g.S.Store first made last l.key r.0 (some_read g.S.Store first made last from to l.key r.0 read recording.room tally was_made was_first c.in_ok-recording.ensures.same space r.2) c.requires.whole c.requires.running
@@ -114,12 +114,12 @@ returns-in-Ok-clause-taken g c =
     let to : Source = record { left = g.R.Input.remaining c.take_records.new.input; failed = g.R.Input.failures c.take_records.new.input } in
     let recording = c.in_ok-recording.recording in
     let tally = c.in_ok-tally.tally in
-    let named : c.identity.result.now ≡ l.key = c.identity.ensures ∙ ap (λ (x : Layout). x.key) c.header.ensures in
+    let named : c.identity.result.now ≡ l.key = c.identity.ensures ∙ ap (λ (x : Layout). x.key) c.header-header.ensures in
     let r = c.in_ok-tally.ensures.read in
     let read : ReadsWhole from to l.key r.0 = reads_whole from to l r.0 (r.1 from.left c.in_ok-fragment.ensures.step.0) (c.in_ok-tally.ensures.counted ∙ c.in_ok-fragment.ensures.counted) in
     let was_made : HasCleanDisk (at g.S.Store last) → HasCleanDisk (at g.S.Store made) = λ clean. omega (arith, c.in_ok-tally.ensures.stays.crash.clean) in
     let was_first : HasCleanDisk (at g.S.Store made) → HasCleanDisk (at g.S.Store first) = λ clean. omega (arith, c.in_ok-recording.ensures.stays.crash.clean) in
-    let counted : c.count.result ≡ length r.0 = c.count.ensures.value ∙ ap (λ (x : Layout). x.count) c.header.ensures ∙ as_many from.left to.left l r.0 (r.1 from.left c.in_ok-fragment.ensures.step.0) in
+    let counted : c.count.result ≡ length r.0 = c.count.ensures.value ∙ ap (λ (x : Layout). x.count) c.header-header.ensures ∙ as_many from.left to.left l r.0 (r.1 from.left c.in_ok-fragment.ensures.step.0) in
     let space = space_of g.S.Store made c.identity.result.now l.key c.args.cap first.cap c.count.result (length r.0) recording.room named c.requires.cap counted c.in_ok-recording.ensures.room in
     let identity : c.into_identity-identity.result ≡ l.key = c.into_identity-identity.ensures ∙ ap (λ (x : Layout). x.key) (c.into_header.ensures ∙ c.in_ok-tally.ensures.header) in
     let accepted = c.in-Ok.ensures.accepted in
@@ -141,12 +141,12 @@ returns-in-Err-clause-stopped g c =
     let to : Source = record { left = g.R.Input.remaining c.take_records.new.input; failed = g.R.Input.failures c.take_records.new.input } in
     let recording = c.in_ok-recording.recording in
     let tally = c.in_ok-tally.tally in
-    let named : c.identity.result.now ≡ l.key = c.identity.ensures ∙ ap (λ (x : Layout). x.key) c.header.ensures in
+    let named : c.identity.result.now ≡ l.key = c.identity.ensures ∙ ap (λ (x : Layout). x.key) c.header-header.ensures in
     let r = c.in_ok-tally.ensures.read in
     let read : ReadsWhole from to l.key r.0 = reads_whole from to l r.0 (r.1 from.left c.in_ok-fragment.ensures.step.0) (c.in_ok-tally.ensures.counted ∙ c.in_ok-fragment.ensures.counted) in
     let was_made : HasCleanDisk (at g.S.Store last) → HasCleanDisk (at g.S.Store made) = λ clean. omega (arith, c.in_ok-tally.ensures.stays.crash.clean) in
     let was_first : HasCleanDisk (at g.S.Store made) → HasCleanDisk (at g.S.Store first) = λ clean. omega (arith, c.in_ok-recording.ensures.stays.crash.clean) in
-    let counted : c.count.result ≡ length r.0 = c.count.ensures.value ∙ ap (λ (x : Layout). x.count) c.header.ensures ∙ as_many from.left to.left l r.0 (r.1 from.left c.in_ok-fragment.ensures.step.0) in
+    let counted : c.count.result ≡ length r.0 = c.count.ensures.value ∙ ap (λ (x : Layout). x.count) c.header-header.ensures ∙ as_many from.left to.left l r.0 (r.1 from.left c.in_ok-fragment.ensures.step.0) in
     let space = space_of g.S.Store made c.identity.result.now l.key c.args.cap first.cap c.count.result (length r.0) recording.room named c.requires.cap counted c.in_ok-recording.ensures.room in
     let identity : c.into_identity-identity.result ≡ l.key = c.into_identity-identity.ensures ∙ ap (λ (x : Layout). x.key) (c.into_header.ensures ∙ c.in_ok-tally.ensures.header) in
     let answer = c.in-Err.ensures.answer in

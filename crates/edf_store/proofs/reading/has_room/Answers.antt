@@ -1,10 +1,10 @@
-use Rattle.std.proofs.Common.{w64, ◌≡◌, ◌-◌, ℕ, sym, ap, subst, arith}
+use Rattle.std.proofs.Common.{w64, ◌≡◌, ℕ, sym, ap, subst, arith}
 use Rattle.std.proofs.lemmas.Int.{to_z-of_z}
 use Rattle.sqlite.specs.State.{HasCleanDisk}
 use Rattle.edf_store.specs.Held.{Kept, at}
-use Rattle.edf_store.specs.Transaction.{AreSeen, IsUnder, IsCountIn, SeesOn}
+use Rattle.edf_store.specs.Transaction.{AreSeen, IsCountIn, SeesOn}
 use Rattle.edf_store.proofs.ReadyLemmas.{stays_then}
-use Rattle.edf_store.proofs.ShortLemmas.{sees_twice, none_twice, room_short, room_counted}
+use Rattle.edf_store.proofs.ShortLemmas.{sees_twice, none_twice, room_counted}
 use Rattle.edf_store.proofs.reading.has_room.Goals as goal
 
 pub count_records-requires-clause-recording : goal.count_records-requires-clause-recording
