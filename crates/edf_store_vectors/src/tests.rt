@@ -266,14 +266,14 @@ fn with_few(alloc: Global) -> Option<Store<MemStore>> {
 /// Whether a recording has room for as many data records as the cap leaves, and for one more: without a data record, with one
 /// and with two; and whether for the most that can be asked for.
 #[derive(Clone, Copy, Debug, Drop, PartialEq, Eq)]
-struct Rooms {
+struct Room {
     of_none: (bool, bool),
     of_one: (bool, bool),
     of_two: (bool, bool),
     most: bool,
 }
 
-const ROOMS: Rooms = Rooms {
+const ROOMS: Room = Room {
     of_none: (true, false),
     of_one: (true, false),
     of_two: (true, false),
@@ -291,14 +291,14 @@ fn room_for<S: Alter>(
 }
 
 /// What is told of room as Q's data record is kept, and one so many half seconds behind it.
-fn rooms<S: Alter>(alloc: Global, store: &mut Store<S>, halves: i8) -> Option<Rooms> {
+fn rooms<S: Alter>(alloc: Global, store: &mut Store<S>, halves: i8) -> Option<Room> {
     let (identity, first) = first_of(alloc, &file_q(alloc).ok()?)?;
     let later = record_behind(alloc, halves)?;
     let of_none = room_for(store, &identity, 5)?;
     put(store, &identity, &first, true).ok()?;
     let of_one = room_for(store, &identity, 4)?;
     put(store, &identity, &later, true).ok()?;
-    Some(Rooms {
+    Some(Room {
         of_none,
         of_one,
         of_two: room_for(store, &identity, 3)?,
@@ -306,7 +306,7 @@ fn rooms<S: Alter>(alloc: Global, store: &mut Store<S>, halves: i8) -> Option<Ro
     })
 }
 
-fn told_rooms(alloc: Global, halves: i8) -> Option<Rooms> {
+fn told_rooms(alloc: Global, halves: i8) -> Option<Room> {
     let mut store = with_few(alloc)?;
     rooms(alloc, &mut store, halves)
 }
