@@ -69,3 +69,15 @@ released_program() {
   fi
   echo "$folder/$name"
 }
+
+# The path of the program to run: the one that was built here, where no source is newer; else the released one, where the release was
+# made from these sources; else it is proved and built first.
+chosen_program() {
+  if is_fresh; then
+    echo "$program"
+  elif ! is_released || ! released_program; then
+    # Status 1 tells that the released bytes are others: what was proved here is run all the same.
+    "$top/bin/build" >&2 </dev/null || [ $? = 1 ] || return 3
+    echo "$program"
+  fi
+}

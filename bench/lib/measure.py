@@ -13,19 +13,17 @@ TOP = LIB.parent.parent
 
 
 def program(words: list) -> tuple:
-    """The program to run, and the words left: the word behind `--program`, or the proved program, built where it is stale."""
+    """The program to run, and the words left: the word after `--program`, or the one that `bin/edfstore` runs."""
     words = list(words)
     if "--program" in words:
         at = words.index("--program")
         given = Path(words[at + 1]).resolve()
         del words[at:at + 2]
         return given, words
-    q = TOP / "examples" / "one-record.edf"
-    with open(q, "rb") as given:
-        built = subprocess.run([TOP / "bin" / "edfstore"], stdin=given, stdout=subprocess.DEVNULL, check=False)
-    if built.returncode:
-        sys.exit("bin/edfstore doesn't run")
-    return TOP / "crates" / "edfstore" / "out" / "edfstore", words
+    chosen = subprocess.run(["bash", "-c", '. "$0/bin/common.sh" && chosen_program', TOP], stdout=subprocess.PIPE, text=True, check=False)
+    if chosen.returncode:
+        sys.exit("bin/edfstore has no program to run")
+    return Path(chosen.stdout.strip()), words
 
 
 def flag(words: list, name: str) -> bool:
