@@ -53,7 +53,7 @@ owner cap trees (x ∷ rows) r has h = go (owns x r) refl (owner cap trees rows 
     go true e more = (x, has.0, here x rows, e)
     go false e more = let it = more (rw e at h) in (it.0, it.1, there x it.0 rows it.2, it.3)
 
-shorter : (p : Row → Bool) (xs : List Row) → length (filter p xs) ≤ length xs
+pub shorter : (p : Row → Bool) (xs : List Row) → length (filter p xs) ≤ length xs
 shorter p [] = omega arith
 shorter p (x ∷ xs) = go (p x) refl (shorter p xs)
   where

@@ -1,5 +1,6 @@
 -- Why a check is refused whose calls follow one another.
-use Rattle.std.proofs.Common.{inl}
+use Rattle.std.proofs.Common.{◌≡◌, ◌≤◌, length, subst, inl}
+use Rattle.sqlite.specs.Effect.{Database}
 use Rattle.sqlite.specs.Tree.{Trees}
 use Rattle.sqlite.specs.declared.error.Error.{Error}
 use Rattle.sqlite.specs.State.{State, HasCleanDisk, Survives}
@@ -14,7 +15,7 @@ unread_unchecked old mid new P Q e one two clean it = untold (inl (unread_since 
 pub untold_unchecked : (old mid new : State) (P Q : Trees → Type 0) (e : Error) → Survives old mid P → Survives mid new Q → HasCleanDisk new → IsUntold mid new e → IsUnchecked old new e
 untold_unchecked old mid new P Q e one two clean it = untold (untold_since old mid new P Q e one two clean it)
 
-pub unchecked_since : (old mid new : State) (P Q : Trees → Type 0) (e : Error) → Survives old mid P → Survives mid new Q → HasCleanDisk new → IsUnchecked mid new e → IsUnchecked old new e
-unchecked_since old mid new P Q e one two clean (untold it) = untold (untold_since old mid new P Q e one two clean it)
-unchecked_since old mid new P Q e one two clean (row_refused it) = row_refused it
-unchecked_since old mid new P Q e one two clean (too_many is) = too_many is
+pub unchecked_since : (old mid new : State) (P Q : Trees → Type 0) (e : Error) → Survives old mid P → Survives mid new Q → HasCleanDisk new → mid.now ≡ old.now → IsUnchecked mid new e → IsUnchecked old new e
+unchecked_since old mid new P Q e one two clean same (untold it) = untold (untold_since old mid new P Q e one two clean it)
+unchecked_since old mid new P Q e one two clean same (row_refused it) = row_refused it
+unchecked_since old mid new P Q e one two clean same (too_many is many) = too_many is (subst (λ (d : Database). 9223372036854775807 ≤ length (d.trees 2)) same many)

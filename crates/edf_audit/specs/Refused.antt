@@ -1,5 +1,5 @@
 -- Why the check of a file is refused, on a disk that gives back what was written.
-use Rattle.std.specs.Prelude.{◌≡◌, IsTrue}
+use Rattle.std.specs.Prelude.{◌≡◌, ◌≤◌, length, IsTrue}
 use Rattle.sqlite.specs.declared.error.ErrorCode.TheVariants.{OutOfMemory, DatabaseCorrupt, IntegerOverflow, TransactionState}
 use Rattle.sqlite.specs.declared.error.Error.{Error}
 use Rattle.sqlite.specs.declared.error.Error.TheVariants.{SqliteFailure}
@@ -15,7 +15,7 @@ pub data IsRowRefused (e : Error) : Type 0 where
 pub data IsUnchecked (old new : State) (e : Error) : Type 0 where
   untold : IsUntold old new e → IsUnchecked old new e
   row_refused : IsRowRefused e → IsUnchecked old new e
-  too_many : e ≡ SqliteFailure IntegerOverflow → IsUnchecked old new e
+  too_many : e ≡ SqliteFailure IntegerOverflow → 9223372036854775807 ≤ length (old.now.trees 2) → IsUnchecked old new e
 
 -- the file is not checked: a table is not made, a transaction is open, or the rows are not checked
 pub data IsUnaudited (old new : State) (e : Error) : Type 0 where

@@ -37,6 +37,14 @@ pub record IsNear (k : Key) (last : Option ℕ) (row : Row) : Type 0 where
   pub order : first ≤ start
   pub near : start < first + duration_of k.duration
 
+-- the row starts before the last
+pub record IsOutOfOrder (last : Option ℕ) (row : Row) : Type 0 where
+  pub first : ℕ
+  pub start : ℕ
+  pub last_is : last ≡ Some first
+  pub start_is : column row 0 ≡ Int (pos start)
+  pub before : start < first
+
 -- the row may not stand behind the last
 abbrev pub IsWrong : Key → Option ℕ → Row → Type 0
 IsWrong k last row = IsBadRow k row ⊎ IsNear k last row

@@ -1,6 +1,6 @@
 //! The rows of one recording, each read once.
 
-ghost use Rattle.std.specs.Prelude.{◌≡◌, ◌<◌, ◌^◌, ◌-◌, ℕ, IfOk, IfErr, OnOk, OnErr, MatchOption};
+ghost use Rattle.std.specs.Prelude.{◌≡◌, ◌<◌, ◌^◌, ◌-◌, ℕ, Err, IfOk, IfErr, OnOk, OnErr, MatchOption};
 ghost use Rattle.sqlite.specs.Held.{state};
 ghost use Rattle.sqlite.specs.State.{HasCleanDisk, Survives, KeepsCommit, IsUnchanged};
 ghost use Rattle.edf_field.specs.Number.{duration_of};
@@ -8,7 +8,7 @@ ghost use Rattle.edf_tables.specs.Schema.{both_schema};
 ghost use Rattle.edf_rows.specs.Cells.{records_in};
 ghost use Rattle.edf_rows.specs.Foreign.{IsBadRow};
 ghost use Rattle.edf_audit.specs.Refused.{IsRowRefused, IsUnchecked};
-ghost use Rattle.edf_audit.specs.Walk.{IsStartOf, IsNext, IsWrong, Tells};
+ghost use Rattle.edf_audit.specs.Walk.{IsStartOf, IsNext, IsOutOfOrder, IsWrong, Tells};
 
 use edf_header::Identity;
 use edf_rows::check_row;
@@ -46,6 +46,7 @@ fn next_start(
 ) -> Result<Option<Instant>, Error>
     ensures told { IfOk result (λ o. MatchOption o (IsWrong identity.now last row.now) (IsNext identity.now last row.now)) }
     ensures why { IfErr result IsRowRefused }
+    ensures order { result ≡ Err (Error.SqliteFailure ErrorCode.DatabaseCorrupt) → IsOutOfOrder last row.now }
 {
     let start = match start_in(alloc, identity, row) {
         Ok(Some(start)) => start,

@@ -48,7 +48,7 @@ returns-in_err-found-clause-why g c clean =
 
 pub returns-in_err-sum-clause-why : goal.returns-in_err-sum-clause-why
 returns-in_err-sum-clause-why g c clean =
-    let why = unchecked_since (state g.S.Store c.args.conn.now) (state g.S.Store c.recordings.new.conn) (state g.S.Store c.count_owned.new.conn) _ _ _ c.recordings.ensures.survives c.count_owned.ensures.survives clean (c.in_err-sum.ensures.why clean) in
+    let why = unchecked_since (state g.S.Store c.args.conn.now) (state g.S.Store c.recordings.new.conn) (state g.S.Store c.count_owned.new.conn) _ _ _ c.recordings.ensures.survives c.count_owned.ensures.survives clean (c.in_ok-found.ensures.same (omega (arith, c.count_owned.ensures.survives.clean))).0.now_is (c.in_err-sum.ensures.why clean) in
     let told = err_from_is_err_and c.from_residual-in_err-sum.result c.from_residual-in_err-sum.ensures.1 in
     rw (told.1, told.2) why
 

@@ -1,4 +1,6 @@
-use Rattle.std.proofs.Common.{rules, None, w64, arith, subst}
+use Rattle.std.proofs.Common.{rules, None, w64, arith, subst, refl, take, ◌+◌}
+use Rattle.std.specs.List.{list_any}
+use Rattle.edf_audit.specs.Refused.IsUnchecked.{too_many}
 use Rattle.std.proofs.lemmas.Int.{to_z-of_z}
 use Rattle.std.proofs.lemmas.Result.{err_from_is_err_and}
 use Rattle.sqlite.specs.Effect.{Database}
@@ -6,11 +8,11 @@ use Rattle.sqlite.specs.Held.{state}
 use Rattle.sqlite.specs.State.{HasCleanDisk}
 use Rattle.edf_tables.proofs.CommitLemmas.{quiet_then, survives_same}
 use Rattle.edf_rows.specs.Cells.{recordings_in}
-use Rattle.edf_audit.specs.All.{IsAfter}
+use Rattle.edf_audit.specs.All.{IsAfter, AreCounted, owns}
 use Rattle.edf_audit.specs.Kept.{Checks}
 use Rattle.edf_audit.proofs.RefusedLemmas.{unchecked_since}
 use Rattle.edf_audit.proofs.CountLemmas.{counted_none}
-use Rattle.edf_audit.proofs.AllLemmas.{rows_same, rows_then, row_in, up_more, counted_more}
+use Rattle.edf_audit.proofs.AllLemmas.{rows_same, rows_then, row_in, up_more, counted_more, shorter}
 use Rattle.edf_audit.proofs.all.count_owned.Goals as goal
 
 pub loop-row-init : goal.loop-row-init
@@ -54,6 +56,19 @@ loop-row-preserved g c =
 
 pub returns-in_err-count-clause-why : goal.returns-in_err-count-clause-why
 returns-in_err-count-clause-why g c clean =
-    let why = unchecked_since (state g.S.Store c.args.conn.now) (state g.S.Store c.loop-row.conn) (state g.S.Store c.check_row.new.conn) _ _ _ c.loop-row.invariant.crash c.check_row.ensures.survives clean (c.in_err-count.ensures.why clean) in
+    let why = unchecked_since (state g.S.Store c.args.conn.now) (state g.S.Store c.loop-row.conn) (state g.S.Store c.check_row.new.conn) _ _ _ c.loop-row.invariant.crash c.check_row.ensures.survives clean (c.loop-row.invariant.same (omega (arith, c.check_row.ensures.survives.clean))).now_is (c.in_err-count.ensures.why clean) in
     let told = err_from_is_err_and c.from_residual.result c.from_residual.ensures.1 in
     rw (told.1, told.2) why
+
+pub returns-then-more-ge-MOST_COUNTED-clause-why : goal.returns-then-more-ge-MOST_COUNTED-clause-why
+returns-then-more-ge-MOST_COUNTED-clause-why g c clean =
+    let old = state g.S.Store c.args.conn.now in
+    let was = state g.S.Store c.loop-row.conn in
+    let inv = c.loop-row.invariant in
+    let after : IsAfter c.loop-row.last c.row-item.result c.in-Some-next_id.id = c.in-Some-next_id.ensures in
+    let late : HasCleanDisk was = omega (arith, c.check_row.ensures.survives.clean) in
+    let early : HasCleanDisk old = omega (arith, late, inv.crash.clean) in
+    let counted : AreCounted c.args.cap old.now.trees (take (c.loop-row.row-index + 1) c.args.rows.now) (c.loop-row.sum + c.from.result) = counted_more c.args.cap old.now was.now c.args.rows.now c.loop-row.row-index c.row-item.result c.loop-row.sum c.in-Some.count c.from.result c.loop-row.last c.in-Some-next_id.id (inv.same late).now_is (c.requires.listed early)
+    (search rules) (search rules) (search rules) (inv.counted late) inv.up_to after (subst (Checks c.args.cap was.now.trees c.row-item.result) c.in-Some.is (c.in_ok-count.ensures.told clean)) in
+    let all = shorter (λ r. list_any (λ g. owns g r) (take (c.loop-row.row-index + 1) c.args.rows.now)) (old.now.trees 2) in
+    too_many refl (omega (arith, counted.sums, all, c.if-more-ge-MOST_COUNTED.true))
