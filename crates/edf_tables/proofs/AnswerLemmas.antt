@@ -1,6 +1,7 @@
 -- What the answers of the queries are.
-use Rattle.std.proofs.Common.{◌≡◌, ℕ, Bool, true, false, cond, List, [], ◌∷◌, map, filter, flat_map, length, reverse, take, Option, Some, refl, sym, ap, subst, subst₂, ◌∙◌, Ordering, Less, Equal, Greater, IsPermutation}
-use Rattle.std.specs.List.{list_all, AllZip}
+use Rattle.std.proofs.Common.{◌≡◌, ℕ, zero, suc, ◌+◌, arith, ap₂, slice_index_or, is_lt, IsSorted, Bool, true, false, cond, List, [], ◌∷◌, map, filter, flat_map, length, reverse, take, Option, Some, refl, sym, ap, subst, subst₂, ◌∙◌, Ordering, Less, Equal, Greater, IsPermutation}
+use Rattle.std.specs.List.{AllByRecursion, list_all, AllZip}
+use Rattle.sqlite_trees.proofs.ListLemmas.{all-permutation}
 use Rattle.std.proofs.lemmas.List.{length-map}
 use Rattle.std.proofs.lemmas.List.Sorted.{length_permutation, IsPermutation-map, IsPermutation-reverse, IsPermutation-trans, IsPermutation-sym}
 use Rattle.sqlite.specs.declared.types.Value.{Value}
@@ -89,6 +90,43 @@ some_order tree at terms shown params db rows a =
     let all : a.kept ≡ map out kept = a.distinct ∙ ap (map (output q)) (a.grouped ∙ matched params terms (db tree)) ∙ map-map (output q) (λ (r : Row). params ∷ r ∷ []) kept in
     let moved = IsPermutation-map (λ (p : Output). p.1) (map out kept) a.ordered (subst (λ k. IsPermutation k a.ordered) all a.same) in
     subst₂ (λ xs ys. IsPermutation xs ys) (map-map (λ (p : Output). p.1) out kept) (sym a.shown) moved
+
+all_or : (P : Output → Type 0) (xs : List Output) (k : ℕ) (d : Output) → AllByRecursion P xs → P d → P (slice_index_or xs k d)
+all_or P [] k d all h = h
+all_or P (x ∷ xs) zero d all h = all.0
+all_or P (x ∷ xs) (suc k) d all h = all_or P xs k d all.1 h
+
+shown_or : (xs : List Output) (k : ℕ) (d : Output) → (slice_index_or xs k d).1 ≡ slice_index_or (map (λ (o : Output). o.1) xs) k d.1
+shown_or [] k d = refl
+shown_or (x ∷ xs) zero d = refl
+shown_or (x ∷ xs) (suc k) d = shown_or xs k d
+
+out_all : (params : Row) (at : ℕ) (shown : List Term) (rows : List Row) → ((r : Row) → column (eval_all shown (params ∷ r ∷ [])) 0 ≡ column r at)
+    → AllByRecursion (λ (o : Output). column o.0 0 ≡ column o.1 0) (map (λ r. (column r at ∷ [], eval_all shown (params ∷ r ∷ []))) rows)
+out_all params at shown [] first = tt
+out_all params at shown (r ∷ rows) first = (sym (first r), out_all params at shown rows first)
+
+-- the rows are in order, where the column that orders them is shown first
+pub in_order : (tree at : ℕ) (terms shown : List Term) (params : Row) (db : Trees) (rows : List Row) → IsAnswer (ordered_query tree terms shown at) db params rows
+    → ((r : Row) → column (eval_all shown (params ∷ r ∷ [])) 0 ≡ column r at) → IsSorted (by_column 0) rows
+in_order tree at terms shown params db rows a first =
+    let q = ordered_query tree terms shown at in
+    let out : Row → Output = λ r. output q (params ∷ r ∷ []) in
+    let kept = filter (passes params terms) (db tree) in
+    let P : Output → Type 0 = λ o. column o.0 0 ≡ column o.1 0 in
+    let all : a.kept ≡ map out kept = a.distinct ∙ ap (map (output q)) (a.grouped ∙ matched params terms (db tree)) ∙ map-map (output q) (λ (r : Row). params ∷ r ∷ []) kept in
+    let each : AllByRecursion P a.ordered = all-permutation P (map out kept) a.ordered (subst (λ k. IsPermutation k a.ordered) all a.same) (out_all params at shown kept first) in
+    subst (IsSorted (by_column 0)) (sym a.shown) (λ k d low high.
+    let o : Output = (d, d) in
+    let x = slice_index_or a.ordered (k + 1) o in
+    let y = slice_index_or a.ordered k o in
+    let size = length-map a.ordered (λ (o : Output). o.1) in
+    let below : is_lt (output_cmp q x y) ≡ false = a.sorted k o low (omega (arith, high, size)) in
+    let bare : is_lt (value_cmp (column x.0 0) (column y.0 0)) ≡ false = ap is_lt (sym (then_equal (value_cmp (column x.0 0) (column y.0 0)))) ∙ below in
+    let first = all_or P a.ordered (k + 1) o each refl in
+    let second = all_or P a.ordered k o each refl in
+    let shows : is_lt (value_cmp (column x.1 0) (column y.1 0)) ≡ false = ap₂ (λ v w. is_lt (value_cmp v w)) (sym first) (sym second) ∙ bare in
+    ap₂ (λ (v w : Row). is_lt (value_cmp (column v 0) (column w 0))) (sym (shown_or a.ordered (k + 1) o)) (sym (shown_or a.ordered k o)) ∙ shows)
 
 -- and without ORDER BY
 pub any_order : (tree : ℕ) (terms shown : List Term) (params : Row) (db : Trees) (rows : List Row) → IsAnswer (plain_query tree terms shown) db params rows

@@ -1,5 +1,5 @@
 -- What each query shows of the rows.
-use Rattle.std.proofs.Common.{◌≡◌, ◌≢◌, ℕ, ℤ, pos, Bool, true, ◌&&◌, List, [], ◌∷◌, ◌++◌, map, filter, length, reverse, take, min, slice_get, Option, Some, None, Contains, refl, sym, ap, subst, ◌∙◌, arith, Less, IsPermutation}
+use Rattle.std.proofs.Common.{◌≡◌, ◌≢◌, IsSorted, ℕ, ℤ, pos, Bool, true, ◌&&◌, List, [], ◌∷◌, ◌++◌, map, filter, length, reverse, take, min, slice_get, Option, Some, None, Contains, refl, sym, ap, subst, ◌∙◌, arith, Less, IsPermutation}
 use Rattle.std.specs.Option.{option_map}
 use Rattle.std.proofs.lemmas.List.{take-map}
 use Rattle.std.proofs.lemmas.List.Sorted.{length_permutation, Contains-permutation, IsPermutation-sym}
@@ -32,7 +32,7 @@ use Rattle.edf_tables.proofs.Queries.{passes, paged_query, of_recording, start_s
 use Rattle.edf_tables.proofs.QueryTexts.{Means, near_text, near_is, page_text, page_is, walk_text, walk_is, count_text, count_is, first_text, first_is, last_text, last_is, id_text, id_is, identities_text, identities_is, recordings_text, recordings_is, count_all_text, count_all_is}
 use Rattle.edf_tables.proofs.SortLemmas.{filter_sort, filter_twice, filter_true}
 use Rattle.edf_tables.proofs.TermLemmas.{is_of_passes, near_passes, after_passes, identity_passes}
-use Rattle.edf_tables.proofs.AnswerLemmas.{column_total, AreApart, answered, last_answered, some_order, any_order, counted}
+use Rattle.edf_tables.proofs.AnswerLemmas.{column_total, AreApart, answered, last_answered, some_order, in_order, any_order, counted}
 
 module _ (sql : List ℕ) (query : Query) (names : List (List ℕ)) (means : Means sql query names) where
   pub plain_at : (old : State) → old.now.schema ≡ both_schema → IsPlain (understood old.now.schema sql)
@@ -173,3 +173,6 @@ identities_shown old new rows apart h =
 pub recordings_shown : (old new : State) (rows : List Row) → old.now.schema ≡ both_schema → Shown recordings_text [] old new rows → IsPermutation (map shown_recording (old.now.trees 0)) rows
 recordings_shown old new rows has h =
     subst (λ (l : List Row). IsPermutation (map shown_recording l) rows) (filter_true (old.now.trees 0)) (some_order 0 0 [] _ [] (overlay old.now.trees []) rows (answer_of recordings_text _ _ recordings_is [] old new rows has h))
+
+pub recordings_in_order : (old new : State) (rows : List Row) → old.now.schema ≡ both_schema → Shown recordings_text [] old new rows → IsSorted (by_column 0) rows
+recordings_in_order old new rows has h = in_order 0 0 [] _ [] (overlay old.now.trees []) rows (answer_of recordings_text _ _ recordings_is [] old new rows has h) (λ r. refl)

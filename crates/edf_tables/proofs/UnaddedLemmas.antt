@@ -1,7 +1,16 @@
 -- Why a row is not added, and why a table is not made.
-use Rattle.std.proofs.Common.{ap, ◌≡◌, ◌⊎◌, ◌+◌, ◌*◌, ◌^◌, ◌<◌, ◌&&◌, ◌||◌, inl, inr, ℕ, ℤ, List, [], ◌∷◌, true, false, Option, Some, None, IsSome, Result, Ok, Err, IfErr, length, slice_get, refl, sym, subst, ◌∙◌, arith, true≢false}
-use Rattle.std.proofs.lemmas.Bool.{cases_Bool}
-use Rattle.sqlite.specs.declared.types.Value.TheVariants.{Blob}
+use Rattle.std.proofs.Common.{ap, cond, ◌≡◌, ◌⊎◌, ◌+◌, ◌*◌, ◌^◌, ◌<◌, ◌≤◌, pos, negsuc, zero, suc, ◌++◌, ◌&&◌, ◌||◌, inl, inr, ℕ, ℤ, List, [], ◌∷◌, true, false, Option, Some, None, IsSome, Result, Ok, Err, IfErr, length, slice_get, refl, sym, subst, ◌∙◌, arith, true≢false}
+use Rattle.std.proofs.lemmas.Bool.{cases_Bool, cases_lt}
+use Rattle.std.proofs.lemmas.List.{length-append}
+use Rattle.std.proofs.lemmas.List.Elements.{All-from_recursion}
+use Rattle.std.proofs.lemmas.Nat.Bits.{bit_at-zero}
+use Rattle.std.specs.List.{AllByRecursion}
+use Rattle.std.specs.Int.{bit_at}
+use Rattle.std.specs.Float.{NotNan}
+use Rattle.std.specs.Float.Ieee.{is_nan}
+use Rattle.std.specs.Prelude.{option_map, ◌/◌}
+use Rattle.sqlite.specs.declared.types.Value.{Value}
+use Rattle.sqlite.specs.declared.types.Value.TheVariants.{Null, Int, Blob}
 use Rattle.sqlite.specs.Order.{Row}
 use Rattle.sqlite.specs.Tree.{Trees}
 use Rattle.sqlite.specs.Schema.{Schema}
@@ -11,10 +20,17 @@ use Rattle.sqlite.specs.Source.TheVariants.{Values}
 use Rattle.sqlite.specs.Command.TheVariants.{Insert, CreateTable, Nothing}
 use Rattle.sqlite_schema.specs.declared.command.Command.{Command}
 use Rattle.sqlite_schema.specs.declared.schema.Keys.{Keys}
-use Rattle.sqlite_rules.specs.Edit.{Edit}
+use Rattle.sqlite_schema.specs.declared.schema.Keys.TheVariants.{Enforced}
+use Rattle.sqlite_schema.specs.declared.schema.Index.{Index}
+use Rattle.sqlite_schema.specs.Rules.{table_reals, index_reals}
+use Rattle.sqlite_sql.specs.Catalog.{entry_of}
+use Rattle.sqlite_trees.specs.View.{IsStorable, is_int}
+use Rattle.sqlite_value.specs.Order.{column, number}
+use Rattle.sqlite.specs.Edit.{edit_of}
+use Rattle.sqlite.specs.Rowids.TheVariants.{Above, Chosen}
+use Rattle.sqlite_rules.specs.Action.{Writes, Leads, works}
+use Rattle.sqlite_rules.specs.Edit.{Edit, IsRefused, IsOversized, taken_by, next_rowid}
 use Rattle.sqlite_rules.specs.declared.error.Refusal.{Refusal}
-use Rattle.sqlite_rules.specs.declared.error.Refusal.TheVariants.{Violates}
-use Rattle.sqlite_schema.specs.declared.schema.Constraint.TheVariants.{ForeignKey}
 use Rattle.sqlite_catalog.specs.declared.error.Refusal as alter
 use Rattle.sqlite_catalog.specs.declared.error.Refusal.TheVariants as why
 use Rattle.sqlite_catalog.specs.Calls.{IsLongTable}
@@ -28,51 +44,80 @@ use Rattle.sqlite.specs.declared.error.Error.{Error}
 use Rattle.sqlite.specs.declared.error.Error.TheVariants.{SqliteFailure}
 use Rattle.sqlite.specs.Calls.{IsWrite}
 use Rattle.sqlite.specs.Does.{Does, MakesTable, OnRows, lacks_sequence, sequence_text}
-use Rattle.sqlite.specs.Effect.{is_query, Database, edit_error, alter_error}
+use Rattle.sqlite.specs.Effect.{is_query, Database, edit_error, alter_error, value_rows}
 use Rattle.sqlite.specs.Listing.{understood}
-use Rattle.sqlite.specs.Rows.{Task, Sourced, Edited, stamped}
+use Rattle.sqlite.specs.Rows.{Task, Sourced, Edited, stamped, rowids_for, count_of}
 use Rattle.sqlite.specs.State.{State, HasCleanDisk, Survives, mode_of, Executes, IsMisplaced, is_pragma}
 use Rattle.sqlite.proofs.Callers.{command_of, statement_of}
 use Rattle.edf_tables.specs.Made.{IsOurs}
 use Rattle.edf_tables.specs.Refused.{IsUnadded, IsUnmade}
 use Rattle.edf_tables.specs.Refused.{IsUnadded as row}
 use Rattle.edf_tables.specs.Refused.{IsUnmade as table}
-use Rattle.edf_tables.specs.Row.{cells, IsInside}
+use Rattle.edf_tables.specs.Row.{cells, named_cells, new_row, one_row, stored_size, IsInside}
 use Rattle.edf_tables.specs.Schema.{recording, records, no_schema, one_schema, both_schema}
+use Rattle.edf_tables.proofs.WriteLemmas.{cast_null, cast_int}
 use Rattle.edf_tables.proofs.RefusedLemmas.{IsAlone, turned_down, stopped_or, stopped_since}
 use Rattle.edf_tables.proofs.TextLemmas.{create_recording_text, create_recording_is, create_records_text, create_records_is, recording_there, recording_there_2, records_there, insert_record_text, insert_record_is, record_terms, insert_recording_text, insert_recording_is, recording_terms}
 
 -- ---- a row
 
--- a rule of the table refuses it, or the steps ran out
-abbrev IsRuled : Option ℕ → Error → Type 0
-IsRuled limit e = ((rule : Refusal) × (e ≡ edit_error rule)) ⊎ ((e ≡ SqliteFailure OperationInterrupted) × IsSome limit)
+-- the row is too large, a rule of the table refuses it, or the steps ran out
+abbrev Stops : Option ℕ → Trees → Table → Row → Option Error → Type 0
+Stops limit db of cells None = IsOversized both_schema of (new_row (db of.tree) cells)
+Stops limit db of cells (Some e) = ((rule : Refusal) × (e ≡ edit_error rule) × IsRefused both_schema Enforced db (one_row db of cells) rule) ⊎ ((e ≡ SqliteFailure OperationInterrupted) × IsSome limit)
 
-source_stops : (limit : Option ℕ) (db : Database) (given : Row) (terms : List Term) (width : ℕ) (stop : Option Error) (e : Error) → accepts_terms terms given ≡ true → stop ≡ Some e → Sourced limit db given (Values terms width) (Err stop) → IsRuled limit e
-source_stops limit db given terms width None e typed is h = absurd h
-source_stops limit db given terms width (Some x) e typed is (inl mismatch) = absurd (true≢false (sym typed ∙ mismatch.1))
-source_stops limit db given terms width (Some x) e typed is (inr steps) = let same : e ≡ x = cc in inr (same ∙ steps.0, steps.1)
+source_stops : (limit : Option ℕ) (db : Trees) (of : Table) (cells given : Row) (terms : List Term) (width : ℕ) (stop : Option Error) → accepts_terms terms given ≡ true
+    → Sourced limit (record { schema = both_schema; trees = db }) given (Values terms width) (Err stop) → Stops limit db of cells stop
+source_stops limit db of cells given terms width None typed h = absurd h
+source_stops limit db of cells given terms width (Some x) typed (inl mismatch) = absurd (true≢false (sym typed ∙ mismatch.1))
+source_stops limit db of cells given terms width (Some x) typed (inr steps) = inr steps
 
-edit_stops : (limit : Option ℕ) (schema : Schema) (keys : Keys) (db : Trees) (edit : Edit) (stop : Option Error) (e : Error) → stop ≡ Some e → Edited schema keys db edit (Err stop) → IsRuled limit e
-edit_stops limit schema keys db edit stop e is (None, wrote, same) = absurd (cc)
-edit_stops limit schema keys db edit stop e is (Some rule, wrote, same) = let k : e ≡ edit_error rule = cc in inl (rule, k)
+none_left : (n : ℕ) (db : Trees) (stop : Option Refusal) → ¬ Leads both_schema Enforced n db [] (Err stop)
+none_left zero db stop h = let e = h.1 in cc
+none_left (suc n) db stop h = absurd (omega (arith, ap length h.2, length-append h.0 (h.1 ∷ [])))
 
-rows_stop : (task : Task) (mode : Mode) (at : ℕ) (terms : List Term) (width : ℕ) (db : Trees) (e : Error) → task.table.is_counted ≡ false → accepts_terms terms (stamped task.table task.params) ≡ true
-    → OnRows task mode None (Insert at (Values terms width)) db (Err (Some e)) → IsRuled task.limit e
-rows_stop task mode at terms width db e plain typed (inl (stop, w, same)) =
-    let is : stop ≡ Some e = cc in
+edit_stops : (limit : Option ℕ) (db : Trees) (of : Table) (cells : Row) (stop : Option Error) → ((olds news : List Row) → works both_schema Enforced 0 of.tree olds news ≡ [])
+    → Edited both_schema Enforced db (one_row db of cells) (Err stop) → Stops limit db of cells stop
+edit_stops limit db of cells stop none h = go h.0 h.1 h.2
+  where
+    go : (why : Option Refusal) → Writes both_schema Enforced db (one_row db of cells) (Err why) → stop ≡ option_map edit_error why → Stops limit db of cells stop
+    go why (inr (inr went)) same = absurd (none_left went.2.0 went.0 why (rw (none (taken_by db (one_row db of cells)) (one_row db of cells).news) at went.2.1))
+    go None (inl refused) same = absurd (let e = refused.2 in cc)
+    go None (inr (inl big)) same = elim big.1 [ inl is ↦ rw same (subst (IsOversized both_schema of) is big.2) | inr never ↦ absurd never ]
+    go (Some rule) (inl refused) same = let is : refused.0 ≡ rule = (let e = refused.2 in cc) in rw same (inl (rule, refl, subst (IsRefused both_schema Enforced db (one_row db of cells)) is refused.1))
+    go (Some rule) (inr (inl big)) same = absurd (let e = big.3 in cc)
+
+all_free : (db : Trees) (rows : List Row) → AllByRecursion (λ (row : Row). true ≡ true) rows
+all_free db [] = tt
+all_free db (row ∷ rows) = (refl, all_free db rows)
+
+abbrev task_of : Option ℕ → Table → Row → Task
+task_of limit of params = record { limit = limit; keys = Enforced; schema = both_schema; table = of; params = params }
+
+abbrev plain_mode : Mode
+plain_mode = record { keys = Enforced; in_doubt = false; may_wait = false }
+
+rows_stop : (limit : Option ℕ) (of : Table) (params cells : Row) (at : ℕ) (terms : List Term) (width : ℕ) (db : Trees) (stop : Option Error) → of.is_counted ≡ false → accepts_terms terms (stamped of params) ≡ true
+    → edit_of db of [] Chosen 0 (value_rows (stamped of params) width (length terms / width) terms) ≡ one_row db of cells → ((olds news : List Row) → works both_schema Enforced 0 of.tree olds news ≡ [])
+    → OnRows (task_of limit of params) plain_mode None (Insert at (Values terms width)) db (Err stop) → Stops limit db of cells stop
+rows_stop limit of params cells at terms width db stop plain typed one none (inl (was, w, same)) =
+    let is : was ≡ stop = cc in
     elim w [
-      | inl source ↦ source_stops task.limit (record { schema = task.schema; trees = db }) (stamped task.table task.params) terms width source.0 e typed (let k = source.2 in cc) source.1
+      | inl source ↦ let here : source.0 ≡ stop = (let k = source.2 in cc) in subst (Stops limit db of cells) here (source_stops limit db of cells (stamped of params) terms width source.0 typed source.1)
       | inr read ↦ elim read.2 [
         | inl counter ↦ absurd (let k = rw plain at counter.1 in cc)
         | inr counted ↦ elim counted.2 [
-          | inl edited ↦ edit_stops task.limit _ _ _ _ edited.0 e (let k = edited.2 in cc) edited.1
+          | inl edited ↦
+              let here : edited.0 ≡ stop = (let k = edited.2 in cc) in
+              let way : rowids_for of (count_of counted.0) ≡ Chosen = ap (λ b. cond b (Above (count_of counted.0)) Chosen) plain in
+              let edit : edit_of db of [] (rowids_for of (count_of counted.0)) 0 read.0 ≡ one_row db of cells = ap (λ w. edit_of db of [] w 0 read.0) way ∙ ap (edit_of db of [] Chosen 0) read.1.1 ∙ one in
+              subst (Stops limit db of cells) here (edit_stops limit db of cells edited.0 none (subst (λ x. Edited both_schema Enforced db x (Err edited.0)) edit edited.1))
           | inr made ↦ elim made.2 [ inl counts ↦ absurd (let k = rw plain at counts.1 in cc) | inr gave ↦ absurd (let k = gave.2 in cc) ]
         ]
       ]
     ]
-rows_stop task mode at terms width db e plain typed (inr (w, done, rest)) = elim rest [
-  | inl tested ↦ let k : e ≡ edit_error (Violates ForeignKey) = (let a = tested.2 in let b = tested.1.1 in cc) in inl (Violates ForeignKey, k)
+rows_stop limit of params cells at terms width db stop plain typed one none (inr (w, done, rest)) = elim rest [
+  | inl tested ↦ absurd (tested.1.0 (all_free w.trees (w.trees 0), (all_free w.trees (w.trees 2), tt)))
   | inr held ↦ elim held.2 [ inl shows ↦ absurd (let k = shows.1 in cc) | inr gave ↦ absurd (let k = gave.2 in cc) ]
 ]
 
@@ -82,28 +127,85 @@ writes_at_any_place old command e writes (inl (is, inl begins)) = subst IsWrite 
 writes_at_any_place old command e writes (inl (is, inr ends)) = elim ends.0 [ inl k ↦ subst IsWrite k writes | inr k ↦ subst IsWrite k writes ]
 writes_at_any_place old command e writes (inr named) = elim named.2 [ inl k ↦ subst IsWrite k writes | inr k ↦ subst IsWrite k writes ]
 
-unadded : (old new : State) (e : Error) → IsRuled old.step_limit e → IsUnadded old new e
-unadded old new e (inl ruled) = row.against_rule ruled.0 ruled.1
-unadded old new e (inr steps) = row.limited steps.0 steps.1
+unadded : (of : Table) (cells : Row) (old new : State) (e : Error) → Stops old.step_limit old.now.trees of cells (Some e) → IsUnadded of cells old new e
+unadded of cells old new e (inl ruled) = row.against_rule ruled.0 ruled.1 ruled.2
+unadded of cells old new e (inr steps) = row.limited steps.0 steps.1
 
 -- a text that adds a row to one of our tables
-row_unadded : (sql : List ℕ) (params : Row) (old new : State) (at : ℕ) (terms : List Term) (width : ℕ) (of : Table) → old.now.schema ≡ both_schema → command_of (understood both_schema sql) ≡ Insert at (Values terms width)
-    → IsAlone both_schema sql (length params) → slice_get both_schema.tables at ≡ Some of → of.is_counted ≡ false → accepts_terms terms (stamped of params) ≡ true → (e : Error) → Executes sql params old new (Err e) → IsUnadded old new e
-row_unadded sql params old new at terms width of has is alone listed plain typed e h =
+row_unadded : (sql : List ℕ) (params cells : Row) (old new : State) (at : ℕ) (terms : List Term) (width : ℕ) (of : Table) → old.now.schema ≡ both_schema → command_of (understood both_schema sql) ≡ Insert at (Values terms width)
+    → IsAlone both_schema sql (length params) → slice_get both_schema.tables at ≡ Some of → of.is_counted ≡ false → accepts_terms terms (stamped of params) ≡ true
+    → edit_of old.now.trees of [] Chosen 0 (value_rows (stamped of params) width (length terms / width) terms) ≡ one_row old.now.trees of cells → ((olds news : List Row) → works both_schema Enforced 0 of.tree olds news ≡ [])
+    → (IsOversized both_schema of (new_row (old.now.trees of.tree) cells) → 10 ^ 9 < stored_size (new_row (old.now.trees of.tree) cells)) → (e : Error) → Executes sql params old new (Err e) → IsUnadded of cells old new e
+row_unadded sql params cells old new at terms width of has is alone listed plain typed one none large e h =
     let command = Insert at (Values terms width) in
     let text = statement_of sql (understood both_schema sql) in
+    let does : (stop : Option Error) → Does old.step_limit (mode_of old) params old.now text None command (Err stop) → Stops old.step_limit old.now.trees of cells stop =
+    λ stop d. rows_stop old.step_limit of params cells at terms width old.now.trees stop plain typed one none (rw listed at (subst (λ s. Does old.step_limit (mode_of old) params (record old.now { schema = s }) text None command (Err stop)) has d)) in
     elim (turned_down sql params old new both_schema has command is alone refl e h) [
       | inl it ↦ row.stopped it.0
       | inr down ↦ elim down [
         | inl place ↦ absurd (writes_at_any_place old command e tt place.0)
         | inr rest ↦ elim rest [
-          | inl ruled ↦
-              let does = rw listed at (subst (λ s. Does old.step_limit (mode_of old) params (record old.now { schema = s }) text None command (Err (Some e))) has ruled.1) in
-              unadded old new e (rows_stop (record { limit = old.step_limit; keys = (mode_of old).keys; schema = both_schema; table = of; params = params }) (mode_of old) at terms width old.now.trees e plain typed does)
-          | inr fails ↦ elim (stopped_or old new _ e fails) [ inl it ↦ row.stopped it | inr large ↦ row.too_big large.0 ]
+          | inl ruled ↦ unadded of cells old new e (does (Some e) ruled.1)
+          | inr fails ↦ elim (stopped_or old new _ e fails) [ inl it ↦ row.stopped it | inr big ↦ row.too_big big.0 (large (does None big.1)) ]
         ]
       ]
     ]
+
+-- ---- a row of numbers and bytes can be stored, unless it has too many bytes
+number_whole : (n : ℤ) → NotNan (number (Int n))
+unfolding is_nan
+number_whole (pos n) = tt
+number_whole (negsuc n) = tt
+
+blob_whole : (b : List ℕ) → NotNan (number (Blob b))
+unfolding is_nan
+blob_whole b = tt
+
+null_whole : NotNan (number Null)
+unfolding is_nan
+null_whole = tt
+
+no_reals : (row : Row) (c : ℕ) → bit_at 0 c ≡ 1 → is_int (column row c) ≡ false
+no_reals row c h = absurd (omega (arith, h, bit_at-zero c))
+
+stored : (row : Row) → 0 < length row → length row ≤ 2001 → AllByRecursion (λ v. NotNan (number v)) row → stored_size row ≤ 10 ^ 9 → IsStorable 0 row
+stored row some few whole short = record { typed = no_reals row; columns = (some, few); numbers = All-from_recursion (λ v. NotNan (number v)) row whole; short = short }
+
+over : (n : ℕ) → ¬ (n ≤ 10 ^ 9) → 10 ^ 9 < n
+over n h = elim (cases_lt (10 ^ 9) n) [ inl more ↦ more | inr less ↦ absurd (h (omega (arith, less))) ]
+
+record_large : (rows : List Row) (n start : ℤ) (samples block : List ℕ) → IsOversized both_schema records (new_row rows (cells n start samples block)) → 10 ^ 9 < stored_size (new_row rows (cells n start samples block))
+record_large rows n start samples block big =
+    let row = new_row rows (cells n start samples block) in
+    let whole : AllByRecursion (λ v. NotNan (number v)) row = (number_whole (next_rowid rows), (number_whole n, (number_whole start, (blob_whole samples, (blob_whole block, tt))))) in
+    elim big [
+      | inl broad ↦ over (stored_size row) (λ small. broad (stored row (omega arith) (omega arith) whole small, omega arith))
+      | inr entry ↦ elim entry.1 [
+        | inl is ↦ absurd (let apart : ◌≡◌ {A = ℕ} 0 2 = sym (ap (λ (i : Index). i.table) is) ∙ entry.2 in omega (arith, apart))
+        | inr other ↦ elim other [
+          | inl is ↦ absurd (subst (λ (i : Index). ¬ IsStorable (index_reals (table_reals records) i.columns) (entry_of i.columns row)) is entry.3
+              (stored (Int n ∷ Int start ∷ Int (next_rowid rows) ∷ []) (omega arith) (omega arith) (number_whole n, (number_whole start, (number_whole (next_rowid rows), tt))) (omega arith)))
+          | inr never ↦ absurd never
+        ]
+      ]
+    ]
+
+recording_large : (rows : List Row) (identity : List ℕ) → IsOversized both_schema recording (new_row rows (named_cells identity)) → 10 ^ 9 < stored_size (new_row rows (named_cells identity))
+recording_large rows identity big =
+    let row = new_row rows (named_cells identity) in
+    let whole : AllByRecursion (λ v. NotNan (number v)) row = (number_whole (next_rowid rows), (null_whole, (blob_whole identity, tt))) in
+    over (stored_size row) (λ small. elim big [
+      | inl broad ↦ broad (stored row (omega arith) (omega arith) whole small, omega arith)
+      | inr entry ↦ elim entry.1 [
+        | inl is ↦ subst (λ (i : Index). ¬ IsStorable (index_reals (table_reals recording) i.columns) (entry_of i.columns row)) is entry.3
+            (stored (Blob identity ∷ Int (next_rowid rows) ∷ []) (omega arith) (omega arith) (blob_whole identity, (number_whole (next_rowid rows), tt)) (omega (arith, small)))
+        | inr other ↦ elim other [
+          | inl is ↦ absurd (let apart : ◌≡◌ {A = ℕ} 2 0 = sym (ap (λ (i : Index). i.table) is) ∙ entry.2 in omega (arith, apart))
+          | inr never ↦ absurd never
+        ]
+      ]
+    ])
 
 insert_record_alone : IsAlone both_schema insert_record_text 4
 unfolding understood everything
@@ -113,12 +215,16 @@ insert_recording_alone : IsAlone both_schema insert_recording_text 1
 unfolding understood everything
 insert_recording_alone = record { whole = omega arith; inputs = refl; plain = (refl, refl) }
 
-pub record_unadded : (old new : State) (n start : ℤ) (samples block : List ℕ) (r : Result ℕ Error) → IsInside old → Executes insert_record_text (cells n start samples block) old new r → IfErr r (IsUnadded old new)
+pub record_unadded : (old new : State) (n start : ℤ) (samples block : List ℕ) (r : Result ℕ Error) → IsInside old → Executes insert_record_text (cells n start samples block) old new r → IfErr r (IsUnadded records (cells n start samples block) old new)
 record_unadded old new n start samples block (Ok count) inside h = tt
-record_unadded old new n start samples block (Err e) inside h = row_unadded insert_record_text (cells n start samples block) old new 1 record_terms 5 records inside.schema insert_record_is.0 insert_record_alone refl refl refl e h
+record_unadded old new n start samples block (Err e) inside h =
+    let news : edit_of old.now.trees records [] Chosen 0 ((Null ∷ cells n start samples block) ∷ []) ≡ one_row old.now.trees records (cells n start samples block) = rw (cast_null, cast_int n, cast_int start) refl in
+    row_unadded insert_record_text (cells n start samples block) (cells n start samples block) old new 1 record_terms 5 records inside.schema insert_record_is.0 insert_record_alone refl refl refl news (λ olds news. refl) (record_large (old.now.trees 2) n start samples block) e h
 
-pub recording_unadded : (old new : State) (identity : List ℕ) (e : Error) → IsInside old → Executes insert_recording_text (Blob identity ∷ []) old new (Err e) → IsUnadded old new e
-recording_unadded old new identity e inside h = row_unadded insert_recording_text (Blob identity ∷ []) old new 0 recording_terms 3 recording inside.schema insert_recording_is.0 insert_recording_alone refl refl refl e h
+pub recording_unadded : (old new : State) (identity : List ℕ) (e : Error) → IsInside old → Executes insert_recording_text (Blob identity ∷ []) old new (Err e) → IsUnadded recording (named_cells identity) old new e
+recording_unadded old new identity e inside h =
+    let news : edit_of old.now.trees recording [] Chosen 0 ((Null ∷ named_cells identity) ∷ []) ≡ one_row old.now.trees recording (named_cells identity) = rw cast_null refl in
+    row_unadded insert_recording_text (Blob identity ∷ []) (named_cells identity) old new 0 recording_terms 3 recording inside.schema insert_recording_is.0 insert_recording_alone refl refl refl news (λ olds news. refl) (recording_large (old.now.trees 0) identity) e h
 
 -- ---- a table
 

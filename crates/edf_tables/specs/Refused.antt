@@ -1,14 +1,20 @@
 -- Why `sqlite` refuses a statement, on a disk that gives back what was written.
-use Rattle.std.specs.Prelude.{◌≡◌, ◌⊎◌, ◌+◌, ◌-◌, ◌^◌, ◌≤◌, ℕ, min, Bool, false, IsTrue, IsSome}
+use Rattle.std.specs.Prelude.{◌≡◌, ◌⊎◌, ◌+◌, ◌-◌, ◌^◌, ◌≤◌, ◌<◌, ℕ, min, Bool, false, IsTrue, IsSome}
 use Rattle.sqlite.specs.declared.error.ErrorCode.TheVariants.{OutOfMemory, Closed, OperationInterrupted, TransactionState, TooBig}
 use Rattle.sqlite.specs.declared.error.Error.{Error}
 use Rattle.sqlite.specs.declared.error.Error.TheVariants.{SqliteFailure}
 use Rattle.sqlite.specs.declared.types.Value.{Value}
 use Rattle.sqlite.specs.Effect.{edit_error, alter_error}
 use Rattle.sqlite.specs.Reading.{IsReadError}
+use Rattle.sqlite.specs.Order.{Row}
+use Rattle.sqlite_schema.specs.declared.schema.Table.{Table}
+use Rattle.sqlite_schema.specs.declared.schema.Keys.TheVariants.{Enforced}
 use Rattle.sqlite_rules.specs.declared.error.Refusal.{Refusal}
+use Rattle.sqlite_rules.specs.Edit.{IsRefused}
 use Rattle.sqlite_catalog.specs.declared.error.Refusal as alter
 use Rattle.sqlite.specs.State.{State, is_disk_error}
+use Rattle.edf_tables.specs.Schema.{both_schema}
+use Rattle.edf_tables.specs.Row.{new_row, one_row, stored_size}
 
 -- a failure of the disk more was counted, unless the count stands at the top of a `u64`
 abbrev pub HasFailed : State → State → Type 0
@@ -30,12 +36,13 @@ pub data IsTurnRefused (is_inside : Bool) (old new : State) (e : Error) : Type 0
   stopped : IsStopped old new e → IsTurnRefused is_inside old new e
   out_of_turn : e ≡ SqliteFailure TransactionState → old.in_transaction ≡ is_inside → IsTurnRefused is_inside old new e
 
--- a row more, besides: it is too large to be stored, the steps that it may take ran out, or a rule of the table refuses it
-pub data IsUnadded (old new : State) (e : Error) : Type 0 where
-  stopped : IsStopped old new e → IsUnadded old new e
-  too_big : e ≡ SqliteFailure TooBig → IsUnadded old new e
-  limited : e ≡ SqliteFailure OperationInterrupted → IsSome old.step_limit → IsUnadded old new e
-  against_rule : (rule : Refusal) → e ≡ edit_error rule → IsUnadded old new e
+-- these cells in a table, besides: the row is larger than the 10^9 bytes that `sqlite` stores, the steps that it may take ran
+-- out, or the row breaks this rule of the table
+pub data IsUnadded (table : Table) (cells : Row) (old new : State) (e : Error) : Type 0 where
+  stopped : IsStopped old new e → IsUnadded table cells old new e
+  too_big : e ≡ SqliteFailure TooBig → 10 ^ 9 < stored_size (new_row (old.now.trees table.tree) cells) → IsUnadded table cells old new e
+  limited : e ≡ SqliteFailure OperationInterrupted → IsSome old.step_limit → IsUnadded table cells old new e
+  against_rule : (rule : Refusal) → e ≡ edit_error rule → IsRefused both_schema Enforced old.now.trees (one_row old.now.trees table cells) rule → IsUnadded table cells old new e
 
 -- a table, besides: a rule of the schema refuses it
 pub data IsUnmade (old new : State) (e : Error) : Type 0 where

@@ -1,10 +1,11 @@
 //! All recordings.
 
-ghost use Rattle.std.specs.Prelude.{◌≡◌, OnOk, IfOk, IfErr, IsPermutation, length, map, min};
+ghost use Rattle.std.specs.Prelude.{◌≡◌, OnOk, IfOk, IfErr, IsPermutation, IsSorted, length, map, min};
 ghost use Rattle.sqlite.specs.Held.{state};
 ghost use Rattle.sqlite.specs.State.{HasCleanDisk, Survives, KeepsCommit, IsUnchanged};
 ghost use Rattle.sqlite.specs.declared.types.Value.TheVariants.{Blob};
 ghost use Rattle.sqlite_value.specs.Order.{column};
+ghost use Rattle.edf_schema.specs.Columns.{by_column};
 ghost use Rattle.edf_tables.specs.Schema.{both_schema};
 ghost use Rattle.edf_tables.specs.Refused.{IsUnread, IsUntold};
 ghost use Rattle.edf_tables.specs.Recordings.{AreNamedApart, IsIdIn, by_identity, named, shown_recording};
@@ -65,6 +66,7 @@ pub fn recordings<S: Alter>(conn: &mut Connection<S>) -> Result<Vec<Row>, Error>
     requires schema { HasCleanDisk (state S.Store conn.old) → (state S.Store conn.old).now.schema ≡ both_schema }
     ensures why { HasCleanDisk (state S.Store conn.new) → IfErr result (IsUnread (state S.Store conn.old) (state S.Store conn.new)) }
     ensures listed { HasCleanDisk (state S.Store conn.new) → IfOk result (λ rows. IsPermutation (map shown_recording ((state S.Store conn.old).now.trees 0)) rows.items) }
+    ensures ordered { HasCleanDisk (state S.Store conn.new) → IfOk result (λ rows. IsSorted (by_column 0) rows.items) }
     ensures same { HasCleanDisk (state S.Store conn.new) → OnOk result (IsUnchanged (state S.Store conn.old) (state S.Store conn.new)) }
     ensures kept { HasCleanDisk (state S.Store conn.new) → KeepsCommit (state S.Store conn.old) (state S.Store conn.new) }
     ensures survives { Survives (state S.Store conn.old) (state S.Store conn.new) (λ _. ⊥) }

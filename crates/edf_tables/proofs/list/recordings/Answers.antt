@@ -4,7 +4,7 @@ use Rattle.sqlite_exec.proofs.MarkLemmas.{if_ok_then}
 use Rattle.edf_tables.proofs.QueryTexts.{recordings_text, recordings_is}
 use Rattle.edf_tables.proofs.AloneTexts.{recordings_alone, recordings_taken}
 use Rattle.edf_tables.proofs.RefusedLemmas.{query_unread, unread_if}
-use Rattle.edf_tables.proofs.ShownLemmas.{plain_at, recordings_shown}
+use Rattle.edf_tables.proofs.ShownLemmas.{plain_at, recordings_shown, recordings_in_order}
 use Rattle.edf_tables.proofs.list.recordings.Goals as goal
 
 pub rows_shown-requires : goal.rows_shown-requires
@@ -17,3 +17,6 @@ pub returns-clause-why : goal.returns-clause-why
 returns-clause-why g c clean =
     let old = state g.S.Store c.args.conn.now in
     unread_if c.rows_shown.result _ _ (λ e. query_unread recordings_text _ _ recordings_is [] old (state g.S.Store c.rows_shown.new.conn) e (c.requires.schema (omega (arith, c.rows_shown.ensures.survives.clean))) recordings_alone recordings_taken) (c.rows_shown.ensures.why clean)
+
+pub returns-clause-ordered : goal.returns-clause-ordered
+returns-clause-ordered g c clean = if_ok_then c.rows_shown.result (c.rows_shown.ensures.shown clean) (λ rows h. recordings_in_order (state g.S.Store c.args.conn.now) (state g.S.Store c.rows_shown.new.conn) rows.items (c.requires.schema (omega (arith, c.rows_shown.ensures.survives.clean))) h)
