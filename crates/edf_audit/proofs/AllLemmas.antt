@@ -1,10 +1,16 @@
 -- The answer of the check of all rows.
-use Rattle.std.proofs.Common.{◌≡◌, ◌≢◌, ◌⊎◌, inl, inr, ℕ, ◌+◌, ◌<◌, ◌≤◌, ℤ, Bool, true, false, min, nat_eq, List, [], ◌∷◌, filter, length, take, get_or, Option, Some, Contains, All, IsTrue, ◌++◌, IsPermutation, refl, sym, ap, subst, ◌∙◌, arith, is_eq, true≢false}
+use Rattle.std.proofs.Common.{append_assoc, drop, ap₂, is_lt, int_cmp, Ordering, Less, Equal, Greater, None, IsSorted, ◌≡◌, ◌≢◌, ◌⊎◌, inl, inr, ℕ, ◌+◌, ◌<◌, ◌≤◌, ℤ, Bool, true, false, min, nat_eq, List, [], ◌∷◌, filter, length, take, get_or, Option, Some, Contains, All, IsTrue, ◌++◌, IsPermutation, refl, sym, ap, subst, ◌∙◌, arith, is_eq, true≢false}
 use Rattle.std.specs.List.{AllByRecursion, list_any}
 use Rattle.std.proofs.lemmas.Bool.Decides.{nat_tests}
-use Rattle.std.proofs.lemmas.List.{take_more}
+use Rattle.std.proofs.lemmas.List.{take_more, take-append-drop}
 use Rattle.std.proofs.lemmas.List.Elements.{All-from_recursion}
-use Rattle.std.proofs.lemmas.List.Sorted.{IsPermutation-trans, IsPermutation-sym, Contains-permutation}
+use Rattle.std.proofs.lemmas.List.Sorted.{IsPermutation-append_comm, IsPermutation-trans, IsPermutation-sym, Contains-permutation}
+use Rattle.std.specs.Ordering.{ordering_reverse}
+use Rattle.std.proofs.lemmas.Cmp.{int_ranked, int_cmp_total}
+use Rattle.sqlite.specs.declared.types.Value.TheVariants.{Int}
+use Rattle.sqlite_value.proofs.OrderLemmas.{value_cmp-Int}
+use Rattle.edf_schema.specs.Columns.{by_column}
+use Rattle.edf_tables.proofs.SortLemmas.{sorted_neighbours}
 use Rattle.sqlite.specs.Order.{Row}
 use Rattle.sqlite.specs.Tree.{Trees}
 use Rattle.sqlite.specs.Effect.{Database, IsDatabase}
@@ -16,13 +22,13 @@ use Rattle.edf_tables.specs.Schema.{both_schema}
 use Rattle.edf_tables.proofs.KeepLemmas.{same_left, same_keeps, keeps_then}
 use Rattle.edf_rows.specs.Cells.{recording_cells, recordings_in}
 use Rattle.edf_rows.specs.Rows.{IsOwned, AreTwoOf, AreOther}
-use Rattle.edf_rows.specs.Foreign.{IsForeign, without_recording}
+use Rattle.edf_rows.specs.Foreign.{IsForeign, without_recording, twice}
 use Rattle.edf_rows.specs.Shape.{HasRecords}
 use Rattle.edf_rows.proofs.RowsLemmas.{here, there, cases_first, no_member}
 use Rattle.edf_rows.proofs.KeptLemmas.{held_of, are-kept}
-use Rattle.edf_audit.specs.All.{IsAfter, owns, AreCounted, Answers}
+use Rattle.edf_audit.specs.All.{IsAfter, IsNotAfter, owns, AreCounted, Answers}
 use Rattle.edf_audit.specs.Kept.{KeepsRows, Checks}
-use Rattle.edf_audit.proofs.CountLemmas.{IsUpTo, counted_push, up_push}
+use Rattle.edf_audit.proofs.CountLemmas.{IsUpTo, IsLastOf, is_id, counted_push, up_push}
 use Rattle.edf_audit.proofs.ApartLemmas.{other_ids, other_identities}
 
 pub rows_same : (a : State) → KeepsRows a a
@@ -128,12 +134,39 @@ told_all cap old mid was now rows sum all b m w n has same counted live low is e
     answered cap old.trees rows sum same (subst (λ (d : Database). AreCounted cap d.trees rows sum) m counted) b all (subst (λ s. Obeys s old.trees) has obeys) low
     (is ∙ ap (λ (d : Database). min (length (d.trees 2)) 9223372036854775807) w) e
 
+given_two_in : (trees : Trees) (rows front tail : List Row) (a b : Row) → IsPermutation (recordings_in trees) (front ++ a ∷ b ∷ tail) → AreTwoOf (recordings_in trees) a b
+given_two_in trees rows front tail a b same = (tail ++ front, IsPermutation-trans _ _ _ same (IsPermutation-append_comm front (a ∷ b ∷ tail)))
+
 -- ---- one row more
 more_rows : (rows : List Row) (i : ℕ) (row : Row) → i < length rows → row ≡ get_or rows i row → take i rows ++ row ∷ [] ≡ take (i + 1) rows
 more_rows rows i row low is = ap (λ (r : Row). take i rows ++ r ∷ []) is ∙ sym (take_more rows i row low)
 
 pub up_more : (rows : List Row) (i : ℕ) (row : Row) (last : Option ℤ) (id : ℤ) → i < length rows → row ≡ get_or rows i row → AllByRecursion (IsUpTo last) (take i rows) → IsAfter last row id → AllByRecursion (IsUpTo (Some id)) (take (i + 1) rows)
 up_more rows i row last id low is up after = subst (AllByRecursion (IsUpTo (Some id))) (more_rows rows i row low is) (up_push last id row (take i rows) up after)
+
+pub last_more : (rows : List Row) (i : ℕ) (row : Row) (last : Option ℤ) (id : ℤ) → i < length rows → row ≡ get_or rows i row → IsAfter last row id → IsLastOf (Some id) (take (i + 1) rows)
+last_more rows i row last id low is after = (take i rows, row, sym (more_rows rows i row low is), is_id last id row after)
+
+-- an id that does not come after the last one, where the rows are in order, stands twice
+pub id_twice : (cap : ℕ) (trees : Trees) (rows : List Row) (i : ℕ) (row : Row) (last : Option ℤ) (id : ℤ) → IsPermutation (recordings_in trees) rows → IsSorted (by_column 0) rows → i < length rows → row ≡ get_or rows i row
+    → IsLastOf last (take i rows) → column row 0 ≡ Int id → IsNotAfter last row → IsForeign cap trees
+id_twice cap trees rows i row None id same sorted low is met at none = absurd (none id at)
+id_twice cap trees rows i row (Some last) id same sorted low is met at none =
+    let front = met.0 in
+    let other = met.1 in
+    let all : rows ≡ front ++ other ∷ row ∷ drop (i + 1) rows =
+    sym (take-append-drop (i + 1) rows) ∙ ap (λ l. l ++ drop (i + 1) rows) (sym (more_rows rows i row low is) ∙ ap (λ l. l ++ row ∷ []) met.2) ∙ append_assoc (front ++ other ∷ []) (row ∷ []) (drop (i + 1) rows)
+    ∙ append_assoc front (other ∷ []) (row ∷ drop (i + 1) rows) in
+    let apart : is_lt (value_cmp (column row 0) (column other 0)) ≡ false = sorted_neighbours (by_column 0) front (drop (i + 1) rows) other row (subst (IsSorted (by_column 0)) all sorted) in
+    let numbers : is_lt (int_cmp id last) ≡ false = sym (ap is_lt (ap₂ value_cmp at met.3 ∙ value_cmp-Int id last)) ∙ apart in
+    let tied : int_cmp id last ≡ Equal = go (int_cmp id last) refl numbers in
+    let ids : id ≡ last = int_ranked id last Equal (sym tied) in
+    twice other row (given_two_in trees rows front (drop (i + 1) rows) other row (subst (IsPermutation (recordings_in trees)) all same)) (inl (met.3 ∙ ap Int (sym ids) ∙ sym at))
+  where
+    go : (o : Ordering) → int_cmp id last ≡ o → is_lt (int_cmp id last) ≡ false → int_cmp id last ≡ Equal
+    go Less e h = absurd (true≢false (sym (ap is_lt e) ∙ h))
+    go Equal e h = e
+    go Greater e h = absurd (none id (at, int_cmp_total.antisymm last id ∙ ap ordering_reverse e))
 
 pub counted_more : (cap : ℕ) (old was : Database) (rows : List Row) (i : ℕ) (row : Row) (sum count more : ℕ) (last : Option ℤ) (id : ℤ) → was ≡ old → IsPermutation (recordings_in old.trees) rows → i < length rows → row ≡ get_or rows i row → more ≡ count
     → AreCounted cap old.trees (take i rows) sum → AllByRecursion (IsUpTo last) (take i rows) → IsAfter last row id → Checks cap was.trees row (Some count) → AreCounted cap old.trees (take (i + 1) rows) (sum + more)

@@ -78,13 +78,18 @@ abbrev pub IsUpTo : Option ℤ → Row → Type 0
 IsUpTo None row = ⊥
 IsUpTo (Some last) row = is_gt (value_cmp (column row 0) (Int last)) ≡ false
 
+-- the last of the rows has this id
+abbrev pub IsLastOf : Option ℤ → List Row → Type 0
+IsLastOf None rows = Unit {0}
+IsLastOf (Some last) rows = (front : List Row) × (row : Row) × (rows ≡ front ++ row ∷ []) × (column row 0 ≡ Int last)
+
 below_all : (last : Option ℤ) (id : ℤ) (row : Row) (rows : List Row) → AllByRecursion (IsUpTo last) rows → IsAfter last row id → AllByRecursion (λ g. value_cmp (column g 0) (column row 0) ≡ Less) rows
 below_all last id row [] up after = tt
 below_all None id row (g ∷ rows) up after = absurd up.0
 below_all (Some last) id row (g ∷ rows) up after =
     (below_next (column g 0) (Int last) (column row 0) up.0 (ap (value_cmp (Int last)) after.0 ∙ value_cmp-Int last id ∙ after.1), below_all (Some last) id row rows up.1 after)
 
-is_id : (last : Option ℤ) (id : ℤ) (row : Row) → IsAfter last row id → column row 0 ≡ Int id
+pub is_id : (last : Option ℤ) (id : ℤ) (row : Row) → IsAfter last row id → column row 0 ≡ Int id
 is_id None id row after = after
 is_id (Some last) id row after = after.0
 

@@ -7,7 +7,7 @@ use Rattle.sqlite.specs.State.{State, HasCleanDisk, Survives}
 use Rattle.edf_tables.specs.Refused.{IsUnread, IsUntold}
 use Rattle.edf_tables.proofs.RefusedLemmas.{unread_since, untold_since}
 use Rattle.edf_audit.specs.Refused.{IsUnchecked}
-use Rattle.edf_audit.specs.Refused.IsUnchecked.{untold, row_refused, too_many}
+use Rattle.edf_audit.specs.Refused.IsUnchecked.{untold, too_many}
 
 pub unread_unchecked : (old mid new : State) (P Q : Trees → Type 0) (e : Error) → Survives old mid P → Survives mid new Q → HasCleanDisk new → IsUnread mid new e → IsUnchecked old new e
 unread_unchecked old mid new P Q e one two clean it = untold (inl (unread_since old mid new P Q e one two clean it))
@@ -17,5 +17,4 @@ untold_unchecked old mid new P Q e one two clean it = untold (untold_since old m
 
 pub unchecked_since : (old mid new : State) (P Q : Trees → Type 0) (e : Error) → Survives old mid P → Survives mid new Q → HasCleanDisk new → mid.now ≡ old.now → IsUnchecked mid new e → IsUnchecked old new e
 unchecked_since old mid new P Q e one two clean same (untold it) = untold (untold_since old mid new P Q e one two clean it)
-unchecked_since old mid new P Q e one two clean same (row_refused it) = row_refused it
 unchecked_since old mid new P Q e one two clean same (too_many is many) = too_many is (subst (λ (d : Database). 9223372036854775807 ≤ length (d.trees 2)) same many)

@@ -1,9 +1,19 @@
 -- Where a walk by `Rows` stands, and what it tells when it ends.
-use Rattle.std.proofs.Common.{◌≡◌, ℕ, ◌+◌, ◌<◌, ◌≤◌, inl, inr, ℤ, pos, List, [], ◌∷◌, ◌++◌, map, length, Option, Some, None, refl, sym, ap, subst, ◌∙◌, arith, IsPermutation, append_assoc}
+use Rattle.std.proofs.Common.{◌≡◌, ap₂, is_lt, Less, IsSorted, true, false, true≢false, ℕ, ◌+◌, ◌<◌, ◌≤◌, inl, inr, ℤ, pos, List, [], ◌∷◌, ◌++◌, map, length, Option, Some, None, refl, sym, ap, subst, ◌∙◌, arith, IsPermutation, append_assoc}
 use Rattle.std.proofs.lemmas.List.{length-append, length-map, map-append, nil_from_length}
 use Rattle.std.proofs.lemmas.List.Sorted.{length_permutation}
 use Rattle.sqlite.specs.declared.types.Value.TheVariants.{Int}
 use Rattle.sqlite.specs.Order.{Row}
+use Rattle.sqlite.specs.declared.error.Error.{Error}
+use Rattle.sqlite_value.specs.Order.{column, value_cmp}
+use Rattle.sqlite_sql.specs.Program.{overlay}
+use Rattle.edf_schema.specs.Columns.{by_column}
+use Rattle.edf_tables.specs.Refused.{IsUnread}
+use Rattle.edf_tables.specs.Refused.IsUnread.{stopped}
+use Rattle.edf_tables.specs.Refused.IsStopped.{no_memory as memory}
+use Rattle.edf_tables.proofs.Queries.{of_recording, start_samples_block}
+use Rattle.edf_tables.proofs.AnswerLemmas.{in_order}
+use Rattle.edf_tables.proofs.SortLemmas.{sorted_neighbours}
 use Rattle.sqlite.specs.Effect.{Database}
 use Rattle.sqlite_trees.specs.declared.store.Store.{Ghosts}
 use Rattle.sqlite.specs.Held.{Held, state}
@@ -20,8 +30,8 @@ use Rattle.edf_tables.proofs.QueryTexts.{walk_text, walk_is}
 use Rattle.edf_tables.proofs.ShownLemmas.{plain_at, answer_of, answer_begun}
 use Rattle.edf_rows.specs.Cells.{record_cells, records_in}
 use Rattle.edf_rows.specs.Foreign.{AreBadRecords, bad_row, too_near, too_few, too_many}
-use Rattle.edf_audit.specs.Walk.{IsNext, IsWrong, IsBehind, HasSound}
-use Rattle.edf_audit.proofs.WalkLemmas.{last_start, last_push, last_split, push_sound, answer_moved, only_sound, is_three, given_member, given_two}
+use Rattle.edf_audit.specs.Walk.{IsNext, IsWrong, IsBehind, HasSound, IsRowRefused, no_memory, unordered}
+use Rattle.edf_audit.proofs.WalkLemmas.{last_start, last_push, last_split, push_sound, starts_rise, answer_moved, only_sound, is_three, given_member, given_two}
 
 -- these records were given, sound and a duration apart, and this is the last start
 pub record Stands {S : Type 0} (g : Ghosts S) (recording : ℤ) (k : Key) (last : Option ℕ) (count : ℕ) (h : Held S) : Type 0 where
@@ -99,6 +109,28 @@ module _ {S : Type 0} (g : Ghosts S) (recording : ℤ) (k : Key) (long : 0 < dur
             order = near.order;
             near = near.near;
           })
+
+  -- the rows that were given are in order
+  given_in_order : (h : Held S) (rows : List Row) → IsUnchanged old (state g h) → HasGiven g walk_text (Int recording ∷ []) h rows → (tail : List Row) × IsSorted (by_column 0) (rows ++ tail)
+  given_in_order h rows same given =
+      let there : (state g h).now.schema ≡ both_schema = ap (λ (b : Database). b.schema) same.0.now_is ∙ has in
+      let it = answer_begun walk_text _ _ walk_is g (Int recording ∷ []) h rows there given in
+      (it.0, in_order 2 2 (of_recording ∷ []) start_samples_block (Int recording ∷ []) (overlay (state g h).now.trees []) (rows ++ it.0) it.1 (λ r. refl))
+
+  -- so a row is refused for want of memory alone
+  pub refused_row : (count : ℕ) (last : Option ℕ) (row : Row) (was now : Held S) (new : State) (e : Error) → IsUnchanged old (state g now) → Stands g recording k last count was → Advances g was now (Some row) → IsRowRefused last row e → IsUnread old new e
+  refused_row count last row was now new e same stands on (no_memory is) = stopped (memory is)
+  refused_row count last row was now new e same stands on (unordered is out) =
+      let rows = map record_cells stands.records in
+      let it = given_in_order now (rows ++ row ∷ []) same (on walk_text (Int recording ∷ []) rows stands.given) in
+      let split = last_split stands.records out.first (sym stands.last_is ∙ out.last_is) in
+      let front = map record_cells split.0 in
+      let is : rows ≡ front ++ record_cells split.1 ∷ [] = ap (map record_cells) split.2 ∙ map-append record_cells split.0 (split.1 ∷ []) in
+      let all : (rows ++ row ∷ []) ++ it.0 ≡ front ++ record_cells split.1 ∷ row ∷ it.0 =
+      append_assoc rows (row ∷ []) it.0 ∙ ap (λ l. l ++ row ∷ it.0) is ∙ append_assoc front (record_cells split.1 ∷ []) (row ∷ it.0) in
+      let apart : is_lt (value_cmp (column row 0) (Int (pos split.1.start))) ≡ false = sorted_neighbours (by_column 0) front it.0 (record_cells split.1) row (subst (IsSorted (by_column 0)) all it.1) in
+      let below : value_cmp (column row 0) (Int (pos split.1.start)) ≡ Less = ap₂ (λ v n. value_cmp v (Int (pos n))) out.start_is split.3 ∙ starts_rise out.start out.first out.before in
+      absurd (true≢false (sym (ap is_lt below) ∙ apart))
 
   pub past_cap : (cap count : ℕ) (last : Option ℕ) (h : Held S) → IsUnchanged old (state g h) → Stands g recording k last count h → cap < count → AreBadRecords cap k rows_there
   past_cap cap count last h same stands more =

@@ -76,7 +76,7 @@ push_sound k [] r s sound behind = (sound, omega arith, tt)
 push_sound k (x ∷ rs) r s sound behind = push_behind k 0 x rs r s sound behind
 
 -- ---- sound records rise
-starts_rise : (m n : ℕ) → m < n → value_cmp (Int (pos m)) (Int (pos n)) ≡ Less
+pub starts_rise : (m n : ℕ) → m < n → value_cmp (Int (pos m)) (Int (pos n)) ≡ Less
 starts_rise m n h = value_cmp-Int (pos m) (pos n) ∙ grind (arith, nat_tests)
 
 all_later : (k : Key) (low n : ℕ) (rs : List DataRecord) → AreSound k low rs → n < low → AllByRecursion (λ b. value_cmp (Int (pos n)) (column b 0) ≡ Less) (map record_cells rs)

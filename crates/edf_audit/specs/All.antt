@@ -18,6 +18,9 @@ abbrev pub IsAfter : Option ℤ → Row → ℤ → Type 0
 IsAfter None row id = column row 0 ≡ Int id
 IsAfter (Some last) row id = (column row 0 ≡ Int id) × (int_cmp last id ≡ Less)
 
+abbrev pub IsNotAfter : Option ℤ → Row → Type 0
+IsNotAfter last row = (id : ℤ) → ¬ IsAfter last row id
+
 -- the record is of this recording
 abbrev pub owns : Row → Row → Bool
 owns recording row = is_eq (value_cmp (column row 1) (column recording 0))

@@ -1,8 +1,9 @@
 -- What reading leaves of a connection, and what a row of the table of recordings tells.
-use Rattle.std.specs.Prelude.{◌≡◌, ℕ, Option, Some, None, Contains, length, IsTrue}
+use Rattle.std.specs.Prelude.{◌≡◌, [], ◌∷◌, ℕ, Option, Some, None, Contains, length, IsTrue}
 use Rattle.sqlite.specs.Order.{Row}
 use Rattle.sqlite.specs.Tree.{Trees}
 use Rattle.sqlite.specs.State.{State, KeepsCommit}
+use Rattle.sqlite_value.specs.Order.{column}
 use Rattle.edf_rows.specs.Cells.{recordings_in, records_in}
 use Rattle.edf_rows.specs.Foreign.{IsForeign}
 use Rattle.edf_rows.specs.Shape.{HasRecords}
@@ -13,6 +14,10 @@ pub record KeepsRows (old new : State) : Type 0 where
   pub commit : KeepsCommit old new
   pub mode : new.in_transaction ≡ old.in_transaction
   pub stays : IsTrue old.is_open → IsTrue new.is_open
+
+-- what the check reads of a row
+abbrev pub first_two : Row → Row
+first_two row = column row 0 ∷ column row 1 ∷ []
 
 -- the row is a recording's with so many records, or the rows are foreign
 abbrev pub Checks : ℕ → Trees → Row → Option ℕ → Type 0

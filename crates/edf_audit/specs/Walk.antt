@@ -1,6 +1,9 @@
 -- What a walk over a recording's rows tells.
 use Rattle.std.specs.Prelude.{◌≡◌, ◌≢◌, ℕ, ◌+◌, ◌≤◌, ◌<◌, ◌⊎◌, pos, List, [], map, length, Option, Some, None}
 use Rattle.sqlite.specs.declared.types.Value.TheVariants.{Int}
+use Rattle.sqlite.specs.declared.error.ErrorCode.TheVariants.{OutOfMemory, DatabaseCorrupt}
+use Rattle.sqlite.specs.declared.error.Error.{Error}
+use Rattle.sqlite.specs.declared.error.Error.TheVariants.{SqliteFailure}
 use Rattle.sqlite.specs.Order.{Row}
 use Rattle.sqlite_value.specs.Order.{column}
 use Rattle.edf_field.specs.Number.{duration_of}
@@ -44,6 +47,11 @@ pub record IsOutOfOrder (last : Option ℕ) (row : Row) : Type 0 where
   pub last_is : last ≡ Some first
   pub start_is : column row 0 ≡ Int (pos start)
   pub before : start < first
+
+-- a row is not told: memory ran out, or it starts before the last
+pub data IsRowRefused (last : Option ℕ) (row : Row) (e : Error) : Type 0 where
+  no_memory : e ≡ SqliteFailure OutOfMemory → IsRowRefused last row e
+  unordered : e ≡ SqliteFailure DatabaseCorrupt → IsOutOfOrder last row → IsRowRefused last row e
 
 -- the row may not stand behind the last
 abbrev pub IsWrong : Key → Option ℕ → Row → Type 0

@@ -1,13 +1,14 @@
 //! All rows of both tables.
 
-ghost use Rattle.std.specs.Prelude.{◌≡◌, ◌<◌, ◌^◌, ◌-◌, IfOk, IfErr, OnOk, OnErr, IfSome, IsPermutation, IsTrue};
+ghost use Rattle.std.specs.Prelude.{◌≡◌, ◌<◌, ◌^◌, ◌-◌, IfOk, IfErr, OnOk, OnErr, IfSome, MatchOption, IsPermutation, IsSorted, IsTrue};
 ghost use Rattle.sqlite.specs.Held.{state};
 ghost use Rattle.sqlite.specs.State.{HasCleanDisk, IsLive, Survives, KeepsCommit};
+ghost use Rattle.edf_schema.specs.Columns.{by_column};
 ghost use Rattle.edf_tables.specs.Schema.{both_schema};
 ghost use Rattle.edf_rows.specs.Cells.{recordings_in};
 ghost use Rattle.edf_audit.specs.Kept.{KeepsRows};
 ghost use Rattle.edf_audit.specs.Refused.{IsUnchecked};
-ghost use Rattle.edf_audit.specs.All.{IsAfter, Counts, Answers};
+ghost use Rattle.edf_audit.specs.All.{IsAfter, IsNotAfter, Counts, Answers};
 
 use crate::check::check_row;
 use edf_tables::{count_all_rows, recordings};
@@ -20,7 +21,7 @@ const MOST_COUNTED: u64 = 9_223_372_036_854_775_807;
 
 /// The id of a row, if it comes after the last one.
 fn next_id(row: &Row, last: Option<i64>) -> Option<i64>
-    ensures { IfSome result (IsAfter last row.now) }
+    ensures { MatchOption result (IsNotAfter last row.now) (IsAfter last row.now) }
 {
     let Ok(ValueRef::Int(id)) = row.get_ref(0) else {
         return None;
@@ -35,11 +36,10 @@ fn next_id(row: &Row, last: Option<i64>) -> Option<i64>
     }
 }
 
-/// How many records the recordings have, or `None` where one of them may not stand.
+/// How many records the recordings have, or `None` where one of them may not stand, as where its id stands twice.
 ///
 /// # Errors
-/// `sqlite`'s; `OutOfMemory` where memory runs out; `DatabaseCorrupt` where rows come out of the order that was asked for;
-/// `IntegerOverflow` where the recordings have `MOST_COUNTED` records or more.
+/// `sqlite`'s; `OutOfMemory` where memory runs out; `IntegerOverflow` where the recordings have `MOST_COUNTED` records or more.
 fn count_owned<S: Alter>(
     alloc: Global,
     conn: &mut Connection<S>,
@@ -49,6 +49,7 @@ fn count_owned<S: Alter>(
     requires cap { cap < 2 ^ 32 - 1 }
     requires schema { HasCleanDisk (state S.Store conn.old) → (state S.Store conn.old).now.schema ≡ both_schema }
     requires listed { HasCleanDisk (state S.Store conn.old) → IsPermutation (recordings_in (state S.Store conn.old).now.trees) rows.now }
+    requires ordered { HasCleanDisk (state S.Store conn.old) → IsSorted (by_column 0) rows.now }
     ensures why { HasCleanDisk (state S.Store conn.new) → IfErr result (IsUnchecked (state S.Store conn.old) (state S.Store conn.new)) }
     ensures counts { HasCleanDisk (state S.Store conn.new) → IfOk result (Counts cap (state S.Store conn.old).now.trees rows.now) }
     ensures low { IfOk result (λ o. IfSome o (λ sum. sum < 2 ^ 63 - 1)) }
@@ -63,7 +64,7 @@ fn count_owned<S: Alter>(
             return Ok(None);
         };
         let Some(id) = next_id(row, last) else {
-            return Err(Error::SqliteFailure(ErrorCode::DatabaseCorrupt));
+            return Ok(None);
         };
         let more = sum + u64::from(count);
         if more >= MOST_COUNTED {
@@ -85,8 +86,7 @@ fn obey<S: Alter>(conn: &Connection<S>)
 /// Whether the rows are those of submissions under the cap.
 ///
 /// # Errors
-/// `sqlite`'s; `OutOfMemory` where memory runs out; `DatabaseCorrupt` where rows come out of the order that was asked for;
-/// `IntegerOverflow` where the recordings have 9,223,372,036,854,775,807 records or more.
+/// `sqlite`'s; `OutOfMemory` where memory runs out; `IntegerOverflow` where the recordings have 9,223,372,036,854,775,807 records or more.
 pub fn check_all<S: Alter>(alloc: Global, conn: &mut Connection<S>, cap: u32) -> Result<bool, Error>
     requires cap { cap < 2 ^ 32 - 1 }
     requires schema { HasCleanDisk (state S.Store conn.old) → (state S.Store conn.old).now.schema ≡ both_schema }

@@ -4,8 +4,9 @@ ghost use Rattle.std.specs.Prelude.{◌≡◌, ◌<◌, ◌^◌, ◌-◌, IfOk, 
 ghost use Rattle.sqlite.specs.Held.{state};
 ghost use Rattle.sqlite.specs.State.{HasCleanDisk, Survives, KeepsCommit, IsUnchanged};
 ghost use Rattle.edf_tables.specs.Schema.{both_schema};
-ghost use Rattle.edf_audit.specs.Kept.{KeepsRows, Checks};
-ghost use Rattle.edf_audit.specs.Refused.{IsUnchecked};
+ghost use Rattle.edf_tables.specs.Refused.{IsUnread};
+ghost use Rattle.edf_audit.specs.Kept.{KeepsRows, Checks, first_two};
+ghost use Rattle.edf_rows.specs.Rows.{IsRecording};
 
 use crate::walk::check_recording;
 use edf_header::{Identity, IdentityFault};
@@ -16,7 +17,7 @@ use std::alloc::Global;
 /// How many records a recording has, or `None` where the row is no recording, or its records are bad.
 ///
 /// # Errors
-/// `sqlite`'s; `OutOfMemory` where memory runs out; `DatabaseCorrupt` where the records come out of the order that was asked for.
+/// `sqlite`'s; `OutOfMemory` where memory runs out, and no other where the row is no recording.
 pub fn check_row<S: Alter>(
     alloc: Global,
     conn: &mut Connection<S>,
@@ -25,7 +26,8 @@ pub fn check_row<S: Alter>(
 ) -> Result<Option<u32>, Error>
     requires cap { cap < 2 ^ 32 - 1 }
     requires schema { HasCleanDisk (state S.Store conn.old) → (state S.Store conn.old).now.schema ≡ both_schema }
-    ensures why { HasCleanDisk (state S.Store conn.new) → IfErr result (IsUnchecked (state S.Store conn.old) (state S.Store conn.new)) }
+    ensures why { HasCleanDisk (state S.Store conn.new) → IfErr result (IsUnread (state S.Store conn.old) (state S.Store conn.new)) }
+    ensures other { ¬ IsRecording (first_two row.now) → IfErr result (λ e. e ≡ Error.SqliteFailure ErrorCode.OutOfMemory) }
     ensures told { HasCleanDisk (state S.Store conn.new) → IfOk result (Checks cap (state S.Store conn.old).now.trees row.now) }
     ensures same { HasCleanDisk (state S.Store conn.new) → OnOk result (KeepsRows (state S.Store conn.old) (state S.Store conn.new)) }
     ensures refused { HasCleanDisk (state S.Store conn.new) → OnErr result (KeepsCommit (state S.Store conn.old) (state S.Store conn.new)) }

@@ -43,9 +43,8 @@ fn audit_tables<S: Alter>(alloc: Global, conn: &mut Connection<S>, cap: u32) -> 
 ///
 /// # Errors
 /// `sqlite`'s; the committed rows stay, an open transaction may be undone, and tables may have been made. Of its own, in `sqlite`'s
-/// words: `OutOfMemory` where memory runs out; `TransactionState` where a transaction is open; `DatabaseCorrupt` where rows come out
-/// of the order that was asked for; `IntegerOverflow` where the recordings have 9,223,372,036,854,775,807 records or more. A crash
-/// leaves no table, the first, or both.
+/// words: `OutOfMemory` where memory runs out; `TransactionState` where a transaction is open; `IntegerOverflow` where the
+/// recordings have 9,223,372,036,854,775,807 records or more. A crash leaves no table, the first, or both.
 pub fn audit<S: Alter>(alloc: Global, conn: &mut Connection<S>, cap: u32) -> Result<bool, Error>
     requires { cap < 2 ^ 32 - 1 }
     ensures other { ¬ IsOurs (state S.Store conn.old).now → (result ≡ Ok false) × (conn.new ≡ conn.old) }

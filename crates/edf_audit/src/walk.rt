@@ -1,14 +1,14 @@
 //! The rows of one recording, each read once.
 
-ghost use Rattle.std.specs.Prelude.{◌≡◌, ◌<◌, ◌^◌, ◌-◌, ℕ, Err, IfOk, IfErr, OnOk, OnErr, MatchOption};
+ghost use Rattle.std.specs.Prelude.{◌≡◌, ◌<◌, ◌^◌, ◌-◌, ℕ, IfOk, IfErr, OnOk, OnErr, MatchOption};
 ghost use Rattle.sqlite.specs.Held.{state};
 ghost use Rattle.sqlite.specs.State.{HasCleanDisk, Survives, KeepsCommit, IsUnchanged};
 ghost use Rattle.edf_field.specs.Number.{duration_of};
 ghost use Rattle.edf_tables.specs.Schema.{both_schema};
+ghost use Rattle.edf_tables.specs.Refused.{IsUnread};
 ghost use Rattle.edf_rows.specs.Cells.{records_in};
 ghost use Rattle.edf_rows.specs.Foreign.{IsBadRow};
-ghost use Rattle.edf_audit.specs.Refused.{IsRowRefused, IsUnchecked};
-ghost use Rattle.edf_audit.specs.Walk.{IsStartOf, IsNext, IsOutOfOrder, IsWrong, Tells};
+ghost use Rattle.edf_audit.specs.Walk.{IsStartOf, IsNext, IsRowRefused, IsWrong, Tells};
 
 use edf_header::Identity;
 use edf_rows::check_row;
@@ -45,8 +45,7 @@ fn next_start(
     last: Option<Instant>,
 ) -> Result<Option<Instant>, Error>
     ensures told { IfOk result (λ o. MatchOption o (IsWrong identity.now last row.now) (IsNext identity.now last row.now)) }
-    ensures why { IfErr result IsRowRefused }
-    ensures order { result ≡ Err (Error.SqliteFailure ErrorCode.DatabaseCorrupt) → IsOutOfOrder last row.now }
+    ensures why { IfErr result (IsRowRefused last row.now) }
 {
     let start = match start_in(alloc, identity, row) {
         Ok(Some(start)) => start,
@@ -70,7 +69,7 @@ fn next_start(
 /// identity, two lie less than a duration apart, there is none, or there are more than `cap`.
 ///
 /// # Errors
-/// `sqlite`'s; `OutOfMemory` where memory runs out; `DatabaseCorrupt` where rows come out of the order that was asked for.
+/// `sqlite`'s; `OutOfMemory` where memory runs out.
 pub fn check_recording<S: Alter>(
     alloc: Global,
     conn: &mut Connection<S>,
@@ -81,7 +80,7 @@ pub fn check_recording<S: Alter>(
     requires long { 0 < duration_of identity.now.duration }
     requires cap { cap < 2 ^ 32 - 1 }
     requires schema { HasCleanDisk (state S.Store conn.old) → (state S.Store conn.old).now.schema ≡ both_schema }
-    ensures why { HasCleanDisk (state S.Store conn.new) → IfErr result (IsUnchecked (state S.Store conn.old) (state S.Store conn.new)) }
+    ensures why { HasCleanDisk (state S.Store conn.new) → IfErr result (IsUnread (state S.Store conn.old) (state S.Store conn.new)) }
     ensures told { HasCleanDisk (state S.Store conn.new) → IfOk result (Tells cap identity.now (records_in (state S.Store conn.old).now.trees recording)) }
     ensures same { HasCleanDisk (state S.Store conn.new) → OnOk result (IsUnchanged (state S.Store conn.old) (state S.Store conn.new)) }
     ensures refused { HasCleanDisk (state S.Store conn.new) → OnErr result (KeepsCommit (state S.Store conn.old) (state S.Store conn.new)) }

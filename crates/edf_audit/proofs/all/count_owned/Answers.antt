@@ -1,4 +1,6 @@
-use Rattle.std.proofs.Common.{rules, None, w64, arith, subst, refl, take, ◌+◌}
+use Rattle.sqlite.specs.Order.{Row}
+use Rattle.sqlite_value.specs.Order.{column}
+use Rattle.std.proofs.Common.{rules, ap, None, Some, w64, arith, subst, refl, take, ◌+◌}
 use Rattle.std.specs.List.{list_any}
 use Rattle.edf_audit.specs.Refused.IsUnchecked.{too_many}
 use Rattle.std.proofs.lemmas.Int.{to_z-of_z}
@@ -10,9 +12,9 @@ use Rattle.edf_tables.proofs.CommitLemmas.{quiet_then, survives_same}
 use Rattle.edf_rows.specs.Cells.{recordings_in}
 use Rattle.edf_audit.specs.All.{IsAfter, AreCounted, owns}
 use Rattle.edf_audit.specs.Kept.{Checks}
-use Rattle.edf_audit.proofs.RefusedLemmas.{unchecked_since}
+use Rattle.edf_audit.proofs.RefusedLemmas.{unread_unchecked}
 use Rattle.edf_audit.proofs.CountLemmas.{counted_none}
-use Rattle.edf_audit.proofs.AllLemmas.{rows_same, rows_then, row_in, up_more, counted_more, shorter}
+use Rattle.edf_audit.proofs.AllLemmas.{rows_same, rows_then, row_in, up_more, last_more, id_twice, counted_more, shorter}
 use Rattle.edf_audit.proofs.all.count_owned.Goals as goal
 
 pub loop-row-init : goal.loop-row-init
@@ -21,6 +23,7 @@ loop-row-init g c = record {
   same = λ clean. rows_same (state g.S.Store c.args.conn.now);
   counted = λ clean. counted_none c.args.cap (state g.S.Store c.args.conn.now).now.trees;
   up_to = tt;
+  met = tt;
   low = omega arith;
 }
 
@@ -51,12 +54,13 @@ loop-row-preserved g c =
           counted_more c.args.cap old.now was.now c.args.rows.now c.loop-row.row-index c.row-item.result c.loop-row.sum c.in-Some.count c.from.result c.loop-row.last c.in-Some-next_id.id (inv.same late).now_is (c.requires.listed early)
           (search rules) (search rules) (search rules) (inv.counted late) inv.up_to after (subst (Checks c.args.cap was.now.trees c.row-item.result) c.in-Some.is (c.in_ok-count.ensures.told clean));
       up_to = rw (to_z-of_z w64 c.in-Some-next_id.id (search rules)) (up_more c.args.rows.now c.loop-row.row-index c.row-item.result c.loop-row.last c.in-Some-next_id.id (search rules) (search rules) inv.up_to after);
+      met = rw (to_z-of_z w64 c.in-Some-next_id.id (search rules)) (last_more c.args.rows.now c.loop-row.row-index c.row-item.result c.loop-row.last c.in-Some-next_id.id (search rules) (search rules) after);
       low = search rules;
     }
 
 pub returns-in_err-count-clause-why : goal.returns-in_err-count-clause-why
 returns-in_err-count-clause-why g c clean =
-    let why = unchecked_since (state g.S.Store c.args.conn.now) (state g.S.Store c.loop-row.conn) (state g.S.Store c.check_row.new.conn) _ _ _ c.loop-row.invariant.crash c.check_row.ensures.survives clean (c.loop-row.invariant.same (omega (arith, c.check_row.ensures.survives.clean))).now_is (c.in_err-count.ensures.why clean) in
+    let why = unread_unchecked (state g.S.Store c.args.conn.now) (state g.S.Store c.loop-row.conn) (state g.S.Store c.check_row.new.conn) _ _ _ c.loop-row.invariant.crash c.check_row.ensures.survives clean (c.in_err-count.ensures.why clean) in
     let told = err_from_is_err_and c.from_residual.result c.from_residual.ensures.1 in
     rw (told.1, told.2) why
 
@@ -72,3 +76,15 @@ returns-then-more-ge-MOST_COUNTED-clause-why g c clean =
     (search rules) (search rules) (search rules) (inv.counted late) inv.up_to after (subst (Checks c.args.cap was.now.trees c.row-item.result) c.in-Some.is (c.in_ok-count.ensures.told clean)) in
     let all = shorter (λ r. list_any (λ g. owns g r) (take (c.loop-row.row-index + 1) c.args.rows.now)) (old.now.trees 2) in
     too_many refl (omega (arith, counted.sums, all, c.if-more-ge-MOST_COUNTED.true))
+
+pub returns-in_default-next_id-clause-counts : goal.returns-in_default-next_id-clause-counts
+returns-in_default-next_id-clause-counts g c clean =
+    let old = state g.S.Store c.args.conn.now in
+    let was = state g.S.Store c.loop-row.conn in
+    let inv = c.loop-row.invariant in
+    let late : HasCleanDisk was = omega (arith, c.check_row.ensures.survives.clean) in
+    let early : HasCleanDisk old = omega (arith, late, inv.crash.clean) in
+    let told = subst (Checks c.args.cap was.now.trees c.row-item.result) c.in-Some.is (c.in_ok-count.ensures.told clean) in
+    let here = row_in (recordings_in old.now.trees) c.args.rows.now c.loop-row.row-index c.row-item.result (c.requires.listed early) (search rules) (search rules) in
+    let has = (subst (λ (d : Database). Checks c.args.cap d.trees c.row-item.result (Some c.in-Some.count)) (inv.same late).now_is told here).0 in
+    id_twice c.args.cap old.now.trees c.args.rows.now c.loop-row.row-index c.row-item.result c.loop-row.last has.id (c.requires.listed early) (c.requires.ordered early) (search rules) (search rules) inv.met (ap (λ (r : Row). column r 0) has.cells) c.in_default-next_id.ensures

@@ -4,7 +4,7 @@ use Rattle.sqlite.specs.Held.{state}
 use Rattle.sqlite.specs.State.{HasCleanDisk, Survives}
 use Rattle.edf_audit.specs.Kept.{KeepsRows}
 use Rattle.edf_audit.specs.All.{AreCounted}
-use Rattle.edf_audit.proofs.CountLemmas.{IsUpTo}
+use Rattle.edf_audit.proofs.CountLemmas.{IsUpTo, IsLastOf}
 use Rattle.edf_audit.proofs.all.count_owned.Given as goal
 
 abbrev pub invariant-loop-row : goal.invariant-loop-row
@@ -13,5 +13,6 @@ invariant-loop-row g l = record {
   same : HasCleanDisk (state g.S.Store l.conn) → KeepsRows (state g.S.Store l.initial.conn) (state g.S.Store l.conn);
   counted : HasCleanDisk (state g.S.Store l.conn) → AreCounted l.cap (state g.S.Store l.initial.conn).now.trees (take l.row-index l.rows) l.sum;
   up_to : AllByRecursion (IsUpTo l.last) (take l.row-index l.rows);
+  met : IsLastOf l.last (take l.row-index l.rows);
   low : l.sum < 2 ^ 63 - 1;
 }

@@ -8,16 +8,14 @@ use Rattle.sqlite.specs.Held.{Held, state}
 use Rattle.sqlite.specs.State.{HasCleanDisk, Survives, KeepsCommit, IsUnchanged}
 use Rattle.sqlite.proofs.Callers.{begun_plain, unchanged_then}
 use Rattle.edf_tables.proofs.AloneTexts.{walk_alone, walk_taken}
-use Rattle.edf_tables.proofs.RefusedLemmas.{query_unread}
-use Rattle.edf_audit.proofs.RefusedLemmas.{unread_unchecked}
-use Rattle.edf_audit.specs.Refused.{IsUnchecked}
-use Rattle.edf_audit.specs.Refused.IsUnchecked.{untold}
+use Rattle.edf_tables.proofs.RefusedLemmas.{query_unread, unread_since}
+use Rattle.edf_tables.specs.Refused.{IsUnread}
 use Rattle.edf_tables.proofs.QueryTexts.{walk_text, walk_is}
 use Rattle.edf_tables.proofs.ShownLemmas.{plain_at}
 use Rattle.edf_tables.proofs.ReadLemmas.{query_quiet, query_left}
 use Rattle.edf_tables.proofs.KeepLemmas.{left_keeps}
 use Rattle.edf_tables.proofs.CommitLemmas.{quiet_then}
-use Rattle.edf_audit.proofs.StandLemmas.{starts, moves, stops, past_cap, ends, ends_empty}
+use Rattle.edf_audit.proofs.StandLemmas.{starts, moves, stops, refused_row, past_cap, ends, ends_empty}
 use Rattle.edf_audit.proofs.walk.check_recording.Goals.{then-count-eq0, else-count-eq0}
 use Rattle.edf_audit.proofs.walk.check_recording.Goals as goal
 
@@ -173,7 +171,7 @@ returns-in_err-rows-clause-why g c clean =
     let held = rw c.in_err-rows.was at c.query.follows.holds-at-none in
     let early : HasCleanDisk old = omega (arith, held.survives.clean) in
     let failed = rw (c.params-to_sql.ensures ∙ ap Int (to_z-of_z w64 c.args.recording c.ranges.recording)) at (held.err clean) in
-    let why : IsUnchecked old new _ = untold (inl (query_unread walk_text _ _ walk_is (Int c.args.recording ∷ []) old new _ (c.requires.schema early) walk_alone (walk_taken c.args.recording) failed)) in
+    let why = query_unread walk_text _ _ walk_is (Int c.args.recording ∷ []) old new _ (c.requires.schema early) walk_alone (walk_taken c.args.recording) failed in
     let told = err_from_is_err_and c.from_residual.result c.from_residual.ensures.1 in
     rw (told.1, told.2) why
 
@@ -191,6 +189,20 @@ returns-in_err-row-clause-why g c clean =
     let stands = rw (to_z-of_z w64 c.args.recording c.ranges.recording) at (inv.stands early) in
     let failed = (rw c.in_err-row.was at (moved.err late)) walk_text (Int c.args.recording ∷ []) (map record_cells stands.records) stands.given in
     let unread = query_unread walk_text _ _ walk_is (Int c.args.recording ∷ []) (state g.S.Store was) (state g.S.Store now) c.in_err-row.field-0.0 there walk_alone (walk_taken c.args.recording) failed in
-    let why = unread_unchecked old (state g.S.Store was) (state g.S.Store now) _ _ c.in_err-row.field-0.0 inv.crash moved.survives late unread in
+    let why = unread_since old (state g.S.Store was) (state g.S.Store now) _ _ c.in_err-row.field-0.0 inv.crash moved.survives late unread in
     let told = err_from_is_err_and c.from_residual-in_err-row.result c.from_residual-in_err-row.ensures.1 in
-    rw (told.1, told.2) (subst (λ (h : Held _). IsUnchecked old (state g.S.Store h) c.in_err-row.field-0.0) end why)
+    rw (told.1, told.2) (subst (λ (h : Held _). IsUnread old (state g.S.Store h) c.in_err-row.field-0.0) end why)
+
+pub returns-in_err-start-clause-why : goal.returns-in_err-start-clause-why
+returns-in_err-start-clause-why g c clean =
+    let old = state g.S.Store c.args.conn.now in
+    let moved = c.next.follows.holds-at-none in
+    let was = c.walk.rows.conn.now in
+    let now = c.next.follows.lender-at-none.conn.now in
+    let inv = c.walk.invariant in
+    let late : HasCleanDisk (state g.S.Store now) = search rules in
+    let early : HasCleanDisk (state g.S.Store was) = omega (arith, moved.survives.clean, late) in
+    let same = unchanged_then old (state g.S.Store was) (state g.S.Store now) (inv.same early) (rw c.in_ok-row.was at (moved.same late)) in
+    let why = refused_row g.S.Store c.args.recording c.args.identity.now c.requires.long old (c.requires.schema (omega (arith, inv.crash.clean, early))) c.walk.count c.walk.last _ was now _ _ same (rw (to_z-of_z w64 c.args.recording c.ranges.recording) at (inv.stands early)) (rw (c.in_ok-row.was, c.in-Some.is) at (moved.ok late)) c.in_err-start.ensures.why in
+    let told = err_from_is_err_and c.from_residual-in_err-start.result c.from_residual-in_err-start.ensures.1 in
+    rw (told.1, told.2) why
