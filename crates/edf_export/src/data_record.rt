@@ -5,7 +5,7 @@ ghost use Rattle.edf_export.specs.File.{block_of, filled_block, record_text};
 ghost use Rattle.edf_export.specs.Inside.Output.{buffered, IsPut};
 
 use crate::fault::OutputFault;
-use crate::output::{put, put_zeros};
+use crate::output::{Buffer, put, put_zeros};
 use edf_fragment::{Output, Record};
 use edf_tal::write_block;
 use edf_time::Instant;
@@ -15,14 +15,14 @@ use std::alloc::Global;
 fn put_block<W: Output>(
     alloc: Global,
     out: &mut W,
-    held: &mut Vec<u8>,
+    held: &mut Buffer,
     data_record: &Record,
     file_start: Instant,
     size: usize,
 ) -> Result<(), OutputFault>
     requires { length (block_of file_start data_record.now) ≤ size }
-    ensures { IsPut (buffered (W.contents out.old) (W.failures out.old) held.old.items)
-        (buffered (W.contents out.new) (W.failures out.new) held.new.items)
+    ensures { IsPut (buffered (W.contents out.old) (W.failures out.old) held.old.bytes.items)
+        (buffered (W.contents out.new) (W.failures out.new) held.new.bytes.items)
         (filled_block file_start size data_record.now) result }
 {
     let Ok(block) = write_block(alloc, data_record.start(), data_record.notes(), file_start) else {
@@ -36,14 +36,14 @@ fn put_block<W: Output>(
 pub(crate) fn put_record<W: Output>(
     alloc: Global,
     out: &mut W,
-    held: &mut Vec<u8>,
+    held: &mut Buffer,
     data_record: &Record,
     file_start: Instant,
     size: usize,
 ) -> Result<(), OutputFault>
     requires { length (block_of file_start data_record.now) ≤ size }
-    ensures { IsPut (buffered (W.contents out.old) (W.failures out.old) held.old.items)
-        (buffered (W.contents out.new) (W.failures out.new) held.new.items)
+    ensures { IsPut (buffered (W.contents out.old) (W.failures out.old) held.old.bytes.items)
+        (buffered (W.contents out.new) (W.failures out.new) held.new.bytes.items)
         (record_text file_start size data_record.now) result }
 {
     put(out, held, data_record.samples())?;

@@ -1,30 +1,49 @@
 //! Writing through a buffer of 64 KiB, which the caller keeps beside its writer.
 
-ghost use Rattle.std.specs.Prelude.{◌≡◌, ℕ, ◌-◌, ◌++◌, [], List, Option, length, replicate};
-ghost use Rattle.edf_export.specs.Inside.Output.{buffered, IsPut, IsFlushed};
+ghost use Rattle.std.specs.Prelude.{◌≡◌, ℕ, ◌+◌, ◌-◌, ◌≤◌, ◌++◌, [], List, Option, length, vec_len, replicate};
+ghost use Rattle.edf_export.specs.Inside.Output.{buffered, most_held, IsPut, IsFlushed};
 
 use crate::fault::OutputFault;
 use edf_fragment::{Output, send};
+use std::alloc::Global;
 
 /// How many bytes are held back at most.
 const CAPACITY: usize = 65_536;
 
+/// Bytes that are held back before they are written.
+#[derive(Drop)]
+pub(crate) struct Buffer {
+    bytes: Vec<u8>,
+    ghost within: { vec_len bytes ≤ most_held },
+}
+
+impl Buffer {
+    /// Nothing held back.
+    pub(crate) fn new(alloc: Global) -> Buffer
+        ensures { result.bytes.items ≡ [] }
+    {
+        Buffer {
+            bytes: Vec::new(alloc),
+        }
+    }
+}
+
 /// Writes out what is held.
-pub(crate) fn flush<W: Output>(out: &mut W, held: &mut Vec<u8>) -> Result<(), OutputFault>
-    ensures { IsFlushed (buffered (W.contents out.old) (W.failures out.old) held.old.items)
-        (buffered (W.contents out.new) (W.failures out.new) held.new.items) result }
+pub(crate) fn flush<W: Output>(out: &mut W, held: &mut Buffer) -> Result<(), OutputFault>
+    ensures { IsFlushed (buffered (W.contents out.old) (W.failures out.old) held.old.bytes.items)
+        (buffered (W.contents out.new) (W.failures out.new) held.new.bytes.items) result }
 {
-    if !send(out, held.as_slice()) {
+    if !send(out, held.bytes.as_slice()) {
         return Err(OutputFault::Write);
     }
-    held.clear();
+    held.bytes.clear();
     Ok(())
 }
 
 /// Writes bytes out behind those that are held.
-fn put_through<W: Output>(out: &mut W, held: &mut Vec<u8>, bytes: &[u8]) -> Result<(), OutputFault>
-    ensures { IsPut (buffered (W.contents out.old) (W.failures out.old) held.old.items)
-        (buffered (W.contents out.new) (W.failures out.new) held.new.items) bytes.now result }
+fn put_through<W: Output>(out: &mut W, held: &mut Buffer, bytes: &[u8]) -> Result<(), OutputFault>
+    ensures { IsPut (buffered (W.contents out.old) (W.failures out.old) held.old.bytes.items)
+        (buffered (W.contents out.new) (W.failures out.new) held.new.bytes.items) bytes.now result }
 {
     flush(out, held)?;
     if !send(out, bytes) {
@@ -35,8 +54,9 @@ fn put_through<W: Output>(out: &mut W, held: &mut Vec<u8>, bytes: &[u8]) -> Resu
 
 /// Holds bytes back behind those that are held.
 fn hold<W: Output>(out: &mut W, held: &mut Vec<u8>, bytes: &[u8]) -> Result<(), OutputFault>
-    ensures { IsPut (buffered (W.contents out.old) (W.failures out.old) held.old.items)
+    ensures put { IsPut (buffered (W.contents out.old) (W.failures out.old) held.old.items)
         (buffered (W.contents out.new) (W.failures out.new) held.new.items) bytes.now result }
+    ensures grown { vec_len held.new ≤ vec_len held.old + length bytes.now }
 {
     match held.extend_from_slice(bytes) {
         Ok(()) => Ok(()),
@@ -47,20 +67,20 @@ fn hold<W: Output>(out: &mut W, held: &mut Vec<u8>, bytes: &[u8]) -> Result<(), 
 /// Holds the bytes back behind those that are held, where there is room, and else writes.
 pub(crate) fn put<W: Output>(
     out: &mut W,
-    held: &mut Vec<u8>,
+    held: &mut Buffer,
     bytes: &[u8],
 ) -> Result<(), OutputFault>
-    ensures { IsPut (buffered (W.contents out.old) (W.failures out.old) held.old.items)
-        (buffered (W.contents out.new) (W.failures out.new) held.new.items) bytes.now result }
+    ensures { IsPut (buffered (W.contents out.old) (W.failures out.old) held.old.bytes.items)
+        (buffered (W.contents out.new) (W.failures out.new) held.new.bytes.items) bytes.now result }
 {
     if bytes.len() >= CAPACITY {
         return put_through(out, held, bytes);
     }
-    if bytes.len() <= CAPACITY.saturating_sub(held.len()) {
-        return hold(out, held, bytes);
+    if bytes.len() <= CAPACITY - held.bytes.len() {
+        return hold(out, &mut held.bytes, bytes);
     }
     flush(out, held)?;
-    hold(out, held, bytes)
+    hold(out, &mut held.bytes, bytes)
 }
 
 /// Zeros, as many as are put at once.
@@ -69,11 +89,11 @@ const ZEROS: [u8; 4_096] = [0; 4_096];
 /// Puts so many zeros.
 pub(crate) fn put_zeros<W: Output>(
     out: &mut W,
-    held: &mut Vec<u8>,
+    held: &mut Buffer,
     count: usize,
 ) -> Result<(), OutputFault>
-    ensures { IsPut (buffered (W.contents out.old) (W.failures out.old) held.old.items)
-        (buffered (W.contents out.new) (W.failures out.new) held.new.items) (replicate count 0) result }
+    ensures { IsPut (buffered (W.contents out.old) (W.failures out.old) held.old.bytes.items)
+        (buffered (W.contents out.new) (W.failures out.new) held.new.bytes.items) (replicate count 0) result }
 {
     let mut left = count;
     while left > 0 {

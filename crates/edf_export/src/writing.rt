@@ -14,7 +14,7 @@ ghost use Rattle.edf_export.specs.Inside.Walks.{IsPlanOf, IsPutOut, IsSentOut, C
 
 use crate::data_record::put_record;
 use crate::fault::ExportFault;
-use crate::output::{flush, put};
+use crate::output::{Buffer, flush, put};
 use crate::plan::Plan;
 use edf_fragment::{Output, Record};
 use edf_header::{Identity, write_header};
@@ -28,14 +28,14 @@ use std::alloc::Global;
 fn put_fitting<W: Output>(
     alloc: Global,
     out: &mut W,
-    held: &mut Vec<u8>,
+    held: &mut Buffer,
     data_record: &Record,
     file_start: Instant,
     size: usize,
 ) -> Result<(), ExportFault>
     ensures put { length (block_of file_start data_record.now) ≤ size →
-        IsPutOut (buffered (W.contents out.old) (W.failures out.old) held.old.items)
-        (buffered (W.contents out.new) (W.failures out.new) held.new.items)
+        IsPutOut (buffered (W.contents out.old) (W.failures out.old) held.old.bytes.items)
+        (buffered (W.contents out.new) (W.failures out.new) held.new.bytes.items)
         (record_text file_start size data_record.now) result }
     ensures counted { CountsWriting (W.failures out.old) (W.failures out.new) result }
     ensures unfailed { result ≢ Err (ExportFault.Store StoreFault.Failed) }
@@ -53,7 +53,7 @@ fn put_walk<S: Alter, W: Output>(
     alloc: Global,
     walk: &mut Records<'_, S>,
     out: &mut W,
-    held: &mut Vec<u8>,
+    held: &mut Buffer,
     plan: Plan,
 ) -> Result<(), ExportFault>
     requires going { walk.old.failed ≡ false }
@@ -63,8 +63,8 @@ fn put_walk<S: Alter, W: Output>(
     ensures put { HasCleanDisk (at S.Store walk.new.store.now) → (h : Holdings) (k : Key) →
         IsBehind walk.old.store.now.cap (at S.Store walk.old.store.now) walk.old.recording walk.old.after h k 0 →
         IsPlanOf k (h k) plan →
-        IsPutOut (buffered (W.contents out.old) (W.failures out.old) held.old.items)
-        (buffered (W.contents out.new) (W.failures out.new) held.new.items)
+        IsPutOut (buffered (W.contents out.old) (W.failures out.old) held.old.bytes.items)
+        (buffered (W.contents out.new) (W.failures out.new) held.new.bytes.items)
         (flat_map (record_text (second_of plan.first) (2 * plan.samples)) (h k)) result }
     ensures counted { CountsWriting (W.failures out.old) (W.failures out.new) result }
     ensures unfailed { result ≢ Err (ExportFault.Store StoreFault.Failed) }
@@ -104,7 +104,7 @@ fn send_file<S: Alter, W: Output>(
     ensures caused { result ≢ Err (ExportFault.Store (StoreFault.Store None)) }
     ensures idle { HasCleanDisk (at S.Store walk.new.store.now) → LeavesIdle (at S.Store walk.new.store.now) result }
 {
-    let mut held = Vec::new(alloc);
+    let mut held = Buffer::new(alloc);
     put(out, &mut held, header)?;
     put_walk(alloc, walk, out, &mut held, plan)?;
     flush(out, &mut held)?;

@@ -5,6 +5,10 @@ use Rattle.edf_fragment.specs.Failures.{one_more}
 use Rattle.edf_export.specs.declared.fault.OutputFault.{OutputFault}
 use Rattle.edf_export.specs.declared.fault.OutputFault.TheVariants.{Write, Memory}
 
+-- how many bytes are held back at most
+abbrev pub most_held : ℕ
+most_held = 65_536
+
 -- a writer and the buffer before it: what it holds, how many of its writes failed, what is held back
 pub record Buffered : Type 0 where
   pub contents : Option (List ℕ)

@@ -3,7 +3,7 @@ use Rattle.edf_export.proofs.Puts.{flush-refused, put-flushed}
 use Rattle.edf_export.proofs.output.put.Goals as goal
 
 pub returns : goal.returns
-returns g c = put-flushed _ _ _ _ _ _ c.in_ok-flush.ensures c.hold-2.ensures
+returns g c = put-flushed _ _ _ _ _ _ c.in_ok-flush.ensures c.hold-2.ensures.put
 
 pub returns-in_err-flush : goal.returns-in_err-flush
 returns-in_err-flush g c = let p = err_from_is_err_and c.from_residual.result c.from_residual.ensures.1 in rw (p.1, p.2) (flush-refused _ _ _ _ c.in_err-flush.ensures)

@@ -12,7 +12,7 @@ returns-in_err-put-clause-sent g c clean h k behind plan =
     let body : List ℕ = flat_map (record_text (second_of c.args.plan.first) (2 * c.args.plan.samples)) (h k) in
     let e = c.in_err-put.ensures in
     let p = err_from_is_err_and c.from_residual.result c.from_residual.ensures.1 in rw (p.1, p.2) (
-      header_stops _ _ c.args.header.now body c.new-held.ensures.items e.0.0 e.0.1,
+      header_stops _ _ c.args.header.now body c.new-held.ensures e.0.0 e.0.1,
       told_writing c.in_err-put.field-0.0,
     )
 
@@ -20,19 +20,19 @@ pub returns-in_err-put_walk-clause-sent : goal.returns-in_err-put_walk-clause-se
 returns-in_err-put_walk-clause-sent g c clean h k behind plan =
     let body : List ℕ = flat_map (record_text (second_of c.args.plan.first) (2 * c.args.plan.samples)) (h k) in
     let e = c.in_err-put_walk.ensures.put clean h k behind plan in
-    let p = err_from_is_err_and c.from_residual-in_err-put_walk.result c.from_residual-in_err-put_walk.ensures.1 in rw (p.1, p.2) (body_stops _ _ c.args.header.now body c.new-held.ensures.items _ c.in_ok-put.ensures.0 e.0.0 e.0.1, e.1)
+    let p = err_from_is_err_and c.from_residual-in_err-put_walk.result c.from_residual-in_err-put_walk.ensures.1 in rw (p.1, p.2) (body_stops _ _ c.args.header.now body c.new-held.ensures _ c.in_ok-put.ensures.0 e.0.0 e.0.1, e.1)
 
 pub returns-clause-sent : goal.returns-clause-sent
 returns-clause-sent g c clean h k behind plan =
     let body : List ℕ = flat_map (record_text (second_of c.args.plan.first) (2 * c.args.plan.samples)) (h k) in
-    all_sent _ _ c.args.header.now body c.new-held.ensures.items _ c.in_ok-put.ensures.0 _ (c.in_ok-put_walk.ensures.put clean h k behind plan) c.in_ok-flush.ensures.0
+    all_sent _ _ c.args.header.now body c.new-held.ensures _ c.in_ok-put.ensures.0 _ (c.in_ok-put_walk.ensures.put clean h k behind plan) c.in_ok-flush.ensures.0
 
 pub returns-in_err-flush-clause-sent : goal.returns-in_err-flush-clause-sent
 returns-in_err-flush-clause-sent g c clean h k behind plan =
     let body : List ℕ = flat_map (record_text (second_of c.args.plan.first) (2 * c.args.plan.samples)) (h k) in
     let e = c.in_err-flush.ensures in
     let p = err_from_is_err_and c.from_residual-in_err-flush.result c.from_residual-in_err-flush.ensures.1 in rw (p.1, p.2) (
-      flush_stops _ _ c.args.header.now body c.new-held.ensures.items _ c.in_ok-put.ensures.0 _ (c.in_ok-put_walk.ensures.put clean h k behind plan) e.0.0 e.0.1,
+      flush_stops _ _ c.args.header.now body c.new-held.ensures _ c.in_ok-put.ensures.0 _ (c.in_ok-put_walk.ensures.put clean h k behind plan) e.0.0 e.0.1,
       told_writing c.in_err-flush.field-0.0,
     )
 
