@@ -13,10 +13,19 @@ use Rattle.edf_order.specs.Commands.{edfstore_app}
 use Rattle.std.specs.Global.{Global}
 use Rattle.std.specs.Prelude.{String, string_bytes, suc}
 use Rattle.std.proofs.lemmas.List.{length-map}
-use Rattle.edf_order.specs.Order.{AreValues, AskForNothing, asked, texts}
+use Rattle.edf_order.specs.Order.{AreValues, AskForHelp, AskForNoHelp, AskForNothing, IsNoHelp, IsNoUsage, asked, texts}
 use Rattle.edf_order.specs.Matches.{asked_in}
 use Rattle.edf_order.proofs.Levels.{simple}
 use Rattle.edf_order.proofs.Told.{told}
+use Rattle.edf_order.proofs.Requests.{requested}
+use Rattle.edf_order.proofs.Values.{and_left, and_right}
+use Rattle.edf_order.specs.Faults.{is_mistake}
+use Rattle.edf_order.specs.declared.fault.CommandFault.{CommandFault}
+use Rattle.edf_order.specs.declared.fault.CommandFault.TheVariants as fault
+use Rattle.clap.specs.Kinds.{IsAmong, Kinds}
+use Rattle.clap.specs.declared.error.kind.ErrorKind.{ErrorKind}
+use Rattle.std.specs.List.{list_all}
+use Rattle.std.proofs.Common.{◌⊎◌, Bool, false, true≢false}
 
 -- as many texts as words
 few : (values : List (String Global)) → suc (length values) ≤ usize_max → length (texts values) ≤ usize_max
@@ -43,4 +52,55 @@ fails_asked a (name ∷ values) e is v some fits fails other =
     elim (told (string_bytes name) (texts values) v (few values fits)) [
       | inl t ↦ elim (subst (λ k. HasKind k e) t.0 has) [ inl oom ↦ absurd (other oom) | inr none ↦ absurd none ]
       | inr t ↦ t.1
+    ]
+
+-- ---- help against usage
+
+among_mistakes : (k : ErrorKind) (ks : Kinds) → IsAmong k ks → list_all is_mistake ks ≡ true → is_mistake k ≡ true
+among_mistakes k [] among all = absurd among
+among_mistakes k (x ∷ xs) (inl e) all = ap is_mistake e ∙ and_left _ _ all
+among_mistakes k (x ∷ xs) (inr more) all = among_mistakes k xs more (and_right _ _ all)
+
+mistake_among : (k : ErrorKind) (ks : Kinds) → (k ≡ kind.OutOfMemory) ⊎ IsAmong k ks → list_all is_mistake ks ≡ true → is_mistake k ≡ true
+mistake_among k ks (inl oom) all = ap is_mistake oom
+mistake_among k ks (inr among) all = among_mistakes k ks among all
+
+-- where `clap` fails at words that ask for no help, it is a mistake
+pub fails_mistaken : (a : App) (words : List (String Global)) (e : Error) → a ≡ edfstore_app → AskForNoHelp words → 0 < length words → length words ≤ usize_max
+    → (is_simple_and_free a ≡ true → HasKind (fault_of a (texts words)) e) → is_mistake (kind_of e) ≡ true
+fails_mistaken a [] e is v some fits fails = absurd (omega (arith, some))
+fails_mistaken a (name ∷ values) e is v some fits fails =
+    let has : HasKind (fault_of edfstore_app (texts (name ∷ values))) e = subst (λ (x : App). is_simple_and_free x ≡ true → HasKind (fault_of x (texts (name ∷ values))) e) is fails simple in
+    elim (told (string_bytes name) (texts values) v.0 (few values fits)) [
+      | inl t ↦ mistake_among (kind_of e) _ has (ap (list_all is_mistake) t.0)
+      | inr t ↦ mistake_among (kind_of e) _ has (t.2 v.1)
+    ]
+
+abbrev is_none : Kinds → Bool
+is_none [] = true
+is_none (k ∷ ks) = false
+
+some_kinds : (k : ErrorKind) → (k ∷ []) ≡ [] → ⊥
+some_kinds k e = true≢false (ap is_none (sym e))
+
+-- words that ask for help are no order
+pub request_fails : (a : App) (words : List (String Global)) → a ≡ edfstore_app → AskForHelp words → (is_simple_and_free a ≡ true → fault_of a (texts words) ≡ []) → ⊥
+request_fails a words is asks passes =
+    let none : fault_of edfstore_app (texts words) ≡ [] = subst (λ (x : App). is_simple_and_free x ≡ true → fault_of x (texts words) ≡ []) is passes simple in
+    let r = requested (texts words) asks in
+    some_kinds r.0 (sym r.1 ∙ none)
+
+one_among : (k x : ErrorKind) → IsAmong k (x ∷ []) → is_mistake x ≡ false → is_mistake k ≡ false
+one_among k x (inl e) asks = ap is_mistake e ∙ asks
+one_among k x (inr more) asks = absurd more
+
+-- what `clap` answers then is help, or that memory ran out
+pub request_answers : (a : App) (words : List (String Global)) (e : Error) (f : CommandFault) → a ≡ edfstore_app → AskForHelp words
+    → (is_simple_and_free a ≡ true → HasKind (fault_of a (texts words)) e) → (kind_of e ≡ kind.OutOfMemory → f ≡ fault.Memory) → (is_mistake (kind_of e) ≡ false → IsNoUsage f) → IsNoUsage f
+request_answers a words e f is asks fails oom help =
+    let r = requested (texts words) asks in
+    let has : HasKind (fault_of edfstore_app (texts words)) e = subst (λ (x : App). is_simple_and_free x ≡ true → HasKind (fault_of x (texts words)) e) is fails simple in
+    elim (subst (λ k. HasKind k e) r.1 has) [
+      | inl memory ↦ subst IsNoUsage (sym (oom memory)) tt
+      | inr one ↦ help (one_among (kind_of e) r.0 one r.2)
     ]

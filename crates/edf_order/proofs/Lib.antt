@@ -5,5 +5,6 @@ mod Levels
 mod Made
 mod ManyValues
 mod Places
+mod Requests
 mod Told
 mod Values

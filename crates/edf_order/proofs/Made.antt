@@ -32,18 +32,20 @@ told_reads a b d e s about long after was b_is d_is e_is =
     (ap app_of_fields all ∙ was.0, ap (λ (x : Command-F Command). x.has_globals) all ∙ was.1)
 
 -- the settings of the top command
-pub top_reads : (a b d e f g : Command) (name : Text) (bin about after : _) → app_of a ≡ new_app name → (out-Command a).has_globals ≡ false
+pub top_reads : (a b v d e f g : Command) (name : Text) (bin about after : _) (version : _) → app_of a ≡ new_app name → (out-Command a).has_globals ≡ false
     → out-Command b ≡ record (out-Command a) { bin_name = bin }
-    → out-Command d ≡ record (out-Command b) { about = about }
+    → out-Command v ≡ record (out-Command b) { version = Some version }
+    → out-Command d ≡ record (out-Command v) { about = about }
     → out-Command e ≡ record (out-Command d) { after_help = after }
     → out-Command f ≡ record (out-Command e) { no_binary_name = true }
     → out-Command g ≡ record (out-Command f) { subcommand_required = true }
-    → Reads g (on_top (λ s. record s { no_binary_name = true; subcommand_required = true }) (new_app name))
-top_reads a b d e f g name bin about after is plain b_is d_is e_is f_is g_is =
-    let all : out-Command g ≡ record (out-Command a) { bin_name = bin; about = about; after_help = after; no_binary_name = true; subcommand_required = true } =
+    → Reads g (on_top (λ s. record s { has_version = true; no_binary_name = true; subcommand_required = true }) (new_app name))
+top_reads a b v d e f g name bin about after version is plain b_is v_is d_is e_is f_is g_is =
+    let all : out-Command g ≡ record (out-Command a) { bin_name = bin; version = Some version; about = about; after_help = after; no_binary_name = true; subcommand_required = true } =
     g_is ∙ ap (λ (x : Command-F Command). record x { subcommand_required = true }) (f_is ∙ ap (λ (x : Command-F Command). record x { no_binary_name = true })
-    (e_is ∙ ap (λ (x : Command-F Command). record x { after_help = after }) (d_is ∙ ap (λ (x : Command-F Command). record x { about = about }) b_is))) in
-    (ap app_of_fields all ∙ ap (on_top (λ s. record s { no_binary_name = true; subcommand_required = true })) is, ap (λ (x : Command-F Command). x.has_globals) all ∙ plain)
+    (e_is ∙ ap (λ (x : Command-F Command). record x { after_help = after }) (d_is ∙ ap (λ (x : Command-F Command). record x { about = about })
+    (v_is ∙ ap (λ (x : Command-F Command). record x { version = Some version }) b_is)))) in
+    (ap app_of_fields all ∙ ap (on_top (λ s. record s { has_version = true; no_binary_name = true; subcommand_required = true })) is, ap (λ (x : Command-F Command). x.has_globals) all ∙ plain)
 
 some_is : (o : Option ValueRange) (r : ValueRange) → IsSomeAnd o (λ y. y ≡ r) → o ≡ Some r
 some_is None r h = absurd h

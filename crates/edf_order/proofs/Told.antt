@@ -11,7 +11,8 @@ use Rattle.clap.specs.Simple.{built, entered, names_of, subcommand_of}
 use Rattle.clap.specs.declared.error.kind.ErrorKind.{ErrorKind}
 use Rattle.clap.specs.declared.error.kind.ErrorKind.TheVariants as kind
 use Rattle.edf_order.specs.Commands.{edfstore_app}
-use Rattle.edf_order.specs.Order.{asked, is_value}
+use Rattle.edf_order.specs.Order.{asked, begin_with_help, is_value}
+use Rattle.edf_order.specs.Faults.{is_mistake}
 use Rattle.edf_order.specs.Matches.{asked_in}
 use Rattle.edf_order.proofs.Values.{and_left, and_right, is_value_is}
 use Rattle.edf_order.proofs.Levels.{level_by, top}
@@ -46,16 +47,17 @@ module _ (name : Text) (values : List Text) (starts : walked top.rules names (wa
   unfolding walk_fault
   named_faults = ap₂ or_else passes (ap (λ w. walk_fault top names w values) starts ∙ stopped_faults name [] values)
 
-  named_fault : fault_of edfstore_app (name ∷ values) ≡ fault_by (stopped_at name values) []
+  pub named_fault : fault_of edfstore_app (name ∷ values) ≡ fault_by (stopped_at name values) []
   named_fault = ap₂ fault_by named_walk named_faults
 
   named_matches : subcommand_of edfstore_app (name ∷ values) ≡ entered (built edfstore_app) (Some (name, values))
   named_matches = ap (λ (w : Walk). entered (built edfstore_app) w.stopped) named_walk
 
--- no fault, and what clap found is what the words ask; or a fault, and they ask nothing
+-- no fault, and what clap found is what the words ask; or a fault, and they ask nothing: a mistake, where `help` is not the first
 abbrev pub IsTold : List Text → Type 0
 IsTold words = ((fault_of edfstore_app words ≡ []) × (asked words ≡ asked_in (subcommand_of edfstore_app words)))
-    ⊎ ((fault_of edfstore_app words ≡ [] → ⊥) × (asked words ≡ None))
+    ⊎ ((fault_of edfstore_app words ≡ [] → ⊥) × (asked words ≡ None)
+    × (begin_with_help words ≡ false → list_all is_mistake (fault_of edfstore_app words) ≡ true))
 
 abbrev is_none : Kinds → Bool
 is_none [] = true
@@ -64,50 +66,44 @@ is_none (k ∷ ks) = false
 some_kind : (k : ErrorKind) (ks xs : Kinds) → xs ≡ k ∷ ks → xs ≡ [] → ⊥
 some_kind k ks xs e none = true≢false (ap is_none (sym none ∙ e))
 
+mistaken : (k : ErrorKind) (ks : Kinds) (words : List Text) → fault_of edfstore_app words ≡ k ∷ ks → list_all is_mistake (k ∷ ks) ≡ true → asked words ≡ None → IsTold words
+mistaken k ks words is mistake none = inr (some_kind k ks _ is, none, λ _. ap (list_all is_mistake) is ∙ mistake)
+
 list_told : (values : List Text) → list_all is_value values ≡ true → IsTold (codes "list" ∷ values)
 unfolding walked defaults_fault
-list_told [] v = inr (some_kind _ [] _ (named_fault (codes "list") [] refl refl ∙ ap (λ k. or_else k []) list_none), refl)
+list_told [] v = mistaken _ [] _ (named_fault (codes "list") [] refl refl ∙ ap (λ k. or_else k []) list_none) refl refl
 list_told (a ∷ []) v = inl (
   named_fault (codes "list") (a ∷ []) refl refl ∙ ap (λ k. or_else k []) (list_one a (and_left _ _ v)),
   sym (ap asked_in (named_matches (codes "list") (a ∷ []) refl refl ∙ ap (λ rows. Some (codes "list", rows)) (list_rows a (and_left _ _ v)))),
 )
-list_told (a ∷ b ∷ rest) v = inr (
-  some_kind _ [] _ (named_fault (codes "list") (a ∷ b ∷ rest) refl refl
-      ∙ ap (λ k. or_else k []) (list_many a b rest (and_left _ _ v) (and_left _ _ (and_right _ _ v)))),
-  refl,
-)
+list_told (a ∷ b ∷ rest) v = mistaken _ [] _ (named_fault (codes "list") (a ∷ b ∷ rest) refl refl
+    ∙ ap (λ k. or_else k []) (list_many a b rest (and_left _ _ v) (and_left _ _ (and_right _ _ v)))) refl refl
 
 convert_told : (values : List Text) → list_all is_value values ≡ true → IsTold (codes "convert" ∷ values)
 unfolding walked defaults_fault
-convert_told [] v = inr (some_kind _ [] _ (named_fault (codes "convert") [] refl refl ∙ ap (λ k. or_else k []) convert_none), refl)
+convert_told [] v = mistaken _ [] _ (named_fault (codes "convert") [] refl refl ∙ ap (λ k. or_else k []) convert_none) refl refl
 convert_told (a ∷ []) v = inl (
   named_fault (codes "convert") (a ∷ []) refl refl ∙ ap (λ k. or_else k []) (convert_one a (and_left _ _ v)),
   sym (ap asked_in (named_matches (codes "convert") (a ∷ []) refl refl ∙ ap (λ rows. Some (codes "convert", rows)) (convert_rows a (and_left _ _ v)))),
 )
-convert_told (a ∷ b ∷ rest) v = inr (
-  some_kind _ [] _ (named_fault (codes "convert") (a ∷ b ∷ rest) refl refl
-      ∙ ap (λ k. or_else k []) (convert_many a b rest (and_left _ _ v) (and_left _ _ (and_right _ _ v)))),
-  refl,
-)
+convert_told (a ∷ b ∷ rest) v = mistaken _ [] _ (named_fault (codes "convert") (a ∷ b ∷ rest) refl refl
+    ∙ ap (λ k. or_else k []) (convert_many a b rest (and_left _ _ v) (and_left _ _ (and_right _ _ v)))) refl refl
 
 export_told : (values : List Text) → list_all is_value values ≡ true → IsTold (codes "export" ∷ values)
 unfolding walked defaults_fault
-export_told [] v = inr (some_kind _ [] _ (named_fault (codes "export") [] refl refl ∙ ap (λ k. or_else k []) export_none), refl)
-export_told (a ∷ []) v = inr (some_kind _ [] _ (named_fault (codes "export") (a ∷ []) refl refl ∙ ap (λ k. or_else k []) (export_one a (and_left _ _ v))), refl)
+export_told [] v = mistaken _ [] _ (named_fault (codes "export") [] refl refl ∙ ap (λ k. or_else k []) export_none) refl refl
+export_told (a ∷ []) v = mistaken _ [] _ (named_fault (codes "export") (a ∷ []) refl refl ∙ ap (λ k. or_else k []) (export_one a (and_left _ _ v))) refl refl
 export_told (a ∷ b ∷ []) v = inl (
   named_fault (codes "export") (a ∷ b ∷ []) refl refl ∙ ap (λ k. or_else k []) (export_two a b (and_left _ _ v) (and_left _ _ (and_right _ _ v))),
   sym (ap asked_in (named_matches (codes "export") (a ∷ b ∷ []) refl refl ∙ ap (λ rows. Some (codes "export", rows)) (export_rows a b (and_left _ _ v) (and_left _ _ (and_right _ _ v))))),
 )
-export_told (a ∷ b ∷ d ∷ rest) v = inr (
-  some_kind _ [] _ (named_fault (codes "export") (a ∷ b ∷ d ∷ rest) refl refl
-      ∙ ap (λ k. or_else k []) (export_many a b d rest (and_left _ _ v) (and_left _ _ (and_right _ _ v)) (and_left _ _ (and_right _ _ (and_right _ _ v))))),
-  refl,
-)
+export_told (a ∷ b ∷ d ∷ rest) v = mistaken _ [] _ (named_fault (codes "export") (a ∷ b ∷ d ∷ rest) refl refl
+    ∙ ap (λ k. or_else k []) (export_many a b d rest (and_left _ _ v) (and_left _ _ (and_right _ _ v)) (and_left _ _ (and_right _ _ (and_right _ _ v))))) refl refl
 
 take_told : (values : List Text) → list_all is_value values ≡ true → length values ≤ usize_max → IsTold (codes "take" ∷ values)
 unfolding walked defaults_fault
-take_told [] v fits = inr (some_kind _ [] _ (named_fault (codes "take") [] refl refl ∙ ap (λ k. or_else k []) take_none), refl)
-take_told (a ∷ []) v fits = inr (some_kind _ [] _ (named_fault (codes "take") (a ∷ []) refl refl ∙ ap (λ k. or_else k []) (take_one a (and_left _ _ v))), refl)
+take_told [] v fits = mistaken _ [] _ (named_fault (codes "take") [] refl refl ∙ ap (λ k. or_else k []) take_none) refl refl
+take_told (a ∷ []) v fits = mistaken _ [] _ (named_fault (codes "take") (a ∷ []) refl refl ∙ ap (λ k. or_else k []) (take_one a (and_left _ _ v))) refl refl
 take_told (a ∷ f ∷ more) v fits = inl (
   named_fault (codes "take") (a ∷ f ∷ more) refl refl
       ∙ ap (λ k. or_else k []) (take_more a f more (and_left _ _ v) (and_left _ _ (and_right _ _ v)) (and_right _ _ (and_right _ _ v)) (omega (arith, fits))),
@@ -118,7 +114,7 @@ take_told (a ∷ f ∷ more) v fits = inl (
 -- a first word that is `help`, or names no command
 help_told : (values : List Text) → IsTold (codes "help" ∷ values)
 unfolding walked walk_fault defaults_fault
-help_told values = inr (some_kind kind.DisplayHelp (kind.InvalidSubcommand ∷ []) _ refl, refl)
+help_told values = inr (some_kind kind.DisplayHelp (kind.InvalidSubcommand ∷ []) _ refl, refl, λ e. absurd (true≢false e))
 
 unknown_fails : (name : Text) → is_value name ≡ true → bytes_eq (codes "take") name ≡ false → bytes_eq (codes "list") name ≡ false → bytes_eq (codes "export") name ≡ false
     → bytes_eq (codes "convert") name ≡ false → bytes_eq (codes "help") name ≡ false
@@ -145,10 +141,10 @@ module _ (name : Text) (values : List Text) (v : is_value name ≡ true) (all : 
   by_help : (b : Bool) → bytes_eq name (codes "help") ≡ b → bytes_eq name (codes "take") ≡ false → bytes_eq name (codes "list") ≡ false
       → bytes_eq name (codes "export") ≡ false → bytes_eq name (codes "convert") ≡ false → IsTold (name ∷ values)
   by_help true is t l e c = named (codes "help") is (help_told values)
-  by_help false miss t l e c = inr (
-    some_kind _ _ _ (unknown_fault name values (unknown_fails name v (differs name _ t) (differs name _ l) (differs name _ e) (differs name _ c) (differs name _ miss))),
-    rw (t, l, e, c) refl,
-  )
+  by_help false miss t l e c = mistaken _ _ _
+      (unknown_fault name values (unknown_fails name v (differs name _ t) (differs name _ l) (differs name _ e) (differs name _ c) (differs name _ miss)))
+      refl
+      (rw (t, l, e, c) refl)
 
   by_convert : (b : Bool) → bytes_eq name (codes "convert") ≡ b → bytes_eq name (codes "take") ≡ false → bytes_eq name (codes "list") ≡ false
       → bytes_eq name (codes "export") ≡ false → IsTold (name ∷ values)

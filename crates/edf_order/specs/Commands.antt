@@ -31,7 +31,7 @@ abbrev pub convert_app : App
 convert_app = with_rule (new_app (codes "convert")) (wanted (codes "FILE"))
 
 abbrev pub edfstore_top : App
-edfstore_top = on_top (λ s. record s { no_binary_name = true; subcommand_required = true }) (new_app (codes "edfstore"))
+edfstore_top = on_top (λ s. record s { has_version = true; no_binary_name = true; subcommand_required = true }) (new_app (codes "edfstore"))
 
 abbrev pub edfstore_app : App
 edfstore_app = with_subcommand (with_subcommand (with_subcommand (with_subcommand edfstore_top take_app.top) list_app.top) export_app.top) convert_app.top

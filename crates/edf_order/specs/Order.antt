@@ -1,11 +1,13 @@
 -- What the words after the program's name ask for.
-use Rattle.std.specs.Prelude.{◌≡◌, ◌&&◌, ◌||◌, ◌==◌, ℕ, Bool, true, not, List, [], ◌∷◌, Option, Some, None, codes}
+use Rattle.std.specs.Prelude.{◌≡◌, ◌⊎◌, ◌&&◌, ◌||◌, ◌==◌, ◌++◌, ℕ, false, Bool, true, not, List, [], ◌∷◌, Option, Some, None, codes}
 use Rattle.std.specs.Global.{Global}
 use Rattle.std.specs.Prelude.{String, if◌then◌else◌, length, map, nat_lt, option_map, string_bytes}
 use Rattle.std.specs.Char.{digit_value}
 use Rattle.std.specs.List.{list_all}
 use Rattle.std.specs.Str.{bytes_eq}
 use Rattle.std.specs.Str.Parse.{digits_value}
+use Rattle.edf_order.specs.declared.fault.CommandFault.{CommandFault}
+use Rattle.edf_order.specs.declared.fault.CommandFault.TheVariants as fault
 use Rattle.edf_order.specs.declared.order.Order.{Order}
 use Rattle.edf_order.specs.declared.order.Order.TheVariants as order
 
@@ -65,6 +67,46 @@ meaning (order.List store) = list (string_bytes store)
 meaning (order.Export store place) = export (string_bytes store) place
 meaning (order.Convert file) = convert (string_bytes file)
 
+-- ---- help and the version
+
+-- the word `help` comes first
+abbrev pub begin_with_help : List Text → Bool
+begin_with_help [] = false
+begin_with_help (word ∷ _) = bytes_eq word (codes "help")
+
+abbrev pub help_flags : List Text
+help_flags = codes "--help" ∷ codes "-h" ∷ []
+
+abbrev pub version_flags : List Text
+version_flags = codes "--version" ∷ codes "-V" ∷ []
+
+abbrev pub commands : List Text
+commands = codes "take" ∷ codes "list" ∷ codes "export" ∷ codes "convert" ∷ []
+
+abbrev pub IsOneOf : List Text → Text → Type 0
+IsOneOf [] word = ⊥
+IsOneOf (name ∷ names) word = (word ≡ name) ⊎ IsOneOf names word
+
+abbrev pub BeginWithHelpFlag : List Text → Type 0
+BeginWithHelpFlag [] = ⊥
+BeginWithHelpFlag (word ∷ _) = IsOneOf help_flags word
+
+-- a flag that asks for help or for the version comes first, or one for help comes after a command
+abbrev pub BeginWithRequest : List Text → Type 0
+BeginWithRequest [] = ⊥
+BeginWithRequest (word ∷ rest) = IsOneOf (help_flags ++ version_flags) word
+    ⊎ (IsOneOf commands word × BeginWithHelpFlag rest)
+
+-- no text for standard output
+abbrev pub IsNoHelp : CommandFault → Type 0
+IsNoHelp (fault.Help _) = ⊥
+IsNoHelp _ = Unit {0}
+
+-- no text for standard error
+abbrev pub IsNoUsage : CommandFault → Type 0
+IsNoUsage (fault.Usage _) = ⊥
+IsNoUsage _ = Unit {0}
+
 -- ---- the same of Rust's words
 
 -- the bytes of the words
@@ -80,3 +122,10 @@ AskFor words order = asked (texts words) ≡ Some (meaning order)
 
 abbrev pub AskForNothing : List (String Global) → Type 0
 AskForNothing words = asked (texts words) ≡ None
+
+-- none is a flag, and the first is not `help`
+abbrev pub AskForNoHelp : List (String Global) → Type 0
+AskForNoHelp words = AreValues words × (begin_with_help (texts words) ≡ false)
+
+abbrev pub AskForHelp : List (String Global) → Type 0
+AskForHelp words = BeginWithRequest (texts words)

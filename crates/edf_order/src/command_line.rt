@@ -1,8 +1,9 @@
 //! The reading of a command line.
 
-ghost use Rattle.std.specs.Prelude.{◌≡◌, ◌≢◌, ◌<◌, IfErr, IfOk, length, option_map};
+ghost use Rattle.std.specs.Prelude.{◌≡◌, ◌≢◌, ◌<◌, IfErr, IfOk, IsErrAnd, length, option_map};
 ghost use Rattle.edf_order.specs.Commands.{Reads, edfstore_app};
-ghost use Rattle.edf_order.specs.Order.{AreValues, AskFor, AskForNothing, asked, meaning, texts};
+ghost use Rattle.edf_order.specs.Order.{AreValues, AskFor, AskForHelp, AskForNoHelp, AskForNothing};
+ghost use Rattle.edf_order.specs.Order.{IsNoHelp, IsNoUsage, asked, meaning, texts};
 
 use crate::commands::{edfstore_command, export_command};
 use crate::fault::{CommandFault, fault_by};
@@ -23,6 +24,8 @@ fn read<'a>(
     requires some { 0 < length words.now }
     ensures reads { AreValues words.now → IfOk result (λ order. option_map meaning order ≡ asked (texts words.now)) }
     ensures refuses { AreValues words.now → IfErr result (λ fault. fault ≢ CommandFault.Memory → AskForNothing words.now) }
+    ensures usage { AskForNoHelp words.now → IfErr result IsNoHelp }
+    ensures help { AskForHelp words.now → IsErrAnd result IsNoUsage }
 {
     let matches = match command.try_get_matches_from_mut(words) {
         Ok(matches) => matches,
@@ -36,14 +39,18 @@ fn read<'a>(
 /// The words are `take STORE FILE...`, `list STORE`, `export STORE PLACE` or `convert FILE`; no word at all is `convert -`.
 /// PLACE is digits, without a sign, with a value from 1 to 4,294,967,295; zeros may lead. A word that begins with `-` is a
 /// flag, but for `-` alone, which is a value: `--help` and `-h` ask for help, as the words `help` and `help WORD` do, and
-/// behind a `--` that follows the first word all are values.
+/// behind a `--` that follows the first word all are values. `--version` and `-V` ask for the version: `edfstore`, a space and
+/// the version in a line.
 ///
 /// # Errors
-/// Where no word is a flag, `Help` or `Usage` comes exactly where the words ask for nothing. `Memory` where memory ran out,
-/// in place of any other answer.
+/// Where no word is a flag, `Help` or `Usage` comes exactly where the words ask for nothing, and it is `Usage` where `help` is
+/// not the first. `Help` comes where a flag that asks for help or for the version is the first word, and where one for help
+/// follows `take`, `list`, `export` or `convert`. `Memory` where memory ran out, in place of any other answer.
 pub fn parse(alloc: Global, words: &[String]) -> Result<Order, CommandFault>
     ensures order { AreValues words.now → IfOk result (AskFor words.now) }
     ensures fault { AreValues words.now → IfErr result (λ fault. fault ≢ CommandFault.Memory → AskForNothing words.now) }
+    ensures usage { AskForNoHelp words.now → IfErr result IsNoHelp }
+    ensures help { AskForHelp words.now → IsErrAnd result IsNoUsage }
 {
     if words.is_empty() {
         let file = String::from_str(alloc, "-")?;

@@ -76,6 +76,7 @@ fn program<'a>(alloc: Global) -> Result<Command<'a>, AllocError>
     Ok(
         Command::new(alloc, "edfstore")
             .bin_name("edfstore")?
+            .version(help::VERSION)
             .about(help::EDFSTORE)
             .after_help(help::EDFSTORE_MORE)
             .no_binary_name(true)

@@ -1,7 +1,9 @@
 //! Why a command line is no order.
 
-ghost use Rattle.std.specs.Prelude.{◌≡◌};
+ghost use Rattle.std.specs.Prelude.{◌≡◌, false, true};
 ghost use Rattle.clap.specs.Words.{kind_of};
+ghost use Rattle.edf_order.specs.Faults.{is_mistake};
+ghost use Rattle.edf_order.specs.Order.{IsNoHelp, IsNoUsage};
 
 use clap::Error;
 use clap::error::ErrorKind;
@@ -11,7 +13,7 @@ use thiserror::Error;
 /// Why a command line is no order.
 #[derive(Debug, Drop, Error)]
 pub enum CommandFault {
-    /// Help was asked for: its text, for standard output.
+    /// Help or the version was asked for: its text, for standard output.
     #[error("{0}")]
     Help(String),
     /// The words ask for nothing that can be done: why, and how the command is used, for standard error.
@@ -34,7 +36,9 @@ impl From<AllocError> for CommandFault {
 
 /// What `clap` refused, by its kind and with its text.
 pub(crate) fn fault_by(alloc: Global, error: &Error) -> CommandFault
-    ensures { kind_of error.now ≡ ErrorKind.OutOfMemory → result ≡ CommandFault.Memory }
+    ensures memory { kind_of error.now ≡ ErrorKind.OutOfMemory → result ≡ CommandFault.Memory }
+    ensures usage { is_mistake (kind_of error.now) ≡ true → IsNoHelp result }
+    ensures help { is_mistake (kind_of error.now) ≡ false → IsNoUsage result }
 {
     if error.kind() == ErrorKind::OutOfMemory {
         return CommandFault::Memory;

@@ -2,7 +2,8 @@
 //!
 //! - [`parse`]: the words to an [`Order`], by `clap`, or the [`CommandFault`] that says why they ask for nothing.
 //! - [`Order`]: `take`, `list`, `export` or `convert`, with its values.
-//! - [`CommandFault`]: help that was asked for, words that ask for nothing, or want of memory.
+//! - [`CommandFault`]: help or the version that was asked for, words that ask for nothing, or want of memory.
+//! - [`VERSION`]: the program's version, which `--version` tells.
 //!
 //! No file is opened and nothing is printed here.
 #![tactic(auto)]
@@ -16,4 +17,5 @@ mod order;
 
 pub use command_line::parse;
 pub use fault::CommandFault;
+pub use help::VERSION;
 pub use order::Order;
