@@ -1,7 +1,6 @@
 //! Fragments, read one data record at a time.
 
 use edf_fragment::{Counted, FragmentFault, FragmentReader, Record};
-use edf_header::HeaderFault;
 use edf_sample::named::{file_q, file_u};
 use edf_sample::{Source, file, patched, q};
 use edf_tal::TalFault;
@@ -164,56 +163,5 @@ fn a_failed_read_is_told_and_then_only_that_the_reader_failed(rt: HostRuntime) {
             let told = told_of_failing(rt.alloc(), cut, kind);
             assert_eq!(rt; told, Some(wanted), "at {cut}");
         }
-    }
-}
-
-/// What opening Q tells with another text from an offset on, and cut to a length.
-fn fault_at(alloc: Global, at: usize, text: &[u8], len: usize) -> Option<FragmentFault> {
-    let bytes = patched(alloc, &file_q(alloc).ok()?, at, text).ok()?;
-    let (opening, _) = faults(alloc, Source::whole(bytes.get(..len)?, 100));
-    opening
-}
-
-/// Where another text stands, the text, the length of the file, and the fault.
-const HEADER_FAULTS: &[(usize, &[u8], usize, HeaderFault)] = &[
-    (0, b"0", 255, HeaderFault::Cut),
-    (168, b"31.02.02", 778, HeaderFault::Startdate),
-    (176, b"24.00.00", 778, HeaderFault::Starttime),
-    (168, b"03.03.02", 778, HeaderFault::DatesDiffer),
-    (192, b"     ", 778, HeaderFault::NotPlus),
-    (236, b"0", 778, HeaderFault::Count),
-    (236, b"-1", 778, HeaderFault::Count),
-    (244, b"0", 778, HeaderFault::Duration),
-    (252, b"1", 778, HeaderFault::Signals),
-    (184, b"512", 778, HeaderFault::HeaderBytes),
-    (0, b"0", 767, HeaderFault::CutSignals),
-    (
-        448,
-        b"\xb5",
-        778,
-        HeaderFault::UnprintableSignals { offset: 448 },
-    ),
-    (272, b"EDF annotations", 778, HeaderFault::Annotations),
-    (
-        464,
-        b"0       -1      -0.0",
-        778,
-        HeaderFault::Physical { signal: 1 },
-    ),
-    (
-        496,
-        b"5       -32768  5   ",
-        778,
-        HeaderFault::Digital { signal: 1 },
-    ),
-    (688, b"0", 778, HeaderFault::Samples { signal: 1 }),
-    (688, b"2097153", 778, HeaderFault::Size),
-];
-
-#[test]
-fn a_refused_header_is_told_by_its_fault(rt: HostRuntime) {
-    for (at, text, len, fault) in HEADER_FAULTS.iter().copied() {
-        let told = fault_at(rt.alloc(), at, text, len);
-        assert_eq!(rt; told, Some(FragmentFault::Header(fault)), "at {at}");
     }
 }

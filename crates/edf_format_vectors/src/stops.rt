@@ -4,6 +4,7 @@ use edf_fragment::{Counted, FragmentFault, FragmentReader, send};
 use edf_header::HeaderFault;
 use edf_sample::named::file_q;
 use edf_sample::{Sink, StopsOnce, patched};
+use edf_tal::TalFault;
 use std::alloc::Global;
 
 /// Reads a fragment to its end or its fault, and once more.
@@ -69,31 +70,51 @@ fn nothing_is_read_behind_an_end_or_a_failed_read(rt: HostRuntime) {
     }
 }
 
-/// The number of reads of Q and three spaces, with another text from an offset on, where it is refused.
-fn reads_of_refused(alloc: Global, at: usize, text: &[u8]) -> Option<usize> {
+/// The fault of Q and three spaces, with another text from an offset on, and the number of reads.
+fn drained_other(alloc: Global, at: usize, text: &[u8]) -> Option<(Option<FragmentFault>, usize)> {
     let mut bytes = file_q(alloc).ok()?;
     bytes.extend_from_slice(b"   ").ok()?;
     let other = patched(alloc, &bytes, at, text).ok()?;
-    let (told, reads) = drained(alloc, &other, usize::MAX, true);
-    match told {
-        Some(_) => Some(reads),
-        None => None,
-    }
+    Some(drained(alloc, &other, usize::MAX, true))
 }
 
-/// Where another text stands, the text, and how many bytes are read.
-const REFUSALS: &[(usize, &[u8], usize)] = &[
-    (176, b"24.00.00", 256),
-    (272, b"EDF annotations", 768),
-    (772, b"?", 778),
-    (778, b"-", 779),
+/// Where another text stands, the text, how many bytes are read, and the fault.
+const REFUSALS: &[(usize, &[u8], usize, FragmentFault)] = &[
+    (
+        176,
+        b"24.00.00",
+        256,
+        FragmentFault::Header(HeaderFault::Starttime),
+    ),
+    (
+        272,
+        b"EDF annotations",
+        768,
+        FragmentFault::Header(HeaderFault::Annotations),
+    ),
+    (
+        464,
+        b"0       -1      -0.0",
+        768,
+        FragmentFault::Header(HeaderFault::Physical { signal: 1 }),
+    ),
+    (
+        772,
+        b"?",
+        778,
+        FragmentFault::Tal {
+            nth: 1,
+            fault: TalFault::Tal { offset: 0 },
+        },
+    ),
+    (778, b"-", 779, FragmentFault::Trailing),
 ];
 
 #[test]
-fn nothing_is_read_behind_a_refusal(rt: HostRuntime) {
-    for (at, text, reads) in REFUSALS.iter().copied() {
-        let told = reads_of_refused(rt.alloc(), at, text);
-        assert_eq!(rt; told, Some(reads), "at {at}");
+fn a_refusal_is_told_by_its_fault_and_nothing_is_read_behind_it(rt: HostRuntime) {
+    for (at, text, reads, fault) in REFUSALS.iter().copied() {
+        let told = drained_other(rt.alloc(), at, text);
+        assert_eq!(rt; told, Some((Some(fault), reads)), "at {at}");
     }
 }
 
