@@ -1,5 +1,5 @@
 -- Where a walk by `Rows` stands, and what it tells when it ends.
-use Rattle.std.proofs.Common.{◌≡◌, ap₂, is_lt, Less, IsSorted, true, false, true≢false, ℕ, ◌+◌, ◌<◌, ◌≤◌, inl, inr, ℤ, pos, List, [], ◌∷◌, ◌++◌, map, length, Option, Some, None, refl, sym, ap, subst, ◌∙◌, arith, IsPermutation, append_assoc}
+use Rattle.std.proofs.Common.{◌≡◌, ap₂, is_lt, Less, IsSorted, false, true≢false, ℕ, ◌+◌, ◌<◌, ◌≤◌, inl, inr, ℤ, pos, List, [], ◌∷◌, ◌++◌, map, length, Option, Some, None, refl, sym, ap, subst, ◌∙◌, arith, IsPermutation, append_assoc}
 use Rattle.std.proofs.lemmas.List.{length-append, length-map, map-append, nil_from_length}
 use Rattle.std.proofs.lemmas.List.Sorted.{length_permutation}
 use Rattle.sqlite.specs.declared.types.Value.TheVariants.{Int}

@@ -1,5 +1,5 @@
 -- Why a row is not added, and why a table is not made.
-use Rattle.std.proofs.Common.{ap, cond, ◌≡◌, ◌⊎◌, ◌+◌, ◌*◌, ◌^◌, ◌<◌, ◌≤◌, pos, negsuc, zero, suc, ◌++◌, ◌&&◌, ◌||◌, inl, inr, ℕ, ℤ, List, [], ◌∷◌, true, false, Option, Some, None, IsSome, Result, Ok, Err, IfErr, length, slice_get, refl, sym, subst, ◌∙◌, arith, true≢false}
+use Rattle.std.proofs.Common.{ap, cond, ◌≡◌, ◌⊎◌, ◌+◌, ◌*◌, ◌^◌, ◌<◌, ◌≤◌, pos, negsuc, zero, suc, ◌&&◌, ◌||◌, inl, inr, ℕ, ℤ, List, [], ◌∷◌, true, false, Option, Some, None, IsSome, Result, Ok, Err, IfErr, length, slice_get, refl, sym, subst, ◌∙◌, arith, true≢false}
 use Rattle.std.proofs.lemmas.Bool.{cases_Bool, cases_lt}
 use Rattle.std.proofs.lemmas.List.{length-append}
 use Rattle.std.proofs.lemmas.List.Elements.{All-from_recursion}
@@ -9,7 +9,6 @@ use Rattle.std.specs.Int.{bit_at}
 use Rattle.std.specs.Float.{NotNan}
 use Rattle.std.specs.Float.Ieee.{is_nan}
 use Rattle.std.specs.Prelude.{option_map, ◌/◌}
-use Rattle.sqlite.specs.declared.types.Value.{Value}
 use Rattle.sqlite.specs.declared.types.Value.TheVariants.{Null, Int, Blob}
 use Rattle.sqlite.specs.Order.{Row}
 use Rattle.sqlite.specs.Tree.{Trees}
@@ -19,7 +18,6 @@ use Rattle.sqlite.specs.Term.{Term}
 use Rattle.sqlite.specs.Source.TheVariants.{Values}
 use Rattle.sqlite.specs.Command.TheVariants.{Insert, CreateTable, Nothing}
 use Rattle.sqlite_schema.specs.declared.command.Command.{Command}
-use Rattle.sqlite_schema.specs.declared.schema.Keys.{Keys}
 use Rattle.sqlite_schema.specs.declared.schema.Keys.TheVariants.{Enforced}
 use Rattle.sqlite_schema.specs.declared.schema.Index.{Index}
 use Rattle.sqlite_schema.specs.Rules.{table_reals, index_reals}
@@ -29,7 +27,7 @@ use Rattle.sqlite_value.specs.Order.{column, number}
 use Rattle.sqlite.specs.Edit.{edit_of}
 use Rattle.sqlite.specs.Rowids.TheVariants.{Above, Chosen}
 use Rattle.sqlite_rules.specs.Action.{Writes, Leads, works}
-use Rattle.sqlite_rules.specs.Edit.{Edit, IsRefused, IsOversized, taken_by, next_rowid}
+use Rattle.sqlite_rules.specs.Edit.{IsRefused, IsOversized, taken_by, next_rowid}
 use Rattle.sqlite_rules.specs.declared.error.Refusal.{Refusal}
 use Rattle.sqlite_catalog.specs.declared.error.Refusal as alter
 use Rattle.sqlite_catalog.specs.declared.error.Refusal.TheVariants as why

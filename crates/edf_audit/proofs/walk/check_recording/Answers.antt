@@ -1,4 +1,4 @@
-use Rattle.std.proofs.Common.{rules, inl, map, [], ◌∷◌, ◌≡◌, refl, ap, subst, ◌∙◌, arith, w64}
+use Rattle.std.proofs.Common.{rules, map, [], ◌∷◌, ◌≡◌, refl, ap, subst, ◌∙◌, arith, w64}
 use Rattle.std.proofs.lemmas.Int.{to_z-of_z}
 use Rattle.std.proofs.lemmas.Result.{err_from_is_err_and}
 use Rattle.sqlite.specs.Effect.{Database}
