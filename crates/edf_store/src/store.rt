@@ -24,6 +24,7 @@ use std::marker::Model;
 /// What is held of a recording are its data records, by rising starts. A call that reads or adds them is refused by
 /// `Store` (E42) without a cause where an earlier refusal left the connection in a transaction; then the file is to be opened
 /// again.
+#[derive(Drop)]
 pub struct Store<S: Alter> {
     pub(crate) alloc: Global,
     pub(crate) conn: Connection<S>,
@@ -41,16 +42,6 @@ impl<S: Alter> Model for Store<S> {
     ghost view = { λ s. record { held = s.conn; cap = s.cap } };
 
     ghost invariant = { λ s. IsSoundStore s.cap (state S.Store s.conn) };
-}
-
-impl<S: Alter + Drop> Drop for Store<S> {
-    fn drop(self) {
-        let Store {
-            alloc: _,
-            conn: _,
-            cap: _,
-        } = self;
-    }
 }
 
 impl<S: Alter> Store<S> {
