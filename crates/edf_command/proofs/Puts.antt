@@ -105,3 +105,16 @@ module _ (a : Option (List ℕ)) (old : ℕ) (b : Option (List ℕ)) (mid : ℕ)
       → IsLinePut (grown b mid c new) line false → GetsFront (grown a old c new) (lines count) ⊎ LacksText (grown a old c new) lines count
   stops-behind lines count n line rest lt e first (inl cut) = inl (front-behind (lines n) line rest (lines count) e first cut)
   stops-behind lines count n line rest lt e first (inr none) = inr (record { written = n; fewer = lt; wrote = gets-no_more (lines n) first none })
+
+  -- some bytes were written, and others behind them or a front of those
+  pub written-behind : (done more : List ℕ) (written : Bool) (wanted status : Status) → IsPut (grown a old b mid) done written → written ≡ true
+      → IsWritten (grown b mid c new) more wanted status → IsWritten (grown a old c new) (done ++ more) wanted status
+  written-behind done more true wanted status first e (inl whole) = inl (gets-behind done more first whole.0, whole.1)
+  written-behind done more true wanted status first e (inr cut) = inr (front-behind done more [] (done ++ more) (ap (λ (l : List ℕ). done ++ l) (sym (append-nil more))) first cut.0, cut.1)
+  written-behind done more false wanted status first e then = absurd (false≢true e)
+
+-- a front of the first bytes was written, and no more
+pub cut-before : (a : Option (List ℕ)) (old : ℕ) (b : Option (List ℕ)) (mid : ℕ) (done more : List ℕ) (written : Bool) (wanted : Status) → IsPut (grown a old b mid) done written → written ≡ false
+    → IsWritten (grown a old b mid) (done ++ more) wanted Trouble
+cut-before a old b mid done more false wanted first e = inr (front-behind a old a old b mid [] done more (done ++ more) refl (nothing-gets a old) first, refl)
+cut-before a old b mid done more true wanted first e = absurd (false≢true (sym e))

@@ -51,6 +51,7 @@ ArePut w lines count written = MatchBool written (Gets w (lines count)) (GetsFro
 abbrev pub IsWritten : Growth → List ℕ → Status → Status → Type 0
 IsWritten w bytes wanted status = (Gets w bytes × (status ≡ wanted)) ⊎ (GetsFront w bytes × (status ≡ Trouble))
 
+-- or memory for the text was refused
 abbrev pub IsTold : Growth → List ℕ → Status → Status → Type 0
 IsTold w text wanted status = IsWritten w text wanted status ⊎ (Gets w [] × (status ≡ Trouble))
 
@@ -59,4 +60,4 @@ AreTold w lines count wanted status = IsWritten w (lines count) wanted status �
 
 -- nothing went to `out`, and a line to `err`
 abbrev pub Explains : Growth → Growth → List ℕ → Status → Status → Type 0
-Explains out err text wanted status = Gets out [] × IsTold err text wanted status
+Explains out err text wanted status = Gets out [] × IsWritten err text wanted status

@@ -1,5 +1,5 @@
 -- What an order does: what it writes, the status that it answers, and what it leaves in the store.
-use Rattle.std.specs.Prelude.{◌≡◌, ◌≢◌, ◌⊎◌, Contains, ℕ, zero, suc, List, [], ◌++◌, length, map, slice_get, Option, Some, None, Ok, Err}
+use Rattle.std.specs.Prelude.{◌≡◌, ◌≢◌, ◌⊎◌, Contains, ℕ, zero, suc, List, [], ◌∷◌, ◌++◌, length, map, slice_get, Option, Some, None, Ok, Err}
 use Rattle.sqlite_trees.specs.declared.store.Store.{Ghosts}
 use Rattle.sqlite.specs.State.{HasCleanDisk}
 use Rattle.edf_header.specs.Key.{Key}
@@ -33,6 +33,24 @@ AreHeldBy h keys = (k : Key) → Contains keys k → h k ≢ []
 abbrev pub at_place : List Key → ℕ → Option Key
 at_place keys zero = None
 at_place keys (suc n) = slice_get keys n
+
+-- the files that an order names, in the order of the words
+abbrev pub files_of : Asked → List (List ℕ)
+files_of (take store files) = files
+files_of (list store) = []
+files_of (export store place) = []
+files_of (convert file) = file ∷ []
+
+-- just the first of these names were opened, each once, in their order
+pub record OpensFront (before after names : List (List ℕ)) : Type 0 where
+  pub front : List (List ℕ)
+  pub left : List (List ℕ)
+  pub parts : names ≡ front ++ left
+  pub opened : after ≡ before ++ front
+
+-- just these were, each once, in their order; or, where memory ran out, just the first of them
+abbrev pub HasOpened : List (List ℕ) → List (List ℕ) → List (List ℕ) → Status → Type 0
+HasOpened before after names status = (after ≡ before ++ names) ⊎ (OpensFront before after names × (status ≡ Trouble))
 
 module _ {S : Type 0} (g : Ghosts S) (old new : Kept S) (out err : Growth) where
   -- ---- take
@@ -68,14 +86,14 @@ module _ {S : Type 0} (g : Ghosts S) (old new : Kept S) (out err : Growth) where
     pub told : IsStoreRefusal fault
     pub first : (keys : List Key) → AreKeysOf h keys → (rest : List Key) × (keys ≡ given ++ rest)
     pub written : (spell : ℕ → List ℕ) → IsSpelling spell → Gets out (list_lines spell h 1 given)
-    pub said : IsTold err (list_refused_line fault) Trouble status
+    pub said : IsWritten err (list_refused_line fault) Trouble status
 
   -- on any disk: it is done, nothing is told and no write failed; or a line could not be written; or why not is told, and no write failed
   abbrev pub TellsLines : Status → Type 0
   TellsLines status =
       ((out.failed_after ≡ out.failed_before) × Gets err [] × (status ≡ Done))
       ⊎ ((Gets err [] × (status ≡ Trouble))
-      ⊎ ((fault : StoreFault) × (out.failed_after ≡ out.failed_before) × IsTold err (list_refused_line fault) Trouble status))
+      ⊎ ((fault : StoreFault) × (out.failed_after ≡ out.failed_before) × IsWritten err (list_refused_line fault) Trouble status))
 
   pub record IsListed (status : Status) : Type 0 where
     pub stays : Stays g old new
@@ -89,13 +107,13 @@ module _ {S : Type 0} (g : Ghosts S) (old new : Kept S) (out err : Growth) where
   IsSent h k status =
       (((len : ℕ) × IsExported out.before out.after k (h k) len) × (out.failed_after ≡ out.failed_before) × Gets err [] × (status ≡ Done))
       ⊎ ((fault : ExportFault) × IsNotExported out.before out.after k (h k) fault × CountsExportFault out.failed_before out.failed_after fault
-      × IsTold err (export_refused_line fault) (export_status fault) status)
+      × IsWritten err (export_refused_line fault) (export_status fault) status)
 
   -- on any disk: it is done, nothing is told and no write failed; or why not is told, E43 exactly where a write failed
   abbrev pub TellsWrites : Status → Type 0
   TellsWrites status =
       ((out.failed_after ≡ out.failed_before) × Gets err [] × (status ≡ Done))
-      ⊎ ((fault : ExportFault) × CountsExportFault out.failed_before out.failed_after fault × IsTold err (export_refused_line fault) (export_status fault) status)
+      ⊎ ((fault : ExportFault) × CountsExportFault out.failed_before out.failed_after fault × IsWritten err (export_refused_line fault) (export_status fault) status)
 
   -- the recording at this place of the list, from 1
   pub record SendsPlace (h : Holdings) (place : ℕ) (status : Status) : Type 0 where
@@ -134,7 +152,7 @@ module _ {S : Type 0} (g : Ghosts S) (old new : Kept S) (out err : Growth) where
     pub opened : from.left ≡ bytes
     pub submitted : IsSubmitted g old new from to (Err refusal)
     pub said : (spell : ℕ → List ℕ) → IsSpelling spell →
-        Explains out err (refused_line spell name refusal) (status_of_number (refusal_number refusal)) status
+        Gets out [] × IsTold err (refused_line spell name refusal) (status_of_number (refusal_number refusal)) status
 
   -- it was accepted, and what its recording then holds went out
   pub record ConvertsFile (bytes : Option (List ℕ)) (status : Status) : Type 0 where

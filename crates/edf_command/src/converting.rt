@@ -1,11 +1,11 @@
 //! `convert`: one file to its canonical form.
 
-ghost use Rattle.std.specs.Prelude.{◌≡◌, ◌++◌, ◌∷◌, ℕ, [], List, IfOk, codes};
+ghost use Rattle.std.specs.Prelude.{◌≡◌, ◌∷◌, [], ℕ, List};
 ghost use Rattle.edf_command.specs.Lines.{convert_memory_line};
-ghost use Rattle.edf_command.specs.Output.{grown};
-ghost use Rattle.edf_command.specs.Run.{IsConverted};
+ghost use Rattle.edf_command.specs.Output.{grown, IsWritten};
+ghost use Rattle.edf_command.specs.Run.{IsConverted, HasOpened};
 
-use crate::output::tell;
+use crate::output::{tell, tell_pair};
 use crate::running::Inputs;
 use crate::sending::send_recording;
 use crate::status::{Status, status_of_number};
@@ -14,13 +14,14 @@ use edf_fragment::Output;
 use edf_intake::submit;
 use edf_store::Store;
 use sqlite::Alter;
-use std::alloc::{AllocError, Global};
+use std::alloc::Global;
 
-/// That there is no memory for the reader.
-fn memory_line(alloc: Global, name: &str) -> Result<Vec<u8>, AllocError>
-    ensures { IfOk result (λ r. r.items ≡ convert_memory_line name.now) }
+/// Tells that there is no memory for the reader. It takes none.
+fn tell_memory<F: Output>(err: &mut F, name: &str) -> Status
+    ensures { IsWritten (grown (F.contents err.old) (F.failures err.old) (F.contents err.new) (F.failures err.new)) (convert_memory_line name.now) Status.Trouble result }
 {
-    Ok(format!(in alloc; "{name} refused E41 Memory\n")?.into_bytes())
+    let line = b" refused E41 Memory\n";
+    tell_pair(err, name.as_bytes(), line, Status::Trouble)
 }
 
 /// Takes one file into the store and writes the canonical file of its recording.
@@ -36,11 +37,12 @@ pub(crate) fn convert<S: Alter, I: Inputs, O: Output, F: Output>(
         (grown (O.contents out.old) (O.failures out.old) (O.contents out.new) (O.failures out.new))
         (grown (F.contents err.old) (F.failures err.old) (F.contents err.new) (F.failures err.new))
         (I.bytes inputs.old file.now) file.now result }
+    ensures opened { HasOpened (I.opened inputs.old) (I.opened inputs.new) (file.now ∷ []) result }
     ensures cap { store.new.cap ≡ store.old.cap }
     ensures same { (name : List ℕ) → I.bytes inputs.new name ≡ I.bytes inputs.old name }
 {
     let Ok(mut reader) = inputs.open(alloc, file) else {
-        return tell(err, memory_line(alloc, file), Status::Trouble);
+        return tell_memory(err, file);
     };
     match submit(alloc, store, &mut reader) {
         Ok(receipt) => send_recording(alloc, store, &receipt.identity, out, err),

@@ -9,12 +9,12 @@ ghost use Rattle.edf_store.specs.Fault.{IsStoreRefusal};
 ghost use Rattle.edf_store.specs.Held.{at, Holds, Stays};
 ghost use Rattle.edf_store.specs.Listed.{IsSummary};
 ghost use Rattle.edf_command.specs.Lines.{list_line, first_list_lines, list_refused_line};
-ghost use Rattle.edf_command.specs.Output.{grown, Gets, IsLinePut, ArePut, IsTold};
+ghost use Rattle.edf_command.specs.Output.{grown, Gets, IsLinePut, ArePut, IsWritten};
 ghost use Rattle.edf_command.specs.Refusals.{IsSpelling};
 ghost use Rattle.edf_command.specs.Run.{AreHeldBy, IsListed};
 
-use crate::output::{put_line, tell};
-use crate::refusal::{joined, spelled, store_line};
+use crate::output::{put_line, tell_bytes};
+use crate::refusal::{joined, spelled};
 use crate::status::Status;
 use edf_fragment::Output;
 use edf_header::Identity;
@@ -109,11 +109,23 @@ fn put_recordings<S: Alter, O: Output>(
     Ok(true)
 }
 
-/// Tells why no more is listed.
-fn tell_refusal<F: Output>(alloc: Global, err: &mut F, fault: &StoreFault) -> Status
-    ensures { IsTold (grown (F.contents err.old) (F.failures err.old) (F.contents err.new) (F.failures err.new)) (list_refused_line fault.now) Status.Trouble result }
+/// That the store refused. The line is ready, so that it can be told where memory ran out.
+fn list_refused_line(fault: &StoreFault) -> &'static str
+    ensures { result.now ≡ list_refused_line fault.now }
 {
-    tell(err, store_line(alloc, "list", fault), Status::Trouble)
+    match fault {
+        StoreFault::Memory => "list refused E41 Memory\n",
+        StoreFault::Store(_) => "list refused E42 Store\n",
+        StoreFault::Foreign => "list refused E45 Foreign\n",
+        StoreFault::Failed => "list refused E0 Failed\n",
+    }
+}
+
+/// Tells why no more is listed.
+fn tell_refusal<F: Output>(err: &mut F, fault: &StoreFault) -> Status
+    ensures { IsWritten (grown (F.contents err.old) (F.failures err.old) (F.contents err.new) (F.failures err.new)) (list_refused_line fault.now) Status.Trouble result }
+{
+    tell_bytes(err, list_refused_line(fault).as_bytes(), Status::Trouble)
 }
 
 /// Writes a line for each recording that is held, in the order of their identities' bytes.
@@ -129,11 +141,11 @@ pub(crate) fn list<S: Alter, O: Output, F: Output>(
 {
     let recordings = match store.identities() {
         Ok(recordings) => recordings,
-        Err(fault) => return tell_refusal(alloc, err, &fault),
+        Err(fault) => return tell_refusal(err, &fault),
     };
     match put_recordings(alloc, store, out, recordings.as_slice()) {
         Ok(true) => Status::Done,
         Ok(false) => Status::Trouble,
-        Err(stop) => tell_refusal(alloc, err, &stop),
+        Err(stop) => tell_refusal(err, &stop),
     }
 }

@@ -1,6 +1,6 @@
 //! Writing lines.
 
-ghost use Rattle.std.specs.Prelude.{◌≡◌, ℕ, [], List, false, IfOk, MatchResult};
+ghost use Rattle.std.specs.Prelude.{◌≡◌, ◌++◌, ℕ, [], List, false, IfOk, MatchResult};
 ghost use Rattle.edf_command.specs.Output.{grown, Gets, IsPut, IsLinePut, IsWritten, IsTold};
 
 use crate::status::Status;
@@ -26,6 +26,22 @@ pub(crate) fn tell_bytes<W: Output>(out: &mut W, bytes: &[u8], status: Status) -
 {
     if send(out, bytes) {
         status
+    } else {
+        Status::Trouble
+    }
+}
+
+/// Writes bytes in two parts and answers a status; trouble where they are not written whole.
+pub(crate) fn tell_pair<W: Output>(
+    out: &mut W,
+    first: &[u8],
+    second: &[u8],
+    status: Status,
+) -> Status
+    ensures { IsWritten (grown (W.contents out.old) (W.failures out.old) (W.contents out.new) (W.failures out.new)) (first.now ++ second.now) status result }
+{
+    if send(out, first) {
+        tell_bytes(out, second, status)
     } else {
         Status::Trouble
     }

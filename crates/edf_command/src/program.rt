@@ -4,10 +4,9 @@ ghost use Rattle.std.specs.Prelude.{◌≡◌, option_map};
 ghost use Rattle.edf_order.specs.Order.{meaning};
 ghost use Rattle.edf_command.specs.Command.{IsRead, store_path};
 ghost use Rattle.edf_command.specs.Lines.{store_refused_line};
-ghost use Rattle.edf_command.specs.Output.{grown, IsTold};
+ghost use Rattle.edf_command.specs.Output.{grown, IsWritten};
 
-use crate::output::{tell, tell_bytes};
-use crate::refusal::store_line;
+use crate::output::tell_bytes;
 use crate::status::Status;
 use edf_fragment::Output;
 use edf_order::{CommandFault, Order, parse};
@@ -58,9 +57,21 @@ pub fn store_path(order: &Order) -> Option<&str>
     }
 }
 
-/// Tells that the store of an order can't be opened. The order is not run.
-pub fn refuse_store<F: Output>(alloc: Global, fault: &StoreFault, err: &mut F) -> Status
-    ensures { IsTold (grown (F.contents err.old) (F.failures err.old) (F.contents err.new) (F.failures err.new)) (store_refused_line fault.now) Status.Trouble result }
+/// That a store can't be opened. The line is ready, so that it can be told where memory ran out.
+fn store_refused_line(fault: &StoreFault) -> &'static str
+    ensures { result.now ≡ store_refused_line fault.now }
 {
-    tell(err, store_line(alloc, "store", fault), Status::Trouble)
+    match fault {
+        StoreFault::Memory => "store refused E41 Memory\n",
+        StoreFault::Store(_) => "store refused E42 Store\n",
+        StoreFault::Foreign => "store refused E45 Foreign\n",
+        StoreFault::Failed => "store refused E0 Failed\n",
+    }
+}
+
+/// Tells that the store of an order can't be opened. The order is not run.
+pub fn refuse_store<F: Output>(fault: &StoreFault, err: &mut F) -> Status
+    ensures { IsWritten (grown (F.contents err.old) (F.failures err.old) (F.contents err.new) (F.failures err.new)) (store_refused_line fault.now) Status.Trouble result }
+{
+    tell_bytes(err, store_refused_line(fault).as_bytes(), Status::Trouble)
 }

@@ -4,9 +4,8 @@ ghost use Rattle.std.specs.Prelude.{◌≡◌, ℕ, ◌++◌, ◌∷◌, [], Lis
 ghost use Rattle.edf_fragment.specs.Fault.{fragment_fault_number};
 ghost use Rattle.edf_header.specs.Fault.{header_fault_number};
 ghost use Rattle.edf_tal.specs.Block.{tal_fault_number};
-ghost use Rattle.edf_command.specs.Refusals.{IsSpelling, header_words, header_place, tal_details, fragment_details, store_text, export_text, refusal_text, place_text};
+ghost use Rattle.edf_command.specs.Refusals.{IsSpelling, header_words, header_place, tal_details, fragment_details, store_text, refusal_text, place_text};
 
-use edf_export::ExportFault;
 use edf_fragment::FragmentFault;
 use edf_header::HeaderFault;
 use edf_intake::Refusal;
@@ -115,30 +114,6 @@ fn store_text(alloc: Global, fault: &StoreFault) -> Result<String, AllocError>
         StoreFault::Foreign => format!(in alloc; "E{number} Foreign"),
         StoreFault::Failed => format!(in alloc; "E{number} Failed"),
     }
-}
-
-pub(crate) fn export_text(alloc: Global, fault: &ExportFault) -> Result<String, AllocError>
-    ensures { IfOk result (λ r. string_bytes r ≡ export_text fault.now) }
-{
-    let number = fault.number();
-    match fault {
-        ExportFault::NoRecording => format!(in alloc; "E{number} NoRecording"),
-        ExportFault::Store(fault) => store_text(alloc, fault),
-        ExportFault::Memory => format!(in alloc; "E{number} Memory"),
-        ExportFault::Write => format!(in alloc; "E{number} Write"),
-    }
-}
-
-/// That the store refused something.
-pub(crate) fn store_line(
-    alloc: Global,
-    what: &str,
-    fault: &StoreFault,
-) -> Result<Vec<u8>, AllocError>
-    ensures { IfOk result (λ r. r.items ≡ what.now ++ (codes " refused " ++ (store_text fault.now ++ (10 ∷ [])))) }
-{
-    let text = store_text(alloc, fault)?;
-    Ok(format!(in alloc; "{what} refused {text}\n")?.into_bytes())
 }
 
 /// Three texts, one behind another.

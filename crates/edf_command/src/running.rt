@@ -1,9 +1,9 @@
 //! An order, run.
 
-ghost use Rattle.std.specs.Prelude.{◌≡◌, ℕ, List, Option, IfOk};
+ghost use Rattle.std.specs.Prelude.{◌≡◌, ◌++◌, ◌∷◌, [], ℕ, List, Option, IfOk, MatchResult};
 ghost use Rattle.edf_order.specs.Order.{meaning};
 ghost use Rattle.edf_command.specs.Output.{grown};
-ghost use Rattle.edf_command.specs.Run.{IsDone};
+ghost use Rattle.edf_command.specs.Run.{IsDone, HasOpened, files_of};
 
 use crate::converting::convert;
 use crate::listing::list;
@@ -26,13 +26,17 @@ pub trait Inputs {
     // The bytes that a name stands for, where they are known.
     ghost bytes: { Self → List ℕ → Option (List ℕ) };
 
+    // The names whose readers it gave, in turn.
+    ghost opened: { Self → List (List ℕ) };
+
     /// A reader of just the bytes that the name stands for. A name that stands for nothing gives a reader whose first read fails.
     ///
     /// # Errors
-    /// Where memory ran out.
+    /// Where memory ran out. The name is then not among those opened.
     fn open(&mut self, alloc: Global, name: &str) -> Result<Self::Reader, AllocError>
         ensures reader { IfOk result (λ r. Self.Reader.remaining r ≡ bytes self.old name.now) }
-        ensures same { (other : List ℕ) → bytes self.new other ≡ bytes self.old other };
+        ensures same { (other : List ℕ) → bytes self.new other ≡ bytes self.old other }
+        ensures names { MatchResult result (λ _. opened self.new ≡ opened self.old ++ (name.now ∷ [])) (λ _. opened self.new ≡ opened self.old) };
 }
 
 /// Runs an order over a store, which is the one that the order names; for `Convert` it is an empty one.
@@ -52,6 +56,7 @@ pub fn run<S: Alter, I: Inputs, O: Output, F: Output>(
         (grown (O.contents out.old) (O.failures out.old) (O.contents out.new) (O.failures out.new))
         (grown (F.contents err.old) (F.failures err.old) (F.contents err.new) (F.failures err.new))
         (I.bytes inputs.old) (meaning order.now) result }
+    ensures opened { HasOpened (I.opened inputs.old) (I.opened inputs.new) (files_of (meaning order.now)) result }
     ensures cap { store.new.cap ≡ store.old.cap }
     ensures same { (name : List ℕ) → I.bytes inputs.new name ≡ I.bytes inputs.old name }
 {

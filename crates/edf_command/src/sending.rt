@@ -1,45 +1,68 @@
 //! `export`: a recording's canonical file.
 
-ghost use Rattle.std.specs.Prelude.{◌≡◌, ◌++◌, ◌∷◌, ℕ, [], List, IfOk, codes, decimal, option_map};
+ghost use Rattle.std.specs.Prelude.{◌≡◌, ◌++◌, ◌∷◌, [], codes, option_map};
 ghost use Rattle.sqlite.specs.State.{HasCleanDisk};
 ghost use Rattle.edf_holdings.specs.Holdings.{Holdings};
 ghost use Rattle.edf_store.specs.Held.{at, Holds, Stays};
 ghost use Rattle.edf_command.specs.Lines.{export_refused_line, export_status, no_recording_line};
-ghost use Rattle.edf_command.specs.Output.{grown, IsTold};
+ghost use Rattle.edf_command.specs.Output.{grown, IsWritten};
+ghost use Rattle.edf_command.specs.Refusals.{store_text};
 ghost use Rattle.edf_command.specs.Run.{IsSent, TellsWrites, IsPlaceSent, at_place};
 
-use crate::output::tell;
-use crate::refusal::export_text;
+use crate::output::{tell_bytes, tell_pair};
 use crate::status::{Status, status_of_number};
 use edf_export::{ExportFault, export};
-use edf_fragment::Output;
+use edf_fragment::{Output, send};
 use edf_header::Identity;
-use edf_store::Store;
+use edf_store::{Store, StoreFault};
+use itoa::Buffer;
 use sqlite::Alter;
-use std::alloc::{AllocError, Global};
+use std::alloc::Global;
 
-/// Why a recording is not exported.
-fn export_refused_line(alloc: Global, fault: &ExportFault) -> Result<Vec<u8>, AllocError>
-    ensures { IfOk result (λ r. r.items ≡ export_refused_line fault.now) }
+/// That the store refused an export.
+fn store_refused_line(fault: &StoreFault) -> &'static str
+    ensures { result.now ≡ codes "export refused " ++ (store_text fault.now ++ (10 ∷ [])) }
 {
-    let text = export_text(alloc, fault)?;
-    Ok(format!(in alloc; "export refused {text}\n")?.into_bytes())
+    match fault {
+        StoreFault::Memory => "export refused E41 Memory\n",
+        StoreFault::Store(_) => "export refused E42 Store\n",
+        StoreFault::Foreign => "export refused E45 Foreign\n",
+        StoreFault::Failed => "export refused E0 Failed\n",
+    }
+}
+
+/// Why a recording is not exported. The line is ready, so that it can be told where memory ran out.
+fn export_refused_line(fault: &ExportFault) -> &'static str
+    ensures { result.now ≡ export_refused_line fault.now }
+{
+    match fault {
+        ExportFault::NoRecording => "export refused E44 NoRecording\n",
+        ExportFault::Store(fault) => store_refused_line(fault),
+        ExportFault::Memory => "export refused E41 Memory\n",
+        ExportFault::Write => "export refused E43 Write\n",
+    }
 }
 
 /// Tells why a recording is not exported.
-fn tell_refusal<F: Output>(alloc: Global, err: &mut F, fault: &ExportFault) -> Status
-    ensures { IsTold (grown (F.contents err.old) (F.failures err.old) (F.contents err.new) (F.failures err.new))
+fn tell_refusal<F: Output>(err: &mut F, fault: &ExportFault) -> Status
+    ensures { IsWritten (grown (F.contents err.old) (F.failures err.old) (F.contents err.new) (F.failures err.new))
         (export_refused_line fault.now) (export_status fault.now) result }
 {
     let status = status_of_number(fault.number());
-    tell(err, export_refused_line(alloc, fault), status)
+    tell_bytes(err, export_refused_line(fault).as_bytes(), status)
 }
 
-/// That no recording has the place.
-fn no_recording_line(alloc: Global, place: u32) -> Result<Vec<u8>, AllocError>
-    ensures { IfOk result (λ r. r.items ≡ no_recording_line place) }
+/// Tells that no recording has the place. It takes no memory.
+fn tell_no_recording<F: Output>(err: &mut F, place: u32) -> Status
+    ensures { IsWritten (grown (F.contents err.old) (F.failures err.old) (F.contents err.new) (F.failures err.new)) (no_recording_line place) Status.Refused result }
 {
-    Ok(format!(in alloc; "no recording at place {place}\n")?.into_bytes())
+    let mut buffer = Buffer::new();
+    let digits = buffer.format(place);
+    if send(err, b"no recording at place ") {
+        tell_pair(err, digits.as_bytes(), b"\n", Status::Refused)
+    } else {
+        Status::Trouble
+    }
 }
 
 /// Writes a recording's canonical file, or tells why not.
@@ -61,7 +84,7 @@ pub(crate) fn send_recording<S: Alter, O: Output, F: Output>(
 {
     match export(alloc, store, identity, out) {
         Ok(_len) => Status::Done,
-        Err(fault) => tell_refusal(alloc, err, &fault),
+        Err(fault) => tell_refusal(err, &fault),
     }
 }
 
@@ -89,10 +112,10 @@ pub(crate) fn send_place<S: Alter, O: Output, F: Output>(
 {
     let recordings = match store.identities() {
         Ok(recordings) => recordings,
-        Err(fault) => return tell_refusal(alloc, err, &ExportFault::Store(fault)),
+        Err(fault) => return tell_refusal(err, &ExportFault::Store(fault)),
     };
     match at_place(recordings.as_slice(), place) {
         Some(identity) => send_recording(alloc, store, identity, out, err),
-        None => tell(err, no_recording_line(alloc, place), Status::Refused),
+        None => tell_no_recording(err, place),
     }
 }

@@ -1,10 +1,10 @@
 //! `take`: files into the store.
 
-ghost use Rattle.std.specs.Prelude.{◌≡◌, ◌++◌, ◌∷◌, ℕ, [], List, IfOk, length, map, string_bytes, codes, decimal};
+ghost use Rattle.std.specs.Prelude.{◌≡◌, ◌++◌, ◌∷◌, ℕ, [], List, IfOk, MatchResult, length, map, string_bytes, codes, decimal};
 ghost use Rattle.edf_command.specs.Lines.{answer_status, take_line, first_take_lines, take_status, status_of_number, worse};
 ghost use Rattle.edf_command.specs.Refusals.{IsSpelling, refusal_text};
 ghost use Rattle.edf_command.specs.Output.{grown, ArePut};
-ghost use Rattle.edf_command.specs.Run.{IsTaken};
+ghost use Rattle.edf_command.specs.Run.{IsTaken, HasOpened, OpensFront};
 
 use crate::output::{put_line, tell_bytes};
 use crate::refusal::{joined, refusal_text};
@@ -24,6 +24,8 @@ fn open_all<I: Inputs>(
 ) -> Result<Vec<I::Reader>, AllocError>
     ensures opened { IfOk result (λ readers. map (λ r. I.Reader.remaining r) readers.items
         ≡ map (λ file. I.bytes inputs.old (string_bytes file)) files.now) }
+    ensures names { MatchResult result (λ _. I.opened inputs.new ≡ I.opened inputs.old ++ map string_bytes files.now)
+        (λ _. OpensFront (I.opened inputs.old) (I.opened inputs.new) (map string_bytes files.now)) }
     ensures same { (name : List ℕ) → I.bytes inputs.new name ≡ I.bytes inputs.old name }
 {
     let mut readers = Vec::new(alloc);
@@ -126,6 +128,7 @@ pub(crate) fn take<S: Alter, I: Inputs, O: Output, F: Output>(
         (grown (O.contents out.old) (O.failures out.old) (O.contents out.new) (O.failures out.new))
         (grown (F.contents err.old) (F.failures err.old) (F.contents err.new) (F.failures err.new))
         (I.bytes inputs.old) (map string_bytes files.now) result }
+    ensures opened { HasOpened (I.opened inputs.old) (I.opened inputs.new) (map string_bytes files.now) result }
     ensures cap { store.new.cap ≡ store.old.cap }
     ensures same { (name : List ℕ) → I.bytes inputs.new name ≡ I.bytes inputs.old name }
 {

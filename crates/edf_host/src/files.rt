@@ -1,7 +1,7 @@
 //! Files and standard input.
 
 ghost use Rattle.std.specs.Io.{ReadsAtMost};
-ghost use Rattle.std.specs.Prelude.{None};
+ghost use Rattle.std.specs.Prelude.{◌≡◌, None, map, string_bytes};
 
 use crate::cause::tell_unread;
 use crate::terminal::Terminal;
@@ -25,6 +25,8 @@ pub struct Files<'rt> {
     terminal: &'rt Terminal<'rt>,
     /// Standard input, once a `-` was opened.
     stream: Option<Rc<RefCell<BufReader<Stdin>>>>,
+    /// The words that were opened, in turn.
+    names: Vec<String>,
 }
 
 impl<'rt> Files<'rt> {
@@ -33,6 +35,7 @@ impl<'rt> Files<'rt> {
             rt,
             terminal,
             stream: None,
+            names: Vec::new(rt.alloc()),
         }
     }
 
@@ -40,7 +43,9 @@ impl<'rt> Files<'rt> {
     ///
     /// # Errors
     /// Where memory ran out.
-    fn stream(&mut self, alloc: Global) -> Result<Rc<RefCell<BufReader<Stdin>>>, AllocError> {
+    fn stream(&mut self, alloc: Global) -> Result<Rc<RefCell<BufReader<Stdin>>>, AllocError>
+        ensures { self.new.names ≡ self.old.names }
+    {
         if let Some(stream) = &self.stream {
             return Ok(stream.clone()?);
         }
@@ -125,18 +130,22 @@ impl<'rt> Inputs for Files<'rt> {
 
     ghost bytes = { λ _ _. None };
 
+    ghost opened = { λ files. map string_bytes files.names.items };
+
     fn open(&mut self, alloc: Global, name: &str) -> Result<Counted<Source<'rt>>, AllocError> {
         let place = if name == "-" {
             Place::Stream(self.stream(alloc)?)
         } else {
             Place::Closed
         };
-        Ok(Counted::new(Source {
+        let source = Source {
             rt: self.rt,
             terminal: self.terminal,
             name: String::from_str(alloc, name)?,
             is_begun: false,
             place,
-        }))
+        };
+        self.names.push(String::from_str(alloc, name)?)?;
+        Ok(Counted::new(source))
     }
 }

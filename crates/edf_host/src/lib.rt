@@ -93,7 +93,7 @@ fn run_on_file(
     let mut store = match open_file(rt, path) {
         Ok(store) => store,
         Err(refused) => {
-            let status = refuse_store(rt.alloc(), &refused.fault, &mut streams.err);
+            let status = refuse_store(&refused.fault, &mut streams.err);
             tell_refused(rt, terminal, path, &refused);
             return status;
         }
@@ -124,7 +124,7 @@ fn run_in_memory(
             drop(store.into_connection());
             status
         }
-        Err(fault) => refuse_store(rt.alloc(), &fault, &mut streams.err),
+        Err(fault) => refuse_store(&fault, &mut streams.err),
     }
 }
 

@@ -1,6 +1,6 @@
 //! Lines and files that cannot be written.
 
-ghost use Rattle.std.specs.Prelude.{None};
+ghost use Rattle.std.specs.Prelude.{None, map, string_bytes};
 
 use crate::files::q_and_p5;
 use crate::held::{holds_both, store_of_both};
@@ -16,8 +16,20 @@ use std::alloc::{AllocError, Global};
 /// The files `p5.edf` and `q.edf`.
 #[derive(Drop)]
 pub(crate) struct Shelf<'a> {
-    pub(crate) p5: &'a [u8],
-    pub(crate) q: &'a [u8],
+    p5: &'a [u8],
+    q: &'a [u8],
+    /// The names that were opened, in turn.
+    names: Vec<String>,
+}
+
+impl<'a> Shelf<'a> {
+    pub(crate) fn new(alloc: Global, p5: &'a [u8], q: &'a [u8]) -> Shelf<'a> {
+        Shelf {
+            p5,
+            q,
+            names: Vec::new(alloc),
+        }
+    }
 }
 
 impl<'a> Inputs for Shelf<'a> {
@@ -25,7 +37,10 @@ impl<'a> Inputs for Shelf<'a> {
 
     ghost bytes = { λ _ _. None };
 
-    fn open(&mut self, _alloc: Global, name: &str) -> Result<Counted<Source<'a>>, AllocError> {
+    ghost opened = { λ shelf. map string_bytes shelf.names.items };
+
+    fn open(&mut self, alloc: Global, name: &str) -> Result<Counted<Source<'a>>, AllocError> {
+        self.names.push(String::from_str(alloc, name)?)?;
         let bytes = if name == "q.edf" { self.q } else { self.p5 };
         Ok(Counted::new(Source::whole(bytes, 300)))
     }
@@ -83,7 +98,7 @@ pub(crate) fn ran(
 /// went out, and nothing else, and the store holds both.
 fn took(alloc: Global, out: usize, full: bool) -> Option<(Status, bool)> {
     let (p5, q) = (file_p5(alloc).ok()?, file_q(alloc).ok()?);
-    let mut shelf = Shelf { p5: &p5, q: &q };
+    let mut shelf = Shelf::new(alloc, &p5, &q);
     let mut store = empty_store(alloc, CAP)?;
     let mut said = silence(alloc)?;
     let order = take_both(alloc)?;
@@ -107,7 +122,7 @@ fn files_are_taken_whose_lines_cannot_be_written(rt: HostRuntime) {
 
 /// Runs an order over a store of P5 and Q.
 fn ran_over_both(alloc: Global, order: &Order, out: usize, err: usize) -> Option<(Status, Said)> {
-    let mut shelf = Shelf { p5: b"", q: b"" };
+    let mut shelf = Shelf::new(alloc, b"", b"");
     let mut store = store_of_both(alloc)?;
     let mut said = silence(alloc)?;
     let full = false;

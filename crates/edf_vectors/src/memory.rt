@@ -229,7 +229,7 @@ fn served_order(status: Status, said: &Said, records: u32) -> Option<Served> {
 /// Takes P5 and Q by an order under a budget.
 fn take_under(alloc: Global, scarce: &mut Scarce, budget: usize) -> Option<Served> {
     let (p5, q) = (file_p5(alloc).ok()?, file_q(alloc).ok()?);
-    let mut shelf = Shelf { p5: &p5, q: &q };
+    let mut shelf = Shelf::new(alloc, &p5, &q);
     let order = take_both(alloc)?;
     let mut store = empty_store(alloc, CAP)?;
     let mut said = silence(alloc)?;

@@ -1,6 +1,6 @@
 //! Files by their names, in place of a disk.
 
-ghost use Rattle.std.specs.Prelude.{None};
+ghost use Rattle.std.specs.Prelude.{None, map, string_bytes};
 
 use crate::files::{expected, fitting, refused};
 use edf_command::Inputs;
@@ -46,7 +46,7 @@ impl Read for Shelved {
     }
 }
 
-/// What opens the files of the shelf. `export.edf` is the file that it was made with.
+/// The files of a story. `export.edf` is the file that it was made with.
 #[derive(Clone, Copy)]
 pub(crate) struct Shelf<'a> {
     export: &'a [u8],
@@ -58,17 +58,37 @@ impl<'a> Shelf<'a> {
     }
 }
 
-impl<'a> Inputs for Shelf<'a> {
+/// What opens the files of a shelf.
+#[derive(Drop)]
+pub(crate) struct Reading<'a> {
+    shelf: Shelf<'a>,
+    /// The names that were opened, in turn.
+    names: Vec<String>,
+}
+
+impl<'a> Reading<'a> {
+    pub(crate) fn new(alloc: Global, shelf: Shelf<'a>) -> Reading<'a> {
+        Reading {
+            shelf,
+            names: Vec::new(alloc),
+        }
+    }
+}
+
+impl<'a> Inputs for Reading<'a> {
     type Reader = Counted<Shelved>;
 
     ghost bytes = { λ _ _. None };
 
+    ghost opened = { λ reading. map string_bytes reading.names.items };
+
     fn open(&mut self, alloc: Global, name: &str) -> Result<Counted<Shelved>, AllocError> {
         let bytes = if name == "export.edf" {
-            Some(Vec::from_slice(alloc, self.export)?)
+            Some(Vec::from_slice(alloc, self.shelf.export)?)
         } else {
             file_named(alloc, name)
         };
+        self.names.push(String::from_str(alloc, name)?)?;
         Ok(Counted::new(Shelved::new(bytes)))
     }
 }

@@ -1,6 +1,6 @@
 //! Orders, run over the shelf and a store in memory.
 
-use crate::shelf::{Shelf, file_named};
+use crate::shelf::{Reading, Shelf, file_named};
 use edf_command::{Status, read_order, run};
 use edf_fragment::Counted;
 use edf_sample::Sink;
@@ -48,11 +48,11 @@ pub(crate) fn told(
     let words = words(alloc, line)?;
     let mut out_bytes = Vec::new(alloc);
     let mut err_bytes = Vec::new(alloc);
-    let mut shelf = shelf;
+    let mut inputs = Reading::new(alloc, shelf);
     let mut out = Counted::new(Sink::of_room(&mut out_bytes, room, false));
     let mut err = Counted::new(Sink::whole(&mut err_bytes, 100));
     let status = match read_order(alloc, words.as_slice(), &mut out, &mut err) {
-        Ok(order) => run(alloc, &order, store, &mut shelf, &mut out, &mut err),
+        Ok(order) => run(alloc, &order, store, &mut inputs, &mut out, &mut err),
         Err(status) => status,
     };
     drop((out, err));

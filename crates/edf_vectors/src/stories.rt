@@ -329,7 +329,7 @@ fn a_missing_file_is_a_failed_read_and_the_next_is_taken(rt: HostRuntime) {
 fn is_told(alloc: Global, fault: StoreFault, want: &str) -> Option<(u8, bool)> {
     let mut bytes = Vec::new(alloc);
     let mut err = Counted::new(Sink::whole(&mut bytes, 100));
-    let status = refuse_store(alloc, &fault, &mut err);
+    let status = refuse_store(&fault, &mut err);
     drop(err);
     Some((status.code(), bytes.as_slice() == want.as_bytes()))
 }

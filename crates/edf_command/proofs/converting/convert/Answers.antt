@@ -1,6 +1,6 @@
 use Rattle.std.proofs.Common.{◌∙◌, ap, subst, refl, inl, inr}
 use Rattle.std.proofs.lemmas.Result.{IfOk-weaker}
-use Rattle.edf_command.specs.Lines.{convert_memory_line, refused_line, status_of_number}
+use Rattle.edf_command.specs.Lines.{refused_line, status_of_number}
 use Rattle.edf_command.specs.Output.{grown, IsTold}
 use Rattle.edf_command.specs.declared.status.Status.{Status}
 use Rattle.edf_command.proofs.Puts.{nothing-gets}
@@ -8,7 +8,7 @@ use Rattle.edf_command.proofs.converting.convert.Goals as goal
 
 pub returns-in_default-clause-converted : goal.returns-in_default-clause-converted
 returns-in_default-clause-converted g c =
-    inr (inr (refl, (nothing-gets (g.O.Output.contents c.args.out.now) (g.O.Output.failures c.args.out.now), c.tell.ensures.told (convert_memory_line c.args.file.now) c.memory_line.ensures)))
+    inr (inr (refl, (nothing-gets (g.O.Output.contents c.args.out.now) (g.O.Output.failures c.args.out.now), c.tell_memory.ensures)))
 
 pub returns-in-Ok-submit-clause-converted : goal.returns-in-Ok-submit-clause-converted
 returns-in-Ok-submit-clause-converted g c = inl (record {
@@ -32,7 +32,7 @@ returns-clause-converted g c = inr (inl (record {
   submitted = c.in-Err.ensures.submitted;
   said = λ spell is.
       let text = refused_line spell c.args.file.now c.in-Err.refusal in
-      let told = c.tell-in-Err.ensures.told text (IfOk-weaker c.refused_line.result _ _ (λ r line. line spell is) c.refused_line.ensures) in
-      let IsSo : Status → Type 0 = λ wanted. IsTold (grown (g.F.Output.contents c.args.err.now) (g.F.Output.failures c.args.err.now) (g.F.Output.contents c.tell-in-Err.new.out) (g.F.Output.failures c.tell-in-Err.new.out)) text wanted c.tell-in-Err.result in
+      let told = c.tell.ensures.told text (IfOk-weaker c.refused_line.result _ _ (λ r line. line spell is) c.refused_line.ensures) in
+      let IsSo : Status → Type 0 = λ wanted. IsTold (grown (g.F.Output.contents c.args.err.now) (g.F.Output.failures c.args.err.now) (g.F.Output.contents c.tell.new.out) (g.F.Output.failures c.tell.new.out)) text wanted c.tell.result in
       (nothing-gets (g.O.Output.contents c.args.out.now) (g.O.Output.failures c.args.out.now), subst IsSo (c.status_of_number-status.ensures ∙ ap status_of_number c.number.ensures) told);
 }))

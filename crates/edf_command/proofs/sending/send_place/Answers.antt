@@ -39,8 +39,8 @@ returns-in-Some g c =
 pub returns : goal.returns
 returns g c =
     let at : List Key → Option Key = λ keys. at_place keys c.args.place in
-    let said : Explains (grown (g.O.Output.contents c.args.out.now) (g.O.Output.failures c.args.out.now) (g.O.Output.contents c.args.out.now) (g.O.Output.failures c.args.out.now)) (grown (g.F.Output.contents c.args.err.now) (g.F.Output.failures c.args.err.now) (g.F.Output.contents c.tell.new.out) (g.F.Output.failures c.tell.new.out)) (no_recording_line c.args.place) Refused c.tell.result
-    = (nothing-gets (g.O.Output.contents c.args.out.now) (g.O.Output.failures c.args.out.now), c.tell.ensures.told (no_recording_line c.args.place) c.no_recording_line.ensures) in
+    let said : Explains (grown (g.O.Output.contents c.args.out.now) (g.O.Output.failures c.args.out.now) (g.O.Output.contents c.args.out.now) (g.O.Output.failures c.args.out.now)) (grown (g.F.Output.contents c.args.err.now) (g.F.Output.failures c.args.err.now) (g.F.Output.contents c.tell_no_recording.new.err) (g.F.Output.failures c.tell_no_recording.new.err)) (no_recording_line c.args.place) Refused c.tell_no_recording.result
+    = (nothing-gets (g.O.Output.contents c.args.out.now) (g.O.Output.failures c.args.out.now), c.tell_no_recording.ensures) in
     record {
       stays = c.identities.ensures.stays;
       told = inr said;
