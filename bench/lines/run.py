@@ -126,8 +126,16 @@ def five_files_make_one_night(checks: Checks) -> None:
                                                     (b"\3\0\4\0", edf.keeping("+1"))]))
 
 
+def version() -> str:
+    """The version, which one place of the repository has."""
+    text = (Path(__file__).resolve().parents[2] / "crates/edf_order/src/help.rt").read_text()
+    return text.split('VERSION: &str = "')[1].split('"')[0]
+
+
 def words_that_ask_for_nothing(checks: Checks) -> None:
-    checks.begin("words that ask for nothing are a usage fault, and help is none")
+    checks.begin("words that ask for nothing are a usage fault, and help and the version are none")
+    for flag in ("--version", "-V"):
+        checks.run(flag, out=f"edfstore {version()}\n")
     for words in (("list",), ("take", "night.db"), ("frob",), ("export", "night.db"), ("list", "-x"), ("convert",),
                   ("list", "night.db", "more")):
         checks.run(*words, err=None, status=2)

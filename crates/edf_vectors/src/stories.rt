@@ -4,6 +4,7 @@ use crate::shelf::Shelf;
 use crate::stage::{CAP, empty_store, story, told, told_alone, written};
 use edf_command::{Status, refuse_store};
 use edf_fragment::Counted;
+use edf_order::VERSION;
 use edf_sample::Sink;
 use edf_store::StoreFault;
 use std::alloc::Global;
@@ -351,6 +352,7 @@ const USAGE: &[(&str, u8, bool, bool)] = &[
     ("export night.db 0", 2, false, true),
     ("take night.db", 2, false, true),
     ("--help", 0, true, false),
+    ("--version", 0, true, false),
 ];
 
 #[test]
@@ -367,4 +369,23 @@ fn ended(alloc: Global, line: &str) -> Option<(u8, bool, bool)> {
     let out = !outcome.out.is_empty();
     let err = !outcome.err.is_empty();
     Some((outcome.status.code(), out, err))
+}
+
+/// Whether a line of words ends with status 0, this text on standard output and nothing on standard error.
+fn tells(alloc: Global, line: &str, want: &str) -> Option<bool> {
+    let outcome = told_alone(alloc, line)?;
+    let quiet = outcome.err.is_empty() && outcome.status.code() == 0;
+    Some(quiet && outcome.out.as_slice() == want.as_bytes())
+}
+
+#[test]
+fn the_version_goes_to_standard_output(rt: HostRuntime) {
+    let want = format!(in rt.alloc(); "edfstore {VERSION}\n").ok();
+    for line in ["--version", "-V"] {
+        let told = match &want {
+            Some(want) => tells(rt.alloc(), line, want.as_str()),
+            None => None,
+        };
+        assert_eq!(rt; told, Some(true), "{line}");
+    }
 }

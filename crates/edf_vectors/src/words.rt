@@ -2,6 +2,7 @@
 
 use crate::stage;
 use edf_command::{CommandFault, Order, parse, store_path};
+use edf_order::VERSION;
 use std::alloc::{AllocError, Global};
 
 /// The order of the words of a line and its values, or which fault they have, with its text.
@@ -82,6 +83,8 @@ const TOLD: &[(&str, &str, &str)] = &[
     ("list", "usage: ", "<STORE>"),
     ("list night.db 1", "usage: ", "'1'"),
     ("list -x", "usage: ", "'-x'"),
+    ("list --version", "usage: ", "'--version'"),
+    ("--version=1", "usage: ", "--version"),
     ("take night.db", "usage: ", "<FILE>"),
     ("frob", "usage: ", "'frob'"),
     ("frob night.db", "usage: ", "'frob'"),
@@ -98,6 +101,7 @@ const TOLD: &[(&str, &str, &str)] = &[
     ("--help", "help: ", "\n  export "),
     ("--help", "help: ", "\n  convert "),
     ("-h", "help: ", "\n  edfstore take night.db "),
+    ("--help", "help: ", "-V, --version"),
     ("take --help", "help: ", "\n  edfstore take night.db "),
     ("list --help", "help: ", "\n  edfstore list night.db\n"),
     ("export --help", "help: ", "\n  edfstore export night.db 1 "),
@@ -112,6 +116,21 @@ const TOLD: &[(&str, &str, &str)] = &[
         "\n  edfstore convert recorder.edf ",
     ),
 ];
+
+/// What a line is told that asks for the version, and nothing else is.
+fn version(alloc: Global) -> Option<String> {
+    format!(in alloc; "help: edfstore {VERSION}\n").ok()
+}
+
+#[test]
+fn the_version_is_told_in_a_line(rt: HostRuntime) {
+    let want = version(rt.alloc());
+    assert!(rt; want.is_some());
+    for line in ["--version", "-V", "--version list night.db"] {
+        let got = answer(rt.alloc(), line).ok();
+        assert_eq!(rt; got, want, "at {line}");
+    }
+}
 
 #[test]
 fn words_that_ask_for_help_or_for_nothing_are_told_so(rt: HostRuntime) {
