@@ -1,6 +1,7 @@
 //! Receipts, refusals and what is held after them, by value.
 
 use crate::files::undated_identity;
+use crate::held::held;
 use crate::intake::{Answer, counts};
 use crate::shelf::{Shelved, file_named};
 use crate::stage::{CAP, empty_store};
@@ -59,14 +60,27 @@ fn a_recording_takes_no_more_than_its_cap_and_repeats_all_the_same(rt: HostRunti
         &[Ok((1, 0)), Ok((1, 0)), FULL, Ok((0, 1))],
     );
     assert_eq!(rt; told, Some(true));
-    let falling = "n3.edf n2.edf n1.edf";
-    let told = are_answered(rt.alloc(), 2, falling, &[Ok((1, 0)), Ok((1, 0)), FULL]);
+    let falling = "n3.edf n2.edf n1.edf n3.edf";
+    let told = are_answered(
+        rt.alloc(),
+        2,
+        falling,
+        &[Ok((1, 0)), Ok((1, 0)), FULL, Ok((0, 1))],
+    );
     assert_eq!(rt; told, Some(true));
 }
 
+/// How many answers a list of no files has, and how many data records are held then.
+fn of_no_files(alloc: Global) -> Option<(usize, u32)> {
+    let mut store = empty_store(alloc, CAP)?;
+    let answers = answers(alloc, &mut store, "")?;
+    let (records, _) = held(alloc, &mut store)?;
+    Some((answers.len(), records))
+}
+
 #[test]
-fn no_files_have_no_answers(rt: HostRuntime) {
-    assert_eq!(rt; are_answered(rt.alloc(), CAP, "", &[]), Some(true));
+fn no_files_have_no_answers_and_leave_nothing(rt: HostRuntime) {
+    assert_eq!(rt; of_no_files(rt.alloc()), Some((0, 0)));
 }
 
 /// The refusal of the last of some files, and its text.

@@ -56,7 +56,11 @@ const FULL: &[(&str, &str, usize)] = &[
         "n1_and_n2.edf",
         788,
     ),
-    ("take night.db n3.edf n2.edf n1.edf", "n2_and_n3.edf", 788),
+    (
+        "take night.db n3.edf n2.edf n1.edf n3.edf",
+        "n2_and_n3.edf",
+        788,
+    ),
 ];
 
 #[test]

@@ -29,6 +29,7 @@
 //! - `held`: what a store answers and what it holds.
 //! - `memory`: memory that runs out, under each budget until one suffices.
 //! - `readers`, `writers`, `lines`: readers that fail, and files and lines that cannot be written.
+//! - `large`, `flushes`: a recording whose file is longer than the buffer of an export, and its writes.
 //! - `cut_files`, `promises`: files that are cut at every byte, headers that promise too much, annotations that are too long.
 //!
 //! Hostile use, over disks in memory. Whatever call is the last one to reach the database file or its log, the store that is opened
@@ -59,11 +60,15 @@ mod exports;
 #[cfg(test)]
 mod files;
 #[cfg(test)]
+mod flushes;
+#[cfg(test)]
 mod foreign;
 #[cfg(test)]
 mod held;
 #[cfg(test)]
 mod intake;
+#[cfg(test)]
+mod large;
 #[cfg(test)]
 mod lines;
 #[cfg(test)]

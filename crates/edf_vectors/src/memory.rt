@@ -1,12 +1,12 @@
 //! Memory that runs out, under each budget until one suffices.
 
-use crate::files::q_and_p5;
-use crate::held::{held, holds_both, store_of_both, submitted, taken};
+use crate::held::{held, holds, holds_both, store_of_both, submitted, taken};
 use crate::intake::Answer;
+use crate::large::{large_file, store_of_large};
 use crate::lines::{LINES, Room, Said, Shelf, ran, silence, take_both};
 use crate::stage::{CAP, empty_store};
 use edf_command::Status;
-use edf_export::export;
+use edf_export::{ExportFault, export};
 use edf_fragment::Counted;
 use edf_intake::{Receipt, Refusal, submit_all};
 use edf_sample::named::{file_n1, file_n2, file_p5, file_q};
@@ -20,7 +20,7 @@ use std::alloc::Global;
 enum Trial {
     /// P5 and then Q, to an empty store.
     Submissions,
-    /// The export of both.
+    /// The export of a file that is longer than its buffer.
     Export,
     /// N1 and N2 in one list.
     List,
@@ -31,9 +31,11 @@ enum Trial {
 /// How a budget served.
 #[derive(Clone, Copy, Debug, PartialEq, Eq)]
 enum Served {
-    /// Nothing was begun.
+    /// Nothing was begun: no file was submitted, or no byte went out.
     Unbegun,
-    /// Memory ran out.
+    /// Memory ran out, and there was none to tell it.
+    Silent,
+    /// Memory ran out, behind some of it.
     Short,
     /// It sufficed.
     Whole,
@@ -100,26 +102,33 @@ fn submit_under(alloc: Global, scarce: &mut Scarce, budget: usize) -> Option<Ser
     }
 }
 
-/// Exports P5 and Q under a budget: a front of the file, or all of it.
+/// How the budget served under which an export of the large file was answered so and wrote this.
+fn served_export(answer: Result<u64, ExportFault>, got: &[u8], wanted: &[u8]) -> Option<Served> {
+    match answer {
+        Ok(272_772) if got == wanted => Some(Served::Whole),
+        Err(fault) if fault.number() == 41 && got.is_empty() => Some(Served::Unbegun),
+        Err(fault) if fault.number() == 41 && wanted.starts_with(got) => Some(Served::Short),
+        _ => None,
+    }
+}
+
+/// Exports two large data records under a budget, of which the second needs more memory: none of their file, a front of it, or all.
 fn export_under(alloc: Global, scarce: &mut Scarce, budget: usize) -> Option<Served> {
-    let wanted = q_and_p5(alloc)?;
-    let mut store = store_of_both(alloc)?;
+    let wanted = large_file(alloc)?;
+    let mut store = store_of_large(alloc)?;
     let identity = store.identities().ok()?.pop()?;
-    let mut got = Vec::with_capacity(alloc, 1_000).ok()?;
+    let mut got = Vec::with_capacity(alloc, 280_000).ok()?;
     if !scarce.leave(alloc, budget) {
         return None;
     }
-    let mut out = Counted::new(Sink::whole(&mut got, 100));
+    let mut out = Counted::new(Sink::whole(&mut got, 10_000));
     let answer = export(alloc, &mut store, &identity, &mut out);
     drop(out);
     scarce.ease();
-    if !holds_both(alloc, &mut store) || !wanted.as_slice().starts_with(&got) {
-        return None;
-    }
-    match answer {
-        Ok(len) if len == 840 && got.len() == 840 => Some(Served::Whole),
-        Err(fault) if fault.number() == 41 => Some(Served::Short),
-        _ => None,
+    if holds(alloc, &mut store, 2, &wanted) {
+        served_export(answer, &got, &wanted)
+    } else {
+        None
     }
 }
 
@@ -181,7 +190,6 @@ fn list_under(alloc: Global, scarce: &mut Scarce, budget: usize) -> Option<Serve
 
 /// What is written of two files, and how few and how many data records may be held then.
 const SHORTAGES: &[(&[u8], u32, u32)] = &[
-    (b"", 0, 2),
     (b"p5.edf accepted new=1 known=0\n", 1, 2),
     (b"p5.edf refused E41 Memory\n", 0, 1),
     (
@@ -221,6 +229,7 @@ fn served_order(status: Status, said: &Said, records: u32) -> Option<Served> {
     }
     match status {
         Status::Done if said.out.as_slice() == LINES && records == 2 => Some(Served::Whole),
+        Status::Trouble if said.out.is_empty() => Some(Served::Silent),
         Status::Trouble if tells_of_shortage(said.out.as_slice(), records) => Some(Served::Short),
         _ => None,
     }
@@ -256,22 +265,35 @@ fn tried(alloc: Global, trial: Trial, scarce: &mut Scarce, budget: usize) -> Opt
     }
 }
 
-/// Tries it with no memory, and with one block of 1,100 bytes, of 16 more and so on, until a budget suffices. How many do not even let it begin,
-/// and under how many memory runs out; `None` where an answer is another, or no budget suffices.
-fn tried_until_whole(alloc: Global, trial: Trial) -> Option<(u32, u32)> {
+/// The bytes of the block that is left free in a turn: none, and then 1,100, 16 more and so on, or 4,096 more for the large file.
+fn budget(trial: Trial, turn: usize) -> usize {
+    let step = match trial {
+        Trial::Export => 4_096,
+        _ => 16,
+    };
+    if turn == 0 {
+        0
+    } else {
+        turn.saturating_mul(step).saturating_add(1_084)
+    }
+}
+
+/// Under how many budgets nothing is begun, memory runs out untold, and memory runs out, until one suffices; `None` where an answer
+/// is another, or none suffices.
+fn tried_until_whole(alloc: Global, trial: Trial) -> Option<(u32, u32, u32)> {
     // The stack grows now, while there are pages for it.
     let mut ample = store_of_both(alloc)?;
     if !holds_both(alloc, &mut ample) {
         return None;
     }
     let mut scarce = Scarce::new(alloc).ok()?;
-    let (mut unbegun, mut short) = (0u32, 0u32);
+    let (mut unbegun, mut silent, mut short) = (0u32, 0u32, 0u32);
     for turn in 0..32_000usize {
-        let budget = if turn == 0 { 0 } else { 1_084 + 16 * turn };
-        match tried(alloc, trial, &mut scarce, budget)? {
+        match tried(alloc, trial, &mut scarce, budget(trial, turn))? {
             Served::Unbegun => unbegun = unbegun.saturating_add(1),
+            Served::Silent => silent = silent.saturating_add(1),
             Served::Short => short = short.saturating_add(1),
-            Served::Whole => return Some((unbegun, short)),
+            Served::Whole => return Some((unbegun, silent, short)),
         }
     }
     None
@@ -280,37 +302,23 @@ fn tried_until_whole(alloc: Global, trial: Trial) -> Option<(u32, u32)> {
 #[test]
 fn submissions_without_memory_leave_what_is_held_and_are_accepted_again(rt: HostRuntime) {
     let told = tried_until_whole(rt.alloc(), Trial::Submissions);
-    assert!(rt; matches!(told, Some((0, 100..))), "{told:?}");
+    assert!(rt; matches!(told, Some((0, 0, 100..))), "{told:?}");
 }
 
 #[test]
-fn an_export_without_memory_is_a_front_of_the_file(rt: HostRuntime) {
+fn an_export_without_memory_is_a_front_of_the_file_or_nothing(rt: HostRuntime) {
     let told = tried_until_whole(rt.alloc(), Trial::Export);
-    assert!(rt; matches!(told, Some((0, 100..))), "{told:?}");
+    assert!(rt; matches!(told, Some((10.., 0, 10..))), "{told:?}");
 }
 
 #[test]
 fn a_list_without_memory_for_its_answers_is_not_begun(rt: HostRuntime) {
     let told = tried_until_whole(rt.alloc(), Trial::List);
-    assert!(rt; matches!(told, Some((1.., 100..))), "{told:?}");
+    assert!(rt; matches!(told, Some((1.., 0, 100..))), "{told:?}");
 }
 
 #[test]
 fn an_order_without_memory_tells_what_became_of_each_file(rt: HostRuntime) {
     let told = tried_until_whole(rt.alloc(), Trial::Order);
-    assert!(rt; matches!(told, Some((1.., 100..))), "{told:?}");
-}
-
-/// How many answers a list of no files has, and how many data records are held then.
-fn empty_list(alloc: Global) -> Option<(usize, u32)> {
-    let mut store = empty_store(alloc, CAP)?;
-    let inputs: &mut [Counted<Source<'_>>] = &mut [];
-    let answers = submit_all(alloc, &mut store, inputs).ok()?;
-    let (records, _) = held(alloc, &mut store)?;
-    Some((answers.len(), records))
-}
-
-#[test]
-fn a_list_of_no_files_has_no_answers(rt: HostRuntime) {
-    assert_eq!(rt; empty_list(rt.alloc()), Some((0, 0)));
+    assert!(rt; matches!(told, Some((1.., 1..=1, 100..))), "{told:?}");
 }

@@ -3,7 +3,6 @@
 use crate::intake::{Answer, added, exported, leave, picked, take};
 use crate::shelf::file_named;
 use crate::stage::{CAP, empty_store};
-use edf_intake::Refusal;
 use edf_sample::named::{file_k, file_n1, file_n2, file_n3};
 use edf_store::Store;
 use sqlite::MemStore;
@@ -64,38 +63,18 @@ fn four_files_end_alike_in_each_of_their_orders_and_when_sent_again(rt: HostRunt
 }
 
 /// Whether the files at these places are answered so by an empty store and leave this file of the shelf.
-fn places_leave(
-    alloc: Global,
-    cap: u32,
-    places: &[usize],
-    answers: &[Answer],
-    want: &str,
-) -> Option<bool> {
+fn places_leave(alloc: Global, places: &[usize], answers: &[Answer], want: &str) -> Option<bool> {
     let files = card_files(alloc)?;
     let list = picked(alloc, files.as_slice(), places)?;
     let wanted = file_named(alloc, want)?;
-    leave(alloc, cap, list.as_slice(), answers, wanted.as_slice())
+    leave(alloc, CAP, list.as_slice(), answers, wanted.as_slice())
 }
 
 #[test]
 fn three_files_of_one_second_end_as_the_file_of_all_three(rt: HostRuntime) {
     let pieces = [Ok((1, 0)), Ok((1, 0)), Ok((1, 0))];
-    let told = places_leave(rt.alloc(), CAP, &[0, 1, 2], &pieces, "canonical_k.edf");
+    let told = places_leave(rt.alloc(), &[0, 1, 2], &pieces, "canonical_k.edf");
     assert_eq!(rt; told, Some(true));
-    let told = places_leave(rt.alloc(), CAP, &[3], &[Ok((3, 0))], "canonical_k.edf");
+    let told = places_leave(rt.alloc(), &[3], &[Ok((3, 0))], "canonical_k.edf");
     assert_eq!(rt; told, Some(true));
-}
-
-#[test]
-fn a_store_of_two_records_keeps_the_first_two_that_come(rt: HostRuntime) {
-    let full = Refusal::Full {
-        held: 2,
-        new: 1,
-        cap: 2,
-    };
-    let answers = [Ok((1, 0)), Ok((1, 0)), Err(full), Ok((0, 1))];
-    let early = places_leave(rt.alloc(), 2, &[0, 1, 2, 0], &answers, "n1_and_n2.edf");
-    assert_eq!(rt; early, Some(true));
-    let late = places_leave(rt.alloc(), 2, &[2, 1, 0, 2], &answers, "n2_and_n3.edf");
-    assert_eq!(rt; late, Some(true));
 }

@@ -1,6 +1,8 @@
 //! The log stops at each of its calls in turn, and then the database file.
 
+use crate::held::{held, taken};
 use crate::run::{Stop, run};
+use crate::stage::{CAP, empty_store};
 use crate::three_files::three_files;
 use std::alloc::Global;
 use std::process::Abort;
@@ -103,14 +105,29 @@ fn what_was_accepted_is_held_wherever_the_copying_of_the_log_stops(rt: HostRunti
     }
 }
 
-/// How long the file is that is exported after so many submissions.
-fn exported_length(alloc: Global, count: usize) -> Option<usize> {
-    Some(three_files(alloc)?.exports.get(count)?.len())
+/// How many data records a store holds after the first so many files, and how long their file is, where it is the one that is wanted.
+fn held_after(alloc: Global, count: usize) -> Option<(u32, usize)> {
+    let night = three_files(alloc)?;
+    let mut store = empty_store(alloc, CAP)?;
+    for file in night.files.get(..count)? {
+        taken(alloc, &mut store, file.as_slice()).ok()?;
+    }
+    let (records, bytes) = held(alloc, &mut store)?;
+    if bytes.as_slice() == night.exports.get(count)?.as_slice() {
+        Some((records, bytes.len()))
+    } else {
+        None
+    }
 }
 
 #[test]
-fn the_exports_that_are_wanted_have_their_lengths(rt: HostRuntime) {
-    for (count, len) in [(0usize, 0usize), (1, 800), (2, 840), (3, 948)] {
-        assert_eq!(rt; exported_length(rt.alloc(), count), Some(len), "{count}");
+fn a_store_that_nothing_stops_exports_what_is_wanted_after_each_file(rt: HostRuntime) {
+    for (count, told) in [
+        (0usize, (0u32, 0usize)),
+        (1, (1, 800)),
+        (2, (2, 840)),
+        (3, (5, 948)),
+    ] {
+        assert_eq!(rt; held_after(rt.alloc(), count), Some(told), "{count} files");
     }
 }

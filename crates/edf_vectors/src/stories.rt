@@ -229,13 +229,13 @@ fn a_night_is_taken_and_listed_and_has_no_second_place(rt: HostRuntime) {
 /// Words, and what is told of them.
 const LISTED: &[(&str, &str)] = &[
     (
-        "take night.db q.edf undated.edf",
-        "1 records=1 first=2002-03-02T23:59:50 patient=P7 investigation=N1\n\
+        "take night.db q.edf after.edf undated.edf",
+        "1 records=2 first=2002-03-02T23:59:50 patient=P7 investigation=N1\n\
             2 records=1 first=2002-03-02T23:59:50 patient=P7 investigation=N1\n",
     ),
     (
-        "take night.db undated.edf q.edf",
-        "1 records=1 first=2002-03-02T23:59:50 patient=P7 investigation=N1\n\
+        "take night.db undated.edf q.edf after.edf",
+        "1 records=2 first=2002-03-02T23:59:50 patient=P7 investigation=N1\n\
             2 records=1 first=2002-03-02T23:59:50 patient=P7 investigation=N1\n",
     ),
     (

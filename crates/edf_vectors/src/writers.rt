@@ -11,30 +11,32 @@ use sqlite::MemStore;
 use std::alloc::Global;
 
 /// What an export is answered, and whether just so many bytes went out, those at the front of the file.
-type Sent = (Result<u64, ExportFault>, bool);
+pub(crate) type Sent = (Result<u64, ExportFault>, bool);
 
-/// An export of P5 and Q to a writer of so much room, which then fails, or takes none.
-fn stopped(
+/// An export to a writer of so much room, which then fails, or takes none; `wanted` is the file.
+pub(crate) fn stopped(
     alloc: Global,
     store: &mut Store<MemStore>,
     identity: &Identity,
+    wanted: &[u8],
     room: usize,
     full: bool,
-) -> Option<Sent> {
-    let wanted = q_and_p5(alloc)?;
+) -> Sent {
     let mut got = Vec::new(alloc);
     let mut out = Counted::new(Sink::of_room(&mut got, room, full));
     let answer = export(alloc, store, identity, &mut out);
     drop(out);
-    Some((answer, got.as_slice() == wanted.get(..room)?))
+    let front = wanted.get(..room).unwrap_or(wanted);
+    (answer, got.as_slice() == front)
 }
 
 /// The least room for which the export is not refused so, and what it is then answered.
 fn least_room(alloc: Global, full: bool) -> Option<(usize, Sent)> {
+    let wanted = q_and_p5(alloc)?;
     let mut store = store_of_both(alloc)?;
     let identity = store.identities().ok()?.pop()?;
     for room in 0..841usize {
-        let sent = stopped(alloc, &mut store, &identity, room, full)?;
+        let sent = stopped(alloc, &mut store, &identity, &wanted, room, full);
         if sent != (Err(ExportFault::Write), true) {
             return Some((room, sent));
         }

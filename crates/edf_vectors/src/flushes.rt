@@ -1,0 +1,121 @@
+//! Exports of a file that is longer than their buffer, to writers that take all, take it in pieces, and stop around each write.
+
+use crate::large::{large_file, store_of_large};
+use crate::writers::{Sent, stopped};
+use edf_export::{ExportFault, export};
+use edf_fragment::Counted;
+use edf_header::Identity;
+use edf_sample::Sink;
+use edf_store::Store;
+use sqlite::MemStore;
+use std::alloc::Global;
+use std::io::{self, Write};
+
+/// Takes all, and keeps where each write ended.
+#[derive(Drop)]
+struct Ends<'a> {
+    got: &'a mut Vec<u8>,
+    ends: &'a mut Vec<usize>,
+}
+
+impl Write for Ends<'_> {
+    fn write(&mut self, buf: &[u8]) -> io::Result<usize> {
+        self.got.extend_from_slice(buf)?;
+        self.ends.push(self.got.len())?;
+        Ok(buf.len())
+    }
+
+    fn flush(&mut self) -> io::Result<()> {
+        Ok(())
+    }
+}
+
+/// Where the writes of the large file end: its header; the first data record's samples, which go past the buffer, as much of its
+/// block as the buffer holds in pieces of 4,096 zeros, and the rest; the second's samples and its block, which both go past it.
+const ENDS: &[usize] = &[768, 70_768, 132_213, 136_770, 206_770, 272_772];
+
+/// An export to a writer that takes all, and whether its writes ended just there.
+fn whole(alloc: Global) -> Option<(Sent, bool)> {
+    let wanted = large_file(alloc)?;
+    let mut store = store_of_large(alloc)?;
+    let identity = store.identities().ok()?.pop()?;
+    let (mut bytes, mut places) = (Vec::new(alloc), Vec::new(alloc));
+    let mut out = Counted::new(Ends {
+        got: &mut bytes,
+        ends: &mut places,
+    });
+    let answer = export(alloc, &mut store, &identity, &mut out);
+    drop(out);
+    let same = bytes.as_slice() == wanted.as_slice();
+    Some(((answer, same), places.as_slice() == ENDS))
+}
+
+#[test]
+fn a_file_longer_than_the_buffer_goes_out_whole_in_six_writes(rt: HostRuntime) {
+    assert_eq!(rt; whole(rt.alloc()), Some(((Ok(272_772), true), true)));
+}
+
+/// An export to a writer that takes 1,000 bytes a write.
+fn by_thousands(alloc: Global) -> Option<Sent> {
+    let wanted = large_file(alloc)?;
+    let mut store = store_of_large(alloc)?;
+    let identity = store.identities().ok()?.pop()?;
+    let mut got = Vec::new(alloc);
+    let mut out = Counted::new(Sink::whole(&mut got, 1_000));
+    let answer = export(alloc, &mut store, &identity, &mut out);
+    drop(out);
+    Some((answer, got.as_slice() == wanted.as_slice()))
+}
+
+#[test]
+fn a_file_longer_than_the_buffer_goes_out_whole_in_writes_of_a_thousand_bytes(rt: HostRuntime) {
+    assert_eq!(rt; by_thousands(rt.alloc()), Some((Ok(272_772), true)));
+}
+
+/// Of the rooms from two bytes less than `end` to two more, the first for which an export does not end as it must: with so many bytes
+/// of the file and a failed write, or with the whole file.
+fn other_room(
+    alloc: Global,
+    store: &mut Store<MemStore>,
+    identity: &Identity,
+    wanted: &[u8],
+    end: usize,
+    full: bool,
+) -> Option<usize> {
+    for more in 0..5usize {
+        let room = end.saturating_add(more).saturating_sub(2);
+        let answer = if room < 272_772 {
+            Err(ExportFault::Write)
+        } else {
+            Ok(272_772)
+        };
+        if stopped(alloc, store, identity, wanted, room, full) != (answer, true) {
+            return Some(room);
+        }
+    }
+    None
+}
+
+/// The first such room around the ends of all writes, where there is one.
+fn other_rooms(alloc: Global, full: bool) -> Option<Option<usize>> {
+    let wanted = large_file(alloc)?;
+    let mut store = store_of_large(alloc)?;
+    let identity = store.identities().ok()?.pop()?;
+    for end in ENDS.iter().copied() {
+        let other = other_room(alloc, &mut store, &identity, &wanted, end, full);
+        if other.is_some() {
+            return Some(other);
+        }
+    }
+    Some(None)
+}
+
+#[test]
+fn a_writer_that_fails_around_the_end_of_a_write_has_the_front_of_the_file(rt: HostRuntime) {
+    assert_eq!(rt; other_rooms(rt.alloc(), false), Some(None));
+}
+
+#[test]
+fn a_writer_that_takes_none_around_the_end_of_a_write_has_the_front_of_the_file(rt: HostRuntime) {
+    assert_eq!(rt; other_rooms(rt.alloc(), true), Some(None));
+}
