@@ -1,4 +1,5 @@
-//! Exports of a file that is longer than their buffer, to writers that take all, take it in pieces, and stop around each write.
+//! Exports of a file that is longer than their buffer, to writers that take all, take it in
+//! pieces, and stop around each write.
 
 use crate::large::{large_file, store_of_large};
 use crate::writers::{Sent, stopped};
@@ -30,8 +31,9 @@ impl Write for Ends<'_> {
     }
 }
 
-/// Where the writes of the large file end: its header; the first data record's samples, which go past the buffer, as much of its
-/// block as the buffer holds in pieces of 4,096 zeros, and the rest; the second's samples and its block, which both go past it.
+/// Where the writes of the large file end: its header; the first data record's samples, which go
+/// past the buffer, as much of its block as the buffer holds in pieces of 4,096 zeros, and the
+/// rest; the second's samples and its block, which both go past it.
 const ENDS: &[usize] = &[768, 70_768, 132_213, 136_770, 206_770, 272_772];
 
 /// An export to a writer that takes all, and whether its writes ended just there.
@@ -72,8 +74,8 @@ fn a_file_longer_than_the_buffer_goes_out_whole_in_writes_of_a_thousand_bytes(rt
     assert_eq!(rt; by_thousands(rt.alloc()), Some((Ok(272_772), true)));
 }
 
-/// Of the rooms from two bytes less than `end` to two more, the first for which an export does not end as it must: with so many bytes
-/// of the file and a failed write, or with the whole file.
+/// Of the rooms from two bytes less than `end` to two more, the first for which an export does not
+/// end as it must: with so many bytes of the file and a failed write, or with the whole file.
 fn other_room(
     alloc: Global,
     store: &mut Store<MemStore>,

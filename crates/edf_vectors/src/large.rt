@@ -1,4 +1,5 @@
-//! A recording whose data records are longer than the buffer of an export: two of 136,002 bytes each.
+//! A recording whose data records are longer than the buffer of an export: two of 136,002 bytes
+//! each.
 
 use crate::held::taken;
 use crate::stage::{CAP, empty_store};

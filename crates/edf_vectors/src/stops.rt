@@ -105,7 +105,8 @@ fn what_was_accepted_is_held_wherever_the_copying_of_the_log_stops(rt: HostRunti
     }
 }
 
-/// How many data records a store holds after the first so many files, and how long their file is, where it is the one that is wanted.
+/// How many data records a store holds after the first so many files, and how long their file is,
+/// where it is the one that is wanted.
 fn held_after(alloc: Global, count: usize) -> Option<(u32, usize)> {
     let night = three_files(alloc)?;
     let mut store = empty_store(alloc, CAP)?;
