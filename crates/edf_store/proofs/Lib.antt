@@ -1,5 +1,4 @@
 pub mod DecodeLemmas
-pub mod DurationLemmas
 pub mod FaultLemmas
 pub mod FoundLemmas
 pub mod HeldLemmas

@@ -2,7 +2,7 @@
 use Rattle.std.proofs.Common.{◌≡◌, ℕ, ◌+◌, ◌*◌, ◌/◌, ◌%◌, ◌^◌, ◌≤◌, ◌<◌, List, [], ◌∷◌, ◌++◌, length, get_or, arith, refl, sym, ◌∙◌, subst, ℤ, pos, Option, Some, None}
 use Rattle.std.specs.Prelude.{MatchOption}
 use Rattle.std.proofs.lemmas.Slice.Eq.{text_from_reads}
-use Rattle.edf_time.specs.Civil.{IsDay, IsDateText, IsTimeText, IsCivil, IsStartFault, window, day_of, second_of_day, two_digits}
+use Rattle.edf_time.specs.Civil.{IsDay, IsDateText, IsTimeText, IsCivil, IsStartFault, window, startdate_days, day_of, second_of_day, two_digits}
 use Rattle.edf_time.specs.declared.civil.StartFault.{StartFault}
 use Rattle.edf_time.specs.declared.civil.StartFault.TheVariants.{Date, Time}
 use Rattle.edf_time.proofs.Days.{number-in-window}
@@ -46,13 +46,13 @@ IsDay-text text year month day days from to m-low d-low e t =
 
 pub answers-date : (text : List ℕ) (year month day : ℕ) (r : Option ℕ) → 1985 ≤ year → year ≤ 2084 → month < 100 → day < 100
     → text ≡ dotted day month (year % 100)
-    → MatchOption r ((days : ℤ) → ¬ IsDay year month day days) (λ days. IsDay year month day (pos days) × (days < 36_525))
-    → MatchOption r ((days : ℕ) → ¬ IsDateText text days) (λ days. IsDateText text days × (days < 36_525))
+    → MatchOption r ((days : ℤ) → ¬ IsDay year month day days) (λ days. IsDay year month day (pos days) × (days < startdate_days))
+    → MatchOption r ((days : ℕ) → ¬ IsDateText text days) (λ days. IsDateText text days × (days < startdate_days))
 answers-date text year month day None from to m-low d-low e none = λ days t. none (pos days) (IsDay-text text year month day days from to m-low d-low e t)
 answers-date text year month day (Some days) from to m-low d-low e found =
     (record { year = year; month = month; day = day; is_text = e; from = from; to = to; is_day = found.0 }, found.1)
 
-pub date-in-window : (text : List ℕ) (days : ℕ) → IsDateText text days → days < 36_525
+pub date-in-window : (text : List ℕ) (days : ℕ) → IsDateText text days → days < startdate_days
 date-in-window text days t =
     let b = number-in-window t.year t.month t.day (pos days) t.from t.to t.is_day in
     omega (arith, signed_arith, b.1)

@@ -4,7 +4,7 @@ use Rattle.std.proofs.lemmas.Bool.{cases_lt}
 use Rattle.jiff_core.specs.Calendar.{day_count, days_in_month}
 use Rattle.jiff_core.proofs.SignedLemmas.{signed_arith}
 use Rattle.jiff_core.proofs.CalendarLemmas.{days_from_civil-day_count, days_in_month_bounds, day_count-day, day_count-next_month, day_count-next_year, day_count-last_of_year}
-use Rattle.edf_time.specs.Civil.{IsDay, IsClock, IsDateText, IsTimeText, IsIdDate, IsInstantText, window, day_of, second_of_day, two_digits, four_digits, month_name}
+use Rattle.edf_time.specs.Civil.{IsDay, IsClock, IsDateText, IsTimeText, IsIdDate, IsInstantText, window, window_days, startdate_days, day_of, second_of_day, two_digits, four_digits, month_name}
 use Rattle.edf_time.specs.Decimal.{fraction_text}
 use Rattle.edf_time.proofs.Days.{first_day, year-from, year-to}
 
@@ -53,20 +53,20 @@ next-day n y m d low is =
       ]
     ]
 
-in-years : (n : ℕ) (f : IsFound n) → n < 36_525 → (1985 ≤ f.year) × (f.year ≤ 2084)
+in-years : (n : ℕ) (f : IsFound n) → n < window_days → (1985 ≤ f.year) × (f.year ≤ 2084)
 in-years n f lt =
     let e = count-is n f.year f.month f.day f.is-day in (
       omega (arith, signed_arith, year-from (pos f.year) f.month f.day f.is-day.exists (omega (arith, e))),
       omega (arith, signed_arith, year-to (pos f.year) f.month f.day f.is-day.exists (omega (arith, e))),
     )
 
-day-at : (n : ℕ) → n < 36_525 → IsFound n
+day-at : (n : ℕ) → n < window_days → IsFound n
 day-at zero lt = found 0 1985 1 1 (omega arith) (omega arith) (omega arith) (omega arith) (omega (arith, days_in_month_bounds (pos 1985) 1)) (omega (arith, first_day))
 day-at (suc n) lt =
     let f = day-at n (omega arith) in
     next-day n f.year f.month f.day (in-years n f (omega arith)).1 f.is-day
 
-pub date-text : (days : ℕ) → days < 36_525 → (text : List ℕ) × IsDateText text days
+pub date-text : (days : ℕ) → days < startdate_days → (text : List ℕ) × IsDateText text days
 date-text days lt =
     let f = day-at days lt in
     let years = in-years days f lt in (
@@ -74,7 +74,7 @@ date-text days lt =
       record { year = f.year; month = f.month; day = f.day; is_text = refl; from = years.0; to = years.1; is_day = f.is-day },
     )
 
-pub id_date-text : (days : ℕ) → days < 36_525 → (text : List ℕ) × IsIdDate text (pos days)
+pub id_date-text : (days : ℕ) → days < window_days → (text : List ℕ) × IsIdDate text (pos days)
 id_date-text days lt =
     let f = day-at days lt in (
       two_digits f.day ++ 45 ∷ month_name f.month ++ 45 ∷ four_digits f.year,
@@ -92,7 +92,7 @@ time-text seconds lt = (
 
 pub instant-text : (instant : ℕ) → instant < window → (text : List ℕ) × IsInstantText text instant
 instant-text instant lt =
-    let inside : day_of instant < 36_525 = omega arith in
+    let inside : day_of instant < window_days = omega arith in
     let f = day-at (day_of instant) inside in
     let seconds = second_of_day instant in (
       four_digits f.year ++ 45 ∷ two_digits f.month ++ 45 ∷ two_digits f.day

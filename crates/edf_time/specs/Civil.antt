@@ -5,9 +5,16 @@ use Rattle.edf_time.specs.Decimal.{fraction_text}
 use Rattle.edf_time.specs.declared.civil.StartFault.{StartFault}
 use Rattle.edf_time.specs.declared.civil.StartFault.TheVariants.{Date, Time}
 
--- the length of the window, in nanoseconds: 36,525 days from 1985-01-01 00:00:00 on
+-- the length of the window, from 1985-01-01 00:00:00 on: in days, and in nanoseconds
+abbrev pub window_days : ℕ
+window_days = 36_525
+
 abbrev pub window : ℕ
-window = 36_525 * 86_400 * 10 ^ 9
+window = window_days * 86_400 * 10 ^ 9
+
+-- the days that a startdate can name by two digits of its year: those of 1985 to 2084, counted from 1985-01-01
+abbrev pub startdate_days : ℕ
+startdate_days = 36_525
 
 -- a moment, counted in nanoseconds from 1985-01-01 00:00:00, lies in the window
 pub record IsInWindow (moment : ℤ) : Type 0 where

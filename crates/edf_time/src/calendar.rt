@@ -1,6 +1,6 @@
 //! Days of the calendar by their number from 1985-01-01.
 ghost use Rattle.std.specs.Prelude.{◌≡◌, ℕ, ◌+◌, ◌≤◌, ◌<◌, ℤ, pos, MatchOption};
-ghost use Rattle.edf_time.specs.Civil.{IsDay};
+ghost use Rattle.edf_time.specs.Civil.{startdate_days, window_days, IsDay};
 
 use jiff::civil::Date;
 use jiff_core::civil;
@@ -31,7 +31,7 @@ pub(crate) fn day_in_window(year: u16, month: u8, day: u8) -> Option<u32>
     requires day { day < 100 }
     ensures { MatchOption result
         ((days : ℤ) → ¬ IsDay year month day days)
-        (λ days. IsDay year month day (pos days) × (days < 36_525)) }
+        (λ days. IsDay year month day (pos days) × (days < startdate_days)) }
 {
     let days = day_number(year, month, day)?;
     Some(days as u32)
@@ -47,7 +47,7 @@ pub(crate) struct CivilDate {
 
 /// The parts of a day of the window.
 pub(crate) fn date_of(days: u32) -> CivilDate
-    requires { days < 36_525 }
+    requires { days < window_days }
     ensures is_day { IsDay result.year result.month result.day (pos days) }
     ensures from { 1985 ≤ result.year }
     ensures to { result.year ≤ 2084 }

@@ -2,7 +2,7 @@
 ghost use Rattle.std.specs.Prelude.{◌≡◌, ◌⊎◌, ℕ, ℤ, pos, ◌+◌, ◌-◌, ◌*◌, ◌/◌, ◌%◌, ◌^◌, ◌≤◌, ◌<◌, List, Some, length, All};
 ghost use Rattle.std.specs.Char.{digit_value};
 ghost use Rattle.std.specs.Ordering.{nat_cmp, int_cmp};
-ghost use Rattle.edf_time.specs.Civil.{window, day_of, second_of_day, IsDay, IsCivil, IsStartFault, IsDateText, IsTimeText, IsIdDate, IsInstantText, IsVisible};
+ghost use Rattle.edf_time.specs.Civil.{window, window_days, startdate_days, day_of, second_of_day, IsDay, IsCivil, IsStartFault, IsDateText, IsTimeText, IsIdDate, IsInstantText, IsVisible};
 ghost use Rattle.edf_time.specs.Decimal.{IsDecimal, IsSeconds, IsDecimalFault, IsShortest, IsDecimalByte, short, fraction_text};
 ghost use Rattle.edf_time.specs.declared.civil.StartFault.{StartFault};
 ghost use Rattle.edf_time.specs.declared.decimal.DecimalFault.{DecimalFault};
@@ -78,7 +78,7 @@ pub fn day_bounds()
 pub fn one_date()
     ensures day { (text : List ℕ) (a b : ℕ) → IsDateText text a → IsDateText text b → a ≡ b }
     ensures text { (s t : List ℕ) (days : ℕ) → IsDateText s days → IsDateText t days → s ≡ t }
-    ensures bound { (text : List ℕ) (days : ℕ) → IsDateText text days → days < 36_525 }
+    ensures bound { (text : List ℕ) (days : ℕ) → IsDateText text days → days < startdate_days }
 {}
 
 /// A text `hh.mm.ss` and its second of the day are one to one.
@@ -116,8 +116,8 @@ pub fn some_date()
 /// Each day of the window has a text `dd.mm.yy` and a text `dd-MMM-yyyy`, each second of a day a text `hh.mm.ss`, and each instant of the
 /// window a text `yyyy-mm-ddThh:mm:ss` with its decimals.
 pub fn each_has_a_text()
-    ensures date { (days : ℕ) → days < 36_525 → (text : List ℕ) × IsDateText text days }
-    ensures id_date { (days : ℕ) → days < 36_525 → (text : List ℕ) × IsIdDate text (pos days) }
+    ensures date { (days : ℕ) → days < startdate_days → (text : List ℕ) × IsDateText text days }
+    ensures id_date { (days : ℕ) → days < window_days → (text : List ℕ) × IsIdDate text (pos days) }
     ensures time { (seconds : ℕ) → seconds < 86_400 → (text : List ℕ) × IsTimeText text seconds }
     ensures instant { (instant : ℕ) → instant < window → (text : List ℕ) × IsInstantText text instant }
 {}

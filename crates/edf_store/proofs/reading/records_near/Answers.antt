@@ -3,7 +3,7 @@ use Rattle.std.proofs.lemmas.Int.{to_z-of_z, ints}
 use Rattle.sqlite.specs.Held.{state}
 use Rattle.edf_holdings.specs.Clash.{near_of}
 use Rattle.edf_store.proofs.DecodeLemmas.{nat_fits, fits_sub}
-use Rattle.edf_store.proofs.DurationLemmas.{duration_small}
+use Rattle.edf_header.proofs.Cited.{key-duration-bound}
 use Rattle.edf_store.proofs.HeldLemmas.{still_sound, still_held, sees_on}
 use Rattle.edf_store.proofs.StepLemmas.{ready_in, near_is, two_near, sound_near, none_made, if_ok}
 use Rattle.edf_store.proofs.FaultLemmas.{refused_by, unfailed_by, caused_by}
@@ -13,20 +13,20 @@ use Rattle.edf_store.proofs.reading.records_near.Goals as goal
 
 pub overflow_cast-length : goal.overflow_cast-length
 overflow_cast-length g c =
-    let small = duration_small c.requires.recording.0 c.requires.recording.1.key in
+    let small = key-duration-bound c.requires.recording.0 c.requires.recording.1.key in
     let same = c.requires.recording.2 in
     record { sfits = omega (arith, small, same) }
 
 pub overflow_sub-begin : goal.overflow_sub-begin
 overflow_sub-begin g c =
-    let small = duration_small c.requires.recording.0 c.requires.recording.1.key in
+    let small = key-duration-bound c.requires.recording.0 c.requires.recording.1.key in
     let same = c.requires.recording.2 in
     let low = c.nanos-begin.ensures.bound in
     rw (nat_fits c.nanos-begin.result (omega (arith, low)), nat_fits c.args.duration (omega (arith, small, same))) (fits_sub c.nanos-begin.result c.args.duration (omega (arith, low)) (omega (arith, small, same)))
 
 pub overflow_add-begin : goal.overflow_add-begin
 overflow_add-begin g c =
-    let small = duration_small c.requires.recording.0 c.requires.recording.1.key in
+    let small = key-duration-bound c.requires.recording.0 c.requires.recording.1.key in
     let same = c.requires.recording.2 in
     let low = c.nanos-begin.ensures.bound in
     rw (nat_fits c.nanos-begin.result (omega (arith, low)), nat_fits c.args.duration (omega (arith, small, same))) (record { sfits = omega (arith, ints, small, same, low) })
@@ -65,7 +65,7 @@ returns-clause-near g c clean =
     let start = c.nanos-begin.result in
     let d = c.args.duration in
     let mine = rw (← c.store.view_is) at c.requires.recording in
-    let small = duration_small mine.0 mine.1.key in
+    let small = key-duration-bound mine.0 mine.1.key in
     let same = mine.2 in
     let low = c.nanos-begin.ensures.bound in
     let down = fits_sub start d (omega (arith, low)) (omega (arith, small, same)) in
@@ -101,7 +101,7 @@ returns-clause-told g c clean =
     let running = rw (← c.store.view_is) at c.requires.running in
     let was : HasCleanDisk old = omega (arith, c.near_rows.ensures.survives.clean, clean) in
     let it = running was in
-    let small = duration_small mine.0 mine.1.key in
+    let small = key-duration-bound mine.0 mine.1.key in
     let same = mine.2 in
     let low = c.nanos-begin.ensures.bound in
     let down = fits_sub start d (omega (arith, low)) (omega (arith, small, same)) in
