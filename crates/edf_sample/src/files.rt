@@ -1,6 +1,95 @@
-//! The bytes of a file of one EEG signal and one annotations signal.
+//! The bytes of a file, by the texts of its header.
 
 use std::alloc::{AllocError, Global};
+
+/// The header of one signal, as the texts of its fields. Each method gives the same signal with one field changed.
+#[derive(Clone, Copy)]
+pub struct Signal<'a> {
+    label: &'a str,
+    transducer: &'a str,
+    dimension: &'a [u8],
+    physical: [&'a str; 2],
+    digital: [&'a str; 2],
+    prefiltering: &'a str,
+    samples: &'a str,
+    reserved: &'a str,
+}
+
+impl<'a> Signal<'a> {
+    /// The EEG signal of file Q, of two samples.
+    pub fn eeg() -> Signal<'a> {
+        Signal {
+            label: "EEG Fpz-Cz",
+            transducer: "AgAgCl electrode",
+            dimension: b"uV",
+            physical: ["-440", "510"],
+            digital: ["-2048", "2047"],
+            prefiltering: "HP:0.1Hz LP:75Hz",
+            samples: "2",
+            reserved: "",
+        }
+    }
+
+    /// An annotations signal of so many samples.
+    pub fn annotations(samples: &'a str) -> Signal<'a> {
+        Signal {
+            label: "EDF Annotations ",
+            transducer: "",
+            dimension: b"",
+            physical: ["-1", "1"],
+            digital: ["-32768", "32767"],
+            prefiltering: "",
+            samples,
+            reserved: "",
+        }
+    }
+
+    pub fn label(mut self, text: &'a str) -> Signal<'a> {
+        self.label = text;
+        self
+    }
+
+    pub fn dimension(mut self, text: &'a [u8]) -> Signal<'a> {
+        self.dimension = text;
+        self
+    }
+
+    /// Physical minimum and maximum.
+    pub fn physical(mut self, minimum: &'a str, maximum: &'a str) -> Signal<'a> {
+        self.physical = [minimum, maximum];
+        self
+    }
+
+    /// Digital minimum and maximum.
+    pub fn digital(mut self, minimum: &'a str, maximum: &'a str) -> Signal<'a> {
+        self.digital = [minimum, maximum];
+        self
+    }
+
+    /// The samples in each data record.
+    pub fn samples(mut self, text: &'a str) -> Signal<'a> {
+        self.samples = text;
+        self
+    }
+
+    /// The fields in the order of the header, and their widths.
+    fn fields(&self) -> [(&'a [u8], usize); 10] {
+        let [physical_min, physical_max] = self.physical;
+        let [digital_min, digital_max] = self.digital;
+        [
+            (self.label.as_bytes(), 16),
+            (self.transducer.as_bytes(), 80),
+            (self.dimension, 8),
+            (physical_min.as_bytes(), 8),
+            (physical_max.as_bytes(), 8),
+            (digital_min.as_bytes(), 8),
+            (digital_max.as_bytes(), 8),
+            (self.prefiltering.as_bytes(), 80),
+            (self.samples.as_bytes(), 8),
+            (self.reserved.as_bytes(), 32),
+        ]
+    }
+}
 
 /// The header of a file, as the texts of its fields. Each method gives the same header with one field changed.
 #[derive(Clone, Copy)]
@@ -14,14 +103,10 @@ pub struct Header<'a> {
     count: &'a str,
     duration: &'a str,
     signals: &'a str,
-    label: &'a str,
-    dimension: &'a [u8],
-    physical: [&'a str; 2],
-    digital: [&'a str; 2],
-    samples: &'a str,
-    annotations_label: &'a str,
-    annotations_samples: &'a str,
+    eeg: Signal<'a>,
+    annotations: Signal<'a>,
     annotations_first: bool,
+    listed: Option<&'a [Signal<'a>]>,
 }
 
 /// The header of file Q: one data record of one second from 2002-03-02 23:59:50, with two EEG samples and three for annotations.
@@ -36,14 +121,10 @@ pub fn q() -> Header<'static> {
         count: "1",
         duration: "1",
         signals: "2",
-        label: "EEG Fpz-Cz",
-        dimension: b"uV",
-        physical: ["-440", "510"],
-        digital: ["-2048", "2047"],
-        samples: "2",
-        annotations_label: "EDF Annotations ",
-        annotations_samples: "3",
+        eeg: Signal::eeg(),
+        annotations: Signal::annotations("3"),
         annotations_first: false,
+        listed: None,
     }
 }
 
@@ -99,43 +180,43 @@ impl<'a> Header<'a> {
 
     /// The EEG signal's label.
     pub fn label(mut self, text: &'a str) -> Header<'a> {
-        self.label = text;
+        self.eeg = self.eeg.label(text);
         self
     }
 
     /// The EEG signal's physical dimension.
     pub fn dimension(mut self, text: &'a [u8]) -> Header<'a> {
-        self.dimension = text;
+        self.eeg = self.eeg.dimension(text);
         self
     }
 
     /// The EEG signal's physical minimum and maximum.
     pub fn physical(mut self, minimum: &'a str, maximum: &'a str) -> Header<'a> {
-        self.physical = [minimum, maximum];
+        self.eeg = self.eeg.physical(minimum, maximum);
         self
     }
 
     /// The EEG signal's digital minimum and maximum.
     pub fn digital(mut self, minimum: &'a str, maximum: &'a str) -> Header<'a> {
-        self.digital = [minimum, maximum];
+        self.eeg = self.eeg.digital(minimum, maximum);
         self
     }
 
     /// The EEG signal's samples in each data record.
     pub fn samples(mut self, text: &'a str) -> Header<'a> {
-        self.samples = text;
+        self.eeg = self.eeg.samples(text);
         self
     }
 
     /// The label of the annotations signal.
     pub fn annotations_label(mut self, text: &'a str) -> Header<'a> {
-        self.annotations_label = text;
+        self.annotations = self.annotations.label(text);
         self
     }
 
     /// The samples of the annotations signal in each data record.
     pub fn annotations_samples(mut self, text: &'a str) -> Header<'a> {
-        self.annotations_samples = text;
+        self.annotations = self.annotations.samples(text);
         self
     }
 
@@ -143,6 +224,21 @@ impl<'a> Header<'a> {
     pub fn annotations_first(mut self) -> Header<'a> {
         self.annotations_first = true;
         self
+    }
+
+    /// These signals, in file order, stand in place of the EEG signal and the annotations signal.
+    pub fn listed(mut self, signals: &'a [Signal<'a>]) -> Header<'a> {
+        self.listed = Some(signals);
+        self
+    }
+
+    /// The EEG signal and the annotations signal, in file order.
+    fn pair(&self) -> [Signal<'a>; 2] {
+        if self.annotations_first {
+            [self.annotations, self.eeg]
+        } else {
+            [self.eeg, self.annotations]
+        }
     }
 }
 
@@ -153,23 +249,6 @@ pub(crate) fn push_field(file: &mut Vec<u8>, text: &[u8], width: usize) -> Resul
         file.push(b' ')?;
     }
     Ok(())
-}
-
-/// A field of both signals, in their order.
-fn push_pair(
-    file: &mut Vec<u8>,
-    header: &Header<'_>,
-    eeg: &[u8],
-    annotations: &[u8],
-    width: usize,
-) -> Result<(), AllocError> {
-    if header.annotations_first {
-        push_field(file, annotations, width)?;
-        push_field(file, eeg, width)
-    } else {
-        push_field(file, eeg, width)?;
-        push_field(file, annotations, width)
-    }
 }
 
 fn push_fixed(file: &mut Vec<u8>, header: &Header<'_>) -> Result<(), AllocError> {
@@ -186,28 +265,35 @@ fn push_fixed(file: &mut Vec<u8>, header: &Header<'_>) -> Result<(), AllocError>
     push_field(file, header.signals.as_bytes(), 4)
 }
 
-fn push_signals(file: &mut Vec<u8>, header: &Header<'_>) -> Result<(), AllocError> {
-    let [physical_min, physical_max] = header.physical;
-    let [digital_min, digital_max] = header.digital;
-    let label = header.annotations_label.as_bytes();
-    let samples = header.annotations_samples.as_bytes();
-    push_pair(file, header, header.label.as_bytes(), label, 16)?;
-    push_pair(file, header, b"AgAgCl electrode", b"", 80)?;
-    push_pair(file, header, header.dimension, b"", 8)?;
-    push_pair(file, header, physical_min.as_bytes(), b"-1", 8)?;
-    push_pair(file, header, physical_max.as_bytes(), b"1", 8)?;
-    push_pair(file, header, digital_min.as_bytes(), b"-32768", 8)?;
-    push_pair(file, header, digital_max.as_bytes(), b"32767", 8)?;
-    push_pair(file, header, b"HP:0.1Hz LP:75Hz", b"", 80)?;
-    push_pair(file, header, header.samples.as_bytes(), samples, 8)?;
-    push_pair(file, header, b"", b"", 32)
+/// A field of all signals, in their order.
+fn push_column(
+    file: &mut Vec<u8>,
+    signals: &[Signal<'_>],
+    column: usize,
+) -> Result<(), AllocError> {
+    for signal in signals {
+        if let Some((text, width)) = signal.fields().get(column) {
+            push_field(file, *text, *width)?;
+        }
+    }
+    Ok(())
+}
+
+fn push_signals(file: &mut Vec<u8>, signals: &[Signal<'_>]) -> Result<(), AllocError> {
+    for column in 0..10usize {
+        push_column(file, signals, column)?;
+    }
+    Ok(())
 }
 
 /// The file of a header and of what follows it, piece by piece.
 pub fn file(alloc: Global, header: &Header<'_>, pieces: &[&[u8]]) -> Result<Vec<u8>, AllocError> {
     let mut file = Vec::new(alloc);
     push_fixed(&mut file, header)?;
-    push_signals(&mut file, header)?;
+    match header.listed {
+        Some(signals) => push_signals(&mut file, signals)?,
+        None => push_signals(&mut file, &header.pair())?,
+    }
     for bytes in pieces {
         file.extend_from_slice(bytes)?;
     }

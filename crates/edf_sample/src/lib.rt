@@ -1,6 +1,7 @@
 //! Small EDF+ files, built field by field in the standard's words, and streams that come in pieces and fail: for tests.
 //!
-//! - [`Header`], [`q`], [`file`]: the header of a file of one EEG signal and one annotations signal, and the file's bytes.
+//! - [`Header`], [`Signal`], [`q`], [`file`]: the header of a file, of one EEG signal and one annotations signal or of a list of
+//!   signals, and the file's bytes.
 //! - [`named`]: small named files.
 //! - [`Source`], [`StopsOnce`], [`Sink`]: readers that give their bytes in pieces and fail, a writer that takes them so.
 //! - [`Scarce`]: a machine whose memory runs out.
@@ -13,6 +14,6 @@ pub mod named;
 mod scarce;
 mod streams;
 
-pub use files::{Header, file, patched, q};
+pub use files::{Header, Signal, file, patched, q};
 pub use scarce::Scarce;
 pub use streams::{Sink, Source, StopsOnce};

@@ -1,6 +1,6 @@
 //! Small named files, spelled in the standards' words.
 
-use crate::files::{Header, file, push_field, q};
+use crate::files::{Header, Signal, file, push_field, q};
 use std::alloc::{AllocError, Global};
 
 const ZEROS: &[u8] = &[0; 128];
@@ -111,6 +111,19 @@ pub fn file_k(alloc: Global) -> Result<Vec<u8>, AllocError> {
             b"\x0c\0\0\0+2\x14\x14\0\0",
         ],
     )
+}
+
+/// One data record of Q's recording from Q's start, of three signals: 1,050 bytes. The annotations signals stand round the EEG
+/// signal. The first keeps time, the second has an annotation.
+pub fn file_v(alloc: Global) -> Result<Vec<u8>, AllocError> {
+    let signals = [
+        Signal::annotations("3"),
+        Signal::eeg(),
+        Signal::annotations("8"),
+    ];
+    let header = q().signals("3").header_bytes("1024").listed(&signals);
+    let record = b"+0\x14\x14\0\0\x01\x00\xff\xff+0.5\x14Snore\x14\0\0\0\0\0";
+    file(alloc, &header, &[record])
 }
 
 /// The header of U.
