@@ -10,14 +10,13 @@ use Rattle.std.proofs.lemmas.Str.{IsUtf8-nil}
 use Rattle.edf_time.specs.Decimal.{IsSeconds, short}
 use Rattle.edf_time.specs.Civil.{window, IsInWindow}
 use Rattle.edf_time.proofs.Cited.{IsSeconds-short}
-use Rattle.edf_tal.specs.Tal.{Tal, Annotation, IsTal, IsOnset, IsDurationPart, ended, AreTals, IsTalInWindow, instant, tal_annotations}
-use Rattle.edf_tal.specs.Tal.{IsAnnotation}
-use Rattle.edf_tal.specs.Block.{IsRead, IsWithinLimits, KeepsPlace}
+use Rattle.edf_tal.specs.Tal.{Tal, Annotation, IsAnnotation, IsTal, IsOnset, IsDurationPart, ended, AreTals, AreTalsAndZeros, HaveUtf8Texts, IsTimed, IsTalInWindow, instant, tal_annotations, annotations, begin}
+use Rattle.edf_tal.specs.Block.{AreRead, IsRead, IsWithinLimits, KeepsPlace}
 use Rattle.edf_tal.specs.Canonical.{onset_text, duration_text, tal_text, time_keeping, block_text}
 use Rattle.edf_tal.specs.declared.place.Place.{Place}
 use Rattle.edf_tal.specs.declared.place.Place.TheVariants.{First, After, Any}
 use Rattle.edf_tal.specs.Inside.Scan.{AreZeros}
-use Rattle.edf_tal.proofs.BadText.{AreGood}
+use Rattle.edf_tal.proofs.Joined.{all_tals-one}
 use Rattle.edf_tal.proofs.OneAnswer.{SameAnswer, one-read}
 
 ahead : (base onset : ℕ) → base ≤ onset → pos onset -ℤ pos base ≡ pos (onset - base)
@@ -78,9 +77,9 @@ AreTals-text : (base : ℕ) (list : List Annotation) → base < window → AllBy
 AreTals-text base [] low h = refl
 AreTals-text base (a ∷ list) low h = (tal_text base a, flat_map (tal_text base) list, refl, IsTal-text base a low h.0, AreTals-text base list low h.1)
 
-AreGood-text : (base : ℕ) (list : List Annotation) → AllByRecursion IsAnnotation list → AreGood (map (tal_of base) list)
-AreGood-text base [] h = tt
-AreGood-text base (a ∷ list) h = ((h.0.utf8, tt), AreGood-text base list h.1)
+HaveUtf8Texts-text : (base : ℕ) (list : List Annotation) → AllByRecursion IsAnnotation list → HaveUtf8Texts (map (tal_of base) list)
+HaveUtf8Texts-text base [] h = tt
+HaveUtf8Texts-text base (a ∷ list) h = ((h.0.utf8, tt), HaveUtf8Texts-text base list h.1)
 
 AreZeros-replicate : (n : ℕ) → AreZeros (replicate n 0)
 AreZeros-replicate zero = tt
@@ -110,24 +109,32 @@ list-back base (a ∷ list) =
 IsAnnotation-time_keeping : (start : ℕ) → start < window → IsAnnotation (time_keeping start)
 IsAnnotation-time_keeping start h = record { onset = h; duration = tt; text = tt; utf8 = IsUtf8-nil }
 
-abbrev written : ℕ → ℕ → List Annotation → List Tal
-written base start list = map (tal_of base) (time_keeping start ∷ list)
+-- the one block of a data record, with these TALs
+read-of : (b : List ℕ) (s : ℕ) (p : Place) (start : ℕ) (list : List Annotation) (ts : List Tal) → AreTalsAndZeros b ts → HaveUtf8Texts ts → IsTimed ts → KeepsPlace p s ts
+    → AllByRecursion (IsTalInWindow s) ts → IsWithinLimits list → start ≡ begin s ts → list ≡ annotations s ts → IsRead b s p start list
+read-of b s p start list ts whole good timed keeps window limits start-is list-is =
+    let one = all_tals-one ts in
+    record {
+      tals = ts ∷ [];
+      lists = (whole, tt);
+      good = subst HaveUtf8Texts one good;
+      timed = timed;
+      keeps = keeps;
+      window = subst (AllByRecursion (IsTalInWindow s)) one window;
+      limits = limits;
+      start_is = start-is;
+      list_is = list-is ∙ ap (annotations s) one;
+    }
 
 -- a written block, with any fill, where the first onset keeps its place
 pub read-again : (p : Place) (base start n : ℕ) (list : List Annotation) → base < window → start < window → AllByRecursion IsAnnotation list → IsWithinLimits list
     → KeepsPlace p base (map (tal_of base) (time_keeping start ∷ list)) → IsRead (block_text base start list ++ replicate n 0) base p start list
 read-again p base start n list low in-window' all limits keeps =
     let whole : AllByRecursion IsAnnotation (time_keeping start ∷ list) = (IsAnnotation-time_keeping start in-window', all) in
-    record {
-      tals = map (tal_of base) (time_keeping start ∷ list);
-      block = ((block_text base start list, replicate n 0, refl, AreTals-text base (time_keeping start ∷ list) low whole, AreZeros-replicate n), AreGood-text base (time_keeping start ∷ list) whole);
-      timed = ([], refl);
-      keeps = keeps;
-      window = AreInWindow-text base (time_keeping start ∷ list) whole;
-      limits = limits;
-      start_is = sym (instant-back base start);
-      list_is = sym (list-back base list);
-    }
+    read-of (block_text base start list ++ replicate n 0) base p start list (map (tal_of base) (time_keeping start ∷ list))
+    (block_text base start list, replicate n 0, refl, AreTals-text base (time_keeping start ∷ list) low whole, AreZeros-replicate n)
+    (HaveUtf8Texts-text base (time_keeping start ∷ list) whole) ([], refl) keeps (AreInWindow-text base (time_keeping start ∷ list) whole) limits
+    (sym (instant-back base start)) (sym (list-back base list))
 
 keeps-first : (base start : ℕ) → base ≤ start → start < base + 10 ^ 9 → (pos 0 ≤ℤ (pos start -ℤ pos base)) × ((pos start -ℤ pos base) <ℤ pos (10 ^ 9))
 keeps-first base start low high = (omega (arith, ints), omega (arith, ints))
@@ -152,10 +159,11 @@ read-alone base start list low in-window' all limits =
     subst (λ (x : List ℕ). IsRead x base Any start list) (append-nil (block_text base start list)) (read-any base start 0 list low in-window' all limits)
 
 -- what is read at a place is read without one
-pub read-elsewhere : (b : List ℕ) (s : ℕ) (p : Place) (start : ℕ) (list : List Annotation) → IsRead b s p start list → IsRead b s Any start list
-read-elsewhere b s p start list r = record {
+pub blocks-read-elsewhere : (bs : List (List ℕ)) (s : ℕ) (p : Place) (start : ℕ) (list : List Annotation) → AreRead bs s p start list → AreRead bs s Any start list
+blocks-read-elsewhere bs s p start list r = record {
   tals = r.tals;
-  block = r.block;
+  lists = r.lists;
+  good = r.good;
   timed = r.timed;
   keeps = tt;
   window = r.window;
@@ -163,6 +171,9 @@ read-elsewhere b s p start list r = record {
   start_is = r.start_is;
   list_is = r.list_is;
 }
+
+pub read-elsewhere : (b : List ℕ) (s : ℕ) (p : Place) (start : ℕ) (list : List Annotation) → IsRead b s p start list → IsRead b s Any start list
+read-elsewhere b s p start list r = blocks-read-elsewhere (b ∷ []) s p start list r
 
 -- a canonical block is written of one start and list
 pub one-writing : (base m n : ℕ) (k l : List Annotation) → base < window → m < window → n < window → AllByRecursion IsAnnotation k → AllByRecursion IsAnnotation l

@@ -1,15 +1,19 @@
--- Each block is read, or has a fault.
-use Rattle.std.proofs.Common.{◌≡◌, ℕ, zero, suc, ◌+◌, ◌-◌, ◌^◌, ◌≤◌, ◌<◌, ◌⊎◌, inl, inr, Bool, true, false, ◌&&◌, List, [], ◌∷◌, ◌++◌, length, take, arith, refl, sym, ap, ◌∙◌, subst, append-nil, append_assoc, ℤ, pos, negsuc, ◌≤ℤ◌, ◌<ℤ◌, ◌+ℤ◌, Option, Some, None}
-use Rattle.std.specs.Prelude.{IsTrue, IsUtf8, IfSome, ◌↔◌}
+-- The blocks of a data record are read, or have a fault.
+use Rattle.std.proofs.Common.{◌≡◌, ℕ, zero, suc, ◌+◌, ◌-◌, ◌^◌, ◌≤◌, ◌<◌, ◌⊎◌, inl, inr, Bool, true, false, ◌&&◌, List, [], ◌∷◌, ◌++◌, length, arith, refl, sym, ap, ◌∙◌, subst, append-nil, append_assoc, ℤ, pos, negsuc, ◌≤ℤ◌, ◌<ℤ◌, ◌+ℤ◌, Option, Some, None}
+use Rattle.std.specs.Prelude.{sum_by, IsTrue, IsUtf8, IfSome, ◌↔◌}
 use Rattle.std.specs.Str.{is_utf8}
 use Rattle.std.specs.List.{AllByRecursion}
 use Rattle.std.proofs.lemmas.Bool.{cases_eq, cases_lt}
 use Rattle.std.proofs.lemmas.Int.{ints}
 use Rattle.std.proofs.lemmas.Str.{IsUtf8-from_is_utf8, is_utf8-from_IsUtf8}
 use Rattle.edf_time.specs.Civil.{window}
-use Rattle.edf_tal.specs.Tal.{Tal, Annotation, IsText, ended, IsTalInWindow, instant, annotations}
-use Rattle.edf_tal.specs.Block.{IsRead, IsBadText, IsBlockFault}
-use Rattle.edf_tal.specs.Inside.Scan.{Lacks, NoTal, AreZeros, IsTalAtFront, IsBadAmong, AreGoodTexts, IsBehind, IsSurvey, KeepsSecond, KeepsOrder, IsChecked}
+use Rattle.edf_tal.specs.Tal.{Tal, Annotation, IsText, ended, IsTalInWindow, instant}
+use Rattle.edf_tal.specs.Block.{AreRead, IsRead, IsBadText, IsBroken, IsBlocksFault, IsBlockFault}
+use Rattle.edf_tal.specs.Inside.Scan.{Lacks, NoTal, AreZeros, IsTalAtFront, IsBadAmong, AreGoodTexts, IsBehind, IsSurvey, KeepsSecond, KeepsOrder}
+use Rattle.edf_tal.specs.Inside.Blocks.{AreSurveyed, HasForm}
+use Rattle.edf_tal.specs.declared.blocks.Sums.{Sums}
+use Rattle.edf_tal.specs.declared.blocks.Form.{Form}
+use Rattle.edf_tal.specs.declared.blocks.Form.TheVariants.{Good, BadText}
 use Rattle.edf_tal.specs.declared.place.Place.{Place}
 use Rattle.edf_tal.specs.declared.place.Place.TheVariants.{First, After, Any}
 use Rattle.edf_tal.specs.declared.place.TalFault.{TalFault}
@@ -17,7 +21,8 @@ use Rattle.edf_tal.specs.declared.place.TalFault.TheVariants.{Tal as NotTals, Te
 use Rattle.edf_tal.proofs.Unique.{Lacks-text}
 use Rattle.edf_tal.proofs.Decide.{Front, front}
 use Rattle.edf_tal.proofs.Totals.{behind-none, behind-more, behind-behind, front-shorter, good-count, survey-none, survey-more, survey-bad, survey-behind, both-true}
-use Rattle.edf_tal.proofs.Judge.{Known, known, timed, checked, fault-tal, fault-text, fault-none, fault-untimed, fault-second, fault-window, fault-order, fault-many}
+use Rattle.edf_tal.proofs.Joined.{form-append, form-lists, form-bad, broken-one, broken-front, broken-back, surveyed-one, surveyed-none}
+use Rattle.edf_tal.proofs.Judge.{Known, IsEmptyFirst, known, timed, checked, fault-tal, fault-empty, fault-text, fault-none, fault-untimed, fault-second, fault-window, fault-order, fault-many}
 
 -- ---- what is decided
 
@@ -195,76 +200,91 @@ first-empty (b ∷ texts) =
       | inr isnt ↦ inr (λ (rest, e). isnt (let z : b ≡ 20 = cc in z))
     ]
 
+-- ---- what blocks are
+
+form : (b : List ℕ) (s : ℕ) → ((f : Form) × HasForm (b ∷ []) s f) ⊎ ((at : ℕ) × IsBroken (b ∷ []) at)
+form b s =
+    elim (survey b s) [
+      | inl v ↦ elim (zeros v.rest) [
+        | inl z ↦ inl (Good (record { in_window = v.in_window; count = v.count; text_bytes = v.bytes }), surveyed-one b v.rest s v.in_window v.count v.bytes v.is_survey z)
+        | inr never ↦ inr (length b - length v.rest, broken-one b v.rest (survey-behind b v.rest s v.in_window v.count v.bytes v.is_survey) v.last never)
+      ]
+      | inr x ↦ elim (zeros x.rest) [
+        | inl z ↦ inl (BadText x.at, form-bad b x.rest s x.at x.is_behind z x.bad)
+        | inr never ↦ inr (length b - length x.rest, broken-one b x.rest x.is_behind x.last never)
+      ]
+    ]
+
+forms : (bs : List (List ℕ)) (s : ℕ) → ((f : Form) × HasForm bs s f) ⊎ ((at : ℕ) × IsBroken bs at)
+forms [] s = inl (Good (record { in_window = true; count = 0; text_bytes = 0 }), surveyed-none s)
+forms (b ∷ bs) s =
+    elim (form b s) [
+      | inl f ↦ elim (forms bs s) [
+        | inl g ↦ inl (form-append (b ∷ []) bs s f.0 g.0 f.1 g.1)
+        | inr x ↦ let l = form-lists (b ∷ []) s f.0 f.1 in inr (sum_by length (b ∷ []) + x.0, broken-back (b ∷ []) bs l.0 x.0 l.1 x.1)
+      ]
+      | inr x ↦ inr (x.0, broken-front (b ∷ []) bs x.0 x.1)
+    ]
+
 -- ---- the answer
 
 -- a start and a list, or a fault
-abbrev pub HasAnswer : List ℕ → ℕ → Place → Type 0
-HasAnswer b s p = ((start : ℕ) × (list : List Annotation) × IsRead b s p start list) ⊎ ((e : TalFault) × IsBlockFault b s p e)
-
-pub read-checked : (b front : List ℕ) (s : ℕ) (p : Place) (start count : ℕ) → IsChecked b s p front start count
-    → (begin : ℕ) × (list : List Annotation) × IsRead b s p begin list
-read-checked b front s p start count c = (
-  start,
-  annotations s c.tals,
-  record {
-    tals = c.tals;
-    block = ((front, c.zeros, c.parts, c.whole, c.are_zeros), c.good);
-    timed = c.timed;
-    keeps = c.keeps;
-    window = c.window;
-    limits = c.limits;
-    start_is = c.start_is;
-    list_is = refl;
-  },
-)
+abbrev pub HaveAnswer : List (List ℕ) → ℕ → Place → Type 0
+HaveAnswer bs s p = ((start : ℕ) × (list : List Annotation) × AreRead bs s p start list) ⊎ ((e : TalFault) × IsBlocksFault bs s p e)
 
 -- of TALs and zeros, the first of which is known
-module _ (b rest : List ℕ) (s : ℕ) (p : Place) (w : Bool) (count bytes : ℕ) (t : Tal) (k : Known b s rest w count bytes t) (empty : (xs : List (List ℕ)) × (t.texts ≡ [] ∷ xs)) where
-  by-limits : KeepsSecond p t.onset → IsTrue w → KeepsOrder p (instant s t.onset) → HasAnswer b s p
+module _ (bs : List (List ℕ)) (s : ℕ) (p : Place) (sums : Sums) (t : Tal) (k : Known bs s sums t) (empty : IsEmptyFirst t) where
+  by-limits : KeepsSecond p t.onset → IsTrue sums.in_window → KeepsOrder p (instant s t.onset) → HaveAnswer bs s p
   by-limits second window order =
-      elim (limits count bytes) [
-        | inl few ↦ inl (read-checked b (take (length b - length rest) b) s p (instant s t.onset) (count - 1) (checked b rest s p w count bytes t (instant s t.onset) k empty second window refl order few))
-        | inr many ↦ inr (TooMany, fault-many b rest s p w count bytes t k empty second window order many)
+      elim (limits sums.count sums.text_bytes) [
+        | inl few ↦ let c = checked bs s p sums t k (instant s t.onset) empty second window refl order few in inl (instant s t.onset, c.list, c.read)
+        | inr many ↦ inr (TooMany, fault-many bs s p sums t k empty second window order many)
       ]
 
-  by-rules : HasAnswer b s p
+  by-rules : HaveAnswer bs s p
   by-rules =
       elim (keeps-second p t.onset) [
-        | inl second ↦ elim (true-or-not w) [
+        | inl second ↦ elim (true-or-not sums.in_window) [
           | inl window ↦ elim (keeps-order p (instant s t.onset)) [
             | inl order ↦ by-limits second window order
-            | inr fails ↦ inr (Order, fault-order b rest s p w count bytes t k empty second window fails)
+            | inr fails ↦ inr (Order, fault-order bs s p sums t k empty second window fails)
           ]
-          | inr fails ↦ inr (Window, fault-window b rest s p w count bytes t k empty second fails)
+          | inr fails ↦ inr (Window, fault-window bs s p sums t k empty second fails)
         ]
-        | inr fails ↦ inr (FirstOnset, fault-second b rest s p w count bytes t k empty fails)
+        | inr fails ↦ inr (FirstOnset, fault-second bs s p sums t k empty fails)
       ]
 
 -- of TALs and zeros
-judged : (b : List ℕ) (s : ℕ) (p : Place) (v : Surveyed b s) → AreZeros v.rest → HasAnswer b s p
-judged b s p v z =
+judged : (bs : List (List ℕ)) (s : ℕ) (p : Place) (sums : Sums) → AreSurveyed bs s sums → HaveAnswer bs s p
+judged [] s p sums v = inr (NotTimed, fault-empty s p)
+judged (b ∷ bs) s p sums v =
     elim (front b) [
       | inl f ↦
-          let k = known b v.rest f.texts f.rest s v.in_window v.count v.bytes f.tal v.is_survey z f.is_front in
+          let k = known b bs f.texts f.rest s sums f.tal v f.is_front in
           elim (first-empty f.texts) [
-            | inl e ↦ by-rules b v.rest s p v.in_window v.count v.bytes f.tal k (timed b f.texts f.rest f.tal f.is_front e)
-            | inr never ↦ inr (NotTimed, fault-untimed b v.rest f.texts f.rest s p v.in_window v.count v.bytes f.tal k f.is_front never)
+            | inl e ↦ by-rules (b ∷ bs) s p sums f.tal k (timed b f.texts f.rest f.tal f.is_front e)
+            | inr never ↦ inr (NotTimed, fault-untimed (b ∷ bs) s p sums f.tal k b f.texts f.rest f.is_front never)
           ]
-      | inr none ↦ inr (NotTimed, fault-none b v.rest s p v.in_window v.count v.bytes v.is_survey z none)
+      | inr none ↦ inr (NotTimed, fault-none b bs s p sums v none)
     ]
+
+by-form : (bs : List (List ℕ)) (s : ℕ) (p : Place) (f : Form) → HasForm bs s f → HaveAnswer bs s p
+by-form bs s p (Good sums) v = judged bs s p sums v
+by-form bs s p (BadText at) h = inr (Text at, fault-text bs s p at h.0 h.1)
+
+pub blocks-some-answer : (bs : List (List ℕ)) (s : ℕ) (p : Place) → HaveAnswer bs s p
+blocks-some-answer bs s p = elim (forms bs s) [ inl f ↦ by-form bs s p f.0 f.1 | inr x ↦ inr (NotTals x.0, fault-tal bs s p x.0 x.1) ]
+
+pub blocks-no-memory : (bs : List (List ℕ)) (s : ℕ) (p : Place) → ¬ IsBlocksFault bs s p Memory
+blocks-no-memory bs s p f = f.holds
+
+-- ---- the same of a data record with one block
+
+abbrev pub HasAnswer : List ℕ → ℕ → Place → Type 0
+HasAnswer b s p = ((start : ℕ) × (list : List Annotation) × IsRead b s p start list) ⊎ ((e : TalFault) × IsBlockFault b s p e)
 
 pub some-answer : (b : List ℕ) (s : ℕ) (p : Place) → HasAnswer b s p
-some-answer b s p =
-    elim (survey b s) [
-      | inl v ↦ elim (zeros v.rest) [
-        | inl z ↦ judged b s p v z
-        | inr never ↦ inr (NotTals (length b - length v.rest), fault-tal b v.rest s p (survey-behind b v.rest s v.in_window v.count v.bytes v.is_survey) v.last never)
-      ]
-      | inr x ↦ elim (zeros x.rest) [
-        | inl z ↦ inr (Text x.at, fault-text b x.rest s p x.at x.is_behind z x.bad)
-        | inr never ↦ inr (NotTals (length b - length x.rest), fault-tal b x.rest s p x.is_behind x.last never)
-      ]
-    ]
+some-answer b s p = blocks-some-answer (b ∷ []) s p
 
 pub no-memory : (b : List ℕ) (s : ℕ) (p : Place) → ¬ IsBlockFault b s p Memory
-no-memory b s p f = f.holds
+no-memory b s p = blocks-no-memory (b ∷ []) s p

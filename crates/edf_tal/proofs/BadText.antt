@@ -3,16 +3,12 @@ use Rattle.std.proofs.Common.{◌≡◌, ℕ, ◌+◌, List, [], ◌∷◌, ◌+
 use Rattle.std.specs.Prelude.{IsUtf8}
 use Rattle.std.specs.List.{AllByRecursion}
 use Rattle.std.proofs.lemmas.List.{length-append}
-use Rattle.edf_tal.specs.Tal.{Tal, IsTal, IsOnset, IsDurationPart, IsText, ended, AreTals, AreTalsAndZeros}
+use Rattle.edf_tal.specs.Tal.{Tal, IsTal, IsOnset, IsDurationPart, IsText, ended, AreTals, AreTalsAndZeros, HaveUtf8Texts}
 use Rattle.edf_tal.specs.Block.{IsBadText}
 use Rattle.edf_tal.specs.Inside.Scan.{Lacks, AreZeros}
 use Rattle.edf_tal.proofs.Unique.{same-sides, Lacks-append, Lacks-onset, Lacks-duration, Lacks-text}
 use Rattle.edf_tal.proofs.Fronts.{same-front, HasEnd-tal}
 use Rattle.edf_tal.proofs.OneBlock.{no-onset, zeros-no-tal, tal-sides}
-
--- the texts of every TAL are UTF-8
-abbrev pub AreGood : List Tal → Type 0
-AreGood ts = AllByRecursion (λ t. AllByRecursion IsUtf8 t.texts) ts
 
 -- the first text that is no UTF-8, in the TAL at the front
 pub record IsBadFront (bytes : List ℕ) (at : ℕ) : Type 0 where
@@ -37,7 +33,7 @@ pub record BadParts (bytes : List ℕ) (at : ℕ) : Type 0 where
   pub inner : ℕ
   pub parts : bytes ≡ front ++ rest
   pub whole : AreTals front tals
-  pub good : AreGood tals
+  pub good : HaveUtf8Texts tals
   pub bad : IsBadFront rest inner
   pub place : at ≡ length front + inner
 
@@ -67,7 +63,7 @@ bad-split bytes at b = record {
   place = let e : at ≡ length b.front + length b.onset + length b.duration + 1 + length (ended b.good) = b.place in omega arith;
 }
 
-pub bad-join : (bytes front rest : List ℕ) (tals : List Tal) (at inner : ℕ) → bytes ≡ front ++ rest → AreTals front tals → AreGood tals
+pub bad-join : (bytes front rest : List ℕ) (tals : List Tal) (at inner : ℕ) → bytes ≡ front ++ rest → AreTals front tals → HaveUtf8Texts tals
     → IsBadFront rest inner → at ≡ length front + inner → IsBadText bytes at
 bad-join bytes front rest tals at inner e whole good b place = record {
   front = front;
@@ -132,7 +128,7 @@ regroup f r x f' r' x' front front' p q e =
     sym (append_assoc f r x) ∙ ap (λ (w : List ℕ). w ++ x) (sym p) ∙ e ∙ ap (λ (w : List ℕ). w ++ x') q ∙ append_assoc f' r' x'
 
 -- good TALs and zeros have no bad text
-no-bad : (us ts : List Tal) (front rest front' zeros : List ℕ) (at : ℕ) → AreTals front us → AreTals front' ts → AreGood ts → AreZeros zeros
+no-bad : (us ts : List Tal) (front rest front' zeros : List ℕ) (at : ℕ) → AreTals front us → AreTals front' ts → HaveUtf8Texts ts → AreZeros zeros
     → IsBadFront rest at → front ++ rest ≡ front' ++ zeros → ⊥
 no-bad [] [] front rest front' zeros at p q good a b e =
     zeros-front zeros at a (subst (λ (x : List ℕ). IsBadFront x at) (sym (ap (λ (x : List ℕ). x ++ rest) p) ∙ e ∙ ap (λ (x : List ℕ). x ++ zeros) q) b)
@@ -144,7 +140,7 @@ no-bad (u ∷ us) (t ∷ ts) front rest front' zeros at (f, r, parts, is, more) 
     let s = same-front f f' (r ++ rest) (r' ++ zeros) (HasEnd-tal f u is) (HasEnd-tal f' t is') (regroup f r rest f' r' zeros front front' parts parts' e) in
     no-bad us ts r rest r' zeros at more more' good.1 a b s.back
 
-pub good-block : (bytes : List ℕ) (ts : List Tal) (at : ℕ) → AreTalsAndZeros bytes ts → AreGood ts → IsBadText bytes at → ⊥
+pub good-block : (bytes : List ℕ) (ts : List Tal) (at : ℕ) → AreTalsAndZeros bytes ts → HaveUtf8Texts ts → IsBadText bytes at → ⊥
 good-block bytes ts at (front, zeros, parts, tals, are) good b =
     let s = bad-split bytes at b in
     no-bad s.tals ts s.front s.rest front zeros s.inner s.whole tals good are s.bad (sym s.parts ∙ parts)
@@ -178,7 +174,7 @@ one-front bytes j k b c =
     let q : k ≡ length c.onset + length c.duration + 1 + length (ended c.good) = c.place in
     omega arith
 
-one-bad : (ts us : List Tal) (front rest front' rest' : List ℕ) (j k : ℕ) → AreTals front ts → AreTals front' us → AreGood ts → AreGood us
+one-bad : (ts us : List Tal) (front rest front' rest' : List ℕ) (j k : ℕ) → AreTals front ts → AreTals front' us → HaveUtf8Texts ts → HaveUtf8Texts us
     → IsBadFront rest j → IsBadFront rest' k → front ++ rest ≡ front' ++ rest' → length front + j ≡ length front' + k
 one-bad [] [] front rest front' rest' j k p q g h b c e =
     let same : rest ≡ rest' = sym (ap (λ (x : List ℕ). x ++ rest) p) ∙ e ∙ ap (λ (x : List ℕ). x ++ rest') q in

@@ -1,39 +1,23 @@
--- The first fault of a block.
-use Rattle.std.proofs.Common.{◌≡◌, ℕ, suc, ◌+◌, ◌-◌, ◌≤◌, ◌<◌, Bool, List, [], ◌∷◌, ◌++◌, length, take, drop, map, arith, refl, sym, ap, ◌∙◌, subst, append_assoc}
+-- The first fault of the blocks of a data record.
+use Rattle.std.proofs.Common.{◌≡◌, ℕ, suc, ◌+◌, ◌-◌, ◌≤◌, ◌<◌, List, [], ◌∷◌, ◌++◌, length, drop, map, arith, refl, sym, ap, ◌∙◌, subst, append_assoc}
 use Rattle.std.specs.Prelude.{IsTrue, ◌↔◌}
 use Rattle.std.specs.List.{AllByRecursion, flat_map}
-use Rattle.std.proofs.lemmas.List.{length-append, length-take, take-append-drop, take_at}
 use Rattle.std.proofs.lemmas.List.Sums.{sum_by-cons}
-use Rattle.edf_tal.specs.Tal.{Tal, Annotation, IsTal, IsText, ended, AreTals, AreTalsAndZeros, IsTimed, IsTalInWindow, instant, tal_annotations, annotations, begin}
-use Rattle.edf_tal.specs.Block.{IsBadText, IsLongestFront, IsWithinLimits, KeepsPlace, BlockFails, tal_fault_number, IsBlockFault}
-use Rattle.edf_tal.specs.Inside.Scan.{NoTal, AreZeros, IsTalAtFront, IsBehind, IsSurvey, KeepsSecond, KeepsOrder, IsChecked}
+use Rattle.edf_tal.specs.Tal.{Tal, Annotation, IsTal, IsText, ended, AreTalsAndZeros, AreBlocks, first_tals, all_tals, HaveUtf8Texts, IsTimed, IsTalInWindow, instant, tal_annotations, annotations, begin}
+use Rattle.edf_tal.specs.Block.{IsBroken, HasBadText, IsWithinLimits, KeepsPlace, BlocksFail, tal_fault_number, IsBlocksFault}
+use Rattle.edf_tal.specs.Inside.Scan.{NoTal, IsTalAtFront, KeepsSecond, KeepsOrder}
+use Rattle.edf_tal.specs.Inside.Blocks.{AreSurveyed, IsChecked}
+use Rattle.edf_tal.specs.declared.blocks.Sums.{Sums}
 use Rattle.edf_tal.specs.declared.place.Place.{Place}
 use Rattle.edf_tal.specs.declared.place.Place.TheVariants.{First, After, Any}
 use Rattle.edf_tal.specs.declared.place.TalFault.{TalFault}
 use Rattle.edf_tal.specs.declared.place.TalFault.TheVariants.{Tal as NotTals, Text, NotTimed, FirstOnset, Window, Order, TooMany, Memory}
 use Rattle.edf_tal.proofs.Unique.{one-tal}
-use Rattle.edf_tal.proofs.Fronts.{longest, same-front, HasEnd-tal}
-use Rattle.edf_tal.proofs.OneBlock.{same-tals, zeros-no-tal}
-use Rattle.edf_tal.proofs.BadText.{AreGood, good-block}
+use Rattle.edf_tal.proofs.Fronts.{same-front, HasEnd-tal}
+use Rattle.edf_tal.proofs.OneBlock.{zeros-no-tal}
+use Rattle.edf_tal.proofs.Joined.{not-broken, not-bad}
 use Rattle.edf_tal.proofs.OneAnswer.{on-tals}
 use Rattle.edf_tal.proofs.Totals.{text_bytes, note_of}
-
--- the front of TALs is the longest, and what is behind it would be the zeros
-not-block : (block rest : List ℕ) → IsBehind block rest → NoTal rest → ¬ AreZeros rest → (ts : List Tal) → ¬ AreTalsAndZeros block ts
-not-block block rest b last not-zeros ts (front, zeros, parts, tals, are) =
-    not-zeros (rw (same-tals b.tals ts b.front rest front zeros b.whole tals last (zeros-no-tal zeros are) (sym b.parts ∙ parts)).rest are)
-
-longest-front : (block rest : List ℕ) → IsBehind block rest → NoTal rest → IsLongestFront block (length block - length rest)
-longest-front block rest b last =
-    let len : length block - length rest ≡ length b.front = omega (arith, ap length b.parts, length-append b.front rest) in
-    rw len (record {
-      tals = b.tals;
-      within = omega (arith, ap length b.parts, length-append b.front rest);
-      front = rw (b.parts, take_at b.front rest (length b.front) refl) b.whole;
-      longest = λ m others low others-are.
-          let s = longest b.tals others b.front rest (take m block) (drop m block) b.whole last others-are (sym b.parts ∙ sym (take-append-drop m block)) in
-          omega (arith, s, length-take m block);
-    })
 
 lowest : (e : TalFault) → tal_fault_number e < 22 → ⊥
 lowest (NotTals offset) h = omega arith
@@ -45,111 +29,121 @@ lowest Order h = omega arith
 lowest TooMany h = omega arith
 lowest Memory h = omega arith
 
-pub fault-tal : (block rest : List ℕ) (s : ℕ) (p : Place) → IsBehind block rest → NoTal rest → ¬ AreZeros rest → IsBlockFault block s p (NotTals (length block - length rest))
-fault-tal block rest s p b last not-zeros = record {
-  holds = (not-block block rest b last not-zeros, longest-front block rest b last);
+pub fault-tal : (bs : List (List ℕ)) (s : ℕ) (p : Place) (at : ℕ) → IsBroken bs at → IsBlocksFault bs s p (NotTals at)
+fault-tal bs s p at broken = record {
+  holds = broken;
   first = λ other low. absurd (lowest other low);
 }
 
 -- what comes before a fault of number n
-pub record IsClear (b : List ℕ) (s : ℕ) (p : Place) (n : ℕ) (ts : List Tal) : Type 0 where
+pub record IsClear (bs : List (List ℕ)) (s : ℕ) (p : Place) (n : ℕ) (tss : List (List Tal)) : Type 0 where
   pub known : n ≤ 28
-  pub whole : 22 < n → AreTalsAndZeros b ts
-  pub good : 23 < n → AreGood ts
-  pub timed : 24 < n → IsTimed ts
-  pub second : 25 < n → (p ≡ First → KeepsPlace First s ts)
-  pub window : 26 < n → AllByRecursion (IsTalInWindow s) ts
-  pub order : 27 < n → KeepsOrder p (begin s ts)
+  pub lists : 22 < n → AreBlocks bs tss
+  pub good : 23 < n → HaveUtf8Texts (all_tals tss)
+  pub timed : 24 < n → IsTimed (first_tals tss)
+  pub second : 25 < n → (p ≡ First → KeepsPlace First s (first_tals tss))
+  pub window : 26 < n → AllByRecursion (IsTalInWindow s) (all_tals tss)
+  pub order : 27 < n → KeepsOrder p (begin s (first_tals tss))
 
-clear : (b : List ℕ) (s : ℕ) (p : Place) (n : ℕ) (ts : List Tal) → IsClear b s p n ts → (e : TalFault) → tal_fault_number e < n → ¬ BlockFails b s p e
-clear b s p n ts h (NotTals offset) low f = f.0 ts (h.whole low)
-clear b s p n ts h (Text offset) low f = good-block b ts offset (h.whole (omega arith)) (h.good low) f.1
-clear b s p n ts h NotTimed low (us, w, fails) = on-tals IsTimed b ts us (h.whole (omega arith)) w (h.timed low) fails
-clear b s First n ts h FirstOnset low (us, w, fails) = on-tals (KeepsPlace First s) b ts us (h.whole (omega arith)) w (h.second low refl) fails
-clear b s (After before duration) n ts h FirstOnset low f = f
-clear b s Any n ts h FirstOnset low f = f
-clear b s p n ts h Window low (us, w, fails) = on-tals (AllByRecursion (IsTalInWindow s)) b ts us (h.whole (omega arith)) w (h.window low) fails
-clear b s First n ts h Order low f = f
-clear b s (After before duration) n ts h Order low (us, w, fails) = on-tals (KeepsPlace (After before duration) s) b ts us (h.whole (omega arith)) w (h.order low) fails
-clear b s Any n ts h Order low f = f
-clear b s p n ts h TooMany low f = let k = h.known in absurd (omega arith)
-clear b s p n ts h Memory low f = let k = h.known in absurd (omega arith)
+clear : (bs : List (List ℕ)) (s : ℕ) (p : Place) (n : ℕ) (tss : List (List Tal)) → IsClear bs s p n tss → (e : TalFault) → tal_fault_number e < n → ¬ BlocksFail bs s p e
+clear bs s p n tss h (NotTals at) low f = not-broken bs tss at (h.lists low) f
+clear bs s p n tss h (Text at) low f = not-bad bs tss at (h.lists (omega arith)) (h.good low) f.1
+clear bs s p n tss h NotTimed low (us, w, fails) = on-tals (λ (ts : List (List Tal)). IsTimed (first_tals ts)) bs tss us (h.lists (omega arith)) w (h.timed low) fails
+clear bs s First n tss h FirstOnset low (us, w, fails) =
+    on-tals (λ (ts : List (List Tal)). KeepsPlace First s (first_tals ts)) bs tss us (h.lists (omega arith)) w (h.second low refl) fails
+clear bs s (After before duration) n tss h FirstOnset low f = f
+clear bs s Any n tss h FirstOnset low f = f
+clear bs s p n tss h Window low (us, w, fails) =
+    on-tals (λ (ts : List (List Tal)). AllByRecursion (IsTalInWindow s) (all_tals ts)) bs tss us (h.lists (omega arith)) w (h.window low) fails
+clear bs s First n tss h Order low f = f
+clear bs s (After before duration) n tss h Order low (us, w, fails) =
+    on-tals (λ (ts : List (List Tal)). KeepsPlace (After before duration) s (first_tals ts)) bs tss us (h.lists (omega arith)) w (h.order low) fails
+clear bs s Any n tss h Order low f = f
+clear bs s p n tss h TooMany low f = let k = h.known in absurd (omega arith)
+clear bs s p n tss h Memory low f = let k = h.known in absurd (omega arith)
 
-pub fault-text : (block rest : List ℕ) (s : ℕ) (p : Place) (at : ℕ) → IsBehind block rest → AreZeros rest → IsBadText block at → IsBlockFault block s p (Text at)
-fault-text block rest s p at b zeros bad =
-    let whole : AreTalsAndZeros block b.tals = (b.front, rest, b.parts, b.whole, zeros) in
-    record {
-      holds = ((b.tals, whole), bad);
-      first = clear block s p 23 b.tals (record {
-        known = omega arith;
-        whole = λ h. whole;
-        good = λ h. absurd (omega arith);
-        timed = λ h. absurd (omega arith);
-        second = λ h. absurd (omega arith);
-        window = λ h. absurd (omega arith);
-        order = λ h. absurd (omega arith);
-      });
-    }
-
--- a block of TALs, the first of which is known
-pub record Known (b : List ℕ) (s : ℕ) (rest : List ℕ) (in_window : Bool) (count bytes : ℕ) (t : Tal) : Type 0 where
-  pub more : List Tal
-  pub front : List ℕ
-  pub parts : b ≡ front ++ rest
-  pub tals : AreTals front (t ∷ more)
-  pub good : AreGood (t ∷ more)
-  pub zeros : AreZeros rest
-  pub window : IsTrue in_window ↔ AllByRecursion (IsTalInWindow s) (t ∷ more)
-  pub count_is : count ≡ length (flat_map (tal_annotations s) (t ∷ more))
-  pub bytes_is : bytes ≡ text_bytes (flat_map (tal_annotations s) (t ∷ more))
-
-first-of : (front rest : List ℕ) (ts : List Tal) (f more : List ℕ) (t : Tal) → AreTals front ts → AreZeros rest → IsTal f t → front ++ rest ≡ f ++ more
-    → (us : List Tal) × (ts ≡ t ∷ us)
-first-of front rest [] f more t a z s e = absurd (zeros-no-tal rest z f more t (sym (ap (λ (x : List ℕ). x ++ rest) a) ∙ e) s)
-first-of front rest (u ∷ us) f more t (g, r, parts, is, others) z s e =
-    let same = same-front g f (r ++ rest) more (HasEnd-tal g u is) (HasEnd-tal f t s) (sym (append_assoc g r rest) ∙ ap (λ (x : List ℕ). x ++ rest) (sym parts) ∙ e) in
-    (us, ap (λ (x : Tal). x ∷ us) (one-tal g u t is (rw (same.front) s)))
-
-pub known : (b rest texts more : List ℕ) (s : ℕ) (in_window : Bool) (count bytes : ℕ) (t : Tal) → IsSurvey b s rest in_window count bytes → AreZeros rest
-    → IsTalAtFront b texts more t → Known b s rest in_window count bytes t
-known b rest texts more s in_window count bytes t v z f =
-    let first = first-of v.front rest v.tals f.front more t v.whole z f.tal (sym v.parts ∙ f.parts) in
-    record {
-      more = first.0;
-      front = v.front;
-      parts = v.parts;
-      tals = subst (AreTals v.front) first.1 v.whole;
-      good = subst AreGood first.1 v.good;
-      zeros = z;
-      window = subst (λ (ts : List Tal). IsTrue in_window ↔ AllByRecursion (IsTalInWindow s) ts) first.1 v.window;
-      count_is = v.count_is ∙ ap (λ (ts : List Tal). length (flat_map (tal_annotations s) ts)) first.1;
-      bytes_is = v.bytes_is ∙ ap (λ (ts : List Tal). text_bytes (flat_map (tal_annotations s) ts)) first.1;
-    }
-
--- there is no TAL
-not-timed : (front rest : List ℕ) (ts : List Tal) → AreTals front ts → NoTal (front ++ rest) → ¬ IsTimed ts
-not-timed front rest [] a none h = h
-not-timed front rest (t ∷ ts) (f, r, parts, is, more) none h =
-    none f (r ++ rest) t (ap (λ (x : List ℕ). x ++ rest) parts ∙ append_assoc f r rest) is
-
-clear-right : (b rest : List ℕ) (s : ℕ) (p : Place) (ts : List Tal) → AreTalsAndZeros b ts → AreGood ts → IsClear b s p 24 ts
-clear-right b rest s p ts whole good = record {
-  known = omega arith;
-  whole = λ h. whole;
-  good = λ h. good;
-  timed = λ h. absurd (omega arith);
-  second = λ h. absurd (omega arith);
-  window = λ h. absurd (omega arith);
-  order = λ h. absurd (omega arith);
+pub fault-text : (bs : List (List ℕ)) (s : ℕ) (p : Place) (at : ℕ) → ((tss : List (List Tal)) × AreBlocks bs tss) → HasBadText bs at → IsBlocksFault bs s p (Text at)
+fault-text bs s p at (tss, lists) bad = record {
+  holds = ((tss, lists), bad);
+  first = clear bs s p 23 tss (record {
+    known = omega arith;
+    lists = λ h. lists;
+    good = λ h. absurd (omega arith);
+    timed = λ h. absurd (omega arith);
+    second = λ h. absurd (omega arith);
+    window = λ h. absurd (omega arith);
+    order = λ h. absurd (omega arith);
+  });
 }
 
-pub fault-none : (b rest : List ℕ) (s : ℕ) (p : Place) (in_window : Bool) (count bytes : ℕ) → IsSurvey b s rest in_window count bytes → AreZeros rest → NoTal b
-    → IsBlockFault b s p NotTimed
-fault-none b rest s p in_window count bytes v z none =
-    let whole : AreTalsAndZeros b v.tals = (v.front, rest, v.parts, v.whole, z) in
+-- blocks of TALs with good texts, which are not timed
+fault-lists : (bs : List (List ℕ)) (s : ℕ) (p : Place) (tss : List (List Tal)) → AreBlocks bs tss → HaveUtf8Texts (all_tals tss) → ¬ IsTimed (first_tals tss)
+    → IsBlocksFault bs s p NotTimed
+fault-lists bs s p tss lists good fails = record {
+  holds = (tss, lists, fails);
+  first = clear bs s p 24 tss (record {
+    known = omega arith;
+    lists = λ h. lists;
+    good = λ h. good;
+    timed = λ h. absurd (omega arith);
+    second = λ h. absurd (omega arith);
+    window = λ h. absurd (omega arith);
+    order = λ h. absurd (omega arith);
+  });
+}
+
+-- there is no TAL in the first block
+not-timed : (b : List ℕ) (ts : List Tal) → AreTalsAndZeros b ts → NoTal b → ¬ IsTimed ts
+not-timed b [] a none h = h
+not-timed b (t ∷ ts) (front, zeros, parts, (f, r, same, is, more), are) none h =
+    none f (r ++ zeros) t (parts ∙ ap (λ (x : List ℕ). x ++ zeros) same ∙ append_assoc f r zeros) is
+
+pub fault-none : (b : List ℕ) (later : List (List ℕ)) (s : ℕ) (p : Place) (sums : Sums) → AreSurveyed (b ∷ later) s sums → NoTal b
+    → IsBlocksFault (b ∷ later) s p NotTimed
+fault-none b later s p sums v none = fault-lists (b ∷ later) s p v.tals v.lists v.good (untimed v.tals v.lists)
+  where
+    untimed : (tss : List (List Tal)) → AreBlocks (b ∷ later) tss → ¬ IsTimed (first_tals tss)
+    untimed [] l = absurd l
+    untimed (ts ∷ tss) l = not-timed b ts l.0 none
+
+pub fault-empty : (s : ℕ) (p : Place) → IsBlocksFault [] s p NotTimed
+fault-empty s p = fault-lists [] s p [] tt tt (λ h. h)
+
+-- blocks of TALs, the first of which is known
+pub record Known (bs : List (List ℕ)) (s : ℕ) (sums : Sums) (t : Tal) : Type 0 where
+  pub more : List Tal
+  pub others : List (List Tal)
+  pub lists : AreBlocks bs ((t ∷ more) ∷ others)
+  pub good : HaveUtf8Texts (all_tals ((t ∷ more) ∷ others))
+  pub window : IsTrue sums.in_window ↔ AllByRecursion (IsTalInWindow s) (all_tals ((t ∷ more) ∷ others))
+  pub count_is : sums.count ≡ length (flat_map (tal_annotations s) (all_tals ((t ∷ more) ∷ others)))
+  pub bytes_is : sums.text_bytes ≡ text_bytes (flat_map (tal_annotations s) (all_tals ((t ∷ more) ∷ others)))
+
+first-of : (b f more : List ℕ) (ts : List Tal) (t : Tal) → AreTalsAndZeros b ts → IsTal f t → b ≡ f ++ more → (us : List Tal) × (ts ≡ t ∷ us)
+first-of b f more [] t (front, zeros, parts, a, are) s e = absurd (zeros-no-tal zeros are f more t (sym (parts ∙ ap (λ (x : List ℕ). x ++ zeros) a) ∙ e) s)
+first-of b f more (u ∷ us) t (front, zeros, parts, (g, r, same, is, others), are) s e =
+    let both = same-front g f (r ++ zeros) more (HasEnd-tal g u is) (HasEnd-tal f t s) (sym (append_assoc g r zeros) ∙ ap (λ (x : List ℕ). x ++ zeros) (sym same) ∙ sym parts ∙ e) in
+    (us, ap (λ (x : Tal). x ∷ us) (one-tal g u t is (rw (both.front) s)))
+
+first-list : (b : List ℕ) (later : List (List ℕ)) (f more : List ℕ) (tss : List (List Tal)) (t : Tal) → AreBlocks (b ∷ later) tss → IsTal f t → b ≡ f ++ more
+    → (us : List Tal) × (others : List (List Tal)) × (tss ≡ (t ∷ us) ∷ others)
+first-list b later f more [] t l s e = absurd l
+first-list b later f more (ts ∷ tss) t l s e =
+    let first = first-of b f more ts t l.0 s e in
+    (first.0, tss, ap (λ (x : List Tal). x ∷ tss) first.1)
+
+pub known : (b : List ℕ) (later : List (List ℕ)) (texts rest : List ℕ) (s : ℕ) (sums : Sums) (t : Tal) → AreSurveyed (b ∷ later) s sums → IsTalAtFront b texts rest t
+    → Known (b ∷ later) s sums t
+known b later texts rest s sums t v f =
+    let first = first-list b later f.front rest v.tals t v.lists f.tal f.parts in
     record {
-      holds = (v.tals, whole, not-timed v.front rest v.tals v.whole (subst NoTal v.parts none));
-      first = clear b s p 24 v.tals (clear-right b rest s p v.tals whole v.good);
+      more = first.0;
+      others = first.1;
+      lists = subst (AreBlocks (b ∷ later)) first.2 v.lists;
+      good = subst (λ (ts : List (List Tal)). HaveUtf8Texts (all_tals ts)) first.2 v.good;
+      window = subst (λ (ts : List (List Tal)). IsTrue sums.in_window ↔ AllByRecursion (IsTalInWindow s) (all_tals ts)) first.2 v.window;
+      count_is = v.count_is ∙ ap (λ (ts : List (List Tal)). length (flat_map (tal_annotations s) (all_tals ts))) first.2;
+      bytes_is = v.bytes_is ∙ ap (λ (ts : List (List Tal)). text_bytes (flat_map (tal_annotations s) (all_tals ts))) first.2;
     }
 
 -- a first text that is empty
@@ -158,60 +152,15 @@ first-empty [] rest a e = absurd cc
 first-empty ([] ∷ xs) rest a e = (xs, refl)
 first-empty ((b ∷ x) ∷ xs) rest a e = absurd (a.0.0.1 (let z : b ≡ 20 = cc in z))
 
-pub timed : (b texts more : List ℕ) (t : Tal) → IsTalAtFront b texts more t → ((rest : List ℕ) × (texts ≡ 20 ∷ rest)) → (xs : List (List ℕ)) × (t.texts ≡ [] ∷ xs)
+-- its TAL keeps time
+abbrev pub IsEmptyFirst : Tal → Type 0
+IsEmptyFirst t = (xs : List (List ℕ)) × (t.texts ≡ [] ∷ xs)
+
+pub timed : (b texts more : List ℕ) (t : Tal) → IsTalAtFront b texts more t → ((rest : List ℕ) × (texts ≡ 20 ∷ rest)) → IsEmptyFirst t
 timed b texts more t f (rest, e) = first-empty t.texts rest f.tal.are_texts (sym f.texts_are ∙ e)
 
-untimed : (b texts more : List ℕ) (t : Tal) → IsTalAtFront b texts more t → ¬ ((rest : List ℕ) × (texts ≡ 20 ∷ rest)) → ¬ ((xs : List (List ℕ)) × (t.texts ≡ [] ∷ xs))
+untimed : (b texts more : List ℕ) (t : Tal) → IsTalAtFront b texts more t → ¬ ((rest : List ℕ) × (texts ≡ 20 ∷ rest)) → ¬ IsEmptyFirst t
 untimed b texts more t f fails (xs, e) = fails (ended xs, f.texts_are ∙ ap ended e)
-
-whole-of : (b rest : List ℕ) (s : ℕ) (in_window : Bool) (count bytes : ℕ) (t : Tal) (k : Known b s rest in_window count bytes t) → AreTalsAndZeros b (t ∷ k.more)
-whole-of b rest s in_window count bytes t k = (k.front, rest, k.parts, k.tals, k.zeros)
-
-clear-known : (b rest : List ℕ) (s : ℕ) (p : Place) (in_window : Bool) (count bytes : ℕ) (t : Tal) (k : Known b s rest in_window count bytes t) (n : ℕ) → n ≤ 28
-    → (24 < n → (xs : List (List ℕ)) × (t.texts ≡ [] ∷ xs)) → (25 < n → KeepsSecond p t.onset) → (26 < n → IsTrue in_window) → (27 < n → KeepsOrder p (instant s t.onset))
-    → IsClear b s p n (t ∷ k.more)
-clear-known b rest s p in_window count bytes t k n low timed second window order = record {
-  known = low;
-  whole = λ h. whole-of b rest s in_window count bytes t k;
-  good = λ h. k.good;
-  timed = timed;
-  second = λ h is. subst (λ (q : Place). KeepsSecond q t.onset) is (second h);
-  window = λ h. k.window.0 (window h);
-  order = order;
-}
-
-pub fault-untimed : (b rest texts more : List ℕ) (s : ℕ) (p : Place) (in_window : Bool) (count bytes : ℕ) (t : Tal) → Known b s rest in_window count bytes t → IsTalAtFront b texts more t
-    → ¬ ((rest : List ℕ) × (texts ≡ 20 ∷ rest)) → IsBlockFault b s p NotTimed
-fault-untimed b rest texts more s p in_window count bytes t k f fails = record {
-  holds = (t ∷ k.more, whole-of b rest s in_window count bytes t k, untimed b texts more t f fails);
-  first = clear b s p 24 (t ∷ k.more) (clear-right b rest s p (t ∷ k.more) (whole-of b rest s in_window count bytes t k) k.good);
-}
-
-pub fault-second : (b rest : List ℕ) (s : ℕ) (p : Place) (in_window : Bool) (count bytes : ℕ) (t : Tal) → Known b s rest in_window count bytes t
-    → ((xs : List (List ℕ)) × (t.texts ≡ [] ∷ xs)) → ¬ KeepsSecond p t.onset → IsBlockFault b s p FirstOnset
-fault-second b rest s First in_window count bytes t k timed fails = record {
-  holds = (t ∷ k.more, whole-of b rest s in_window count bytes t k, fails);
-  first = clear b s First 25 (t ∷ k.more) (clear-known b rest s First in_window count bytes t k 25 (omega arith) (λ h. timed) (λ h. absurd (omega arith)) (λ h. absurd (omega arith)) (λ h. absurd (omega arith)));
-}
-fault-second b rest s (After before duration) in_window count bytes t k timed fails = absurd (fails tt)
-fault-second b rest s Any in_window count bytes t k timed fails = absurd (fails tt)
-
-pub fault-window : (b rest : List ℕ) (s : ℕ) (p : Place) (in_window : Bool) (count bytes : ℕ) (t : Tal) → Known b s rest in_window count bytes t
-    → ((xs : List (List ℕ)) × (t.texts ≡ [] ∷ xs)) → KeepsSecond p t.onset → ¬ IsTrue in_window → IsBlockFault b s p Window
-fault-window b rest s p in_window count bytes t k timed second fails = record {
-  holds = (t ∷ k.more, whole-of b rest s in_window count bytes t k, λ w. fails (k.window.1 w));
-  first = clear b s p 26 (t ∷ k.more) (clear-known b rest s p in_window count bytes t k 26 (omega arith) (λ h. timed) (λ h. second) (λ h. absurd (omega arith)) (λ h. absurd (omega arith)));
-}
-
-pub fault-order : (b rest : List ℕ) (s : ℕ) (p : Place) (in_window : Bool) (count bytes : ℕ) (t : Tal) → Known b s rest in_window count bytes t
-    → ((xs : List (List ℕ)) × (t.texts ≡ [] ∷ xs)) → KeepsSecond p t.onset → IsTrue in_window → ¬ KeepsOrder p (instant s t.onset) → IsBlockFault b s p Order
-fault-order b rest s First in_window count bytes t k timed second window fails = absurd (fails tt)
-fault-order b rest s (After before duration) in_window count bytes t k timed second window fails = record {
-  holds = (t ∷ k.more, whole-of b rest s in_window count bytes t k, fails);
-  first = clear b s (After before duration) 27 (t ∷ k.more)
-      (clear-known b rest s (After before duration) in_window count bytes t k 27 (omega arith) (λ h. timed) (λ h. second) (λ h. window) (λ h. absurd (omega arith)));
-}
-fault-order b rest s Any in_window count bytes t k timed second window fails = absurd (fails tt)
 
 -- the list without the empty first annotation
 pub record Dropped (list : List Annotation) : Type 0 where
@@ -230,61 +179,101 @@ dropped-first s t ts xs e =
     ap (λ (w : List (List ℕ)). map (note_of (instant s t.onset) t.duration) w ++ flat_map (tal_annotations s) ts) e in
     rw same (dropped (note_of (instant s t.onset) t.duration []) (map (note_of (instant s t.onset) t.duration) xs ++ flat_map (tal_annotations s) ts) refl)
 
-within : (b rest : List ℕ) (s : ℕ) (in_window : Bool) (count bytes : ℕ) (t : Tal) (k : Known b s rest in_window count bytes t)
-    → ((xs : List (List ℕ)) × (t.texts ≡ [] ∷ xs)) → count ≤ 10_001 → bytes ≤ 1_000_000 → IsWithinLimits (annotations s (t ∷ k.more))
-within b rest s in_window count bytes t k (xs, e) few short =
-    let d = dropped-first s t k.more xs e in
-    let c : count ≡ length (flat_map (tal_annotations s) (t ∷ k.more)) = k.count_is in
-    let n : bytes ≡ text_bytes (flat_map (tal_annotations s) (t ∷ k.more)) = k.bytes_is in
-    record { count = omega (arith, d.count); bytes = omega (arith, d.bytes) }
-
-beyond : (b rest : List ℕ) (s : ℕ) (in_window : Bool) (count bytes : ℕ) (t : Tal) (k : Known b s rest in_window count bytes t)
-    → ((xs : List (List ℕ)) × (t.texts ≡ [] ∷ xs)) → IsWithinLimits (annotations s (t ∷ k.more)) → (count ≤ 10_001) × (bytes ≤ 1_000_000)
-beyond b rest s in_window count bytes t k (xs, e) w =
-    let d = dropped-first s t k.more xs e in
-    let c : count ≡ length (flat_map (tal_annotations s) (t ∷ k.more)) = k.count_is in
-    let n : bytes ≡ text_bytes (flat_map (tal_annotations s) (t ∷ k.more)) = k.bytes_is in
-    (omega (arith, d.count, w.count), omega (arith, d.bytes, w.bytes))
-
-pub fault-many : (b rest : List ℕ) (s : ℕ) (p : Place) (in_window : Bool) (count bytes : ℕ) (t : Tal) → Known b s rest in_window count bytes t
-    → ((xs : List (List ℕ)) × (t.texts ≡ [] ∷ xs)) → KeepsSecond p t.onset → IsTrue in_window → KeepsOrder p (instant s t.onset)
-    → ¬ ((count ≤ 10_001) × (bytes ≤ 1_000_000)) → IsBlockFault b s p TooMany
-fault-many b rest s p in_window count bytes t k timed second window order fails = record {
-  holds = (t ∷ k.more, whole-of b rest s in_window count bytes t k, λ w. fails (beyond b rest s in_window count bytes t k timed w));
-  first = clear b s p 28 (t ∷ k.more) (clear-known b rest s p in_window count bytes t k 28 (omega arith) (λ h. timed) (λ h. second) (λ h. window) (λ h. order));
-}
-
 keeps-place : (p : Place) (s : ℕ) (t : Tal) (ts : List Tal) → KeepsSecond p t.onset → KeepsOrder p (instant s t.onset) → KeepsPlace p s (t ∷ ts)
 keeps-place First s t ts second order = second
 keeps-place (After before duration) s t ts second order = order
 keeps-place Any s t ts second order = tt
 
-pub some-count : (b rest : List ℕ) (s : ℕ) (in_window : Bool) (count bytes : ℕ) (t : Tal) → Known b s rest in_window count bytes t
-    → ((xs : List (List ℕ)) × (t.texts ≡ [] ∷ xs)) → 1 ≤ count
-some-count b rest s in_window count bytes t k (xs, e) =
-    let d = dropped-first s t k.more xs e in
-    let c : count ≡ length (flat_map (tal_annotations s) (t ∷ k.more)) = k.count_is in
-    omega (arith, d.count)
+-- what is told of a data record by its first TAL, and by what its blocks come to
+module _ (bs : List (List ℕ)) (s : ℕ) (p : Place) (sums : Sums) (t : Tal) (k : Known bs s sums t) where
+  clear-known : (n : ℕ) → n ≤ 28 → (24 < n → IsEmptyFirst t) → (25 < n → KeepsSecond p t.onset) → (26 < n → IsTrue sums.in_window) → (27 < n → KeepsOrder p (instant s t.onset))
+      → IsClear bs s p n ((t ∷ k.more) ∷ k.others)
+  clear-known n low timed second window order = record {
+    known = low;
+    lists = λ h. k.lists;
+    good = λ h. k.good;
+    timed = timed;
+    second = λ h is. subst (λ (q : Place). KeepsSecond q t.onset) is (second h);
+    window = λ h. k.window.0 (window h);
+    order = order;
+  }
 
-pub checked : (b rest : List ℕ) (s : ℕ) (p : Place) (in_window : Bool) (count bytes : ℕ) (t : Tal) (start : ℕ) → Known b s rest in_window count bytes t
-    → ((xs : List (List ℕ)) × (t.texts ≡ [] ∷ xs)) → KeepsSecond p t.onset → IsTrue in_window → start ≡ instant s t.onset → KeepsOrder p start
-    → (count ≤ 10_001) × (bytes ≤ 1_000_000) → IsChecked b s p (take (length b - length rest) b) start (count - 1)
-checked b rest s p in_window count bytes t start k (xs, e) second window start-is order limits =
-    let len : length b - length rest ≡ length k.front = omega (arith, ap length k.parts, length-append k.front rest) in
-    let cut : take (length b - length rest) b ≡ k.front = ap (λ (n : ℕ). take n b) len ∙ ap (take (length k.front)) k.parts ∙ take_at k.front rest (length k.front) refl in
-    let d = dropped-first s t k.more xs e in
-    let c : count ≡ length (flat_map (tal_annotations s) (t ∷ k.more)) = k.count_is in
-    rw cut (record {
-      tals = t ∷ k.more;
-      zeros = rest;
-      parts = k.parts;
-      whole = k.tals;
-      are_zeros = k.zeros;
-      good = k.good;
-      timed = (xs, e);
-      keeps = keeps-place p s t k.more second (subst (KeepsOrder p) start-is order);
-      window = k.window.0 window;
-      limits = within b rest s in_window count bytes t k (xs, e) limits.0 limits.1;
-      start_is = start-is;
-      count_is = omega (arith, d.count);
-    })
+  -- the list without its first annotation, which is empty
+  first-dropped : IsEmptyFirst t → Dropped (flat_map (tal_annotations s) (all_tals ((t ∷ k.more) ∷ k.others)))
+  first-dropped (xs, e) = dropped-first s t (k.more ++ all_tals k.others) xs e
+
+  within : IsEmptyFirst t → sums.count ≤ 10_001 → sums.text_bytes ≤ 1_000_000 → IsWithinLimits (annotations s (all_tals ((t ∷ k.more) ∷ k.others)))
+  within empty few short =
+      let d = first-dropped empty in
+      let c : sums.count ≡ length (flat_map (tal_annotations s) (all_tals ((t ∷ k.more) ∷ k.others))) = k.count_is in
+      let n : sums.text_bytes ≡ text_bytes (flat_map (tal_annotations s) (all_tals ((t ∷ k.more) ∷ k.others))) = k.bytes_is in
+      record { count = omega (arith, d.count); bytes = omega (arith, d.bytes) }
+
+  beyond : IsEmptyFirst t → IsWithinLimits (annotations s (all_tals ((t ∷ k.more) ∷ k.others))) → (sums.count ≤ 10_001) × (sums.text_bytes ≤ 1_000_000)
+  beyond empty w =
+      let d = first-dropped empty in
+      let c : sums.count ≡ length (flat_map (tal_annotations s) (all_tals ((t ∷ k.more) ∷ k.others))) = k.count_is in
+      let n : sums.text_bytes ≡ text_bytes (flat_map (tal_annotations s) (all_tals ((t ∷ k.more) ∷ k.others))) = k.bytes_is in
+      (omega (arith, d.count, w.count), omega (arith, d.bytes, w.bytes))
+
+  pub some-count : IsEmptyFirst t → 1 ≤ sums.count
+  some-count empty =
+      let d = first-dropped empty in
+      let c : sums.count ≡ length (flat_map (tal_annotations s) (all_tals ((t ∷ k.more) ∷ k.others))) = k.count_is in
+      omega (arith, d.count)
+
+  pub fault-untimed : (b texts more : List ℕ) → IsTalAtFront b texts more t → ¬ ((rest : List ℕ) × (texts ≡ 20 ∷ rest)) → IsBlocksFault bs s p NotTimed
+  fault-untimed b texts more f fails = fault-lists bs s p ((t ∷ k.more) ∷ k.others) k.lists k.good (untimed b texts more t f fails)
+
+  pub fault-window : IsEmptyFirst t → KeepsSecond p t.onset → ¬ IsTrue sums.in_window → IsBlocksFault bs s p Window
+  fault-window timed second fails = record {
+    holds = ((t ∷ k.more) ∷ k.others, k.lists, λ w. fails (k.window.1 w));
+    first = clear bs s p 26 ((t ∷ k.more) ∷ k.others) (clear-known 26 (omega arith) (λ h. timed) (λ h. second) (λ h. absurd (omega arith)) (λ h. absurd (omega arith)));
+  }
+
+  pub fault-many : IsEmptyFirst t → KeepsSecond p t.onset → IsTrue sums.in_window → KeepsOrder p (instant s t.onset)
+      → ¬ ((sums.count ≤ 10_001) × (sums.text_bytes ≤ 1_000_000)) → IsBlocksFault bs s p TooMany
+  fault-many timed second window order fails = record {
+    holds = ((t ∷ k.more) ∷ k.others, k.lists, λ w. fails (beyond timed w));
+    first = clear bs s p 28 ((t ∷ k.more) ∷ k.others) (clear-known 28 (omega arith) (λ h. timed) (λ h. second) (λ h. window) (λ h. order));
+  }
+
+  pub checked : (start : ℕ) → IsEmptyFirst t → KeepsSecond p t.onset → IsTrue sums.in_window → start ≡ instant s t.onset → KeepsOrder p start
+      → (sums.count ≤ 10_001) × (sums.text_bytes ≤ 1_000_000) → IsChecked bs s p start (sums.count - 1)
+  checked start empty second window start-is order limits =
+      let d = first-dropped empty in
+      let c : sums.count ≡ length (flat_map (tal_annotations s) (all_tals ((t ∷ k.more) ∷ k.others))) = k.count_is in
+      record {
+        list = annotations s (all_tals ((t ∷ k.more) ∷ k.others));
+        read = record {
+          tals = (t ∷ k.more) ∷ k.others;
+          lists = k.lists;
+          good = k.good;
+          timed = empty;
+          keeps = keeps-place p s t k.more second (subst (KeepsOrder p) start-is order);
+          window = k.window.0 window;
+          limits = within empty limits.0 limits.1;
+          start_is = start-is;
+          list_is = refl;
+        };
+        count_is = omega (arith, d.count);
+      }
+
+pub fault-second : (bs : List (List ℕ)) (s : ℕ) (p : Place) (sums : Sums) (t : Tal) → Known bs s sums t → IsEmptyFirst t → ¬ KeepsSecond p t.onset
+    → IsBlocksFault bs s p FirstOnset
+fault-second bs s First sums t k timed fails = record {
+  holds = ((t ∷ k.more) ∷ k.others, k.lists, fails);
+  first = clear bs s First 25 ((t ∷ k.more) ∷ k.others) (clear-known bs s First sums t k 25 (omega arith) (λ h. timed) (λ h. absurd (omega arith)) (λ h. absurd (omega arith)) (λ h. absurd (omega arith)));
+}
+fault-second bs s (After before duration) sums t k timed fails = absurd (fails tt)
+fault-second bs s Any sums t k timed fails = absurd (fails tt)
+
+pub fault-order : (bs : List (List ℕ)) (s : ℕ) (p : Place) (sums : Sums) (t : Tal) → Known bs s sums t → IsEmptyFirst t → KeepsSecond p t.onset → IsTrue sums.in_window
+    → ¬ KeepsOrder p (instant s t.onset) → IsBlocksFault bs s p Order
+fault-order bs s First sums t k timed second window fails = absurd (fails tt)
+fault-order bs s (After before duration) sums t k timed second window fails = record {
+  holds = ((t ∷ k.more) ∷ k.others, k.lists, fails);
+  first = clear bs s (After before duration) 27 ((t ∷ k.more) ∷ k.others)
+      (clear-known bs s (After before duration) sums t k 27 (omega arith) (λ h. timed) (λ h. second) (λ h. window) (λ h. absurd (omega arith)));
+}
+fault-order bs s Any sums t k timed second window fails = absurd (fails tt)

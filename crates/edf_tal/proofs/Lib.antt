@@ -1,6 +1,8 @@
 pub mod Unique
 pub mod Fronts
 pub mod OneBlock
+pub mod Joined
+pub mod Cuts
 pub mod BadText
 pub mod OneAnswer
 pub mod Again

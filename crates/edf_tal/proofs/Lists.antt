@@ -1,18 +1,15 @@
--- The list of a block's annotations, as far as it is made.
+-- The list of a data record's annotations, as far as it is made.
 use Rattle.std.proofs.Common.{◌≡◌, ℕ, ◌<◌, Bool, List, [], ◌∷◌, ◌++◌, drop, map, arith, refl, sym, ap, ◌∙◌, subst, append_assoc, Option, Some, None}
 use Rattle.std.specs.Prelude.{IsUtf8, IfSome}
 use Rattle.std.specs.List.{AllByRecursion, flat_map}
 use Rattle.std.proofs.lemmas.List.{append-nil}
 use Rattle.edf_time.specs.Civil.{window}
-use Rattle.edf_tal.specs.Tal.{Tal, Annotation, IsText, ended, AreTals, IsTimed, IsTalInWindow, instant, tal_annotations, annotations}
-use Rattle.edf_tal.specs.Block.{IsBlockFault, IsBlockRefusal}
-use Rattle.edf_tal.specs.Inside.Scan.{Lacks, NoTal, IsTalAtFront, TellsOnset, TellsDuration, AreTexts, TellsTal, AreSoundTals}
-use Rattle.edf_tal.specs.declared.place.Place.{Place}
-use Rattle.edf_tal.specs.declared.place.TalFault.{TalFault}
-use Rattle.edf_tal.specs.declared.place.TalFault.TheVariants.{Tal as NotTals, Text, NotTimed, FirstOnset, Window, Order, TooMany, Memory}
+use Rattle.edf_tal.specs.Tal.{Tal, Annotation, IsText, ended, AreTalsAndZeros, HaveUtf8Texts, IsTimed, IsTalInWindow, instant, tal_annotations, annotations}
+use Rattle.edf_tal.specs.Inside.Scan.{Lacks, NoTal, IsTalAtFront, TellsOnset, TellsDuration, AreTexts, TellsTal}
+use Rattle.edf_tal.specs.Inside.Blocks.{AreSoundTals}
 use Rattle.edf_tal.proofs.Unique.{same-sides, not-both, Lacks-text, one-tal}
 use Rattle.edf_tal.proofs.Fronts.{same-front, HasEnd-tal}
-use Rattle.edf_tal.proofs.OneBlock.{same-tals, zeros-no-tal}
+use Rattle.edf_tal.proofs.OneBlock.{one-block, zeros-no-tal}
 use Rattle.edf_tal.proofs.Totals.{note_of}
 
 -- the annotations of the texts so far
@@ -114,11 +111,12 @@ pub record NextTal (s : ℕ) (rest texts : List ℕ) (t : Tal) (left : List Tal)
 pub next-tal : (s : ℕ) (bytes texts more : List ℕ) (t : Tal) (ts : List Tal) → AreSoundTals bytes s ts → IsTalAtFront bytes texts more t → NextTal s more texts t ts
 next-tal s bytes texts more t ts a f = at ts a.whole a.good a.window
   where
-    at : (us : List Tal) → AreTals bytes us → AllByRecursion (λ t. AllByRecursion IsUtf8 t.texts) us → AllByRecursion (IsTalInWindow s) us → NextTal s more texts t us
-    at [] w g i = absurd (zeros-no-tal [] tt f.front more t (sym w ∙ f.parts) f.tal)
-    at (u ∷ us) (front, r, parts, is, others) g i =
-        let same = same-front front f.front r more (HasEnd-tal front u is) (HasEnd-tal f.front t f.tal) (sym parts ∙ f.parts) in
-        let one = one-tal front u t is (rw (same.front) (f.tal)) in
+    at : (us : List Tal) → AreTalsAndZeros bytes us → HaveUtf8Texts us → AllByRecursion (IsTalInWindow s) us → NextTal s more texts t us
+    at [] (front, zeros, parts, w, are) g i = absurd (zeros-no-tal zeros are f.front more t (sym (parts ∙ ap (λ (x : List ℕ). x ++ zeros) w) ∙ f.parts) f.tal)
+    at (u ∷ us) (front, zeros, parts, (first, r, both, is, others), are) g i =
+        let whole : bytes ≡ first ++ (r ++ zeros) = parts ∙ ap (λ (x : List ℕ). x ++ zeros) both ∙ append_assoc first r zeros in
+        let same = same-front first f.front (r ++ zeros) more (HasEnd-tal first u is) (HasEnd-tal f.front t f.tal) (sym whole ∙ f.parts) in
+        let one = one-tal first u t is (rw (same.front) (f.tal)) in
         record {
           others = us;
           left_is = ap (λ (x : Tal). x ∷ us) one;
@@ -126,7 +124,7 @@ next-tal s bytes texts more t ts a f = at ts a.whole a.good a.window
           good = subst (λ (x : Tal). AllByRecursion IsUtf8 x.texts) one g.0;
           window = subst (IsTalInWindow s) one i.0;
           texts_are = f.texts_are;
-          sound = record { whole = subst (λ (x : List ℕ). AreTals x us) same.back others; good = g.1; window = i.1 };
+          sound = record { whole = (r, zeros, sym same.back, others, are); good = g.1; window = i.1 };
         }
 
 pub tells : (s : ℕ) (rest texts : List ℕ) (t : Tal) (left : List Tal) (ahead : Bool) (onset : ℕ) (duration : Option ℕ) → NextTal s rest texts t left
@@ -153,34 +151,21 @@ tals-more s tals rest texts more old new newer t h f is =
           ∙ sym (ap (λ (w : List Annotation). w ++ flat_map (tal_annotations s) n.others) is ∙ append_assoc new (tal_annotations s t) (flat_map (tal_annotations s) n.others));
     }
 
-no-tal-left : (rest : List ℕ) (ts : List Tal) → AreTals rest ts → NoTal rest → ts ≡ []
+no-tal-left : (rest : List ℕ) (ts : List Tal) → AreTalsAndZeros rest ts → NoTal rest → ts ≡ []
 no-tal-left rest [] a none = refl
-no-tal-left rest (t ∷ ts) (f, r, parts, is, more) none = absurd (none f r t parts is)
-
-pub one-list : (bytes : List ℕ) (ts us : List Tal) → AreTals bytes ts → AreTals bytes us → ts ≡ us
-one-list bytes ts us a b = (same-tals ts us bytes [] bytes [] a b (zeros-no-tal [] tt) (zeros-no-tal [] tt) refl).tals
+no-tal-left rest (t ∷ ts) (front, zeros, parts, (f, r, both, is, more), are) none =
+    absurd (none f (r ++ zeros) t (parts ∙ ap (λ (x : List ℕ). x ++ zeros) both ∙ append_assoc f r zeros) is)
 
 pub tals-all : (s : ℕ) (tals rest : List ℕ) (old new : List Annotation) → HasPushedTals s tals rest old new → NoTal rest
     → (ts : List Tal) → AreSoundTals tals s ts → new ≡ old ++ flat_map (tal_annotations s) ts
 tals-all s tals rest old new h last ts a =
     let none = no-tal-left rest h.left h.are_left.whole last in
-    let same = one-list tals h.all ts h.are_all.whole a.whole in
+    let same = one-block tals h.all ts h.are_all.whole a.whole in
     sym (append-nil new) ∙ sym (ap (λ (w : List Tal). new ++ flat_map (tal_annotations s) w) none) ∙ sym h.items ∙ ap (λ (w : List Tal). old ++ flat_map (tal_annotations s) w) same
 
-pub refusal : (b : List ℕ) (s : ℕ) (p : Place) (e : TalFault) → IsBlockFault b s p e → IsBlockRefusal b s p e
-refusal b s p (NotTals offset) h = h
-refusal b s p (Text offset) h = h
-refusal b s p NotTimed h = h
-refusal b s p FirstOnset h = h
-refusal b s p Window h = h
-refusal b s p Order h = h
-refusal b s p TooMany h = h
-refusal b s p Memory h = absurd h.holds
-
 -- the TALs of a timed block have a first
-pub some-tal : (s : ℕ) (tals : List ℕ) (ts : List Tal) → AreSoundTals tals s ts → IsTimed ts → NoTal tals → ⊥
-some-tal s tals [] a h none = h
-some-tal s tals (t ∷ ts) a h none = let w = a.whole in none w.0 w.1 t w.2 w.3
+pub some-tal : (s : ℕ) (bytes : List ℕ) (ts : List Tal) → AreSoundTals bytes s ts → IsTimed ts → NoTal bytes → ⊥
+some-tal s bytes ts a h none = subst IsTimed (no-tal-left bytes ts a.whole none) h
 
 pub first-timed : (s : ℕ) (rest texts : List ℕ) (t : Tal) (ts : List Tal) → NextTal s rest texts t ts → IsTimed ts → (xs : List (List ℕ)) × (t.texts ≡ [] ∷ xs)
 first-timed s rest texts t ts n h = subst IsTimed n.left_is h
@@ -200,11 +185,9 @@ tells-rest s rest texts t ts xs ahead onset duration behind n e b o d = record {
 }
 
 pub whole-list : (s : ℕ) (rest texts : List ℕ) (t : Tal) (ts : List Tal) (xs : List (List ℕ)) (none first all : List Annotation) → (n : NextTal s rest texts t ts) → t.texts ≡ [] ∷ xs
-    → none ≡ [] → first ≡ none ++ tal_annotations s (record t { texts = xs }) → all ≡ first ++ flat_map (tal_annotations s) n.others → all ≡ annotations s ts
-whole-list s rest texts t ts xs none first all n e f g h =
-    h ∙ ap (λ (w : List Annotation). w ++ flat_map (tal_annotations s) n.others) (g ∙ ap (λ (w : List Annotation). w ++ tal_annotations s (record t { texts = xs })) f)
-    ∙ sym (ap (annotations s) n.left_is ∙ ap (λ (w : List (List ℕ)). drop 1 (map (note_of (instant s t.onset) t.duration) w ++ flat_map (tal_annotations s) n.others)) e)
-
--- the list may be told by any TALs of the bytes
-pub same-notes : (s : ℕ) (tals : List ℕ) (ts us : List Tal) (list : List Annotation) → AreSoundTals tals s ts → AreSoundTals tals s us → list ≡ annotations s ts → list ≡ annotations s us
-same-notes s tals ts us list a b e = e ∙ ap (annotations s) (one-list tals ts us a.whole b.whole)
+    → first ≡ none ++ tal_annotations s (record t { texts = xs }) → all ≡ first ++ flat_map (tal_annotations s) n.others → all ≡ none ++ annotations s ts
+whole-list s rest texts t ts xs none first all n e g h =
+    let there : annotations s ts ≡ tal_annotations s (record t { texts = xs }) ++ flat_map (tal_annotations s) n.others =
+    ap (annotations s) n.left_is ∙ ap (λ (w : List (List ℕ)). drop 1 (map (note_of (instant s t.onset) t.duration) w ++ flat_map (tal_annotations s) n.others)) e in
+    h ∙ ap (λ (w : List Annotation). w ++ flat_map (tal_annotations s) n.others) g
+    ∙ append_assoc none (tal_annotations s (record t { texts = xs })) (flat_map (tal_annotations s) n.others) ∙ ap (λ (w : List Annotation). none ++ w) (sym there)

@@ -1,6 +1,6 @@
--- A block is TALs and zeros in one way.
+-- Blocks are TALs and zeros in one way.
 use Rattle.std.proofs.Common.{◌≡◌, ℕ, List, [], ◌∷◌, ◌++◌, arith, refl, sym, ap, ◌∙◌, append_assoc, inl, inr, ℤ}
-use Rattle.edf_tal.specs.Tal.{Tal, IsTal, IsOnset, ended, AreTals, AreTalsAndZeros}
+use Rattle.edf_tal.specs.Tal.{Tal, IsTal, IsOnset, ended, AreTals, AreTalsAndZeros, AreBlocks}
 use Rattle.edf_tal.specs.Inside.Scan.{NoTal, AreZeros}
 use Rattle.edf_tal.proofs.Unique.{one-tal}
 use Rattle.edf_tal.proofs.Fronts.{same-front, HasEnd-tal}
@@ -49,3 +49,14 @@ same-tals (t ∷ ts) (u ∷ us) front rest front' rest' (f, r, parts, is, more) 
 pub one-block : (b : List ℕ) (ts us : List Tal) → AreTalsAndZeros b ts → AreTalsAndZeros b us → ts ≡ us
 one-block b ts us (front, zeros, parts, tals, are) (front', zeros', parts', tals', are') =
     (same-tals ts us front zeros front' zeros' tals tals' (zeros-no-tal zeros are) (zeros-no-tal zeros' are') (sym parts ∙ parts')).tals
+
+pub one-lists : (bs : List (List ℕ)) (ts us : List (List Tal)) → AreBlocks bs ts → AreBlocks bs us → ts ≡ us
+one-lists [] [] [] p q = refl
+one-lists [] [] (u ∷ us) p q = absurd q
+one-lists [] (t ∷ ts) us p q = absurd p
+one-lists (b ∷ bs) [] us p q = absurd p
+one-lists (b ∷ bs) (t ∷ ts) [] p q = absurd q
+one-lists (b ∷ bs) (t ∷ ts) (u ∷ us) p q =
+    let first : t ≡ u = one-block b t u p.0 q.0 in
+    let more : ts ≡ us = one-lists bs ts us p.1 q.1 in
+    cc

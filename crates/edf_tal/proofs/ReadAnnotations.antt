@@ -1,14 +1,14 @@
 -- What is read is an instant of the window and a list of annotations within the limits.
-use Rattle.std.proofs.Common.{ℕ, ◌<◌, List, [], ◌∷◌, ◌++◌, drop, map, arith, ℤ, pos, negsuc, Option}
+use Rattle.std.proofs.Common.{ℕ, ◌<◌, List, [], ◌∷◌, drop, map, arith, ℤ, pos, negsuc, Option}
 use Rattle.std.specs.Prelude.{IsUtf8, unsigned_abs, ◌+ℤ◌, ◌≤ℤ◌, ◌<ℤ◌, IfSome}
 use Rattle.std.specs.List.{AllByRecursion, flat_map}
+use Rattle.std.proofs.lemmas.Grind.{flat_map-append}
 use Rattle.std.proofs.lemmas.Int.{ints}
 use Rattle.edf_time.specs.Civil.{window}
-use Rattle.edf_tal.specs.Tal.{Tal, Annotation, IsText, AreTals, IsTimed, IsTalInWindow, instant, tal_annotations, begin}
-use Rattle.edf_tal.specs.Tal.{IsAnnotation}
-use Rattle.edf_tal.specs.Block.{IsRead}
+use Rattle.edf_tal.specs.Tal.{Tal, Annotation, IsAnnotation, IsText, AreTals, AreBlocks, first_tals, all_tals, HaveUtf8Texts, IsTimed, IsTalInWindow, instant, tal_annotations, begin}
+use Rattle.edf_tal.specs.Block.{AreRead, IsRead}
 use Rattle.edf_tal.specs.declared.place.Place.{Place}
-use Rattle.edf_tal.proofs.BadText.{AreGood}
+use Rattle.edf_tal.proofs.Joined.{all-append, all-front, all-back}
 
 below : (z : ℤ) → z <ℤ pos window → pos 0 ≤ℤ z → unsigned_abs z < window
 below (pos n) h l = omega (arith, ints)
@@ -16,10 +16,6 @@ below (negsuc n) h l = absurd (omega (arith, ints))
 
 pub instant-below : (s : ℕ) (t : Tal) → IsTalInWindow s t → instant s t.onset < window
 instant-below s t h = below (pos s +ℤ t.onset) h.onset.to h.onset.from
-
-all-append : (P : Annotation → Type 0) (xs ys : List Annotation) → AllByRecursion P xs → AllByRecursion P ys → AllByRecursion P (xs ++ ys)
-all-append P [] ys p q = q
-all-append P (x ∷ xs) ys p q = (p.0, all-append P xs ys p.1 q)
 
 all-drop : (P : Annotation → Type 0) (xs : List Annotation) → AllByRecursion P xs → AllByRecursion P (drop 1 xs)
 all-drop P [] p = tt
@@ -30,7 +26,7 @@ of-texts : (onset : ℕ) (duration : Option ℕ) (texts : List (List ℕ)) → o
 of-texts onset duration [] o d t u = tt
 of-texts onset duration (x ∷ texts) o d t u = (record { onset = o; duration = d; text = t.0; utf8 = u.0 }, of-texts onset duration texts o d t.1 u.1)
 
-of-tals : (s : ℕ) (front : List ℕ) (ts : List Tal) → AreTals front ts → AreGood ts → AllByRecursion (IsTalInWindow s) ts
+of-tals : (s : ℕ) (front : List ℕ) (ts : List Tal) → AreTals front ts → HaveUtf8Texts ts → AllByRecursion (IsTalInWindow s) ts
     → AllByRecursion IsAnnotation (flat_map (tal_annotations s) ts)
 of-tals s front [] a g w = tt
 of-tals s front (t ∷ ts) (f, r, parts, is, more) g w =
@@ -38,14 +34,33 @@ of-tals s front (t ∷ ts) (f, r, parts, is, more) g w =
     (of-texts (instant s t.onset) t.duration t.texts (instant-below s t w.0) w.0.duration is.are_texts g.0)
     (of-tals s r ts more g.1 w.1)
 
-begin-below : (s : ℕ) (ts : List Tal) → IsTimed ts → AllByRecursion (IsTalInWindow s) ts → begin s ts < window
-begin-below s [] timed w = absurd timed
-begin-below s (t ∷ ts) timed w = instant-below s t w.0
+of-lists : (s : ℕ) (bs : List (List ℕ)) (tss : List (List Tal)) → AreBlocks bs tss → HaveUtf8Texts (all_tals tss) → AllByRecursion (IsTalInWindow s) (all_tals tss)
+    → AllByRecursion IsAnnotation (flat_map (tal_annotations s) (all_tals tss))
+of-lists s [] [] l g w = tt
+of-lists s [] (ts ∷ tss) l g w = absurd l
+of-lists s (b ∷ bs) [] l g w = absurd l
+of-lists s (b ∷ bs) (ts ∷ tss) ((front, zeros, parts, tals, are), more) g w =
+    let others = all_tals tss in
+    rw (flat_map-append (tal_annotations s) ts others) (
+    all-append IsAnnotation (flat_map (tal_annotations s) ts) (flat_map (tal_annotations s) others)
+    (of-tals s front ts tals (all-front (λ (t : Tal). AllByRecursion IsUtf8 t.texts) ts others g) (all-front (IsTalInWindow s) ts others w))
+    (of-lists s bs tss more (all-back (λ (t : Tal). AllByRecursion IsUtf8 t.texts) ts others g) (all-back (IsTalInWindow s) ts others w)))
 
+begin-below : (s : ℕ) (tss : List (List Tal)) → IsTimed (first_tals tss) → AllByRecursion (IsTalInWindow s) (all_tals tss) → begin s (first_tals tss) < window
+begin-below s [] timed w = absurd timed
+begin-below s ([] ∷ tss) timed w = absurd timed
+begin-below s ((t ∷ ts) ∷ tss) timed w = instant-below s t w.0
+
+pub blocks-read-start : (bs : List (List ℕ)) (s : ℕ) (p : Place) (start : ℕ) (list : List Annotation) → AreRead bs s p start list → start < window
+blocks-read-start bs s p start list r = rw (r.start_is) (begin-below s r.tals r.timed r.window)
+
+pub blocks-read-annotations : (bs : List (List ℕ)) (s : ℕ) (p : Place) (start : ℕ) (list : List Annotation) → AreRead bs s p start list → AllByRecursion IsAnnotation list
+blocks-read-annotations bs s p start list r =
+    rw (r.list_is) (all-drop IsAnnotation (flat_map (tal_annotations s) (all_tals r.tals)) (of-lists s bs r.tals r.lists r.good r.window))
+
+-- the same of a data record with one block
 pub read-start : (b : List ℕ) (s : ℕ) (p : Place) (start : ℕ) (list : List Annotation) → IsRead b s p start list → start < window
-read-start b s p start list r = rw (r.start_is) (begin-below s r.tals r.timed r.window)
+read-start b s p start list r = blocks-read-start (b ∷ []) s p start list r
 
 pub read-annotations : (b : List ℕ) (s : ℕ) (p : Place) (start : ℕ) (list : List Annotation) → IsRead b s p start list → AllByRecursion IsAnnotation list
-read-annotations b s p start list r =
-    let whole = r.block.0 in
-    rw (r.list_is) (all-drop IsAnnotation (flat_map (tal_annotations s) r.tals) (of-tals s whole.0 r.tals whole.3 r.block.1 r.window))
+read-annotations b s p start list r = blocks-read-annotations (b ∷ []) s p start list r

@@ -175,7 +175,7 @@ survey-more block rest texts more s t in_window next is count bytes n m v f g on
       bytes_is = rw list (omega (arith, sum_by-append (λ (a : Annotation). length a.text) (flat_map (tal_annotations s) v.tals) (tal_annotations s t), bytes-annotations s t));
     }
 
-length-tals : (s : ℕ) (front : List ℕ) (ts : List Tal) → AreTals front ts → length (flat_map (tal_annotations s) ts) + text_bytes (flat_map (tal_annotations s) ts) ≤ length front
+pub length-tals : (s : ℕ) (front : List ℕ) (ts : List Tal) → AreTals front ts → length (flat_map (tal_annotations s) ts) + text_bytes (flat_map (tal_annotations s) ts) ≤ length front
 length-tals s front [] a = omega arith
 length-tals s front (t ∷ ts) (f, r, parts, is, more) =
     omega (

@@ -1,13 +1,13 @@
--- What a block says of its data record, and when it is refused.
-use Rattle.std.specs.Prelude.{◌≡◌, ℕ, ◌+◌, ◌^◌, ◌≤◌, ◌<◌, List, ◌∷◌, ◌++◌, length, take, sum_by, ℤ, pos, ◌≤ℤ◌, ◌<ℤ◌, Option, IsUtf8}
+-- What the blocks of a data record say of it, and when they are refused.
+use Rattle.std.specs.Prelude.{◌≡◌, ℕ, ◌+◌, ◌^◌, ◌≤◌, ◌<◌, List, [], ◌∷◌, ◌++◌, length, take, drop, sum_by, ℤ, pos, ◌≤ℤ◌, ◌<ℤ◌, Option, IsUtf8}
 use Rattle.std.specs.List.{AllByRecursion}
-use Rattle.edf_tal.specs.Tal.{Tal, Annotation, IsOnset, IsDurationPart, IsText, ended, AreTals, AreTalsAndZeros, IsBlock, IsTimed, IsTalInWindow, annotations, begin}
+use Rattle.edf_tal.specs.Tal.{Tal, Annotation, IsOnset, IsDurationPart, IsText, ended, AreTals, AreTalsAndZeros, AreBlocks, first_tals, all_tals, HaveUtf8Texts, IsTimed, IsTalInWindow, annotations, begin}
 use Rattle.edf_tal.specs.declared.place.Place.{Place}
 use Rattle.edf_tal.specs.declared.place.Place.TheVariants.{First, After}
 use Rattle.edf_tal.specs.declared.place.TalFault.{TalFault}
 use Rattle.edf_tal.specs.declared.place.TalFault.TheVariants.{Tal as NotTals, Text, NotTimed, FirstOnset, Window, Order, TooMany, Memory}
 
--- the first record starts in the second that the header names; a later one at least a duration behind the one before
+-- the first record starts in the second that the header names; a later one at least a duration after the one before
 abbrev pub KeepsPlace : Place → ℕ → List Tal → Type 0
 KeepsPlace First file_start (t ∷ ts) = (pos 0 ≤ℤ t.onset) × (t.onset <ℤ pos (10 ^ 9))
 KeepsPlace (After before duration) file_start ts = before + duration ≤ begin file_start ts
@@ -18,16 +18,21 @@ pub record IsWithinLimits (list : List Annotation) : Type 0 where
   pub count : length list ≤ 10_000
   pub bytes : sum_by (λ a. length a.text) list ≤ 1_000_000
 
--- the block gives its data record this start and this list
-pub record IsRead (bytes : List ℕ) (file_start : ℕ) (place : Place) (start : ℕ) (list : List Annotation) : Type 0 where
-  pub tals : List Tal
-  pub block : IsBlock bytes tals
-  pub timed : IsTimed tals
-  pub keeps : KeepsPlace place file_start tals
-  pub window : AllByRecursion (IsTalInWindow file_start) tals
+-- the blocks give their data record this start and this list: the first block keeps time, and the lists of all are joined
+pub record AreRead (blocks : List (List ℕ)) (file_start : ℕ) (place : Place) (start : ℕ) (list : List Annotation) : Type 0 where
+  pub tals : List (List Tal)
+  pub lists : AreBlocks blocks tals
+  pub good : HaveUtf8Texts (all_tals tals)
+  pub timed : IsTimed (first_tals tals)
+  pub keeps : KeepsPlace place file_start (first_tals tals)
+  pub window : AllByRecursion (IsTalInWindow file_start) (all_tals tals)
   pub limits : IsWithinLimits list
-  pub start_is : start ≡ begin file_start tals
-  pub list_is : list ≡ annotations file_start tals
+  pub start_is : start ≡ begin file_start (first_tals tals)
+  pub list_is : list ≡ annotations file_start (all_tals tals)
+
+-- the same of a data record with one block
+abbrev pub IsRead : List ℕ → ℕ → Place → ℕ → List Annotation → Type 0
+IsRead block file_start place start list = AreRead (block ∷ []) file_start place start list
 
 -- the longest front that is whole TALs has n bytes
 pub record IsLongestFront (bytes : List ℕ) (n : ℕ) : Type 0 where
@@ -47,7 +52,7 @@ pub record IsBadText (bytes : List ℕ) (at : ℕ) : Type 0 where
   pub back : List ℕ
   pub parts : bytes ≡ front ++ onset ++ duration ++ 20 ∷ ended good ++ text ++ 20 ∷ back
   pub whole : AreTals front tals
-  pub front_good : AllByRecursion (λ t. AllByRecursion IsUtf8 t.texts) tals
+  pub front_good : HaveUtf8Texts tals
   pub is_onset : (z : ℤ) × IsOnset onset z
   pub is_duration : (d : Option ℕ) × IsDurationPart duration d
   pub good_texts : AllByRecursion (λ x. IsText x × IsUtf8 x) good
@@ -55,16 +60,41 @@ pub record IsBadText (bytes : List ℕ) (at : ℕ) : Type 0 where
   pub bad : ¬ IsUtf8 text
   pub place : at ≡ length front + length onset + length duration + 1 + length (ended good)
 
--- the fault is true of a block at this place
-abbrev pub BlockFails : List ℕ → ℕ → Place → TalFault → Type 0
-BlockFails b s place (NotTals offset) = ((ts : List Tal) → ¬ AreTalsAndZeros b ts) × IsLongestFront b offset
-BlockFails b s place (Text offset) = ((ts : List Tal) × AreTalsAndZeros b ts) × IsBadText b offset
-BlockFails b s place NotTimed = (ts : List Tal) × AreTalsAndZeros b ts × ¬ IsTimed ts
-BlockFails b s First FirstOnset = (ts : List Tal) × AreTalsAndZeros b ts × ¬ KeepsPlace First s ts
-BlockFails b s place Window = (ts : List Tal) × AreTalsAndZeros b ts × ¬ AllByRecursion (IsTalInWindow s) ts
-BlockFails b s (After before duration) Order = (ts : List Tal) × AreTalsAndZeros b ts × ¬ KeepsPlace (After before duration) s ts
-BlockFails b s place TooMany = (ts : List Tal) × AreTalsAndZeros b ts × ¬ IsWithinLimits (annotations s ts)
-BlockFails b s place fault = ⊥
+-- the first block that is not TALs and zeros: the longest front of whole TALs ends at `offset` in it, and at `at` in the blocks
+-- joined
+pub record IsBroken (blocks : List (List ℕ)) (at : ℕ) : Type 0 where
+  pub front : List (List ℕ)
+  pub block : List ℕ
+  pub back : List (List ℕ)
+  pub offset : ℕ
+  pub parts : blocks ≡ front ++ block ∷ back
+  pub whole : (tss : List (List Tal)) × AreBlocks front tss
+  pub broken : (ts : List Tal) → ¬ AreTalsAndZeros block ts
+  pub longest : IsLongestFront block offset
+  pub place : at ≡ sum_by length front + offset
+
+-- the first text of all blocks that is no UTF-8: it stands at `offset` in its block, and at `at` in the blocks joined
+pub record HasBadText (blocks : List (List ℕ)) (at : ℕ) : Type 0 where
+  pub front : List (List ℕ)
+  pub block : List ℕ
+  pub back : List (List ℕ)
+  pub offset : ℕ
+  pub parts : blocks ≡ front ++ block ∷ back
+  pub good : (tss : List (List Tal)) × AreBlocks front tss × HaveUtf8Texts (all_tals tss)
+  pub bad : IsBadText block offset
+  pub place : at ≡ sum_by length front + offset
+
+-- the fault is true of the blocks of a data record that stands at this place
+abbrev pub BlocksFail : List (List ℕ) → ℕ → Place → TalFault → Type 0
+BlocksFail bs s place (NotTals offset) = IsBroken bs offset
+BlocksFail bs s place (Text offset) = ((tss : List (List Tal)) × AreBlocks bs tss) × HasBadText bs offset
+BlocksFail bs s place NotTimed = (tss : List (List Tal)) × AreBlocks bs tss × ¬ IsTimed (first_tals tss)
+BlocksFail bs s First FirstOnset = (tss : List (List Tal)) × AreBlocks bs tss × ¬ KeepsPlace First s (first_tals tss)
+BlocksFail bs s place Window = (tss : List (List Tal)) × AreBlocks bs tss × ¬ AllByRecursion (IsTalInWindow s) (all_tals tss)
+BlocksFail bs s (After before duration) Order =
+    (tss : List (List Tal)) × AreBlocks bs tss × ¬ KeepsPlace (After before duration) s (first_tals tss)
+BlocksFail bs s place TooMany = (tss : List (List Tal)) × AreBlocks bs tss × ¬ IsWithinLimits (annotations s (all_tals tss))
+BlocksFail bs s place fault = ⊥
 
 abbrev pub tal_fault_number : TalFault → ℕ
 tal_fault_number (NotTals offset) = 22
@@ -77,11 +107,24 @@ tal_fault_number TooMany = 28
 tal_fault_number Memory = 41
 
 -- the fault is true, and none of a lower number
-pub record IsBlockFault (b : List ℕ) (s : ℕ) (place : Place) (fault : TalFault) : Type 0 where
-  pub holds : BlockFails b s place fault
-  pub first : (other : TalFault) → tal_fault_number other < tal_fault_number fault → ¬ BlockFails b s place other
+pub record IsBlocksFault (bs : List (List ℕ)) (s : ℕ) (place : Place) (fault : TalFault) : Type 0 where
+  pub holds : BlocksFail bs s place fault
+  pub first : (other : TalFault) → tal_fault_number other < tal_fault_number fault → ¬ BlocksFail bs s place other
 
--- why a block is refused: its first fault; want of memory only where it has none, and so a start and a list
+-- the same of a data record with one block
+abbrev pub IsBlockFault : List ℕ → ℕ → Place → TalFault → Type 0
+IsBlockFault block s place fault = IsBlocksFault (block ∷ []) s place fault
+
+-- why blocks are not read: their first fault; want of memory only where they have none, and so a start and a list
+abbrev pub IsBlocksRefusal : List (List ℕ) → ℕ → Place → TalFault → Type 0
+IsBlocksRefusal bs s place Memory = (start : ℕ) × (list : List Annotation) × AreRead bs s place start list
+IsBlocksRefusal bs s place fault = IsBlocksFault bs s place fault
+
+-- the same of a data record with one block
 abbrev pub IsBlockRefusal : List ℕ → ℕ → Place → TalFault → Type 0
-IsBlockRefusal b s place Memory = (start : ℕ) × (list : List Annotation) × IsRead b s place start list
-IsBlockRefusal b s place fault = IsBlockFault b s place fault
+IsBlockRefusal block s place fault = IsBlocksRefusal (block ∷ []) s place fault
+
+-- bytes cut into blocks of these sizes
+abbrev pub cut : List ℕ → List ℕ → List (List ℕ)
+cut [] bytes = []
+cut (size ∷ sizes) bytes = take size bytes ∷ cut sizes (drop size bytes)

@@ -1,2 +1,3 @@
 -- Words of private contracts: no promise cites one.
 pub mod Scan
+pub mod Blocks

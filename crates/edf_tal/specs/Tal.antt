@@ -55,9 +55,23 @@ abbrev pub AreTalsAndZeros : List ℕ → List Tal → Type 0
 AreTalsAndZeros bytes ts =
     (front : List ℕ) × (zeros : List ℕ) × (bytes ≡ front ++ zeros) × AreTals front ts × AllByRecursion (λ b. b ≡ 0) zeros
 
--- a block: TALs and zeros, and each text is UTF-8
-abbrev pub IsBlock : List ℕ → List Tal → Type 0
-IsBlock bytes ts = AreTalsAndZeros bytes ts × AllByRecursion (λ t. AllByRecursion IsUtf8 t.texts) ts
+-- the blocks of a data record, each by itself TALs and zeros
+abbrev pub AreBlocks : List (List ℕ) → List (List Tal) → Type 0
+AreBlocks [] [] = Unit {0}
+AreBlocks (block ∷ blocks) (ts ∷ tss) = AreTalsAndZeros block ts × AreBlocks blocks tss
+AreBlocks blocks tss = ⊥
+
+-- the TALs of the first block, and those of all blocks, in the order of the blocks
+abbrev pub first_tals : List (List Tal) → List Tal
+first_tals [] = []
+first_tals (ts ∷ tss) = ts
+
+abbrev pub all_tals : List (List Tal) → List Tal
+all_tals tss = flat_map (λ ts. ts) tss
+
+-- each text is UTF-8
+abbrev pub HaveUtf8Texts : List Tal → Type 0
+HaveUtf8Texts ts = AllByRecursion (λ t. AllByRecursion IsUtf8 t.texts) ts
 
 -- the instant of an onset, which counts from the file's start; it means something only inside the window
 abbrev pub instant : ℕ → ℤ → ℕ
@@ -68,16 +82,16 @@ abbrev pub tal_annotations : ℕ → Tal → List Annotation
 tal_annotations file_start t =
     map (λ text. record { onset = instant file_start t.onset; duration = t.duration; text = text }) t.texts
 
--- the first TAL keeps time: its first text is empty
+-- the first TAL of the first block keeps time: its first text is empty
 abbrev pub IsTimed : List Tal → Type 0
 IsTimed [] = ⊥
 IsTimed (t ∷ ts) = (texts : List (List ℕ)) × (t.texts ≡ [] ∷ texts)
 
--- the data record's list: all annotations but the time-keeping one
+-- the data record's list: the annotations of all TALs but the time-keeping one, which is the first
 abbrev pub annotations : ℕ → List Tal → List Annotation
 annotations file_start ts = drop 1 (flat_map (tal_annotations file_start) ts)
 
--- the data record's start
+-- the data record's start, by the TALs of its first block
 abbrev pub begin : ℕ → List Tal → ℕ
 begin file_start [] = file_start
 begin file_start (t ∷ ts) = instant file_start t.onset

@@ -1,9 +1,10 @@
 //! Laws of blocks: each function has a law for a contract, and does nothing.
-ghost use Rattle.std.specs.Prelude.{◌≡◌, ◌⊎◌, ℕ, ◌+◌, ◌^◌, ◌≤◌, ◌<◌, ◌++◌, List, length, replicate};
-ghost use Rattle.std.specs.List.{AllByRecursion};
+ghost use Rattle.std.specs.Prelude.{◌≡◌, ◌⊎◌, ℕ, ◌+◌, ◌^◌, ◌≤◌, ◌<◌};
+ghost use Rattle.std.specs.Prelude.{List, ◌++◌, length, map, replicate};
+ghost use Rattle.std.specs.List.{AllByRecursion, flat_map};
 ghost use Rattle.edf_time.specs.Civil.{window};
-ghost use Rattle.edf_tal.specs.Tal.{Tal, Annotation, IsTal, AreTalsAndZeros, IsAnnotation};
-ghost use Rattle.edf_tal.specs.Block.{IsRead, IsBlockFault, IsWithinLimits};
+ghost use Rattle.edf_tal.specs.Tal.{Tal, Annotation, IsTal, AreBlocks, IsAnnotation};
+ghost use Rattle.edf_tal.specs.Block.{AreRead, IsRead, IsBlocksFault, IsWithinLimits, cut};
 ghost use Rattle.edf_tal.specs.Canonical.{block_text};
 ghost use Rattle.edf_tal.specs.declared.place.TalFault.{TalFault};
 ghost use Rattle.edf_tal.specs.declared.place.TalFault.TheVariants.{Memory};
@@ -15,28 +16,35 @@ pub fn one_tal()
     ensures { (b : List ℕ) (t u : Tal) → IsTal b t → IsTal b u → t ≡ u }
 {}
 
-/// A block is TALs and zeros in one way.
+/// Blocks are each TALs and zeros in one way.
 pub fn one_block()
-    ensures { (b : List ℕ) (ts us : List Tal) →
-        AreTalsAndZeros b ts → AreTalsAndZeros b us → ts ≡ us }
+    ensures { (bs : List (List ℕ)) (ts us : List (List Tal)) →
+        AreBlocks bs ts → AreBlocks bs us → ts ≡ us }
 {}
 
-/// A block has one answer at a place: a start and a list, or a fault.
+/// The blocks of a data record have one answer at a place: a start and a list, or a fault.
 pub fn one_answer()
-    ensures one_read { (b : List ℕ) (s : ℕ) (p : Place) (m n : ℕ) (k l : List Annotation) →
-        IsRead b s p m k → IsRead b s p n l → (m ≡ n) × (k ≡ l) }
-    ensures not_both { (b : List ℕ) (s : ℕ) (p : Place) (m : ℕ) (l : List Annotation)
-        (e : TalFault) → IsRead b s p m l → ¬ IsBlockFault b s p e }
-    ensures one_fault { (b : List ℕ) (s : ℕ) (p : Place) (e f : TalFault) →
-        IsBlockFault b s p e → IsBlockFault b s p f → e ≡ f }
+    ensures one_read { (bs : List (List ℕ)) (s : ℕ) (p : Place) (m n : ℕ)
+        (k l : List Annotation) →
+        AreRead bs s p m k → AreRead bs s p n l → (m ≡ n) × (k ≡ l) }
+    ensures not_both { (bs : List (List ℕ)) (s : ℕ) (p : Place) (m : ℕ) (l : List Annotation)
+        (e : TalFault) → AreRead bs s p m l → ¬ IsBlocksFault bs s p e }
+    ensures one_fault { (bs : List (List ℕ)) (s : ℕ) (p : Place) (e f : TalFault) →
+        IsBlocksFault bs s p e → IsBlocksFault bs s p f → e ≡ f }
 {}
 
-/// A block has an answer at each place: a start and a list, or a fault. Want of memory is no fault of a block.
+/// The blocks of a data record have an answer at each place: a start and a list, or a fault. Want
+/// of memory is no fault of theirs.
 pub fn some_answer()
-    ensures some { (b : List ℕ) (s : ℕ) (p : Place) →
-        ((start : ℕ) × (list : List Annotation) × IsRead b s p start list)
-        ⊎ ((e : TalFault) × IsBlockFault b s p e) }
-    ensures not_memory { (b : List ℕ) (s : ℕ) (p : Place) → ¬ IsBlockFault b s p Memory }
+    ensures some { (bs : List (List ℕ)) (s : ℕ) (p : Place) →
+        ((start : ℕ) × (list : List Annotation) × AreRead bs s p start list)
+        ⊎ ((e : TalFault) × IsBlocksFault bs s p e) }
+    ensures not_memory { (bs : List (List ℕ)) (s : ℕ) (p : Place) → ¬ IsBlocksFault bs s p Memory }
+{}
+
+/// Blocks that are joined, and cut by their lengths, are the same blocks again.
+pub fn cut_again()
+    ensures { (bs : List (List ℕ)) → cut (map length bs) (flat_map (λ b. b) bs) ≡ bs }
 {}
 
 /// A canonical block, alone or with any fill of zeros, is read again as what was written.
@@ -58,20 +66,20 @@ pub fn read_again()
         list }
 {}
 
-/// What a block gives: an instant of the window, and annotations within the limits.
+/// What blocks give: an instant of the window, and annotations within the limits.
 pub fn read_annotations()
-    ensures start { (b : List ℕ) (s : ℕ) (p : Place) (start : ℕ) (list : List Annotation) →
-        IsRead b s p start list → start < window }
-    ensures annotations { (b : List ℕ) (s : ℕ) (p : Place) (start : ℕ) (list : List Annotation) →
-        IsRead b s p start list → AllByRecursion IsAnnotation list }
-    ensures limits { (b : List ℕ) (s : ℕ) (p : Place) (start : ℕ) (list : List Annotation) →
-        IsRead b s p start list → IsWithinLimits list }
+    ensures start { (bs : List (List ℕ)) (s : ℕ) (p : Place) (start : ℕ)
+        (list : List Annotation) → AreRead bs s p start list → start < window }
+    ensures annotations { (bs : List (List ℕ)) (s : ℕ) (p : Place) (start : ℕ)
+        (list : List Annotation) → AreRead bs s p start list → AllByRecursion IsAnnotation list }
+    ensures limits { (bs : List (List ℕ)) (s : ℕ) (p : Place) (start : ℕ)
+        (list : List Annotation) → AreRead bs s p start list → IsWithinLimits list }
 {}
 
 /// What is read at a place is read without a place too.
 pub fn any_place()
-    ensures { (b : List ℕ) (s : ℕ) (p : Place) (start : ℕ) (list : List Annotation) →
-        IsRead b s p start list → IsRead b s Any start list }
+    ensures { (bs : List (List ℕ)) (s : ℕ) (p : Place) (start : ℕ) (list : List Annotation) →
+        AreRead bs s p start list → AreRead bs s Any start list }
 {}
 
 /// A canonical block has one start and one list.

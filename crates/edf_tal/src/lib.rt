@@ -1,14 +1,17 @@
 //! Annotations of a data record: the blocks of time-stamped annotations lists, TALs for short, that EDF+ keeps in the
-//! annotations signal.
+//! annotations signals.
 //!
-//! - [`read_block`]: the start and the annotations of a data record, or the first rule that its block breaks.
-//! - [`Note`]: an annotation. [`Place`]: where the data record stands. [`TalFault`]: why a block is refused, E22 to E28.
+//! - [`read_blocks`]: the start and the annotations of a data record, or the first rule that its
+//!   blocks break. [`read_block`]: the same of a data record with one block.
+//! - [`Note`]: an annotation. [`Place`]: where the data record stands. [`TalFault`]: why its blocks
+//!   are refused, E22 to E28.
 //! - [`write_block`], [`block_len`]: the one block that a data record of a canonical file has, and its length.
 //! - [`same_notes`]: whether two lists have the same annotations.
-//! - [`laws`]: each block has one answer at each place, and a written block is read again; functions that do nothing, each
-//!   with a law for a contract.
+//! - [`laws`]: the blocks of a data record have one answer at each place, and a written block is
+//!   read again; functions that do nothing, each with a law for a contract.
 #![tactic(auto)]
 
+mod blocks;
 mod check;
 pub mod laws;
 mod note;
@@ -20,5 +23,5 @@ mod write;
 
 pub use note::Note;
 pub use place::{Place, TalFault};
-pub use read::read_block;
+pub use read::{read_block, read_blocks};
 pub use write::{block_len, same_notes, write_block};

@@ -1,11 +1,15 @@
-ghost use Rattle.std.specs.Prelude.{◌≡◌, ℕ, ◌++◌, ◌<◌, List, [], ◌∷◌, map, IfOk, IfSome, OnOk, IsUtf8, MatchResult};
+ghost use Rattle.std.specs.Prelude.{◌≡◌, ℕ, ◌≤◌, ◌<◌, IfOk, IfSome, OnOk, IsUtf8, MatchResult};
+ghost use Rattle.std.specs.Prelude.{List, [], ◌∷◌, ◌++◌, length, map, sum};
 ghost use Rattle.std.specs.List.{flat_map};
 ghost use Rattle.edf_time.specs.Civil.{window};
-ghost use Rattle.edf_tal.specs.Tal.{Tal, IsText, IsTimed, tal_annotations, annotations};
-ghost use Rattle.edf_tal.specs.Block.{IsRead, IsBlockRefusal};
-ghost use Rattle.edf_tal.specs.Inside.Scan.{AreTexts, TellsTal, AreSoundTals};
+ghost use Rattle.edf_tal.specs.Tal.{Tal, Annotation, IsText, IsTimed, tal_annotations, annotations};
+ghost use Rattle.edf_tal.specs.Block.{AreRead, IsBlocksRefusal, IsRead, IsBlockRefusal, cut};
+ghost use Rattle.edf_tal.specs.Inside.Scan.{AreTexts, TellsTal};
+ghost use Rattle.edf_tal.specs.Inside.Blocks.{AreSoundTals};
+ghost use Rattle.edf_tal.specs.declared.place.Place.{Place};
 
-use crate::check::check_block;
+use crate::blocks::push_blocks;
+use crate::check::check_blocks;
 use crate::note::Note;
 use crate::place::{Place, TalFault};
 use crate::scan::{TEXT_END, Times, first_tal, split_first};
@@ -74,8 +78,8 @@ fn push_tal(
     push_texts(alloc, list, onset, times.duration, texts)
 }
 
-/// Appends the annotations of some TALs.
-fn push_tals(
+/// Appends the annotations of TALs and zeros.
+pub(crate) fn push_tals(
     alloc: Global,
     list: &mut Vec<Note>,
     tals: &[u8],
@@ -104,38 +108,92 @@ fn behind_empty(texts: &[u8]) -> &[u8]
     }
 }
 
-/// The annotations of the TALs of a block, without the time-keeping one.
-fn list_notes(
+/// Appends the annotations of the first block, without the time-keeping one.
+fn push_first(
     alloc: Global,
-    tals: &[u8],
-    count: usize,
+    list: &mut Vec<Note>,
+    block: &[u8],
     file_start: Instant,
-) -> Result<Vec<Note>, AllocError>
-    requires { (ts : List Tal) × AreSoundTals tals.now file_start ts × IsTimed ts }
-    ensures { (ts : List Tal) → AreSoundTals tals.now file_start ts → IsTimed ts →
-        IfOk result (λ v. v.items ≡ annotations file_start ts) }
+) -> Result<(), AllocError>
+    requires { (ts : List Tal) × AreSoundTals block.now file_start ts × IsTimed ts }
+    ensures { (ts : List Tal) → AreSoundTals block.now file_start ts → IsTimed ts →
+        OnOk result (list.new.items ≡ list.old.items ++ annotations file_start ts) }
 {
-    let mut list = Vec::with_capacity(alloc, count)?;
-    let Some(first) = first_tal(tals) else {
+    let Some(first) = first_tal(block) else {
         unreachable!()
     };
     let texts = behind_empty(first.texts);
-    push_tal(alloc, &mut list, first.times, texts, file_start)?;
-    push_tals(alloc, &mut list, first.rest, file_start)?;
+    push_tal(alloc, list, first.times, texts, file_start)?;
+    push_tals(alloc, list, first.rest, file_start)
+}
+
+/// The annotations of blocks without a fault.
+fn list_notes(
+    alloc: Global,
+    block: &[u8],
+    sizes: &[usize],
+    count: usize,
+    file_start: Instant,
+) -> Result<Vec<Note>, AllocError>
+    requires some { 1 ≤ length sizes.now }
+    requires sizes { sum sizes.now ≡ length block.now }
+    requires read { (place : Place) × (start : ℕ) × (list : List Annotation)
+        × AreRead (cut sizes.now block.now) file_start place start list }
+    ensures { (place : Place) (start : ℕ) (list : List Annotation) →
+        AreRead (cut sizes.now block.now) file_start place start list →
+        IfOk result (λ v. v.items ≡ list) }
+{
+    let mut list = Vec::with_capacity(alloc, count)?;
+    let (first, later) = block.split_at(sizes[0]);
+    push_first(alloc, &mut list, first, file_start)?;
+    push_blocks(alloc, &mut list, later, &sizes[1..], file_start)?;
     Ok(list)
 }
 
-/// The start and the annotations of a data record, from its annotations block (EDF+, time-stamped annotations lists).
+/// The start and the annotations of a data record, from its annotations blocks (EDF+, time-stamped
+/// annotations lists).
 ///
-/// `block` is the bytes of the annotations signal in the data record: TALs one behind the other, then bytes 0 to the
-/// end. A TAL is an onset in seconds, maybe byte 21 and a duration in seconds, byte 20, each text with a byte 20 behind it, and
-/// byte 0. Onsets count from `file_start`, the instant of the header's startdate and starttime. The first annotation of
-/// the first TAL is empty: it keeps time, its TAL's onset is the data record's start, and it is not in the list. All
-/// annotations of a TAL share its onset and duration.
+/// `block` is what the annotations signals have in the data record, joined in file order, and
+/// `sizes` says how many bytes each of them has there: there is at least one, and their sum is the
+/// length of `block`. Each block by itself is TALs one after the other, then bytes 0 to its end. A
+/// TAL is an onset in seconds, maybe byte 21 and a duration in seconds, byte 20, each text with a
+/// byte 20 after it, and byte 0. Onsets count from `file_start`, the instant of the header's
+/// startdate and starttime. The first annotation of the first block's first TAL is empty: it keeps
+/// time, its TAL's onset is the data record's start, and it is not in the list. The list has all
+/// other annotations, block after block. All annotations of a TAL share its onset and duration.
 ///
 /// # Errors
-/// The first of E22 to E28 that is true, as `TalFault` tells them: `FirstOnset` only at `Place::First`, `Order` only at
-/// `Place::After`. `Memory` where an allocation was refused; the block then has no fault.
+/// The first of E22 to E28 that is true, as `TalFault` tells them: `FirstOnset` only at
+/// `Place::First`, `Order` only at `Place::After`. Offsets count from 0 over `block`, so over the
+/// blocks joined; E22 names the first block that is no list of TALs. `Memory` where an allocation
+/// was refused; the blocks then have no fault.
+pub fn read_blocks(
+    alloc: Global,
+    block: &[u8],
+    sizes: &[usize],
+    file_start: Instant,
+    place: Place,
+) -> Result<(Instant, Vec<Note>), TalFault>
+    requires some { 1 ≤ length sizes.now }
+    requires sizes { sum sizes.now ≡ length block.now }
+    ensures { MatchResult result
+        (λ r. AreRead (cut sizes.now block.now) file_start place r.0 r.1.items)
+        (IsBlocksRefusal (cut sizes.now block.now) file_start place) }
+{
+    match check_blocks(block, sizes, file_start, place) {
+        Ok(checked) => match list_notes(alloc, block, sizes, checked.count, file_start) {
+            Ok(list) => Ok((checked.start, list)),
+            Err(_) => Err(TalFault::Memory),
+        },
+        Err(fault) => Err(fault),
+    }
+}
+
+/// The start and the annotations of a data record that has one annotations block, as `read_blocks`
+/// tells them.
+///
+/// # Errors
+/// Those of `read_blocks`.
 pub fn read_block(
     alloc: Global,
     block: &[u8],
@@ -146,11 +204,5 @@ pub fn read_block(
         (λ r. IsRead block.now file_start place r.0 r.1.items)
         (IsBlockRefusal block.now file_start place) }
 {
-    match check_block(block, file_start, place) {
-        Ok(checked) => match list_notes(alloc, checked.tals, checked.count, file_start) {
-            Ok(list) => Ok((checked.start, list)),
-            Err(_) => Err(TalFault::Memory),
-        },
-        Err(fault) => Err(fault),
-    }
+    read_blocks(alloc, block, &[block.len()], file_start, place)
 }

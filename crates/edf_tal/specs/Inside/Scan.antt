@@ -2,8 +2,7 @@
 use Rattle.std.specs.Prelude.{◌≡◌, ◌≢◌, ℕ, ◌+◌, ◌^◌, ◌≤◌, min, List, [], ◌∷◌, ◌++◌, length, sum_by, ℤ, pos, neg_ℤ, ◌≤ℤ◌, ◌<ℤ◌, Bool, Option, Some, None, IsTrue, IsUtf8, ◌↔◌, if◌then◌else◌}
 use Rattle.std.specs.List.{AllByRecursion, flat_map}
 use Rattle.edf_time.specs.Decimal.{IsSeconds}
-use Rattle.edf_tal.specs.Tal.{Tal, IsTal, IsOnset, IsDurationPart, IsText, ended, AreTals, IsTimed, IsTalInWindow, tal_annotations, annotations, begin}
-use Rattle.edf_tal.specs.Block.{KeepsPlace, IsWithinLimits}
+use Rattle.edf_tal.specs.Tal.{Tal, IsTal, IsOnset, IsDurationPart, IsText, ended, AreTals, HaveUtf8Texts, IsTalInWindow, tal_annotations}
 use Rattle.edf_tal.specs.declared.place.Place.{Place}
 use Rattle.edf_tal.specs.declared.place.Place.TheVariants.{First, After}
 
@@ -95,7 +94,7 @@ pub record IsSurvey (bytes : List ℕ) (file_start : ℕ) (rest : List ℕ) (in_
   pub tals : List Tal
   pub parts : bytes ≡ front ++ rest
   pub whole : AreTals front tals
-  pub good : AllByRecursion (λ t. AllByRecursion IsUtf8 t.texts) tals
+  pub good : HaveUtf8Texts tals
   pub window : IsTrue in_window ↔ AllByRecursion (IsTalInWindow file_start) tals
   pub count_is : count ≡ length (flat_map (tal_annotations file_start) tals)
   pub bytes_is : text_bytes ≡ sum_by (λ a. length a.text) (flat_map (tal_annotations file_start) tals)
@@ -105,31 +104,10 @@ abbrev pub KeepsSecond : Place → ℤ → Type 0
 KeepsSecond First onset = (pos 0 ≤ℤ onset) × (onset <ℤ pos (10 ^ 9))
 KeepsSecond place onset = Unit {0}
 
--- a later one starts at least a duration behind the one before
+-- a later one starts at least a duration after the one before
 abbrev pub KeepsOrder : Place → ℕ → Type 0
 KeepsOrder (After before duration) start = before + duration ≤ start
 KeepsOrder place start = Unit {0}
-
--- the block has no fault at this place: its TALs, its start and how many annotations its list has
-pub record IsChecked (bytes : List ℕ) (file_start : ℕ) (place : Place) (front : List ℕ) (start count : ℕ) : Type 0 where
-  pub tals : List Tal
-  pub zeros : List ℕ
-  pub parts : bytes ≡ front ++ zeros
-  pub whole : AreTals front tals
-  pub are_zeros : AreZeros zeros
-  pub good : AllByRecursion (λ t. AllByRecursion IsUtf8 t.texts) tals
-  pub timed : IsTimed tals
-  pub keeps : KeepsPlace place file_start tals
-  pub window : AllByRecursion (IsTalInWindow file_start) tals
-  pub limits : IsWithinLimits (annotations file_start tals)
-  pub start_is : start ≡ begin file_start tals
-  pub count_is : count ≡ length (annotations file_start tals)
-
--- TALs without a fault, but for the first one's rules
-pub record AreSoundTals (bytes : List ℕ) (file_start : ℕ) (tals : List Tal) : Type 0 where
-  pub whole : AreTals bytes tals
-  pub good : AllByRecursion (λ t. AllByRecursion IsUtf8 t.texts) tals
-  pub window : AllByRecursion (IsTalInWindow file_start) tals
 
 -- the texts of a TAL without a fault, and its times
 pub record TellsTal (texts : List ℕ) (ahead : Bool) (onset : ℕ) (duration : Option ℕ) (file_start : ℕ) (t : Tal) : Type 0 where

@@ -1,44 +1,36 @@
-use Rattle.edf_tal.specs.Tal.{ended}
-use Rattle.edf_tal.proofs.Lists.{some-tal, next-tal, first-timed, behind-empty, tells-rest, whole-list}
+use Rattle.std.proofs.Common.{ℕ, ◌-◌, List, ◌++◌, length, take, drop, sym, ap, ◌∙◌, subst}
+use Rattle.std.specs.List.{flat_map}
+use Rattle.edf_tal.specs.Tal.{Annotation, all_tals, tal_annotations, annotations}
+use Rattle.edf_tal.specs.Block.{AreRead, cut}
+use Rattle.edf_tal.specs.declared.place.Place.{Place}
+use Rattle.edf_tal.proofs.Cuts.{HasFirst, cut-split, has-first}
 use Rattle.edf_tal.proofs.read.list_notes.Goals as goal
+use Rattle.edf_tal.proofs.read.list_notes.Goals.{After-split_at}
 
-pub unreachable-requires : goal.unreachable-requires
-unreachable-requires c = let r = c.requires in some-tal c.args.file_start c.args.tals.now r.0 r.1 r.2 c.in_default.ensures
+-- what the blocks give, by the first and those after it
+the-first : (c : After-split_at) (p : Place) (start : ℕ) (list : List Annotation) → AreRead (cut c.args.sizes.now c.args.block.now) c.args.file_start p start list
+    → HasFirst c.args.file_start c.split_at.result.0.now (cut (take (length c.args.sizes.now - 1) (drop 1 c.args.sizes.now)) c.split_at.result.1.now) list
+the-first c p start list r =
+    let parts = cut-split c.args.sizes.now c.args.block.now c.split_at.result.0.now c.split_at.result.1.now c.requires.some c.split_at.ensures.front c.split_at.ensures.back in
+    has-first c.args.file_start p c.split_at.result.0.now _ start list (subst (λ (bs : List (List ℕ)). AreRead bs c.args.file_start p start list) parts r)
 
-pub behind_empty-texts-requires : goal.behind_empty-texts-requires
-behind_empty-texts-requires c =
-    let r = c.requires in
-    let t = c.in-Some.ensures.0 in
-    let n = next-tal c.args.file_start c.args.tals.now c.in-Some.first.texts.now c.in-Some.first.rest.now t r.0 r.1 c.in-Some.ensures.1 in
-    let xs = first-timed c.args.file_start c.in-Some.first.rest.now c.in-Some.first.texts.now t r.0 n r.2 in
-    (ended xs.0, behind-empty c.args.file_start c.in-Some.first.rest.now c.in-Some.first.texts.now t r.0 xs.0 n xs.1)
+pub push_first-requires : goal.push_first-requires
+push_first-requires c =
+    let r = c.requires.read in
+    let h = the-first (goal.at.push_first-requires c).After-split_at r.0 r.1 r.2 r.3 in
+    (h.tals, h.sound, h.timed)
 
-pub push_tal-requires : goal.push_tal-requires
-push_tal-requires c =
-    let r = c.requires in
-    let t = c.in-Some.ensures.0 in
-    let n = next-tal c.args.file_start c.args.tals.now c.in-Some.first.texts.now c.in-Some.first.rest.now t r.0 r.1 c.in-Some.ensures.1 in
-    let xs = first-timed c.args.file_start c.in-Some.first.rest.now c.in-Some.first.texts.now t r.0 n r.2 in
-    let behind = c.behind_empty-texts.ensures (ended xs.0) (behind-empty c.args.file_start c.in-Some.first.rest.now c.in-Some.first.texts.now t r.0 xs.0 n xs.1) in (
-      record t { texts = xs.0 },
-      tells-rest c.args.file_start c.in-Some.first.rest.now c.in-Some.first.texts.now t r.0 xs.0 c.in-Some.first.times.ahead c.in-Some.first.times.onset c.in-Some.first.times.duration
-          c.behind_empty-texts.result.now n xs.1 behind c.in-Some.ensures.2 c.in-Some.ensures.3,
-    )
-
-pub push_tals-requires : goal.push_tals-requires
-push_tals-requires c =
-    let r = c.requires in
-    let t = c.in-Some.ensures.0 in
-    let n = next-tal c.args.file_start c.args.tals.now c.in-Some.first.texts.now c.in-Some.first.rest.now t r.0 r.1 c.in-Some.ensures.1 in
-    (n.others, n.sound)
+pub push_blocks-requires-clause-sound : goal.push_blocks-requires-clause-sound
+push_blocks-requires-clause-sound c =
+    let r = c.requires.read in
+    let h = the-first (goal.at.push_blocks-requires-clause-sound c).After-split_at r.0 r.1 r.2 r.3 in
+    (h.others, h.rest)
 
 pub returns : goal.returns
-returns c = λ ts sound timed.
-    let t = c.in-Some.ensures.0 in
-    let n = next-tal c.args.file_start c.args.tals.now c.in-Some.first.texts.now c.in-Some.first.rest.now t ts sound c.in-Some.ensures.1 in
-    let xs = first-timed c.args.file_start c.in-Some.first.rest.now c.in-Some.first.texts.now t ts n timed in
-    let behind = c.behind_empty-texts.ensures (ended xs.0) (behind-empty c.args.file_start c.in-Some.first.rest.now c.in-Some.first.texts.now t ts xs.0 n xs.1) in
-    let told = tells-rest c.args.file_start c.in-Some.first.rest.now c.in-Some.first.texts.now t ts xs.0 c.in-Some.first.times.ahead c.in-Some.first.times.onset c.in-Some.first.times.duration
-    c.behind_empty-texts.result.now n xs.1 behind c.in-Some.ensures.2 c.in-Some.ensures.3 in
-    whole-list c.args.file_start c.in-Some.first.rest.now c.in-Some.first.texts.now t ts xs.0 c.in_ok-list.list.items c.push_tal.new.list.items c.push_tals.new.list.items n xs.1
-    c.in_ok-list.ensures.items (c.in_ok-push_tal.ensures (record t { texts = xs.0 }) told) (c.in_ok-push_tals.ensures n.others n.sound)
+returns c = λ p start list r.
+    let h = the-first (goal.at.returns c).After-split_at p start list r in
+    let first = c.in_ok-push_first.ensures h.tals h.sound h.timed in
+    let later = c.in_ok-push_blocks.ensures h.others h.rest in
+    let rest = flat_map (tal_annotations c.args.file_start) (all_tals h.others) in
+    let none = ap (λ (w : List Annotation). w ++ annotations c.args.file_start h.tals) c.in_ok-list.ensures.items in
+    later ∙ ap (λ (w : List Annotation). w ++ rest) (first ∙ none) ∙ sym h.list_is
