@@ -1,5 +1,5 @@
 -- Sound records: their canonical file is read again.
-use Rattle.std.proofs.Common.{◌≡◌, ℕ, ◌+◌, ◌-◌, ◌*◌, ◌^◌, ◌≤◌, ◌<◌, List, [], ◌∷◌, ◌++◌, length, sym, ◌∙◌, subst, replicate, All}
+use Rattle.std.proofs.Common.{◌≡◌, ℕ, ◌+◌, ◌-◌, ◌*◌, ◌^◌, ◌≤◌, ◌<◌, List, [], ◌∷◌, ◌++◌, length, sym, subst, replicate, All}
 use Rattle.std.proofs.lemmas.List.Elements.{All-head, All-tail}
 use Rattle.std.specs.List.{AllByRecursion}
 use Rattle.edf_tal.proofs.Cited.{read-first, read-after, read-any}
@@ -16,7 +16,7 @@ use Rattle.edf_tal.specs.declared.place.Place.TheVariants.{First, After, Any}
 use Rattle.edf_fragment.specs.Fragment.{DataRecord, IsDataRecord, place_behind}
 use Rattle.edf_export.specs.File.{block_of, record_text}
 use Rattle.edf_fragment.specs.Sound.{IsSoundRecord, AreSound}
-use Rattle.edf_export.proofs.Records.{AreReadable, record-read}
+use Rattle.edf_export.proofs.Records.{AreReadable, one_block, record-read}
 
 -- where a record that starts at `start` may stand in a file that starts at `base`
 abbrev pub MayStand : Place → ℕ → ℕ → Type 0
@@ -35,14 +35,13 @@ again Any base start zeros list stands start-in base-in limits notes = read-any 
 pub record IsCanonicalLayout (l : Layout) (base size : ℕ) : Type 0 where
   pub start : l.start ≡ base
   pub in_window : base < window
-  pub block_at : l.block_at ≡ 2 * samples_in_all l.key.signals
-  pub block_bytes : l.block_bytes ≡ size
-  pub record_bytes : l.record_bytes ≡ l.block_at + size
+  pub blocks : l.blocks ≡ one_block (2 * samples_in_all l.key.signals) size
+  pub record_bytes : l.record_bytes ≡ 2 * samples_in_all l.key.signals + size
 
 readable : (l : Layout) (place : Place) (base size : ℕ) (r : DataRecord) → IsCanonicalLayout l base size → IsSoundRecord l.key r
     → MayStand place base r.start → length (block_of base r) ≤ size → IsDataRecord l place (record_text base size r) r
 readable l place base size r is e stands fits =
-    record-read l place base size r (e.samples_len ∙ sym is.block_at) is.block_bytes is.record_bytes fits
+    record-read l place base (2 * samples_in_all l.key.signals) size r e.samples_len is.blocks is.record_bytes fits
     (subst (λ (n : ℕ). IsRead (block_of base r ++ replicate (size - length (block_of base r)) 0) n place r.start r.annotations) (sym is.start)
     (again place base r.start (size - length (block_of base r)) r.annotations stands e.start is.in_window e.limits e.notes))
 

@@ -9,7 +9,7 @@ use Rattle.edf_tal.proofs.Cited.{block-length}
 use Rattle.edf_time.specs.Civil.{window}
 use Rattle.edf_field.specs.Number.{duration_of}
 use Rattle.edf_header.specs.Key.{Key, IsKey}
-use Rattle.edf_header.specs.Header.{Layout}
+use Rattle.edf_header.specs.Header.{Layout, layout_of, least_records, most_records}
 use Rattle.edf_header.specs.Canonical.{IsCanonicalHeader}
 use Rattle.edf_tal.specs.declared.place.Place.TheVariants.{First}
 use Rattle.edf_fragment.specs.Fragment.{DataRecord, AreDataRecords, Spells}
@@ -36,7 +36,7 @@ some-samples base samples r fits = omega arith
 
 canonical-layout-is : (k : Key) (start count samples : ℕ) → start < window → IsCanonicalLayout (spelled_layout k (second_of start) count samples) (second_of start) (2 * samples)
 canonical-layout-is k start count samples lt =
-    record { start = refl; in_window = omega (arith, second-of-low start); block_at = refl; block_bytes = refl; record_bytes = omega arith }
+    record { start = refl; in_window = omega (arith, second-of-low start); blocks = refl; record_bytes = omega arith }
 
 -- what is laid out so is read again, and so is the records' file
 pub canonical : (file : List ℕ) (k : Key) (r : DataRecord) (rs : List DataRecord) → IsKey k → AreSound k 0 (r ∷ rs) → length (r ∷ rs) ≤ 99_999_999 → IsLaidOut file k r (r ∷ rs)
@@ -58,6 +58,8 @@ canonical file k r rs is-key are count laid =
     let again = canonical-header-reads header k r.start (length (r ∷ rs)) samples is-key (omega arith) (count) some (omega arith) is-header in
     let read = records-read l First base (2 * samples) (r ∷ rs)
     (are-readable l base (2 * samples) 0 r rs (canonical-layout-is k r.start (length (r ∷ rs)) samples in-window) are (second-of-low r.start, second-of-high r.start) holds) in
+    let counted : (least_records (layout_of again.header).count ≡ length (r ∷ rs)) × (most_records (layout_of again.header).count ≡ length (r ∷ rs)) =
+    (ap (λ (x : Layout). least_records x.count) again.says, ap (λ (x : Layout). most_records x.count) again.says) in
     let spells : Spells (header ++ body) k (r ∷ rs) = record {
       header = again.header;
       rest = body;
@@ -65,7 +67,8 @@ canonical file k r rs is-key are count laid =
       is_header = again.reads body;
       key = ap (λ (x : Layout). x.key) (sym again.says);
       are_records = subst (λ (x : Layout). AreDataRecords x First body (r ∷ rs) read.0 []) (sym again.says) read.1;
-      count = ap (λ (x : Layout). x.count) (sym again.says);
+      least = omega (arith, counted.0);
+      most = omega (arith, counted.1);
     } in
     (subst (λ (x : List ℕ). Spells x k (r ∷ rs)) (sym parts) spells, laid)
 

@@ -1,37 +1,48 @@
 -- The records of a canonical file are read again as they were.
-use Rattle.std.proofs.Common.{◌≡◌, ℕ, zero, suc, ◌+◌, ◌-◌, ◌≤◌, ◌<◌, List, get_or, append_assoc, [], ◌∷◌, ◌++◌, length, take, drop, refl, sym, ap, ◌∙◌, subst, arith, length-append, replicate}
+use Rattle.std.proofs.Common.{◌≡◌, ℕ, zero, suc, ◌+◌, ◌-◌, ◌≤◌, ◌<◌, List, get_or, append_assoc, [], ◌∷◌, ◌++◌, length, map, take, drop, refl, sym, ap, ◌∙◌, subst, arith, length-append, replicate}
 use Rattle.std.proofs.lemmas.List.{take_at, drop_at, take_all, drop_all, length-replicate, append-nil}
 use Rattle.std.specs.List.{flat_map}
+use Rattle.edf_field.specs.Number.{field}
 use Rattle.edf_header.specs.Header.{Layout}
-use Rattle.edf_tal.specs.Block.{IsRead}
+use Rattle.edf_header.specs.declared.header.Block.{Block}
+use Rattle.edf_tal.specs.Block.{AreRead, IsRead}
 use Rattle.edf_tal.specs.declared.place.Place.{Place}
-use Rattle.edf_fragment.specs.Fragment.{DataRecord, IsDataRecord, AreDataRecords, block, ordinary_bytes, place_behind}
+use Rattle.edf_fragment.specs.Fragment.{DataRecord, IsDataRecord, AreDataRecords, blocks, outside, ordinary_bytes, place_behind}
 use Rattle.edf_export.specs.File.{block_of, record_text}
 
--- samples and then a block of the layout's size
-block-behind : (l : Layout) (s b : List ℕ) → length s ≡ l.block_at → length b ≡ l.block_bytes → block l (s ++ b) ≡ b
-block-behind l s b at size =
-    ap (take l.block_bytes) (drop_at s b l.block_at at) ∙ take_all l.block_bytes b (omega arith)
+-- the one block that stands behind so many bytes
+abbrev pub one_block : ℕ → ℕ → List Block
+one_block at size = record { at = at; bytes = size } ∷ []
 
-ordinary-before : (l : Layout) (s b : List ℕ) → length s ≡ l.block_at → length b ≡ l.block_bytes → ordinary_bytes l (s ++ b) ≡ s
-ordinary-before l s b at size =
-    let all : drop (l.block_at + l.block_bytes) (s ++ b) ≡ [] = drop_all (l.block_at + l.block_bytes) (s ++ b) (omega (arith, length-append s b)) in
-    ap (λ (x : List ℕ). x ++ drop (l.block_at + l.block_bytes) (s ++ b)) (take_at s b l.block_at at) ∙ ap (λ (x : List ℕ). s ++ x) all ∙ append-nil s
+-- samples and then a block of the layout's size
+block-after : (at size : ℕ) (s b : List ℕ) → length s ≡ at → length b ≡ size → field (s ++ b) at size ≡ b
+block-after at size s b before is = ap (take size) (drop_at s b at before) ∙ take_all size b (omega arith)
+
+blocks-after : (l : Layout) (at size : ℕ) (s b : List ℕ) → l.blocks ≡ one_block at size → length s ≡ at → length b ≡ size → blocks l (s ++ b) ≡ b ∷ []
+blocks-after l at size s b one before is =
+    ap (map (λ x. field (s ++ b) x.at x.bytes)) one ∙ ap (λ x. x ∷ []) (block-after at size s b before is)
+
+ordinary-before : (l : Layout) (at size : ℕ) (s b : List ℕ) → l.blocks ≡ one_block at size → length s ≡ at → length b ≡ size → ordinary_bytes l (s ++ b) ≡ s
+ordinary-before l at size s b one before is =
+    let none : drop (at + size) (s ++ b) ≡ [] = drop_all (at + size) (s ++ b) (omega (arith, length-append s b)) in
+    let whole : at - 0 ≡ at = omega arith in
+    ap (λ (bs : List Block). outside 0 bs (s ++ b)) one ∙ ap (λ (n : ℕ). field (s ++ b) 0 n ++ drop (at + size) (s ++ b)) whole
+    ∙ ap (λ (x : List ℕ). x ++ drop (at + size) (s ++ b)) (take_at s b at before) ∙ ap (λ (x : List ℕ). s ++ x) none ∙ append-nil s
 
 pub length-filled : (b : List ℕ) (size : ℕ) → length b ≤ size → length (b ++ replicate (size - length b) 0) ≡ size
 length-filled b size fits = omega (arith, length-append b (replicate (size - length b) 0), length-replicate {A = ℕ} (size - length b) 0)
 
-pub record-read : (l : Layout) (place : Place) (base size : ℕ) (r : DataRecord)
-    → length r.samples ≡ l.block_at → l.block_bytes ≡ size → l.record_bytes ≡ l.block_at + size → length (block_of base r) ≤ size
+pub record-read : (l : Layout) (place : Place) (base at size : ℕ) (r : DataRecord)
+    → length r.samples ≡ at → l.blocks ≡ one_block at size → l.record_bytes ≡ at + size → length (block_of base r) ≤ size
     → IsRead (block_of base r ++ replicate (size - length (block_of base r)) 0) l.start place r.start r.annotations
     → IsDataRecord l place (record_text base size r) r
-record-read l place base size r at is-size whole fits read =
+record-read l place base at size r before one whole fits read =
     let b = block_of base r ++ replicate (size - length (block_of base r)) 0 in
     let len : length b ≡ size = length-filled (block_of base r) size fits in
     record {
       len = omega (arith, length-append r.samples b, len);
-      read = subst (λ (x : List ℕ). IsRead x l.start place r.start r.annotations) (sym (block-behind l r.samples b at (len ∙ sym is-size))) read;
-      samples_are = sym (ordinary-before l r.samples b at (len ∙ sym is-size));
+      read = subst (λ (x : List (List ℕ)). AreRead x l.start place r.start r.annotations) (sym (blocks-after l at size r.samples b one before len)) read;
+      samples_are = sym (ordinary-before l at size r.samples b one before len);
     }
 
 -- each record, at its place, is read from its text

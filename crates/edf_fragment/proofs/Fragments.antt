@@ -2,14 +2,14 @@
 use Rattle.std.proofs.Common.{◌≡◌, ℕ, ◌+◌, ◌≤◌, ◌⊎◌, inl, inr, List, [], ◌∷◌, ◌++◌, length, arith, refl, sym, ap, ◌∙◌, subst, append-nil, length-append, Option, Some, None, IfSome, Result, Ok, Err}
 use Rattle.std.specs.Io.KnownBytes.{Consumes}
 use Rattle.std.proofs.KnownBytes.{Consumes-trans, Consumes-nil}
-use Rattle.edf_header.specs.Header.{HeaderRecord, IsHeader, Layout, layout_of}
+use Rattle.edf_header.specs.Header.{HeaderRecord, IsHeader, Layout, layout_of, least_records, most_records}
 use Rattle.edf_header.specs.Fault.{IsHeaderFault}
 use Rattle.edf_header.specs.declared.fault.HeaderFault.{HeaderFault}
 use Rattle.edf_tal.specs.declared.place.Place.{Place}
 use Rattle.edf_tal.specs.declared.place.Place.TheVariants.{First}
 use Rattle.edf_tal.specs.declared.place.TalFault.{TalFault}
-use Rattle.edf_tal.specs.Block.{IsBlockFault}
-use Rattle.edf_fragment.specs.Fragment.{DataRecord, AreDataRecords, block, Spells}
+use Rattle.edf_tal.specs.Block.{IsBlocksFault}
+use Rattle.edf_fragment.specs.Fragment.{DataRecord, AreDataRecords, blocks, Spells}
 use Rattle.edf_fragment.specs.Fault.{ReadsUpTo, IsCutRecord, IsRefusedBlock, IsTrailing, IsFirstFault}
 use Rattle.edf_fragment.specs.Reading.{ReadsHeader, ReadsHeaderFault, IsOpenFault, EndsThere, EndsInRecord, RefusesBlock, FindsMore, IsNextFault, IsNext, at_first, progress_after, AnswersIn, IsAnswer}
 use Rattle.edf_fragment.specs.Whole.{HasRead, FailsBehind, ReadsFragment, IsFirstWhereKnown, IsFragmentFault}
@@ -19,8 +19,9 @@ use Rattle.edf_fragment.specs.declared.advance.Status.{Status}
 use Rattle.edf_fragment.specs.declared.advance.Status.TheVariants.{Reading}
 use Rattle.edf_fragment.specs.declared.fault.FragmentFault.{FragmentFault}
 use Rattle.edf_fragment.specs.declared.fault.FragmentFault.TheVariants.{Header as BadHeader, CutRecord, Tal, Trailing, Read, Memory, Failed}
-use Rattle.edf_fragment.proofs.HeaderParts.{field_front}
-use Rattle.edf_fragment.proofs.Runs.{AreDataRecords-more, IsHeader-more, layout-fits, IsHeaderFault-more, reads_more}
+use Rattle.edf_header.proofs.Cited.{header-has-layout}
+use Rattle.edf_fragment.proofs.Layouts.{blocks-front}
+use Rattle.edf_fragment.proofs.Runs.{AreDataRecords-more, IsHeader-more, IsHeaderFault-more, reads_more}
 
 -- a header, and the data records behind it
 pub fragment_read : (left mid rest : Option (List ℕ)) (l : Layout) (rs : List DataRecord) → ReadsHeader left mid l → ReadsRecords l mid rest rs → ReadsFragment left rest l rs
@@ -33,7 +34,8 @@ fragment_read left mid rest l rs a b =
       is_header = IsHeader-more a.bytes b.bytes a.header a.is_header;
       key = ap (λ (x : Layout). x.key) a.layout_is;
       are_records = are;
-      count = b.count ∙ ap (λ (x : Layout). x.count) a.layout_is;
+      least = subst (λ (x : Layout). least_records x.count ≤ length rs) a.layout_is b.least;
+      most = subst (λ (x : Layout). length rs ≤ most_records x.count) a.layout_is b.most;
     } in
     record {
       bytes = a.bytes ++ b.bytes;
@@ -84,7 +86,11 @@ cut_of_all (Some all) (Some one) (Some two) (Some rest) a b h rs p nth x y is ar
     record {
       up_to = up_to all one two a b h rs p.place x y is are;
       is_nth = omega (arith, f.is_nth, given);
-      wanted = omega (arith, f.is_nth, f.wanted);
+      may_come = omega (arith, f.is_nth, f.may_come);
+      there = elim f.there [
+        | inl low ↦ inl (omega (arith, f.is_nth, low))
+        | inr some ↦ inr (omega (arith, some, len))
+      ];
       cut = omega (arith, f.cut, len);
     }
 
@@ -97,14 +103,13 @@ block_of_all (Some all) (Some one) (Some two) None a b h rs p nth e x y is are g
 block_of_all (Some all) (Some one) (Some two) (Some rest) a b h rs p nth e x y is are given f =
     let l = layout_of h in
     let len : length two ≡ length f.bytes + length rest = ap (λ (z : List ℕ). length z) f.read ∙ length-append f.bytes rest in
-    let fits : l.block_at + l.block_bytes ≤ length f.bytes = omega (arith, layout-fits h, f.len) in
-    let same : block l two ≡ block l f.bytes = ap (block l) f.read ∙ field_front f.bytes rest l.block_at l.block_bytes fits in
+    let same : blocks l two ≡ blocks l f.bytes = ap (blocks l) f.read ∙ blocks-front l f.bytes rest (header-has-layout a h [] is) (omega (arith, f.len)) in
     record {
       up_to = up_to all one two a b h rs p.place x y is are;
       is_nth = omega (arith, f.is_nth, given);
-      wanted = omega (arith, f.is_nth, f.wanted);
+      may_come = omega (arith, f.is_nth, f.may_come);
       whole = omega (arith, f.len, len);
-      refused = subst (λ (z : List ℕ). IsBlockFault z l.start p.place e) (sym same) f.refused;
+      refused = subst (λ (z : List (List ℕ)). IsBlocksFault z l.start p.place e) (sym same) f.refused;
     }
 
 more_of_all : (left mid two rest : Option (List ℕ)) (a b : List ℕ) (h : HeaderRecord) (rs : List DataRecord) (p : Progress) → Consumes left mid a → Consumes mid two b
@@ -151,7 +156,8 @@ reads_end l left mid rest rs p before ends = record {
   read = subst (λ (x : List ℕ). Consumes left rest x) (append-nil before.bytes) (Consumes-trans left mid rest before.bytes [] before.read ends.read);
   end = ends.end;
   are_records = before.are_records;
-  count = sym before.given ∙ ends.all;
+  least = omega (arith, before.given, ends.least);
+  most = omega (arith, before.given, ends.most);
 }
 
 -- what a reader answers that goes on

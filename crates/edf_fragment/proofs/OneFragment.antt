@@ -2,27 +2,26 @@
 use Rattle.std.proofs.Common.{◌≡◌, ℕ, ◌+◌, ◌≤◌, ◌<◌, inl, inr, List, [], ◌∷◌, ◌++◌, length, arith, refl, sym, ap, ◌∙◌, subst, append-nil, length-append}
 use Rattle.std.proofs.lemmas.Bool.{cases_lt}
 use Rattle.edf_header.specs.Key.{Key}
-use Rattle.edf_header.specs.Header.{HeaderRecord, IsHeader, Layout, layout_of}
-use Rattle.edf_tal.specs.Block.{IsBlockFault}
+use Rattle.edf_header.specs.Header.{HeaderRecord, IsHeader, Layout, IsLayout, layout_of, least_records, most_records}
+use Rattle.edf_tal.specs.Block.{IsBlocksFault}
 use Rattle.edf_tal.specs.declared.place.Place.{Place}
 use Rattle.edf_tal.specs.declared.place.Place.TheVariants.{First}
 use Rattle.edf_tal.specs.declared.place.TalFault.{TalFault}
-use Rattle.edf_tal.proofs.Cited.{one-read, read-no-fault, one-fault}
-use Rattle.edf_fragment.specs.Fragment.{DataRecord, IsDataRecord, AreDataRecords, place_behind, block, Spells}
+use Rattle.edf_tal.proofs.Cited.{blocks-one-read, blocks-read-no-fault, blocks-one-fault}
+use Rattle.edf_fragment.specs.Fragment.{DataRecord, IsDataRecord, AreDataRecords, place_behind, blocks, Spells}
 use Rattle.edf_fragment.specs.Fault.{ReadsUpTo, IsCutRecord, IsRefusedBlock, IsTrailing, IsFirstFault}
 use Rattle.edf_fragment.specs.declared.fault.FragmentFault.{FragmentFault}
 use Rattle.edf_fragment.specs.declared.fault.FragmentFault.TheVariants.{Header as BadHeader, CutRecord, Tal, Trailing}
 use Rattle.edf_header.specs.declared.fault.HeaderFault.{HeaderFault}
-use Rattle.edf_fragment.proofs.HeaderParts.{field_front}
-use Rattle.edf_fragment.proofs.Runs.{layout-fits}
-use Rattle.edf_header.proofs.Cited.{one-header, header-no-fault, one-header-fault}
+use Rattle.edf_fragment.proofs.Layouts.{record-some, blocks-front}
+use Rattle.edf_header.proofs.Cited.{header-has-layout, one-header, header-no-fault, one-header-fault}
 use Rattle.edf_fragment.proofs.Fronts.{same_front}
 
 -- ---- one data record
 
 one-record : (l : Layout) (p : Place) (b : List ℕ) (r s : DataRecord) → IsDataRecord l p b r → IsDataRecord l p b s → r ≡ s
 one-record l p b r s x y =
-    let same = one-read (block l b) l.start p r.start s.start r.annotations s.annotations x.read y.read in
+    let same = blocks-one-read (blocks l b) l.start p r.start s.start r.annotations s.annotations x.read y.read in
     let samples : r.samples ≡ s.samples = x.samples_are ∙ sym y.samples_are in
     λ i. record { start = same.start i; samples = samples i; annotations = same.list i }
 
@@ -51,10 +50,10 @@ goes_on l f p q b x y (r ∷ rs) (s ∷ ss) few (front, back, parts, one, are) (
 
 -- ---- where data records stop
 
--- no data record is at the front
+-- no more data records may be there, or none is at the front
 pub record IsStuck (l : Layout) (rs : List DataRecord) (p : Place) (x : List ℕ) : Type 0 where
-  pub within : length rs ≤ l.count
-  pub none : length rs < l.count → (front back : List ℕ) (r : DataRecord) → x ≡ front ++ back → ¬ IsDataRecord l p front r
+  pub within : length rs ≤ most_records l.count
+  pub none : length rs < most_records l.count → (front back : List ℕ) (r : DataRecord) → x ≡ front ++ back → ¬ IsDataRecord l p front r
 
 -- the same data records, place and rest
 pub record SameRun (rs ss : List DataRecord) (p q : Place) (x y : List ℕ) : Type 0 where
@@ -62,7 +61,7 @@ pub record SameRun (rs ss : List DataRecord) (p q : Place) (x y : List ℕ) : Ty
   pub place : p ≡ q
   pub rest : x ≡ y
 
-stops : (l : Layout) (rs ss others : List DataRecord) (p q : Place) (x y : List ℕ) → ss ≡ rs ++ others → IsStuck l rs p x → length ss ≤ l.count
+stops : (l : Layout) (rs ss others : List DataRecord) (p q : Place) (x y : List ℕ) → ss ≡ rs ++ others → IsStuck l rs p x → length ss ≤ most_records l.count
     → AreDataRecords l p x others q y → SameRun rs ss p q x y
 stops l rs ss [] p q x y all stuck few (place, rest) = record { records = sym (all ∙ append-nil rs); place = sym place; rest = sym rest }
 stops l rs ss (r ∷ others) p q x y all stuck few (front, back, parts, one, more) =
@@ -88,22 +87,37 @@ one-run l f p q b x y rs ss a c stuck stuck2 =
 
 cut-stuck : (b : List ℕ) (nth : ℕ) (p : IsCutRecord b nth) → IsStuck (layout_of p.up_to.header) p.up_to.records p.up_to.last p.up_to.left
 cut-stuck b nth p = record {
-  within = omega (arith, p.is_nth, p.wanted);
+  within = omega (arith, p.is_nth, p.may_come);
   none = λ low front back r parts is. omega (arith, is.len, p.cut, ap (λ (z : List ℕ). length z) parts ∙ length-append front back);
 }
+
+-- the layout of the header that was read
+layout-up-to : (b : List ℕ) (u : ReadsUpTo b) → IsLayout (layout_of u.header)
+layout-up-to b u = header-has-layout b u.header u.rest u.is_header
 
 block-stuck : (b : List ℕ) (nth : ℕ) (e : TalFault) (p : IsRefusedBlock b nth e) → IsStuck (layout_of p.up_to.header) p.up_to.records p.up_to.last p.up_to.left
 block-stuck b nth e p =
     let l = layout_of p.up_to.header in
     record {
-      within = omega (arith, p.is_nth, p.wanted);
+      within = omega (arith, p.is_nth, p.may_come);
       none = λ low front back r parts is.
-          let same : block l p.up_to.left ≡ block l front = ap (block l) parts ∙ field_front front back l.block_at l.block_bytes (omega (arith, layout-fits p.up_to.header, is.len)) in
-          read-no-fault (block l front) l.start p.up_to.last r.start r.annotations e is.read (subst (λ (z : List ℕ). IsBlockFault z l.start p.up_to.last e) same p.refused);
+          let same : blocks l p.up_to.left ≡ blocks l front = ap (blocks l) parts ∙ blocks-front l front back (layout-up-to b p.up_to) (omega (arith, is.len)) in
+          blocks-read-no-fault (blocks l front) l.start p.up_to.last r.start r.annotations e is.read
+          (subst (λ (z : List (List ℕ)). IsBlocksFault z l.start p.up_to.last e) same p.refused);
     }
 
-all-stuck : (l : Layout) (rs : List DataRecord) (p : Place) (x : List ℕ) → length rs ≡ l.count → IsStuck l rs p x
-all-stuck l rs p x all = record { within = omega arith; none = λ low. absurd (omega arith) }
+all-stuck : (l : Layout) (rs : List DataRecord) (p : Place) (x : List ℕ) → length rs ≡ most_records l.count → IsStuck l rs p x
+all-stuck l rs p x all = record { within = omega (arith, all); none = λ low. absurd (omega (arith, all, low)) }
+
+trailing-stuck : (b : List ℕ) (p : IsTrailing b) → IsStuck (layout_of p.up_to.header) p.up_to.records p.up_to.last p.up_to.left
+trailing-stuck b p = all-stuck (layout_of p.up_to.header) p.up_to.records p.up_to.last p.up_to.left p.all
+
+-- nothing is left for a data record
+none-stuck : (l : Layout) (rs : List DataRecord) (p : Place) → IsLayout l → length rs ≤ most_records l.count → IsStuck l rs p []
+none-stuck l rs p i within = record {
+  within = within;
+  none = λ low front back r parts is. omega (arith, is.len, record-some l i, ap (λ (z : List ℕ). length z) parts ∙ length-append front back);
+}
 
 abbrev spelled : (b : List ℕ) (k : Key) (rs : List DataRecord) → Spells b k rs → ReadsUpTo b
 spelled b k rs s = record {
@@ -115,6 +129,9 @@ spelled b k rs s = record {
   is_header = s.is_header;
   are_records = s.are_records;
 }
+
+spelled-stuck : (b : List ℕ) (k : Key) (rs : List DataRecord) (s : Spells b k rs) → IsStuck (layout_of s.header) rs s.last []
+spelled-stuck b k rs s = none-stuck (layout_of s.header) rs s.last (layout-up-to b (spelled b k rs s)) s.most
 
 -- ---- two readings of the same bytes
 
@@ -134,14 +151,16 @@ same-end b r s h g rs ss p q x y is is2 are are2 stuck stuck2 =
 -- the numbers that two readings share
 record SameNumbers (h g : HeaderRecord) (rs ss : List DataRecord) (x y : List ℕ) : Type 0 where
   given : length rs ≡ length ss
-  count : (layout_of h).count ≡ (layout_of g).count
+  least : least_records (layout_of h).count ≡ least_records (layout_of g).count
+  most : most_records (layout_of h).count ≡ most_records (layout_of g).count
   size : (layout_of h).record_bytes ≡ (layout_of g).record_bytes
   left : length x ≡ length y
 
 numbers : (h g : HeaderRecord) (rs ss : List DataRecord) (p q : Place) (x y : List ℕ) → SameEnd h g rs ss p q x y → SameNumbers h g rs ss x y
 numbers h g rs ss p q x y e = record {
   given = ap (λ (z : List DataRecord). length z) e.run.records;
-  count = ap (λ (z : HeaderRecord). (layout_of z).count) e.header;
+  least = ap (λ (z : HeaderRecord). least_records (layout_of z).count) e.header;
+  most = ap (λ (z : HeaderRecord). most_records (layout_of z).count) e.header;
   size = ap (λ (z : HeaderRecord). (layout_of z).record_bytes) e.header;
   left = ap (λ (z : List ℕ). length z) e.run.rest;
 }
@@ -163,18 +182,18 @@ pub record SameFragment (k j : Key) (rs ss : List DataRecord) : Type 0 where
 
 pub one-fragment : (b : List ℕ) (k j : Key) (rs ss : List DataRecord) → Spells b k rs → Spells b j ss → SameFragment k j rs ss
 one-fragment b k j rs ss s t =
-    let e = both b (spelled b k rs s) (spelled b j ss t) (all-stuck (layout_of s.header) rs s.last [] s.count) (all-stuck (layout_of t.header) ss t.last [] t.count) in
+    let e = both b (spelled b k rs s) (spelled b j ss t) (spelled-stuck b k rs s) (spelled-stuck b j ss t) in
     record { key = s.key ∙ ap (λ (z : HeaderRecord). (layout_of z).key) e.header ∙ sym t.key; records = e.run.records }
 
 cut-trailing : (b : List ℕ) (n : ℕ) → IsCutRecord b n → ¬ IsTrailing b
 cut-trailing b n p q =
-    let e = both-numbers b p.up_to q.up_to (cut-stuck b n p) (all-stuck (layout_of q.up_to.header) q.up_to.records q.up_to.last q.up_to.left q.all) in
-    omega (arith, e.given, e.count, p.is_nth, p.wanted, q.all)
+    let e = both-numbers b p.up_to q.up_to (cut-stuck b n p) (trailing-stuck b q) in
+    omega (arith, e.given, e.most, p.is_nth, p.may_come, q.all)
 
 block-trailing : (b : List ℕ) (n : ℕ) (f : TalFault) → IsRefusedBlock b n f → ¬ IsTrailing b
 block-trailing b n f p q =
-    let e = both-numbers b p.up_to q.up_to (block-stuck b n f p) (all-stuck (layout_of q.up_to.header) q.up_to.records q.up_to.last q.up_to.left q.all) in
-    omega (arith, e.given, e.count, p.is_nth, p.wanted, q.all)
+    let e = both-numbers b p.up_to q.up_to (block-stuck b n f p) (trailing-stuck b q) in
+    omega (arith, e.given, e.most, p.is_nth, p.may_come, q.all)
 
 cut-block : (b : List ℕ) (n m : ℕ) (f : TalFault) → IsCutRecord b n → ¬ IsRefusedBlock b m f
 cut-block b n m f p q =
@@ -195,10 +214,10 @@ one-refused b n m e f p q =
     let s = both b p.up_to q.up_to (block-stuck b n e p) (block-stuck b m f q) in
     let k = both-numbers b p.up_to q.up_to (block-stuck b n e p) (block-stuck b m f q) in
     let g = q.up_to.header in
-    let here = subst (λ (z : HeaderRecord). IsBlockFault (block (layout_of z) p.up_to.left) (layout_of z).start p.up_to.last e) s.header p.refused in
-    let place = subst (λ (z : Place). IsBlockFault (block (layout_of g) p.up_to.left) (layout_of g).start z e) s.run.place here in
-    let there = subst (λ (z : List ℕ). IsBlockFault (block (layout_of g) z) (layout_of g).start q.up_to.last e) s.run.rest place in
-    record { nth = omega (arith, k.given, p.is_nth, q.is_nth); fault = one-fault (block (layout_of g) q.up_to.left) (layout_of g).start q.up_to.last e f there q.refused }
+    let here = subst (λ (z : HeaderRecord). IsBlocksFault (blocks (layout_of z) p.up_to.left) (layout_of z).start p.up_to.last e) s.header p.refused in
+    let place = subst (λ (z : Place). IsBlocksFault (blocks (layout_of g) p.up_to.left) (layout_of g).start z e) s.run.place here in
+    let there = subst (λ (z : List ℕ). IsBlocksFault (blocks (layout_of g) z) (layout_of g).start q.up_to.last e) s.run.rest place in
+    record { nth = omega (arith, k.given, p.is_nth, q.is_nth); fault = blocks-one-fault (blocks (layout_of g) q.up_to.left) (layout_of g).start q.up_to.last e f there q.refused }
 
 pub one-first-fault : (b : List ℕ) (e f : FragmentFault) → IsFirstFault b e → IsFirstFault b f → e ≡ f
 one-first-fault b (BadHeader e) (BadHeader f) p q = ap (λ (z : HeaderFault). BadHeader z) (one-header-fault b e f p q)
@@ -225,15 +244,22 @@ one-first-fault b Trailing Trailing p q = refl
 one-first-fault b Trailing f p q = absurd q
 one-first-fault b e f p q = absurd p
 
+-- a data record that is cut is wanted, or a byte of it is there
+spelled-cut : (b : List ℕ) (k : Key) (rs : List DataRecord) (n : ℕ) → Spells b k rs → ¬ IsCutRecord b n
+spelled-cut b k rs n s f =
+    let e = both-numbers b (spelled b k rs s) f.up_to (spelled-stuck b k rs s) (cut-stuck b n f) in
+    elim f.there [
+      | inl wanted ↦ omega (arith, e.given, e.least, s.least, f.is_nth, wanted)
+      | inr some ↦ omega (arith, e.left, some)
+    ]
+
 pub spelled-no-fault : (b : List ℕ) (k : Key) (rs : List DataRecord) (e : FragmentFault) → Spells b k rs → ¬ IsFirstFault b e
 spelled-no-fault b k rs (BadHeader e) s f = header-no-fault b s.header s.rest e s.is_header f
-spelled-no-fault b k rs (CutRecord n) s f =
-    let e = both-numbers b (spelled b k rs s) f.up_to (all-stuck (layout_of s.header) rs s.last [] s.count) (cut-stuck b n f) in
-    omega (arith, e.given, e.count, s.count, f.is_nth, f.wanted)
+spelled-no-fault b k rs (CutRecord n) s f = spelled-cut b k rs n s f
 spelled-no-fault b k rs (Tal n g) s f =
-    let e = both-numbers b (spelled b k rs s) f.up_to (all-stuck (layout_of s.header) rs s.last [] s.count) (block-stuck b n g f) in
-    omega (arith, e.given, e.count, s.count, f.is_nth, f.wanted)
+    let e = both-numbers b (spelled b k rs s) f.up_to (spelled-stuck b k rs s) (block-stuck b n g f) in
+    omega (arith, e.left, f.whole, record-some (layout_of f.up_to.header) (layout-up-to b f.up_to))
 spelled-no-fault b k rs Trailing s f =
-    let e = both-numbers b (spelled b k rs s) f.up_to (all-stuck (layout_of s.header) rs s.last [] s.count) (all-stuck (layout_of f.up_to.header) f.up_to.records f.up_to.last f.up_to.left f.all) in
+    let e = both-numbers b (spelled b k rs s) f.up_to (spelled-stuck b k rs s) (trailing-stuck b f) in
     omega (arith, e.left, f.more)
 spelled-no-fault b k rs e s f = f

@@ -2,11 +2,9 @@
 use Rattle.std.proofs.Common.{◌≡◌, ℕ, ◌+◌, ◌*◌, ◌≤◌, ◌<◌, ◌⊎◌, inl, inr, List, [], ◌∷◌, ◌++◌, length, take, drop, arith, refl, sym, ap, ◌∙◌, subst, append_assoc, append-nil, length-append, Option, Some, Ok}
 use Rattle.std.proofs.lemmas.List.{take-append-le, length-take, length-drop}
 use Rattle.std.proofs.lemmas.Bool.{cases_lt}
-use Rattle.std.proofs.lemmas.List.Sums.{sum_by-append, sum_by-cons}
 use Rattle.std.proofs.KnownBytes.{Consumes-trans}
 use Rattle.edf_field.specs.Number.{field, IsNumber}
-use Rattle.edf_header.specs.Signal.{samples}
-use Rattle.edf_header.specs.Header.{HeaderRecord, IsHeader, Layout, layout_of}
+use Rattle.edf_header.specs.Header.{HeaderRecord, IsHeader, Layout}
 use Rattle.edf_header.specs.Fault.{FixedPartFails, SignalsFail, HasSignals, IsHeaderFault, IsFirst, IsClean, header_fault_number}
 use Rattle.edf_header.specs.declared.fault.HeaderFault.{HeaderFault}
 use Rattle.edf_header.specs.declared.fault.HeaderFault.TheVariants.{Cut, Unprintable, Version, Patient, Recording, Startdate, Starttime, DatesDiffer, NotPlus, Count, Duration, Signals, HeaderBytes, CutSignals, UnprintableSignals, Annotations, Physical, Digital, Samples, Size, Memory}
@@ -58,10 +56,6 @@ IsHeader-more b more h is = record {
   fixed = is.fixed;
   signals = is.signals;
 }
-
--- a header's annotations block lies within its data records
-pub layout-fits : (h : HeaderRecord) → (layout_of h).block_at + (layout_of h).block_bytes ≤ (layout_of h).record_bytes
-layout-fits h = omega (arith, sum_by-append samples h.front (h.annotations ∷ h.back), sum_by-cons samples h.annotations h.back)
 
 not-below : (a b : ℕ) → (a < b → ⊥) → b ≤ a
 not-below a b never = elim (cases_lt a b) [ inl low ↦ absurd (never low) | inr high ↦ high ]
@@ -157,5 +151,5 @@ reads_more l left mid rest rs p q r before is gives =
       read = Consumes-trans left mid rest before.bytes gives.bytes before.read gives.read;
       are_records = subst (λ (x : Place). AreDataRecords l First (before.bytes ++ gives.bytes) (rs ++ r ∷ []) x []) (sym place) more;
       given = omega (arith, before.given, length-append rs (r ∷ []));
-      within = omega (arith, gives.wanted, given);
+      within = omega (arith, gives.may_come, given);
     }

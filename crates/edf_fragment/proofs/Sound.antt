@@ -1,6 +1,6 @@
 -- What the data records of a fragment have, and those that were read so far.
-use Rattle.std.proofs.Common.{◌≡◌, ℕ, ◌+◌, ◌*◌, ◌≤◌, ◌<◌, List, [], ◌∷◌, ◌++◌, length, take, drop, arith, sym, ap, ◌∙◌, subst, length-append, Option, None, Some, Result, Ok, Err, IfOk, IfSome}
-use Rattle.std.proofs.lemmas.List.{length-take, length-drop}
+use Rattle.std.proofs.Common.{◌≡◌, ℕ, ◌+◌, ◌*◌, ◌≤◌, ◌<◌, inl, inr, List, [], ◌∷◌, ◌++◌, length, arith, sym, ap, ◌∙◌, subst, length-append, Option, None, Some, Result, Ok, Err, IfOk, IfSome}
+use Rattle.std.proofs.lemmas.Bool.{cases_lt}
 use Rattle.edf_field.specs.Number.{duration_of}
 use Rattle.edf_header.specs.Signal.{samples_in_all}
 use Rattle.edf_header.specs.Key.{Key, IsKey}
@@ -10,16 +10,17 @@ use Rattle.edf_header.proofs.Cited.{key-duration-some}
 use Rattle.edf_header.proofs.Cited.{header-has-layout}
 use Rattle.edf_header.proofs.Cited.{one-header}
 use Rattle.edf_tal.specs.Tal.{Annotation}
-use Rattle.edf_tal.specs.Block.{IsRead}
+use Rattle.edf_tal.specs.Block.{AreRead}
 use Rattle.edf_tal.specs.declared.place.Place.{Place}
 use Rattle.edf_tal.specs.declared.place.Place.TheVariants.{First, After, Any}
-use Rattle.edf_tal.proofs.Cited.{read-start, read-annotations}
-use Rattle.edf_fragment.specs.Fragment.{DataRecord, IsDataRecord, AreDataRecords, place_behind, Spells}
+use Rattle.edf_tal.proofs.Cited.{blocks-read-start, blocks-read-annotations}
+use Rattle.edf_fragment.specs.Fragment.{DataRecord, IsDataRecord, AreDataRecords, place_behind, ordinary_bytes, Spells}
 use Rattle.edf_fragment.specs.Sound.{IsKept, IsSoundRecord, AreSound}
 use Rattle.edf_fragment.specs.Reading.{ReadsHeader, IsNext}
 use Rattle.edf_fragment.specs.Whole.{HasRead}
 use Rattle.edf_fragment.specs.declared.advance.Progress.{Progress}
 use Rattle.edf_fragment.specs.declared.fault.FragmentFault.{FragmentFault}
+use Rattle.edf_fragment.proofs.Layouts.{record-some, ordinary-len}
 use Rattle.edf_fragment.proofs.OneFragment.{goes_on}
 use Rattle.edf_fragment.proofs.Runs.{AreDataRecords-more, IsHeader-more}
 
@@ -31,40 +32,31 @@ least_start First = 0
 least_start (After before duration) = before + duration
 least_start Any = 0
 
-low-start : (bytes : List ℕ) (file_start : ℕ) (place : Place) (start : ℕ) (list : List Annotation) → IsRead bytes file_start place start list → least_start place ≤ start
-low-start bytes file_start First start list read = omega arith
-low-start bytes file_start Any start list read = omega arith
-low-start bytes file_start (After before duration) start list read = omega (arith, read.keeps, read.start_is)
+low-start : (bs : List (List ℕ)) (file_start : ℕ) (place : Place) (start : ℕ) (list : List Annotation) → AreRead bs file_start place start list → least_start place ≤ start
+low-start bs file_start First start list read = omega arith
+low-start bs file_start Any start list read = omega arith
+low-start bs file_start (After before duration) start list read = omega (arith, read.keeps, read.start_is)
 
 samples-len : (l : Layout) (place : Place) (bytes : List ℕ) (r : DataRecord) → IsLayout l → IsDataRecord l place bytes r → length r.samples ≡ 2 * samples_in_all l.key.signals
 samples-len l place bytes r in_layout is =
-    let all : length r.samples ≡ length (take l.block_at bytes ++ drop (l.block_at + l.block_bytes) bytes) = ap (λ (x : List ℕ). length x) is.samples_are in
-    omega (
-      arith,
-      all,
-      is.len,
-      in_layout.inside,
-      in_layout.parts,
-      length-append (take l.block_at bytes) (drop (l.block_at + l.block_bytes) bytes),
-      length-take l.block_at bytes,
-      length-drop (l.block_at + l.block_bytes) bytes,
-    )
+    let all : length r.samples ≡ length (ordinary_bytes l bytes) = ap (λ (x : List ℕ). length x) is.samples_are in
+    omega (arith, all, in_layout.parts, ordinary-len l bytes in_layout is.len)
 
 sound-record : (l : Layout) (place : Place) (bytes : List ℕ) (r : DataRecord) → IsLayout l → IsDataRecord l place bytes r → IsSoundRecord l.key r
 sound-record l place bytes r in_layout is = record {
   samples_len = samples-len l place bytes r in_layout is;
-  start = read-start _ _ _ _ _ is.read;
+  start = blocks-read-start _ _ _ _ _ is.read;
   limits = is.read.limits;
-  notes = read-annotations _ _ _ _ _ is.read;
+  notes = blocks-read-annotations _ _ _ _ _ is.read;
 }
 
 -- such a record may be kept in memory
-pub read-kept : (bytes : List ℕ) (file_start : ℕ) (place : Place) (start : ℕ) (samples : List ℕ) (list : List Annotation) → length samples ≤ 4_194_304
-    → IsRead bytes file_start place start list → IsKept (record { start = start; samples = samples; annotations = list })
-read-kept bytes file_start place start samples list few read = record {
+pub read-kept : (bs : List (List ℕ)) (file_start : ℕ) (place : Place) (start : ℕ) (samples : List ℕ) (list : List Annotation) → length samples ≤ 4_194_304
+    → AreRead bs file_start place start list → IsKept (record { start = start; samples = samples; annotations = list })
+read-kept bs file_start place start samples list few read = record {
   size = record { samples = few; annotations = read.limits };
-  start = read-start _ _ _ _ _ read;
-  notes = read-annotations _ _ _ _ _ read;
+  start = blocks-read-start _ _ _ _ _ read;
+  notes = blocks-read-annotations _ _ _ _ _ read;
 }
 
 -- the next record, where one is given
@@ -96,10 +88,10 @@ pub spelled-lasts : (bytes : List ℕ) (k : Key) (rs : List DataRecord) → Spel
 spelled-lasts bytes k rs s = key-duration-some k (spelled-key bytes k rs s)
 
 pub spelled-some : (bytes : List ℕ) (k : Key) (rs : List DataRecord) → Spells bytes k rs → 1 ≤ length rs
-spelled-some bytes k rs s = omega (arith, s.count, (spelled-layout bytes k rs s).some)
+spelled-some bytes k rs s = omega (arith, s.least, (spelled-layout bytes k rs s).count.0)
 
 pub spelled-few : (bytes : List ℕ) (k : Key) (rs : List DataRecord) → Spells bytes k rs → length rs ≤ 99_999_999
-spelled-few bytes k rs s = omega (arith, s.count, (spelled-layout bytes k rs s).few)
+spelled-few bytes k rs s = omega (arith, s.most, (spelled-layout bytes k rs s).count.1)
 
 pub spelled-sound : (bytes : List ℕ) (k : Key) (rs : List DataRecord) → Spells bytes k rs → AreSound k 0 rs
 spelled-sound bytes k rs s =
@@ -120,15 +112,33 @@ read-sound left one two l rs p h b = are-sound l First b.bytes rs p.place [] (re
 abbrev pub Begins : List DataRecord → List DataRecord → Type 0
 Begins all rs = (later : List DataRecord) × (all ≡ rs ++ later)
 
+-- no data record stands where nothing is left
+none-behind : (l : Layout) (p q : Place) (x : List ℕ) (rs : List DataRecord) → IsLayout l → AreDataRecords l p [] rs q x → 0 < length rs → ⊥
+none-behind l p q x [] i are some = omega (arith, some)
+none-behind l p q x (r ∷ rs) i (front, back, parts, is, more) some =
+    omega (arith, is.len, record-some l i, ap (λ (z : List ℕ). length z) parts ∙ length-append front back)
+
+-- data records that were read don't go on where the spelled ones stop: nothing is left there
+not-past : (l : Layout) (f p q : Place) (b x : List ℕ) (rs all : List DataRecord) → IsLayout l → AreDataRecords l f b rs p x → AreDataRecords l f b all q [] → length rs ≤ length all
+not-past l f p q b x rs all i read spelled =
+    elim (cases_lt (length all) (length rs)) [
+      | inl more ↦
+          let on = goes_on l f q p b [] x all rs (omega (arith, more)) spelled read in
+          let len : length rs ≡ length all + length on.others = ap (λ (z : List DataRecord). length z) on.all ∙ length-append all on.others in
+          absurd (none-behind l q p x on.others i on.are_records (omega (arith, more, len)))
+      | inr few ↦ few
+    ]
+
 -- behind the same header, in the same bytes
 front-of : (a b c : List ℕ) (h g : HeaderRecord) (rest : List ℕ) (rs all : List DataRecord) (p q : Place) → IsHeader (a ++ (b ++ c)) g rest → IsHeader a h []
-    → AreDataRecords (layout_of h) First b rs p [] → AreDataRecords (layout_of g) First rest all q [] → length rs ≤ length all
-    → ((layout_of g).key ≡ (layout_of h).key) × Begins all rs
-front-of a b c h g rest rs all p q is read are spelled few =
+    → AreDataRecords (layout_of h) First b rs p [] → AreDataRecords (layout_of g) First rest all q [] → ((layout_of g).key ≡ (layout_of h).key) × Begins all rs
+front-of a b c h g rest rs all p q is read are spelled =
     let one = one-header (a ++ (b ++ c)) g h rest (b ++ c) is (IsHeader-more a (b ++ c) h read) in
-    let here = AreDataRecords-more (layout_of h) First p b [] c rs are in
+    let l = layout_of h in
+    let here = AreDataRecords-more l First p b [] c rs are in
     let there = subst (λ (x : HeaderRecord). AreDataRecords (layout_of x) First (b ++ c) all q []) one.0 (subst (λ (x : List ℕ). AreDataRecords (layout_of g) First x all q []) one.1 spelled) in
-    let on = goes_on (layout_of h) First p q (b ++ c) c [] rs all few here there in
+    let few = not-past l First p q (b ++ c) c rs all (header-has-layout a h [] read) here there in
+    let on = goes_on l First p q (b ++ c) c [] rs all few here there in
     (ap (λ (x : HeaderRecord). (layout_of x).key) one.0, (on.others, on.all))
 
 pub read-front : (all : List ℕ) (one two : Option (List ℕ)) (l : Layout) (rs : List DataRecord) (p : Progress) (k : Key) (others : List DataRecord)
@@ -139,7 +149,5 @@ read-front all (Some one) (Some two) l rs p k others h b s =
     let parts : all ≡ h.bytes ++ (b.bytes ++ two) = h.read ∙ ap (λ (x : List ℕ). h.bytes ++ x) b.read in
     let are = subst (λ (x : Layout). AreDataRecords x First b.bytes rs p.place []) h.layout_is b.are_records in
     let is = subst (λ (x : List ℕ). IsHeader x s.header s.rest) parts s.is_header in
-    let same = (one-header (h.bytes ++ (b.bytes ++ two)) s.header h.header s.rest (b.bytes ++ two) is (IsHeader-more h.bytes (b.bytes ++ two) h.header h.is_header)).0 in
-    let counts : (layout_of s.header).count ≡ l.count = ap (λ (x : HeaderRecord). (layout_of x).count) same ∙ ap (λ (x : Layout). x.count) (sym h.layout_is) in
-    let front = front-of h.bytes b.bytes two h.header s.header s.rest rs others p.place s.last is h.is_header are s.are_records (omega (arith, b.given, b.within, s.count, counts)) in
+    let front = front-of h.bytes b.bytes two h.header s.header s.rest rs others p.place s.last is h.is_header are s.are_records in
     (s.key ∙ front.0 ∙ ap (λ (x : Layout). x.key) (sym h.layout_is), front.1)

@@ -1,22 +1,21 @@
 -- Each list of bytes spells a fragment or has a first fault.
-use Rattle.std.proofs.Common.{◌≡◌, ℕ, zero, suc, ◌+◌, ◌≤◌, ◌⊎◌, inl, inr, List, [], ◌∷◌, ◌++◌, length, take, drop, arith, refl, sym, ap, ◌∙◌, subst, length-append}
+use Rattle.std.proofs.Common.{◌≡◌, ℕ, zero, suc, ◌+◌, ◌≤◌, ◌<◌, ◌⊎◌, inl, inr, List, [], ◌∷◌, ◌++◌, length, take, drop, arith, refl, sym, ap, ◌∙◌, subst, length-append}
 use Rattle.std.proofs.lemmas.Bool.{cases_lt}
 use Rattle.std.proofs.lemmas.List.{length-take, take-append-drop}
 use Rattle.edf_header.specs.Key.{Key}
-use Rattle.edf_header.specs.Header.{HeaderRecord, IsHeader, Layout, layout_of}
-use Rattle.edf_header.proofs.Cited.{header-or-fault}
+use Rattle.edf_header.specs.Header.{HeaderRecord, IsHeader, Layout, layout_of, least_records, most_records}
+use Rattle.edf_header.proofs.Cited.{header-or-fault, header-has-layout}
 use Rattle.edf_tal.specs.Tal.{Annotation}
-use Rattle.edf_tal.specs.Block.{IsRead}
+use Rattle.edf_tal.specs.Block.{AreRead}
 use Rattle.edf_tal.specs.declared.place.Place.{Place}
 use Rattle.edf_tal.specs.declared.place.Place.TheVariants.{First}
-use Rattle.edf_tal.proofs.Cited.{some-answer as some-block}
-use Rattle.edf_fragment.specs.Fragment.{DataRecord, IsDataRecord, AreDataRecords, place_behind, block, ordinary_bytes, Spells}
+use Rattle.edf_tal.proofs.Cited.{blocks-some-answer}
+use Rattle.edf_fragment.specs.Fragment.{DataRecord, IsDataRecord, AreDataRecords, place_behind, blocks, ordinary_bytes, Spells}
 use Rattle.edf_fragment.specs.Fault.{ReadsUpTo, IsFirstFault}
 use Rattle.edf_fragment.specs.declared.fault.FragmentFault.{FragmentFault}
 use Rattle.edf_fragment.specs.declared.fault.FragmentFault.TheVariants.{Header as BadHeader, CutRecord, Tal, Trailing}
-use Rattle.edf_fragment.proofs.HeaderParts.{field_front}
 use Rattle.edf_fragment.specs.Told.{Told, Fragment, Fault, Tells}
-use Rattle.edf_fragment.proofs.Runs.{layout-fits}
+use Rattle.edf_fragment.proofs.Layouts.{least-most, blocks-front}
 use Rattle.edf_fragment.proofs.OneFragment.{one-fragment, spelled-no-fault, one-first-fault}
 
 -- one more data record, at the front of what is left
@@ -36,43 +35,68 @@ module _ (b : List ℕ) (h : HeaderRecord) (rest : List ℕ) (is : IsHeader b h 
   abbrev up-to : (rs : List DataRecord) (last : Place) (left : List ℕ) → AreDataRecords (layout_of h) First rest rs last left → ReadsUpTo b
   up-to rs last left are = record { header = h; rest = rest; records = rs; last = last; left = left; is_header = is; are_records = are }
 
-  at-end : (rs : List DataRecord) (last : Place) (left : List ℕ) → AreDataRecords (layout_of h) First rest rs last left → length rs ≡ (layout_of h).count → HasAnswer b
-  at-end rs last [] are all =
-      inl ((layout_of h).key, rs, record { header = h; rest = rest; last = last; is_header = is; key = refl; are_records = are; count = all })
+  -- nothing is left, and no more data records are wanted
+  ended : (rs : List DataRecord) (last : Place) → AreDataRecords (layout_of h) First rest rs last [] → least_records (layout_of h).count ≤ length rs
+      → length rs ≤ most_records (layout_of h).count → HasAnswer b
+  ended rs last are least most =
+      inl ((layout_of h).key, rs, record { header = h; rest = rest; last = last; is_header = is; key = refl; are_records = are; least = least; most = most })
+
+  -- no more data records may be there
+  at-end : (rs : List DataRecord) (last : Place) (left : List ℕ) → AreDataRecords (layout_of h) First rest rs last left → length rs ≡ most_records (layout_of h).count → HasAnswer b
+  at-end rs last [] are all = ended rs last are (omega (arith, all, least-most (layout_of h).count)) (omega (arith, all))
   at-end rs last (x ∷ left) are all = inr (Trailing, record { up_to = up-to rs last (x ∷ left) are; all = all; more = omega arith })
+
+  -- too few bytes are left for a data record
+  at-cut : (rs : List DataRecord) (last : Place) (left : List ℕ) → AreDataRecords (layout_of h) First rest rs last left → length rs < most_records (layout_of h).count
+      → length left < (layout_of h).record_bytes → HasAnswer b
+  at-cut rs last [] are low cut =
+      elim (cases_lt (length rs) (least_records (layout_of h).count)) [
+        | inl wanted ↦
+            inr (
+              CutRecord (length rs + 1),
+              record { up_to = up-to rs last [] are; is_nth = refl; may_come = omega (arith, low); there = inl (omega (arith, wanted)); cut = cut },
+            )
+        | inr enough ↦ ended rs last are enough (omega (arith, low))
+      ]
+  at-cut rs last (x ∷ left) are low cut =
+      inr (
+        CutRecord (length rs + 1),
+        record { up_to = up-to rs last (x ∷ left) are; is_nth = refl; may_come = omega (arith, low); there = inr (omega arith); cut = cut },
+      )
 
   -- the data record at the front of enough bytes
   next-record : (last : Place) (left : List ℕ) (start : ℕ) (list : List Annotation) → (layout_of h).record_bytes ≤ length left
-      → IsRead (block (layout_of h) left) (layout_of h).start last start list
+      → AreRead (blocks (layout_of h) left) (layout_of h).start last start list
       → IsDataRecord (layout_of h) last (take (layout_of h).record_bytes left) (record { start = start; samples = ordinary_bytes (layout_of h) (take (layout_of h).record_bytes left); annotations = list })
   next-record last left start list whole read =
       let l = layout_of h in
       let n = (layout_of h).record_bytes in
-      let len : length (take n left) ≡ n = omega (arith, length-take n left) in
+      let len : length (take n left) ≡ n = omega (arith, whole, length-take n left) in
       let parts : left ≡ take n left ++ drop n left = sym (take-append-drop n left) in
-      let same : block l left ≡ block l (take n left) = ap (block l) parts ∙ field_front (take n left) (drop n left) l.block_at l.block_bytes (omega (arith, layout-fits h)) in
-      record { len = len; read = subst (λ (x : List ℕ). IsRead x l.start last start list) same read; samples_are = refl }
+      let same : blocks l left ≡ blocks l (take n left) = ap (blocks l) parts ∙ blocks-front l (take n left) (drop n left) (header-has-layout b h rest is) (omega (arith, len)) in
+      record { len = len; read = subst (λ (x : List (List ℕ)). AreRead x l.start last start list) same read; samples_are = refl }
 
-  walk : (n : ℕ) (rs : List DataRecord) (last : Place) (left : List ℕ) → AreDataRecords (layout_of h) First rest rs last left → length rs + n ≡ (layout_of h).count → HasAnswer b
-  walk zero rs last left are all = at-end rs last left are (omega arith)
+  -- from behind some data records on, where there may be so many more
+  walk : (n : ℕ) (rs : List DataRecord) (last : Place) (left : List ℕ) → AreDataRecords (layout_of h) First rest rs last left → length rs + n ≡ most_records (layout_of h).count → HasAnswer b
+  walk zero rs last left are all = at-end rs last left are (omega (arith, all))
   walk (suc n) rs last left are all =
       elim (cases_lt (length left) (layout_of h).record_bytes) [
-        | inl cut ↦ inr (CutRecord (length rs + 1), record { up_to = up-to rs last left are; is_nth = refl; wanted = omega arith; cut = cut })
-        | inr whole ↦ elim (some-block (block (layout_of h) left) (layout_of h).start last) [
+        | inl cut ↦ at-cut rs last left are (omega (arith, all)) cut
+        | inr whole ↦ elim (blocks-some-answer (blocks (layout_of h) left) (layout_of h).start last) [
           | inl r ↦
               let size = (layout_of h).record_bytes in
               let one = next-record last left r.0 r.1 whole r.2 in
               let new : DataRecord = record { start = r.0; samples = ordinary_bytes (layout_of h) (take size left); annotations = r.1 } in
               walk n (rs ++ new ∷ []) (place_behind (layout_of h) r.0) (drop size left)
               (AreDataRecords-next (layout_of h) First last rest left (take size left) (drop size left) rs new are (sym (take-append-drop size left)) one)
-              (omega (arith, length-append rs (new ∷ [])))
-          | inr f ↦ inr (Tal (length rs + 1) f.0, record { up_to = up-to rs last left are; is_nth = refl; wanted = omega arith; whole = whole; refused = f.1 })
+              (omega (arith, all, length-append rs (new ∷ [])))
+          | inr f ↦ inr (Tal (length rs + 1) f.0, record { up_to = up-to rs last left are; is_nth = refl; may_come = omega (arith, all); whole = whole; refused = f.1 })
         ]
       ]
 
 some-answer : (b : List ℕ) → HasAnswer b
 some-answer b = elim (header-or-fault b) [
-  | inl h ↦ walk b h.0 h.1 h.2 (layout_of h.0).count [] First h.1 (refl, refl) (omega arith)
+  | inl h ↦ walk b h.0 h.1 h.2 (most_records (layout_of h.0).count) [] First h.1 (refl, refl) (omega arith)
   | inr f ↦ inr (BadHeader f.0, f.1)
 ]
 

@@ -1,12 +1,12 @@
 -- When a fragment is refused: the first fault, in the order of header, data records, end.
-use Rattle.std.specs.Prelude.{◌≡◌, ℕ, ◌+◌, ◌≤◌, ◌<◌, List, length}
-use Rattle.edf_header.specs.Header.{HeaderRecord, IsHeader, Layout, layout_of}
+use Rattle.std.specs.Prelude.{◌≡◌, ℕ, ◌+◌, ◌≤◌, ◌<◌, ◌⊎◌, List, length}
+use Rattle.edf_header.specs.Header.{HeaderRecord, IsHeader, Layout, layout_of, least_records, most_records}
 use Rattle.edf_header.specs.Fault.{IsHeaderFault, header_fault_number}
-use Rattle.edf_tal.specs.Block.{IsBlockFault, tal_fault_number}
+use Rattle.edf_tal.specs.Block.{IsBlocksFault, tal_fault_number}
 use Rattle.edf_tal.specs.declared.place.Place.{Place}
 use Rattle.edf_tal.specs.declared.place.Place.TheVariants.{First}
 use Rattle.edf_tal.specs.declared.place.TalFault.{TalFault}
-use Rattle.edf_fragment.specs.Fragment.{DataRecord, AreDataRecords, block}
+use Rattle.edf_fragment.specs.Fragment.{DataRecord, AreDataRecords, blocks}
 use Rattle.edf_fragment.specs.declared.fault.FragmentFault.{FragmentFault}
 use Rattle.edf_fragment.specs.declared.fault.FragmentFault.TheVariants.{Header as BadHeader, CutRecord, Tal, Trailing, Read, Memory, Failed}
 
@@ -28,25 +28,27 @@ layout u = layout_of u.header
 abbrev pub next_nth : {bytes : List ℕ} → ReadsUpTo bytes → ℕ
 next_nth u = length u.records + 1
 
--- the input ends inside a record, or before it
+-- the input ends inside a record, or before one that must come: each that the header counts, or, where its count is -1, the
+-- first; any byte after it begins another
 pub record IsCutRecord (bytes : List ℕ) (nth : ℕ) : Type 0 where
   pub up_to : ReadsUpTo bytes
   pub is_nth : nth ≡ next_nth up_to
-  pub wanted : nth ≤ (layout up_to).count
+  pub may_come : nth ≤ most_records (layout up_to).count
+  pub there : (nth ≤ least_records (layout up_to).count) ⊎ (0 < length up_to.left)
   pub cut : length up_to.left < (layout up_to).record_bytes
 
--- the block of a record is refused
+-- the blocks of a record are refused
 pub record IsRefusedBlock (bytes : List ℕ) (nth : ℕ) (fault : TalFault) : Type 0 where
   pub up_to : ReadsUpTo bytes
   pub is_nth : nth ≡ next_nth up_to
-  pub wanted : nth ≤ (layout up_to).count
+  pub may_come : nth ≤ most_records (layout up_to).count
   pub whole : (layout up_to).record_bytes ≤ length up_to.left
-  pub refused : IsBlockFault (block (layout up_to) up_to.left) (layout up_to).start up_to.last fault
+  pub refused : IsBlocksFault (blocks (layout up_to) up_to.left) (layout up_to).start up_to.last fault
 
--- bytes follow the last record
+-- bytes follow the last record that may come
 pub record IsTrailing (bytes : List ℕ) : Type 0 where
   pub up_to : ReadsUpTo bytes
-  pub all : length up_to.records ≡ (layout up_to).count
+  pub all : length up_to.records ≡ most_records (layout up_to).count
   pub more : 0 < length up_to.left
 
 -- the one fault of bytes that spell no fragment: a record's fault stands behind all records before it, which have none

@@ -1,10 +1,11 @@
 -- Fragments: a header and its data records.
-use Rattle.std.specs.Prelude.{◌≡◌, ℕ, ◌+◌, ◌≤◌, List, [], ◌∷◌, ◌++◌, length, take, drop}
+use Rattle.std.specs.Prelude.{◌≡◌, ℕ, ◌+◌, ◌-◌, ◌≤◌, List, [], ◌∷◌, ◌++◌, length, map, drop}
 use Rattle.edf_field.specs.Number.{field, duration_of}
 use Rattle.edf_header.specs.Key.{Key}
-use Rattle.edf_header.specs.Header.{HeaderRecord, IsHeader, Layout, layout_of}
+use Rattle.edf_header.specs.Header.{HeaderRecord, IsHeader, Layout, layout_of, least_records, most_records}
+use Rattle.edf_header.specs.declared.header.Block.{Block}
 use Rattle.edf_tal.specs.Tal.{Annotation}
-use Rattle.edf_tal.specs.Block.{IsRead, IsWithinLimits}
+use Rattle.edf_tal.specs.Block.{AreRead, IsWithinLimits}
 use Rattle.edf_tal.specs.declared.place.Place.{Place}
 use Rattle.edf_tal.specs.declared.place.Place.TheVariants.{First, After}
 
@@ -19,17 +20,23 @@ pub record IsWithinSize (r : DataRecord) : Type 0 where
   pub samples : length r.samples ≤ 4_194_304
   pub annotations : IsWithinLimits r.annotations
 
--- the annotations block of a data record's bytes, and the other bytes
-abbrev pub block : Layout → List ℕ → List ℕ
-block l bytes = field bytes l.block_at l.block_bytes
+-- the annotations blocks of a data record's bytes, in file order
+abbrev pub blocks : Layout → List ℕ → List (List ℕ)
+blocks l bytes = map (λ b. field bytes b.at b.bytes) l.blocks
 
+-- from one place on, the bytes outside of blocks that lie apart
+abbrev pub outside : ℕ → List Block → List ℕ → List ℕ
+outside from [] bytes = drop from bytes
+outside from (b ∷ bs) bytes = field bytes from (b.at - from) ++ outside (b.at + b.bytes) bs bytes
+
+-- the bytes of the ordinary signals
 abbrev pub ordinary_bytes : Layout → List ℕ → List ℕ
-ordinary_bytes l bytes = take l.block_at bytes ++ drop (l.block_at + l.block_bytes) bytes
+ordinary_bytes l bytes = outside 0 l.blocks bytes
 
 -- the bytes are the data record, which stands at this place
 pub record IsDataRecord (l : Layout) (place : Place) (bytes : List ℕ) (r : DataRecord) : Type 0 where
   pub len : length bytes ≡ l.record_bytes
-  pub read : IsRead (block l bytes) l.start place r.start r.annotations
+  pub read : AreRead (blocks l bytes) l.start place r.start r.annotations
   pub samples_are : r.samples ≡ ordinary_bytes l bytes
 
 -- the place of the record behind one that starts there
@@ -43,7 +50,8 @@ AreDataRecords l place bytes (r ∷ rs) last rest =
     (front : List ℕ) × (back : List ℕ) × (bytes ≡ front ++ back) × IsDataRecord l place front r
     × AreDataRecords l (place_behind l r.start) back rs last rest
 
--- the bytes spell a key and a list of data records, as many as the header says, and nothing follows them
+-- the bytes spell a key and a list of data records, as many as the header says, or, where its count is -1, 1 to 99,999,999;
+-- and nothing follows them
 pub record Spells (bytes : List ℕ) (k : Key) (records : List DataRecord) : Type 0 where
   pub header : HeaderRecord
   pub rest : List ℕ
@@ -51,4 +59,5 @@ pub record Spells (bytes : List ℕ) (k : Key) (records : List DataRecord) : Typ
   pub is_header : IsHeader bytes header rest
   pub key : k ≡ (layout_of header).key
   pub are_records : AreDataRecords (layout_of header) First rest records last []
-  pub count : length records ≡ (layout_of header).count
+  pub least : least_records (layout_of header).count ≤ length records
+  pub most : length records ≤ most_records (layout_of header).count

@@ -1,5 +1,6 @@
 pub mod Failures
 pub mod Fragment
+pub mod Signals
 pub mod Sound
 pub mod Fault
 pub mod Told

@@ -1,15 +1,15 @@
 -- What a reader of fragments reads and answers, call by call. Each says which bytes were read, so pieces don't matter.
 use Rattle.std.specs.Prelude.{◌≡◌, ℕ, ◌+◌, ◌*◌, ◌≤◌, ◌<◌, ◌⊎◌, List, [], ◌∷◌, ◌++◌, length, Option, Some, None, Result, Ok, Err, MatchResult}
 use Rattle.std.specs.Io.KnownBytes.{Consumes, IsAtEnd}
-use Rattle.edf_header.specs.Header.{HeaderRecord, FixedPart, IsFixedHeader, IsHeader, Layout, layout_of}
+use Rattle.edf_header.specs.Header.{HeaderRecord, FixedPart, IsFixedHeader, IsHeader, Layout, layout_of, least_records, most_records}
 use Rattle.edf_header.specs.Fault.{HasSignals, SignalsFail, IsClean, IsHeaderFault, header_fault_number}
 use Rattle.edf_header.specs.declared.fault.HeaderFault.{HeaderFault}
 use Rattle.edf_header.specs.declared.fault.HeaderFault.TheVariants.{Cut, CutSignals}
-use Rattle.edf_tal.specs.Block.{IsBlockFault}
+use Rattle.edf_tal.specs.Block.{IsBlocksFault}
 use Rattle.edf_tal.specs.declared.place.Place.TheVariants.{First}
 use Rattle.edf_tal.specs.declared.place.TalFault.{TalFault}
 use Rattle.edf_fragment.specs.Failures.{one_more}
-use Rattle.edf_fragment.specs.Fragment.{DataRecord, IsDataRecord, block, place_behind}
+use Rattle.edf_fragment.specs.Fragment.{DataRecord, IsDataRecord, blocks, place_behind}
 use Rattle.edf_fragment.specs.declared.advance.Progress.{Progress}
 use Rattle.edf_fragment.specs.declared.advance.Status.{Status}
 use Rattle.edf_fragment.specs.declared.advance.Status.TheVariants.{Reading, Ended, Stopped}
@@ -87,48 +87,51 @@ progress_after l from (Err fault) = record from { status = Stopped }
 -- one more record, spelled by the bytes that were read
 pub record GivesRecord (l : Layout) (from : Progress) (left rest : Option (List ℕ)) (r : DataRecord) : Type 0 where
   pub bytes : List ℕ
-  pub wanted : from.given < l.count
+  pub may_come : from.given < most_records l.count
   pub read : Consumes left rest bytes
   pub is_record : IsDataRecord l from.place bytes r
 
--- no more record, and nothing follows the last
+-- no more record is there, and none must come
 pub record EndsThere (l : Layout) (from : Progress) (left rest : Option (List ℕ)) : Type 0 where
-  pub all : from.given ≡ l.count
+  pub least : least_records l.count ≤ from.given
+  pub most : from.given ≤ most_records l.count
   pub read : Consumes left rest []
   pub end : IsAtEnd rest
 
--- the input ends inside a record, or before it
+-- the input ends inside a record, or before one that must come
 pub record EndsInRecord (l : Layout) (from : Progress) (left rest : Option (List ℕ)) (nth : ℕ) : Type 0 where
   pub bytes : List ℕ
   pub is_nth : nth ≡ from.given + 1
-  pub wanted : from.given < l.count
+  pub may_come : from.given < most_records l.count
   pub read : Consumes left rest bytes
+  pub there : (from.given < least_records l.count) ⊎ (0 < length bytes)
   pub cut : length bytes < l.record_bytes
   pub end : IsAtEnd rest
 
--- the bytes that were read are a record's, and its block is refused
+-- the bytes that were read are a record's, and its blocks are refused
 pub record RefusesBlock (l : Layout) (from : Progress) (left rest : Option (List ℕ)) (nth : ℕ) (fault : TalFault) : Type 0 where
   pub bytes : List ℕ
   pub is_nth : nth ≡ from.given + 1
-  pub wanted : from.given < l.count
+  pub may_come : from.given < most_records l.count
   pub read : Consumes left rest bytes
   pub len : length bytes ≡ l.record_bytes
-  pub refused : IsBlockFault (block l bytes) l.start from.place fault
+  pub refused : IsBlocksFault (blocks l bytes) l.start from.place fault
 
--- a byte follows the last record
+-- a byte follows the last record that may come
 pub record FindsMore (l : Layout) (from : Progress) (left rest : Option (List ℕ)) : Type 0 where
   pub byte : ℕ
-  pub all : from.given ≡ l.count
+  pub all : from.given ≡ most_records l.count
   pub read : Consumes left rest (byte ∷ [])
 
--- a read failed before the last byte of the next record, or where none is wanted before any byte
+-- a read failed before the last byte of the next record; or, where no more may come, before any byte
 abbrev pub FailsThere : Layout → Progress → Option (List ℕ) → Option (List ℕ) → Type 0
 FailsThere l from left rest =
-    ((from.given < l.count) × ReadsFewer l.record_bytes left rest) ⊎ ((from.given ≡ l.count) × Consumes left rest [])
+    ((from.given < most_records l.count) × ReadsFewer l.record_bytes left rest)
+    ⊎ ((from.given ≡ most_records l.count) × Consumes left rest [])
 
--- memory ran out before a byte of the next record was read, or behind a record whose block has no fault
+-- memory ran out before a byte of the next record was read, where a record may come, or after a record whose blocks have no fault
 pub record LacksRecordMemory (l : Layout) (from : Progress) (left rest : Option (List ℕ)) : Type 0 where
-  pub wanted : from.given < l.count
+  pub may_come : from.given < most_records l.count
   pub read : Consumes left rest [] ⊎ ((r : DataRecord) × GivesRecord l from left rest r)
 
 -- why there is no next record, and what of the input was read

@@ -1,7 +1,7 @@
 -- What was read of a fragment so far, and of the whole of it: its end, or where reading stopped.
 use Rattle.std.specs.Prelude.{◌≡◌, ℕ, ◌≤◌, ◌⊎◌, List, [], length, Option, IfSome}
 use Rattle.std.specs.Io.KnownBytes.{Consumes, IsAtEnd}
-use Rattle.edf_header.specs.Header.{Layout, layout_of}
+use Rattle.edf_header.specs.Header.{Layout, layout_of, most_records}
 use Rattle.edf_tal.specs.declared.place.Place.TheVariants.{First}
 use Rattle.edf_fragment.specs.Fragment.{DataRecord, AreDataRecords, Spells}
 use Rattle.edf_fragment.specs.Fault.{IsFirstFault}
@@ -16,7 +16,7 @@ pub record HasRead (l : Layout) (left rest : Option (List ℕ)) (records : List 
   pub read : Consumes left rest bytes
   pub are_records : AreDataRecords l First bytes records p.place []
   pub given : p.given ≡ length records
-  pub within : p.given ≤ l.count
+  pub within : p.given ≤ most_records l.count
 
 -- some data records were read, and then came the fault
 pub record FailsBehind (l : Layout) (left rest : Option (List ℕ)) (fault : FragmentFault) : Type 0 where

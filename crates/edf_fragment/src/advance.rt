@@ -1,16 +1,24 @@
 //! How far a reader is, and its next data record.
 
-ghost use Rattle.std.specs.Prelude.{◌≡◌, ◌≢◌, ℕ, ◌+◌, ◌-◌, ◌^◌, ◌<◌, ◌≤◌, ◌++◌, length, take, drop, IfOk, IfSome, MatchResult};
+ghost use Rattle.std.specs.Prelude.{◌≡◌, ◌≢◌, ℕ, ◌+◌, ◌-◌, ◌^◌, ◌<◌, ◌≤◌, length};
+ghost use Rattle.std.specs.Prelude.{IfOk, IfSome, MatchResult};
+ghost use Rattle.std.specs.Bool.{MatchBool};
 ghost use Rattle.std.specs.Io.KnownBytes.{Consumes};
-ghost use Rattle.edf_fragment.specs.Reading.{GivesRecord, IsNextFault, IsNext, CountsAnswer, progress_after};
-ghost use Rattle.edf_fragment.specs.Inside.Steps.{IsPartFault, ReadsEnd, IsEndFault};
+ghost use Rattle.edf_header.specs.Header.{IsLayout, least_records, most_records, block_bytes};
+ghost use Rattle.edf_fragment.specs.Reading.{EndsThere, IsNextFault, IsNext, CountsAnswer, progress_after};
+ghost use Rattle.edf_fragment.specs.Inside.Buffers.{HaveRoom};
+ghost use Rattle.edf_fragment.specs.Inside.Steps.{ReadsEnd, IsEndFault};
 
+use crate::buffers::{Buffers, cut_record};
 use crate::fault::FragmentFault;
 use crate::record::Record;
 use crate::streams::{Filled, Input, fill};
 use edf_header::Header;
-use edf_tal::{Place, TalFault, read_block};
+use edf_tal::{Place, TalFault, read_blocks};
 use std::alloc::Global;
+
+/// The most data records of a fragment whose header has no count of them.
+const MOST_RECORDS: u32 = 99_999_999;
 
 /// Whether a reader may go on.
 #[derive(Clone, Copy, Debug, PartialEq, Eq)]
@@ -50,7 +58,7 @@ impl Progress {
     }
 }
 
-/// The refusal for a fault of the nth data record's block. Want of memory has its own.
+/// The refusal for a fault of the nth data record's blocks. Want of memory has its own.
 fn block_refusal(nth: u32, fault: TalFault) -> FragmentFault
     ensures memory { fault ≡ TalFault.Memory → result ≡ FragmentFault.Memory }
     ensures other { fault ≢ TalFault.Memory → result ≡ FragmentFault.Tal nth fault }
@@ -63,89 +71,104 @@ fn block_refusal(nth: u32, fault: TalFault) -> FragmentFault
 
 /// How many sample bytes a data record has.
 fn sample_bytes(header: &Header) -> usize
-    ensures total { result + header.now.block_bytes ≡ header.now.record_bytes }
-    ensures room { header.now.block_at ≤ result }
+    ensures total { result + block_bytes header.now ≡ header.now.record_bytes }
     ensures limit { result ≤ 4_194_304 }
+    ensures layout { IsLayout header.now }
 {
-    let _at = header.block_at();
     header.record_bytes() - header.block_bytes()
 }
 
-/// Fills a part of the nth data record.
-fn fill_part<R: Input>(input: &mut R, part: &mut [u8], nth: u32) -> Result<(), FragmentFault>
-    ensures step { MatchResult result (λ _. Consumes (R.remaining input.old) (R.remaining input.new) part.new)
-        (IsPartFault (R.remaining input.old) (R.remaining input.new) (length part.new) nth) }
+/// How many data records a fragment has at least.
+fn least_given(header: &Header) -> u32
+    ensures { result ≡ least_records header.now.count }
+{
+    match header.count() {
+        Some(count) => count,
+        None => 1,
+    }
+}
+
+/// How many data records a fragment has at most.
+fn most_given(header: &Header) -> u32
+    ensures { result ≡ most_records header.now.count }
+{
+    match header.count() {
+        Some(count) => count,
+        None => MOST_RECORDS,
+    }
+}
+
+/// Fills a buffer with the next data record; or answers `false` where the input ended before its
+/// first byte, and no more data records are wanted.
+fn fill_record<R: Input>(
+    input: &mut R,
+    header: &Header,
+    progress: Progress,
+    whole: &mut [u8],
+) -> Result<bool, FragmentFault>
+    requires may_come { progress.given < most_records header.now.count }
+    requires countable { progress.given < 2 ^ 32 - 1 }
+    requires room { length whole.old ≡ header.now.record_bytes }
+    ensures step { MatchResult result
+        (λ there. MatchBool there
+        (Consumes (R.remaining input.old) (R.remaining input.new) whole.new)
+        (EndsThere header.now progress (R.remaining input.old) (R.remaining input.new)))
+        (IsNextFault header.now progress (R.remaining input.old) (R.remaining input.new)) }
     ensures counted { CountsAnswer (R.failures input.old) (R.failures input.new) result }
 {
-    match fill(input, part) {
-        Filled::Full => Ok(()),
-        Filled::Cut { .. } => Err(FragmentFault::CutRecord { nth }),
+    match fill(input, whole) {
+        Filled::Full => Ok(true),
+        Filled::Cut { at } => {
+            if at == 0 && least_given(header) <= progress.given {
+                return Ok(false);
+            }
+            Err(FragmentFault::CutRecord {
+                nth: progress.given + 1,
+            })
+        }
         Filled::Failed => Err(FragmentFault::Read),
     }
 }
 
-/// Fills the front of the samples, the block, and the samples behind it.
-fn fill_around<R: Input>(
-    input: &mut R,
-    front: &mut [u8],
-    block: &mut [u8],
-    back: &mut [u8],
-    nth: u32,
-) -> Result<(), FragmentFault>
-    ensures step { MatchResult result
-        (λ _. Consumes (R.remaining input.old) (R.remaining input.new) (front.new ++ (block.new ++ back.new)))
-        (IsPartFault (R.remaining input.old) (R.remaining input.new)
-        (length front.new + length block.new + length back.new) nth) }
-    ensures counted { CountsAnswer (R.failures input.old) (R.failures input.new) result }
-{
-    fill_part(input, front, nth)?;
-    fill_part(input, block, nth)?;
-    fill_part(input, back, nth)
-}
-
-/// Fills a data record's buffers: its samples, and its block, which stands behind so many of their bytes.
-fn fill_record<R: Input>(
-    input: &mut R,
-    samples: &mut [u8],
-    block_at: usize,
-    block: &mut [u8],
-    nth: u32,
-) -> Result<(), FragmentFault>
-    requires { block_at ≤ length samples.old }
-    ensures step { MatchResult result
-        (λ _. Consumes (R.remaining input.old) (R.remaining input.new)
-        (take block_at samples.new ++ (block.new ++ drop block_at samples.new)))
-        (IsPartFault (R.remaining input.old) (R.remaining input.new)
-        (length samples.new + length block.new) nth) }
-    ensures counted { CountsAnswer (R.failures input.old) (R.failures input.new) result }
-{
-    let (front, back) = samples.split_at_mut(block_at);
-    fill_around(input, front, block, back, nth)
-}
-
-/// Reads the next data record, through a buffer for its block.
+/// Reads the next data record, through buffers with room for it; or finds the end, where no more
+/// data records are wanted.
 fn read_record<R: Input>(
     alloc: Global,
     input: &mut R,
     header: &Header,
     progress: Progress,
-    block: &mut [u8],
-) -> Result<Record, FragmentFault>
-    requires wanted { progress.given < header.now.count }
+    buffers: &mut Buffers,
+) -> Result<Option<Record>, FragmentFault>
+    requires may_come { progress.given < most_records header.now.count }
     requires countable { progress.given < 2 ^ 32 - 1 }
-    requires room { length block.old ≡ header.now.block_bytes }
-    ensures step { MatchResult result (GivesRecord header.now progress (R.remaining input.old) (R.remaining input.new))
-        (IsNextFault header.now progress (R.remaining input.old) (R.remaining input.new)) }
+    requires room { HaveRoom header.now buffers.old }
+    ensures step { IsNext header.now progress
+        (R.remaining input.old) (R.remaining input.new) result }
+    ensures room { HaveRoom header.now buffers.new }
     ensures counted { CountsAnswer (R.failures input.old) (R.failures input.new) result }
 {
-    let nth = progress.given + 1;
     let Ok(mut samples) = vec![in alloc; 0u8; sample_bytes(header)] else {
         return Err(FragmentFault::Memory);
     };
-    fill_record(input, samples.as_mut_slice(), header.block_at(), block, nth)?;
-    match read_block(alloc, block, header.start(), progress.place) {
-        Ok((start, notes)) => Ok(Record::within_limits(start, samples, notes)),
-        Err(fault) => Err(block_refusal(nth, fault)),
+    if !fill_record(input, header, progress, buffers.whole.as_mut_slice())? {
+        return Ok(None);
+    }
+    cut_record(
+        header,
+        buffers.whole.as_slice(),
+        samples.as_mut_slice(),
+        buffers.joined.as_mut_slice(),
+    );
+    let joined = buffers.joined.as_slice();
+    match read_blocks(
+        alloc,
+        joined,
+        buffers.sizes.as_slice(),
+        header.start(),
+        progress.place,
+    ) {
+        Ok((start, notes)) => Ok(Some(Record::within_limits(start, samples, notes))),
+        Err(fault) => Err(block_refusal(progress.given + 1, fault)),
     }
 }
 
@@ -169,16 +192,16 @@ pub(crate) fn record_or_end<R: Input>(
     input: &mut R,
     header: &Header,
     progress: Progress,
-    block: &mut [u8],
+    buffers: &mut Buffers,
 ) -> Result<Option<Record>, FragmentFault>
-    requires within { progress.given ≤ header.now.count }
-    requires room { length block.old ≡ header.now.block_bytes }
+    requires within { progress.given ≤ most_records header.now.count }
+    requires room { HaveRoom header.now buffers.old }
+    ensures room { HaveRoom header.now buffers.new }
     ensures step { IsNext header.now progress (R.remaining input.old) (R.remaining input.new) result }
     ensures counted { CountsAnswer (R.failures input.old) (R.failures input.new) result }
 {
-    if progress.given < header.count() {
-        let record = read_record(alloc, input, header, progress, block)?;
-        Ok(Some(record))
+    if progress.given < most_given(header) {
+        read_record(alloc, input, header, progress, buffers)
     } else {
         find_end(input)?;
         Ok(None)

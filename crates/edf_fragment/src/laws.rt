@@ -2,8 +2,9 @@
 ghost use Rattle.std.specs.Prelude.{◌≡◌, ℕ, ◌++◌, ◌∷◌, [], ◌⊎◌, ◌≤◌, ◌<◌, List, length, Option, Some, None, Ok, Err};
 ghost use Rattle.edf_field.specs.Number.{duration_of};
 ghost use Rattle.edf_header.specs.Key.{Key, IsKey};
-ghost use Rattle.edf_header.specs.Header.{Layout};
-ghost use Rattle.edf_fragment.specs.Fragment.{DataRecord, Spells};
+ghost use Rattle.edf_header.specs.Header.{HeaderRecord, Layout, layout_of};
+ghost use Rattle.edf_fragment.specs.Fragment.{DataRecord, Spells, blocks, ordinary_bytes};
+ghost use Rattle.edf_fragment.specs.Signals.{annotations_blocks, ordinary_samples};
 ghost use Rattle.edf_fragment.specs.Fault.{IsFirstFault};
 ghost use Rattle.edf_fragment.specs.Told.{Told, Tells};
 ghost use Rattle.edf_fragment.specs.Sound.{AreSound};
@@ -13,6 +14,16 @@ ghost use Rattle.edf_fragment.specs.declared.advance.Progress.{Progress};
 ghost use Rattle.edf_fragment.specs.declared.advance.Status.TheVariants.{Reading};
 ghost use Rattle.edf_fragment.specs.declared.fault.FragmentFault.{FragmentFault};
 ghost use Rattle.edf_fragment.specs.declared.fault.FragmentFault.TheVariants.{Read, Memory};
+
+/// A data record holds the bytes of each signal in turn, two for each of its samples (EDF, data records): its annotations
+/// blocks are those of the annotations signals, and its ordinary bytes those of the others, joined.
+pub fn signals_in_turn()
+    ensures blocks { (header : HeaderRecord) (bytes : List ℕ) →
+        blocks (layout_of header) bytes ≡ annotations_blocks header.signals bytes }
+    ensures ordinary { (header : HeaderRecord) (bytes : List ℕ) →
+        length bytes ≡ (layout_of header).record_bytes →
+        ordinary_bytes (layout_of header) bytes ≡ ordinary_samples header.signals bytes }
+{}
 
 /// Bytes spell one fragment at most.
 pub fn one_fragment()
@@ -38,8 +49,9 @@ pub fn each_tells_one()
     ensures one { (bytes : List ℕ) (told other : Told) → Tells bytes told → Tells bytes other → told ≡ other }
 {}
 
-/// What bytes that spell a fragment give it: a key that headers name, with a duration above 0; and 1 to 99,999,999 data
-/// records that lie in the window, at least a duration apart, and keep the limits.
+/// What bytes that spell a fragment give it: a key that headers name, with a duration above 0; and
+/// 1 to 99,999,999 data records, where the header's count is unknown too, that lie in the window,
+/// at least a duration apart, and keep the limits.
 pub fn records_are_sound()
     ensures key { (bytes : List ℕ) (key : Key) (records : List DataRecord) → Spells bytes key records → IsKey key }
     ensures lasting { (bytes : List ℕ) (key : Key) (records : List DataRecord) →

@@ -2,6 +2,11 @@
 //!
 //! No byte is read before it is asked for, and the first fault of the bytes is told by its number and place.
 //!
+//! A header counts the data records, or says by -1 that their number is unknown. Then there are
+//! as many as follow, at least one and at most 99,999,999, and the fragment ends where the input
+//! ends after a whole data record. A data record has a block for each annotations signal: the
+//! first keeps time, and the annotations of all of them are joined in file order.
+//!
 //! - [`FragmentReader`]: a header, and then one data record at a time. [`OpenFragment`]: the same, where the input stays with
 //!   the caller. [`Progress`], [`Status`]: how far a reader is.
 //! - [`read_fragment`]: the header and all data records, read into memory.
@@ -16,6 +21,7 @@
 #![tactic(auto)]
 
 mod advance;
+mod buffers;
 mod fault;
 mod laws;
 mod open_fragment;

@@ -1,8 +1,11 @@
-ghost use Rattle.std.specs.Prelude.{◌≡◌, ℕ, ◌≤◌, vec_len, MatchResult, IfOk, IfSome};
+ghost use Rattle.std.specs.Prelude.{◌≡◌, ℕ, ◌≤◌, MatchResult, IfOk, IfSome};
+ghost use Rattle.edf_header.specs.Header.{most_records};
+ghost use Rattle.edf_fragment.specs.Inside.Buffers.{HaveRoom};
 ghost use Rattle.edf_fragment.specs.Sound.{IsSoundRecord};
 ghost use Rattle.edf_fragment.specs.Reading.{ReadsHeader, IsOpenFault, IsAnswer, IsNext, CountsAnswer, at_first, progress_after};
 
 use crate::advance::{Progress, Status, progress_behind, record_or_end};
+use crate::buffers::Buffers;
 use crate::fault::FragmentFault;
 use crate::opening::read_header;
 use crate::record::Record;
@@ -19,10 +22,10 @@ use std::alloc::Global;
 pub struct OpenFragment {
     alloc: Global,
     header: Header,
-    block: Vec<u8>,
+    buffers: Buffers,
     progress: Progress,
-    ghost room: { vec_len block ≡ header.block_bytes },
-    ghost within: { progress.given ≤ header.count },
+    ghost room: { HaveRoom header buffers },
+    ghost within: { progress.given ≤ most_records header.count },
 }
 
 impl OpenFragment {
@@ -38,15 +41,13 @@ impl OpenFragment {
         ensures counted { CountsAnswer (R.failures input.old) (R.failures input.new) result }
     {
         let header = read_header(alloc, input)?;
-        // contracts learn from this call what bounds the header keeps
-        let _some = header.count();
-        let Ok(block) = vec![in alloc; 0u8; header.block_bytes()] else {
+        let Ok(buffers) = Buffers::of(alloc, &header) else {
             return Err(FragmentFault::Memory);
         };
         Ok(OpenFragment {
             alloc,
             header,
-            block,
+            buffers,
             progress: Progress::at_first(),
         })
     }
@@ -65,17 +66,20 @@ impl OpenFragment {
         let OpenFragment {
             alloc: _,
             header,
-            block: _,
+            buffers: _,
             progress: _,
         } = self;
         header
     }
 
-    /// Reads the next data record; `None` where the last was given and nothing follows, and at every later call.
+    /// Reads the next data record; `None` where the last was given and nothing follows, and at
+    /// every later call. Where the header's count is unknown, the last is the one after which the
+    /// input ends.
     ///
     /// # Errors
-    /// `CutRecord` where the input ends in the data record, `Tal` where its annotations are refused, `Trailing` where
-    /// bytes follow the last, `Read` where a read failed, `Memory` where memory ran out. After any of these, `Failed`.
+    /// `CutRecord` where the input ends inside the data record, or before one that is demanded;
+    /// `Tal` where its annotations are refused, `Trailing` where bytes follow the last, `Read`
+    /// where a read failed, `Memory` where memory ran out. After any of these, `Failed`.
     pub fn next<R: Input>(&mut self, input: &mut R) -> Result<Option<Record>, FragmentFault>
         ensures header { self.new.header ≡ self.old.header }
         ensures answer { IsAnswer self.old.header self.old.progress self.new.progress
@@ -106,7 +110,7 @@ impl OpenFragment {
             input,
             &self.header,
             self.progress,
-            self.block.as_mut_slice(),
+            &mut self.buffers,
         );
         self.progress = progress_behind(&self.header, self.progress, &answer);
         answer

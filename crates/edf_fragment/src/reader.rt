@@ -11,8 +11,9 @@ use std::alloc::Global;
 
 /// The data records of a fragment, one at a time, from a reader that stands at its first byte.
 ///
-/// It reads no byte before it is asked for what the byte belongs to: `open` the header's, `next` those of one data
-/// record, and behind the last one more, to find that nothing follows. It holds one data record at a time.
+/// It reads no byte before it is asked for what the byte belongs to: `open` the header's, `next`
+/// those of one data record, and after the last it asks for more, to find that nothing follows. It
+/// holds one data record at a time: its bytes as they stand in the file, and what they say.
 ///
 /// Use it where a fragment is read and nothing else. Where the input is wanted again behind a fault or the end, or a proof
 /// is to follow it there, use `OpenFragment`, which leaves it with the caller.
@@ -74,11 +75,14 @@ impl<'a, R: Input> FragmentReader<'a, R> {
         fragment.into_header()
     }
 
-    /// Reads the next data record; `None` where the last was given and nothing follows, and at every later call.
+    /// Reads the next data record; `None` where the last was given and nothing follows, and at
+    /// every later call. Where the header's count is unknown, the last is the one after which the
+    /// input ends.
     ///
     /// # Errors
-    /// `CutRecord` where the input ends in the data record, `Tal` where its annotations are refused, `Trailing` where
-    /// bytes follow the last, `Read` where a read failed, `Memory` where memory ran out. After any of these, `Failed`.
+    /// `CutRecord` where the input ends inside the data record, or before one that is demanded;
+    /// `Tal` where its annotations are refused, `Trailing` where bytes follow the last, `Read`
+    /// where a read failed, `Memory` where memory ran out. After any of these, `Failed`.
     pub fn next(&mut self) -> Result<Option<Record>, FragmentFault>
         ensures same_reference { self.new.input.ghost_name ≡ self.old.input.ghost_name }
         ensures header { self.new.fragment.header ≡ self.old.fragment.header }

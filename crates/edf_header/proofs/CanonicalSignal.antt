@@ -21,9 +21,6 @@ front =
 abbrev tail : ℕ → List ℕ
 tail n = padded_to 8 (decimal n) ++ spaces 32
 
-row-parts : (n : ℕ) → annotations_signal n ≡ front ++ tail n
-row-parts n = refl
-
 spaces-are : (n : ℕ) → AreSpaces (spaces n)
 spaces-are n = All-replicate (λ (b : ℕ). b ≡ 32) n 32 refl
 

@@ -1,9 +1,9 @@
 -- Whether a field's text is what it must be.
-use Rattle.std.proofs.Common.{◌≡◌, ℕ, List, length, take, arith, refl}
-use Rattle.std.specs.Prelude.{codes}
+use Rattle.std.proofs.Common.{◌≡◌, ℕ, ◌≤◌, List, length, take, arith, refl, inl, inr, Option, Some, None}
+use Rattle.std.specs.Prelude.{codes, ◌⊎◌}
 use Rattle.edf_field.specs.Number.{field, AreSpaces, IsWhole, IsSigned, IsPhysical, Differ, whole_value, behind_digits, behind_fraction, digits_len, unsigned, IsNumber}
 use Rattle.edf_field.specs.Text.{IsPrintable, IsBehindStartdate, subfields}
-use Rattle.edf_header.specs.Header.{IsPlus}
+use Rattle.edf_header.specs.Header.{IsCount, IsPlus}
 use Rattle.edf_header.specs.Fault.{HasCount, HasSignals}
 use Rattle.edf_header.proofs.Decided.{Decided, like, both, either, negated, less, at-most, same, same-bytes, same-int, every}
 
@@ -36,11 +36,24 @@ behind-startdate after =
     like (both (same-bytes (take 1 after) (codes " ")) (at-most 3 (length (subfields after)))) (λ p. record { space = p.0; codes_in = p.1 }) (λ p. (p.space, p.codes_in))
 
 -- the numbers of data records and of signals
+abbrev IsCounted : List ℕ → Type 0
+IsCounted text = (text ≡ codes "-1      ") ⊎ (IsWhole text × (1 ≤ whole_value text))
+
+from-counted : (text : List ℕ) → IsCounted text → (count : Option ℕ) × IsCount text count
+from-counted text is =
+    elim is [
+      | inl unknown ↦ (None, unknown)
+      | inr known ↦ (Some (whole_value text), (record { whole = known.0; value = refl }, known.1))
+    ]
+
+to-counted : (text : List ℕ) (count : Option ℕ) → IsCount text count → IsCounted text
+to-counted text None is = inl is
+to-counted text (Some n) is = inr (is.0.whole, omega (arith, is.0.value, is.1))
+
 pub count : (b : List ℕ) → Decided (HasCount b)
 count b =
-    like (both (whole (field b 236 8)) (at-most 1 (whole_value (field b 236 8))))
-    (λ p. (whole_value (field b 236 8), record { whole = p.0; value = refl }, p.1))
-    (λ p. (p.1.whole, omega (arith, p.1.value, p.2)))
+    let text : List ℕ = field b 236 8 in
+    like (either (same-bytes text (codes "-1      ")) (both (whole text) (at-most 1 (whole_value text)))) (from-counted text) (λ c. to-counted text c.0 c.1)
 
 pub signals : (b : List ℕ) → Decided ((n : ℕ) × HasSignals b n)
 signals b =

@@ -10,7 +10,7 @@ use Rattle.edf_field.specs.Text.{IsPrintable, IsPatient, IsBehindStartdate}
 use Rattle.std.specs.Prelude.{All}
 use Rattle.std.specs.List.{flat_map}
 use Rattle.edf_header.specs.declared.signal_checks.Check.{Check}
-use Rattle.edf_header.specs.declared.signal_checks.Check.TheVariants.{Label as CheckLabel, Physical as CheckPhysical, Digital as CheckDigital, Samples as CheckSamples}
+use Rattle.edf_header.specs.declared.signal_checks.Check.TheVariants.{Label as CheckLabel, Annotations as CheckAnnotations, Physical as CheckPhysical, Digital as CheckDigital, Samples as CheckSamples}
 use Rattle.edf_header.specs.declared.identity.IdentityFault.{IdentityFault}
 use Rattle.edf_header.specs.declared.identity.IdentityFault.TheVariants.{Length, Unprintable, Patient, Recording, Duration, Label, Physical, Digital, Samples, Size, Memory}
 use Rattle.edf_header.proofs.Held.{sliced, count-is, shaped, sized, key-length, key-mark}
@@ -24,18 +24,6 @@ positive Length lt = omega arith
 positive e lt = omega arith
 
 -- one row after another
-pub clean-1 : (b : List ℕ) → IsCleanKey b 1
-clean-1 b e lt bad = absurd (positive e lt)
-
-pub clean-2 : (b : List ℕ) → HasLength b → IsCleanKey b 2
-clean-2 b len Length lt bad = bad len
-clean-2 b len e lt bad = absurd (omega arith)
-
-pub clean-3 : (b : List ℕ) → HasLength b → All IsPrintable b → IsCleanKey b 3
-clean-3 b len printable Length lt bad = bad len
-clean-3 b len printable (Unprintable offset) lt bad = not-bad IsPrintable 0 b offset printable bad
-clean-3 b len printable e lt bad = absurd (omega arith)
-
 pub clean-4 : (b : List ℕ) → HasLength b → All IsPrintable b → IsPatient (field b 0 80) → IsCleanKey b 4
 clean-4 b len printable patient Patient lt bad = bad patient
 clean-4 b len printable patient Length lt bad = bad len
@@ -61,6 +49,7 @@ clean-6 b f e lt bad = absurd (omega arith)
 past : (check : Check) (b : List ℕ) → All (Passes check) (signals_at b) → (e : IdentityFault) → place_in_order e ≡ place_of_check check → ¬ KeyFails b e
 past CheckLabel b all (Label s) eq bad = not-bad (Passes CheckLabel) [] (signals_at b) bad.0 all bad.1
 past CheckLabel b all e eq bad = absurd (omega arith)
+past CheckAnnotations b all e eq bad = positive e (omega arith)
 past CheckPhysical b all (Physical s) eq bad = not-bad (Passes CheckPhysical) [] (signals_at b) bad.0 all bad.1
 past CheckPhysical b all e eq bad = absurd (omega arith)
 past CheckDigital b all (Digital s) eq bad = not-bad (Passes CheckDigital) [] (signals_at b) bad.0 all bad.1
@@ -126,6 +115,7 @@ front-of k i =
 -- the signals of a key pass each check
 passed : (k : Key) → IsKey k → (check : Check) → All (Passes check) k.signals
 passed k i CheckLabel at d lt = (i.signals at d lt).label
+passed k i CheckAnnotations at d lt = λ label. absurd ((i.signals at d lt).label label)
 passed k i CheckPhysical at d lt = λ label. (i.signals at d lt).physical
 passed k i CheckDigital at d lt = λ label. (i.signals at d lt).digital
 passed k i CheckSamples at d lt = i.each_samples at d lt

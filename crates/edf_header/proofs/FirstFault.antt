@@ -7,7 +7,7 @@ use Rattle.edf_field.specs.Number.{field, IsDuration, IsNumber}
 use Rattle.edf_field.specs.Text.{IsPrintable, IsRecording}
 use Rattle.edf_header.specs.Signal.{IsFirstBad, Passes, signals_of}
 use Rattle.edf_header.specs.Header.{IsSameDay}
-use Rattle.edf_header.specs.Fault.{DatesAreOther, FixedPartFails, HasAnnotations, HasSignals, IsBadSignal, IsClean, IsFirst, SignalsFail, header_fault_number}
+use Rattle.edf_header.specs.Fault.{DatesAreOther, FixedPartFails, HasSignals, IsBadSignal, IsClean, IsFirst, SignalsFail, header_fault_number}
 use Rattle.edf_header.specs.declared.signal_checks.Check.{Check}
 use Rattle.edf_header.specs.declared.signal_checks.Check.TheVariants as checks
 use Rattle.edf_header.specs.declared.fault.HeaderFault.{HeaderFault}
@@ -15,7 +15,6 @@ use Rattle.edf_header.specs.declared.fault.HeaderFault.TheVariants.{Cut, Unprint
 use Rattle.edf_field.proofs.Recordings.{one-after}
 use Rattle.edf_header.proofs.FixedRows.{clean-more}
 use Rattle.edf_header.proofs.Faults.{not-bad}
-use Rattle.edf_header.proofs.RowFaults.{has-annotations}
 use Rattle.edf_header.proofs.Decided.{Decided, like, negated, less, same-bytes, same-int, first-bad}
 use Rattle.edf_header.proofs.DecidedFields as fields
 use Rattle.edf_time.proofs.Cited.{some-date, some-time}
@@ -156,13 +155,6 @@ fixed-rows b =
 unprintable-signals : (s : List ℕ) → Decided ((offset : ℕ) × ((at : ℕ) × IsFirstBad IsPrintable s at × (offset ≡ 256 + at)))
 unprintable-signals s = like (unprintable s) (λ b. (256 + b.0, (b.0, b.1, refl))) (λ b. (b.1.0, b.1.1))
 
-no-annotations : (ss : List (List ℕ)) → Decided (¬ HasAnnotations ss)
-no-annotations ss =
-    elim (rows.split ss) [
-      | inl at ↦ inr (λ none. none (has-annotations ss at.0 at.1))
-      | inr none ↦ inl none
-    ]
-
 bad-signal : (check : Check) (ss : List (List ℕ)) → Decided ((signal : ℕ) × IsBadSignal check ss signal)
 bad-signal check ss =
     elim (rows.checked check ss) [
@@ -186,6 +178,6 @@ signal-rows s n =
     (row (SignalsFail s n) 19 (λ at. refl) (bad-signal checks.Samples (signals_of s n))
     (row (SignalsFail s n) 18 (λ at. refl) (bad-signal checks.Digital (signals_of s n))
     (row (SignalsFail s n) 17 (λ at. refl) (bad-signal checks.Physical (signals_of s n))
-    (row (SignalsFail s n) 16 (λ at. refl) (plain (no-annotations (signals_of s n)))
+    (row (SignalsFail s n) 16 (λ at. refl) (plain (negated (rows.annotations (signals_of s n))))
     (row (SignalsFail s n) 15 (λ at. refl) (unprintable-signals s)
     (row (SignalsFail s n) 14 (λ at. refl) (plain (less (length s) (256 * n))) (inl (clean-14 s n))))))))

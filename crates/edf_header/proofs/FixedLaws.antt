@@ -1,6 +1,6 @@
 -- A fixed part that bytes spell: it has no fault, is one, and keeps the bounds.
 use Rattle.std.proofs.Common.{◌≡◌, ℕ, suc, ◌+◌, ◌^◌, ◌≤◌, ◌<◌, Bool, true, false, eqb, cond, List, [], ◌∷◌, length, take, drop, arith, refl, sym, ap, ◌∙◌, subst, inl, inr, one-add, ℤ, Option, Some, None}
-use Rattle.std.specs.Prelude.{All}
+use Rattle.std.specs.Prelude.{All, codes}
 use Rattle.std.specs.List.{prefix_len}
 use Rattle.std.specs.Char.{is_ascii_digit, digit_value}
 use Rattle.std.specs.Str.Parse.{AllDigits}
@@ -12,16 +12,29 @@ use Rattle.std.proofs.lemmas.List.Elements.{All-take, All-drop}
 use Rattle.std.proofs.Math.Nat.{pow-le-pow_right}
 use Rattle.edf_time.proofs.Cited.{one-id_day, start-parts, one-start}
 use Rattle.edf_field.proofs.Recordings.{x-no-date, one-after}
-use Rattle.edf_field.specs.Number.{field, whole_value, digits, digits_len, IsNumber}
+use Rattle.edf_field.specs.Number.{field, whole_value, digits, digits_len, IsNumber, IsWhole}
 use Rattle.edf_field.specs.Text.{IsPrintable, IsStartdate}
 use Rattle.edf_header.specs.Signal.{IsFirstBad}
-use Rattle.edf_header.specs.Header.{FixedPart, IsFixed, IsFixedHeader, IsSameDay, is_dated}
+use Rattle.edf_header.specs.Header.{FixedPart, IsCount, IsCountInRange, IsFixed, IsFixedHeader, IsSameDay, is_dated}
 use Rattle.edf_header.specs.Fault.{FixedPartFails, IsClean, IsFirst, header_fault_number}
 use Rattle.edf_header.specs.declared.fault.HeaderFault.{HeaderFault}
 use Rattle.edf_header.specs.declared.fault.HeaderFault.TheVariants.{Cut, Unprintable, Version, Patient, Recording, Startdate, Starttime, DatesDiffer, NotPlus, Count, Duration, Signals, HeaderBytes, CutSignals, UnprintableSignals, Annotations, Physical, Digital, Samples, Size, Memory}
 
 one-number : (text : List ℕ) (m n : ℕ) → IsNumber text m → IsNumber text n → m ≡ n
 one-number text m n p q = p.value ∙ sym q.value
+
+-- the count that a field names
+pub no-number : (text : List ℕ) (n : ℕ) → text ≡ codes "-1      " → ¬ IsNumber text n
+no-number text n unknown is =
+    let whole = subst IsWhole unknown is.whole in
+    let none : digits_len (codes "-1      ") ≡ 0 = refl in
+    omega (arith, whole.0, none)
+
+one-count : (text : List ℕ) (a b : Option ℕ) → IsCount text a → IsCount text b → a ≡ b
+one-count text None None p q = refl
+one-count text None (Some n) p q = absurd (no-number text n p q.0)
+one-count text (Some m) None p q = absurd (no-number text m q p.0)
+one-count text (Some m) (Some n) p q = ap (λ (k : ℕ). Some k) (one-number text m n p.0 q.0)
 
 -- ---- no fault
 
@@ -40,7 +53,7 @@ no-fault b h f Startdate bad = bad f.start.0 f.start.2
 no-fault b h f Starttime bad = bad f.start.1 f.start.3
 no-fault b h f DatesDiffer bad = bad.other (same-startdate (field b 88 80) h.startdate bad.startdate h.after bad.after bad.days f.recording.front bad.recording.front (f.same_day bad.days bad.date))
 no-fault b h f NotPlus bad = bad f.reserved
-no-fault b h f Count bad = bad (h.count, f.count, f.count_some)
+no-fault b h f Count bad = bad (h.count, f.count)
 no-fault b h f Duration bad = bad f.is_duration.0 (rw (sym f.duration) f.is_duration.1)
 no-fault b h f Signals bad = bad h.signal_count (f.signals, f.signals_from, f.signals_to)
 no-fault b h f HeaderBytes bad =
@@ -65,7 +78,7 @@ one-fixed b h g p q =
     let recording = one-after (field b 88 80) h.startdate g.startdate h.after g.after p.recording.front q.recording.front in
     let patient = p.patient ∙ sym q.patient in
     let start = one-start (field b 168 8) (field b 176 8) h.start g.start p.start q.start in
-    let count = one-number (field b 236 8) h.count g.count p.count q.count in
+    let count = one-count (field b 236 8) h.count g.count p.count q.count in
     let duration = p.duration ∙ sym q.duration in
     let signals = one-number (field b 252 4) h.signal_count g.signal_count p.signals q.signals in
     λ i. record { patient = patient i; startdate = recording.0 i; after = recording.1 i; start = start i; count = count i; duration = duration i; signal_count = signals i }
@@ -174,6 +187,10 @@ whole-fits text short =
     let most : 10 ^ length (digits text) ≤ 10 ^ 8 = pow-le-pow_right ten few in
     omega (arith, lt, most)
 
+count-range : (text : List ℕ) (count : Option ℕ) → length text ≤ 8 → IsCount text count → IsCountInRange count
+count-range text None short is = (omega arith, omega arith)
+count-range text (Some n) short is = (is.1, omega (arith, is.0.value, whole-fits text short))
+
 after-len : (f : List ℕ) (s : Option ℤ) (after : List ℕ) → length f ≡ 80 → IsStartdate f s after → length after ≡ cond (is_dated s) 59 69
 after-len f None after len p = ap length p.1 ∙ omega (arith, length-drop 11 f)
 after-len f (Some day) after len p = ap length p.2 ∙ omega (arith, length-drop 21 f)
@@ -192,8 +209,7 @@ is-fixed b h f = record {
   is_behind = f.recording.behind;
   in_window = (start-parts (field b 168 8) (field b 176 8) h.start f.start).in_window;
   whole_second = omega (arith, f.start.4);
-  count_from = f.count_some;
-  count_to = rw f.count.value (whole-fits (field b 236 8) (omega (arith, length-field b 236 8 (omega (arith, f.len)))));
+  count = count-range (field b 236 8) h.count (omega (arith, length-field b 236 8 (omega (arith, f.len)))) f.count;
   duration_len = ap length f.duration ∙ length-field b 244 8 (omega (arith, f.len));
   duration_printable = rw f.duration (All-field IsPrintable b 244 8 f.printable);
   is_duration = f.is_duration;

@@ -8,10 +8,10 @@ use Rattle.edf_time.proofs.Cited.{one-date_day, start-parts}
 use Rattle.edf_field.proofs.Recordings.{one-after}
 use Rattle.edf_field.specs.Number.{field, IsDuration}
 use Rattle.edf_field.specs.Text.{IsStartdate, IsRecording, after_of}
-use Rattle.edf_header.specs.Header.{IsSameDay, IsPlus}
+use Rattle.edf_header.specs.Header.{IsSameDay}
 use Rattle.edf_header.specs.Fault.{FixedPartFails, IsClean, IsFirst, HasSignals, header_fault_number}
 use Rattle.edf_header.specs.declared.fault.HeaderFault.{HeaderFault}
-use Rattle.edf_header.specs.declared.fault.HeaderFault.TheVariants.{Recording, Startdate, Starttime, DatesDiffer, NotPlus, Duration, Signals}
+use Rattle.edf_header.specs.declared.fault.HeaderFault.TheVariants.{Recording, Startdate, Starttime, DatesDiffer, Duration, Signals}
 
 -- past a row that is not true
 pub clean-more : (Holds : HeaderFault → Type 0) (n : ℕ) → IsClean Holds n → ((fault : HeaderFault) → header_fault_number fault ≡ n → ¬ Holds fault) → IsClean Holds (suc n)
@@ -109,14 +109,6 @@ pub other-day : (b : List ℕ) (s : Option ℤ) (day : ℤ) (start : ℕ) → Is
     → s ≡ Some day → day ≢ pos (day_of start) → IsFirst (FixedPartFails b) DatesDiffer
 other-day b s day start clean is civil some other =
     (day-other b day start (subst (λ (r : Option ℤ). IsRecording (field b 88 80) r (after_of r (field b 88 80))) some is) civil other, clean)
-
--- E9
-past-plus : (b : List ℕ) → IsPlus (field b 192 44) → (fault : HeaderFault) → header_fault_number fault ≡ 9 → ¬ FixedPartFails b fault
-past-plus b is NotPlus e fails = fails is
-past-plus b is fault e fails = absurd (omega arith)
-
-pub plus-in : (b : List ℕ) → IsClean (FixedPartFails b) 9 → IsPlus (field b 192 44) → IsPlus (field b 192 44) × IsClean (FixedPartFails b) 10
-plus-in b clean is = (is, clean-more (FixedPartFails b) 9 clean (past-plus b is))
 
 -- E11
 past-duration : (b : List ℕ) (nanos : ℕ) → IsDuration (field b 244 8) nanos → (fault : HeaderFault) → header_fault_number fault ≡ 11 → ¬ FixedPartFails b fault

@@ -1,19 +1,17 @@
 -- The faults of the signal part, one row after another.
-use Rattle.std.proofs.Common.{◌≡◌, ℕ, ◌+◌, ◌*◌, List, [], length, take, arith, ap, ◌∙◌, subst, inl, inr}
-use Rattle.std.proofs.lemmas.Bool.{cases_lt}
-use Rattle.std.specs.Prelude.{All}
+use Rattle.std.proofs.Common.{◌≡◌, ℕ, ◌+◌, ◌*◌, Bool, true, false, not, List, [], length, arith, refl, sym, subst, inl, inr, Option, None, Some}
+use Rattle.std.proofs.lemmas.Bool.{cases_lt, false≢true}
+use Rattle.std.specs.Prelude.{◌⊎◌, ◌↔◌, All, IsTrue, MatchOption, is_some}
 use Rattle.edf_field.specs.Text.{IsPrintable}
-use Rattle.edf_header.specs.Signal.{Passes, ordinary, samples, samples_in_all, signals_of}
-use Rattle.edf_header.specs.Inside.Rows.{RowsFail, IsSplit, IsSound, AreExtents, annotations_at}
+use Rattle.edf_header.specs.Signal.{IsFirstBad, Passes, labelled, ordinary, samples_in_all, signals_of}
+use Rattle.edf_header.specs.Inside.Rows.{RowsFail, IsSound}
 use Rattle.edf_header.specs.Fault.{HasAnnotations, IsBadSignal, IsTooLarge, SignalsFail, IsClean, IsFirst, header_fault_number}
 use Rattle.edf_header.specs.declared.signal_checks.Check.{Check}
 use Rattle.edf_header.specs.declared.signal_checks.Check.TheVariants as checks
 use Rattle.edf_header.specs.declared.fault.HeaderFault.{HeaderFault}
 use Rattle.edf_header.specs.declared.fault.HeaderFault.TheVariants.{CutSignals, UnprintableSignals, Annotations, Physical, Digital, Samples, Size}
 use Rattle.edf_header.proofs.Faults.{not-bad}
-use Rattle.std.proofs.lemmas.List.{take_all}
-use Rattle.edf_header.proofs.RowSteps.{length-signals}
-use Rattle.edf_header.proofs.RowFaults.{ordinary-is, ordinary-front, samples-parts, large-block, has-annotations}
+use Rattle.edf_header.proofs.SignalKinds.{annotations-pass, has-annotations, kinds-count}
 
 -- no fault has a lower number
 pub clean-16 : (ss : List (List ℕ)) → IsClean (RowsFail ss) 16
@@ -54,56 +52,44 @@ at-20 : (ss : List (List ℕ)) → ¬ IsTooLarge ss → (e : HeaderFault) → he
 at-20 ss small Size eq bad = small bad
 at-20 ss small e eq bad = absurd (omega arith)
 
-pub clean-17 : (ss : List (List ℕ)) (at : ℕ) → IsSplit ss at → IsClean (RowsFail ss) 17
-clean-17 ss at s = more (RowsFail ss) 16 (clean-16 ss) (at-16 ss (has-annotations ss at s))
+pub clean-17 : (ss : List (List ℕ)) → HasAnnotations ss → IsClean (RowsFail ss) 17
+clean-17 ss h = more (RowsFail ss) 16 (clean-16 ss) (at-16 ss h)
 
-pub clean-18 : (ss : List (List ℕ)) (at : ℕ) → IsSplit ss at → All (Passes checks.Physical) ss → IsClean (RowsFail ss) 18
-clean-18 ss at s p = more (RowsFail ss) 17 (clean-17 ss at s) (at-17 ss p)
+pub clean-18 : (ss : List (List ℕ)) → HasAnnotations ss → All (Passes checks.Physical) ss → IsClean (RowsFail ss) 18
+clean-18 ss h p = more (RowsFail ss) 17 (clean-17 ss h) (at-17 ss p)
 
-pub clean-19 : (ss : List (List ℕ)) (at : ℕ) → IsSplit ss at → All (Passes checks.Physical) ss → All (Passes checks.Digital) ss → IsClean (RowsFail ss) 19
-clean-19 ss at s p d = more (RowsFail ss) 18 (clean-18 ss at s p) (at-18 ss d)
+pub clean-19 : (ss : List (List ℕ)) → HasAnnotations ss → All (Passes checks.Physical) ss → All (Passes checks.Digital) ss → IsClean (RowsFail ss) 19
+clean-19 ss h p d = more (RowsFail ss) 18 (clean-18 ss h p) (at-18 ss d)
 
-pub clean-20 : (ss : List (List ℕ)) (at : ℕ) → IsSplit ss at → All (Passes checks.Physical) ss → All (Passes checks.Digital) ss → All (Passes checks.Samples) ss → IsClean (RowsFail ss) 20
-clean-20 ss at s p d n = more (RowsFail ss) 19 (clean-19 ss at s p d) (at-19 ss n)
+pub clean-20 : (ss : List (List ℕ)) → HasAnnotations ss → All (Passes checks.Physical) ss → All (Passes checks.Digital) ss → All (Passes checks.Samples) ss → IsClean (RowsFail ss) 20
+clean-20 ss h p d n = more (RowsFail ss) 19 (clean-19 ss h p d) (at-19 ss n)
 
-pub clean-21 : (ss : List (List ℕ)) → HasAnnotations ss → All (Passes checks.Physical) ss → All (Passes checks.Digital) ss → All (Passes checks.Samples) ss → ¬ IsTooLarge ss → IsClean (RowsFail ss) 21
-clean-21 ss h p d n small =
-    let a = more (RowsFail ss) 16 (clean-16 ss) (at-16 ss h) in
-    let b = more (RowsFail ss) 17 a (at-17 ss p) in
-    let c = more (RowsFail ss) 18 b (at-18 ss d) in
-    let e = more (RowsFail ss) 19 c (at-19 ss n) in
-    more (RowsFail ss) 20 e (at-20 ss small)
+not-large : (ss : List (List ℕ)) → IsSound ss → ¬ IsTooLarge ss
+not-large ss s large =
+    elim large [
+      | inl ordinary ↦ omega (arith, s.ordinary_size)
+      | inr annotations ↦ omega (arith, s.block_size)
+    ]
+
+pub clean-21 : (ss : List (List ℕ)) → IsSound ss → IsClean (RowsFail ss) 21
+clean-21 ss s = more (RowsFail ss) 20 (clean-20 ss s.annotations s.physical s.digital s.each_samples) (at-20 ss (not-large ss s))
 
 -- sizes that are not too large
-pub sound-is : (ss : List (List ℕ)) (at : ℕ) → IsSplit ss at → All (Passes checks.Physical) ss → All (Passes checks.Digital) ss → All (Passes checks.Samples) ss → ¬ IsTooLarge ss → IsSound ss at
-sound-is ss at s p d n small = record {
-  split = s;
+pub sound-is : (ss : List (List ℕ)) → HasAnnotations ss → All (Passes checks.Physical) ss → All (Passes checks.Digital) ss → All (Passes checks.Samples) ss → ¬ IsTooLarge ss → IsSound ss
+sound-is ss h p d n small = record {
+  annotations = h;
   physical = p;
   digital = d;
   each_samples = n;
   ordinary_size = elim (cases_lt 4_194_304 (2 * samples_in_all (ordinary ss))) [
     | inl lt ↦ absurd (small (inl lt))
-    | inr le ↦ omega (arith, ap samples_in_all (ordinary-is ss at s))
+    | inr le ↦ le
   ];
-  block_size = elim (cases_lt 4_194_304 (2 * samples (annotations_at ss at))) [
-    | inl lt ↦ absurd (small (large-block ss at s lt))
+  block_size = elim (cases_lt 4_194_304 (2 * samples_in_all (labelled ss))) [
+    | inl lt ↦ absurd (small (inr lt))
     | inr le ↦ le
   ];
 }
-
-pub all-samples : (b : List ℕ) (n total : ℕ) → total ≡ samples_in_all (ordinary (take n (signals_of b n))) → total ≡ samples_in_all (ordinary (signals_of b n))
-all-samples b n total is = is ∙ ap (λ (l : List (List ℕ)). samples_in_all (ordinary l)) (take_all n (signals_of b n) (omega (arith, length-signals b n)))
-
-pub extents-are : (ss : List (List ℕ)) (at all front block : ℕ) → IsSplit ss at → all ≡ samples_in_all (ordinary ss) → front ≡ samples_in_all (ordinary (take at ss))
-    → block ≡ samples (annotations_at ss at) → AreExtents ss at (record { block_at = 2 * front; block_bytes = 2 * block; record_bytes = 2 * all + 2 * block })
-extents-are ss at all front block s all-is front-is block-is = record {
-  block_at = ap (λ (k : ℕ). 2 * k) (front-is ∙ ap samples_in_all (ordinary-front ss at s));
-  block_bytes = ap (λ (k : ℕ). 2 * k) block-is;
-  record_bytes = omega (arith, samples-parts ss at s.within, ap samples_in_all (ordinary-is ss at s));
-}
-
-pub block-is : (ss : List (List ℕ)) (at : ℕ) (row : List ℕ) (n block : ℕ) → row ≡ annotations_at ss at → n ≡ samples row → block ≡ n → block ≡ samples (annotations_at ss at)
-block-is ss at row n block row-is n-is e = e ∙ n-is ∙ ap samples row-is
 
 -- the faults of the rows are those of the bytes that have the rows in columns
 rows-fail : (b : List ℕ) (n : ℕ) → length b ≡ 256 * n → All IsPrintable b → (e : HeaderFault) → SignalsFail b n e → RowsFail (signals_of b n) e
@@ -123,3 +109,19 @@ pub first-signals : (b : List ℕ) (n m : ℕ) (e : HeaderFault) → n ≡ m →
 first-signals b n m e is len printable first =
     let f : IsFirst (RowsFail (signals_of b m)) e = subst (λ (k : ℕ). IsFirst (RowsFail (signals_of b k)) e) is first in
     (signals-fail b m e f.0, clean-signals b m (header_fault_number e) len printable f.1)
+
+-- what the loops over the signals tell
+pub one-kind : (ss : List (List ℕ)) (k n : ℕ) → k ≡ length (labelled ss) → length ss ≡ n → (k ≡ 0) ⊎ (k ≡ n) → ¬ HasAnnotations ss
+one-kind ss k n is len which h =
+    elim which [
+      | inl none ↦ omega (arith, h.annotations_some)
+      | inr all ↦ omega (arith, h.ordinary_some, kinds-count ss)
+    ]
+
+pub kinds-told : (ss : List (List ℕ)) (k n : ℕ) (r : Option ℕ) (told : Bool) → k ≡ length (labelled ss) → length ss ≡ n → (k ≡ 0 → ⊥) → (k ≡ n → ⊥)
+    → is_some r ≡ not told → MatchOption r (All (Passes checks.Annotations) ss) (IsFirstBad (Passes checks.Annotations) ss) → IsTrue told ↔ HasAnnotations ss
+kinds-told ss k n None true is len some all says pass = (λ _. has-annotations ss (omega (arith, some)) (omega (arith, all, kinds-count ss)) pass, λ _. refl)
+kinds-told ss k n None false is len some all says pass = absurd (false≢true says)
+kinds-told ss k n (Some at) true is len some all says bad = absurd (false≢true (sym says))
+kinds-told ss k n (Some at) false is len some all says bad =
+    (λ yes. absurd (false≢true yes), λ h. absurd (not-bad (Passes checks.Annotations) [] ss at (annotations-pass ss h.annotations) bad))

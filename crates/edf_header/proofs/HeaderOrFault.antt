@@ -7,14 +7,14 @@ use Rattle.edf_field.specs.Number.{field, IsDuration, IsNumber}
 use Rattle.edf_field.specs.Text.{IsPrintable}
 use Rattle.edf_header.specs.Signal.{IsFirstBad, Passes, signals_of}
 use Rattle.edf_header.specs.Header.{AreSignals, FixedPart, HeaderRecord, IsFixedHeader, IsHeader}
-use Rattle.edf_header.specs.Inside.Rows.{IsSplit}
+use Rattle.edf_header.specs.Inside.Rows.{header_of}
 use Rattle.edf_header.specs.Fault.{FixedPartFails, HasSignals, IsBadSignal, IsClean, IsHeaderFault, SignalsFail}
 use Rattle.edf_header.specs.declared.signal_checks.Check.{Check}
 use Rattle.edf_header.specs.declared.signal_checks.Check.TheVariants as checks
 use Rattle.edf_header.specs.declared.fault.HeaderFault.{HeaderFault}
 use Rattle.edf_header.specs.declared.fault.HeaderFault.TheVariants.{Cut, Unprintable, Version, Patient, Recording, Startdate, Starttime, DatesDiffer, NotPlus, Count, Duration, Signals, HeaderBytes, CutSignals, UnprintableSignals, Annotations, Physical, Digital, Samples, Size}
 use Rattle.edf_header.proofs.HeaderFaults.{sound-is}
-use Rattle.edf_header.proofs.Headers.{are-signals, header_of}
+use Rattle.edf_header.proofs.Headers.{are-signals}
 use Rattle.edf_header.proofs.SpelledOnce.{number-at}
 use Rattle.edf_header.proofs.Decided.{Decided, held, same-bytes, first-bad}
 use Rattle.edf_header.proofs.DecidedFields as fields
@@ -62,7 +62,6 @@ fixed-part b le clean =
         header_bytes = held (fields.number (field b 184 8) (256 + 256 * signals.0)) (λ other. clean HeaderBytes (omega arith) (signals.0, signals.1, other));
         reserved = held (fields.plus (field b 192 44)) (clean NotPlus (omega arith));
         count = count.1;
-        count_some = count.2;
         duration = refl;
         is_duration = some-of (IsDuration (field b 244 8)) (texts.duration (field b 244 8)) (clean Duration (omega arith));
         signals = signals.1.0;
@@ -78,16 +77,16 @@ all-pass check ss none =
       | inr bad ↦ absurd (none (bad.0 + 1) (bad.0, bad.1, refl))
     ]
 
-signal-part : (s : List ℕ) (f : FixedPart) → length s ≤ 256 * f.signal_count → IsClean (SignalsFail s f.signal_count) 21 → (at : ℕ) × AreSignals s (header_of f (signals_of s f.signal_count) at)
+signal-part : (s : List ℕ) (f : FixedPart) → length s ≤ 256 * f.signal_count → IsClean (SignalsFail s f.signal_count) 21 → AreSignals s (header_of f (signals_of s f.signal_count))
 signal-part s f le clean =
     let ss : List (List ℕ) = signals_of s f.signal_count in
     let long : ¬ (length s < 256 * f.signal_count) = clean CutSignals (omega arith) in
     let printable : All IsPrintable s = all-printable s (λ at bad. clean (UnprintableSignals (256 + at)) (omega arith) (at, bad, refl)) in
-    let split : (at : ℕ) × IsSplit ss at = elim (rows.split ss) [ inl is ↦ is | inr none ↦ absurd (clean Annotations (omega arith) none) ] in
+    let annotations = held (rows.annotations ss) (clean Annotations (omega arith)) in
     let physical = all-pass checks.Physical ss (λ k. clean (Physical k) (omega arith)) in
     let digital = all-pass checks.Digital ss (λ k. clean (Digital k) (omega arith)) in
     let samples = all-pass checks.Samples ss (λ k. clean (Samples k) (omega arith)) in
-    (split.0, are-signals s f split.0 (omega (arith, long)) printable (sound-is ss split.0 split.1 physical digital samples (clean Size (omega arith))))
+    are-signals s f (omega (arith, long)) printable (sound-is ss annotations physical digital samples (clean Size (omega arith)))
 
 parts : (b : List ℕ) (k : ℕ) → b ≡ take 256 b ++ (field b 256 k ++ drop k (drop 256 b))
 parts b k = sym (ap (λ (l : List ℕ). take 256 b ++ l) (take-append-drop k (drop 256 b)) ∙ take-append-drop 256 b)
@@ -108,11 +107,11 @@ behind-fixed b clean f is =
     let s : List ℕ = field b 256 (256 * n) in
     elim (signal-rows s n) [
       | inl good ↦
-          let at = signal-part s f (omega (arith, length-take (256 * n) (drop 256 b))) good in
+          let signals = signal-part s f (omega (arith, length-take (256 * n) (drop 256 b))) good in
           inl (
-            header_of f (signals_of s n) at.0,
+            header_of f (signals_of s n),
             drop (256 * n) (drop 256 b),
-            record { first = take 256 b; second = s; parts = parts b (256 * n); fixed = is; signals = at.1 },
+            record { first = take 256 b; second = s; parts = parts b (256 * n); fixed = is; signals = signals },
           )
       | inr first ↦ inr (first.0, inr (n, clean, has-signals b n (is.signals, is.signals_from, is.signals_to), first.1))
     ]

@@ -1,22 +1,19 @@
 -- What an identity's bytes keep: the key's parts at their places, its signals as rows.
-use Rattle.std.proofs.Common.{◌≡◌, ℕ, zero, suc, ◌+◌, ◌-◌, ◌*◌, ◌/◌, ◌≤◌, List, [], ◌∷◌, ◌++◌, length, length-append, append_assoc, take, drop, cond, Bool, true, false, arith, refl, sym, ap, ◌∙◌, subst, inl, inr}
-use Rattle.std.proofs.lemmas.Bool.{cases_Bool}
+use Rattle.std.proofs.Common.{◌≡◌, ℕ, zero, suc, ◌+◌, ◌-◌, ◌*◌, ◌/◌, List, ◌∷◌, ◌++◌, length, length-append, append_assoc, take, drop, cond, Bool, true, false, arith, refl, sym, ap, ◌∙◌, subst, inl, inr}
 use Rattle.std.proofs.lemmas.List.{take_all, length-drop, length-take, get_or_at}
-use Rattle.std.proofs.lemmas.List.Elements.{All-nil, All-cons, All-replicate, All-head, All-tail}
-use Rattle.std.proofs.lemmas.Slice.Eq.{bytes_eq-Decides}
+use Rattle.std.proofs.lemmas.List.Elements.{All-nil, All-cons, All-replicate}
 use Rattle.edf_header.specs.Identity.{HasLength, HasMark, signals_at, IsShaped}
 use Rattle.edf_header.specs.Key.{IsKey, IsSized, Key, dated_bytes, key_at, key_bytes}
-use Rattle.edf_field.specs.Number.{field, IsDuration, duration_of}
-use Rattle.edf_header.specs.Inside.Shape.{has_label}
-use Rattle.edf_header.specs.Signal.{HasSamples, IsLabelled, Passes, ordinary, rows, rows_of, samples_in_all}
+use Rattle.edf_field.specs.Number.{field}
+use Rattle.edf_header.specs.Signal.{HasSamples, Passes, ordinary, rows, rows_of, samples_in_all}
 use Rattle.edf_field.specs.Text.{spaces, subfields}
-use Rattle.std.specs.Prelude.{All, codes, slice_index, ◌==◌}
+use Rattle.std.specs.Prelude.{All, slice_index, ◌==◌}
 use Rattle.std.specs.List.{flat_map}
 use Rattle.edf_header.specs.declared.signal_checks.Check.TheVariants.{Label, Samples}
-use Rattle.edf_field.proofs.Cited.{duration-value}
 use Rattle.edf_field.proofs.Grammar.{spaces-are}
 use Rattle.edf_header.proofs.Strides.{length-field, length-parts}
 use Rattle.edf_header.proofs.Keys.{key-back, field-at}
+use Rattle.edf_header.proofs.SignalKinds.{all-ordinary}
 use Rattle.edf_header.proofs.RowSteps.{length-rows}
 
 -- what a loop over the bytes behind 158 looks through are the key's signals
@@ -91,18 +88,6 @@ held k bytes is i = ap key_at is ∙ key-back k i.sized
 pub keeps : (k : Key) (bytes : List ℕ) → bytes ≡ key_bytes k → IsKey k → (key_bytes (key_at bytes) ≡ bytes) × IsKey (key_at bytes)
 keeps k bytes is i = let e = held k bytes is i in (ap key_bytes e ∙ sym is, subst IsKey (sym e) i)
 
-not-labelled : (s : List ℕ) → ¬ IsLabelled s → has_label s ≡ false
-not-labelled s h =
-    elim (cases_Bool (has_label s)) [
-      | inl t ↦ absurd (h ((bytes_eq-Decides (field s 0 16) (codes "EDF Annotations ")).0 t))
-      | inr f ↦ f
-    ]
-
-pub all-ordinary : (ss : List (List ℕ)) → All (Passes Label) ss → ordinary ss ≡ ss
-all-ordinary [] all = refl
-all-ordinary (s ∷ ss) all =
-    rw (not-labelled s (All-head (Passes Label) s ss all)) (ap (λ (l : List (List ℕ)). s ∷ l) (all-ordinary ss (All-tail (Passes Label) s ss all)))
-
 -- the samples of the rows in an identity's bytes, all of them ordinary
 pub sliced-samples : (b : List ℕ) → All (Passes Label) (signals_at b) → samples_in_all (ordinary (rows_of (take (length b - 158) (drop 158 b)))) ≡ samples_in_all (signals_at b)
 sliced-samples b all = ap (λ (l : List (List ℕ)). samples_in_all (ordinary l)) (sliced b) ∙ ap samples_in_all (all-ordinary (signals_at b) all)
@@ -113,26 +98,7 @@ sliced-each b all = subst (All HasSamples) (sym (sliced b)) all
 pub held-len : (b : List ℕ) → (key_bytes (key_at b) ≡ b) → IsKey (key_at b) → length b ≡ 158 + 256 * length (signals_at b)
 held-len b is key = sym (ap length is) ∙ key-length (key_at b) key.sized
 
-pub sliced-small : (b : List ℕ) → length b ≤ 158 + 256 * 639 → length (take (length b - 158) (drop 158 b)) ≤ 256 * 640
-sliced-small b len = omega (arith, length-take (length b - 158) (drop 158 b), length-drop 158 b)
-
-pub held-small : (b : List ℕ) → (key_bytes (key_at b) ≡ b) → IsKey (key_at b) → length (take (length b - 158) (drop 158 b)) ≤ 256 * 640
-held-small b is key = sliced-small b (omega (arith, held-len b is key, key.signals_to))
-
-pub held-samples : (b : List ℕ) (k : Key) (n : ℕ) → key_at b ≡ k → IsKey (key_at b) → n ≡ samples_in_all (ordinary (rows_of (take (length b - 158) (drop 158 b)))) → 2 * n ≡ 2 * samples_in_all k.signals
-held-samples b k n is key e = ap (λ (m : ℕ). 2 * m) (e ∙ sliced-samples b (λ i d lt. (key.signals i d lt).label) ∙ ap (λ (k : Key). samples_in_all k.signals) is)
-
-pub held-size : (b : List ℕ) (k : Key) → key_at b ≡ k → IsKey (key_at b) → 2 * samples_in_all k.signals ≤ 4_194_304
-held-size b k is key = subst (λ (k : Key). 2 * samples_in_all k.signals ≤ 4_194_304) is key.size
-
--- the same of what a slice of the bytes reads
-pub duration-read : (d b : List ℕ) (k : Key) (n : ℕ) → d ≡ b → key_at b ≡ k → IsDuration (field d 150 8) n → n ≡ duration_of k.duration
-duration-read d b k n is view read =
-    duration-value (field d 150 8) n read ∙ ap (λ (l : List ℕ). duration_of (field l 150 8)) is ∙ ap (λ (k : Key). duration_of k.duration) view
-
-pub duration-none : (d b : List ℕ) → d ≡ b → IsKey (key_at b) → ((n : ℕ) → ¬ IsDuration (field d 150 8) n) → ⊥
-duration-none d b is key none = none key.duration.0 (subst (λ (l : List ℕ). IsDuration (field l 150 8) key.duration.0) (sym is) key.duration.1)
-
+-- what a slice of the bytes reads
 pub patient-read : (d b : List ℕ) (k : Key) (found : List (List ℕ)) → d ≡ b → key_at b ≡ k → subfields (field d 0 80) ≡ found → subfields k.patient ≡ found
 patient-read d b k found is view read = ap (λ (k : Key). subfields k.patient) (sym view) ∙ ap (λ (l : List ℕ). subfields (field l 0 80)) (sym is) ∙ read
 

@@ -12,7 +12,8 @@ pub mod FixedLaws
 pub mod FixedRows
 pub mod Held
 pub mod Faults
-pub mod RowFaults
+pub mod SignalKinds
+pub mod Blocks
 pub mod HeaderFaults
 pub mod Headers
 pub mod SignalLaws

@@ -1,6 +1,6 @@
 -- Rows, one after another, and their columns.
-use Rattle.std.proofs.Common.{◌≡◌, ℕ, zero, suc, ◌+◌, ◌-◌, ◌*◌, ◌/◌, ◌≤◌, ◌<◌, List, [], ◌∷◌, ◌++◌, length, get_or, take, drop, mul-le-mul_left, mul-le-mul_right, length-append, length-drop, arith, refl, sym, ap, subst, ◌∙◌}
-use Rattle.std.proofs.lemmas.List.{drop-drop, flat_map_more, take_more, take_all, get_or_default, get_or-drop}
+use Rattle.std.proofs.Common.{◌≡◌, ℕ, zero, suc, ◌+◌, ◌-◌, ◌*◌, ◌/◌, ◌≤◌, ◌<◌, List, [], ◌∷◌, ◌++◌, length, get_or, take, drop, mul-le-mul_left, mul-le-mul_right, length-append, arith, refl, sym, ap, subst, ◌∙◌}
+use Rattle.std.proofs.lemmas.List.{drop-drop, flat_map_more, take_more, take_all, get_or_default}
 use Rattle.std.proofs.lemmas.List.FromFn.{length-map-range_with_len, get_or-map-range_with_len}
 use Rattle.std.specs.Prelude.{All, Option, Some, None, MatchOption}
 use Rattle.std.specs.List.{flat_map, AllWithin, HoldsAt}
@@ -162,17 +162,9 @@ bad-here P ss i r lt is all here = record {
 pub all-good : (P : List ℕ → Type 0) (ss : List (List ℕ)) (i : ℕ) → length ss ≤ i → AllWithin P ss 0 i → All P ss
 all-good P ss i past all k d lt = all k d (omega arith) (omega arith)
 
--- a signal of a header, and one that is counted from another
+-- a signal of a header
 pub one-at : (bytes : List ℕ) (n i : ℕ) (r : List ℕ) → i < n → r ≡ row_at bytes n i → (i < length (signals_of bytes n)) × (r ≡ get_or (signals_of bytes n) i [])
 one-at bytes n i r lt is = (omega (arith, length-signals bytes n), is ∙ sym (row-at bytes n i lt))
-
-pub behind : (bytes : List ℕ) (n from i : ℕ) → i < n - from → (r : List ℕ) → r ≡ row_at bytes n (from + i)
-    → (i < length (drop from (signals_of bytes n))) × (r ≡ get_or (drop from (signals_of bytes n)) i [])
-behind bytes n from i lt r is =
-    (omega (arith, length-signals bytes n, length-drop from (signals_of bytes n)), is ∙ sym (row-at bytes n (from + i) (omega arith)) ∙ sym (get_or-drop from (signals_of bytes n) i []))
-
-pub length-behind : (bytes : List ℕ) (n from i : ℕ) → n - from ≤ i → length (drop from (signals_of bytes n)) ≤ i
-length-behind bytes n from i past = omega (arith, length-signals bytes n, length-drop from (signals_of bytes n))
 
 -- what `position` answers, in the words of the first bad member
 pub first-from-position : {X : Type 0} (P : X → Type 0) (xs : List X) (r : Option ℕ) → MatchOption r (AllWithin P xs 0 (length xs)) (λ i. (i < length xs) × HoldsAt (λ x. ¬ P x) xs i × AllWithin P xs 0 i)

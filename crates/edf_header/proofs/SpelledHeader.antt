@@ -2,16 +2,19 @@
 use Rattle.std.proofs.Common.{◌≡◌, ℕ, ◌+◌, ◌*◌, ◌^◌, ◌≤◌, List, [], ◌∷◌, ◌++◌, length, take, Bool, true, false, cond, Option, Some, None, refl, sym, ap, ◌∙◌, subst, arith, append_assoc, ℤ, pos}
 use Rattle.std.specs.Prelude.{All, codes}
 use Rattle.std.specs.List.{flat_map}
-use Rattle.std.proofs.lemmas.List.{length-append, append-nil, take_at, drop_at, take_all}
-use Rattle.std.proofs.lemmas.List.Elements.{All-append, All-push, All-tail}
-use Rattle.std.proofs.lemmas.List.Sums.{sum_by_push}
+use Rattle.std.proofs.lemmas.List.{length-append, take_at, drop_at, take_all}
+use Rattle.std.proofs.lemmas.List.Elements.{All-nil, All-cons, All-append, All-push, All-tail}
+use Rattle.std.proofs.lemmas.List.Sums.{sum_by_push, sum_by-cons}
 use Rattle.edf_time.specs.Civil.{IsDateText, IsTimeText, IsIdDate}
 use Rattle.edf_field.specs.Number.{field, IsNumber}
 use Rattle.edf_field.specs.Text.{IsPrintable, IsRecording, IsBehindStartdate, spaces}
-use Rattle.edf_header.specs.Signal.{columns, samples, samples_in_all, signals_of, IsOrdinary, HasSamples}
+use Rattle.edf_header.specs.Signal.{columns, labelled, ordinary, samples, samples_in_all, signals_of, IsAnnotationsSignal, IsLabelled, IsOrdinary, HasSamples, Passes}
 use Rattle.edf_header.specs.Key.{Key, IsSized, IsKey, key_bytes, dated_bytes}
-use Rattle.edf_header.specs.Header.{HeaderRecord, FixedPart, IsFixedHeader, AreSignals, IsSameDay, IsPlus, is_dated, layout_of}
+use Rattle.edf_header.specs.Header.{HeaderRecord, FixedPart, IsFixedHeader, AreSignals, IsSameDay, IsPlus, blocks_from, is_dated, layout_of}
 use Rattle.edf_header.specs.Spelled.{Texts, IsSpelledBy, IsSpelledHeader, IsReadAs, spelled_bytes, startdate_text, spelled_layout}
+use Rattle.edf_header.specs.declared.signal_checks.Check.TheVariants.{Label}
+use Rattle.edf_header.proofs.Blocks.{block-last, block_of}
+use Rattle.edf_header.proofs.SignalKinds.{labelled-last, ordinary-front}
 use Rattle.edf_header.proofs.Strides.{signals-back}
 use Rattle.edf_header.proofs.SpelledTexts.{date-printed, time-printed, id_date-printed, printable-by}
 use Rattle.edf_time.proofs.Cited.{one-date_day}
@@ -28,18 +31,16 @@ spelled_fixed k days seconds count = record {
   startdate = startdate_of k.dated days;
   after = k.after;
   start = (days * 86_400 + seconds) * 10 ^ 9;
-  count = count;
+  count = Some count;
   duration = k.duration;
   signal_count = length k.signals + 1;
 }
 
+abbrev rows : Key → List ℕ → List (List ℕ)
+rows k row = k.signals ++ row ∷ []
+
 abbrev pub spelled_header : Key → ℕ → ℕ → ℕ → List ℕ → HeaderRecord
-spelled_header k days seconds count row = record {
-  fixed = spelled_fixed k days seconds count;
-  front = k.signals;
-  annotations = row;
-  back = [];
-}
+spelled_header k days seconds count row = record { fixed = spelled_fixed k days seconds count; signals = rows k row }
 
 -- the fixed part's bytes
 abbrev pub fixed_bytes : Key → Texts → List ℕ
@@ -189,9 +190,6 @@ fixed-printable k t p id date time header_bytes reserved count signals =
     (join (startdate_text k.dated t.id_date) l3 (startdate-printable k.dated t.id_date id) (join k.after l4 p.after (join t.date l5 date (join t.time l6 time
     (join t.header_bytes l7 header_bytes (join t.reserved l8 reserved (join t.count l9 count (join k.duration t.signal_count p.duration signals))))))))))
 
-abbrev rows : Key → List ℕ → List (List ℕ)
-rows k row = k.signals ++ row ∷ []
-
 is-fixed : (k : Key) (days seconds count : ℕ) (t : Texts) (row : List ℕ) → IsKey k → IsSpelledBy k days seconds count t row
     → IsFixedHeader (fixed_bytes k t) (spelled_fixed k days seconds count)
 is-fixed k days seconds count t row key s =
@@ -212,8 +210,7 @@ is-fixed k days seconds count t row key s =
       same_day = λ other is. same-day k.dated t.date days other s.date (subst (λ (l : List ℕ). IsDateText l other) p.date is);
       header_bytes = subst (λ (l : List ℕ). IsNumber l (256 + 256 * (length k.signals + 1))) (sym p.header_bytes) s.header_bytes;
       reserved = subst IsPlus (sym p.reserved) s.reserved;
-      count = subst (λ (l : List ℕ). IsNumber l count) (sym p.count) s.count;
-      count_some = s.count_some;
+      count = (subst (λ (l : List ℕ). IsNumber l count) (sym p.count) s.count, s.count_some);
       duration = sym p.duration;
       is_duration = key.duration;
       signals = subst (λ (l : List ℕ). IsNumber l (length k.signals + 1)) (sym p.signals) s.signals;
@@ -224,38 +221,45 @@ is-fixed k days seconds count t row key s =
 all-rows : (P : List ℕ → Type 0) (k : Key) (row : List ℕ) → All P k.signals → P row → All P (rows k row)
 all-rows P k row each last = All-push P k.signals row each last
 
+-- the key's signals have no label of an annotations signal
+unlabelled : (k : Key) → IsKey k → All (Passes Label) k.signals
+unlabelled k key = λ i d lt. (key.signals i d lt).label
+
 are-signals : (k : Key) (days seconds count : ℕ) (t : Texts) (row : List ℕ) → IsKey k → IsSpelledBy k days seconds count t row
     → AreSignals (columns (rows k row)) (spelled_header k days seconds count row)
 are-signals k days seconds count t row key s =
     let sized = all-rows (λ (s : List ℕ). length s ≡ 256) k row key.sized.signals s.row_printed.len in
     let n : length (rows k row) ≡ length k.signals + 1 = length-append k.signals (row ∷ []) in
-    let same : k.signals ++ [] ≡ k.signals = append-nil k.signals in
+    let ordinary-is : ordinary (rows k row) ≡ k.signals = ordinary-front k.signals row (unlabelled k key) s.annotations.label in
+    let labelled-is : labelled (rows k row) ≡ row ∷ [] = labelled-last k.signals row (unlabelled k key) s.annotations.label in
     record {
       len = omega (arith, length-columns (rows k row) sized, n);
       printable = all-columns IsPrintable (rows k row) (all-rows (All IsPrintable) k row (printable-key k key.printable).signals s.row_printed.printable);
       each = ap (signals_of (columns (rows k row))) (sym n) ∙ signals-back (rows k row) sized;
-      annotations = s.annotations;
-      ordinary = subst (All IsOrdinary) (sym same) key.signals;
+      annotations_some = omega (arith, ap length labelled-is);
+      are_annotations = subst (All IsAnnotationsSignal) (sym labelled-is) (All-cons IsAnnotationsSignal row [] s.annotations (All-nil IsAnnotationsSignal));
+      ordinary_some = omega (arith, ap length ordinary-is, key.signals_from);
+      are_ordinary = subst (All IsOrdinary) (sym ordinary-is) key.signals;
       each_samples = all-rows HasSamples k row key.each_samples s.row_samples;
-      ordinary_size = subst (λ (l : List (List ℕ)). 2 * samples_in_all l ≤ 4_194_304) (sym same) key.size;
-      block_size = s.block_size;
+      ordinary_size = subst (λ (l : List (List ℕ)). 2 * samples_in_all l ≤ 4_194_304) (sym ordinary-is) key.size;
+      block_size = let one : samples_in_all (row ∷ []) ≡ samples row = omega (arith, sum_by-cons samples row []) in omega (arith, ap samples_in_all labelled-is, one, s.block_size);
     }
 
 spelled-parts : (k : Key) (t : Texts) (row : List ℕ) → spelled_bytes k t row ≡ fixed_bytes k t ++ columns (rows k row)
 spelled-parts k t row = sym (simp append_assoc)
 
-spelled-says : (k : Key) (days seconds count : ℕ) (row : List ℕ)
+spelled-says : (k : Key) (days seconds count : ℕ) (row : List ℕ) → IsKey k → IsLabelled row
     → layout_of (spelled_header k days seconds count row) ≡ spelled_layout k ((days * 86_400 + seconds) * 10 ^ 9) count (samples row)
-spelled-says k days seconds count row =
+spelled-says k days seconds count row key label =
     let dated = dated-back k.dated days in
-    let same : k.signals ++ [] ≡ k.signals = append-nil k.signals in
+    let same : ordinary (rows k row) ≡ k.signals = ordinary-front k.signals row (unlabelled k key) label in
+    let blocks : blocks_from 0 (rows k row) ≡ block_of (2 * samples_in_all k.signals) row ∷ [] = block-last k.signals row (unlabelled k key) label in
     let all : samples_in_all (rows k row) ≡ samples_in_all k.signals + samples row = sum_by_push samples k.signals row in
     λ i. record {
       key = record { patient = k.patient; dated = dated i; after = k.after; duration = k.duration; signals = same i };
       start = (days * 86_400 + seconds) * 10 ^ 9;
-      count = count;
-      block_at = 2 * samples_in_all k.signals;
-      block_bytes = 2 * samples row;
+      count = Some count;
+      blocks = blocks i;
       record_bytes = 2 * all i;
     }
 
@@ -278,6 +282,6 @@ spelled-reads bytes k days seconds count row key s =
         fixed = fixed;
         signals = signals;
       };
-      says = spelled-says k days seconds count row;
+      says = spelled-says k days seconds count row key s.says.annotations.label;
       len = omega (arith, ap length is, length-append first second, fixed.len, signals.len);
     }

@@ -5,8 +5,7 @@ use Rattle.std.proofs.lemmas.List.{drop-take, take-take}
 use Rattle.edf_field.specs.Number.{field, IsNumber}
 use Rattle.edf_field.specs.Text.{IsPrintable}
 use Rattle.edf_header.specs.Signal.{signals_of, Passes, IsFirstBad}
-use Rattle.edf_header.specs.Header.{HeaderRecord, FixedPart, Layout, IsFixedHeader, AreSignals, IsHeader, layout_of}
-use Rattle.edf_header.specs.Spelled.{IsReadAs}
+use Rattle.edf_header.specs.Header.{HeaderRecord, FixedPart, IsFixedHeader, AreSignals, IsHeader}
 use Rattle.edf_header.specs.Fault.{FixedPartFails, SignalsFail, HasSignals, IsBadSignal, IsFirst, IsHeaderFault, header_fault_number}
 use Rattle.edf_header.specs.declared.signal_checks.Check.{Check}
 use Rattle.edf_header.specs.declared.signal_checks.Check.TheVariants as checks
@@ -161,9 +160,3 @@ one-header-fault b e f p q =
             one-signals-fault (field b 256 (256 * one.0)) one.0 e f one.3 (subst (λ (m : ℕ). IsFirst (SignalsFail (field b 256 (256 * m)) m) f) n later.3)
       ]
     ]
-
--- what bytes are read as is all that they are read as
-pub read-as-one : (bytes rest : List ℕ) (layout : Layout) (h : HeaderRecord) (r : List ℕ) → IsReadAs bytes layout → IsHeader (bytes ++ rest) h r → (layout_of h ≡ layout) × (r ≡ rest)
-read-as-one bytes rest layout h r is i =
-    let same = one-header (bytes ++ rest) h is.header r rest i (is.reads rest) in
-    (ap layout_of same.0 ∙ is.says, same.1)

@@ -1,18 +1,18 @@
 -- When a header is refused: the condition of each fault, and the first in the order of their numbers.
-use Rattle.std.specs.Prelude.{◌≡◌, ◌≢◌, ℕ, ◌+◌, ◌*◌, ◌≤◌, ◌<◌, ◌⊎◌, List, ◌∷◌, ◌++◌, length, codes, take, All, ℤ, Option}
+use Rattle.std.specs.Prelude.{◌≡◌, ◌≢◌, ℕ, ◌+◌, ◌*◌, ◌≤◌, ◌<◌, ◌⊎◌, List, length, codes, take, All, ℤ, Option}
 use Rattle.edf_time.specs.Civil.{IsDateText, IsTimeText}
 use Rattle.edf_field.specs.Number.{field, IsDuration, IsNumber}
 use Rattle.edf_field.specs.Text.{IsPrintable, IsPatient, IsRecording}
 use Rattle.edf_header.specs.Fields.{version_field, patient_field, recording_field, startdate_field, starttime_field, header_bytes_field, reserved_field, count_field, duration_field, signals_field}
-use Rattle.edf_header.specs.Signal.{signals_of, ordinary, samples_in_all, IsLabelled, IsAnnotationsSignal, Passes, IsFirstBad}
-use Rattle.edf_header.specs.Header.{IsSameDay, IsPlus}
+use Rattle.edf_header.specs.Signal.{signals_of, labelled, ordinary, samples_in_all, IsAnnotationsSignal, Passes, IsFirstBad}
+use Rattle.edf_header.specs.Header.{IsSameDay, IsPlus, IsCount}
 use Rattle.edf_header.specs.declared.signal_checks.Check.{Check}
 use Rattle.edf_header.specs.declared.signal_checks.Check.TheVariants as checks
 use Rattle.edf_header.specs.declared.fault.HeaderFault.{HeaderFault}
 use Rattle.edf_header.specs.declared.fault.HeaderFault.TheVariants.{Cut, Unprintable, Version, Patient, Recording, Startdate, Starttime, DatesDiffer, NotPlus, Count, Duration, Signals, HeaderBytes, CutSignals, UnprintableSignals, Annotations, Physical, Digital, Samples, Size, Memory}
 
 abbrev pub HasCount : List ℕ → Type 0
-HasCount b = (n : ℕ) × IsNumber (count_field b) n × (1 ≤ n)
+HasCount b = (count : Option ℕ) × IsCount (count_field b) count
 
 abbrev pub HasSignals : List ℕ → ℕ → Type 0
 HasSignals b n = IsNumber (signals_field b) n × (2 ≤ n) × (n ≤ 640)
@@ -43,24 +43,21 @@ FixedPartFails b Signals = (n : ℕ) → ¬ HasSignals b n
 FixedPartFails b HeaderBytes = (n : ℕ) × HasSignals b n × ¬ IsNumber (header_bytes_field b) (256 + 256 * n)
 FixedPartFails b _ = ⊥
 
--- exactly one signal is an annotations signal, and it has what it must
+-- at least one signal has the label of annotations signals, each of these has what an annotations signal must have, and at least
+-- one signal has not the label
 pub record HasAnnotations (signals : List (List ℕ)) : Type 0 where
-  pub front : List (List ℕ)
-  pub annotations : List ℕ
-  pub back : List (List ℕ)
-  pub parts : signals ≡ front ++ annotations ∷ back
-  pub others : All (λ s. ¬ IsLabelled s) (front ++ back)
-  pub is_annotations : IsAnnotationsSignal annotations
+  pub annotations_some : 1 ≤ length (labelled signals)
+  pub annotations : All IsAnnotationsSignal (labelled signals)
+  pub ordinary_some : 1 ≤ length (ordinary signals)
 
 -- the signal that counts from 1 is the first that does not pass
 abbrev pub IsBadSignal : Check → List (List ℕ) → ℕ → Type 0
 IsBadSignal check signals signal = (at : ℕ) × IsFirstBad (Passes check) signals at × (signal ≡ at + 1)
 
--- the samples of all signals less those of the ordinary ones are the annotations block's
+-- the ordinary signals, or the annotations signals, have too many bytes in a data record
 abbrev pub IsTooLarge : List (List ℕ) → Type 0
 IsTooLarge signals =
-    (4_194_304 < 2 * samples_in_all (ordinary signals))
-    ⊎ ((block : ℕ) × (samples_in_all signals ≡ samples_in_all (ordinary signals) + block) × (4_194_304 < 2 * block))
+    (4_194_304 < 2 * samples_in_all (ordinary signals)) ⊎ (4_194_304 < 2 * samples_in_all (labelled signals))
 
 -- the fault is true of the signal part's bytes, of n signals
 abbrev pub SignalsFail : List ℕ → ℕ → HeaderFault → Type 0

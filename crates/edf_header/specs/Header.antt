@@ -1,20 +1,21 @@
 -- What a header says, and when bytes spell it.
-use Rattle.std.specs.Prelude.{◌≡◌, ℕ, ◌+◌, ◌*◌, ◌%◌, ◌^◌, ◌≤◌, ◌<◌, ◌⊎◌, Bool, true, false, List, ◌∷◌, ◌++◌, length, take, All, codes, ℤ, pos, Option, Some, None, if◌then◌else◌}
+use Rattle.std.specs.Prelude.{◌≡◌, ℕ, ◌+◌, ◌*◌, ◌%◌, ◌^◌, ◌≤◌, ◌<◌, ◌⊎◌, Bool, true, false, List, [], ◌∷◌, ◌++◌, length, take, sum_by, All, codes, ℤ, pos, Option, Some, None, if◌then◌else◌}
 use Rattle.edf_time.specs.Civil.{IsCivil, IsDateText, window}
 use Rattle.edf_field.specs.Number.{IsNumber, IsDuration}
 use Rattle.edf_field.specs.Text.{IsPrintable, IsPatient, IsBehindStartdate, IsRecording, after_of}
 use Rattle.edf_header.specs.Fields.{version_field, patient_field, recording_field, startdate_field, starttime_field, header_bytes_field, reserved_field, count_field, duration_field, signals_field}
-use Rattle.edf_header.specs.Signal.{signals_of, IsOrdinary, HasSamples, IsAnnotationsSignal, samples, samples_in_all}
+use Rattle.edf_header.specs.Signal.{signals_of, has_label, labelled, ordinary, IsOrdinary, HasSamples, IsAnnotationsSignal, samples, samples_in_all}
 use Rattle.edf_header.specs.Key.{Key, IsKey}
+use Rattle.edf_header.specs.declared.header.Block.{Block}
 
 -- what the fixed part says: the patient field; the Startdate subfield's day, or none for X, and what follows it; the start in
--- nanoseconds; how many data records; the duration field; how many signals
+-- nanoseconds; how many data records, or none where the count is -1; the duration field; how many signals
 pub record FixedPart : Type 0 where
   pub patient : List ℕ
   pub startdate : Option ℤ
   pub after : List ℕ
   pub start : ℕ
-  pub count : ℕ
+  pub count : Option ℕ
   pub duration : List ℕ
   pub signal_count : ℕ
 
@@ -23,7 +24,7 @@ is_dated None = false
 is_dated (Some day) = true
 
 -- what a fixed part says, by the patient field, the recording field and the rest
-abbrev pub fixed_from : List ℕ → List ℕ → Option ℤ → ℕ → ℕ → List ℕ → ℕ → FixedPart
+abbrev pub fixed_from : List ℕ → List ℕ → Option ℤ → ℕ → Option ℕ → List ℕ → ℕ → FixedPart
 fixed_from patient recording startdate start count duration signals = record {
   patient = patient;
   startdate = startdate;
@@ -35,8 +36,26 @@ fixed_from patient recording startdate start count duration signals = record {
 }
 
 -- the same, where the fields of 256 bytes stand
-abbrev pub fixed_at : List ℕ → Option ℤ → ℕ → ℕ → ℕ → FixedPart
+abbrev pub fixed_at : List ℕ → Option ℤ → ℕ → Option ℕ → ℕ → FixedPart
 fixed_at bytes startdate start count signals = fixed_from (patient_field bytes) (recording_field bytes) startdate start count (duration_field bytes) signals
+
+-- the field of the count: a whole number from 1 on; or -1 and six spaces, and then as many data records as the file holds
+abbrev pub IsCount : List ℕ → Option ℕ → Type 0
+IsCount field None = field ≡ codes "-1      "
+IsCount field (Some n) = IsNumber field n × (1 ≤ n)
+
+-- how many data records such a file has at least, and at most
+abbrev pub least_records : Option ℕ → ℕ
+least_records None = 1
+least_records (Some n) = n
+
+abbrev pub most_records : Option ℕ → ℕ
+most_records None = 99_999_999
+most_records (Some n) = n
+
+-- a count of 1 to 99,999,999, or none
+abbrev pub IsCountInRange : Option ℕ → Type 0
+IsCountInRange count = (1 ≤ least_records count) × (most_records count ≤ 99_999_999)
 
 -- the fixed parts that headers have
 pub record IsFixed (f : FixedPart) : Type 0 where
@@ -48,8 +67,7 @@ pub record IsFixed (f : FixedPart) : Type 0 where
   pub is_behind : IsBehindStartdate f.after
   pub in_window : f.start < window
   pub whole_second : f.start % 10 ^ 9 ≡ 0
-  pub count_from : 1 ≤ f.count
-  pub count_to : f.count < 100_000_000
+  pub count : IsCountInRange f.count
   pub duration_len : length f.duration ≡ 8
   pub duration_printable : All IsPrintable f.duration
   pub is_duration : (nanos : ℕ) × IsDuration f.duration nanos
@@ -76,31 +94,30 @@ pub record IsFixedHeader (bytes : List ℕ) (h : FixedPart) : Type 0 where
   pub same_day : (days : ℕ) → IsDateText (startdate_field bytes) days → IsSameDay h.startdate days
   pub header_bytes : IsNumber (header_bytes_field bytes) (256 + 256 * h.signal_count)
   pub reserved : IsPlus (reserved_field bytes)
-  pub count : IsNumber (count_field bytes) h.count
-  pub count_some : 1 ≤ h.count
+  pub count : IsCount (count_field bytes) h.count
   pub duration : h.duration ≡ duration_field bytes
   pub is_duration : (nanos : ℕ) × IsDuration h.duration nanos
   pub signals : IsNumber (signals_field bytes) h.signal_count
   pub signals_from : 2 ≤ h.signal_count
   pub signals_to : h.signal_count ≤ 640
 
--- a header: its fixed part, and its signals round the annotations signal, each a row
+-- a header: its fixed part, and its signals in file order, each a row
 pub record HeaderRecord : Type 0 where
   pub fixed : FixedPart
-  pub front : List (List ℕ)
-  pub annotations : List ℕ
-  pub back : List (List ℕ)
+  pub signals : List (List ℕ)
 
--- 256 bytes a signal spell the header's signals, each field in its column
+-- 256 bytes a signal spell the header's signals, each field in its column; both kinds of signals are there
 pub record AreSignals (bytes : List ℕ) (h : HeaderRecord) : Type 0 where
   pub len : length bytes ≡ 256 * h.fixed.signal_count
   pub printable : All IsPrintable bytes
-  pub each : signals_of bytes h.fixed.signal_count ≡ h.front ++ h.annotations ∷ h.back
-  pub annotations : IsAnnotationsSignal h.annotations
-  pub ordinary : All IsOrdinary (h.front ++ h.back)
-  pub each_samples : All HasSamples (h.front ++ h.annotations ∷ h.back)
-  pub ordinary_size : 2 * samples_in_all (h.front ++ h.back) ≤ 4_194_304
-  pub block_size : 2 * samples h.annotations ≤ 4_194_304
+  pub each : signals_of bytes h.fixed.signal_count ≡ h.signals
+  pub annotations_some : 1 ≤ length (labelled h.signals)
+  pub are_annotations : All IsAnnotationsSignal (labelled h.signals)
+  pub ordinary_some : 1 ≤ length (ordinary h.signals)
+  pub are_ordinary : All IsOrdinary (ordinary h.signals)
+  pub each_samples : All HasSamples h.signals
+  pub ordinary_size : 2 * samples_in_all (ordinary h.signals) ≤ 4_194_304
+  pub block_size : 2 * samples_in_all (labelled h.signals) ≤ 4_194_304
 
 -- the bytes begin with a header
 pub record IsHeader (bytes : List ℕ) (h : HeaderRecord) (rest : List ℕ) : Type 0 where
@@ -117,37 +134,53 @@ key_of h = record {
   dated = is_dated h.fixed.startdate;
   after = h.fixed.after;
   duration = h.fixed.duration;
-  signals = h.front ++ h.back;
+  signals = ordinary h.signals;
 }
 
--- what a header says of its data records: whose they are, from where their onsets count in nanoseconds, how many there are;
--- and in bytes where the annotations block stands in each, how long it is, and how long the whole record
+-- the annotations blocks that signals have in a data record whose next byte is this one, in file order
+abbrev pub blocks_from : ℕ → List (List ℕ) → List Block
+blocks_from at [] = []
+blocks_from at (row ∷ rows) =
+    if has_label row then record { at = at; bytes = 2 * samples row } ∷ blocks_from (at + 2 * samples row) rows
+    else blocks_from (at + 2 * samples row) rows
+
+-- what a header says of its data records: whose they are, from where their onsets count in nanoseconds, how many there are, or
+-- none where the count is -1; and in bytes where the annotations blocks stand in each, and how long the whole record is
 pub record Layout : Type 0 where
   pub key : Key
   pub start : ℕ
-  pub count : ℕ
-  pub block_at : ℕ
-  pub block_bytes : ℕ
+  pub count : Option ℕ
+  pub blocks : List Block
   pub record_bytes : ℕ
+
+-- how many bytes the annotations blocks have together
+abbrev pub block_bytes : Layout → ℕ
+block_bytes l = sum_by (λ b. b.bytes) l.blocks
 
 abbrev pub layout_of : HeaderRecord → Layout
 layout_of h = record {
   key = key_of h;
   start = h.fixed.start;
   count = h.fixed.count;
-  block_at = 2 * samples_in_all h.front;
-  block_bytes = 2 * samples h.annotations;
-  record_bytes = 2 * samples_in_all (h.front ++ h.annotations ∷ h.back);
+  blocks = blocks_from 0 h.signals;
+  record_bytes = 2 * samples_in_all h.signals;
 }
 
--- what each header's layout keeps: the block lies in the record, and the rest are the ordinary samples
+-- blocks that lie one after another between two places
+abbrev pub AreApart : ℕ → List Block → ℕ → Type 0
+AreApart from [] to = from ≤ to
+AreApart from (b ∷ bs) to = (from ≤ b.at) × AreApart (b.at + b.bytes) bs to
+
+-- what each header's layout keeps: there is a block, each has a sample at least and lies in the record apart from the others,
+-- and the rest of the record are the ordinary samples
 pub record IsLayout (l : Layout) : Type 0 where
   pub key : IsKey l.key
   pub whole_second : l.start % 10 ^ 9 ≡ 0
-  pub some : 1 ≤ l.count
-  pub few : l.count ≤ 99_999_999
-  pub inside : l.block_at + l.block_bytes ≤ l.record_bytes
-  pub parts : l.record_bytes ≡ 2 * samples_in_all l.key.signals + l.block_bytes
+  pub count : IsCountInRange l.count
+  pub blocks_some : 1 ≤ length l.blocks
+  pub blocks_bytes : All (λ b. 2 ≤ b.bytes) l.blocks
+  pub apart : AreApart 0 l.blocks l.record_bytes
+  pub parts : l.record_bytes ≡ 2 * samples_in_all l.key.signals + block_bytes l
   pub ordinary_size : 2 * samples_in_all l.key.signals ≤ 4_194_304
-  pub block_size : l.block_bytes ≤ 4_194_304
+  pub block_size : block_bytes l ≤ 4_194_304
   pub record_size : l.record_bytes ≤ 8_388_608

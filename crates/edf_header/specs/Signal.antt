@@ -1,11 +1,11 @@
 -- The headers of signals: each a row of 256 bytes, its ten fields one behind the other; a file has them in columns.
-use Rattle.std.specs.Prelude.{◌≡◌, ℕ, ◌+◌, ◌*◌, ◌/◌, ◌≤◌, ◌<◌, zero, suc, not, List, [], ◌∷◌, length, take, drop, map, filter, sum_by, codes, pos, neg_ℤ, ◌<ℤ◌, ◌≤ℤ◌}
+use Rattle.std.specs.Prelude.{◌≡◌, ℕ, ◌+◌, ◌*◌, ◌/◌, ◌≤◌, ◌<◌, zero, suc, Bool, not, List, [], ◌∷◌, length, take, drop, map, filter, sum_by, codes, pos, neg_ℤ, ◌<ℤ◌, ◌≤ℤ◌}
 use Rattle.std.specs.List.{flat_map, range_with_len, HoldsAt, AllWithin}
 use Rattle.std.specs.Str.{bytes_eq}
 use Rattle.edf_field.specs.Number.{field, IsWhole, whole_value, IsSigned, signed_value, IsPhysical, Differ}
 use Rattle.edf_header.specs.Fields.{fields, label_field, physical_minimum_field, physical_maximum_field, digital_minimum_field, digital_maximum_field, samples_field}
 use Rattle.edf_header.specs.declared.signal_checks.Check.{Check}
-use Rattle.edf_header.specs.declared.signal_checks.Check.TheVariants.{Label, Physical, Digital, Samples}
+use Rattle.edf_header.specs.declared.signal_checks.Check.TheVariants.{Label, Annotations, Physical, Digital, Samples}
 
 -- a field of all signals in turn
 abbrev pub column_of : ℕ × ℕ → List (List ℕ) → List ℕ
@@ -36,13 +36,19 @@ rows (suc n) bytes = take 256 bytes ∷ rows n (drop 256 bytes)
 abbrev pub rows_of : List ℕ → List (List ℕ)
 rows_of bytes = rows (length bytes / 256) bytes
 
--- the annotations signals, by their label
+-- the annotations signals have this label
 abbrev pub IsLabelled : List ℕ → Type 0
 IsLabelled row = label_field row ≡ codes "EDF Annotations "
 
--- the signals that are not
+abbrev pub has_label : List ℕ → Bool
+has_label row = bytes_eq (label_field row) (codes "EDF Annotations ")
+
+-- the annotations signals, and the ordinary ones, which are all others
+abbrev pub labelled : List (List ℕ) → List (List ℕ)
+labelled ss = filter has_label ss
+
 abbrev pub ordinary : List (List ℕ) → List (List ℕ)
-ordinary ss = filter (λ s. not (bytes_eq (label_field s) (codes "EDF Annotations "))) ss
+ordinary ss = filter (λ s. not (has_label s)) ss
 
 -- physical minimum and maximum are numbers that differ
 pub record HasPhysical (row : List ℕ) : Type 0 where
@@ -85,9 +91,11 @@ pub record IsOrdinary (row : List ℕ) : Type 0 where
   pub physical : HasPhysical row
   pub digital : HasDigital row
 
--- what each signal is checked for: that it is ordinary; and where it is, its physical and its digital values; and its samples
+-- what each signal is checked for: that it is ordinary; that it is an annotations signal where it has the label; its physical
+-- and its digital values where it has not; and its samples
 abbrev pub Passes : Check → List ℕ → Type 0
 Passes Label row = ¬ IsLabelled row
+Passes Annotations row = IsLabelled row → IsAnnotationsSignal row
 Passes Physical row = (¬ IsLabelled row) → HasPhysical row
 Passes Digital row = (¬ IsLabelled row) → HasDigital row
 Passes Samples row = HasSamples row

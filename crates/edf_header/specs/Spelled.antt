@@ -1,5 +1,5 @@
 -- A header spelled field by field, its annotations signal last.
-use Rattle.std.specs.Prelude.{◌≡◌, ℕ, ◌+◌, ◌*◌, ◌≤◌, Bool, List, [], ◌∷◌, ◌++◌, length, All, codes, if◌then◌else◌, pos}
+use Rattle.std.specs.Prelude.{◌≡◌, ℕ, ◌+◌, ◌*◌, ◌≤◌, Bool, List, Some, [], ◌∷◌, ◌++◌, length, All, codes, if◌then◌else◌, pos}
 use Rattle.edf_time.specs.Civil.{IsDateText, IsTimeText, IsIdDate}
 use Rattle.edf_field.specs.Text.{IsPrintable}
 use Rattle.edf_field.specs.Number.{IsNumber}
@@ -69,8 +69,7 @@ abbrev pub spelled_layout : Key → ℕ → ℕ → ℕ → Layout
 spelled_layout k start count block = record {
   key = k;
   start = start;
-  count = count;
-  block_at = 2 * samples_in_all k.signals;
-  block_bytes = 2 * block;
+  count = Some count;
+  blocks = record { at = 2 * samples_in_all k.signals; bytes = 2 * block } ∷ [];
   record_bytes = 2 * (samples_in_all k.signals + block);
 }

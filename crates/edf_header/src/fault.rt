@@ -34,8 +34,8 @@ pub enum HeaderFault {
     /// E9: the reserved field does not begin with `EDF+C` or `EDF+D`.
     #[error("the file is not EDF+")]
     NotPlus,
-    /// E10: the number of data records is no whole number from 1 on.
-    #[error("the number of data records is not a whole number from 1 on")]
+    /// E10: the number of data records is no whole number from 1 on, and not `-1` and six spaces.
+    #[error("the number of data records is not a whole number from 1 on, and not -1")]
     Count,
     /// E11: the duration of a data record is no decimal above 0.
     #[error("the duration of a data record is not a decimal above 0")]
@@ -52,9 +52,10 @@ pub enum HeaderFault {
     /// E15: a byte of the signal part is not 32 to 126.
     #[error("byte {offset} is not printable")]
     UnprintableSignals { offset: usize },
-    /// E16: not exactly one signal is labelled `EDF Annotations` and a space; or its digital minimum is not -32,768, its maximum
-    /// not 32,767; or its physical ones are no numbers, or equal.
-    #[error("there is not exactly one well-formed annotations signal")]
+    /// E16: no signal is labelled `EDF Annotations` and a space, or every signal; or of one so labelled
+    /// the digital minimum is not -32,768, the maximum not 32,767, or the physical ones are no numbers,
+    /// or equal.
+    #[error("no annotations signal, no ordinary one, or an annotations signal is not well-formed")]
     Annotations,
     /// E17: an ordinary signal's physical minimum and maximum are no numbers, or equal.
     #[error("signal {signal} has no two different physical values")]
@@ -65,7 +66,8 @@ pub enum HeaderFault {
     /// E19: a signal's samples per data record are no whole number from 1 on.
     #[error("signal {signal} has no samples per data record")]
     Samples { signal: u32 },
-    /// E20: the ordinary samples or the annotations of a data record have more than 4,194,304 bytes.
+    /// E20: the ordinary samples of a data record, or its annotations blocks together, have more than
+    /// 4,194,304 bytes.
     #[error("a data record is too large")]
     Size,
     /// E41: memory ran out.

@@ -24,7 +24,7 @@ pub struct Fixed {
     recording: [u8; 80],
     startdate: Option<Day>,
     start: Instant,
-    count: u32,
+    count: Option<u32>,
     duration: [u8; 8],
     nanos: u64,
     signals: usize,
@@ -44,8 +44,8 @@ impl Model for Fixed {
 }
 
 impl Fixed {
-    /// The number of signals, 2 to 640, bytes 252 to 255 of the header, the annotations signal among them: so many headers of 256
-    /// bytes follow the fixed part.
+    /// The number of signals, 2 to 640, bytes 252 to 255 of the header, the annotations signals among
+    /// them: so many headers of 256 bytes follow the fixed part.
     pub fn signals(&self) -> usize
         ensures value { result ≡ self.now.signal_count }
         ensures from { 2 ≤ result }
@@ -86,8 +86,8 @@ impl Fixed {
         self.start
     }
 
-    /// The number of data records.
-    pub(crate) fn count(&self) -> u32
+    /// The number of data records, or none where the field is `-1`.
+    pub(crate) fn count(&self) -> Option<u32>
         ensures { result ≡ self.now.count }
     {
         self.count
@@ -113,7 +113,7 @@ fn fixed_of(
     bytes: &[u8; 256],
     startdate: Option<Day>,
     start: Instant,
-    count: u32,
+    count: Option<u32>,
     nanos: u64,
     signals: u32,
 ) -> Fixed
@@ -140,7 +140,8 @@ fn fixed_of(
 ///
 /// The fields are those of EDF with the identification fields of EDF+: version, bytes 0 to 7; patient, 8 to 87; recording, 88 to
 /// 167; startdate, 168 to 175; starttime, 176 to 183; number of header bytes, 184 to 191; reserved, 192 to 235, which begins with
-/// `EDF+C` or `EDF+D`; number of data records, 236 to 243; duration of a data record, 244 to 251; number of signals, 252 to 255.
+/// `EDF+C` or `EDF+D`; number of data records, 236 to 243, `-1` while the recording goes on;
+/// duration of a data record, 244 to 251; number of signals, 252 to 255.
 ///
 /// # Errors
 /// The first fault of E2 to E13 in the order of their numbers: `Unprintable` with the offset of the first such byte, `Version`,

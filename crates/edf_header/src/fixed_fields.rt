@@ -5,7 +5,7 @@ ghost use Rattle.edf_time.specs.Civil.{IsCivil, IsDateText};
 ghost use Rattle.edf_field.specs.Number.{field, IsDuration, IsNumber};
 ghost use Rattle.edf_field.specs.Text.{IsPrintable, IsPatient, IsRecording, after_of};
 ghost use Rattle.edf_header.specs.Fields.{version_field, patient_field, recording_field, startdate_field, starttime_field, header_bytes_field, reserved_field, count_field, duration_field};
-ghost use Rattle.edf_header.specs.Header.{IsPlus, IsSameDay};
+ghost use Rattle.edf_header.specs.Header.{IsCount, IsPlus, IsSameDay};
 ghost use Rattle.edf_header.specs.Fault.{FixedPartFails, IsClean, IsFirst, HasSignals};
 
 use crate::fault::HeaderFault;
@@ -141,15 +141,20 @@ pub(crate) fn check_plus(bytes: &[u8; 256]) -> Result<(), HeaderFault>
     Ok(())
 }
 
-/// The number of data records, bytes 236 to 243; or E10 is the first fault.
-pub(crate) fn read_count(bytes: &[u8; 256]) -> Result<u32, HeaderFault>
+/// The number of data records, bytes 236 to 243, or none where that is `-1`; or E10 is the first
+/// fault.
+pub(crate) fn read_count(bytes: &[u8; 256]) -> Result<Option<u32>, HeaderFault>
     requires { IsClean (FixedPartFails bytes.now) 10 }
     ensures { MatchResult result
-        (λ count. IsNumber (count_field bytes.now) count × (1 ≤ count) × IsClean (FixedPartFails bytes.now) 11)
+        (λ count. IsCount (count_field bytes.now) count × IsClean (FixedPartFails bytes.now) 11)
         (IsFirst (FixedPartFails bytes.now)) }
 {
-    match read_whole(&bytes[COUNT..DURATION]) {
-        Some(count) if count >= 1 => Ok(count),
+    let text = &bytes[COUNT..DURATION];
+    if text == b"-1      ".as_slice() {
+        return Ok(None);
+    }
+    match read_whole(text) {
+        Some(count) if count >= 1 => Ok(Some(count)),
         _ => Err(HeaderFault::Count),
     }
 }

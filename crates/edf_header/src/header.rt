@@ -1,24 +1,37 @@
 ghost use Rattle.std.specs.Prelude.{◌≡◌};
-ghost use Rattle.edf_header.specs.Header.{Layout, IsLayout};
+ghost use Rattle.edf_header.specs.Header.{Layout, IsLayout, block_bytes};
 
 use crate::identity::Identity;
 use edf_time::Instant;
 use std::marker::Model;
 
-/// What a header says of its data records: whose they are, from where their onsets count, how many there are, and where the
-/// annotations block stands in each (EDF, header record and data records; EDF+, the annotations signal).
+/// An annotations block: where the samples of one annotations signal stand in each data record
+/// (EDF+, the annotations signal).
+#[derive(Clone, Copy, Debug, PartialEq, Eq)]
+pub struct Block {
+    /// At which byte of the data record it begins, from 0: two for each sample of the signals before
+    /// it.
+    pub at: usize,
+    /// How many bytes it has, two for each sample.
+    pub bytes: usize,
+}
+
+/// What a header says of its data records: whose they are, from where their onsets count, how many
+/// there are, and where the annotations blocks stand in each (EDF, header record and data records;
+/// EDF+, the annotations signals).
 #[derive(Drop)]
 pub struct Header {
     pub(crate) identity: Identity,
     pub(crate) start: Instant,
-    pub(crate) count: u32,
-    pub(crate) block_at: usize,
-    pub(crate) block_bytes: usize,
+    pub(crate) count: Option<u32>,
+    pub(crate) blocks: Vec<Block>,
+    pub(crate) annotations_bytes: usize,
     pub(crate) record_bytes: usize,
 }
 
 impl Model for Header {
-    ghost use Rattle.edf_header.specs.Header.{Layout, IsLayout};
+    ghost use Rattle.std.specs.Prelude.{◌≡◌};
+    ghost use Rattle.edf_header.specs.Header.{Layout, IsLayout, block_bytes};
 
     ghost Value = { Layout };
 
@@ -26,19 +39,17 @@ impl Model for Header {
       key = h.identity;
       start = h.start;
       count = h.count;
-      block_at = h.block_at;
-      block_bytes = h.block_bytes;
+      blocks = h.blocks.items;
       record_bytes = h.record_bytes;
     } };
 
-    ghost invariant = { λ h. IsLayout (record {
+    ghost invariant = { λ h. let layout : Layout = record {
       key = h.identity;
       start = h.start;
       count = h.count;
-      block_at = h.block_at;
-      block_bytes = h.block_bytes;
+      blocks = h.blocks.items;
       record_bytes = h.record_bytes;
-    }) };
+    } in IsLayout layout × (h.annotations_bytes ≡ block_bytes layout) };
 }
 
 impl Header {
@@ -63,29 +74,31 @@ impl Header {
         self.start
     }
 
-    /// How many data records there are: 1 to 99,999,999, bytes 236 to 243 of the header.
-    pub fn count(&self) -> u32
+    /// How many data records there are, bytes 236 to 243 of the header: 1 to 99,999,999. None where
+    /// the field is `-1`, as it is while the recording goes on: then there are as many as follow.
+    pub fn count(&self) -> Option<u32>
         ensures value { result ≡ self.now.count }
         ensures layout { IsLayout self.now }
     {
         self.count
     }
 
-    /// At which byte of a data record, from 0, the annotations block begins: two for each sample of the signals before it.
-    pub fn block_at(&self) -> usize
-        ensures value { result ≡ self.now.block_at }
+    /// The annotations blocks of a data record, one for each annotations signal, in file order: one
+    /// or more. Each has 2 bytes or more, and begins where the one before it ends, or after that.
+    pub fn blocks(&self) -> &[Block]
+        ensures value { result.now ≡ self.now.blocks }
         ensures layout { IsLayout self.now }
     {
-        self.block_at
+        self.blocks.as_slice()
     }
 
-    /// How many bytes the annotations block has in each data record: 2 to 4,194,304, two for each sample of the annotations
-    /// signal.
+    /// How many bytes the annotations blocks have together in each data record: 2 to 4,194,304, two
+    /// for each sample of the annotations signals.
     pub fn block_bytes(&self) -> usize
-        ensures value { result ≡ self.now.block_bytes }
+        ensures value { result ≡ block_bytes self.now }
         ensures layout { IsLayout self.now }
     {
-        self.block_bytes
+        self.annotations_bytes
     }
 
     /// How many bytes a data record has, two for each sample of all signals: at most 8,388,608.

@@ -1,53 +1,97 @@
 //! Loops over the signals of a header, whose fields stand in columns. Each signal in turn is laid out in a row on the stack, so that
 //! the checks take no memory.
-ghost use Rattle.std.specs.Prelude.{◌≡◌, ℕ, ◌+◌, ◌*◌, ◌≤◌, ◌<◌, ◌++◌, List, length, take, drop, OnOk, MatchOption, All};
+ghost use Rattle.std.specs.Prelude.{◌≡◌, ◌*◌, ◌≤◌, ◌++◌, length, OnOk, IfOk, MatchOption, All};
 ghost use Rattle.std.specs.List.{flat_map};
-ghost use Rattle.edf_header.specs.Signal.{signals_of, ordinary, HasSamples, Passes, IsFirstBad, samples_in_all};
+ghost use Rattle.edf_header.specs.Signal.{signals_of, labelled, ordinary};
+ghost use Rattle.edf_header.specs.Signal.{HasSamples, Passes, IsFirstBad};
+ghost use Rattle.edf_header.specs.Header.{blocks_from};
+ghost use Rattle.edf_header.specs.Inside.Rows.{ArePartBytes};
 
 use crate::columns::row_from;
-use crate::fields::{SAMPLES, SIGNAL_RESERVED};
-use crate::signal_checks::{Check, is_labelled, passes};
-use edf_field::read_whole;
-use std::alloc::AllocError;
+use crate::header::Block;
+use crate::signal_checks::{Check, is_labelled, passes, samples_of};
+use std::alloc::{AllocError, Global};
 
-/// How far behind this place the first signal stands that fails a check.
-pub(crate) fn first_bad_from(check: Check, bytes: &[u8], n: usize, from: usize) -> Option<usize>
+/// The place of the first signal that fails a check.
+pub(crate) fn first_bad_signal(check: Check, bytes: &[u8], n: usize) -> Option<usize>
     requires size { length bytes.now ≡ 256 * n }
     requires few { n ≤ 640 }
-    requires inside { from ≤ n }
     ensures { MatchOption result
-        (All (Passes check) (drop from (signals_of bytes.now n)))
-        (IsFirstBad (Passes check) (drop from (signals_of bytes.now n))) }
+        (All (Passes check) (signals_of bytes.now n))
+        (IsFirstBad (Passes check) (signals_of bytes.now n)) }
 {
-    for i in 0..n - from {
-        if !passes(check, &row_from(bytes, n, from + i)) {
+    for i in 0..n {
+        if !passes(check, &row_from(bytes, n, i)) {
             return Some(i);
         }
     }
     None
 }
 
-/// How many samples the ordinary signals before this place have in a data record.
-pub(crate) fn ordinary_samples_before(bytes: &[u8], n: usize, to: usize) -> u64
+/// How many annotations signals there are, by their label.
+pub(crate) fn count_labelled(bytes: &[u8], n: usize) -> usize
     requires size { length bytes.now ≡ 256 * n }
     requires few { n ≤ 640 }
-    requires inside { to ≤ n }
-    requires each { All HasSamples (signals_of bytes.now n) }
-    ensures value { result ≡ samples_in_all (ordinary (take to (signals_of bytes.now n))) }
-    ensures bound { result ≤ 64_000_000_000 }
+    ensures { result ≡ length (labelled (signals_of bytes.now n)) }
 {
-    let mut total = 0;
-    for i in 0..to {
-        let row = row_from(bytes, n, i);
-        if is_labelled(&row) {
-            continue;
+    let mut count = 0;
+    for i in 0..n {
+        if is_labelled(&row_from(bytes, n, i)) {
+            count += 1;
         }
-        let Some(samples) = read_whole(&row[SAMPLES..SIGNAL_RESERVED]) else {
-            continue;
-        };
-        total += u64::from(samples);
     }
-    total
+    count
+}
+
+/// How many bytes the ordinary signals have in a data record, and how many the annotations signals.
+#[derive(Clone, Copy)]
+pub(crate) struct PartBytes {
+    pub(crate) ordinary: u64,
+    pub(crate) annotations: u64,
+}
+
+/// How many bytes the signals of either kind have in a data record.
+pub(crate) fn part_bytes(bytes: &[u8], n: usize) -> PartBytes
+    requires size { length bytes.now ≡ 256 * n }
+    requires few { n ≤ 640 }
+    requires each { All HasSamples (signals_of bytes.now n) }
+    ensures { ArePartBytes (signals_of bytes.now n) result }
+{
+    let mut ordinary = 0;
+    let mut annotations = 0;
+    for i in 0..n {
+        let row = row_from(bytes, n, i);
+        let size = 2 * u64::from(samples_of(&row));
+        if is_labelled(&row) {
+            annotations += size;
+        } else {
+            ordinary += size;
+        }
+    }
+    PartBytes {
+        ordinary,
+        annotations,
+    }
+}
+
+/// The annotations blocks of a data record, in file order.
+pub(crate) fn blocks_of(alloc: Global, bytes: &[u8], n: usize) -> Result<Vec<Block>, AllocError>
+    requires size { length bytes.now ≡ 256 * n }
+    requires few { n ≤ 640 }
+    requires each { All HasSamples (signals_of bytes.now n) }
+    ensures { IfOk result (λ v. v.items ≡ blocks_from 0 (signals_of bytes.now n)) }
+{
+    let mut blocks = Vec::new(alloc);
+    let mut at = 0;
+    for i in 0..n {
+        let row = row_from(bytes, n, i);
+        let size = 2 * samples_of(&row) as usize;
+        if is_labelled(&row) {
+            blocks.push(Block { at, bytes: size })?;
+        }
+        at += size;
+    }
+    Ok(blocks)
 }
 
 /// Copies the ordinary signals, each in a row.

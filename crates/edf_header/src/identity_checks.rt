@@ -1,6 +1,6 @@
 //! The checks of the bytes of an identity, in the order of their faults.
 
-ghost use Rattle.std.specs.Prelude.{◌≡◌, ◌≤◌, ◌+◌, ◌*◌, ◌↔◌, IsTrue, MatchResult, All, length};
+ghost use Rattle.std.specs.Prelude.{◌≡◌, ◌≢◌, ◌≤◌, ◌+◌, ◌*◌, ◌↔◌, IsTrue, MatchResult, All, length};
 ghost use Rattle.edf_field.specs.Number.{duration_of};
 ghost use Rattle.edf_field.specs.Text.{IsBehindStartdate};
 ghost use Rattle.edf_header.specs.Signal.{samples_in_all, Passes, rows_of, ordinary, HasSamples};
@@ -90,6 +90,7 @@ fn check_front(bytes: &[u8]) -> Result<u64, IdentityFault>
 /// Looks for the first signal that fails a check.
 fn check_signals(check: Check, bytes: &[u8]) -> Result<(), IdentityFault>
     requires length { HasLength bytes.now }
+    requires ordinary { check ≢ Check.Annotations }
     requires clean { IsCleanKey bytes.now (place_of_check check) }
     ensures { MatchResult result
         (λ _. All (Passes check) (signals_at bytes.now) × IsCleanKey bytes.now (place_of_check check + 1))
@@ -101,6 +102,7 @@ fn check_signals(check: Check, bytes: &[u8]) -> Result<(), IdentityFault>
     let signal = at as u32 + 1;
     Err(match check {
         Check::Label => IdentityFault::Label(signal),
+        Check::Annotations => unreachable!(),
         Check::Physical => IdentityFault::Physical(signal),
         Check::Digital => IdentityFault::Digital(signal),
         Check::Samples => IdentityFault::Samples(signal),

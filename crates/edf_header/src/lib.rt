@@ -28,6 +28,6 @@ mod signals;
 pub use canonical::write_header;
 pub use fault::HeaderFault;
 pub use fixed::{Fixed, read_fixed};
-pub use header::Header;
+pub use header::{Block, Header};
 pub use identity::{Identity, IdentityFault};
 pub use signals::read_signals;

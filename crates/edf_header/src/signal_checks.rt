@@ -1,7 +1,7 @@
-ghost use Rattle.std.specs.Prelude.{◌≡◌, ℕ, List, length, MatchOption, IsTrue, ◌↔◌, All};
+ghost use Rattle.std.specs.Prelude.{◌≡◌, ◌<◌, ℕ, List, length, MatchOption, IsTrue, ◌↔◌, All};
 ghost use Rattle.edf_field.specs.Text.{IsPrintable};
-ghost use Rattle.edf_header.specs.Signal.{rows_of, HasPhysical, HasDigital, HasSamples, IsLabelled, Passes, IsFirstBad};
-ghost use Rattle.edf_header.specs.Inside.Shape.{has_label};
+ghost use Rattle.edf_header.specs.Signal.{rows_of, has_label, samples, IsLabelled, IsFirstBad, Passes};
+ghost use Rattle.edf_header.specs.Signal.{HasPhysical, HasDigital, HasSamples, IsAnnotationsSignal};
 
 use crate::fields::{
     DIGITAL_MAXIMUM, DIGITAL_MINIMUM, LABEL, PHYSICAL_MAXIMUM, PHYSICAL_MINIMUM, PREFILTERING,
@@ -14,6 +14,8 @@ use edf_field::{physical_values_differ, read_signed, read_whole};
 pub enum Check {
     /// That it is an ordinary signal.
     Label,
+    /// Its physical and digital values, where it is an annotations signal.
+    Annotations,
     /// Its physical minimum and maximum, where it is an ordinary signal.
     Physical,
     /// Its digital minimum and maximum, where it is an ordinary signal.
@@ -23,7 +25,7 @@ pub enum Check {
 }
 
 /// Whether the physical minimum and maximum are numbers that differ.
-pub(crate) fn has_physical(row: &[u8]) -> bool
+fn has_physical(row: &[u8]) -> bool
     requires { length row.now ≡ 256 }
     ensures { IsTrue result ↔ HasPhysical row.now }
 {
@@ -67,6 +69,35 @@ pub(crate) fn is_labelled(row: &[u8]) -> bool
     &row[LABEL..TRANSDUCER] == b"EDF Annotations ".as_slice()
 }
 
+/// Whether a signal is an annotations signal, with the digital and physical values that it needs.
+fn is_annotations(row: &[u8]) -> bool
+    requires { length row.now ≡ 256 }
+    ensures { IsTrue result ↔ IsAnnotationsSignal row.now }
+{
+    match (
+        read_signed(&row[DIGITAL_MINIMUM..DIGITAL_MAXIMUM]),
+        read_signed(&row[DIGITAL_MAXIMUM..PREFILTERING]),
+    ) {
+        (Some(low), Some(high)) => {
+            is_labelled(row) && has_physical(row) && low == -32_768 && high == 32_767
+        }
+        _ => false,
+    }
+}
+
+/// How many samples a signal has in a data record.
+pub(crate) fn samples_of(row: &[u8]) -> u32
+    requires size { length row.now ≡ 256 }
+    requires samples { HasSamples row.now }
+    ensures value { result ≡ samples row.now }
+    ensures bound { result < 100_000_000 }
+{
+    match read_whole(&row[SAMPLES..SIGNAL_RESERVED]) {
+        Some(n) => n,
+        None => unreachable!(),
+    }
+}
+
 /// Whether a signal passes a check.
 pub(crate) fn passes(check: Check, row: &[u8]) -> bool
     requires { length row.now ≡ 256 }
@@ -74,6 +105,7 @@ pub(crate) fn passes(check: Check, row: &[u8]) -> bool
 {
     match check {
         Check::Label => !is_labelled(row),
+        Check::Annotations => !is_labelled(row) || is_annotations(row),
         Check::Physical => is_labelled(row) || has_physical(row),
         Check::Digital => is_labelled(row) || has_digital(row),
         Check::Samples => has_samples(row),

@@ -1,63 +1,30 @@
-ghost use Rattle.std.specs.Prelude.{◌≡◌, ℕ, ◌+◌, ◌*◌, ◌≤◌, ◌<◌, ◌↔◌, IsTrue, MatchOption, MatchResult, All, length};
-ghost use Rattle.edf_field.specs.Number.{IsSigned, signed_value};
-ghost use Rattle.edf_header.specs.Signal.{signals_of, IsAnnotationsSignal, IsLabelled, Passes};
-ghost use Rattle.edf_header.specs.Header.{HeaderRecord, AreSignals, layout_of};
-ghost use Rattle.edf_header.specs.Fault.{HasAnnotations, IsBadSignal, IsTooLarge, IsFirst, IsSignalsRefusal};
-ghost use Rattle.edf_header.specs.Inside.Rows.{RowsFail, IsSplit, IsSound, AreExtents};
+ghost use Rattle.std.specs.Prelude.{◌≡◌, ◌*◌, ◌≤◌, ◌↔◌, length};
+ghost use Rattle.std.specs.Prelude.{IfOk, IsTrue, MatchOption, MatchResult, All};
+ghost use Rattle.edf_header.specs.Signal.{signals_of, Passes};
+ghost use Rattle.edf_header.specs.Header.{HeaderRecord, IsFixed, AreSignals, layout_of};
+ghost use Rattle.edf_header.specs.Fault.{HasAnnotations, IsBadSignal, IsFirst, IsSignalsRefusal};
+ghost use Rattle.edf_header.specs.Inside.Rows.{RowsFail, IsSound, ArePartBytes, header_of};
 
-use crate::columns::row_from;
 use crate::fault::HeaderFault;
-use crate::fields::{
-    DIGITAL_MAXIMUM, DIGITAL_MINIMUM, MOST_PART_BYTES, PREFILTERING, SAMPLES, SIGNAL_RESERVED,
-};
+use crate::fields::MOST_PART_BYTES;
 use crate::fixed::Fixed;
 use crate::header::Header;
-use crate::header_signals::{first_bad_from, ordinary_samples_before};
+use crate::header_signals::{PartBytes, blocks_of, count_labelled, first_bad_signal, part_bytes};
 use crate::identity::Identity;
-use crate::signal_checks::{Check, first_unprintable, has_physical, is_labelled};
-use edf_field::{read_signed, read_whole};
-use std::alloc::Global;
+use crate::signal_checks::{Check, first_unprintable};
+use std::alloc::{AllocError, Global};
 
-/// Where the annotations block stands in a data record, and how long both are, in bytes.
-#[derive(Clone, Copy)]
-struct Extents {
-    block_at: usize,
-    block_bytes: usize,
-    record_bytes: usize,
-}
-
-/// Whether a signal is an annotations signal, with the digital and physical values that it must have.
-fn is_annotations(row: &[u8]) -> bool
-    requires { length row.now ≡ 256 }
-    ensures { IsTrue result ↔ IsAnnotationsSignal row.now }
-{
-    match (
-        read_signed(&row[DIGITAL_MINIMUM..DIGITAL_MAXIMUM]),
-        read_signed(&row[DIGITAL_MAXIMUM..PREFILTERING]),
-    ) {
-        (Some(low), Some(high)) => {
-            is_labelled(row) && has_physical(row) && low == -32_768 && high == 32_767
-        }
-        _ => false,
-    }
-}
-
-/// The place of the one annotations signal.
-fn find_annotations(bytes: &[u8], n: usize) -> Option<usize>
+/// Whether some signals are annotations signals, with what these must have, and some are not.
+fn has_annotations(bytes: &[u8], n: usize) -> bool
     requires size { length bytes.now ≡ 256 * n }
     requires few { n ≤ 640 }
-    ensures { MatchOption result (¬ HasAnnotations (signals_of bytes.now n)) (IsSplit (signals_of bytes.now n)) }
+    ensures { IsTrue result ↔ HasAnnotations (signals_of bytes.now n) }
 {
-    let Some(at) = first_bad_from(Check::Label, bytes, n, 0) else {
-        return None;
-    };
-    if !is_annotations(&row_from(bytes, n, at)) {
-        return None;
+    let labelled = count_labelled(bytes, n);
+    if labelled == 0 || labelled == n {
+        return false;
     }
-    match first_bad_from(Check::Label, bytes, n, at + 1) {
-        Some(_) => None,
-        None => Some(at),
-    }
+    first_bad_signal(Check::Annotations, bytes, n).is_none()
 }
 
 /// The first signal that fails a check, counted from 1.
@@ -66,51 +33,23 @@ fn bad_signal(check: Check, bytes: &[u8], n: usize) -> Option<u32>
     requires few { n ≤ 640 }
     ensures { MatchOption result (All (Passes check) (signals_of bytes.now n)) (IsBadSignal check (signals_of bytes.now n)) }
 {
-    match first_bad_from(check, bytes, n, 0) {
+    match first_bad_signal(check, bytes, n) {
         Some(at) => Some(at as u32 + 1),
         None => None,
     }
 }
 
-/// Where the annotations block stands, unless a data record is too large.
-fn extents_at(bytes: &[u8], n: usize, at: usize) -> Option<Extents>
-    requires size { length bytes.now ≡ 256 * n }
-    requires few { n ≤ 640 }
-    requires split { IsSplit (signals_of bytes.now n) at }
-    requires samples { All (Passes Check.Samples) (signals_of bytes.now n) }
-    ensures { MatchOption result
-        (IsTooLarge (signals_of bytes.now n))
-        (λ extents. AreExtents (signals_of bytes.now n) at extents × ¬ IsTooLarge (signals_of bytes.now n)) }
-{
-    let ordinary = 2 * ordinary_samples_before(bytes, n, n);
-    let block = match read_whole(&row_from(bytes, n, at)[SAMPLES..SIGNAL_RESERVED]) {
-        Some(samples) => 2 * u64::from(samples),
-        None => unreachable!(),
-    };
-    if ordinary > MOST_PART_BYTES {
-        return None;
-    }
-    if block > MOST_PART_BYTES {
-        return None;
-    }
-    Some(Extents {
-        block_at: 2 * ordinary_samples_before(bytes, n, at) as usize,
-        block_bytes: block as usize,
-        record_bytes: (ordinary + block) as usize,
-    })
-}
-
-/// Checks all signals, and finds where the annotations block stands.
-fn check_signals(bytes: &[u8], n: usize) -> Result<Extents, HeaderFault>
+/// Checks all signals, and finds how many bytes those of either kind have in a data record.
+fn check_signals(bytes: &[u8], n: usize) -> Result<PartBytes, HeaderFault>
     requires size { length bytes.now ≡ 256 * n }
     requires few { n ≤ 640 }
     ensures { MatchResult result
-        (λ extents. (at : ℕ) × IsSound (signals_of bytes.now n) at × AreExtents (signals_of bytes.now n) at extents)
+        (λ parts. IsSound (signals_of bytes.now n) × ArePartBytes (signals_of bytes.now n) parts)
         (IsFirst (RowsFail (signals_of bytes.now n))) }
 {
-    let Some(at) = find_annotations(bytes, n) else {
+    if !has_annotations(bytes, n) {
         return Err(HeaderFault::Annotations);
-    };
+    }
     if let Some(signal) = bad_signal(Check::Physical, bytes, n) {
         return Err(HeaderFault::Physical { signal });
     }
@@ -120,14 +59,41 @@ fn check_signals(bytes: &[u8], n: usize) -> Result<Extents, HeaderFault>
     if let Some(signal) = bad_signal(Check::Samples, bytes, n) {
         return Err(HeaderFault::Samples { signal });
     }
-    match extents_at(bytes, n, at) {
-        Some(extents) => Ok(extents),
-        None => Err(HeaderFault::Size),
+    let parts = part_bytes(bytes, n);
+    if parts.ordinary > MOST_PART_BYTES || parts.annotations > MOST_PART_BYTES {
+        return Err(HeaderFault::Size);
     }
+    Ok(parts)
+}
+
+/// The header of a fixed part and of signals that have no fault.
+fn header_from(
+    alloc: Global,
+    fixed: &Fixed,
+    bytes: &[u8],
+    parts: PartBytes,
+) -> Result<Header, AllocError>
+    requires fixed { IsFixed fixed.now }
+    requires signals { let signals = signals_of bytes.now fixed.now.signal_count in
+        AreSignals bytes.now (header_of fixed.now signals) }
+    requires parts { ArePartBytes (signals_of bytes.now fixed.now.signal_count) parts }
+    ensures { let signals = signals_of bytes.now fixed.now.signal_count in
+        IfOk result (λ r. r ≡ layout_of (header_of fixed.now signals)) }
+{
+    let identity = Identity::from_header(alloc, fixed, bytes, parts.ordinary as usize)?;
+    let blocks = blocks_of(alloc, bytes, fixed.signals())?;
+    Ok(Header {
+        identity,
+        start: fixed.start(),
+        count: fixed.count(),
+        blocks,
+        annotations_bytes: parts.annotations as usize,
+        record_bytes: (parts.ordinary + parts.annotations) as usize,
+    })
 }
 
 /// Reads the signal part of a header, which stands behind the fixed part: 256 bytes a signal, field by field, each for all
-/// signals in turn (EDF, header record; EDF+, the annotations signal).
+/// signals in turn (EDF, header record; EDF+, the annotations signals).
 ///
 /// The ten fields with their bytes, and where they stand in a signal's row, in which they are laid one behind the other: label
 /// 16 at 0; transducer type 80 at 16; physical dimension 8 at 96; physical minimum 8 at 104; physical maximum 8 at 112; digital
@@ -151,20 +117,12 @@ pub fn read_signals(alloc: Global, fixed: Fixed, bytes: &[u8]) -> Result<Header,
     if let Some(at) = first_unprintable(bytes) {
         return Err(HeaderFault::UnprintableSignals { offset: 256 + at });
     }
-    let extents = match check_signals(bytes, n) {
-        Ok(extents) => extents,
+    let parts = match check_signals(bytes, n) {
+        Ok(parts) => parts,
         Err(fault) => return Err(fault),
     };
-    let ordinary_bytes = extents.record_bytes - extents.block_bytes;
-    let Ok(identity) = Identity::from_header(alloc, &fixed, bytes, ordinary_bytes) else {
-        return Err(HeaderFault::Memory);
-    };
-    Ok(Header {
-        identity,
-        start: fixed.start(),
-        count: fixed.count(),
-        block_at: extents.block_at,
-        block_bytes: extents.block_bytes,
-        record_bytes: extents.record_bytes,
-    })
+    match header_from(alloc, &fixed, bytes, parts) {
+        Ok(header) => Ok(header),
+        Err(_) => Err(HeaderFault::Memory),
+    }
 }

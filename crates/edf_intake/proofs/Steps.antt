@@ -3,7 +3,7 @@ use Rattle.std.proofs.Common.{◌≡◌, ℕ, ◌+◌, ◌-◌, ◌<◌, ◌≤�
 use Rattle.sqlite_trees.specs.declared.store.Store.{Ghosts}
 use Rattle.sqlite.specs.State.{HasCleanDisk}
 use Rattle.edf_field.specs.Number.{duration_of}
-use Rattle.edf_header.specs.Header.{Layout}
+use Rattle.edf_header.specs.Header.{Layout, most_records}
 use Rattle.edf_fragment.specs.Fragment.{DataRecord}
 use Rattle.edf_fragment.specs.Reading.{ReadsHeader, IsAnswer, at_first}
 use Rattle.edf_fragment.specs.Whole.{HasRead, ReadsFragment}
@@ -31,7 +31,7 @@ seen_is_one g now h t clean a b =
     one-holdings (at g now).now.trees h t now.cap now.cap p.stand p.sound q.stand q.sound
 
 module _ {S : Type 0} (g : Ghosts S) (first : Kept S) (l : Layout) (before left : Option (List ℕ)) (header : ReadsHeader before left l) (room : ℕ)
-    (space : HasCleanDisk (at g first) → (h : Holdings) → Sees g first h → IsRoom first.cap (length (h l.key)) l.count room) where
+    (space : HasCleanDisk (at g first) → (h : Holdings) → Sees g first h → IsRoom first.cap (length (h l.key)) (most_records l.count) room) where
   held_apart : HasCleanDisk (at g first) → (h : Holdings) → Sees g first h → IsApart (duration_of l.key.duration) 0 (h l.key)
   held_apart clean h seen = (IsGood-from_sound first.cap h (seen clean).sound).apart l.key
 
@@ -63,7 +63,7 @@ module _ {S : Type 0} (g : Ghosts S) (first : Kept S) (l : Layout) (before left 
 
   -- one record more
   pub one_turn : (now next : Kept S) (mid rest : Option (List ℕ)) (p q : Progress) (from to : Tally) (r : DataRecord) → Walking g first now l left mid p from
-      → p.status ≡ Reading → IsAnswer l p q mid rest (Ok (Some r)) → q.given ≡ p.given + 1 → p.given < l.count
+      → p.status ≡ Reading → IsAnswer l p q mid rest (Ok (Some r)) → q.given ≡ p.given + 1 → p.given < most_records l.count
       → (HasCleanDisk (at g next) → HasCleanDisk (at g now)) → (HasCleanDisk (at g now) → HasCleanDisk (at g first))
       → (HasCleanDisk (at g next) → (h : Holdings) → Sees g now h → (t : Holdings) × Sees g next t × IsNext room l.key r h from t to)
       → to.new + to.known ≤ from.new + from.known + 1
@@ -77,7 +77,7 @@ module _ {S : Type 0} (g : Ghosts S) (first : Kept S) (l : Layout) (before left 
             let m = w.met (was clean) h seen in
             let n = step clean m.0 m.1 in
             let some = space (first_was (was clean)) h seen in
-            let next = next_in_all first.cap (length (h l.key)) l.count room l.key r m.0 from n.0 to some (omega (arith, w.counted, wanted)) n.2 in (
+            let next = next_in_all first.cap (length (h l.key)) (most_records l.count) room l.key r m.0 from n.0 to some (omega (arith, w.counted, wanted)) n.2 in (
               n.0,
               n.1,
               met_next first.cap (first.cap - length (h l.key)) l.key h (read-key before left l header) (held_apart (first_was (was clean)) h seen) (omega (arith, some.fits)) w.records r

@@ -1,15 +1,17 @@
 //! A whole fragment inside a transaction.
 
-ghost use Rattle.std.specs.Prelude.{◌≡◌, ◌≢◌, ◌+◌, ◌≤◌, ℕ, List, Some, None, Err, false, length, IfOk, IfErr, IfSome};
+ghost use Rattle.std.specs.Prelude.{◌≡◌, ◌≢◌, ◌+◌, ◌≤◌, ℕ, List, Some, None, Err, true, false, length, IfOk, IfErr, IfSome};
 ghost use Rattle.sqlite.specs.State.{HasCleanDisk};
+ghost use Rattle.edf_field.specs.Number.{duration_of};
 ghost use Rattle.edf_header.specs.Key.{Key};
+ghost use Rattle.edf_header.specs.Header.{most_records};
 ghost use Rattle.edf_fragment.specs.Fragment.{DataRecord};
 ghost use Rattle.edf_fragment.specs.Told.{Fragment};
 ghost use Rattle.edf_holdings.specs.Holdings.{Holdings};
 ghost use Rattle.edf_holdings.specs.Reply.{reply};
 ghost use Rattle.edf_store.specs.Fault.{IsStoreRefusal};
 ghost use Rattle.edf_store.specs.Held.{at, Stays};
-ghost use Rattle.edf_store.specs.Transaction.{Sees, IsRunning, IsOf, HasAtMost, IsWhole};
+ghost use Rattle.edf_store.specs.Transaction.{Sees, IsRunning, IsOf, SeesAsBefore, HasNoMore, HasAtMost, IsWhole, TellsRoom};
 ghost use Rattle.edf_intake.specs.Refusal.{reply_told};
 ghost use Rattle.edf_intake.specs.Inside.Step.{IsRoom, IsTally};
 ghost use Rattle.edf_intake.specs.Inside.Taken.{IsConflict, IsTaken, IsStop};
@@ -18,16 +20,45 @@ use crate::answer::{Receipt, Refusal, Stop};
 use crate::walk::{Recording, Starts, Tally, take_records};
 use edf_fragment::{Input, OpenFragment};
 use edf_header::Identity;
-use edf_store::{StoreFault, StoreTx};
+use edf_store::{RecordingId, StoreFault, StoreTx};
 use sqlite::Alter;
 use std::alloc::Global;
 
-/// The recording of an identity, which is made where it is missing, with room for `count` data records if it has so much.
+/// The room for the data records of a fragment, where their number is known and the recording has it.
+fn known_room<S: Alter>(
+    transaction: &mut StoreTx<'_, S>,
+    id: RecordingId,
+    duration: u64,
+    count: Option<u32>,
+) -> Result<Option<u32>, StoreFault>
+    requires spared { transaction.old.refused ≡ false }
+    requires running { IsRunning S.Store transaction.old.store.now }
+    requires recording { (k : Key) × IsOf S.Store transaction.old.store.now id.row k × (duration ≡ duration_of k.duration) }
+    ensures same_reference { transaction.new.store.ghost_name ≡ transaction.old.store.ghost_name }
+    ensures stays { Stays S.Store transaction.old.store.now transaction.new.store.now }
+    ensures spared { IfOk result (λ _. transaction.new.refused ≡ false) }
+    ensures count { IfOk result (λ found. IfSome found (λ room. count ≡ Some room)) }
+    ensures room { HasCleanDisk (at S.Store transaction.new.store.now) →
+        IfOk result (λ found. IfSome found (λ room. TellsRoom S.Store transaction.old.store.now id.row room true)) }
+    ensures same { IfOk result (λ _. SeesAsBefore S.Store transaction.old.store.now transaction.new.store.now) }
+    ensures only { IfOk result (λ _. HasNoMore S.Store transaction.old.store.now transaction.new.store.now) }
+    ensures told { IfErr result IsStoreRefusal }
+    ensures caused { IfErr result (λ e. e ≢ StoreFault.Store None) }
+{
+    let Some(wanted) = count else {
+        return Ok(None);
+    };
+    let fits = transaction.has_room(id, duration, wanted)?;
+    if fits { Ok(Some(wanted)) } else { Ok(None) }
+}
+
+/// The recording of an identity, which is made where it is missing, with room for `count` data records if it has so much;
+/// where their number is unknown, with all the room that it has.
 fn find_recording<S: Alter>(
     transaction: &mut StoreTx<'_, S>,
     cap: u32,
     identity: &Identity,
-    count: u32,
+    count: Option<u32>,
 ) -> Result<Recording, StoreFault>
     requires spared { transaction.old.refused ≡ false }
     requires running { IsRunning S.Store transaction.old.store.now }
@@ -40,14 +71,13 @@ fn find_recording<S: Alter>(
     ensures same { IfOk result (λ _. (h : Holdings) → Sees S.Store transaction.old.store.now h → Sees S.Store transaction.new.store.now h) }
     ensures only { IfOk result (λ _. HasAtMost S.Store identity.now transaction.old.store.now transaction.new.store.now) }
     ensures room { IfOk result (λ found. HasCleanDisk (at S.Store transaction.new.store.now) → (h : Holdings) → Sees S.Store transaction.new.store.now h →
-        IsRoom cap (length (h identity.now)) count found.room) }
+        IsRoom cap (length (h identity.now)) (most_records count) found.room) }
     ensures told { IfErr result IsStoreRefusal }
     ensures caused { IfErr result (λ e. e ≢ StoreFault.Store None) }
 {
     let id = transaction.recording(identity)?;
-    let fits = transaction.has_room(id, identity.duration(), count)?;
-    if fits {
-        return Ok(Recording { id, room: count });
+    if let Some(room) = known_room(transaction, id, identity.duration(), count)? {
+        return Ok(Recording { id, room });
     }
     let held = transaction.count(id)?;
     let room = cap.saturating_sub(held);

@@ -2,6 +2,7 @@
 
 ghost use Rattle.std.specs.Prelude.{◌≡◌, ℕ, ◌+◌, ◌-◌, ◌^◌, ◌<◌, ◌≤◌, List, Option, None, false, length, IfOk, IfErr};
 ghost use Rattle.sqlite.specs.State.{HasCleanDisk};
+ghost use Rattle.edf_header.specs.Header.{most_records};
 ghost use Rattle.edf_fragment.specs.Sound.{IsSoundRecord};
 ghost use Rattle.edf_fragment.specs.Fragment.{DataRecord};
 ghost use Rattle.edf_fragment.specs.Reading.{ReadsHeader, at_first};
@@ -134,7 +135,7 @@ pub(crate) fn take_records<S: Alter, R: Input>(
     requires running { IsRunning S.Store transaction.old.store.now }
     requires recording { IsOf S.Store transaction.old.store.now recording.id.row fragment.old.header.key }
     requires room { HasCleanDisk (at S.Store transaction.old.store.now) → (h : Holdings) → Sees S.Store transaction.old.store.now h →
-        IsRoom transaction.old.store.now.cap (length (h fragment.old.header.key)) fragment.old.header.count recording.room }
+        IsRoom transaction.old.store.now.cap (length (h fragment.old.header.key)) (most_records fragment.old.header.count) recording.room }
     requires header { (left : Option (List ℕ)) × ReadsHeader left (R.remaining input.old) fragment.old.header }
     requires at_first { fragment.old.progress ≡ at_first }
     ensures same_reference { transaction.new.store.ghost_name ≡ transaction.old.store.ghost_name }

@@ -1,7 +1,7 @@
--- What the steps of a reader read: the two parts of a header, a part of a data record, the end.
-use Rattle.std.specs.Prelude.{◌≡◌, ℕ, ◌*◌, ◌≤◌, ◌<◌, ◌⊎◌, List, [], ◌∷◌, length, Option}
+-- What the steps of a reader read: the two parts of a header, all data records, the end.
+use Rattle.std.specs.Prelude.{◌≡◌, ℕ, ◌*◌, ◌≤◌, ◌⊎◌, List, [], ◌∷◌, length, Option}
 use Rattle.std.specs.Io.KnownBytes.{Consumes, IsAtEnd}
-use Rattle.edf_header.specs.Header.{HeaderRecord, FixedPart, IsFixedHeader, AreSignals, Layout, layout_of}
+use Rattle.edf_header.specs.Header.{HeaderRecord, FixedPart, IsFixedHeader, AreSignals, Layout, layout_of, least_records, most_records}
 use Rattle.edf_header.specs.Fault.{IsClean, IsFirst, SignalsFail}
 use Rattle.edf_header.specs.declared.fault.HeaderFault.{HeaderFault}
 use Rattle.edf_header.specs.declared.fault.HeaderFault.TheVariants.{CutSignals}
@@ -10,7 +10,7 @@ use Rattle.edf_tal.specs.declared.place.Place.TheVariants.{First}
 use Rattle.edf_fragment.specs.Fragment.{DataRecord, AreDataRecords}
 use Rattle.edf_fragment.specs.Reading.{ReadsFewer}
 use Rattle.edf_fragment.specs.declared.fault.FragmentFault.{FragmentFault}
-use Rattle.edf_fragment.specs.declared.fault.FragmentFault.TheVariants.{Header as BadHeader, CutRecord, Trailing, Read, Memory}
+use Rattle.edf_fragment.specs.declared.fault.FragmentFault.TheVariants.{Header as BadHeader, Trailing, Read, Memory}
 
 -- the bytes that were read are a fixed part
 pub record ReadsFixed (left rest : Option (List ℕ)) (fixed : FixedPart) : Type 0 where
@@ -49,19 +49,6 @@ IsSignalsFault left rest n Read = ReadsFewer (256 * n) left rest
 IsSignalsFault left rest n Memory = LacksSignalsMemory left rest n
 IsSignalsFault left rest n fault = ⊥
 
--- fewer bytes were read than were wanted, and no more follow
-pub record IsCutShort (left rest : Option (List ℕ)) (wanted : ℕ) : Type 0 where
-  pub bytes : List ℕ
-  pub read : Consumes left rest bytes
-  pub cut : length bytes < wanted
-  pub end : IsAtEnd rest
-
--- why so many bytes of a data record are not there
-abbrev pub IsPartFault : Option (List ℕ) → Option (List ℕ) → ℕ → ℕ → FragmentFault → Type 0
-IsPartFault left rest wanted nth (CutRecord k) = (k ≡ nth) × IsCutShort left rest wanted
-IsPartFault left rest wanted nth Read = ReadsFewer wanted left rest
-IsPartFault left rest wanted nth fault = ⊥
-
 -- nothing was read, and nothing is there
 abbrev pub ReadsEnd : Option (List ℕ) → Option (List ℕ) → Type 0
 ReadsEnd left rest = Consumes left rest [] × IsAtEnd rest
@@ -79,4 +66,5 @@ pub record ReadsRecords (l : Layout) (left rest : Option (List ℕ)) (records : 
   pub read : Consumes left rest bytes
   pub end : IsAtEnd rest
   pub are_records : AreDataRecords l First bytes records last []
-  pub count : length records ≡ l.count
+  pub least : least_records l.count ≤ length records
+  pub most : length records ≤ most_records l.count

@@ -1,18 +1,14 @@
--- Words for single steps: the label test, a key from its parts, the bytes that stand for a key, and where a check comes in the order of faults.
-use Rattle.std.specs.Prelude.{◌≡◌, ℕ, ◌*◌, Bool, List, codes, All}
-use Rattle.std.specs.Str.{bytes_eq}
+-- Words for single steps: a key from its parts, the bytes that stand for a key, and where a check comes in the order of faults.
+use Rattle.std.specs.Prelude.{◌≡◌, ℕ, ◌*◌, List, All}
 use Rattle.edf_field.specs.Number.{IsDuration, duration_of}
 use Rattle.edf_field.specs.Text.{IsPrintable, IsPatient, IsBehindStartdate}
-use Rattle.edf_header.specs.Fields.{label_field, key_patient_field, key_duration_field}
+use Rattle.edf_header.specs.Fields.{key_patient_field, key_duration_field}
 use Rattle.edf_header.specs.Key.{Key, IsKey, key_at, key_bytes}
 use Rattle.edf_header.specs.Signal.{samples_in_all}
 use Rattle.edf_header.specs.Header.{FixedPart, is_dated}
 use Rattle.edf_header.specs.Identity.{HasLength, HasMark}
 use Rattle.edf_header.specs.declared.signal_checks.Check.{Check}
-use Rattle.edf_header.specs.declared.signal_checks.Check.TheVariants.{Label, Physical, Digital, Samples}
-
-abbrev pub has_label : List ℕ → Bool
-has_label row = bytes_eq (label_field row) (codes "EDF Annotations ")
+use Rattle.edf_header.specs.declared.signal_checks.Check.TheVariants.{Label, Annotations, Physical, Digital, Samples}
 
 -- the key of a fixed part and ordinary signals
 abbrev pub key_from : FixedPart → List (List ℕ) → Key
@@ -25,8 +21,9 @@ pub record IsIdentity (bytes : List ℕ) (duration ordinary_bytes : ℕ) : Type 
   pub duration_is : duration ≡ duration_of (key_at bytes).duration
   pub ordinary_is : ordinary_bytes ≡ 2 * samples_in_all (key_at bytes).signals
 
--- the place of a signal's fault in the order of an identity's
+-- the place of a signal's fault in the order of an identity's, which has no annotations signals
 abbrev pub place_of_check : Check → ℕ
+place_of_check Annotations = 0
 place_of_check Label = 6
 place_of_check Physical = 7
 place_of_check Digital = 8

@@ -1,6 +1,6 @@
 use Rattle.std.proofs.Common.{◌≡◌, ℕ, [], take, arith, refl, subst, ap}
 use Rattle.std.specs.Io.KnownBytes.{Consumes}
-use Rattle.edf_fragment.proofs.Pieces.{one_byte, none-read}
+use Rattle.edf_fragment.proofs.Steps.{one_byte, none-read}
 use Rattle.edf_fragment.proofs.advance.find_end.Goals as goal
 
 pub returns-in-Full-clause-step : goal.returns-in-Full-clause-step

@@ -1,7 +1,7 @@
 use Rattle.std.proofs.Common.{◌<◌, length, take, arith, refl, inl}
 use Rattle.edf_fragment.proofs.HeaderParts.{cut_header, told_first}
 use Rattle.std.proofs.lemmas.List.{length-take}
-use Rattle.edf_fragment.proofs.Pieces.{fewer}
+use Rattle.edf_fragment.proofs.Steps.{fewer}
 use Rattle.edf_fragment.proofs.opening.read_fixed_part.Goals as goal
 
 pub returns-in-Cut-clause-step : goal.returns-in-Cut-clause-step

@@ -2,7 +2,7 @@ use Rattle.std.proofs.Common.{◌≡◌, ◌*◌, List, ℕ, length, take, arith
 use Rattle.std.proofs.lemmas.List.{take_all, length-take}
 use Rattle.std.specs.Io.KnownBytes.{Consumes}
 use Rattle.edf_fragment.proofs.HeaderParts.{told_second}
-use Rattle.edf_fragment.proofs.Pieces.{fewer}
+use Rattle.edf_fragment.proofs.Steps.{fewer}
 use Rattle.edf_fragment.proofs.opening.read_signal_headers.Goals.{in-Full, in-Cut}
 use Rattle.edf_fragment.proofs.opening.read_signal_headers.Goals as goal
 

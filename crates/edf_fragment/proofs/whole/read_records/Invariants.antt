@@ -1,4 +1,5 @@
 use Rattle.std.proofs.Common.{◌≡◌, ◌-◌}
+use Rattle.edf_header.specs.Header.{most_records}
 use Rattle.edf_fragment.specs.declared.advance.Status.TheVariants.{Reading}
 use Rattle.edf_fragment.specs.Whole.{HasRead}
 use Rattle.edf_fragment.proofs.whole.read_records.Given as goal
@@ -12,4 +13,4 @@ invariant-records g l = record {
 }
 
 abbrev pub decreases-records : goal.decreases-records
-decreases-records g l = l.initial.fragment.header.count - l.fragment.progress.given
+decreases-records g l = most_records l.initial.fragment.header.count - l.fragment.progress.given

@@ -1,9 +1,9 @@
-use Rattle.std.proofs.Common.{◌≡◌, ℕ, List, Option, Some, length, Result, Ok, Err, sym, ap, subst, ◌∙◌, inr, arith}
+use Rattle.std.proofs.Common.{◌≡◌, ℕ, ◌+◌, ◌≤◌, ◌⊎◌, List, Option, Some, length, Result, Ok, Err, sym, ap, subst, ◌∙◌, inl, inr, arith}
 use Rattle.std.specs.Result.{IfErr, IsErrAnd}
 use Rattle.sqlite_trees.specs.declared.store.Store.{Ghosts}
 use Rattle.sqlite.specs.State.{HasCleanDisk}
 use Rattle.edf_header.specs.Key.{Key}
-use Rattle.edf_header.specs.Header.{Layout}
+use Rattle.edf_header.specs.Header.{Layout, most_records}
 use Rattle.edf_fragment.proofs.Fragments.{open_refused}
 use Rattle.edf_fragment.specs.Fragment.{DataRecord}
 use Rattle.edf_fragment.specs.Told.{Fragment}
@@ -33,18 +33,26 @@ passed_on : {T : Type 0} (r : Result T Stop) (stop : Stop) (P : Stop → Type 0)
 passed_on (Ok x) stop P is p = absurd is
 passed_on (Err s) stop P is p = subst P (sym is) p
 
+-- room for more than are wanted is room for those
+enough_of : (whole : Type 0) (asked wanted room : ℕ) → wanted ≤ asked → whole ⊎ (asked ≤ room) → whole ⊎ (wanted ≤ room)
+enough_of whole asked wanted room few (inl all) = inl all
+enough_of whole asked wanted room few (inr enough) = inr (omega (arith, few, enough))
+
+fewer : (cap held asked wanted room : ℕ) → wanted ≤ asked → IsRoom cap held asked room → IsRoom cap held wanted room
+fewer cap held asked wanted room few found =
+    record { fits = found.fits; enough = enough_of (held + room ≡ cap) asked wanted room few found.enough }
+
 -- the room that was found under the identity is there under the layout's key
-space_of : {S : Type 0} (g : Ghosts S) (made : Kept S) (k l : Key) (m n asked wanted room : ℕ) → k ≡ l → m ≡ n → asked ≡ wanted
+space_of : {S : Type 0} (g : Ghosts S) (made : Kept S) (k l : Key) (m n asked wanted room : ℕ) → k ≡ l → m ≡ n → wanted ≤ asked
     → (HasCleanDisk (at g made) → (h : Holdings) → Sees g made h → IsRoom m (length (h k)) asked room)
     → HasCleanDisk (at g made) → (h : Holdings) → Sees g made h → IsRoom n (length (h l)) wanted room
-space_of g made k l m n asked wanted room named capped counted space =
-    subst (λ (z : ℕ). HasCleanDisk (at g made) → (h : Holdings) → Sees g made h → IsRoom n (length (h l)) z room) counted
-    (subst (λ (y : ℕ). HasCleanDisk (at g made) → (h : Holdings) → Sees g made h → IsRoom y (length (h l)) asked room) capped
-    (subst (λ (x : Key). HasCleanDisk (at g made) → (h : Holdings) → Sees g made h → IsRoom m (length (h x)) asked room) named space))
+space_of g made k l m n asked wanted room named capped few space clean h seen =
+    fewer n (length (h l)) asked wanted room few
+    (subst (λ (y : ℕ). IsRoom y (length (h l)) asked room) capped (subst (λ (x : Key). IsRoom m (length (h x)) asked room) named (space clean h seen)))
 
--- a whole fragment has as many data records as its header says
-as_many : (left rest : Option (List ℕ)) (l : Layout) (records : List DataRecord) → ReadsFragment left rest l records → l.count ≡ length records
-as_many left rest l records read = ap (λ (x : Layout). x.count) read.layout_is ∙ sym read.spells.count
+-- a whole fragment has no more data records than its header lets it have
+few_records : (left rest : Option (List ℕ)) (l : Layout) (records : List DataRecord) → ReadsFragment left rest l records → length records ≤ most_records l.count
+few_records left rest l records read = subst (λ (x : Layout). length records ≤ most_records x.count) (sym read.layout_is) read.spells.most
 
 pub returns-in_err-fragment-clause-stopped : goal.returns-in_err-fragment-clause-stopped
 returns-in_err-fragment-clause-stopped g c =
@@ -76,7 +84,8 @@ take_records-requires-clause-room g c clean h seen =
     let same : c.identity.result.now ≡ c.in_ok-fragment.fragment.header.key = c.identity.ensures ∙ ap (λ (l : Layout). l.key) c.header-header.ensures in
     let counted : c.count.result ≡ c.in_ok-fragment.fragment.header.count = c.count.ensures.value ∙ ap (λ (l : Layout). l.count) c.header-header.ensures in
     space_of g.S.Store c.find_recording.new.transaction.store.now c.identity.result.now c.in_ok-fragment.fragment.header.key c.args.cap c.find_recording.new.transaction.store.now.cap
-    c.count.result c.in_ok-fragment.fragment.header.count c.in_ok-recording.recording.room same (c.requires.cap ∙ sym c.in_ok-recording.ensures.stays.cap) counted c.in_ok-recording.ensures.room clean h seen
+    (most_records c.count.result) (most_records c.in_ok-fragment.fragment.header.count) c.in_ok-recording.recording.room same (c.requires.cap ∙ sym c.in_ok-recording.ensures.stays.cap)
+    (omega (arith, ap most_records counted)) c.in_ok-recording.ensures.room clean h seen
 
 pub returns-in-Ok-clause-stays : goal.returns-in-Ok-clause-stays
 returns-in-Ok-clause-stays g c =
@@ -97,8 +106,10 @@ returns-in-Ok-clause-whole g c =
     let read : ReadsWhole from to l.key r.0 = reads_whole from to l r.0 (r.1 from.left c.in_ok-fragment.ensures.step.0) (c.in_ok-tally.ensures.counted ∙ c.in_ok-fragment.ensures.counted) in
     let was_made : HasCleanDisk (at g.S.Store last) → HasCleanDisk (at g.S.Store made) = λ clean. omega (arith, c.in_ok-tally.ensures.stays.crash.clean) in
     let was_first : HasCleanDisk (at g.S.Store made) → HasCleanDisk (at g.S.Store first) = λ clean. omega (arith, c.in_ok-recording.ensures.stays.crash.clean) in
-    let counted : c.count.result ≡ length r.0 = c.count.ensures.value ∙ ap (λ (x : Layout). x.count) c.header-header.ensures ∙ as_many from.left to.left l r.0 (r.1 from.left c.in_ok-fragment.ensures.step.0) in
-    let space = space_of g.S.Store made c.identity.result.now l.key c.args.cap first.cap c.count.result (length r.0) recording.room named c.requires.cap counted c.in_ok-recording.ensures.room in
+    let counted : c.count.result ≡ l.count = c.count.ensures.value ∙ ap (λ (x : Layout). x.count) c.header-header.ensures in
+    let few : length r.0 ≤ most_records c.count.result =
+    subst (λ (n : Option ℕ). length r.0 ≤ most_records n) (sym counted) (few_records from.left to.left l r.0 (r.1 from.left c.in_ok-fragment.ensures.step.0)) in
+    let space = space_of g.S.Store made c.identity.result.now l.key c.args.cap first.cap (most_records c.count.result) (length r.0) recording.room named c.requires.cap few c.in_ok-recording.ensures.room in
     let accepted = c.in-Ok.ensures.accepted in
     still_whole g.S.Store first made last l.key r.0 (some_read g.S.Store first made last from to l.key r.0 read recording.room tally was_made was_first c.in_ok-recording.ensures.same space r.2) c.requires.whole c.requires.running
     (subst (λ (k : Key). HasAtMost g.S.Store k first made) named c.in_ok-recording.ensures.only) c.in_ok-tally.ensures.only was_made was_first
@@ -119,8 +130,10 @@ returns-in-Ok-clause-taken g c =
     let read : ReadsWhole from to l.key r.0 = reads_whole from to l r.0 (r.1 from.left c.in_ok-fragment.ensures.step.0) (c.in_ok-tally.ensures.counted ∙ c.in_ok-fragment.ensures.counted) in
     let was_made : HasCleanDisk (at g.S.Store last) → HasCleanDisk (at g.S.Store made) = λ clean. omega (arith, c.in_ok-tally.ensures.stays.crash.clean) in
     let was_first : HasCleanDisk (at g.S.Store made) → HasCleanDisk (at g.S.Store first) = λ clean. omega (arith, c.in_ok-recording.ensures.stays.crash.clean) in
-    let counted : c.count.result ≡ length r.0 = c.count.ensures.value ∙ ap (λ (x : Layout). x.count) c.header-header.ensures ∙ as_many from.left to.left l r.0 (r.1 from.left c.in_ok-fragment.ensures.step.0) in
-    let space = space_of g.S.Store made c.identity.result.now l.key c.args.cap first.cap c.count.result (length r.0) recording.room named c.requires.cap counted c.in_ok-recording.ensures.room in
+    let counted : c.count.result ≡ l.count = c.count.ensures.value ∙ ap (λ (x : Layout). x.count) c.header-header.ensures in
+    let few : length r.0 ≤ most_records c.count.result =
+    subst (λ (n : Option ℕ). length r.0 ≤ most_records n) (sym counted) (few_records from.left to.left l r.0 (r.1 from.left c.in_ok-fragment.ensures.step.0)) in
+    let space = space_of g.S.Store made c.identity.result.now l.key c.args.cap first.cap (most_records c.count.result) (length r.0) recording.room named c.requires.cap few c.in_ok-recording.ensures.room in
     let identity : c.into_identity-identity.result ≡ l.key = c.into_identity-identity.ensures ∙ ap (λ (x : Layout). x.key) (c.into_header.ensures ∙ c.in_ok-tally.ensures.header) in
     let accepted = c.in-Ok.ensures.accepted in
     let receipt : c.in-Ok.receipt ≡ receipt_of l.key tally.new tally.known = accepted.0 ∙ ap (λ (k : Key). receipt_of k tally.new tally.known) identity in
@@ -146,8 +159,10 @@ returns-in-Err-clause-stopped g c =
     let read : ReadsWhole from to l.key r.0 = reads_whole from to l r.0 (r.1 from.left c.in_ok-fragment.ensures.step.0) (c.in_ok-tally.ensures.counted ∙ c.in_ok-fragment.ensures.counted) in
     let was_made : HasCleanDisk (at g.S.Store last) → HasCleanDisk (at g.S.Store made) = λ clean. omega (arith, c.in_ok-tally.ensures.stays.crash.clean) in
     let was_first : HasCleanDisk (at g.S.Store made) → HasCleanDisk (at g.S.Store first) = λ clean. omega (arith, c.in_ok-recording.ensures.stays.crash.clean) in
-    let counted : c.count.result ≡ length r.0 = c.count.ensures.value ∙ ap (λ (x : Layout). x.count) c.header-header.ensures ∙ as_many from.left to.left l r.0 (r.1 from.left c.in_ok-fragment.ensures.step.0) in
-    let space = space_of g.S.Store made c.identity.result.now l.key c.args.cap first.cap c.count.result (length r.0) recording.room named c.requires.cap counted c.in_ok-recording.ensures.room in
+    let counted : c.count.result ≡ l.count = c.count.ensures.value ∙ ap (λ (x : Layout). x.count) c.header-header.ensures in
+    let few : length r.0 ≤ most_records c.count.result =
+    subst (λ (n : Option ℕ). length r.0 ≤ most_records n) (sym counted) (few_records from.left to.left l r.0 (r.1 from.left c.in_ok-fragment.ensures.step.0)) in
+    let space = space_of g.S.Store made c.identity.result.now l.key c.args.cap first.cap (most_records c.count.result) (length r.0) recording.room named c.requires.cap few c.in_ok-recording.ensures.room in
     let identity : c.into_identity-identity.result ≡ l.key = c.into_identity-identity.ensures ∙ ap (λ (x : Layout). x.key) (c.into_header.ensures ∙ c.in_ok-tally.ensures.header) in
     let answer = c.in-Err.ensures.answer in
     is_refused g.S.Store first made last from to l.key r.0 read recording.room tally was_made was_first c.in_ok-recording.ensures.same space r.2 c.in-Err.refusal c.in-Err.ensures.refused

@@ -1,7 +1,7 @@
 use Rattle.std.proofs.Common.{◌≡◌, ℕ, ◌<◌, ◌++◌, ◌∷◌, [], length, Option, Some, None, Ok, Err, refl, sym, ap, subst, ◌∙◌, arith, rules}
 use Rattle.sqlite.specs.State.{HasCleanDisk}
 use Rattle.edf_header.specs.Key.{Key}
-use Rattle.edf_header.specs.Header.{Layout, IsLayout}
+use Rattle.edf_header.specs.Header.{Layout, IsLayout, most_records}
 use Rattle.edf_fragment.specs.Fragment.{DataRecord}
 use Rattle.edf_fragment.specs.Reading.{IsAnswer, CountsFault, at_first}
 use Rattle.edf_fragment.specs.declared.advance.Progress.{Progress}
@@ -60,8 +60,8 @@ take_record-requires-clause-countable g c =
     c.in-Ok-Some.field-0 c.in-Ok-Some.data_record inv.status c.in-Ok-Some.ensures.answer c.in-Ok-Some.field-0-is in
     let head = c.requires.header.1 in
     let layout = subst IsLayout (sym head.layout_is) (header-has-layout head.bytes head.header [] head.is_header) in
-    let wanted : c.records.fragment.progress.given < c.args.fragment.now.header.count = subst (λ (l : Layout). c.records.fragment.progress.given < l.count) inv.header step.1.wanted in
-    omega (arith, inv.walking.counted, wanted, layout.few)
+    let wanted : c.records.fragment.progress.given < most_records c.args.fragment.now.header.count = subst (λ (l : Layout). c.records.fragment.progress.given < most_records l.count) inv.header step.1.may_come in
+    omega (arith, inv.walking.counted, wanted, layout.count.1)
 
 pub returns-in-Err-take_record-clause-stays : goal.returns-in-Err-take_record-clause-stays
 returns-in-Err-take_record-clause-stays g c =
@@ -120,7 +120,7 @@ records-preserved g c =
       status = ap (λ (p : Progress). p.status) step.0;
       count = c.in-Ok-Some.ensures.counted ∙ inv.count;
       walking = one_turn g.S.Store first l c.requires.header.0 left c.requires.header.1 c.args.recording.room c.requires.room
-          now next mid rest from to c.records.tally c.in-Ok.next r inv.walking inv.status answer (ap (λ (p : Progress). p.given) step.0) step.1.wanted was was_first
+          now next mid rest from to c.records.tally c.in-Ok.next r inv.walking inv.status answer (ap (λ (p : Progress). p.given) step.0) step.1.may_come was was_first
           (subst (λ (k : Key). HasCleanDisk (at g.S.Store next) → (h : Holdings) → Sees g.S.Store now h → (t : Holdings) × Sees g.S.Store next t × IsNext c.args.recording.room k r h c.records.tally t c.in-Ok.next) same e.next)
           e.counted;
     }

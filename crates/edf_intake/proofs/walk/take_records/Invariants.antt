@@ -1,4 +1,5 @@
 use Rattle.std.proofs.Common.{◌≡◌, ◌-◌, false}
+use Rattle.edf_header.specs.Header.{most_records}
 use Rattle.edf_fragment.specs.declared.advance.Status.TheVariants.{Reading}
 use Rattle.edf_store.specs.Held.{Stays}
 use Rattle.edf_store.specs.Transaction.{IsRunning, IsOf, HasNoMore}
@@ -21,4 +22,4 @@ invariant-records g l = record {
 }
 
 abbrev pub decreases-records : goal.decreases-records
-decreases-records g l = l.initial.fragment.header.count - l.fragment.progress.given
+decreases-records g l = most_records l.initial.fragment.header.count - l.fragment.progress.given

@@ -1,0 +1,65 @@
+//! The buffers of a data record: its bytes as they stand in the file, and its annotations blocks
+//! one after another.
+ghost use Rattle.std.specs.Prelude.{◌≡◌, ℕ, ◌+◌, length, map, sum_by, IfOk};
+ghost use Rattle.std.specs.List.{flat_map};
+ghost use Rattle.edf_header.specs.Header.{block_bytes};
+ghost use Rattle.edf_fragment.specs.Fragment.{blocks, ordinary_bytes};
+ghost use Rattle.edf_fragment.specs.Inside.Buffers.{HaveRoom};
+
+use edf_header::Header;
+use std::alloc::{AllocError, Global};
+
+/// What each data record of a fragment is read through; a header says how much room they have.
+#[derive(Drop)]
+pub(crate) struct Buffers {
+    /// A whole data record.
+    pub(crate) whole: Vec<u8>,
+    /// Its annotations blocks, joined in file order.
+    pub(crate) joined: Vec<u8>,
+    /// How many bytes each block has.
+    pub(crate) sizes: Vec<usize>,
+}
+
+impl Buffers {
+    /// Buffers for the data records of this header.
+    pub(crate) fn of(alloc: Global, header: &Header) -> Result<Buffers, AllocError>
+        ensures { IfOk result (HaveRoom header.now) }
+    {
+        let whole = vec![in alloc; 0u8; header.record_bytes()]?;
+        let joined = vec![in alloc; 0u8; header.block_bytes()]?;
+        let sizes = header
+            .blocks()
+            .iter()
+            .map(|block| block.bytes)
+            .collect(alloc)?;
+        Ok(Buffers {
+            whole,
+            joined,
+            sizes,
+        })
+    }
+}
+
+/// Cuts a data record: its ordinary bytes go to the samples, and its blocks one after another to
+/// `joined`.
+pub(crate) fn cut_record(header: &Header, whole: &[u8], samples: &mut [u8], joined: &mut [u8])
+    requires whole { length whole.now ≡ header.now.record_bytes }
+    requires samples { length samples.old + block_bytes header.now ≡ header.now.record_bytes }
+    requires joined { length joined.old ≡ block_bytes header.now }
+    ensures samples { samples.new ≡ ordinary_bytes header.now whole.now }
+    ensures joined { joined.new ≡ flat_map (λ b. b) (blocks header.now whole.now) }
+{
+    let mut ordinary = 0;
+    let mut copied = 0;
+    for block in header.blocks() {
+        let at = ordinary + copied;
+        let before = block.at - at;
+        samples[ordinary..ordinary + before].copy_from_slice(&whole[at..block.at]);
+        ordinary += before;
+        joined[copied..copied + block.bytes].copy_from_slice(
+            &whole[block.at..block.at + block.bytes],
+        );
+        copied += block.bytes;
+    }
+    samples[ordinary..].copy_from_slice(&whole[ordinary + copied..]);
+}
