@@ -1,23 +1,23 @@
-use edf_tal::{Note, Place, block_len, read_block, same_notes, write_block};
+use edf_tal::{Note, Place, TalFault, block_len, read_block, same_notes, write_block};
 use edf_time::Instant;
 use std::alloc::{AllocError, Global};
 
 /// 2002-03-02 23:59:50
-const EVENING: u64 = 541_727_990_000_000_000;
+pub(crate) const EVENING: u64 = 541_727_990_000_000_000;
 
-const SECOND: u64 = 1_000_000_000;
+pub(crate) const SECOND: u64 = 1_000_000_000;
 
-/// What a block says: the start and each annotation, counted from the file's start, or the fault.
-fn told(
+/// What blocks are answered: the start and each annotation, counted from the file's start, or the
+/// fault.
+pub(crate) fn shown(
     alloc: Global,
-    block: &[u8],
+    answer: &Result<(Instant, Vec<Note>), TalFault>,
     file_start: Instant,
-    place: Place,
 ) -> Result<String, AllocError> {
-    match read_block(alloc, block, file_start, place) {
+    match answer {
         Ok((start, notes)) => {
             let mut text = format!(in alloc; "{}", start.since(file_start))?;
-            for note in &notes {
+            for note in notes {
                 let onset = note.onset().since(file_start);
                 let shown = format!(in alloc; "|{onset} {:?} {}", note.duration(), note.text())?;
                 text.push_str(shown.as_str())?;
@@ -26,6 +26,17 @@ fn told(
         }
         Err(fault) => format!(in alloc; "E{} {fault:?}", fault.number()),
     }
+}
+
+/// What a block says.
+fn told(
+    alloc: Global,
+    block: &[u8],
+    file_start: Instant,
+    place: Place,
+) -> Result<String, AllocError> {
+    let answer = read_block(alloc, block, file_start, place);
+    shown(alloc, &answer, file_start)
 }
 
 /// Whether a block of a first record says this.
@@ -51,7 +62,7 @@ fn is_written_as(alloc: Global, block: &[u8], want: &[u8]) -> Option<bool> {
 }
 
 /// `front`, so many times `middle`, and `back`.
-fn repeated(
+pub(crate) fn repeated(
     alloc: Global,
     front: &[u8],
     middle: &[u8],

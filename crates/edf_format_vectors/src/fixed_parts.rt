@@ -7,7 +7,7 @@ use edf_sample::{file, patched, q};
 use std::alloc::Global;
 
 /// The number of data records, whether the recording is dated, the duration of a data record in nanoseconds.
-fn told(header: &Header) -> (u32, bool, u64) {
+fn told(header: &Header) -> (Option<u32>, bool, u64) {
     let identity = header.identity();
     (header.count(), identity.dated(), identity.duration())
 }
@@ -19,7 +19,7 @@ fn is_read_as_q(alloc: Global) -> Option<bool> {
     let header = read_header(alloc, &bytes)?.ok()?;
     Some(
         header.start().nanos() == 541_727_990_000_000_000
-            && told(&header) == (1, true, 1_000_000_000)
+            && told(&header) == (Some(1), true, 1_000_000_000)
             && has_bytes(alloc, header.identity(), &identity),
     )
 }
@@ -38,23 +38,25 @@ fn the_fixed_part_of_a_night_is_read(rt: HostRuntime) {
 }
 
 /// What Q's header tells with another text from an offset on.
-fn told_with(alloc: Global, at: usize, text: &[u8]) -> Option<(u32, bool, u64)> {
+fn told_with(alloc: Global, at: usize, text: &[u8]) -> Option<(Option<u32>, bool, u64)> {
     Some(told(&read_patched(alloc, at, text)?.ok()?))
 }
 
 /// Where another text stands, the text, and what is read then.
-const CHANGES: &[(usize, &[u8], (u32, bool, u64))] = &[
-    (8, b"P7 M X X more     ", (1, true, 1_000_000_000)),
+const CHANGES: &[(usize, &[u8], (Option<u32>, bool, u64))] = &[
+    (8, b"P7 M X X more     ", (Some(1), true, 1_000_000_000)),
     (
         88,
         b"Startdate X N1 T3 REC5          ",
-        (1, false, 1_000_000_000),
+        (Some(1), false, 1_000_000_000),
     ),
-    (192, b"EDF+C", (1, true, 1_000_000_000)),
-    (236, b"99999999", (99_999_999, true, 1_000_000_000)),
-    (236, b"0002", (2, true, 1_000_000_000)),
-    (244, b"0.5", (1, true, 500_000_000)),
-    (184, b"000768", (1, true, 1_000_000_000)),
+    (192, b"EDF+C", (Some(1), true, 1_000_000_000)),
+    (236, b"99999999", (Some(99_999_999), true, 1_000_000_000)),
+    (236, b"0002", (Some(2), true, 1_000_000_000)),
+    (236, b"-1", (None, true, 1_000_000_000)),
+    (236, b"-1      0.5", (None, true, 500_000_000)),
+    (244, b"0.5", (Some(1), true, 500_000_000)),
+    (184, b"000768", (Some(1), true, 1_000_000_000)),
 ];
 
 #[test]
@@ -85,9 +87,18 @@ const FAULTS: &[(usize, &[u8], HeaderFault)] = &[
     (192, b"     ", HeaderFault::NotPlus),
     (192, b"EDF+E", HeaderFault::NotPlus),
     (236, b"0", HeaderFault::Count),
-    (236, b"-1", HeaderFault::Count),
+    (236, b"-2", HeaderFault::Count),
     (236, b"-01", HeaderFault::Count),
+    (236, b" -1", HeaderFault::Count),
+    (236, b"-1.", HeaderFault::Count),
+    (236, b"-0", HeaderFault::Count),
+    (236, b"+1", HeaderFault::Count),
+    (236, b"-10", HeaderFault::Count),
+    (236, b"-001", HeaderFault::Count),
+    (236, b"-1 1", HeaderFault::Count),
     (236, b"1 1", HeaderFault::Count),
+    (236, b"-2      0", HeaderFault::Count),
+    (236, b"-1      0", HeaderFault::Duration),
     (244, b"0", HeaderFault::Duration),
     (244, b"1.", HeaderFault::Duration),
     (252, b"1", HeaderFault::Signals),
@@ -98,6 +109,7 @@ const FAULTS: &[(usize, &[u8], HeaderFault)] = &[
     (20, b"\n", HeaderFault::Unprintable { offset: 20 }),
     (255, b"\x7f", HeaderFault::Unprintable { offset: 255 }),
     (0, b"\x1f", HeaderFault::Unprintable { offset: 0 }),
+    (236, b"-1\0", HeaderFault::Unprintable { offset: 238 }),
 ];
 
 #[test]

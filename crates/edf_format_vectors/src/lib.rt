@@ -5,11 +5,13 @@
 //!
 //! - `times`, `texts`: times and decimals, texts of header fields.
 //! - `fixed_parts`, `signal_parts`, `headers`, `identities`: headers and what they say of a recording.
-//! - `blocks`: annotations blocks.
+//! - `blocks`, `several_blocks`: annotations blocks, by themselves and several of a data record.
 //!
 //! By small named files:
 //!
 //! - `one_by_one`, `wholes`: fragments, their data records read one at a time and all at once, in pieces of any size.
+//! - `uncounted`, `several_signals`: fragments whose header does not count their data records, and
+//!   those of several annotations signals.
 //! - `records`: data records, compared with one another.
 //! - `stops`: reads and writes that fail, and what was read behind a refusal.
 #![tactic(auto)]
@@ -27,6 +29,10 @@ mod one_by_one;
 #[cfg(test)]
 mod records;
 #[cfg(test)]
+mod several_blocks;
+#[cfg(test)]
+mod several_signals;
+#[cfg(test)]
 mod signal_parts;
 #[cfg(test)]
 mod stops;
@@ -34,5 +40,7 @@ mod stops;
 mod texts;
 #[cfg(test)]
 mod times;
+#[cfg(test)]
+mod uncounted;
 #[cfg(test)]
 mod wholes;

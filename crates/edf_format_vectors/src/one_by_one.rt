@@ -12,25 +12,37 @@ fn is_end(answer: &Result<Option<Record>, FragmentFault>) -> bool {
     matches!(answer, Ok(None))
 }
 
-/// The data records, where as many are read as the header counts, and then the end is told twice.
-fn read_all(alloc: Global, bytes: &[u8], step: usize) -> Option<Vec<Record>> {
+/// The data records up to the end, which is told again at each later call. There are as many as the
+/// header counts, where it does.
+pub(crate) fn read_all(alloc: Global, bytes: &[u8], step: usize) -> Option<Vec<Record>> {
     let mut input = Counted::new(Source::whole(bytes, step));
     let mut reader = FragmentReader::open(alloc, &mut input).ok()?;
     let mut records = Vec::new(alloc);
-    for _ in 0..reader.header().count() {
-        records.push(reader.next().ok()??).ok()?;
+    for _ in 0..10u8 {
+        match reader.next() {
+            Ok(Some(record)) => records.push(record).ok()?,
+            Ok(None) => break,
+            Err(_) => return None,
+        }
     }
     let ended = is_end(&reader.next()) && is_end(&reader.next());
-    let count = reader.into_header().count() as usize;
-    if ended && count == records.len() {
+    if ended && fits(reader.into_header().count(), records.len()) {
         Some(records)
     } else {
         None
     }
 }
 
+/// Whether a header with this count may have so many data records.
+fn fits(count: Option<u32>, records: usize) -> bool {
+    match count {
+        Some(count) => count as usize == records,
+        None => records > 0,
+    }
+}
+
 /// Whether they are the data record of Q.
-fn are_those_of_q(records: &[Record]) -> bool {
+pub(crate) fn are_those_of_q(records: &[Record]) -> bool {
     match records {
         [one] => {
             one.start().nanos() == 541_727_990_000_000_000
@@ -57,7 +69,7 @@ pub(crate) fn are_those_of_u(records: &[Record]) -> bool {
 }
 
 /// Whether there is one annotation, with this onset, this text and no duration.
-fn has_note(record: &Record, onset: u64, text: &str) -> bool {
+pub(crate) fn has_note(record: &Record, onset: u64, text: &str) -> bool {
     match record.notes() {
         [note] => {
             note.onset().nanos() == onset && note.text() == text && note.duration().is_none()
@@ -88,9 +100,9 @@ fn a_fragment_in_pieces_of_any_size_is_read_the_same(rt: HostRuntime) {
 }
 
 /// What opening a fragment and then three calls tell: the fault of each, where there is one.
-type Faults = (Option<FragmentFault>, [Option<FragmentFault>; 3]);
+pub(crate) type Faults = (Option<FragmentFault>, [Option<FragmentFault>; 3]);
 
-fn faults(alloc: Global, input: Source<'_>) -> Faults {
+pub(crate) fn faults(alloc: Global, input: Source<'_>) -> Faults {
     let mut input = Counted::new(input);
     match FragmentReader::open(alloc, &mut input) {
         Ok(mut reader) => {

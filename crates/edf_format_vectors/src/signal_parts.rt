@@ -3,23 +3,29 @@
 use crate::headers::{fault_at, has_bytes, read_header, read_patched};
 use edf_header::{Header, HeaderFault};
 use edf_sample::named::identity_q;
-use edf_sample::{file, patched, q};
+use edf_sample::{Signal, file, patched, q};
 use std::alloc::Global;
 
-/// At which byte of a data record the annotations block begins, its bytes, the bytes of a data record.
-fn extents(header: &Header) -> (usize, usize, usize) {
-    (
-        header.block_at(),
-        header.block_bytes(),
-        header.record_bytes(),
-    )
+/// Whether a header has these annotations blocks, each the byte of a data record at which it begins
+/// and its bytes.
+fn has_blocks(header: &Header, blocks: &[(usize, usize)]) -> bool {
+    let mut same = header.blocks().len() == blocks.len();
+    for (block, (at, bytes)) in header.blocks().iter().zip(blocks) {
+        same = same && block.at == *at && block.bytes == *bytes;
+    }
+    same
+}
+
+/// The bytes of a header's annotations blocks together, and of a data record.
+fn sizes(header: &Header) -> (usize, usize) {
+    (header.block_bytes(), header.record_bytes())
 }
 
 /// Whether Q's header has its block, and its identity the code of the patient and its bytes of ordinary samples.
 fn is_read_as_q(alloc: Global) -> Option<bool> {
     let bytes = file(alloc, &q(), &[]).ok()?;
     let header = read_header(alloc, &bytes)?.ok()?;
-    let right = extents(&header) == (4, 6, 10);
+    let right = has_blocks(&header, &[(4, 6)]) && sizes(&header) == (6, 10);
     let identity = header.into_identity();
     Some(right && identity.patient_code() == b"P7".as_slice() && identity.ordinary_bytes() == 4)
 }
@@ -35,7 +41,8 @@ fn is_read_as(alloc: Global, at: usize, text: &[u8], place: usize, block: usize)
     let wanted = patched(alloc, &identity_q(alloc).ok()?, place, text).ok()?;
     let header = read_patched(alloc, at, text)?.ok()?;
     Some(
-        extents(&header) == (4, block, block.saturating_add(4))
+        has_blocks(&header, &[(4, block)])
+            && sizes(&header) == (block, block.saturating_add(4))
             && has_bytes(alloc, header.identity(), &wanted),
     )
 }
@@ -102,48 +109,192 @@ fn cut_fault(alloc: Global) -> Option<HeaderFault> {
     read_header(alloc, bytes.get(..767)?)?.err()
 }
 
-/// The texts at their offsets in a header of two ordinary signals round the annotations signal.
-const THREE: [(usize, &[u8]); 6] = [
-    (184, b"1024"),
-    (252, b"3"),
-    (256, b"EEG Fpz-Cz      EDF Annotations EOG horizontal"),
-    (568, b"-440    -1      -440    510     1       510"),
-    (616, b"-2048   -32768  -2048   2047    32767   2047"),
-    (904, b"2       3       4"),
-];
-
-/// Reads it with another text from an offset on.
-fn read_three(alloc: Global, at: usize, text: &[u8]) -> Option<Result<Header, HeaderFault>> {
-    let mut bytes = file(alloc, &q(), &[&[b' '; 256]]).ok()?;
-    for place in bytes.iter_mut().skip(256) {
-        *place = b' ';
+/// The signal of a letter: `e` is Q's EEG signal, `a` and `b` are annotations signals of 3 and 8
+/// samples, and each other letter stands for one of these with another text.
+fn signal(letter: char) -> Signal<'static> {
+    let eeg = Signal::eeg();
+    let annotations = Signal::annotations("3");
+    match letter {
+        'a' => annotations,
+        'b' => Signal::annotations("8"),
+        'd' => annotations.digital("-32767", "32767"),
+        'D' => annotations.digital("-32768", "32766"),
+        'p' => annotations.physical("1", "+1.0"),
+        'P' => annotations.physical("-1", "1E0"),
+        'n' => annotations.samples("0"),
+        '1' => annotations.samples("1"),
+        '2' => annotations.samples("2"),
+        'l' => annotations.samples("2097151"),
+        'm' => annotations.samples("2097152"),
+        'h' => annotations.samples("99999999"),
+        'F' => eeg.physical("0", "-0.0"),
+        'G' => eeg.digital("5", "5"),
+        'N' => eeg.samples("0"),
+        'M' => eeg.samples("2097152"),
+        'L' => eeg.label("EDF annotations"),
+        _ => eeg,
     }
-    for (at, text) in &THREE {
-        bytes = patched(alloc, &bytes, *at, *text).ok()?;
-    }
-    read_header(alloc, &patched(alloc, &bytes, at, text).ok()?)
 }
 
-/// The block of such a header, and its bytes of ordinary samples.
-fn told_of_three(alloc: Global) -> Option<((usize, usize, usize), usize)> {
-    let header = read_three(alloc, 256, b"EEG")?.ok()?;
-    Some((extents(&header), header.identity().ordinary_bytes()))
+/// The signals of letters.
+fn signals_of(alloc: Global, letters: &str) -> Option<Vec<Signal<'static>>> {
+    let mut signals = Vec::new(alloc);
+    for letter in letters.chars() {
+        signals.push(signal(letter)).ok()?;
+    }
+    Some(signals)
+}
+
+/// Reads Q's header with these signals in place of its own.
+fn read_listed(alloc: Global, signals: &[Signal<'_>]) -> Option<Result<Header, HeaderFault>> {
+    let count = signals.len();
+    let bytes = count.saturating_mul(256).saturating_add(256);
+    let count = format!(in alloc; "{count}").ok()?;
+    let bytes = format!(in alloc; "{bytes}").ok()?;
+    let header = q()
+        .signals(count.as_str())
+        .header_bytes(bytes.as_str())
+        .listed(signals);
+    read_header(alloc, &file(alloc, &header, &[]).ok()?)
+}
+
+/// Whether a header of the signals of these letters has these blocks and sizes, the last of them
+/// that of the ordinary samples.
+fn are_read_as(
+    alloc: Global,
+    letters: &str,
+    blocks: &[(usize, usize)],
+    wanted: (usize, usize, usize),
+) -> Option<bool> {
+    let signals = signals_of(alloc, letters)?;
+    let header = read_listed(alloc, signals.as_slice())?.ok()?;
+    let (block, record) = sizes(&header);
+    let ordinary = header.identity().ordinary_bytes();
+    Some(has_blocks(&header, blocks) && (block, record, ordinary) == wanted)
+}
+
+/// The letters of signals, their annotations blocks, and the bytes of these together, of a data
+/// record and of the ordinary samples.
+const PLACES: &[(&str, &[(usize, usize)], (usize, usize, usize))] = &[
+    ("ea", &[(4, 6)], (6, 10, 4)),
+    ("ae", &[(0, 6)], (6, 10, 4)),
+    ("eae", &[(4, 6)], (6, 14, 8)),
+    ("aeb", &[(0, 6), (10, 16)], (22, 26, 4)),
+    ("abe", &[(0, 6), (6, 16)], (22, 26, 4)),
+    ("eab", &[(4, 6), (10, 16)], (22, 26, 4)),
+    ("bea", &[(0, 16), (20, 6)], (22, 26, 4)),
+    ("eaeb", &[(4, 6), (14, 16)], (22, 30, 8)),
+    ("abae", &[(0, 6), (6, 16), (22, 6)], (28, 32, 4)),
+    ("eaba", &[(4, 6), (10, 16), (26, 6)], (28, 32, 4)),
+    ("aebea", &[(0, 6), (10, 16), (30, 6)], (28, 36, 8)),
+    ("aLb", &[(0, 6), (10, 16)], (22, 26, 4)),
+    (
+        "le1",
+        &[(0, 4_194_302), (4_194_306, 2)],
+        (4_194_304, 4_194_308, 4),
+    ),
+    (
+        "1Ml",
+        &[(0, 2), (4_194_306, 4_194_302)],
+        (4_194_304, 8_388_608, 4_194_304),
+    ),
+];
+
+#[test]
+fn annotations_signals_stand_at_any_place(rt: HostRuntime) {
+    for (letters, blocks, wanted) in PLACES.iter().copied() {
+        let same = are_read_as(rt.alloc(), letters, blocks, wanted);
+        assert_eq!(rt; same, Some(true), "{letters}");
+    }
+}
+
+/// Whether a header of the signals of these letters names Q's recording.
+fn names_q(alloc: Global, letters: &str) -> Option<bool> {
+    let signals = signals_of(alloc, letters)?;
+    let header = read_listed(alloc, signals.as_slice())?.ok()?;
+    let bytes = identity_q(alloc).ok()?;
+    Some(has_bytes(alloc, header.identity(), &bytes))
 }
 
 #[test]
-fn a_fault_is_told_of_the_third_signal(rt: HostRuntime) {
-    assert_eq!(rt; told_of_three(rt.alloc()), Some(((4, 6, 18), 12)));
-    let changes: [(usize, &[u8], HeaderFault); 3] = [
-        (584, b"510 ", HeaderFault::Physical { signal: 3 }),
-        (632, b"2047 ", HeaderFault::Digital { signal: 3 }),
-        (920, b"0", HeaderFault::Samples { signal: 3 }),
-    ];
-    for (at, text, fault) in changes {
-        assert_eq!(rt; third_fault(rt.alloc(), at, text), Some(fault), "at {at}");
+fn annotations_signals_are_no_part_of_an_identity(rt: HostRuntime) {
+    for letters in ["ea", "ae", "bea", "eaba", "le1"] {
+        assert_eq!(rt; names_q(rt.alloc(), letters), Some(true), "{letters}");
+    }
+    assert_eq!(rt; names_q(rt.alloc(), "eae"), Some(false));
+}
+
+/// The letters of signals, and the fault of their header.
+const SIGNAL_FAULTS: &[(&str, HeaderFault)] = &[
+    ("ee", HeaderFault::Annotations),
+    ("eL", HeaderFault::Annotations),
+    ("aa", HeaderFault::Annotations),
+    ("aba", HeaderFault::Annotations),
+    ("dea", HeaderFault::Annotations),
+    ("aed", HeaderFault::Annotations),
+    ("aeD", HeaderFault::Annotations),
+    ("eap", HeaderFault::Annotations),
+    ("abeP", HeaderFault::Annotations),
+    ("FaP", HeaderFault::Annotations),
+    ("FF", HeaderFault::Annotations),
+    ("eaF", HeaderFault::Physical { signal: 3 }),
+    ("abF", HeaderFault::Physical { signal: 3 }),
+    ("aFb", HeaderFault::Physical { signal: 2 }),
+    ("nGF", HeaderFault::Physical { signal: 3 }),
+    ("eaG", HeaderFault::Digital { signal: 3 }),
+    ("abeG", HeaderFault::Digital { signal: 4 }),
+    ("nGb", HeaderFault::Digital { signal: 2 }),
+    ("eaN", HeaderFault::Samples { signal: 3 }),
+    ("nea", HeaderFault::Samples { signal: 1 }),
+    ("aen", HeaderFault::Samples { signal: 3 }),
+    ("mnNe", HeaderFault::Samples { signal: 2 }),
+    ("le2", HeaderFault::Size),
+    ("me1", HeaderFault::Size),
+    ("1em", HeaderFault::Size),
+    ("hhe", HeaderFault::Size),
+    ("aMeb", HeaderFault::Size),
+];
+
+/// The fault of a header of the signals of these letters.
+fn fault_of(alloc: Global, letters: &str) -> Option<HeaderFault> {
+    let signals = signals_of(alloc, letters)?;
+    read_listed(alloc, signals.as_slice())?.err()
+}
+
+#[test]
+fn a_fault_is_told_of_the_first_signal_that_has_it(rt: HostRuntime) {
+    for (letters, fault) in SIGNAL_FAULTS.iter().copied() {
+        let told = fault_of(rt.alloc(), letters);
+        assert_eq!(rt; told, Some(fault), "{letters}");
     }
 }
 
-/// Its fault with another text from an offset on.
-fn third_fault(alloc: Global, at: usize, text: &[u8]) -> Option<HeaderFault> {
-    read_three(alloc, at, text)?.err()
+/// Reads a header of one ordinary signal and 639 annotations signals of so many samples.
+fn read_639(alloc: Global, samples: &'static str) -> Option<Result<Header, HeaderFault>> {
+    let mut signals = Vec::new(alloc);
+    signals.push(Signal::eeg()).ok()?;
+    for _ in 0..639usize {
+        signals.push(Signal::annotations(samples)).ok()?;
+    }
+    read_listed(alloc, signals.as_slice())
+}
+
+/// How many blocks the header has, where the last begins, and the sizes.
+fn told_of_639(alloc: Global) -> Option<(usize, usize, (usize, usize))> {
+    let header = read_639(alloc, "3")?.ok()?;
+    let last = header.blocks().last()?.at;
+    Some((header.blocks().len(), last, sizes(&header)))
+}
+
+#[test]
+fn all_signals_but_one_may_be_annotations_signals(rt: HostRuntime) {
+    let told = told_of_639(rt.alloc());
+    assert_eq!(rt; told, Some((639, 3_832, (3_834, 3_838))));
+    let size = Some(HeaderFault::Size);
+    assert_eq!(rt; fault_of_639(rt.alloc()), size);
+}
+
+/// The fault of one whose samples are too many by far.
+fn fault_of_639(alloc: Global) -> Option<HeaderFault> {
+    read_639(alloc, "99999999")?.err()
 }

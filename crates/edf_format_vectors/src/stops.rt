@@ -31,7 +31,7 @@ fn read_twice(alloc: Global, input: StopsOnce<'_>) -> Option<FragmentFault> {
 }
 
 /// The fault and the number of reads.
-fn drained(
+pub(crate) fn drained(
     alloc: Global,
     bytes: &[u8],
     stop: usize,

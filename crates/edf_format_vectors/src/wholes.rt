@@ -13,12 +13,17 @@ fn read(alloc: Global, bytes: &[u8]) -> Result<(Header, Vec<Record>), FragmentFa
     read_fragment(alloc, &mut Counted::new(Source::whole(bytes, 100)))
 }
 
+/// How many data records the bytes have, or their fault.
+pub(crate) fn told_of(alloc: Global, bytes: &[u8]) -> Result<usize, FragmentFault> {
+    match read(alloc, bytes) {
+        Ok((_, records)) => Ok(records.len()),
+        Err(fault) => Err(fault),
+    }
+}
+
 /// The fault of the bytes, where they have one.
 fn fault_of(alloc: Global, bytes: &[u8]) -> Option<FragmentFault> {
-    match read(alloc, bytes) {
-        Ok(_) => None,
-        Err(fault) => Some(fault),
-    }
+    told_of(alloc, bytes).err()
 }
 
 /// Whether U is read with its two data records, and twice with one identity.
@@ -27,7 +32,7 @@ fn is_read_twice(alloc: Global) -> Option<bool> {
     let (header, records) = read(alloc, &bytes).ok()?;
     let (again, _) = read(alloc, &bytes).ok()?;
     let same = header.identity().same(again.identity());
-    Some(same && header.count() == 2 && are_those_of_u(records.as_slice()))
+    Some(same && header.count() == Some(2) && are_those_of_u(records.as_slice()))
 }
 
 #[test]

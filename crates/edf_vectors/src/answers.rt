@@ -33,7 +33,7 @@ fn answers(
 }
 
 /// Whether files are answered so by a store of this cap, all in one list.
-fn are_answered(alloc: Global, cap: u32, names: &str, want: &[Answer]) -> Option<bool> {
+pub(crate) fn are_answered(alloc: Global, cap: u32, names: &str, want: &[Answer]) -> Option<bool> {
     let mut store = empty_store(alloc, cap)?;
     let answers = answers(alloc, &mut store, names)?;
     let mut same = answers.len() == want.len();
@@ -93,7 +93,7 @@ fn last_refusal(alloc: Global, cap: u32, names: &str) -> Option<(Refusal, String
 }
 
 /// Whether the last of some files is refused so, in these words.
-fn is_refused(
+pub(crate) fn is_refused(
     alloc: Global,
     cap: u32,
     names: &str,
@@ -147,7 +147,7 @@ fn a_full_recording_tells_its_counts(rt: HostRuntime) {
 }
 
 /// The refusal by its starts, in nanoseconds.
-fn overlap(start: u64, stored: u64) -> Option<Refusal> {
+pub(crate) fn overlap(start: u64, stored: u64) -> Option<Refusal> {
     let start = Instant::at(start)?;
     let stored = Instant::at(stored)?;
     Some(Refusal::Overlap { start, stored })
@@ -164,7 +164,7 @@ fn an_overlap_tells_both_starts(rt: HostRuntime) {
 }
 
 /// The refusal by its start, in nanoseconds.
-fn difference(nanos: u64) -> Option<Refusal> {
+pub(crate) fn difference(nanos: u64) -> Option<Refusal> {
     let start = Instant::at(nanos)?;
     Some(Refusal::Differs { start })
 }

@@ -1,6 +1,7 @@
 //! A night, cut into six fragments at places as if by chance.
 
 use crate::night::{Chance, Second, file_of};
+use edf_sample::patched;
 use std::alloc::Global;
 
 /// How many data records each of six fragments has of its own, one at least.
@@ -13,7 +14,8 @@ fn widths(chance: &mut Chance, count: usize) -> [usize; 6] {
     widths
 }
 
-/// Six fragments that have each data record once or more: each reaches up to two records into its neighbours.
+/// Six fragments that have each data record once or more: each reaches up to two records into its
+/// neighbours. Some do not count their records.
 pub(crate) fn fragments(
     alloc: Global,
     chance: &mut Chance,
@@ -30,9 +32,9 @@ pub(crate) fn fragments(
         } else {
             "EDF+D"
         };
-        files
-            .push(file_of(alloc, night.get(first..last)?, mark, chance.below(4))?)
-            .ok()?;
+        let file = file_of(alloc, night.get(first..last)?, mark, chance.below(4))?;
+        let count: &[u8] = if chance.below(2) == 0 { b"-1" } else { b"" };
+        files.push(patched(alloc, &file, 236, count).ok()?).ok()?;
         from = to;
     }
     Some(files)

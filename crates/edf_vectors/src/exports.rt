@@ -4,7 +4,7 @@ use crate::stage::{CAP, converted, exported};
 use std::alloc::Global;
 
 /// The checked length of the first recording's export, after these files were taken.
-fn first_of(alloc: Global, line: &str, want: &str) -> Option<usize> {
+pub(crate) fn first_of(alloc: Global, line: &str, want: &str) -> Option<usize> {
     exported(alloc, CAP, line, "export night.db 1", want)
 }
 

@@ -153,7 +153,7 @@ fn past(alloc: Global) -> Option<Vec<u8>> {
 }
 
 /// Two data records ten seconds and a half apart: the second starts half a second behind Q's.
-fn half(alloc: Global) -> Option<Vec<u8>> {
+pub(crate) fn half(alloc: Global) -> Option<Vec<u8>> {
     let first = b"\x05\0\0\0+0\x14\x14\0\0\0\0";
     let second = b"\x06\0\0\0+10.5\x14\x14\0";
     file(alloc, &evening("23.59.40", "2", "4"), &[first, second]).ok()

@@ -14,6 +14,8 @@
 //! - `stories`: the lines of orders, and how they end.
 //! - `exports`: exports, byte for byte.
 //! - `answers`: receipts, refusals and what is held after them, by value.
+//! - `uncounted`, `several_signals`: all this of files that do not count their data records, and of
+//!   files of several annotations signals.
 //!
 //! By lists of fragments:
 //!
@@ -88,6 +90,8 @@ mod recuts;
 #[cfg(test)]
 mod run;
 #[cfg(test)]
+mod several_signals;
+#[cfg(test)]
 mod shelf;
 #[cfg(test)]
 mod stage;
@@ -97,6 +101,8 @@ mod stops;
 mod stories;
 #[cfg(test)]
 mod three_files;
+#[cfg(test)]
+mod uncounted;
 #[cfg(test)]
 mod words;
 #[cfg(test)]

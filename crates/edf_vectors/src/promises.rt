@@ -7,7 +7,7 @@ use edf_fragment::FragmentFault;
 use edf_header::HeaderFault;
 use edf_intake::Refusal;
 use edf_sample::named::file_q;
-use edf_sample::{Header, file, q};
+use edf_sample::{Header, Signal, file, q};
 use edf_tal::TalFault;
 use std::alloc::Global;
 
@@ -41,40 +41,12 @@ fn a_header_that_promises_more_than_there_is_is_refused(rt: HostRuntime) {
     }
 }
 
-/// The fields of two EEG signals of 1,048,577 samples and of an annotations signal: each field's width, its text for the EEG
-/// signals and its text for the annotations signal.
-const COLUMNS: &[(usize, &str, &str)] = &[
-    (16, "EEG Fpz-Cz", "EDF Annotations "),
-    (80, "AgAgCl electrode", ""),
-    (8, "uV", ""),
-    (8, "-440", "-1"),
-    (8, "510", "1"),
-    (8, "-2048", "-32768"),
-    (8, "2047", "32767"),
-    (80, "HP:0.1Hz LP:75Hz", ""),
-    (8, "1048577", "3"),
-    (32, "", ""),
-];
-
-/// Adds a field to a header.
-fn push_field(bytes: &mut Vec<u8>, width: usize, text: &str) -> Option<()> {
-    bytes.extend_from_slice(text.as_bytes()).ok()?;
-    for _ in text.len()..width {
-        bytes.push(b' ').ok()?;
-    }
-    Some(())
-}
-
 /// A header of two EEG signals, each within the limit of a data record, and both past it.
 fn two_large_signals(alloc: Global) -> Option<Vec<u8>> {
-    let mut bytes = file(alloc, &q().signals("3").header_bytes("1024"), &[]).ok()?;
-    bytes.truncate(256);
-    for (width, eeg, annotations) in COLUMNS.iter().copied() {
-        push_field(&mut bytes, width, eeg)?;
-        push_field(&mut bytes, width, eeg)?;
-        push_field(&mut bytes, width, annotations)?;
-    }
-    Some(bytes)
+    let large = Signal::eeg().samples("1048577");
+    let signals = [large, large, Signal::annotations("3")];
+    let header = q().signals("3").header_bytes("1024").listed(&signals);
+    file(alloc, &header, &[]).ok()
 }
 
 /// What a store of Q answers them.

@@ -5,7 +5,7 @@ use crate::intake::Answer;
 use edf_fragment::{Counted, FragmentFault};
 use edf_intake::Refusal;
 use edf_sample::named::file_p5;
-use edf_sample::{Source, StopsOnce, file, q};
+use edf_sample::{Source, StopsOnce, file, patched, q};
 use edf_store::Store;
 use sqlite::MemStore;
 use std::alloc::Global;
@@ -23,9 +23,14 @@ fn is_failed_read(
     submitted(alloc, store, &mut input) == Err(Refusal::Read) && holds_q(alloc, store)
 }
 
+/// P5, with this text where its count begins.
+fn p5(alloc: Global, count: &[u8]) -> Option<Vec<u8>> {
+    patched(alloc, &file_p5(alloc).ok()?, 236, count).ok()
+}
+
 /// Behind how many bytes of P5 a reader may fail and be refused so; and then what the whole of P5 is answered.
-fn failed_reads(alloc: Global, kind: ErrorKind) -> Option<(usize, Answer)> {
-    let bytes = file_p5(alloc).ok()?;
+fn failed_reads(alloc: Global, count: &[u8], kind: ErrorKind) -> Option<(usize, Answer)> {
+    let bytes = p5(alloc, count)?;
     let mut store = store_of_q(alloc)?;
     for cut in 0..803usize {
         if !is_failed_read(alloc, &mut store, &bytes, cut, kind) {
@@ -38,14 +43,20 @@ fn failed_reads(alloc: Global, kind: ErrorKind) -> Option<(usize, Answer)> {
 #[test]
 fn a_reader_that_fails_anywhere_leaves_what_is_held(rt: HostRuntime) {
     for kind in [ErrorKind::Other, ErrorKind::Interrupted] {
-        let failed = failed_reads(rt.alloc(), kind);
+        let failed = failed_reads(rt.alloc(), b"1", kind);
         assert_eq!(rt; failed, Some((803, Ok((1, 0)))));
     }
 }
 
+#[test]
+fn a_reader_that_fails_is_not_at_its_end_where_the_count_is_unknown(rt: HostRuntime) {
+    let failed = failed_reads(rt.alloc(), b"-1", ErrorKind::Other);
+    assert_eq!(rt; failed, Some((803, Ok((1, 0)))));
+}
+
 /// What P5 is answered from a reader that fails once and then goes on, and how often that was read; and then P5 again.
-fn failed_once(alloc: Global, stop: usize) -> Option<(Answer, usize, Answer)> {
-    let bytes = file_p5(alloc).ok()?;
+fn failed_once(alloc: Global, count: &[u8], stop: usize) -> Option<(Answer, usize, Answer)> {
+    let bytes = p5(alloc, count)?;
     let mut store = store_of_q(alloc)?;
     let mut reads = 0;
     let mut input = Counted::new(StopsOnce::new(&bytes, stop, true, &mut reads));
@@ -56,10 +67,12 @@ fn failed_once(alloc: Global, stop: usize) -> Option<(Answer, usize, Answer)> {
 
 #[test]
 fn a_reader_that_fails_once_is_read_no_further_and_its_file_is_accepted_again(rt: HostRuntime) {
-    for stop in [0usize, 1, 255, 256, 767, 768, 801, 802] {
-        let told = failed_once(rt.alloc(), stop);
-        let wanted = (Err(Refusal::Read), stop + 1, Ok((1, 0)));
-        assert_eq!(rt; told, Some(wanted), "behind {stop} bytes");
+    for count in [b"1".as_slice(), b"-1".as_slice()] {
+        for stop in [0usize, 1, 255, 256, 767, 768, 801, 802] {
+            let told = failed_once(rt.alloc(), count, stop);
+            let wanted = (Err(Refusal::Read), stop + 1, Ok((1, 0)));
+            assert_eq!(rt; told, Some(wanted), "behind {stop} bytes");
+        }
     }
 }
 

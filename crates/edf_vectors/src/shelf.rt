@@ -3,6 +3,8 @@
 ghost use Rattle.std.specs.Prelude.{None, map, string_bytes};
 
 use crate::files::{expected, fitting, refused};
+use crate::several_signals::several;
+use crate::uncounted::uncounted;
 use edf_command::Inputs;
 use edf_fragment::Counted;
 use std::alloc::{AllocError, Global};
@@ -14,6 +16,12 @@ pub(crate) fn file_named(alloc: Global, name: &str) -> Option<Vec<u8>> {
         return Some(bytes);
     }
     if let Some(bytes) = refused(alloc, name) {
+        return Some(bytes);
+    }
+    if let Some(bytes) = uncounted(alloc, name) {
+        return Some(bytes);
+    }
+    if let Some(bytes) = several(alloc, name) {
         return Some(bytes);
     }
     expected(alloc, name)
