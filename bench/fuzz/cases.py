@@ -1,11 +1,13 @@
 """Makes files for the fuzz bench: fragments of a few recordings, cut, spelled and ordered at random, some of them broken.
 
-Nothing here reads a file or knows the program's answers: what a file deserves is told by bench/lib/model.py.
+Half of them don't tell how many data records they have (a count of -1), or have several annotations signals, or both. Nothing here
+reads a file or knows the program's answers: what a file deserves is told by bench/lib/model.py.
 """
 import random
+from dataclasses import replace
 from datetime import datetime, timedelta
 
-from edf import FIXED_WIDTHS, SIGNAL_WIDTHS, Header, Signal, annotations_signal, fragment
+from edf import ANNOTATIONS_LABEL, FIXED_WIDTHS, SIGNAL_WIDTHS, Header, Signal, annotations_signal, fragment, keeping
 
 SECOND = 10**9
 DAYS = (datetime(1985, 1, 1), datetime(1999, 12, 31, 23, 59, 58), datetime(2000, 2, 28, 23, 59, 59), datetime(2002, 3, 2, 22, 30),
@@ -27,7 +29,8 @@ FIXED_TEXTS = (
     ("23.59.50", "24.00.00", "23.60.00", "23.59.60", "00.00.00", "23:59:50", "3.59.50", "23.59.5", "-1.00.00"),
     ("768", "512", "1024", "00000768", "768.0", "+768", "", " 768", "0"),
     ("EDF+C", "EDF+D", "", "EDF+", "EDF+E", "edf+c", " EDF+C", "EDF+C and what follows it, to its whole width", "BDF+C", "EDF+Dx"),
-    ("1", "2", "3", "00000001", "0", "-1", "+1", " 1", "1 1", "99999999", "1.0", "", "00000000", "a"),
+    ("1", "2", "3", "00000001", "0", "-1", "-1", "-1", "-1", "+1", " 1", "1 1", "99999999", "1.0", "", "00000000", "a", "-2", "-01", " -1",
+     "-1.", "-001", "-0", "-10", "-11", "- 1", "--1", "-1 1", "-1.0", "-", "1-", "-1-", "-1\0", "-1\x1f", "-9999999"),
     ("1", "1.0", "0", "0.0", "1.", ".5", "0.5", "1e1", "-1", "+1", "00000001", "99999999", "0.000001", "1 1", "", "0000000."),
     ("2", "02", "0002", "3", "1", "0", "640", "641", "2 2", "+2", "-2", "", "9999", "2.0"),
 )
@@ -41,7 +44,7 @@ SIGNAL_TEXTS = (
     ("-2048", "-32768", "-32769", "0", "2047", "+0", "-0", "", "-", "-02048", "-2048.0", "32767", " -1", "99999999"),
     ("2047", "32767", "32768", "-2048", "+2047", "0", "", "2047.", "02047", "-2049", "2 047"),
     ("HP:0.1Hz", "", "\x00"),
-    ("1", "2", "3", "0", "00000002", "+2", "-2", "2.0", "", "2097152", "2097153", "99999999", " 2", "2 2"),
+    ("1", "2", "3", "0", "00000002", "+2", "-2", "2.0", "", "2097151", "2097152", "2097153", "99999999", " 2", "2 2"),
     ("", "reserved", "\x1f"),
 )
 ONSETS = ("+0", "-0", "+1", "+1.5", "-1.5", "+00001.500", "+0.000000001", "+1.0000000010", "+1.0000000001", "+1.", "+.5", "1", "", "+",
@@ -70,21 +73,65 @@ def signed(nanos: int, rng: random.Random) -> str:
     return ("-" if nanos < 0 else "+") + decimal(abs(nanos), rng)
 
 
-def block(start: int, notes: list, base: int, rng: random.Random) -> bytes:
-    """The record's start and its annotations, an annotation sometimes in the list of the one before where it may be."""
-    pieces, before = [[start, None, [b""]]], (start, None)
+def in_lists(notes: list, begun: list, rng: random.Random) -> list:
+    """The annotations in lists behind those begun, one sometimes in the list of the one before where it may be; now and then a list
+    without annotations, which adds nothing."""
     for at, span, text in notes:
-        if (at, span) == before and rng.random() < 0.5:
-            pieces[-1][2].append(text)
+        if begun and (at, span) == tuple(begun[-1][:2]) and rng.random() < 0.5:
+            begun[-1][2].append(text)
         else:
-            pieces.append([at, span, [text]])
-        before = (at, span)
+            begun.append([at, span, [text]])
+        if rng.random() < 0.03:
+            begun.append([at, rng.choice((None, SECOND)), []])
+    return begun
+
+
+def spelled(lists: list, base: int, rng: random.Random) -> bytes:
     made = b""
-    for at, span, texts in pieces:
+    for at, span, texts in lists:
         made += signed(at - base, rng).encode()
         made += b"" if span is None else b"\x15" + decimal(span, rng).encode()
         made += b"\x14" + b"".join(text + b"\x14" for text in texts) + b"\0"
     return made
+
+
+def shares(total: int, count: int, rng: random.Random) -> list:
+    """From where to where each of so many shares of the whole goes; some are empty."""
+    ends = [0, *sorted(rng.randint(0, total) for _ in range(count - 1)), total]
+    return list(zip(ends, ends[1:]))
+
+
+def blocks(start: int, notes: list, base: int, count: int, rng: random.Random) -> list:
+    """The blocks of a record: its start in the first, and its annotations in all of them, in their order."""
+    made = []
+    for nth, (begin, end) in enumerate(shares(len(notes), count, rng)):
+        begun = [] if nth else [[start, None, [b""]]]
+        if nth and rng.random() < 0.1:
+            begun.append([start, None, rng.choice(([], [], [b""]))])        # here an empty text is an annotation
+        made.append(spelled(in_lists(notes[begin:end], begun, rng), base, rng))
+    return made
+
+
+def noted_signals(pairs: list, spare: tuple, rng: random.Random) -> list:
+    """An annotations signal for each block of a record, wide enough for the blocks at its place in all records."""
+    signals = []
+    for made in zip(*(made for _, made in pairs)):
+        signal = annotations_signal(max(1, (max(map(len, made)) + 1) // 2) + rng.choice(spare))
+        if rng.random() < 0.1:
+            signal = replace(signal, transducer="any", dimension="any", physical_minimum="5.", physical_maximum="-5",
+                             digital_maximum="+32767", prefiltering="any", reserved="any")
+        signals.append(signal)
+    return signals
+
+
+def placed(ordinary: list, noted: list, rng: random.Random) -> tuple:
+    """The ordinary signals with the annotations signals among them: all of these first, all last, or anywhere."""
+    last = len(ordinary)
+    places = rng.choice(([0] * len(noted), [last] * len(noted), sorted(rng.randint(0, last) for _ in noted)))
+    signals = list(ordinary)
+    for place, signal in reversed(list(zip(places, noted))):
+        signals.insert(place, signal)
+    return tuple(signals)
 
 
 class Recording:
@@ -131,7 +178,7 @@ class Recording:
         return changed
 
     def cut(self) -> tuple:
-        """A header and the pairs of samples and block of some records in a row."""
+        """A header and the pairs of samples and blocks of some records in a row."""
         rng = self.rng
         first = rng.randrange(len(self.records))
         records = self.records[first:first + rng.randint(1, 6)]
@@ -139,14 +186,13 @@ class Recording:
             records = self.differing(records)
         begin = self.start + timedelta(seconds=records[0][0] // SECOND)
         base = records[0][0] // SECOND * SECOND
-        pairs = [(samples, block(at, notes, base, rng)) for at, samples, notes in records]
-        need = (max(len(made) for _, made in pairs) + 1) // 2
-        signals = list(self.signals)
-        signals.insert(rng.randint(0, len(signals)), annotations_signal(need + rng.choice((0, 0, 1, 20))))
+        count = rng.choice((2, 2, 2, 3, 3, 5)) if rng.random() < 0.3 else 1
+        pairs = [(samples, blocks(at, notes, base, count, rng)) for at, samples, notes in records]
+        signals = placed(self.signals, noted_signals(pairs, (0, 0, 1, 20), rng), rng)
         day = begin.strftime("%d-%b-%Y").upper() if self.dated else "X"
-        header = Header(tuple(signals), begin.strftime("%d.%m.%y"), begin.strftime("%H.%M.%S"), self.patient,
-                        f"Startdate {day}{self.following}", rng.choice(("EDF+C", "EDF+D", "EDF+D and more")),
-                        rng.choice(("{}", "{}", "{:03}")).format(len(pairs)), self.duration)
+        told = "-1" if rng.random() < 0.3 else rng.choice(("{}", "{}", "{:03}")).format(len(pairs))
+        header = Header(signals, begin.strftime("%d.%m.%y"), begin.strftime("%H.%M.%S"), self.patient,
+                        f"Startdate {day}{self.following}", rng.choice(("EDF+C", "EDF+D", "EDF+D and more")), told, self.duration)
         return header, pairs
 
 
@@ -158,7 +204,7 @@ def column(ns: int, which: int, signal: int) -> int:
 def with_field(data: bytes, ns: int, rng: random.Random) -> bytes:
     """The file with one field of its header given another text."""
     if rng.random() < 0.5:
-        which = rng.randrange(10)
+        which = rng.choice((0, 1, 2, 3, 4, 5, 6, 7, 7, 7, 8, 9))
         at, width, text = sum(FIXED_WIDTHS[:which]), FIXED_WIDTHS[which], rng.choice(FIXED_TEXTS[which])
     else:
         which = rng.choice((0, 1, 2, 3, 3, 4, 4, 5, 5, 6, 6, 7, 8, 8, 9))
@@ -173,28 +219,77 @@ def odd_list(rng: random.Random) -> bytes:
     return made + rng.choice((b"\0",) * 12 + (b"", b"\0\0", b"\x14", b"x\0"))
 
 
-def with_odd_block(header: Header, pairs: list, rng: random.Random) -> tuple:
-    nth = rng.randrange(len(pairs))
-    samples, made = pairs[nth]
+def odd_block(made: bytes, rng: random.Random) -> bytes:
     change = rng.randrange(5)
     if change == 0:
-        made = b"".join(odd_list(rng) for _ in range(rng.randint(0, 3)))
-    elif change == 1:
-        made = odd_list(rng) + made
-    elif change == 2:
-        made += odd_list(rng)
-    elif change == 3:
+        return b"".join(odd_list(rng) for _ in range(rng.randint(0, 3)))
+    if change == 1:
+        return odd_list(rng) + made
+    if change == 2:
+        return made + odd_list(rng)
+    if change == 3:
         lists = made.split(b"\0")
-        made = b"\0".join(lists[:1] + [odd_list(rng).rstrip(b"\0")] + lists[1:])
+        return b"\0".join(lists[:1] + [odd_list(rng).rstrip(b"\0")] + lists[1:])
+    at = rng.randrange(len(made) + 1)
+    return made[:at] + bytes([rng.choice((0, 20, 21, 43, 45, 46, 48, 57, 255, rng.randrange(256)))]) + made[at + 1:]
+
+
+def odd_in_two(made: list, rng: random.Random) -> list:
+    """The blocks of a record with what is wrong in two of them, or in one as it stands beside the others."""
+    change, made = rng.randrange(6), list(made)
+    first, second = sorted(rng.sample(range(len(made)), 2))
+    if change == 0:         # a text that is no UTF-8 and, in another block, what is no list, or a second such text
+        bad = [b"+1\x14a\x14\xe2\x82\x14\0", rng.choice((b"+1", b"\0\1", b"+1.\x14\0", b"+1\x14\xff\x14\0"))]
+        rng.shuffle(bad)
+        made[first] += bad[0]
+        made[second] += bad[1]
+    elif change == 1:       # no time-keeping list in the first block
+        made[0], made[second] = rng.choice((b"", made[second], b"+0\x14\0")), made[0]
+    elif change == 2:       # a list without annotations, of which only the times can be wrong
+        span = rng.choice((b"", b"\x151", b"\x153155759999.999999999", b"\x153155760000", b"\x159223372036.854775808"))
+        made[second] += rng.choice(ONSETS).encode() + span + b"\x14\0"
+    elif change == 3:
+        made[first], made[second] = odd_block(made[first], rng), odd_block(made[second], rng)
+    elif change == 4:       # a list that may go on in the next block, with no byte between where the record is alone
+        whole = keeping("+0") + rng.choice((b"+0\x14ab\x14\0", b"+0.50\x151\x14text\x14\0", b"+1\x14\x14\x14a\x14\0"))
+        at = 2 * rng.randint(1, len(whole) // 2)
+        made = [whole[:at], whole[at:], *[b""] * (len(made) - 2)]
     else:
-        at = rng.randrange(len(made))
-        made = made[:at] + bytes([rng.choice((0, 20, 21, 43, 45, 46, 48, 57, 255, rng.randrange(256)))]) + made[at + 1:]
-    pairs = pairs[:nth] + [(samples, made)] + pairs[nth + 1:]
-    need = (max(len(each) for _, each in pairs) + 1) // 2
-    signals = tuple(annotations_signal(max(need, int(signal.samples))) if signal.label.startswith("EDF A") else signal
-                    for signal in header.signals)
-    return Header(signals, header.startdate, header.starttime, header.patient, header.recording, header.reserved, header.count,
-                  header.duration), pairs
+        rng.shuffle(made)
+    return made
+
+
+def with_odd_block(header: Header, pairs: list, rng: random.Random) -> tuple:
+    """The file with odd blocks in one of its records; sometimes the first, which is then alone."""
+    alone = rng.random() < 0.3
+    nth = 0 if alone else rng.randrange(len(pairs))
+    samples, made = pairs[nth]
+    if len(made) > 1 and rng.random() < 0.6:
+        made = odd_in_two(made, rng)
+    else:
+        which = rng.randrange(len(made))
+        made = [*made[:which], odd_block(made[which], rng), *made[which + 1:]]
+    pairs = [(samples, made)] if alone else [*pairs[:nth], (samples, made), *pairs[nth + 1:]]
+    noted = iter(noted_signals(pairs, (0, 0, 1), rng))
+    signals = tuple(next(noted) if signal.label == ANNOTATIONS_LABEL else signal for signal in header.signals)
+    return replace(header, signals=signals, count="1" if alone and header.count != "-1" else header.count), pairs
+
+
+def without_ordinary(header: Header, pairs: list) -> tuple:
+    """The file with annotations signals alone, each twice."""
+    noted = tuple(signal for signal in header.signals if signal.label == ANNOTATIONS_LABEL)
+    return replace(header, signals=2 * noted), [(b"", 2 * made) for _, made in pairs]
+
+
+def with_other_end(data: bytes, header: Header, rng: random.Random) -> bytes:
+    """The file cut between two records, or inside one at a kind of place; or made longer, by less than a record or more."""
+    head, size, widths = 256 + 256 * len(header.signals), header.record_bytes(), header.widths()
+    begin = head + size * rng.randrange((len(data) - head) // size)
+    edge = sum(widths[:rng.randrange(len(widths))]) + rng.choice((-1, 0, 1))
+    longer = (b"\0", b"\xff" * rng.randrange(1, size), bytes(size - 1), bytes(size), bytes(size + 1), data[-size:], data[head:], data)
+    if rng.random() < 0.3:
+        return data + rng.choice(longer)
+    return data[:begin + rng.choice((0, 0, 0, 1, size - 1, edge, rng.randrange(size)))]
 
 
 def with_other_bytes(data: bytes, ns: int, rng: random.Random) -> bytes:
@@ -212,29 +307,50 @@ def with_other_bytes(data: bytes, ns: int, rng: random.Random) -> bytes:
 
 def case(recording: Recording, rng: random.Random) -> bytes:
     header, pairs = recording.cut()
-    ns = len(header.signals)
     kind = rng.random()
     if kind < 0.2:
         header, pairs = with_odd_block(header, pairs, rng)
-    if 0.2 <= kind < 0.25:
+    if 0.2 <= kind < 0.24 or kind < 0.02:
         rng.shuffle(pairs)
+    if 0.24 <= kind < 0.25:
+        header, pairs = without_ordinary(header, pairs)
     data = fragment(header, pairs)
-    if 0.25 <= kind < 0.45 or kind < 0.02:
-        data = with_field(data, ns, rng)
-    if 0.45 <= kind < 0.55 or kind < 0.01:
-        data = with_other_bytes(data, ns, rng)
-    if 0.5505 > kind >= 0.55:
+    if rng.random() < (0.3 if header.count == "-1" else 0.03):
+        data = with_other_end(data, header, rng)
+    for _ in range(rng.choice((1, 1, 2)) if 0.25 <= kind < 0.45 or kind < 0.02 else 0):
+        data = with_field(data, len(header.signals), rng)
+    if 0.45 <= kind < 0.53 or kind < 0.01:
+        data = with_other_bytes(data, len(header.signals), rng)
+    if 0.53 <= kind < 0.533:
         data = crowded(rng)
+    if 0.54 <= kind < 0.55:
+        data = wide(rng)
     return data
 
 
 def crowded(rng: random.Random) -> bytes:
-    """A record at the edge of what a record may hold."""
-    many = rng.random() < 0.5
-    text = b"\x14" * rng.choice((10_000, 10_001, 10_002)) if many else b"\x14" + b"a" * rng.choice((1_000_000, 1_000_001)) + b"\x14"
-    made = b"+0\x14" + text + b"\0"
-    header = Header((Signal(), annotations_signal((len(made) + 1) // 2)))
-    return fragment(header, [(b"\1\0\2\0", made)])
+    """A record at the edge of what its list may hold, in one block or in several."""
+    count, text = rng.choice((1, 2, 3)), b""
+    if rng.random() < 0.5:
+        total, text = rng.choice((10_000, 10_001)), b"\x14"
+    else:
+        total, text = rng.choice((1_000_000, 1_000_001)), b"a"
+    made = []
+    for begin, end in shares(total, count, rng):
+        keeps_time = b"" if made else b"\x14"
+        made.append(b"+0\x14" + keeps_time + (end - begin) * text + (b"" if text == b"\x14" else b"\x14") + b"\0")
+        made[-1] += b"+5\x14\0" * rng.choice((0, 0, 1))       # a list without annotations
+    pairs = [(b"\1\0\2\0", made)]
+    return fragment(Header(placed([Signal()], noted_signals(pairs, (0,), rng), rng), count=rng.choice(("1", "-1"))), pairs)
+
+
+def wide(rng: random.Random) -> bytes:
+    """A header whose records are at the edge of what a record may hold, with less than one of them behind it."""
+    edges = ((2_097_152,), (2_097_153,), (2_097_151, 1), (2_097_151, 2), (2, 2_097_151), (2_097_152, 1), (1_048_576, 1_048_576),
+             (1_048_576, 1_048_577), (699_051, 699_051, 699_050), (699_051, 699_051, 699_051))
+    ordinary = [Signal(samples=str(samples)) for samples in rng.choice(((2,), (2,), *edges))]
+    noted = [annotations_signal(samples) for samples in rng.choice(((3,), *edges[2:]))]
+    return Header(placed(ordinary, noted, rng), count=rng.choice(("1", "-1"))).to_bytes() + rng.randbytes(rng.randrange(40))
 
 
 def batch(seed: str, count: int) -> list:

@@ -4,10 +4,11 @@
     bench/fuzz/run.py [--program PATH] [--seed SEED] [--keep FOLDER] [CASES]        2,000 cases if left out
 
 The files (cases.py) are fragments of a few recordings, cut and spelled at random, in any order and with repeats, about half of
-them broken: fields, blocks, cuts, bytes. 200 come in one `take` on a new store, in two runs, so that the store is opened with rows.
-Checked are the line and status of each, the lines of `list`, and every export byte for byte; that the whole list sent again
-changes nothing; and that each export is accepted by an empty store and written again unchanged. The model (bench/lib/model.py)
-was written from docs/FORMAT.md and docs/REFUSALS.md, apart from the program. The batch that fails first is kept in FOLDER.
+them broken: fields, blocks, cuts, bytes. Half of them don't tell how many data records they have, or have several annotations
+signals. 200 come in one `take` on a new store, in two runs, so that the store is opened with rows. Checked are the line and status
+of each, the lines of `list`, and every export byte for byte; that the whole list sent again changes nothing; and that each export
+is accepted by an empty store and written again unchanged. The model (bench/lib/model.py) was written from docs/FORMAT.md and
+docs/REFUSALS.md, apart from the program. The batch that fails first is kept in FOLDER.
 """
 import collections
 import os
@@ -22,6 +23,7 @@ sys.path[:0] = [str(HERE.parent / "lib"), str(HERE)]
 import cases  # noqa: E402
 import measure  # noqa: E402
 import model  # noqa: E402
+from edf import ANNOTATIONS_LABEL  # noqa: E402
 
 BATCH = 200
 
@@ -89,6 +91,14 @@ def emptied(folder: Path) -> None:
         path.unlink()
 
 
+def kind(data: bytes) -> str:
+    """What the file is counted as, by its header."""
+    signals = data[252:256].strip()
+    ends = 256 + 16 * int(signals) if signals.isdigit() else 0
+    several = sum(data[at:at + 16] == ANNOTATIONS_LABEL.encode() for at in range(256, ends, 16)) > 1
+    return " and ".join(["of unknown count"] * (data[236:244] == b"-1      ") + ["with several annotations signals"] * several)
+
+
 def option(words: list, name: str, other: str) -> str:
     if name not in words:
         return other
@@ -104,7 +114,7 @@ def main() -> None:
     count = int(words[0]) if words else 2_000
     if "TMPDIR" not in os.environ and Path("/dev/shm").is_dir():
         os.environ["TMPDIR"] = "/dev/shm"       # a sync a file costs nothing there
-    seen, begun, done = collections.Counter(), time.perf_counter(), 0
+    seen, kinds, begun, done = collections.Counter(), collections.Counter(), time.perf_counter(), 0
     with measure.scratch() as name:
         folder = Path(name)
         for nth in range((count + BATCH - 1) // BATCH):
@@ -118,8 +128,10 @@ def main() -> None:
                     shutil.copytree(folder, keep, dirs_exist_ok=True)
                 sys.exit(1)
             done += len(files)
+            kinds.update(map(kind, files))
             seen.update(" ".join(answer.split()[:2]) if answer.startswith("refused") else answer.split()[0] for answer in answers)
     print(f"{done} files in {time.perf_counter() - begun:.0f} s, seed {seed}: every line, list and export as the model has it")
+    print(", ".join(f"{number} {text}" for text, number in sorted(kinds.items()) if text))
     accepted = seen.pop("accepted")
     print(f"accepted {accepted} ({accepted / done:.0%}); refused:",
           ", ".join(f"{text.split()[1]} {seen[text]}" for text in sorted(seen, key=lambda text: int(text.split()[1][1:]))))

@@ -55,6 +55,14 @@ class Header:
     header_bytes: str = ""
     number_of_signals: str = ""
 
+    def widths(self) -> list:
+        """How many bytes each signal has in a data record."""
+        return [2 * int(signal.samples) for signal in self.signals]
+
+    def record_bytes(self) -> int:
+        """How many bytes a data record has."""
+        return sum(self.widths())
+
     def to_bytes(self) -> bytes:
         ns = len(self.signals)
         texts = (self.version, self.patient, self.recording, self.startdate, self.starttime,
@@ -78,20 +86,24 @@ def keeping(onset: str) -> bytes:
     return tal(onset, "")
 
 
-def fragment(header: Header, records) -> bytes:
-    """A file of `records`: pairs of the ordinary sample bytes and the annotations block before its fill.
-
-    The annotations signal stands where `header.signals` has it; the ordinary bytes before it are as its neighbours say."""
-    before, block_bytes, at = 0, 0, 0
-    for signal in header.signals:
-        width = 2 * int(signal.samples)
+def data_record(header: Header, samples: bytes, blocks) -> bytes:
+    """A data record: each signal's bytes in turn. `blocks` is the annotations block before its fill, or the list of those of all
+    annotations signals, in file order."""
+    pieces, at, left = [], 0, [blocks] if isinstance(blocks, bytes) else list(blocks)
+    for signal, width in zip(header.signals, header.widths()):
         if signal.label == ANNOTATIONS_LABEL:
-            before, block_bytes = at, width
-        at += width
-    pieces = [header.to_bytes()]
-    for samples, block in records:
-        pieces += (samples[:before], block.ljust(block_bytes, b"\0"), samples[before:])
+            pieces.append(left.pop(0).ljust(width, b"\0"))
+        else:
+            pieces.append(samples[at:at + width])
+            at += width
+    if at != len(samples) or left or sum(map(len, pieces)) != header.record_bytes():
+        raise ValueError("the data record is not as the header's signals say")
     return b"".join(pieces)
+
+
+def fragment(header: Header, records) -> bytes:
+    """A file of `records`: pairs of the ordinary sample bytes and the annotations block or blocks, as `data_record` takes them."""
+    return b"".join([header.to_bytes(), *(data_record(header, samples, blocks) for samples, blocks in records)])
 
 
 def _small(startdate: str, day: str, starttime: str, blocks, samples, first=False, annotation_samples=3, reserved="EDF+D",
@@ -104,11 +116,12 @@ def _small(startdate: str, day: str, starttime: str, blocks, samples, first=Fals
 
 
 def small_files() -> dict:
-    """Q, P5, R9, N1, N2, N3, K and U by their letters, as bytes, and two more.
+    """Q, P5, R9, N1, N2, N3, K, U and V by their letters, as bytes, and two more.
 
     Q is one record at 23:59:50; P5 lies 15 s later, past midnight; R9 holds P5's record and one before it, spelled otherwise
     and with the annotations first; N1 to N3 are a card's three records one by one, and K the card; U has spare annotation
-    samples and an onset spelled longer than needed. `half` starts 10 s before Q and its second record overlaps Q's by half
+    samples and an onset spelled longer than needed; V is Q's record with one more annotation, which stands in a second annotations
+    signal, one before the ordinary signal and one behind it. `half` starts 10 s before Q and its second record overlaps Q's by half
     a second; `X` is Q with its date in the Startdate subfield withheld."""
     march2, march3 = ("02.03.02", "02-MAR-2002"), ("03.03.02", "03-MAR-2002")
     q = bytes.fromhex("0100FFFF")
@@ -125,9 +138,14 @@ def small_files() -> dict:
     }
     for n in range(3):
         files[f"N{n + 1}"] = _small(*march3, f"01.00.0{n}", [keeping("+0")], [card[n]])
+    files["V"] = fragment(Header((annotations_signal(3), Signal(), annotations_signal(8))),
+                          [(q, [keeping("+0"), tal("+0.5", "Snore")])])
+    return files | {"U": _spare()}
+
+
+def _spare() -> bytes:
     wide = Signal(physical_minimum="-3276.8", physical_maximum="3276.7", digital_minimum="-32768", digital_maximum="32767")
     header = Header((wide, annotations_signal(57)), starttime="22.00.00", patient="X X X X",
                     recording="Startdate 02-MAR-2002 X X X", reserved="EDF+C", count="2")
-    files["U"] = fragment(header, [(bytes.fromhex("01000200"), keeping("+0") + tal("+0.5000000", "Lights off")),
-                                   (bytes.fromhex("03000400"), keeping("+1"))])
-    return files
+    return fragment(header, [(bytes.fromhex("01000200"), keeping("+0") + tal("+0.5000000", "Lights off")),
+                             (bytes.fromhex("03000400"), keeping("+1"))])

@@ -21,7 +21,8 @@ DAY = 86_400 * SECOND
 WINDOW = 36_525 * DAY
 EPOCH = date(1985, 1, 1).toordinal()
 ANNOTATIONS = b"EDF Annotations "
-MOST_BYTES, MOST_NOTES, MOST_TEXT = 4_194_304, 10_000, 1_000_000
+UNKNOWN = b"-1      "                # the number of data records of a file that doesn't tell it
+MOST_RECORDS, MOST_BYTES, MOST_NOTES, MOST_TEXT = 99_999_999, 4_194_304, 10_000, 1_000_000
 MONTHS = (b"JAN", b"FEB", b"MAR", b"APR", b"MAY", b"JUN", b"JUL", b"AUG", b"SEP", b"OCT", b"NOV", b"DEC")
 WIDTHS = (16, 80, 8, 8, 8, 8, 8, 80, 8, 32)
 
@@ -68,6 +69,14 @@ def whole(text: bytes):
 def signed(text: bytes):
     found = SIGNED.match(text)
     return int(found[1]) if found else None
+
+
+def least_and_most(count: bytes):
+    """How few and how many data records a file of this count may have; None where it is no count."""
+    if count == UNKNOWN:
+        return 1, MOST_RECORDS
+    number = whole(count)
+    return (number, number) if number else None
 
 
 def nanoseconds(digits: bytes, behind):
@@ -145,6 +154,12 @@ def recording(text: bytes):
     return None if day is None else (day, b"D", found[2].ljust(69))
 
 
+def is_annotations(row: tuple) -> bool:
+    """Whether the fields of a signal that is labelled so are those of an annotations signal."""
+    low, high = physical(row[3]), physical(row[4])
+    return signed(row[5]) == -32768 and signed(row[6]) == 32767 and low is not None and high is not None and low != high
+
+
 def unprintable(part: bytes):
     return next((at for at, byte in enumerate(part) if not 32 <= byte <= 126), None)
 
@@ -168,6 +183,24 @@ class Layout:
         self.patient = data[8:88]
         if not is_patient(self.patient):
             raise Refused("E4 Patient")
+        self._fixed_start(data)
+        if data[192:197] not in (b"EDF+C", b"EDF+D"):
+            raise Refused("E9 NotPlus")
+        told = least_and_most(data[236:244])
+        if told is None:
+            raise Refused("E10 Count")
+        self.least, self.most = told
+        self.duration_text = data[244:252]
+        self.duration = decimal(self.duration_text)
+        if not self.duration:
+            raise Refused("E11 Duration")
+        self.ns = whole(data[252:256])
+        if self.ns is None or not 2 <= self.ns <= 640:
+            raise Refused("E12 Signals")
+        if whole(data[184:192]) != 256 + 256 * self.ns:
+            raise Refused("E13 HeaderBytes")
+
+    def _fixed_start(self, data: bytes) -> None:
         found = recording(data[88:168])
         if found is None:
             raise Refused("E5 Recording")
@@ -181,20 +214,6 @@ class Layout:
         if day is not None and day != startday:
             raise Refused("E8 DatesDiffer")
         self.start = startday * DAY + time * SECOND
-        if data[192:197] not in (b"EDF+C", b"EDF+D"):
-            raise Refused("E9 NotPlus")
-        self.count = whole(data[236:244])
-        if not self.count:
-            raise Refused("E10 Count")
-        self.duration_text = data[244:252]
-        self.duration = decimal(self.duration_text)
-        if not self.duration:
-            raise Refused("E11 Duration")
-        self.ns = whole(data[252:256])
-        if self.ns is None or not 2 <= self.ns <= 640:
-            raise Refused("E12 Signals")
-        if whole(data[184:192]) != 256 + 256 * self.ns:
-            raise Refused("E13 HeaderBytes")
 
     def _signals(self, data: bytes) -> None:
         part = data[256:256 + 256 * self.ns]
@@ -202,31 +221,31 @@ class Layout:
             raise Refused("E14 CutSignals")
         if (at := unprintable(part)) is not None:
             raise Refused(f"E15 UnprintableSignals offset={256 + at}")
+        rows = self._rows(part)
+        noted = [row for row in rows if row[0] == ANNOTATIONS]
+        ordinary = [(i, row) for i, row in enumerate(rows, 1) if row[0] != ANNOTATIONS]
+        if not noted or not ordinary or not all(is_annotations(row) for row in noted):
+            raise Refused("E16 Annotations")
+        self._check_ordinary(ordinary)
+        sizes = [whole(row[8]) for row in rows]
+        for i, size in enumerate(sizes, 1):
+            if not size:
+                raise Refused(f"E19 Samples signal={i}")
+        self.parts = [(row[0] == ANNOTATIONS, 2 * size) for row, size in zip(rows, sizes)]
+        for kind in (True, False):
+            if sum(size for is_block, size in self.parts if is_block == kind) > MOST_BYTES:
+                raise Refused("E20 Size")
+        self.record_bytes = 2 * sum(sizes)
+        self.key = Key(self.patient, self.dated, self.following, self.duration_text,
+                       tuple(b"".join(row) for _, row in ordinary))
+
+    def _rows(self, part: bytes) -> list:
+        """The ten fields of each signal, from their columns."""
         columns, at = [], 0
         for width in WIDTHS:
             columns.append([part[at + width * i:at + width * (i + 1)] for i in range(self.ns)])
             at += width * self.ns
-        rows = list(zip(*columns))
-        notes = [i for i, row in enumerate(rows) if row[0] == ANNOTATIONS]
-        if len(notes) != 1:
-            raise Refused("E16 Annotations")
-        row = rows[notes[0]]
-        low, high = physical(row[3]), physical(row[4])
-        if signed(row[5]) != -32768 or signed(row[6]) != 32767 or low is None or high is None or low == high:
-            raise Refused("E16 Annotations")
-        ordinary = [(i + 1, row) for i, row in enumerate(rows) if i != notes[0]]
-        self._check_ordinary(ordinary)
-        sizes = [whole(row[8]) for row in rows]
-        for i, size in enumerate(sizes):
-            if not size:
-                raise Refused(f"E19 Samples signal={i + 1}")
-        self.block_bytes = 2 * sizes[notes[0]]
-        self.block_at = 2 * sum(sizes[:notes[0]])
-        self.record_bytes = 2 * sum(sizes)
-        if self.record_bytes - self.block_bytes > MOST_BYTES or self.block_bytes > MOST_BYTES:
-            raise Refused("E20 Size")
-        self.key = Key(self.patient, self.dated, self.following, self.duration_text,
-                       tuple(b"".join(row) for _, row in ordinary))
+        return list(zip(*columns))
 
     @staticmethod
     def _check_ordinary(ordinary: list) -> None:
@@ -239,44 +258,62 @@ class Layout:
             if low is None or high is None or not -32768 <= low < high <= 32767:
                 raise Refused(f"E18 Digital signal={i}")
 
+    def parted(self, record: bytes) -> tuple:
+        """The ordinary sample bytes of a data record and the list of its annotations blocks, both in file order."""
+        samples, blocks, at = [], [], 0
+        for is_block, size in self.parts:
+            (blocks if is_block else samples).append(record[at:at + size])
+            at += size
+        return b"".join(samples), blocks
 
-def read_lists(block: bytes, nth: int) -> list:
-    """The lists of a block: onset, duration or None, and the texts with their offsets."""
+
+def read_lists(block: bytes, nth: int, front: int) -> list:
+    """The lists of a block: onset, duration or None, and the texts with their offsets. `front` is how many bytes the blocks before
+    it have, since offsets count over all blocks of a record."""
     lists, at = [], 0
     while at < len(block) and block[at]:
         found = LIST.match(block, at)
         onset = nanoseconds(found[2], found[3]) if found else None
         duration = nanoseconds(found[4], found[5]) if found and found[4] is not None else 0
         if onset is None or duration is None:
-            raise Refused(f"E22 Tal record={nth} offset={at}")
-        texts, place = [], found.start(6)
+            raise Refused(f"E22 Tal record={nth} offset={front + at}")
+        texts, place = [], front + found.start(6)
         for text in found[6].split(b"\x14")[:-1]:
             texts.append((place, text))
             place += len(text) + 1
         lists.append((-onset if found[1] == b"-" else onset, None if found[4] is None else duration, texts))
         at = found.end()
     if block[at:].strip(b"\0"):
-        raise Refused(f"E22 Tal record={nth} offset={at}")
+        raise Refused(f"E22 Tal record={nth} offset={front + at}")
     return lists
 
 
-def read_block(block: bytes, nth: int, layout: Layout, before) -> tuple:
-    """The start of the record and its annotations; `before` is the start of the record before it, or None."""
-    lists = read_lists(block, nth)
+def check_texts(lists: list, nth: int) -> None:
     for _, _, texts in lists:
         for at, text in texts:
             try:
                 text.decode()
             except UnicodeDecodeError:
                 raise Refused(f"E23 Text record={nth} offset={at}") from None
-    if not lists or not lists[0][2] or lists[0][2][0][1]:
+
+
+def read_blocks(blocks: list, nth: int, layout: Layout, before) -> tuple:
+    """The start of the record, which its first block tells, and its annotations, those of all blocks in their order; `before` is
+    the start of the record before it, or None."""
+    each, front = [], 0
+    for block in blocks:
+        each.append(read_lists(block, nth, front))
+        front += len(block)
+    first, lists = each[0], [one for part in each for one in part]
+    check_texts(lists, nth)
+    if not first or not first[0][2] or first[0][2][0][1]:
         raise Refused(f"E24 NotTimed record={nth}")
-    if before is None and not 0 <= lists[0][0] < SECOND:
+    if before is None and not 0 <= first[0][0] < SECOND:
         raise Refused(f"E25 FirstOnset record={nth}")
     for onset, duration, _ in lists:
         if not 0 <= layout.start + onset < WINDOW or (duration is not None and duration >= WINDOW):
             raise Refused(f"E26 Window record={nth}")
-    start = layout.start + lists[0][0]
+    start = layout.start + first[0][0]
     if before is not None and start < before + layout.duration:
         raise Refused(f"E27 Order record={nth}")
     notes = tuple((layout.start + onset, duration, text) for onset, duration, texts in lists for _, text in texts)[1:]
@@ -286,16 +323,17 @@ def read_block(block: bytes, nth: int, layout: Layout, before) -> tuple:
 
 
 def read(data: bytes) -> tuple:
-    """The key and the records of a file, or `Refused` with its first fault."""
+    """The key and the records of a file, or `Refused` with its first fault. Where the file doesn't tell how many records it has, a
+    record behind the first is there where a byte of it is."""
     layout = Layout(data)
     records, at, before = [], 256 + 256 * layout.ns, None
-    for nth in range(1, layout.count + 1):
+    while len(records) < layout.least or (at < len(data) and len(records) < layout.most):
+        nth = len(records) + 1
         if len(data) - at < layout.record_bytes:
             raise Refused(f"E21 CutRecord record={nth}")
-        record = data[at:at + layout.record_bytes]
-        end = layout.block_at + layout.block_bytes
-        before, notes = read_block(record[layout.block_at:end], nth, layout, before)
-        records.append(Record(before, record[:layout.block_at] + record[end:], notes))
+        samples, blocks = layout.parted(data[at:at + layout.record_bytes])
+        before, notes = read_blocks(blocks, nth, layout, before)
+        records.append(Record(before, samples, notes))
         at += layout.record_bytes
     if at != len(data):
         raise Refused("E29 Trailing")

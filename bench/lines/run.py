@@ -103,6 +103,53 @@ def a_file_cut_anywhere(checks: Checks) -> None:
     checks.run("list", "night.db", out="1 " + LINE.format(1))
 
 
+def a_file_of_unknown_count_cut_anywhere(checks: Checks) -> None:
+    """A file that doesn't tell how many data records it has ends where a record does, and nowhere else."""
+    checks.begin("a file of unknown count cut anywhere")
+    data = FILES["U"][:236] + b"-1      " + FILES["U"][244:]
+    answers = {n: "E1 Cut" if n < 256 else "E14 CutSignals" for n in range(0, 768, 64)}
+    answers |= {n: f"E21 CutRecord record={1 if n < 886 else 2}" for n in range(768, 1004) if n != 886} | {1005: "E21 CutRecord record=3"}
+    for n in answers:
+        checks.file(f"{n}", (data + b"\0")[:n])
+    checks.run("take", "night.db", *map(str, answers), out="".join(f"{n} refused {text}\n" for n, text in answers.items()), status=1)
+    checks.run("list", "night.db")
+    checks.file("886", data[:886])
+    checks.file("whole", data)
+    checks.file("told", FILES["U"])
+    checks.run("take", "night.db", "886", "whole", "told", "whole", out="886 accepted new=1 known=0\nwhole accepted new=1 known=1\n"
+               "told accepted new=0 known=2\nwhole accepted new=0 known=2\n")
+    checks.run("export", "night.db", "1", out=canonical_u())
+    checks.run("convert", "whole", out=canonical_u())
+    checks.run(given=data, out=canonical_u())
+    checks.run(given=data[:-1], err="- refused E21 CutRecord record=2\n", status=1)
+
+
+def annotations_of_several_signals_are_one_list(checks: Checks) -> None:
+    checks.begin("annotations of several signals are one list")
+    header = edf.Header((edf.Signal(), edf.annotations_signal(9)))
+    export = edf.fragment(header, [(Q[768:772], edf.keeping("+0") + edf.tal("+0.5", "Snore"))])
+    v = FILES["V"]
+    checks.file("v.edf", v)
+    checks.file("export.edf", export)
+    checks.file("a.edf", Q)
+    checks.run("convert", "v.edf", out=export)
+    checks.run("take", "night.db", "v.edf", "export.edf", "a.edf", out="v.edf accepted new=1 known=0\nexport.edf accepted new=0 known=1\n"
+               "a.edf refused E31 Differs start=2002-03-02T23:59:50\n", status=1)
+    checks.run("export", "night.db", "1", out=export)
+    for n in range(1024, 1050):
+        checks.run(given=v[:n], err="- refused E21 CutRecord record=1\n", status=1)
+    checks.run(given=v[:-1] + b"\1", err="- refused E22 Tal record=1 offset=18\n", status=1)
+    checks.run(given=v[:1024] + bytes(6) + v[1030:], err="- refused E24 NotTimed record=1\n", status=1)
+    checks.run(given=v[:-16] + bytes(16), out=Q)
+
+
+def canonical_u() -> bytes:
+    header = edf.Header((edf.Signal(physical_minimum="-3276.8", physical_maximum="3276.7", digital_minimum="-32768",
+                                    digital_maximum="32767"), edf.annotations_signal(11)), starttime="22.00.00", patient="X X X X",
+                        recording="Startdate 02-MAR-2002 X X X", count="2")
+    return edf.fragment(header, [(b"\1\0\2\0", edf.keeping("+0") + edf.tal("+0.5", "Lights off")), (b"\3\0\4\0", edf.keeping("+1"))])
+
+
 def five_files_make_one_night(checks: Checks) -> None:
     checks.begin("fragments, the card and a resend make one file")
     for name in ("N3", "N1", "K", "P5", "Q", "R9"):
@@ -119,11 +166,7 @@ def five_files_make_one_night(checks: Checks) -> None:
     checks.run("export", "other.db", "1", out=edf.fragment(header, [
         (b"\1\0\xff\xff", edf.keeping("+0")), (b"\3\0\xfd\xff", edf.keeping("+10")), (b"\2\0\xfe\xff", snore)]))
     checks.file("U", FILES["U"])
-    u = edf.Header((edf.Signal(physical_minimum="-3276.8", physical_maximum="3276.7", digital_minimum="-32768",
-                               digital_maximum="32767"), edf.annotations_signal(11)), starttime="22.00.00", patient="X X X X",
-                   recording="Startdate 02-MAR-2002 X X X", count="2")
-    checks.run("convert", "U", out=edf.fragment(u, [(b"\1\0\2\0", edf.keeping("+0") + edf.tal("+0.5", "Lights off")),
-                                                    (b"\3\0\4\0", edf.keeping("+1"))]))
+    checks.run("convert", "U", out=canonical_u())
 
 
 def version() -> str:
@@ -151,7 +194,8 @@ def main() -> None:
         for case in (one_record_is_its_own_canonical_file, two_records_cut_inside_the_second_leave_nothing,
                      an_overlap_is_told_with_both_starts, a_withheld_date_is_another_recording,
                      a_missing_file_is_trouble_and_the_next_is_taken, a_refused_conversion_writes_nothing, a_file_cut_anywhere,
-                     five_files_make_one_night, words_that_ask_for_nothing):
+                     a_file_of_unknown_count_cut_anywhere, annotations_of_several_signals_are_one_list, five_files_make_one_night,
+                     words_that_ask_for_nothing):
             case(checks)
     checks.end()
 

@@ -4,10 +4,11 @@
     bench/refused/run.py [--program PATH]
 
 A library that is loaded before the C library refuses the first call, the second and so on, alone or with all that follow, until a
-run meets no refusal: of a `take` of two files into a new store, of `list` and `export` of a store of both, and of a `convert`. A run
-ends with status 0 and all that is wanted, or with status 3 and a front of it, in whole lines where no write was refused; what was
-accepted is held, and what could not be read is not; and without refusals both files are then taken or known, and the export is that
-of the plain model. It stops with status 1 at the first loss.
+run meets no refusal: of a `take` of two files into a new store, of `list` and `export` of a store of both, and of a `convert`. The
+first of the files, which `convert` is given too, is of unknown count and has two annotations signals. A run ends with status 0 and
+all that is wanted, or with status 3 and a front of it, in whole lines where no write was refused; what was accepted is held, and
+what could not be read is not; and without refusals both files are then taken or known, and the export is that of the plain model.
+It stops with status 1 at the first loss.
 """
 import collections
 import os
@@ -22,7 +23,15 @@ import edf  # noqa: E402
 import measure  # noqa: E402
 import model  # noqa: E402
 
-FILES = {"p5.edf": edf.small_files()["P5"], "q.edf": edf.small_files()["Q"]}
+
+def in_two_blocks() -> bytes:
+    """The record of P5, its annotations in two signals, in a file of unknown count."""
+    header = edf.Header((edf.annotations_signal(9), edf.Signal(), edf.annotations_signal(6)), "03.03.02", "00.00.05",
+                        recording="Startdate 03-MAR-2002 N1 T3 REC5", count="-1")
+    return edf.fragment(header, [(bytes.fromhex("0200FEFF"), [edf.keeping("+0") + edf.tal("+0.50", "Snore"), edf.tal("+0.5", "Turn")])])
+
+
+FILES = {"p5.edf": in_two_blocks(), "q.edf": edf.small_files()["Q"]}
 NEW, KNOWN = "accepted new=1 known=0", "accepted new=0 known=1"
 # Want of memory for a file's buffer is a failed read of it.
 REFUSALS = {"memory": {"E40 Read", "E41 Memory"}, "disk": {"E40 Read", "E42 Store"}}
@@ -61,6 +70,9 @@ class Bench:
         for data in FILES.values():
             whole.take(data)
         self.export, self.lines = whole.export(1), whole.lines().encode()
+        alone = model.Store()
+        alone.take(FILES["p5.edf"])
+        self.converted = alone.export(1)
         self.answers = collections.Counter()
 
     def ran(self, *words, refusal: Refusal = None, given: bytes = b"") -> tuple:
@@ -145,7 +157,7 @@ def orders(bench: Bench) -> dict:
         "take": lambda refusal: take(bench, refusal),
         "list": lambda refusal: read(bench, ("list", full), bench.lines, refusal),
         "export": lambda refusal: read(bench, ("export", full, "1"), bench.export, refusal),
-        "convert": lambda refusal: read(bench, (), FILES["q.edf"], refusal, FILES["q.edf"]),
+        "convert": lambda refusal: read(bench, (), bench.converted, refusal, FILES["p5.edf"]),
     }
 
 
