@@ -17,15 +17,16 @@ use Rattle.sqlite_value.proofs.OrderLemmas.{value_cmp-Int}
 use Rattle.sqlite_trees.specs.Tree.{IsAscending}
 use Rattle.sqlite_keyed.proofs.ListLemmas.{IsPermutation-filter}
 use Rattle.edf_field.specs.Number.{duration_of}
-use Rattle.edf_header.specs.Key.{Key, key_bytes}
+use Rattle.edf_header.specs.Key.{Key, MayStart, key_bytes}
+use Rattle.edf_time.specs.Civil.{two_digit_window}
 use Rattle.edf_fragment.specs.Fragment.{DataRecord}
-use Rattle.edf_fragment.specs.Sound.{IsSoundRecord, AreSound}
+use Rattle.edf_fragment.specs.Sound.{IsSoundRecord, AreSound, MayBegin}
 use Rattle.edf_holdings.specs.Holdings.{Holdings}
 use Rattle.edf_tables.specs.Cells.{first_three}
 use Rattle.edf_rows.specs.Cells.{record_cells, recording_cells, recordings_in, records_in}
 use Rattle.edf_schema.specs.Columns.{by_column}
 use Rattle.edf_rows.specs.Rows.{IsOwned, AreTwoOf, AreOther, AreKept}
-use Rattle.edf_rows.specs.Foreign.{IsBadRow, AreTooNear, AreBadRecords, bad_row, too_near, too_few, too_many, IsForeign, bad_recording, bad_records, without_recording, twice}
+use Rattle.edf_rows.specs.Foreign.{IsBadRow, AreTooNear, BeginsTooLate, AreBadRecords, bad_row, too_near, too_late, too_few, too_many, IsForeign, bad_recording, bad_records, without_recording, twice}
 use Rattle.edf_rows.specs.Shape.{HasRecords}
 use Rattle.edf_rows.proofs.RowsLemmas.{here, there}
 use Rattle.edf_rows.proofs.KeptLemmas.{two_later, first_two, held_of, are-kept}
@@ -72,9 +73,21 @@ apart_or k low r (s ∷ rs) sound up from =
       ]
     ]
 
+-- whether a recording may start there
+may_start_or : (k : Key) (start : ℕ) → MayStart k start ⊎ (¬ MayStart k start)
+may_start_or k start =
+    elim (cases_Bool k.dated) [
+      | inl dated ↦ inl (λ undated. absurd (true≢false (sym dated ∙ undated)))
+      | inr undated ↦ elim (cases_lt start two_digit_window) [
+        | inl low ↦ inl (λ _. low)
+        | inr high ↦ inr (λ may. omega (arith, high, may undated))
+      ]
+    ]
+
 record HasGood (cap : ℕ) (k : Key) (rows : List Row) : Type 0 where
   records : List DataRecord
   sound : AreSound k 0 records
+  begins : MayBegin k records
   shown : rows ≡ map record_cells records
   some : rows ≢ []
   few : length records ≤ cap
@@ -91,9 +104,12 @@ records_or cap trees id k = go (rows_or k (records_in trees id) (records_in tree
         let up = subst (IsAscending (λ a b. is_gt (by_column 0 a b) ≡ false)) is (by_start trees id) in
         elim (apart_or k 0 r rs sound up (omega arith)) [
           | inr near ↦ inl (too_near (subst (λ (rows : List Row). AreTooNear rows (duration_of k.duration)) (sym is) near))
-          | inl apart ↦ elim (cases_lt cap (length (r ∷ rs))) [
-            | inl more ↦ inl (too_many (let n = ap length is in let m = length-map (r ∷ rs) record_cells in omega (arith, n, m, more)))
-            | inr few ↦ inr (record { records = r ∷ rs; sound = apart; shown = is; some = some_rows (record_cells r) (map record_cells rs) (records_in trees id) is; few = few })
+          | inl apart ↦ elim (may_start_or k r.start) [
+            | inr late ↦ inl (too_late (subst (BeginsTooLate k) (sym is) (r.start, refl, late)))
+            | inl begins ↦ elim (cases_lt cap (length (r ∷ rs))) [
+              | inl more ↦ inl (too_many (let n = ap length is in let m = length-map (r ∷ rs) record_cells in omega (arith, n, m, more)))
+              | inr few ↦ inr (record { records = r ∷ rs; sound = apart; begins = begins; shown = is; some = some_rows (record_cells r) (map record_cells rs) (records_in trees id) is; few = few })
+            ]
           ]
         ]
 
@@ -113,7 +129,7 @@ module _ (cap : ℕ) (trees : Trees) where
           | inl bad ↦ inr (bad_records is.id is.key (record { row = subst (Contains (recordings_in trees)) is.cells c; key = is.is_key }) bad)
           | inr good ↦ elim (has_or rows (λ r m. in_all r (there row r rows m))) [
             | inr foreign ↦ inr foreign
-            | inl more ↦ inl (record { id = is.id; key = is.key; records = good.records; cells = is.cells; is_key = is.is_key; sound = good.sound; shown = good.shown; some = good.some; few = good.few }, more)
+            | inl more ↦ inl (record { id = is.id; key = is.key; records = good.records; cells = is.cells; is_key = is.is_key; sound = good.sound; begins = good.begins; shown = good.shown; some = good.some; few = good.few }, more)
           ]
         ]
       ]

@@ -24,20 +24,21 @@ use Rattle.sqlite.proofs.Callers.{IsPlain}
 use Rattle.edf_field.specs.Number.{duration_of}
 use Rattle.edf_header.specs.Key.{Key}
 use Rattle.edf_fragment.specs.Fragment.{DataRecord}
-use Rattle.edf_fragment.specs.Sound.{AreSound}
+use Rattle.edf_fragment.specs.Sound.{AreSound, MayBegin}
 use Rattle.edf_tables.specs.Schema.{both_schema}
 use Rattle.edf_tables.proofs.QueryTexts.{walk_text, walk_is}
 use Rattle.edf_tables.proofs.ShownLemmas.{plain_at, answer_of, answer_begun}
 use Rattle.edf_rows.specs.Cells.{record_cells, records_in}
 use Rattle.edf_rows.specs.Foreign.{AreBadRecords, bad_row, too_near, too_few, too_many}
-use Rattle.edf_audit.specs.Walk.{IsNext, IsWrong, IsBehind, HasSound, IsRowRefused, no_memory, unordered}
-use Rattle.edf_audit.proofs.WalkLemmas.{last_start, last_push, last_split, push_sound, starts_rise, answer_moved, only_sound, is_three, given_member, given_two}
+use Rattle.edf_audit.specs.Walk.{IsNext, IsWrong, MayComeNext, HasSound, IsRowRefused, no_memory, unordered}
+use Rattle.edf_audit.proofs.WalkLemmas.{last_start, last_push, last_split, no_last, push_sound, push_begins, starts_rise, answer_moved, only_sound, by_start, is_three, given_member, given_two, late_first}
 
 -- these records were given, sound and a duration apart, and this is the last start
 pub record Stands {S : Type 0} (g : Ghosts S) (recording : ℤ) (k : Key) (last : Option ℕ) (count : ℕ) (h : Held S) : Type 0 where
   pub records : List DataRecord
   pub given : HasGiven g walk_text (Int recording ∷ []) h (map record_cells records)
   pub sound : AreSound k 0 records
+  pub begins : MayBegin k records
   pub last_is : last ≡ last_start records
   pub size : length records ≡ count
 
@@ -51,14 +52,19 @@ module _ {S : Type 0} (g : Ghosts S) (recording : ℤ) (k : Key) (long : 0 < dur
   pub plain_here : IsPlain (understood old.now.schema walk_text)
   plain_here = plain_at walk_text _ _ walk_is old has
 
-  pub begun : (h : Held S) (rows : List Row) → IsUnchanged old (state g h) → HasGiven g walk_text (Int recording ∷ []) h rows → (tail : List Row) × IsPermutation rows_there (rows ++ tail)
+  -- the rows that were given and some more are the recording's, in order
+  pub begun : (h : Held S) (rows : List Row) → IsUnchanged old (state g h) → HasGiven g walk_text (Int recording ∷ []) h rows
+      → (tail : List Row) × IsPermutation rows_there (rows ++ tail) × IsSorted (by_column 0) (rows ++ tail)
   begun h rows same given =
       let there : (state g h).now.schema ≡ both_schema = ap (λ (b : Database). b.schema) same.0.now_is ∙ has in
-      let it = answer_begun walk_text _ _ walk_is g (Int recording ∷ []) h rows there given in
-      (it.0, subst (λ (b : Database). IsPermutation (records_in b.trees recording) (rows ++ it.0)) same.0.now_is (answer_moved (state g h).now.trees recording (rows ++ it.0) it.1))
+      let it = answer_begun walk_text _ _ walk_is g (Int recording ∷ []) h rows there given in (
+        it.0,
+        subst (λ (b : Database). IsPermutation (records_in b.trees recording) (rows ++ it.0)) same.0.now_is (answer_moved (state g h).now.trees recording (rows ++ it.0) it.1),
+        in_order 2 2 (of_recording ∷ []) start_samples_block (Int recording ∷ []) (overlay (state g h).now.trees []) (rows ++ it.0) it.1 (λ r. refl),
+      )
 
   pub starts : (h : Held S) → HasGiven g walk_text (Int recording ∷ []) h [] → Stands g recording k None 0 h
-  starts h given = record { records = []; given = given; sound = tt; last_is = refl; size = refl }
+  starts h given = record { records = []; given = given; sound = tt; begins = tt; last_is = refl; size = refl }
 
   -- the row that was given is one of the recording's
   given_row : (records : List DataRecord) (row : Row) (was now : Held S) → IsUnchanged old (state g now) → HasGiven g walk_text (Int recording ∷ []) was (map record_cells records) → Advances g was now (Some row)
@@ -75,11 +81,12 @@ module _ {S : Type 0} (g : Ghosts S) (recording : ℤ) (k : Key) (long : 0 < dur
       let member = given_member old.now.trees recording (map record_cells stands.records) it.0 row it.1 in
       let is : row ≡ record_cells r = is_three old.now.trees recording row member ∙ next.is_start.row_of.cells in
       let rows : map record_cells stands.records ++ row ∷ [] ≡ map record_cells (stands.records ++ r ∷ []) = ap (λ x. map record_cells stands.records ++ x ∷ []) is ∙ sym (map-append record_cells stands.records (r ∷ [])) in
-      let behind : IsBehind (duration_of k.duration) (last_start stands.records) r.start = subst (λ n. IsBehind (duration_of k.duration) (last_start stands.records) n) next.is_start.start_is (subst (λ l. IsBehind (duration_of k.duration) l start) stands.last_is next.behind) in
+      let follows : MayComeNext k (last_start stands.records) r.start = subst (λ n. MayComeNext k (last_start stands.records) n) next.is_start.start_is (subst (λ l. MayComeNext k l start) stands.last_is next.follows) in
       record {
         records = stands.records ++ r ∷ [];
         given = subst (HasGiven g walk_text (Int recording ∷ []) now) rows (on walk_text (Int recording ∷ []) (map record_cells stands.records) stands.given);
-        sound = push_sound k stands.records r stands.sound next.is_start.row_of.sound behind;
+        sound = push_sound k stands.records r stands.sound next.is_start.row_of.sound follows;
+        begins = push_begins k stands.records r stands.begins follows;
         last_is = ap (λ n. Some n) next.is_start.start_is ∙ sym (last_push stands.records r);
         size = length-append stands.records (r ∷ []) ∙ ap (λ n. n + 1) stands.size;
       }
@@ -92,7 +99,7 @@ module _ {S : Type 0} (g : Ghosts S) (recording : ℤ) (k : Key) (long : 0 < dur
       go (inl bad) =
           let it = given_row stands.records row was now same stands.given on in
           bad_row row (given_member old.now.trees recording (map record_cells stands.records) it.0 row it.1) bad
-      go (inr near) =
+      go (inr (inl near)) =
           let it = given_row stands.records row was now same stands.given on in
           let split = last_split stands.records near.first (sym stands.last_is ∙ near.last_is) in
           let rows : map record_cells stands.records ≡ map record_cells split.0 ++ record_cells split.1 ∷ [] = ap (map record_cells) split.2 ∙ map-append record_cells split.0 (split.1 ∷ []) in
@@ -109,26 +116,25 @@ module _ {S : Type 0} (g : Ghosts S) (recording : ℤ) (k : Key) (long : 0 < dur
             order = near.order;
             near = near.near;
           })
+      go (inr (inr late)) =
+          let rows = map record_cells stands.records in
+          let none : rows ≡ [] = ap (map record_cells) (no_last stands.records (sym stands.last_is ∙ late.last_is)) in
+          let it = begun now (rows ++ row ∷ []) same (on walk_text (Int recording ∷ []) rows stands.given) in
+          let all : (rows ++ row ∷ []) ++ it.0 ≡ row ∷ it.0 = ap (λ l. (l ++ row ∷ []) ++ it.0) none in
+          late_first cap k rows_there it.0 row late.start (by_start old.now.trees recording) (subst (IsSorted (by_column 0)) all it.2) (subst (IsPermutation rows_there) all it.1) late.start_is late.late
 
-  -- the rows that were given are in order
-  given_in_order : (h : Held S) (rows : List Row) → IsUnchanged old (state g h) → HasGiven g walk_text (Int recording ∷ []) h rows → (tail : List Row) × IsSorted (by_column 0) (rows ++ tail)
-  given_in_order h rows same given =
-      let there : (state g h).now.schema ≡ both_schema = ap (λ (b : Database). b.schema) same.0.now_is ∙ has in
-      let it = answer_begun walk_text _ _ walk_is g (Int recording ∷ []) h rows there given in
-      (it.0, in_order 2 2 (of_recording ∷ []) start_samples_block (Int recording ∷ []) (overlay (state g h).now.trees []) (rows ++ it.0) it.1 (λ r. refl))
-
-  -- so a row is refused for want of memory alone
+  -- the rows come in order, so a row is refused for want of memory alone
   pub refused_row : (count : ℕ) (last : Option ℕ) (row : Row) (was now : Held S) (new : State) (e : Error) → IsUnchanged old (state g now) → Stands g recording k last count was → Advances g was now (Some row) → IsRowRefused last row e → IsUnread old new e
   refused_row count last row was now new e same stands on (no_memory is) = stopped (memory is)
   refused_row count last row was now new e same stands on (unordered is out) =
       let rows = map record_cells stands.records in
-      let it = given_in_order now (rows ++ row ∷ []) same (on walk_text (Int recording ∷ []) rows stands.given) in
+      let it = begun now (rows ++ row ∷ []) same (on walk_text (Int recording ∷ []) rows stands.given) in
       let split = last_split stands.records out.first (sym stands.last_is ∙ out.last_is) in
       let front = map record_cells split.0 in
       let is : rows ≡ front ++ record_cells split.1 ∷ [] = ap (map record_cells) split.2 ∙ map-append record_cells split.0 (split.1 ∷ []) in
       let all : (rows ++ row ∷ []) ++ it.0 ≡ front ++ record_cells split.1 ∷ row ∷ it.0 =
       append_assoc rows (row ∷ []) it.0 ∙ ap (λ l. l ++ row ∷ it.0) is ∙ append_assoc front (record_cells split.1 ∷ []) (row ∷ it.0) in
-      let apart : is_lt (value_cmp (column row 0) (Int (pos split.1.start))) ≡ false = sorted_neighbours (by_column 0) front it.0 (record_cells split.1) row (subst (IsSorted (by_column 0)) all it.1) in
+      let apart : is_lt (value_cmp (column row 0) (Int (pos split.1.start))) ≡ false = sorted_neighbours (by_column 0) front it.0 (record_cells split.1) row (subst (IsSorted (by_column 0)) all it.2) in
       let below : value_cmp (column row 0) (Int (pos split.1.start)) ≡ Less = ap₂ (λ v n. value_cmp v (Int (pos n))) out.start_is split.3 ∙ starts_rise out.start out.first out.before in
       absurd (true≢false (sym (ap is_lt below) ∙ apart))
 
@@ -160,6 +166,7 @@ module _ {S : Type 0} (g : Ghosts S) (recording : ℤ) (k : Key) (long : 0 < dur
         records = stands.records;
         shown = is;
         sound = stands.sound;
+        begins = stands.begins;
         some = λ none. absurd (let e = ap length (sym is ∙ none) in let n = length-map stands.records record_cells in let z : length (map record_cells stands.records) ≡ 0 = e in omega (arith, z, n, size, some));
         few = omega (arith, size, few);
         count_is = sym size;

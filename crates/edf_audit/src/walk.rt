@@ -33,7 +33,7 @@ fn start_in(alloc: Global, identity: &Identity, row: &Row) -> Result<Option<Inst
     check_row(alloc, identity, start, samples, block)
 }
 
-/// The start of a row, if it may stand behind the last.
+/// The start of a row, if it may come after the last, or first.
 ///
 /// # Errors
 /// `OutOfMemory` where memory runs out; `DatabaseCorrupt` where the row comes before the last, as rows are asked for by their
@@ -53,7 +53,11 @@ fn next_start(
         Err(_) => return Err(Error::SqliteFailure(ErrorCode::OutOfMemory)),
     };
     let Some(last) = last else {
-        return Ok(Some(start));
+        return Ok(if identity.may_start(start) {
+            Some(start)
+        } else {
+            None
+        });
     };
     if start < last {
         return Err(Error::SqliteFailure(ErrorCode::DatabaseCorrupt));
@@ -66,7 +70,8 @@ fn next_start(
 }
 
 /// How many records a recording has, or `None` where they are not those of submissions: a row is no record of the
-/// identity, two lie less than a duration apart, there is none, or there are more than `cap`.
+/// identity, two lie less than a duration apart, the first starts after 2084 and the identity has no date, there is none, or
+/// there are more than `cap`.
 ///
 /// # Errors
 /// `sqlite`'s; `OutOfMemory` where memory runs out.

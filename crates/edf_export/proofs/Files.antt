@@ -8,7 +8,7 @@ use Rattle.edf_header.proofs.Cited.{canonical-header-reads}
 use Rattle.edf_tal.proofs.Cited.{block-length}
 use Rattle.edf_time.specs.Civil.{window}
 use Rattle.edf_field.specs.Number.{duration_of}
-use Rattle.edf_header.specs.Key.{Key, IsKey}
+use Rattle.edf_header.specs.Key.{Key, IsKey, MayStart}
 use Rattle.edf_header.specs.Header.{Layout, layout_of, least_records, most_records}
 use Rattle.edf_header.specs.Canonical.{IsCanonicalHeader}
 use Rattle.edf_tal.specs.declared.place.Place.TheVariants.{First}
@@ -39,9 +39,9 @@ canonical-layout-is k start count samples lt =
     record { start = refl; in_window = omega (arith, second-of-low start); blocks = refl; record_bytes = omega arith }
 
 -- what is laid out so is read again, and so is the records' file
-pub canonical : (file : List ℕ) (k : Key) (r : DataRecord) (rs : List DataRecord) → IsKey k → AreSound k 0 (r ∷ rs) → length (r ∷ rs) ≤ 99_999_999 → IsLaidOut file k r (r ∷ rs)
-    → IsCanonicalFile file k (r ∷ rs)
-canonical file k r rs is-key are count laid =
+pub canonical : (file : List ℕ) (k : Key) (r : DataRecord) (rs : List DataRecord) → IsKey k → MayStart k r.start → AreSound k 0 (r ∷ rs) → length (r ∷ rs) ≤ 99_999_999
+    → IsLaidOut file k r (r ∷ rs) → IsCanonicalFile file k (r ∷ rs)
+canonical file k r rs is-key begins are count laid =
     let samples = laid.samples in
     let header = laid.header in
     let is-header = laid.is_header in
@@ -55,7 +55,7 @@ canonical file k r rs is-key are count laid =
     let some : 1 ≤ samples = some-samples base samples r (All-head (λ x. length (block_of base x) ≤ 2 * samples) r rs holds) in
     let body = flat_map (record_text base (2 * samples)) (r ∷ rs) in
     let l = spelled_layout k (second_of r.start) (length (r ∷ rs)) samples in
-    let again = canonical-header-reads header k r.start (length (r ∷ rs)) samples is-key (omega arith) (count) some (omega arith) is-header in
+    let again = canonical-header-reads header k r.start (length (r ∷ rs)) samples is-key begins (omega arith) (count) some (omega arith) is-header in
     let read = records-read l First base (2 * samples) (r ∷ rs)
     (are-readable l base (2 * samples) 0 r rs (canonical-layout-is k r.start (length (r ∷ rs)) samples in-window) are (second-of-low r.start, second-of-high r.start) holds) in
     let counted : (least_records (layout_of again.header).count ≡ length (r ∷ rs)) × (most_records (layout_of again.header).count ≡ length (r ∷ rs)) =

@@ -35,7 +35,7 @@ planned_file k (r ∷ rs) plan header p is =
     let start : plan.first ≡ r.start = let same : ◌≡◌ {A = Option ℕ} (Some r.start) (Some plan.first) = p.first in cc in
     let counted : IsCanonicalHeader header k plan.first (length (r ∷ rs)) plan.samples = subst (λ n. IsCanonicalHeader header k plan.first n plan.samples) p.count is in
     let laid = laid-out k (r ∷ rs) r (second_of plan.first) plan.first plan.samples header start (ap second_of start) counted p.holds p.least in
-    canonical (planned_text header plan (r ∷ rs)) k r rs p.recording.key p.recording.sound p.recording.few laid
+    canonical (planned_text header plan (r ∷ rs)) k r rs p.recording.key p.recording.begins p.recording.sound p.recording.few laid
 
 pub exported : (before after : Option (List ℕ)) (k : Key) (records : List DataRecord) (plan : Plan) (header : List ℕ) (len : ℕ) → IsPlanOf k records plan
     → IsCanonicalHeader header k plan.first plan.records plan.samples → Appends before after (planned_text header plan records)

@@ -7,8 +7,8 @@ use Rattle.edf_time.proofs.Cited.{date-text, time-text, id_date-text}
 use Rattle.edf_header.specs.Key.{Key, IsKey}
 use Rattle.edf_header.specs.Canonical.{IsCanonicalHeader}
 use Rattle.edf_fragment.specs.Fragment.{DataRecord, Spells}
-use Rattle.edf_fragment.specs.Sound.{AreSound}
-use Rattle.edf_fragment.proofs.Sound.{spelled-key, spelled-sound, spelled-some, spelled-few}
+use Rattle.edf_fragment.specs.Sound.{AreSound, MayBegin}
+use Rattle.edf_fragment.proofs.Sound.{spelled-key, spelled-sound, spelled-begins, spelled-some, spelled-few}
 use Rattle.edf_export.specs.File.{second_of, block_of, record_text, Hold, IsLaidOut, IsCanonicalFile}
 use Rattle.edf_export.proofs.Files.{canonical}
 
@@ -43,16 +43,16 @@ some-header k start count samples lt =
     let id_date = id_date-text (day_of start) (omega arith) in
     (_, record { date = date.0; time = time.0; id_date = id_date.0; is_date = date.1; is_time = time.1; is_id_date = id_date.1; parts = refl })
 
-pub some-file : (k : Key) (rs : List DataRecord) → IsKey k → AreSound k 0 rs → 1 ≤ length rs → length rs ≤ 99_999_999 → (file : List ℕ) × IsCanonicalFile file k rs
-some-file k [] is-key are some few = absurd (omega arith)
-some-file k (r ∷ rs) is-key are some few =
+pub some-file : (k : Key) (rs : List DataRecord) → IsKey k → AreSound k 0 rs → MayBegin k rs → 1 ≤ length rs → length rs ≤ 99_999_999 → (file : List ℕ) × IsCanonicalFile file k rs
+some-file k [] is-key are begins some few = absurd (omega arith)
+some-file k (r ∷ rs) is-key are begins some few =
     let base = second_of r.start in
     let block = least-samples base (r ∷ rs) in
     let header = some-header k r.start (length (r ∷ rs)) block.samples are.0.start in
     let file = header.0 ++ flat_map (record_text base (2 * block.samples)) (r ∷ rs) in
     let laid : IsLaidOut file k r (r ∷ rs) = record { samples = block.samples; header = header.0; is_header = header.1; holds = block.holds; least = block.least; parts = refl } in
-    (file, canonical file k r rs is-key are few laid)
+    (file, canonical file k r rs is-key begins are few laid)
 
 -- so each fragment has one
 pub spelled-file : (bytes : List ℕ) (k : Key) (rs : List DataRecord) → Spells bytes k rs → (file : List ℕ) × IsCanonicalFile file k rs
-spelled-file bytes k rs s = some-file k rs (spelled-key bytes k rs s) (spelled-sound bytes k rs s) (spelled-some bytes k rs s) (spelled-few bytes k rs s)
+spelled-file bytes k rs s = some-file k rs (spelled-key bytes k rs s) (spelled-sound bytes k rs s) (spelled-begins bytes k rs s) (spelled-some bytes k rs s) (spelled-few bytes k rs s)

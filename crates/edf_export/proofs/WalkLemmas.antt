@@ -1,5 +1,5 @@
 -- A walk over the records of a recording: the longest block so far, and what a fault on the way is.
-use Rattle.std.proofs.Common.{inl, false, ◌≡◌, ◌≢◌, ℕ, ℤ, ◌+◌, ◌*◌, ◌/◌, ◌%◌, ◌≤◌, ◌<◌, max, List, [], ◌∷◌, length, take, refl, ap, arith, Option, Some, None}
+use Rattle.std.proofs.Common.{inl, false, ◌≡◌, ◌≢◌, ℕ, ℤ, ◌+◌, ◌*◌, ◌/◌, ◌%◌, ◌≤◌, ◌<◌, max, List, [], ◌∷◌, length, take, refl, ap, subst, arith, Option, Some, None}
 use Rattle.std.specs.List.{slice_get}
 use Rattle.std.proofs.lemmas.Option.{slice_get_within, get_or_from_slice_get}
 use Rattle.std.proofs.lemmas.List.Elements.{All-nil, All-weaker}
@@ -11,8 +11,8 @@ use Rattle.edf_store.specs.Held.{Kept, at, Stays}
 use Rattle.edf_store.specs.Listed.{start_at}
 use Rattle.edf_store.specs.declared.fault.StoreFault.{StoreFault}
 use Rattle.edf_store.specs.declared.fault.StoreFault.TheVariants.{Memory, Store, Foreign, Failed}
-use Rattle.edf_header.specs.Key.{Key}
-use Rattle.edf_fragment.specs.Sound.{IsSoundRecord}
+use Rattle.edf_header.specs.Key.{Key, MayStart}
+use Rattle.edf_fragment.specs.Sound.{IsSoundRecord, MayBegin}
 use Rattle.edf_holdings.specs.Holdings.{Holdings, IsSound}
 use Rattle.edf_holdings.proofs.Joining.{IsGood-from_sound}
 use Rattle.edf_holdings.proofs.Sound.{Each-from_All}
@@ -63,6 +63,13 @@ pub some_first : (records : List DataRecord) (first : ℕ) → start_at records 
 some_first [] first is = absurd (let none : ◌≡◌ {A = Option ℕ} None (Some first) = is in cc)
 some_first (r ∷ rs) first is = omega arith
 
+-- the first start of a recording that may begin so
+pub may_start : (k : Key) (records : List DataRecord) (first : ℕ) → start_at records 0 ≡ Some first → MayBegin k records → MayStart k first
+may_start k [] first is begins = absurd (let none : ◌≡◌ {A = Option ℕ} None (Some first) = is in cc)
+may_start k (r ∷ rs) first is begins =
+    let same : r.start ≡ first = let told : ◌≡◌ {A = Option ℕ} (Some r.start) (Some first) = is in cc in
+    subst (MayStart k) same begins
+
 -- nothing was done
 pub stays_same : {S : Type 0} (g : Ghosts S) (s : Kept S) → Stays g s s
 stays_same g s = record {
@@ -83,5 +90,6 @@ sound_recording cap s recording after h k n it =
     record {
       key = it.key;
       sound = are-sound-from k 0 (h k) ((IsGood-from_sound cap h sound).apart k) (Each-from_All (IsSoundRecord k) (h k) (sound.records k));
+      begins = sound.begins k;
       few = sound.few k;
     }

@@ -3,7 +3,7 @@
 ghost use Rattle.std.specs.Prelude.{◌≡◌, ℕ, ◌≤◌, List, length, Option};
 ghost use Rattle.edf_header.specs.Key.{Key, IsKey};
 ghost use Rattle.edf_fragment.specs.Fragment.{DataRecord, Spells};
-ghost use Rattle.edf_fragment.specs.Sound.{AreSound};
+ghost use Rattle.edf_fragment.specs.Sound.{AreSound, MayBegin};
 ghost use Rattle.edf_holdings.specs.Holdings.{Holdings, IsSound};
 ghost use Rattle.edf_export.specs.File.{IsCanonicalFile};
 ghost use Rattle.edf_export.specs.Export.{IsExported};
@@ -15,10 +15,11 @@ pub fn one_canonical_file()
         IsCanonicalFile file key records → IsCanonicalFile other key records → file ≡ other }
 {}
 
-/// Sound records of a key have a canonical file, where they are 1 to 99,999,999; and so have those of each fragment.
+/// Sound records of a key with which its recording may begin have a canonical file, where they are 1 to 99,999,999; and so have
+/// those of each fragment.
 pub fn some_canonical_file()
     ensures sound { (key : Key) (records : List DataRecord) →
-        IsKey key → AreSound key 0 records → 1 ≤ length records → length records ≤ 99_999_999 →
+        IsKey key → AreSound key 0 records → MayBegin key records → 1 ≤ length records → length records ≤ 99_999_999 →
         (file : List ℕ) × IsCanonicalFile file key records }
     ensures spelled { (bytes : List ℕ) (key : Key) (records : List DataRecord) →
         Spells bytes key records → (file : List ℕ) × IsCanonicalFile file key records }

@@ -2,7 +2,7 @@
 
 ghost use Rattle.std.specs.Prelude.{◌≡◌, ◌≢◌, Err, None, IsTrue, ◌≤◌, ◌<◌, ℕ, false, length, IfOk, OnOk, IfErr, IfSome, MatchOption};
 ghost use Rattle.sqlite.specs.State.{HasCleanDisk};
-ghost use Rattle.edf_header.specs.Key.{Key};
+ghost use Rattle.edf_header.specs.Key.{Key, MayStart};
 ghost use Rattle.edf_holdings.specs.Holdings.{Holdings};
 ghost use Rattle.edf_store.specs.Fault.{IsStoreRefusal};
 ghost use Rattle.edf_store.specs.Held.{at, Holds, Stays};
@@ -91,6 +91,7 @@ pub(crate) fn plan_file<S: Alter>(
         IsPlanned identity.now (h identity.now) plan) }
     ensures records { IfOk result (λ plan. IfSome plan (λ p. (1 ≤ p.records) × (p.records ≤ 99_999_999))) }
     ensures samples { IfOk result (λ plan. IfSome plan (λ p. (1 ≤ p.samples) × (p.samples ≤ 725_023))) }
+    ensures may_start { IfOk result (λ plan. IfSome plan (λ p. MayStart identity.now p.first)) }
     ensures told { HasCleanDisk (at S.Store store.new) → IfErr result (λ fault. (h : Holdings) → Holds S.Store store.old h →
         IsStoreRefusal fault) }
     ensures unfailed { IfErr result (λ e. e ≢ StoreFault.Failed) }
@@ -103,6 +104,9 @@ pub(crate) fn plan_file<S: Alter>(
     };
     let longest = measure(store, identity, summary.records, summary.first.second())?;
     if summary.records == 0 || summary.records > store.cap() {
+        return Err(StoreFault::Foreign);
+    }
+    if !identity.may_start(summary.first) {
         return Err(StoreFault::Foreign);
     }
     Ok(Some(Plan {

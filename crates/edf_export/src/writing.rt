@@ -3,7 +3,7 @@
 ghost use Rattle.std.specs.Prelude.{◌≡◌, ◌≢◌, ℕ, ◌*◌, ◌≤◌, ◌++◌, false, length, None, Err, IsTrue, IfOk, IfErr};
 ghost use Rattle.std.specs.List.{flat_map};
 ghost use Rattle.sqlite.specs.State.{HasCleanDisk};
-ghost use Rattle.edf_header.specs.Key.{Key};
+ghost use Rattle.edf_header.specs.Key.{Key, MayStart};
 ghost use Rattle.edf_holdings.specs.Holdings.{Holdings};
 ghost use Rattle.edf_store.specs.Held.{at, Holds, Stays};
 ghost use Rattle.edf_store.specs.Walk.{IsBehind, StandsSomewhere};
@@ -144,6 +144,7 @@ pub(crate) fn write_planned<S: Alter, W: Output>(
 ) -> Result<u64, ExportFault>
     requires records { (1 ≤ plan.records) × (plan.records ≤ 99_999_999) }
     requires samples { (1 ≤ plan.samples) × (plan.samples ≤ 725_023) }
+    requires may_start { MayStart identity.now plan.first }
     ensures stays { Stays S.Store store.old store.new }
     ensures exported { HasCleanDisk (at S.Store store.new) → IfOk result (λ len. (h : Holdings) → Holds S.Store store.old h →
         IsPlanOf identity.now (h identity.now) plan →

@@ -97,8 +97,16 @@ const BLOCKS: &[(&[u8], &str)] = &[
         "0|1000000000 None a|1000000000 None ",
     ),
     (
-        b"+0\x14\x14\0+1\x153155759999.999999999\x14a\x14\0",
-        "0|1000000000 Some(3155759999999999999) a",
+        b"+0\x14\x14\0+1\x153155760000\x14a\x14\0",
+        "0|1000000000 Some(3155760000000000000) a",
+    ),
+    (
+        b"+0\x14\x14\0+1\x156311433599.999999999\x14a\x14\0",
+        "0|1000000000 Some(6311433599999999999) a",
+    ),
+    (
+        b"+0\x14\x14\0+5769705609.999999999\x14a\x14\0",
+        "0|5769705609999999999 None a",
     ),
     (b"+0\x14\x14\0\0+", "E22 Tal { offset: 5 }"),
     (b"+0\x14\x14\0\0\x01", "E22 Tal { offset: 5 }"),
@@ -119,7 +127,8 @@ const BLOCKS: &[(&[u8], &str)] = &[
         b"+0\x14\x14\0+9223372036.854775808\x14a\x14\0",
         "E26 Window",
     ),
-    (b"+0\x14\x14\0+1\x153155760000\x14a\x14\0", "E26 Window"),
+    (b"+0\x14\x14\0+5769705610\x14a\x14\0", "E26 Window"),
+    (b"+0\x14\x14\0+1\x156311433600\x14a\x14\0", "E26 Window"),
 ];
 
 #[test]
@@ -159,6 +168,33 @@ fn a_later_record_keeps_behind_the_one_before(rt: HostRuntime) {
     assert_eq!(rt; any, yes);
     let first = says_at(alloc, outside, SECOND, Place::First, "E26 Window");
     assert_eq!(rt; first, yes);
+}
+
+/// 2184-12-31 23:59:59
+const LAST_SECOND: u64 = 6_311_433_599_000_000_000;
+
+/// A block of a first record, and what it says in the last second of the window.
+const LAST: &[(&[u8], &str)] = &[
+    (b"+0.999999999\x14\x14\0", "999999999"),
+    (b"+0\x14\x14\0+0.999999999\x14a\x14\0", "0|999999999 None a"),
+    (
+        b"+0\x14\x14\0-6311433599\x14a\x14\0",
+        "0|-6311433599000000000 None a",
+    ),
+    (b"+0\x14\x14\0+1\x14a\x14\0", "E26 Window"),
+    (b"+0.999999999\x14\x14\0+1\x14\0", "E26 Window"),
+    (
+        b"+0\x14\x14\0-6311433599.000000001\x14a\x14\0",
+        "E26 Window",
+    ),
+];
+
+#[test]
+fn onsets_go_up_to_the_last_nanosecond_of_2184(rt: HostRuntime) {
+    for (block, want) in LAST.iter().copied() {
+        let said = says_at(rt.alloc(), block, LAST_SECOND, Place::First, want);
+        assert_eq!(rt; said, Some(true), "at {block:?}");
+    }
 }
 
 /// A block, and how it is written again.
@@ -226,8 +262,9 @@ fn note(alloc: Global, duration: Option<u64>, text: &str) -> Option<Note> {
 const NOTES: &[(Option<u64>, &str, bool)] = &[
     (None, "", true),
     (Some(0), "Apnea\x15", true),
-    (Some(3_155_759_999_999_999_999), "a", true),
-    (Some(3_155_760_000_000_000_000), "a", false),
+    (Some(3_155_760_000_000_000_000), "a", true),
+    (Some(6_311_433_599_999_999_999), "a", true),
+    (Some(6_311_433_600_000_000_000), "a", false),
     (None, "a\x14", false),
     (None, "\0", false),
 ];

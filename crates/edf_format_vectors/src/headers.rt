@@ -42,17 +42,21 @@ pub(crate) fn has_bytes(alloc: Global, identity: &Identity, bytes: &[u8]) -> boo
     }
 }
 
-/// The canonical header of one data record of Q's recording.
-fn canonical_header(alloc: Global) -> Option<Vec<u8>> {
-    let identity = Identity::from_bytes(alloc, &identity_q(alloc).ok()?).ok()?;
-    let start = Instant::at(541_727_990_000_000_000)?;
-    write_header(alloc, &identity, start, 1, 3).ok()
+/// The canonical header of one data record of a recording from this second on; `None` where it may
+/// not start there.
+pub(crate) fn canonical_header(alloc: Global, identity: &Identity, second: u64) -> Option<Vec<u8>> {
+    let start = Instant::at(second.checked_mul(1_000_000_000)?)?;
+    if !identity.may_start(start) {
+        return None;
+    }
+    write_header(alloc, identity, start, 1, 3).ok()
 }
 
 /// Whether it is the header of Q, and how long that is.
 fn is_that_of_q(alloc: Global) -> Option<(bool, usize)> {
     let header = file(alloc, &q(), &[]).ok()?;
-    let written = canonical_header(alloc)?;
+    let identity = Identity::from_bytes(alloc, &identity_q(alloc).ok()?).ok()?;
+    let written = canonical_header(alloc, &identity, 541_727_990)?;
     Some((written == header, header.len()))
 }
 

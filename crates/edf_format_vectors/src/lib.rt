@@ -5,6 +5,7 @@
 //!
 //! - `times`, `texts`: times and decimals, texts of header fields.
 //! - `fixed_parts`, `signal_parts`, `headers`, `identities`: headers and what they say of a recording.
+//! - `startdates`: startdates of headers beside the Startdate subfield.
 //! - `blocks`, `several_blocks`: annotations blocks, by themselves and several of a data record.
 //!
 //! By small named files:
@@ -34,6 +35,8 @@ mod several_blocks;
 mod several_signals;
 #[cfg(test)]
 mod signal_parts;
+#[cfg(test)]
+mod startdates;
 #[cfg(test)]
 mod stops;
 #[cfg(test)]

@@ -122,7 +122,8 @@ const FAULTS: &[([&[u8]; 2], &str)] = &[
     ([TIMED, b"+9223372036.854775808\x14a\x14\0"], "E26 Window"),
     ([TIMED, b"+9223372036.854775808\x14\0"], "E26 Window"),
     ([TIMED, b"-541727991\x14\0"], "E26 Window"),
-    ([TIMED, b"+1\x153155760000\x14a\x14\0"], "E26 Window"),
+    ([TIMED, b"+5769705610\x14\0"], "E26 Window"),
+    ([TIMED, b"+1\x156311433600\x14a\x14\0"], "E26 Window"),
 ];
 
 #[test]

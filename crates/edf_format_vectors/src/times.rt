@@ -9,8 +9,11 @@ const SECOND: u64 = 1_000_000_000;
 /// 2002-03-02 23:59:50
 const EVENING: u64 = 541_727_990 * SECOND;
 
-/// 2084-12-31 23:59:59.999999999
-const LAST: u64 = 3_155_759_999_999_999_999;
+/// 2085-01-01 00:00:00, the first instant whose year two digits do not name
+const LATE: u64 = 3_155_760_000 * SECOND;
+
+/// 2184-12-31 23:59:59.999999999
+const LAST: u64 = 6_311_433_599_999_999_999;
 
 /// A text, and its nanoseconds, or its fault.
 const DECIMALS: &[(&str, Result<u64, DecimalFault>)] = &[
@@ -46,7 +49,8 @@ const SHORTEST: &[(u64, &str)] = &[
     (1, "0.000000001"),
     (25_500_000_000, "25.5"),
     (10 * SECOND, "10"),
-    (LAST, "3155759999.999999999"),
+    (LATE - 1, "3155759999.999999999"),
+    (LAST, "6311433599.999999999"),
     (18_446_744_073_709_551_615, "18446744073.709551615"),
 ];
 
@@ -58,34 +62,125 @@ fn decimals_are_written_shortest(rt: HostRuntime) {
     }
 }
 
-/// The second in which a file starts.
-fn second_of(date: &[u8; 8], time: &[u8; 8]) -> Result<u64, StartFault> {
-    match start_of(date, time) {
+/// The second in which a file starts. The Startdate subfield is `X` or a date.
+fn second_of(date: &[u8; 8], time: &[u8; 8], id: &str) -> Option<Result<u64, StartFault>> {
+    let day = match id {
+        "X" => None,
+        _ => Some(id_date(id.as_bytes())?),
+    };
+    Some(match start_of(date, time, day) {
         Ok(start) => Ok(start.nanos() / SECOND),
         Err(fault) => Err(fault),
-    }
+    })
 }
 
-/// A startdate, a starttime, and their second, or their fault.
-const STARTS: &[(&[u8; 8], &[u8; 8], Result<u64, StartFault>)] = &[
-    (b"01.01.85", b"00.00.00", Ok(0)),
-    (b"02.03.02", b"00.00.00", Ok(541_641_600)),
-    (b"02.03.02", b"23.59.50", Ok(541_727_990)),
-    (b"29.02.00", b"00.00.00", Ok(478_396_800)),
-    (b"31.12.84", b"23.59.59", Ok(3_155_759_999)),
-    (b"29.02.01", b"00.00.00", Err(StartFault::Date)),
-    (b"31.02.02", b"23.59.50", Err(StartFault::Date)),
-    (b"31.02.02", b"24.00.00", Err(StartFault::Date)),
-    (b"02-03-02", b"23.59.50", Err(StartFault::Date)),
-    (b"02.03.02", b"24.00.00", Err(StartFault::Time)),
-    (b"02.03.02", b"23.60.00", Err(StartFault::Time)),
-    (b"02.03.02", b"23:59:50", Err(StartFault::Time)),
+/// A startdate, a starttime, a Startdate subfield, and their second.
+const STARTS: &[(&[u8; 8], &[u8; 8], &str, u64)] = &[
+    (b"01.01.85", b"00.00.00", "X", 0),
+    (b"02.03.02", b"00.00.00", "X", 541_641_600),
+    (b"02.03.02", b"23.59.50", "02-MAR-2002", 541_727_990),
+    (b"29.02.00", b"00.00.00", "29-FEB-2000", 478_396_800),
+    (b"31.12.84", b"23.59.59", "X", 3_155_759_999),
+    (b"31.12.84", b"23.59.59", "31-DEC-2084", 3_155_759_999),
+    (b"01.01.yy", b"00.00.00", "01-JAN-2085", 3_155_760_000),
+    (b"29.02.yy", b"00.00.00", "29-FEB-2088", 3_255_465_600),
+    (b"02.03.yy", b"23.59.50", "02-MAR-2102", 3_697_401_590),
+    (b"31.12.yy", b"23.59.59", "31-DEC-2184", 6_311_433_599),
 ];
 
 #[test]
-fn starts_are_read_or_refused(rt: HostRuntime) {
-    for (date, time, want) in STARTS.iter().copied() {
-        assert_eq!(rt; second_of(date, time), want, "at {want:?}");
+fn starts_are_read(rt: HostRuntime) {
+    for (date, time, id, want) in STARTS.iter().copied() {
+        let found = second_of(date, time, id);
+        assert_eq!(rt; found, Some(Ok(want)), "at {want}");
+    }
+}
+
+/// A startdate, a starttime and a Startdate subfield that name no second, and their fault.
+const NO_STARTS: &[(&[u8; 8], &[u8; 8], &str, StartFault)] = &[
+    (b"29.02.01", b"00.00.00", "X", StartFault::Date),
+    (b"31.02.02", b"23.59.50", "X", StartFault::Date),
+    (b"31.02.02", b"24.00.00", "02-MAR-2002", StartFault::Date),
+    (b"02-03-02", b"23.59.50", "02-MAR-2002", StartFault::Date),
+    (b"02.03.02", b"24.00.00", "X", StartFault::Time),
+    (b"02.03.02", b"23.60.00", "02-MAR-2002", StartFault::Time),
+    (b"02.03.02", b"23:59:50", "03-MAR-2002", StartFault::Time),
+    (b"02.03.02", b"23.59.50", "03-MAR-2002", StartFault::Differs),
+    (b"02.03.02", b"23.59.50", "02-MAR-2001", StartFault::Differs),
+    (b"02.03.02", b"23.59.50", "02-MAR-1902", StartFault::Differs),
+];
+
+#[test]
+fn starts_with_a_fault_are_refused_with_the_first(rt: HostRuntime) {
+    for (date, time, id, fault) in NO_STARTS.iter().copied() {
+        let found = second_of(date, time, id);
+        assert_eq!(rt; found, Some(Err(fault)), "{id} for {date:?} {time:?}");
+    }
+}
+
+/// Startdates that name no day beside this Startdate subfield.
+const NO_LATE_DATES: &[(&[u8; 8], &str)] = &[
+    (b"02.03.yy", "X"),
+    (b"02.03.YY", "02-MAR-2102"),
+    (b"02.03.Yy", "02-MAR-2102"),
+    (b"02.03.yY", "02-MAR-2102"),
+    (b"02.03.0y", "02-MAR-2102"),
+    (b"02.03.y2", "02-MAR-2102"),
+    (b"02.03.y ", "02-MAR-2102"),
+    (b"02-03-yy", "02-MAR-2102"),
+    (b"02.03-yy", "02-MAR-2102"),
+    (b"2.03.yy ", "02-MAR-2102"),
+    (b"30.02.yy", "28-FEB-2102"),
+    (b"31.04.yy", "30-APR-2102"),
+    (b"00.03.yy", "02-MAR-2102"),
+    (b"32.03.yy", "02-MAR-2102"),
+    (b"02.00.yy", "02-MAR-2102"),
+    (b"02.13.yy", "02-MAR-2102"),
+    (b"dd.mm.yy", "02-MAR-2102"),
+];
+
+#[test]
+fn startdates_of_another_form_are_no_dates_at_any_time_of_the_day(rt: HostRuntime) {
+    let refused = Some(Err(StartFault::Date));
+    for (date, id) in NO_LATE_DATES.iter().copied() {
+        let good = second_of(date, b"23.59.50", id);
+        assert_eq!(rt; good, refused, "{date:?} beside {id}");
+        let bad = second_of(date, b"24.00.00", id);
+        assert_eq!(rt; bad, refused, "{date:?} beside {id}, no time");
+    }
+}
+
+/// Startdates beside a date in the Startdate subfield that is not theirs.
+const OTHER_DAYS: &[(&[u8; 8], &str)] = &[
+    (b"02.03.yy", "03-MAR-2102"),
+    (b"02.03.yy", "02-APR-2102"),
+    (b"02.03.yy", "03-FEB-2102"),
+    (b"29.02.yy", "28-FEB-2100"),
+    (b"29.02.yy", "01-MAR-2100"),
+    (b"02.03.yy", "02-MAR-2084"),
+    (b"31.12.yy", "31-DEC-2084"),
+    (b"02.03.yy", "02-MAR-2002"),
+    (b"02.05.yy", "02-MAY-1951"),
+    (b"31.12.yy", "31-DEC-1984"),
+    (b"02.03.yy", "02-MAR-0000"),
+    (b"01.01.yy", "01-JAN-2185"),
+    (b"02.03.yy", "02-MAR-2185"),
+    (b"31.12.yy", "31-DEC-9999"),
+    (b"02.03.02", "02-MAR-2102"),
+    (b"01.01.85", "01-JAN-2085"),
+    (b"31.12.84", "31-DEC-2184"),
+    (b"29.02.88", "29-FEB-2088"),
+];
+
+#[test]
+fn a_startdate_and_a_subfield_of_two_days_differ_where_the_time_is_one(rt: HostRuntime) {
+    for (date, id) in OTHER_DAYS.iter().copied() {
+        let good = second_of(date, b"23.59.50", id);
+        let differs = Some(Err(StartFault::Differs));
+        assert_eq!(rt; good, differs, "{date:?} beside {id}");
+        let bad = second_of(date, b"23.59.60", id);
+        let no_time = Some(Err(StartFault::Time));
+        assert_eq!(rt; bad, no_time, "{date:?} beside {id}, no time");
     }
 }
 
@@ -143,13 +238,46 @@ const INSTANTS: &[(u64, &str, &str, &str, &str)] = &[
         "2002-03-03T00:00:05",
     ),
     (
-        LAST,
+        LATE - 1,
         "31.12.84",
         "23.59.59",
         "31-DEC-2084",
         "2084-12-31T23:59:59.999999999",
     ),
+    (
+        LATE,
+        "01.01.yy",
+        "00.00.00",
+        "01-JAN-2085",
+        "2085-01-01T00:00:00",
+    ),
+    (
+        3_255_465_600 * SECOND,
+        "29.02.yy",
+        "00.00.00",
+        "29-FEB-2088",
+        "2088-02-29T00:00:00",
+    ),
+    (
+        3_697_401_590 * SECOND + 5,
+        "02.03.yy",
+        "23.59.50",
+        "02-MAR-2102",
+        "2102-03-02T23:59:50.000000005",
+    ),
+    (
+        LAST,
+        "31.12.yy",
+        "23.59.59",
+        "31-DEC-2184",
+        "2184-12-31T23:59:59.999999999",
+    ),
 ];
+
+/// The start that an instant's startdate and starttime name beside this Startdate subfield.
+fn read_back(instant: Instant, id: Option<Day>) -> Result<Instant, StartFault> {
+    start_of(&date_field(instant), &time_field(instant), id)
+}
 
 /// Whether an instant is written in these texts, and its second and its day read back of them.
 fn stands_as(
@@ -167,7 +295,7 @@ fn stands_as(
             && time_field(instant).as_slice() == time.as_bytes()
             && id_date_text(instant).as_slice() == id.as_bytes()
             && written.as_slice() == text.as_bytes()
-            && start_of(&date_field(instant), &time_field(instant)) == Ok(instant.second())
+            && read_back(instant, Some(instant.day())) == Ok(instant.second())
             && id_date(id.as_bytes()) == Some(instant.day()),
     )
 }
@@ -177,6 +305,35 @@ fn instants_are_written_and_read_back(rt: HostRuntime) {
     for (nanos, date, time, id, text) in INSTANTS.iter().copied() {
         let same = stands_as(rt.alloc(), nanos, date, time, id, text);
         assert_eq!(rt; same, Some(true), "at {text}");
+    }
+}
+
+/// Whether two digits name the year of an instant; `None` where its startdate tells otherwise beside a
+/// Startdate subfield `X`.
+fn named_by_two_digits(nanos: u64) -> Option<bool> {
+    let instant = Instant::at(nanos)?;
+    let named = instant.has_two_digit_year();
+    match read_back(instant, None) {
+        Ok(start) if named && start == instant.second() => Some(true),
+        Err(StartFault::Date) if !named => Some(false),
+        _ => None,
+    }
+}
+
+/// An instant, and whether two digits name its year.
+const YEARS: &[(u64, bool)] = &[
+    (0, true),
+    (EVENING, true),
+    (LATE - 1, true),
+    (LATE, false),
+    (3_697_401_590 * SECOND, false),
+    (LAST, false),
+];
+
+#[test]
+fn two_digits_name_the_year_of_an_instant_up_to_2084(rt: HostRuntime) {
+    for (nanos, named) in YEARS.iter().copied() {
+        assert_eq!(rt; named_by_two_digits(nanos), Some(named), "at {nanos}");
     }
 }
 
@@ -201,6 +358,7 @@ fn are_before(nanos: u64, other: u64) -> Option<bool> {
 /// Where an instant stands, how far it is moved, and where it stands then.
 const MOVES: &[(u64, i64, Option<u64>)] = &[
     (0, LAST as i64, Some(LAST)),
+    (LATE - 1, 1, Some(LATE)),
     (LAST, -(LAST as i64), Some(0)),
     (LAST, 1, None),
     (0, -1, None),

@@ -1,6 +1,8 @@
 -- What the data records of a fragment have, and those that were read so far.
-use Rattle.std.proofs.Common.{◌≡◌, ℕ, ◌+◌, ◌*◌, ◌≤◌, ◌<◌, inl, inr, List, [], ◌∷◌, ◌++◌, length, arith, sym, ap, ◌∙◌, subst, length-append, Option, None, Some, Result, Ok, Err, IfOk, IfSome}
+use Rattle.std.proofs.Common.{◌≡◌, ℕ, ◌+◌, ◌*◌, ◌^◌, ◌≤◌, ◌<◌, inl, inr, List, [], ◌∷◌, ◌++◌, length, arith, sym, ap, ◌∙◌, subst, length-append, Option, None, Some, Result, Ok, Err, IfOk, IfSome, ℤ, pos, negsuc}
+use Rattle.std.specs.Prelude.{unsigned_abs, ◌+ℤ◌, ◌≤ℤ◌, ◌<ℤ◌}
 use Rattle.std.proofs.lemmas.Bool.{cases_lt}
+use Rattle.std.proofs.lemmas.Int.{ints}
 use Rattle.edf_field.specs.Number.{duration_of}
 use Rattle.edf_header.specs.Signal.{samples_in_all}
 use Rattle.edf_header.specs.Key.{Key, IsKey}
@@ -9,13 +11,13 @@ use Rattle.edf_header.specs.Header.{HeaderRecord, IsHeader, Layout, layout_of}
 use Rattle.edf_header.proofs.Cited.{key-duration-some}
 use Rattle.edf_header.proofs.Cited.{header-has-layout}
 use Rattle.edf_header.proofs.Cited.{one-header}
-use Rattle.edf_tal.specs.Tal.{Annotation}
-use Rattle.edf_tal.specs.Block.{AreRead}
+use Rattle.edf_tal.specs.Tal.{Tal, Annotation, IsTimed, begin, first_tals}
+use Rattle.edf_tal.specs.Block.{AreRead, KeepsPlace}
 use Rattle.edf_tal.specs.declared.place.Place.{Place}
 use Rattle.edf_tal.specs.declared.place.Place.TheVariants.{First, After, Any}
 use Rattle.edf_tal.proofs.Cited.{blocks-read-start, blocks-read-annotations}
 use Rattle.edf_fragment.specs.Fragment.{DataRecord, IsDataRecord, AreDataRecords, place_behind, ordinary_bytes, Spells}
-use Rattle.edf_fragment.specs.Sound.{IsKept, IsSoundRecord, AreSound}
+use Rattle.edf_fragment.specs.Sound.{IsKept, IsSoundRecord, AreSound, MayBegin}
 use Rattle.edf_fragment.specs.Reading.{ReadsHeader, IsNext}
 use Rattle.edf_fragment.specs.Whole.{HasRead}
 use Rattle.edf_fragment.specs.declared.advance.Progress.{Progress}
@@ -77,6 +79,28 @@ are-sound l place bytes (r ∷ rs) last rest in_layout (front, back, parts, is, 
   are-sound l (place_behind l r.start) back rs last rest in_layout more,
 )
 
+-- ---- the first of them
+
+abs-below : (z : ℤ) (n : ℕ) → pos 0 ≤ℤ z → z <ℤ pos n → unsigned_abs z < n
+abs-below (pos m) n from to = omega (arith, ints)
+abs-below (negsuc m) n from to = absurd (omega (arith, ints))
+
+-- it starts in the second that the header names
+in-second : (file_start : ℕ) (ts : List Tal) → IsTimed ts → KeepsPlace First file_start ts → begin file_start ts < file_start + 10 ^ 9
+in-second file_start [] timed keeps = absurd timed
+in-second file_start (t ∷ ts) timed (from, to) = abs-below (pos file_start +ℤ t.onset) (file_start + 10 ^ 9) (omega (arith, ints)) (omega (arith, ints))
+
+first-start : (bs : List (List ℕ)) (file_start start : ℕ) (list : List Annotation) → AreRead bs file_start First start list → start < file_start + 10 ^ 9
+first-start bs file_start start list read = rw (read.start_is) (in-second file_start (first_tals read.tals) read.timed read.keeps)
+
+-- so the key's recording may start with it: the part of the window that two digits name ends with a second
+may-begin : (l : Layout) (bytes : List ℕ) (rs : List DataRecord) (last : Place) (rest : List ℕ) → IsLayout l → AreDataRecords l First bytes rs last rest → MayBegin l.key rs
+may-begin l bytes [] last rest in_layout are = tt
+may-begin l bytes (r ∷ rs) last rest in_layout (front, back, parts, is, more) =
+    λ undated. omega (arith, first-start _ _ _ _ is.read, in_layout.may_start undated, in_layout.whole_second)
+
+-- ---- what the header says of them
+
 -- the bounds of the header that bytes spell
 spelled-layout : (bytes : List ℕ) (k : Key) (rs : List DataRecord) (s : Spells bytes k rs) → IsLayout (layout_of s.header)
 spelled-layout bytes k rs s = header-has-layout bytes s.header s.rest s.is_header
@@ -97,6 +121,10 @@ pub spelled-sound : (bytes : List ℕ) (k : Key) (rs : List DataRecord) → Spel
 spelled-sound bytes k rs s =
     subst (λ (x : Key). AreSound x 0 rs) (sym s.key) (are-sound (layout_of s.header) First s.rest rs s.last [] (spelled-layout bytes k rs s) s.are_records)
 
+pub spelled-begins : (bytes : List ℕ) (k : Key) (rs : List DataRecord) → Spells bytes k rs → MayBegin k rs
+spelled-begins bytes k rs s =
+    subst (λ (x : Key). MayBegin x rs) (sym s.key) (may-begin (layout_of s.header) s.rest rs s.last [] (spelled-layout bytes k rs s) s.are_records)
+
 -- ---- those that were read so far
 
 read-layout : (left rest : Option (List ℕ)) (l : Layout) → ReadsHeader left rest l → IsLayout l
@@ -107,6 +135,9 @@ read-key left rest l h = (read-layout left rest l h).key
 
 pub read-sound : (left one two : Option (List ℕ)) (l : Layout) (rs : List DataRecord) (p : Progress) → ReadsHeader left one l → HasRead l one two rs p → AreSound l.key 0 rs
 read-sound left one two l rs p h b = are-sound l First b.bytes rs p.place [] (read-layout left one l h) b.are_records
+
+pub read-begins : (left one two : Option (List ℕ)) (l : Layout) (rs : List DataRecord) (p : Progress) → ReadsHeader left one l → HasRead l one two rs p → MayBegin l.key rs
+read-begins left one two l rs p h b = may-begin l b.bytes rs p.place [] (read-layout left one l h) b.are_records
 
 -- a list that begins with another
 abbrev pub Begins : List DataRecord → List DataRecord → Type 0

@@ -3,7 +3,7 @@ use Rattle.std.specs.Prelude.{◌≡◌, ℕ, ◌+◌, ◌*◌, ◌≤◌, ◌<�
 use Rattle.std.specs.List.{AllByRecursion}
 use Rattle.edf_time.specs.Civil.{window}
 use Rattle.edf_field.specs.Number.{duration_of}
-use Rattle.edf_header.specs.Key.{Key}
+use Rattle.edf_header.specs.Key.{Key, MayStart}
 use Rattle.edf_header.specs.Signal.{samples_in_all}
 use Rattle.edf_tal.specs.Tal.{IsAnnotation}
 use Rattle.edf_tal.specs.Block.{IsWithinLimits}
@@ -27,3 +27,8 @@ pub record IsSoundRecord (k : Key) (r : DataRecord) : Type 0 where
 abbrev pub AreSound : Key → ℕ → List DataRecord → Type 0
 AreSound k low [] = Unit {0}
 AreSound k low (r ∷ rs) = IsSoundRecord k r × (low ≤ r.start) × AreSound k (r.start + duration_of k.duration) rs
+
+-- of the records, which rise in time, the earliest is one with which the key's recording may start
+abbrev pub MayBegin : Key → List DataRecord → Type 0
+MayBegin k [] = Unit {0}
+MayBegin k (r ∷ rs) = MayStart k r.start

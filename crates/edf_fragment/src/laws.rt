@@ -7,7 +7,7 @@ ghost use Rattle.edf_fragment.specs.Fragment.{DataRecord, Spells, blocks, ordina
 ghost use Rattle.edf_fragment.specs.Signals.{annotations_blocks, ordinary_samples};
 ghost use Rattle.edf_fragment.specs.Fault.{IsFirstFault};
 ghost use Rattle.edf_fragment.specs.Told.{Told, Tells};
-ghost use Rattle.edf_fragment.specs.Sound.{AreSound};
+ghost use Rattle.edf_fragment.specs.Sound.{AreSound, MayBegin};
 ghost use Rattle.edf_fragment.specs.Reading.{ReadsHeader, IsOpenFault, IsAnswer, at_first};
 ghost use Rattle.edf_fragment.specs.Whole.{HasRead, ReadsFragment, IsFragmentFault};
 ghost use Rattle.edf_fragment.specs.declared.advance.Progress.{Progress};
@@ -51,7 +51,7 @@ pub fn each_tells_one()
 
 /// What bytes that spell a fragment give it: a key that headers name, with a duration above 0; and
 /// 1 to 99,999,999 data records, where the header's count is unknown too, that lie in the window,
-/// at least a duration apart, and keep the limits.
+/// at least a duration apart, and keep the limits; the first before 2085 where the key has no date.
 pub fn records_are_sound()
     ensures key { (bytes : List ℕ) (key : Key) (records : List DataRecord) → Spells bytes key records → IsKey key }
     ensures lasting { (bytes : List ℕ) (key : Key) (records : List DataRecord) →
@@ -61,14 +61,18 @@ pub fn records_are_sound()
         Spells bytes key records → length records ≤ 99_999_999 }
     ensures sound { (bytes : List ℕ) (key : Key) (records : List DataRecord) →
         Spells bytes key records → AreSound key 0 records }
+    ensures begins { (bytes : List ℕ) (key : Key) (records : List DataRecord) →
+        Spells bytes key records → MayBegin key records }
 {}
 
-/// The data records that were read so far are sound under a key that headers name; and they are the first of those that all
-/// the bytes spell, where these are known and spell a fragment.
+/// The data records that were read so far are sound under a key that headers name, whose recording may begin with the first;
+/// and they are the first of those that all the bytes spell, where these are known and spell a fragment.
 pub fn records_so_far()
     ensures key { (left rest : Option (List ℕ)) (l : Layout) → ReadsHeader left rest l → IsKey l.key }
     ensures sound { (left one two : Option (List ℕ)) (l : Layout) (records : List DataRecord) (p : Progress) →
         ReadsHeader left one l → HasRead l one two records p → AreSound l.key 0 records }
+    ensures begins { (left one two : Option (List ℕ)) (l : Layout) (records : List DataRecord) (p : Progress) →
+        ReadsHeader left one l → HasRead l one two records p → MayBegin l.key records }
     ensures front { (bytes : List ℕ) (one two : Option (List ℕ)) (l : Layout) (records : List DataRecord) (p : Progress)
         (key : Key) (spelled : List DataRecord) →
         ReadsHeader (Some bytes) one l → HasRead l one two records p → Spells bytes key spelled →

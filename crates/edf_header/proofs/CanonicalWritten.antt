@@ -3,7 +3,7 @@ use Rattle.std.proofs.Common.{◌≡◌, ℕ, ◌+◌, ◌*◌, ◌≤◌, List,
 use Rattle.std.specs.Prelude.{codes}
 use Rattle.std.specs.Fmt.{decimal}
 use Rattle.std.proofs.lemmas.List.{length-append}
-use Rattle.edf_time.specs.Civil.{IsDateText, IsTimeText, IsIdDate, day_of, second_of_day}
+use Rattle.edf_time.specs.Civil.{IsDateField, IsTimeText, IsIdDate, day_of, second_of_day}
 use Rattle.edf_field.specs.Text.{padded_to}
 use Rattle.edf_header.specs.Signal.{columns}
 use Rattle.edf_header.specs.Key.{Key}
@@ -30,7 +30,7 @@ joined : (k : Key) (id_date date time c : List ℕ) (count m : ℕ)
 joined k id_date date time c count m = simp append_assoc
 
 pub written : (k : Key) (start count n signals : ℕ) (date time id_date o1 o2 o3 o4 o5 : List ℕ) (ss : List (List ℕ))
-    → IsDateText date (day_of start) → IsTimeText time (second_of_day start) → IsIdDate id_date (pos (day_of start))
+    → IsDateField date (day_of start) → IsTimeText time (second_of_day start) → IsIdDate id_date (pos (day_of start))
     → o1 ≡ names k id_date → o2 ≡ o1 ++ date → o3 ≡ o2 ++ time → o4 ≡ o3 ++ numbers k count signals → o5 ≡ o4 ++ columns (ss ++ annotations_signal n ∷ [])
     → signals ≡ length k.signals + 1 → ss ≡ k.signals → IsCanonicalHeader o5 k start count n
 written k start count n signals date time id_date o1 o2 o3 o4 o5 ss is-date is-time is-id e1 e2 e3 e4 e5 signals-are rows-are =

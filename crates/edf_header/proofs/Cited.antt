@@ -1,7 +1,7 @@
 -- The proofs of the public laws that other crates' proofs cite; they cite no other file of these.
 use Rattle.std.proofs.Common.{◌≡◌, ℕ, ◌*◌, ◌/◌, ◌^◌, ◌≤◌, ◌<◌, List, ◌⊎◌}
 use Rattle.edf_field.specs.Number.{duration_of}
-use Rattle.edf_header.specs.Key.{Key, IsKey, IsSized, key_at, key_bytes}
+use Rattle.edf_header.specs.Key.{Key, IsKey, IsSized, MayStart, key_at, key_bytes}
 use Rattle.edf_header.specs.Header.{FixedPart, HeaderRecord, IsFixed, IsFixedHeader, AreSignals, IsHeader, key_of, layout_of, IsLayout}
 use Rattle.edf_header.specs.Fault.{FixedPartFails, SignalsFail, IsClean, IsHeaderFault}
 use Rattle.edf_header.specs.Canonical.{IsCanonicalHeader}
@@ -64,6 +64,6 @@ header-or-fault = told.header-or-fault
 pub one-canonical-header : (bytes other : List ℕ) (key : Key) (start count block : ℕ) → IsCanonicalHeader bytes key start count block → IsCanonicalHeader other key start count block → bytes ≡ other
 one-canonical-header = canonical_one.one-canonical-header
 
-pub canonical-header-reads : (bytes : List ℕ) (key : Key) (start count block : ℕ) → IsKey key → 1 ≤ count → count ≤ 99_999_999 → 1 ≤ block → block ≤ 2_097_152
+pub canonical-header-reads : (bytes : List ℕ) (key : Key) (start count block : ℕ) → IsKey key → MayStart key start → 1 ≤ count → count ≤ 99_999_999 → 1 ≤ block → block ≤ 2_097_152
     → IsCanonicalHeader bytes key start count block → IsReadAs bytes (spelled_layout key (start / 10 ^ 9 * 10 ^ 9) count block)
 canonical-header-reads = canonical_headers.canonical-header-reads

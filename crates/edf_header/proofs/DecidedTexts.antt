@@ -4,13 +4,13 @@ use Rattle.std.specs.Prelude.{◌⊎◌, codes}
 use Rattle.std.specs.Char.{digit_value}
 use Rattle.std.specs.Str.Parse.{AllDigits, IsNumeral, digits_value}
 use Rattle.std.proofs.lemmas.List.{take_at, take_all, drop_all}
-use Rattle.edf_time.specs.Civil.{IsIdDate}
+use Rattle.edf_time.specs.Civil.{HasDateForm, IsIdDate}
 use Rattle.edf_time.specs.Decimal.{IsDecimal, IsFine, fraction_value as places}
 use Rattle.edf_field.specs.Number.{field, AreSpaces, IsDuration, front_len}
 use Rattle.edf_field.specs.Text.{IsBehindStartdate, IsBirthdate, IsPatient, IsRecording, IsSex, subfields}
 use Rattle.edf_header.proofs.Decided.{Decided, like, both, either, less, same, same-bytes, every, some-below}
 use Rattle.edf_header.proofs.DecidedFields.{spaces, behind-startdate}
-use Rattle.edf_time.proofs.Cited.{some-id_date}
+use Rattle.edf_time.proofs.Cited.{some-date, some-yearless, some-id_date}
 
 all-digits : (ds : List ℕ) → Decided (AllDigits 10 ds)
 all-digits [] = inl tt
@@ -122,3 +122,15 @@ recording text =
     like (either (both (same-bytes (take 11 text) (codes "Startdate X")) (behind-startdate (drop 11 text)))
     (both (both (same-bytes (take 10 text) (codes "Startdate ")) (some-id_date (field text 10 11))) (behind-startdate (drop 21 text))))
     (from-dated text) (λ r. to-dated text r.0 r.1 r.2)
+
+-- one with X in place of the startdate
+pub undated : (text : List ℕ) → Decided ((after : List ℕ) × IsRecording text None after)
+undated text =
+    like (both (same-bytes (take 11 text) (codes "Startdate X")) (behind-startdate (drop 11 text)))
+    (λ p. (drop 11 text, record { front = (p.0, refl); behind = p.1 }))
+    (λ r. (r.1.front.0, subst IsBehindStartdate r.1.front.1 r.1.behind))
+
+-- the startdate
+pub date-form : (text : List ℕ) (id : Option ℤ) → Decided (HasDateForm text id)
+date-form text None = some-date text
+date-form text (Some day) = either (some-date text) (some-yearless text)

@@ -1,23 +1,22 @@
 -- Rows that are decided, in the order of their numbers: none is true, or one is the first.
-use Rattle.std.proofs.Common.{◌≡◌, ℕ, suc, ◌+◌, ◌*◌, List, [], length, arith, refl, sym, ap, ◌∙◌, subst, inl, inr, cond, eqb, Option, ℤ, pos, None, Some}
+use Rattle.std.proofs.Common.{◌≡◌, ℕ, suc, ◌+◌, ◌*◌, List, [], length, arith, refl, sym, ap, ◌∙◌, subst, inl, inr, cond, eqb, Option, ℤ, Some}
 use Rattle.std.specs.Prelude.{◌⊎◌, codes}
-use Rattle.edf_time.specs.Civil.{IsDateText, IsTimeText}
-use Rattle.edf_time.proofs.Cited.{one-date_day}
+use Rattle.edf_time.specs.Civil.{HasDateForm, IsDateText, IsTimeText}
 use Rattle.edf_field.specs.Number.{field, IsDuration, IsNumber}
 use Rattle.edf_field.specs.Text.{IsPrintable, IsRecording}
 use Rattle.edf_header.specs.Signal.{IsFirstBad, Passes, signals_of}
-use Rattle.edf_header.specs.Header.{IsSameDay}
-use Rattle.edf_header.specs.Fault.{DatesAreOther, FixedPartFails, HasSignals, IsBadSignal, IsClean, IsFirst, SignalsFail, header_fault_number}
+use Rattle.edf_header.specs.Fault.{DatesAreOther, FixedPartFails, HasNoYear, HasSignals, IsBadSignal, IsClean, IsFirst, IsNoStartdate, SignalsFail, header_fault_number}
 use Rattle.edf_header.specs.declared.signal_checks.Check.{Check}
 use Rattle.edf_header.specs.declared.signal_checks.Check.TheVariants as checks
 use Rattle.edf_header.specs.declared.fault.HeaderFault.{HeaderFault}
 use Rattle.edf_header.specs.declared.fault.HeaderFault.TheVariants.{Cut, Unprintable, Version, Patient, Recording, Startdate, Starttime, DatesDiffer, NotPlus, Count, Duration, Signals, HeaderBytes, CutSignals, UnprintableSignals, Annotations, Physical, Digital, Samples, Size, Memory}
 use Rattle.edf_field.proofs.Recordings.{one-after}
 use Rattle.edf_header.proofs.FixedRows.{clean-more}
+use Rattle.edf_header.proofs.Startdates.{other-startdates, same-startdates}
 use Rattle.edf_header.proofs.Faults.{not-bad}
-use Rattle.edf_header.proofs.Decided.{Decided, like, negated, less, same-bytes, same-int, first-bad}
+use Rattle.edf_header.proofs.Decided.{Decided, like, both, either, negated, less, same-bytes, first-bad}
 use Rattle.edf_header.proofs.DecidedFields as fields
-use Rattle.edf_time.proofs.Cited.{some-date, some-time}
+use Rattle.edf_time.proofs.Cited.{some-date, some-startdates, some-time, some-yearless}
 use Rattle.edf_header.proofs.DecidedTexts as texts
 use Rattle.edf_header.proofs.DecidedSignals as rows
 
@@ -100,24 +99,29 @@ unprintable b =
 no-recording : (text : List ℕ) → Decided ((startdate : Option ℤ) (after : List ℕ) → ¬ IsRecording text startdate after)
 no-recording text = like (negated (texts.recording text)) (λ none s after is. none (s, after, is)) (λ none r. none r.0 r.1 r.2)
 
-pub same-day : (startdate : Option ℤ) (days : ℕ) → Decided (IsSameDay startdate days)
-same-day None days = inl tt
-same-day (Some day) days = same-int day (pos days)
+no-startdate : (b : List ℕ) → Decided (IsNoStartdate (field b 168 8) ⊎ HasNoYear b)
+no-startdate b =
+    let date : List ℕ = field b 168 8 in
+    either (both (none-of (IsDateText date) (some-date date)) (negated (some-yearless date))) (both (some-yearless date) (texts.undated (field b 88 80)))
+
+other-by : (b : List ℕ) (s : Option ℤ) (after : List ℕ) → IsRecording (field b 88 80) s after → Decided (DatesAreOther b)
+other-by b s after is =
+    let date : List ℕ = field b 168 8 in
+    elim (texts.date-form date s) [
+      | inl form ↦ elim (some-startdates date s) [
+        | inl are ↦ inr (same-startdates b s after are.0 is are.1)
+        | inr none ↦ inl (other-startdates b s after is form (λ days are. none (days, are)))
+      ]
+      | inr never ↦ inr (λ differ.
+          let same = (one-after (field b 88 80) (Some differ.day) s differ.after after differ.recording.front is.front).0 in
+          never (subst (HasDateForm date) same differ.form))
+    ]
 
 other-dates : (b : List ℕ) → Decided (DatesAreOther b)
 other-dates b =
     elim (texts.recording (field b 88 80)) [
-      | inl r ↦ elim (some-date (field b 168 8)) [
-        | inl d ↦ elim (same-day r.0 d.0) [
-          | inl is ↦ inr (λ o.
-              let startdate = (one-after (field b 88 80) r.0 o.startdate r.1 o.after r.2.front o.recording.front).0 in
-              let days = one-date_day (field b 168 8) d.0 o.days d.1 o.date in
-              o.other (subst (λ (s : Option ℤ). IsSameDay s o.days) startdate (subst (λ (n : ℕ). IsSameDay r.0 n) days is)))
-          | inr other ↦ inl (record { startdate = r.0; after = r.1; days = d.0; recording = r.2; date = d.1; other = other })
-        ]
-        | inr none ↦ inr (λ o. none (o.days, o.date))
-      ]
-      | inr none ↦ inr (λ o. none (o.startdate, o.after, o.recording))
+      | inl r ↦ other-by b r.0 r.1 r.2
+      | inr none ↦ inr (λ o. none (Some o.day, o.after, o.recording))
     ]
 
 other-bytes : (b : List ℕ) → Decided ((n : ℕ) × HasSignals b n × ¬ IsNumber (field b 184 8) (256 + 256 * n))
@@ -144,7 +148,7 @@ fixed-rows b =
     (row (FixedPartFails b) 9 (λ at. refl) (plain (negated (fields.plus (field b 192 44))))
     (row (FixedPartFails b) 8 (λ at. refl) (plain (other-dates b))
     (row (FixedPartFails b) 7 (λ at. refl) (plain (none-of (IsTimeText (field b 176 8)) (some-time (field b 176 8))))
-    (row (FixedPartFails b) 6 (λ at. refl) (plain (none-of (IsDateText (field b 168 8)) (some-date (field b 168 8))))
+    (row (FixedPartFails b) 6 (λ at. refl) (plain (no-startdate b))
     (row (FixedPartFails b) 5 (λ at. refl) (plain (no-recording (field b 88 80)))
     (row (FixedPartFails b) 4 (λ at. refl) (plain (negated (texts.patient (field b 8 80))))
     (row (FixedPartFails b) 3 (λ at. refl) (plain (negated (same-bytes (field b 0 8) (codes "0       "))))

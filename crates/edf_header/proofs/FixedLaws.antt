@@ -10,15 +10,18 @@ use Rattle.std.proofs.lemmas.Int.Digits.{digits_value-lt}
 use Rattle.std.proofs.lemmas.List.{length-take, length-drop}
 use Rattle.std.proofs.lemmas.List.Elements.{All-take, All-drop}
 use Rattle.std.proofs.Math.Nat.{pow-le-pow_right}
-use Rattle.edf_time.proofs.Cited.{one-id_day, start-parts, one-start}
-use Rattle.edf_field.proofs.Recordings.{x-no-date, one-after}
+use Rattle.edf_time.specs.Civil.{IsCivil}
+use Rattle.edf_time.proofs.Cited.{has-form, one-start, start-parts, start-two_digits}
+use Rattle.edf_field.proofs.Recordings.{one-after}
 use Rattle.edf_field.specs.Number.{field, whole_value, digits, digits_len, IsNumber, IsWhole}
 use Rattle.edf_field.specs.Text.{IsPrintable, IsStartdate}
 use Rattle.edf_header.specs.Signal.{IsFirstBad}
-use Rattle.edf_header.specs.Header.{FixedPart, IsCount, IsCountInRange, IsFixed, IsFixedHeader, IsSameDay, is_dated}
+use Rattle.edf_header.specs.Header.{FixedPart, IsCount, IsCountInRange, IsFixed, IsFixedHeader, is_dated}
+use Rattle.edf_header.specs.Key.{MayStartBy}
 use Rattle.edf_header.specs.Fault.{FixedPartFails, IsClean, IsFirst, header_fault_number}
 use Rattle.edf_header.specs.declared.fault.HeaderFault.{HeaderFault}
 use Rattle.edf_header.specs.declared.fault.HeaderFault.TheVariants.{Cut, Unprintable, Version, Patient, Recording, Startdate, Starttime, DatesDiffer, NotPlus, Count, Duration, Signals, HeaderBytes, CutSignals, UnprintableSignals, Annotations, Physical, Digital, Samples, Size, Memory}
+use Rattle.edf_header.proofs.Startdates.{has-startdate, same-startdates}
 
 one-number : (text : List ℕ) (m n : ℕ) → IsNumber text m → IsNumber text n → m ≡ n
 one-number text m n p q = p.value ∙ sym q.value
@@ -38,20 +41,15 @@ one-count text (Some m) (Some n) p q = ap (λ (k : ℕ). Some k) (one-number tex
 
 -- ---- no fault
 
-same-startdate : (f : List ℕ) (s r : Option ℤ) (a b : List ℕ) (days : ℕ) → IsStartdate f s a → IsStartdate f r b → IsSameDay s days → IsSameDay r days
-same-startdate f s None a b days p q same = tt
-same-startdate f None (Some day) a b days p q same = absurd (x-no-date f day p.0 q.1)
-same-startdate f (Some other) (Some day) a b days p q same = one-id_day (field f 10 11) day other q.1 p.1 ∙ same
-
 pub no-fault : (b : List ℕ) (h : FixedPart) → IsFixedHeader b h → (e : HeaderFault) → ¬ FixedPartFails b e
 no-fault b h f Cut bad = omega (arith, f.len)
 no-fault b h f (Unprintable at) bad = bad.bad 0 (f.printable at 0 bad.within)
 no-fault b h f Version bad = bad f.version
 no-fault b h f Patient bad = bad (rw (sym f.patient) f.is_patient)
 no-fault b h f Recording bad = bad h.startdate h.after f.recording
-no-fault b h f Startdate bad = bad f.start.0 f.start.2
+no-fault b h f Startdate bad = has-startdate b h.startdate h.after f.recording (has-form (field b 168 8) h.startdate f.start.0 f.start.2) bad
 no-fault b h f Starttime bad = bad f.start.1 f.start.3
-no-fault b h f DatesDiffer bad = bad.other (same-startdate (field b 88 80) h.startdate bad.startdate h.after bad.after bad.days f.recording.front bad.recording.front (f.same_day bad.days bad.date))
+no-fault b h f DatesDiffer bad = same-startdates b h.startdate h.after f.start.0 f.recording f.start.2 bad
 no-fault b h f NotPlus bad = bad f.reserved
 no-fault b h f Count bad = bad (h.count, f.count)
 no-fault b h f Duration bad = bad f.is_duration.0 (rw (sym f.duration) f.is_duration.1)
@@ -77,7 +75,8 @@ pub one-fixed : (b : List ℕ) (h g : FixedPart) → IsFixedHeader b h → IsFix
 one-fixed b h g p q =
     let recording = one-after (field b 88 80) h.startdate g.startdate h.after g.after p.recording.front q.recording.front in
     let patient = p.patient ∙ sym q.patient in
-    let start = one-start (field b 168 8) (field b 176 8) h.start g.start p.start q.start in
+    let start = one-start (field b 168 8) (field b 176 8) g.startdate h.start g.start
+    (subst (λ (s : Option ℤ). IsCivil (field b 168 8) (field b 176 8) s h.start) recording.0 p.start) q.start in
     let count = one-count (field b 236 8) h.count g.count p.count q.count in
     let duration = p.duration ∙ sym q.duration in
     let signals = one-number (field b 252 4) h.signal_count g.signal_count p.signals q.signals in
@@ -199,6 +198,11 @@ after-printable : (f : List ℕ) (s : Option ℤ) (after : List ℕ) → All IsP
 after-printable f None after all p = rw p.1 (All-drop IsPrintable 11 f all)
 after-printable f (Some day) after all p = rw p.2 (All-drop IsPrintable 21 f all)
 
+-- without a date in the Startdate subfield two digits name the year
+undated-start : (date time : List ℕ) (s : Option ℤ) (start : ℕ) → IsCivil date time s start → MayStartBy (is_dated s) start
+undated-start date time None start is undated = start-two_digits date time start is
+undated-start date time (Some day) start is undated = absurd (let never : true ≡ false = undated in cc)
+
 pub is-fixed : (b : List ℕ) (h : FixedPart) → IsFixedHeader b h → IsFixed h
 is-fixed b h f = record {
   patient_len = ap length f.patient ∙ length-field b 8 80 (omega (arith, f.len));
@@ -207,7 +211,8 @@ is-fixed b h f = record {
   after_len = after-len (field b 88 80) h.startdate h.after (length-field b 88 80 (omega (arith, f.len))) f.recording.front;
   after_printable = after-printable (field b 88 80) h.startdate h.after (All-field IsPrintable b 88 80 f.printable) f.recording.front;
   is_behind = f.recording.behind;
-  in_window = (start-parts (field b 168 8) (field b 176 8) h.start f.start).in_window;
+  in_window = (start-parts (field b 168 8) (field b 176 8) h.startdate h.start f.start).in_window;
+  may_start = undated-start (field b 168 8) (field b 176 8) h.startdate h.start f.start;
   whole_second = omega (arith, f.start.4);
   count = count-range (field b 236 8) h.count (omega (arith, length-field b 236 8 (omega (arith, f.len)))) f.count;
   duration_len = ap length f.duration ∙ length-field b 244 8 (omega (arith, f.len));

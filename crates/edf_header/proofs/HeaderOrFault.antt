@@ -2,7 +2,7 @@
 use Rattle.std.proofs.Common.{◌≡◌, ℕ, ◌+◌, ◌*◌, ◌^◌, ◌≤◌, ◌<◌, List, ◌++◌, length, take, drop, arith, refl, sym, ap, ◌∙◌, subst, inl, inr}
 use Rattle.std.specs.Prelude.{All, ◌⊎◌, codes}
 use Rattle.std.proofs.lemmas.List.{length-take, take-append-drop}
-use Rattle.edf_time.specs.Civil.{IsDateText, IsTimeText}
+use Rattle.edf_time.specs.Civil.{AreStartdates, HasDateForm, IsTimeText}
 use Rattle.edf_field.specs.Number.{field, IsDuration, IsNumber}
 use Rattle.edf_field.specs.Text.{IsPrintable}
 use Rattle.edf_header.specs.Signal.{IsFirstBad, Passes, signals_of}
@@ -18,10 +18,11 @@ use Rattle.edf_header.proofs.Headers.{are-signals}
 use Rattle.edf_header.proofs.SpelledOnce.{number-at}
 use Rattle.edf_header.proofs.Decided.{Decided, held, same-bytes, first-bad}
 use Rattle.edf_header.proofs.DecidedFields as fields
-use Rattle.edf_time.proofs.Cited.{some-date, some-time}
+use Rattle.edf_time.proofs.Cited.{some-startdates, some-time}
 use Rattle.edf_header.proofs.DecidedTexts as texts
 use Rattle.edf_header.proofs.DecidedSignals as rows
-use Rattle.edf_header.proofs.FirstFault.{fixed-rows, same-day, signal-rows}
+use Rattle.edf_header.proofs.FirstFault.{fixed-rows, signal-rows}
+use Rattle.edf_header.proofs.Startdates.{no-startdate, other-startdates}
 
 all-printable : (b : List ℕ) → ((at : ℕ) → ¬ IsFirstBad IsPrintable b at) → All IsPrintable b
 all-printable b none =
@@ -36,7 +37,9 @@ some-of P d not-none = held d (λ none. not-none (λ x p. none (x, p)))
 fixed-part : (b : List ℕ) → length b ≤ 256 → IsClean (FixedPartFails b) 14 → (h : FixedPart) × IsFixedHeader b h
 fixed-part b le clean =
     let recording : texts.HasRecording (field b 88 80) = held (texts.recording (field b 88 80)) (λ none. clean Recording (omega arith) (λ s after is. none (s, after, is))) in
-    let date : (days : ℕ) × IsDateText (field b 168 8) days = some-of (IsDateText (field b 168 8)) (some-date (field b 168 8)) (clean Startdate (omega arith)) in
+    let form : HasDateForm (field b 168 8) recording.0 = held (texts.date-form (field b 168 8) recording.0) (λ none. clean Startdate (omega arith) (no-startdate b recording.0 recording.1 recording.2 none)) in
+    let date : (days : ℕ) × AreStartdates (field b 168 8) recording.0 days = held (some-startdates (field b 168 8) recording.0)
+    (λ none. clean DatesDiffer (omega arith) (other-startdates b recording.0 recording.1 recording.2 form (λ days are. none (days, are)))) in
     let time : (seconds : ℕ) × IsTimeText (field b 176 8) seconds = some-of (IsTimeText (field b 176 8)) (some-time (field b 176 8)) (clean Starttime (omega arith)) in
     let count = held (fields.count b) (clean Count (omega arith)) in
     let signals : (n : ℕ) × HasSignals b n = some-of (HasSignals b) (fields.signals b) (clean Signals (omega arith)) in (
@@ -57,8 +60,6 @@ fixed-part b le clean =
         is_patient = held (texts.patient (field b 8 80)) (clean Patient (omega arith));
         recording = recording.2;
         start = (date.0, time.0, date.1, time.1, refl);
-        same_day = λ days is. held (same-day recording.0 days)
-            (λ other. clean DatesDiffer (omega arith) (record { startdate = recording.0; after = recording.1; days = days; recording = recording.2; date = is; other = other }));
         header_bytes = held (fields.number (field b 184 8) (256 + 256 * signals.0)) (λ other. clean HeaderBytes (omega arith) (signals.0, signals.1, other));
         reserved = held (fields.plus (field b 192 44)) (clean NotPlus (omega arith));
         count = count.1;

@@ -84,6 +84,7 @@ header-layout b h f s =
     omega (arith, kinds-samples h.signals, blocks-bytes 0 h.signals) in
     record {
       key = header-key b h f s;
+      may_start = f.may_start;
       whole_second = f.whole_second;
       count = f.count;
       blocks_some = omega (arith, length-blocks 0 h.signals, s.annotations_some);

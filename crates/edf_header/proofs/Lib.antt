@@ -9,6 +9,7 @@ pub mod Keys
 pub mod RowSteps
 pub mod Sorted
 pub mod FixedLaws
+pub mod Startdates
 pub mod FixedRows
 pub mod Held
 pub mod Faults

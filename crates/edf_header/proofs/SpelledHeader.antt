@@ -1,34 +1,28 @@
 -- A header that is spelled from its fields is read as what they say.
-use Rattle.std.proofs.Common.{◌≡◌, ℕ, ◌+◌, ◌*◌, ◌^◌, ◌≤◌, List, [], ◌∷◌, ◌++◌, length, take, Bool, true, false, cond, Option, Some, None, refl, sym, ap, ◌∙◌, subst, arith, append_assoc, ℤ, pos}
+use Rattle.std.proofs.Common.{◌≡◌, ℕ, ◌+◌, ◌*◌, ◌^◌, ◌≤◌, List, [], ◌∷◌, ◌++◌, length, take, Bool, true, false, cond, Some, refl, sym, ap, ◌∙◌, subst, arith, append_assoc, pos}
 use Rattle.std.specs.Prelude.{All, codes}
 use Rattle.std.specs.List.{flat_map}
 use Rattle.std.proofs.lemmas.List.{length-append, take_at, drop_at, take_all}
 use Rattle.std.proofs.lemmas.List.Elements.{All-nil, All-cons, All-append, All-push, All-tail}
 use Rattle.std.proofs.lemmas.List.Sums.{sum_by_push, sum_by-cons}
-use Rattle.edf_time.specs.Civil.{IsDateText, IsTimeText, IsIdDate}
+use Rattle.edf_time.specs.Civil.{AreStartdates, IsTimeText, IsIdDate}
 use Rattle.edf_field.specs.Number.{field, IsNumber}
 use Rattle.edf_field.specs.Text.{IsPrintable, IsRecording, IsBehindStartdate, spaces}
 use Rattle.edf_header.specs.Signal.{columns, labelled, ordinary, samples, samples_in_all, signals_of, IsAnnotationsSignal, IsLabelled, IsOrdinary, HasSamples, Passes}
 use Rattle.edf_header.specs.Key.{Key, IsSized, IsKey, key_bytes, dated_bytes}
-use Rattle.edf_header.specs.Header.{HeaderRecord, FixedPart, IsFixedHeader, AreSignals, IsSameDay, IsPlus, blocks_from, is_dated, layout_of}
-use Rattle.edf_header.specs.Spelled.{Texts, IsSpelledBy, IsSpelledHeader, IsReadAs, spelled_bytes, startdate_text, spelled_layout}
+use Rattle.edf_header.specs.Header.{HeaderRecord, FixedPart, IsFixedHeader, AreSignals, IsPlus, blocks_from, is_dated, layout_of}
+use Rattle.edf_header.specs.Spelled.{Texts, IsSpelledBy, IsSpelledHeader, IsReadAs, spelled_bytes, startdate_text, startdate_day, spelled_layout}
 use Rattle.edf_header.specs.declared.signal_checks.Check.TheVariants.{Label}
 use Rattle.edf_header.proofs.Blocks.{block-last, block_of}
 use Rattle.edf_header.proofs.SignalKinds.{labelled-last, ordinary-front}
 use Rattle.edf_header.proofs.Strides.{signals-back}
-use Rattle.edf_header.proofs.SpelledTexts.{date-printed, time-printed, id_date-printed, printable-by}
-use Rattle.edf_time.proofs.Cited.{one-date_day}
+use Rattle.edf_header.proofs.SpelledTexts.{startdate-printed, time-printed, id_date-printed, printable-by}
 use Rattle.edf_header.proofs.SpelledParts.{all-left, all-right, parts-all, all-columns, length-columns, IsPartAt, part-here}
-
--- the Startdate subfield's day
-abbrev pub startdate_of : Bool → ℕ → Option ℤ
-startdate_of true days = Some (pos days)
-startdate_of false days = None
 
 abbrev pub spelled_fixed : Key → ℕ → ℕ → ℕ → FixedPart
 spelled_fixed k days seconds count = record {
   patient = k.patient;
-  startdate = startdate_of k.dated days;
+  startdate = startdate_day k.dated days;
   after = k.after;
   start = (days * 86_400 + seconds) * 10 ^ 9;
   count = Some count;
@@ -57,18 +51,14 @@ length-recording true id_date after li la = omega (arith, length-append id_date 
 length-recording false id_date after li la = omega arith
 
 is-recording : (dated : Bool) (id_date after : List ℕ) (days : ℕ) → length id_date ≡ 11 → IsIdDate id_date (pos days) → IsBehindStartdate after
-    → IsRecording (recording dated id_date after) (startdate_of dated days) after
+    → IsRecording (recording dated id_date after) (startdate_day dated days) after
 is-recording true id_date after days li is behind = record {
   front = (refl, subst (λ (t : List ℕ). IsIdDate t (pos days)) (sym (take_at id_date after 11 li)) is, sym (drop_at id_date after 11 li));
   behind = behind;
 }
 is-recording false id_date after days li is behind = record { front = (refl, refl); behind = behind }
 
-same-day : (dated : Bool) (date : List ℕ) (days other : ℕ) → IsDateText date days → IsDateText date other → IsSameDay (startdate_of dated days) other
-same-day true date days other t u = ap pos (one-date_day date days other t u)
-same-day false date days other t u = tt
-
-dated-back : (dated : Bool) (days : ℕ) → is_dated (startdate_of dated days) ≡ dated
+dated-back : (dated : Bool) (days : ℕ) → is_dated (startdate_day dated days) ≡ dated
 dated-back true days = refl
 dated-back false days = refl
 
@@ -193,7 +183,7 @@ fixed-printable k t p id date time header_bytes reserved count signals =
 is-fixed : (k : Key) (days seconds count : ℕ) (t : Texts) (row : List ℕ) → IsKey k → IsSpelledBy k days seconds count t row
     → IsFixedHeader (fixed_bytes k t) (spelled_fixed k days seconds count)
 is-fixed k days seconds count t row key s =
-    let date = date-printed t.date days s.date in
+    let date = startdate-printed t.date (startdate_day k.dated days) days s.date in
     let time = time-printed t.time seconds s.time in
     let id = id_date-printed t.id_date (pos days) s.id_date in
     let p = fields-in-place k t key.sized id.len date.len time.len s.header_bytes_printed.len s.reserved_printed.len s.count_printed.len s.signals_printed.len in
@@ -205,9 +195,8 @@ is-fixed k days seconds count t row key s =
       version = p.version;
       patient = sym p.patient;
       is_patient = key.patient;
-      recording = subst (λ (l : List ℕ). IsRecording l (startdate_of k.dated days) k.after) (sym p.recording) (is-recording k.dated t.id_date k.after days id.len s.id_date key.behind);
-      start = (days, seconds, subst (λ (l : List ℕ). IsDateText l days) (sym p.date) s.date, subst (λ (l : List ℕ). IsTimeText l seconds) (sym p.time) s.time, refl);
-      same_day = λ other is. same-day k.dated t.date days other s.date (subst (λ (l : List ℕ). IsDateText l other) p.date is);
+      recording = subst (λ (l : List ℕ). IsRecording l (startdate_day k.dated days) k.after) (sym p.recording) (is-recording k.dated t.id_date k.after days id.len s.id_date key.behind);
+      start = (days, seconds, subst (λ (l : List ℕ). AreStartdates l (startdate_day k.dated days) days) (sym p.date) s.date, subst (λ (l : List ℕ). IsTimeText l seconds) (sym p.time) s.time, refl);
       header_bytes = subst (λ (l : List ℕ). IsNumber l (256 + 256 * (length k.signals + 1))) (sym p.header_bytes) s.header_bytes;
       reserved = subst IsPlus (sym p.reserved) s.reserved;
       count = (subst (λ (l : List ℕ). IsNumber l count) (sym p.count) s.count, s.count_some);

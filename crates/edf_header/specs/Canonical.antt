@@ -1,7 +1,7 @@
 -- The one header that a canonical file has.
 use Rattle.std.specs.Prelude.{◌≡◌, ℕ, ◌+◌, ◌*◌, List, [], ◌∷◌, ◌++◌, length, codes, if◌then◌else◌, pos}
 use Rattle.std.specs.Fmt.{decimal}
-use Rattle.edf_time.specs.Civil.{IsIdDate, IsDateText, IsTimeText, day_of, second_of_day}
+use Rattle.edf_time.specs.Civil.{IsIdDate, IsDateField, IsTimeText, day_of, second_of_day}
 use Rattle.edf_field.specs.Text.{spaces, padded_to}
 use Rattle.edf_header.specs.Signal.{columns}
 use Rattle.edf_header.specs.Key.{Key}
@@ -22,7 +22,7 @@ pub record IsCanonicalHeader (bytes : List ℕ) (k : Key) (start count samples :
   pub date : List ℕ
   pub time : List ℕ
   pub id_date : List ℕ
-  pub is_date : IsDateText date (day_of start)
+  pub is_date : IsDateField date (day_of start)
   pub is_time : IsTimeText time (second_of_day start)
   pub is_id_date : IsIdDate id_date (pos (day_of start))
   pub parts : bytes ≡ codes "0       " ++ (k.patient

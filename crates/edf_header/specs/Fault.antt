@@ -1,11 +1,11 @@
 -- When a header is refused: the condition of each fault, and the first in the order of their numbers.
-use Rattle.std.specs.Prelude.{◌≡◌, ◌≢◌, ℕ, ◌+◌, ◌*◌, ◌≤◌, ◌<◌, ◌⊎◌, List, length, codes, take, All, ℤ, Option}
-use Rattle.edf_time.specs.Civil.{IsDateText, IsTimeText}
+use Rattle.std.specs.Prelude.{◌≡◌, ◌≢◌, ℕ, ◌+◌, ◌*◌, ◌≤◌, ◌<◌, ◌⊎◌, List, length, codes, take, All, ℤ, Option, Some, None}
+use Rattle.edf_time.specs.Civil.{IsDateText, IsYearlessText, AreStartdates, HasDateForm, IsTimeText}
 use Rattle.edf_field.specs.Number.{field, IsDuration, IsNumber}
 use Rattle.edf_field.specs.Text.{IsPrintable, IsPatient, IsRecording}
 use Rattle.edf_header.specs.Fields.{version_field, patient_field, recording_field, startdate_field, starttime_field, header_bytes_field, reserved_field, count_field, duration_field, signals_field}
 use Rattle.edf_header.specs.Signal.{signals_of, labelled, ordinary, samples_in_all, IsAnnotationsSignal, Passes, IsFirstBad}
-use Rattle.edf_header.specs.Header.{IsSameDay, IsPlus, IsCount}
+use Rattle.edf_header.specs.Header.{IsPlus, IsCount}
 use Rattle.edf_header.specs.declared.signal_checks.Check.{Check}
 use Rattle.edf_header.specs.declared.signal_checks.Check.TheVariants as checks
 use Rattle.edf_header.specs.declared.fault.HeaderFault.{HeaderFault}
@@ -17,14 +17,22 @@ HasCount b = (count : Option ℕ) × IsCount (count_field b) count
 abbrev pub HasSignals : List ℕ → ℕ → Type 0
 HasSignals b n = IsNumber (signals_field b) n × (2 ≤ n) × (n ≤ 640)
 
--- the Startdate subfield is a date, and not the startdate's
+-- the startdate is neither dd.mm.yy with two digits for the year nor one with the letters yy there
+abbrev pub IsNoStartdate : List ℕ → Type 0
+IsNoStartdate date = ((days : ℕ) → ¬ IsDateText date days) × ¬ IsYearlessText date
+
+-- the startdate has the letters yy, and the Startdate subfield is X
+abbrev pub HasNoYear : List ℕ → Type 0
+HasNoYear b = IsYearlessText (startdate_field b) × ((after : List ℕ) × IsRecording (recording_field b) None after)
+
+-- the Startdate subfield is a date, and not the startdate's: another day; or, with the letters yy, another day or month, or a
+-- year outside 2085 to 2184
 pub record DatesAreOther (b : List ℕ) : Type 0 where
-  pub startdate : Option ℤ
+  pub day : ℤ
   pub after : List ℕ
-  pub days : ℕ
-  pub recording : IsRecording (recording_field b) startdate after
-  pub date : IsDateText (startdate_field b) days
-  pub other : ¬ IsSameDay startdate days
+  pub recording : IsRecording (recording_field b) (Some day) after
+  pub form : HasDateForm (startdate_field b) (Some day)
+  pub other : (days : ℕ) → ¬ AreStartdates (startdate_field b) (Some day) days
 
 -- the fault is true of the fixed part's bytes, at its place
 abbrev pub FixedPartFails : List ℕ → HeaderFault → Type 0
@@ -33,7 +41,7 @@ FixedPartFails b (Unprintable offset) = IsFirstBad IsPrintable b offset
 FixedPartFails b Version = version_field b ≢ codes "0       "
 FixedPartFails b Patient = ¬ IsPatient (patient_field b)
 FixedPartFails b Recording = (startdate : Option ℤ) (after : List ℕ) → ¬ IsRecording (recording_field b) startdate after
-FixedPartFails b Startdate = (days : ℕ) → ¬ IsDateText (startdate_field b) days
+FixedPartFails b Startdate = IsNoStartdate (startdate_field b) ⊎ HasNoYear b
 FixedPartFails b Starttime = (seconds : ℕ) → ¬ IsTimeText (starttime_field b) seconds
 FixedPartFails b DatesDiffer = DatesAreOther b
 FixedPartFails b NotPlus = ¬ IsPlus (reserved_field b)

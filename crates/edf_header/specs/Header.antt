@@ -1,11 +1,11 @@
 -- What a header says, and when bytes spell it.
-use Rattle.std.specs.Prelude.{◌≡◌, ℕ, ◌+◌, ◌*◌, ◌%◌, ◌^◌, ◌≤◌, ◌<◌, ◌⊎◌, Bool, true, false, List, [], ◌∷◌, ◌++◌, length, take, sum_by, All, codes, ℤ, pos, Option, Some, None, if◌then◌else◌}
-use Rattle.edf_time.specs.Civil.{IsCivil, IsDateText, window}
+use Rattle.std.specs.Prelude.{◌≡◌, ℕ, ◌+◌, ◌*◌, ◌%◌, ◌^◌, ◌≤◌, ◌<◌, ◌⊎◌, Bool, true, false, List, [], ◌∷◌, ◌++◌, length, take, sum_by, All, codes, ℤ, Option, Some, None, if◌then◌else◌}
+use Rattle.edf_time.specs.Civil.{IsCivil, window}
 use Rattle.edf_field.specs.Number.{IsNumber, IsDuration}
 use Rattle.edf_field.specs.Text.{IsPrintable, IsPatient, IsBehindStartdate, IsRecording, after_of}
 use Rattle.edf_header.specs.Fields.{version_field, patient_field, recording_field, startdate_field, starttime_field, header_bytes_field, reserved_field, count_field, duration_field, signals_field}
 use Rattle.edf_header.specs.Signal.{signals_of, has_label, labelled, ordinary, IsOrdinary, HasSamples, IsAnnotationsSignal, samples, samples_in_all}
-use Rattle.edf_header.specs.Key.{Key, IsKey}
+use Rattle.edf_header.specs.Key.{Key, IsKey, MayStart, MayStartBy}
 use Rattle.edf_header.specs.declared.header.Block.{Block}
 
 -- what the fixed part says: the patient field; the Startdate subfield's day, or none for X, and what follows it; the start in
@@ -66,6 +66,7 @@ pub record IsFixed (f : FixedPart) : Type 0 where
   pub after_printable : All IsPrintable f.after
   pub is_behind : IsBehindStartdate f.after
   pub in_window : f.start < window
+  pub may_start : MayStartBy (is_dated f.startdate) f.start
   pub whole_second : f.start % 10 ^ 9 ≡ 0
   pub count : IsCountInRange f.count
   pub duration_len : length f.duration ≡ 8
@@ -73,11 +74,6 @@ pub record IsFixed (f : FixedPart) : Type 0 where
   pub is_duration : (nanos : ℕ) × IsDuration f.duration nanos
   pub signals_from : 2 ≤ f.signal_count
   pub signals_to : f.signal_count ≤ 640
-
--- a Startdate subfield that is a date is the startdate's day
-abbrev pub IsSameDay : Option ℤ → ℕ → Type 0
-IsSameDay None days = Unit {0}
-IsSameDay (Some day) days = day ≡ pos days
 
 abbrev pub IsPlus : List ℕ → Type 0
 IsPlus reserved = (take 5 reserved ≡ codes "EDF+C") ⊎ (take 5 reserved ≡ codes "EDF+D")
@@ -90,8 +86,7 @@ pub record IsFixedHeader (bytes : List ℕ) (h : FixedPart) : Type 0 where
   pub patient : h.patient ≡ patient_field bytes
   pub is_patient : IsPatient h.patient
   pub recording : IsRecording (recording_field bytes) h.startdate h.after
-  pub start : IsCivil (startdate_field bytes) (starttime_field bytes) h.start
-  pub same_day : (days : ℕ) → IsDateText (startdate_field bytes) days → IsSameDay h.startdate days
+  pub start : IsCivil (startdate_field bytes) (starttime_field bytes) h.startdate h.start
   pub header_bytes : IsNumber (header_bytes_field bytes) (256 + 256 * h.signal_count)
   pub reserved : IsPlus (reserved_field bytes)
   pub count : IsCount (count_field bytes) h.count
@@ -171,10 +166,11 @@ abbrev pub AreApart : ℕ → List Block → ℕ → Type 0
 AreApart from [] to = from ≤ to
 AreApart from (b ∷ bs) to = (from ≤ b.at) × AreApart (b.at + b.bytes) bs to
 
--- what each header's layout keeps: there is a block, each has a sample at least and lies in the record apart from the others,
--- and the rest of the record are the ordinary samples
+-- what each header's layout keeps: its start is one that the key's recording may have; there is a block, each has a sample at
+-- least and lies in the record apart from the others, and the rest of the record are the ordinary samples
 pub record IsLayout (l : Layout) : Type 0 where
   pub key : IsKey l.key
+  pub may_start : MayStart l.key l.start
   pub whole_second : l.start % 10 ^ 9 ≡ 0
   pub count : IsCountInRange l.count
   pub blocks_some : 1 ≤ length l.blocks

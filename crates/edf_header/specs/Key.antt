@@ -1,6 +1,7 @@
 -- To which recording a fragment belongs: the key, which fields have it, and its bytes.
-use Rattle.std.specs.Prelude.{◌≡◌, ℕ, ◌*◌, ◌≤◌, ◌==◌, Bool, List, ◌∷◌, ◌++◌, length, All, if◌then◌else◌, [], slice_index_or}
+use Rattle.std.specs.Prelude.{◌≡◌, ℕ, ◌*◌, ◌≤◌, ◌<◌, ◌==◌, Bool, false, List, ◌∷◌, ◌++◌, length, All, if◌then◌else◌, [], slice_index_or}
 use Rattle.std.specs.List.{flat_map}
+use Rattle.edf_time.specs.Civil.{two_digit_window}
 use Rattle.edf_field.specs.Number.{IsDuration}
 use Rattle.edf_field.specs.Text.{IsPrintable, IsPatient, IsBehindStartdate, spaces, subfields}
 use Rattle.edf_header.specs.Fields.{key_patient_field, key_mark, key_after_field, key_duration_field, key_signals_count, key_signals_part}
@@ -52,6 +53,13 @@ pub record IsKey (k : Key) : Type 0 where
   pub signals : All IsOrdinary k.signals
   pub each_samples : All HasSamples k.signals
   pub size : 2 * samples_in_all k.signals ≤ 4_194_304
+
+-- a recording may start there: before 2085 where its Startdate subfield is X, since then two digits alone name the year
+abbrev pub MayStartBy : Bool → ℕ → Type 0
+MayStartBy dated start = dated ≡ false → start < two_digit_window
+
+abbrev pub MayStart : Key → ℕ → Type 0
+MayStart k start = MayStartBy k.dated start
 
 -- the code of the patient, and that of the investigation: the first subfield of their fields
 abbrev pub patient_code : Key → List ℕ

@@ -1,6 +1,6 @@
 -- A header spelled field by field, its annotations signal last.
-use Rattle.std.specs.Prelude.{◌≡◌, ℕ, ◌+◌, ◌*◌, ◌≤◌, Bool, List, Some, [], ◌∷◌, ◌++◌, length, All, codes, if◌then◌else◌, pos}
-use Rattle.edf_time.specs.Civil.{IsDateText, IsTimeText, IsIdDate}
+use Rattle.std.specs.Prelude.{◌≡◌, ℕ, ◌+◌, ◌*◌, ◌≤◌, Bool, List, ℤ, Option, Some, None, [], ◌∷◌, ◌++◌, length, All, codes, if◌then◌else◌, pos}
+use Rattle.edf_time.specs.Civil.{AreStartdates, IsTimeText, IsIdDate}
 use Rattle.edf_field.specs.Text.{IsPrintable}
 use Rattle.edf_field.specs.Number.{IsNumber}
 use Rattle.edf_header.specs.Signal.{columns, samples, samples_in_all, IsAnnotationsSignal, HasSamples}
@@ -15,6 +15,10 @@ pub record IsPrinted (width : ℕ) (text : List ℕ) : Type 0 where
 -- the Startdate subfield
 abbrev pub startdate_text : Bool → List ℕ → List ℕ
 startdate_text dated id_date = if dated then id_date else codes "X"
+
+-- the day that it is read as, or none for X
+abbrev pub startdate_day : Bool → ℕ → Option ℤ
+startdate_day dated days = if dated then Some (pos days) else None
 
 -- the texts that no key has: the start's three, and those of numbers and of the reserved field
 pub record Texts : Type 0 where
@@ -34,7 +38,7 @@ spelled_bytes k t row =
 
 -- what the texts say, and the annotations signal
 pub record IsSpelledBy (k : Key) (days seconds records : ℕ) (t : Texts) (row : List ℕ) : Type 0 where
-  pub date : IsDateText t.date days
+  pub date : AreStartdates t.date (startdate_day k.dated days) days
   pub time : IsTimeText t.time seconds
   pub id_date : IsIdDate t.id_date (pos days)
   pub header_bytes_printed : IsPrinted 8 t.header_bytes

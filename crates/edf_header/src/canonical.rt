@@ -2,6 +2,7 @@ ghost use Rattle.std.specs.Prelude.{◌≡◌, ◌+◌, ◌*◌, ◌≤◌, [], 
 ghost use Rattle.std.specs.Fmt.{decimal};
 ghost use Rattle.edf_field.specs.Text.{spaces, padded_to};
 ghost use Rattle.edf_header.specs.Signal.{columns, rows_of};
+ghost use Rattle.edf_header.specs.Key.{MayStart};
 ghost use Rattle.edf_header.specs.Spelled.{startdate_text};
 ghost use Rattle.edf_header.specs.Canonical.{annotations_signal, IsCanonicalHeader};
 
@@ -121,8 +122,9 @@ fn push_signals(
 /// record; EDF+, additional specifications and the annotations signal).
 ///
 /// It is EDF+D: 256 bytes, then 256 for each ordinary signal and for the annotations signal, which stands last and has
-/// `block_samples` samples per data record, two bytes each. `count` is 1 to 99,999,999, `block_samples` 1 to 2,097,152. Every
-/// number but those of the identity stands without leading zeros.
+/// `block_samples` samples per data record, two bytes each. `count` is 1 to 99,999,999, `block_samples` 1 to 2,097,152. Where the
+/// identity has no date, `start` is before 2085, since only two digits name its year. Every number but those of the identity
+/// is without leading zeros.
 ///
 /// # Errors
 /// Where memory runs out.
@@ -135,6 +137,7 @@ pub fn write_header(
 ) -> Result<Vec<u8>, AllocError>
     requires count { (1 ≤ count) × (count ≤ 99_999_999) }
     requires samples { (1 ≤ block_samples) × (block_samples ≤ 2_097_152) }
+    requires may_start { MayStart identity.now start }
     ensures { IfOk result (λ v. IsCanonicalHeader v.items identity.now start count block_samples) }
 {
     let id_date = id_date_text(start);

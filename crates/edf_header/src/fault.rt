@@ -22,7 +22,8 @@ pub enum HeaderFault {
     /// E5: the recording field is no recording identification of EDF+.
     #[error("the recording identification is not that of EDF+")]
     Recording,
-    /// E6: the startdate is not `dd.mm.yy` of a day of 1985 to 2084.
+    /// E6: the startdate is not `dd.mm.yy` of a day of 1985 to 2084, nor such a text with the letters `yy` and a date in the
+    /// Startdate subfield.
     #[error("the startdate is no date")]
     Startdate,
     /// E7: the starttime is not `hh.mm.ss` of a second of a day.

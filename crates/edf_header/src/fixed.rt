@@ -7,8 +7,8 @@ ghost use Rattle.edf_header.specs.Fault.{FixedPartFails, IsFirst};
 use crate::fault::HeaderFault;
 use crate::fields::{DURATION, PATIENT, RECORDING};
 use crate::fixed_fields::{
-    check_header_bytes, check_patient, check_plus, check_printable, check_same_day, check_version,
-    field_at, read_count, read_nanos, read_signal_count, read_start, read_startdate,
+    check_header_bytes, check_patient, check_plus, check_printable, check_version, field_at,
+    read_count, read_nanos, read_signal_count, read_start, read_startdate,
 };
 use edf_time::{Day, Instant};
 use std::marker::Model;
@@ -154,8 +154,7 @@ pub fn read_fixed(bytes: &[u8; 256]) -> Result<Fixed, HeaderFault>
     check_version(bytes)?;
     check_patient(bytes)?;
     let startdate = read_startdate(bytes)?;
-    let start = read_start(bytes)?;
-    check_same_day(bytes, &startdate, start)?;
+    let start = read_start(bytes, &startdate)?;
     check_plus(bytes)?;
     let count = read_count(bytes)?;
     let nanos = read_nanos(bytes)?;

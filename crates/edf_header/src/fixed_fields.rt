@@ -1,11 +1,11 @@
 //! The fields of a header's fixed part, in the order of their faults: each reader relies on what those before it found, and
 //! tells its own fault alone.
 ghost use Rattle.std.specs.Prelude.{◌≡◌, ℕ, ◌+◌, ◌*◌, ◌≤◌, ◌↔◌, All, IsTrue, codes, length, MatchResult};
-ghost use Rattle.edf_time.specs.Civil.{IsCivil, IsDateText};
+ghost use Rattle.edf_time.specs.Civil.{IsCivil};
 ghost use Rattle.edf_field.specs.Number.{field, IsDuration, IsNumber};
 ghost use Rattle.edf_field.specs.Text.{IsPrintable, IsPatient, IsRecording, after_of};
 ghost use Rattle.edf_header.specs.Fields.{version_field, patient_field, recording_field, startdate_field, starttime_field, header_bytes_field, reserved_field, count_field, duration_field};
-ghost use Rattle.edf_header.specs.Header.{IsCount, IsPlus, IsSameDay};
+ghost use Rattle.edf_header.specs.Header.{IsCount, IsPlus};
 ghost use Rattle.edf_header.specs.Fault.{FixedPartFails, IsClean, IsFirst, HasSignals};
 
 use crate::fault::HeaderFault;
@@ -80,43 +80,24 @@ pub(crate) fn read_startdate(bytes: &[u8; 256]) -> Result<Option<Day>, HeaderFau
     }
 }
 
-/// The start, by the startdate, bytes 168 to 175, and the starttime, bytes 176 to 183; or E6 or E7 is the first fault.
-pub(crate) fn read_start(bytes: &[u8; 256]) -> Result<Instant, HeaderFault>
-    requires { IsClean (FixedPartFails bytes.now) 6 }
+/// The start, by the startdate, bytes 168 to 175, the starttime, bytes 176 to 183, and the day of the Startdate subfield; or E6,
+/// E7 or E8 is the first fault.
+pub(crate) fn read_start(bytes: &[u8; 256], startdate: &Option<Day>) -> Result<Instant, HeaderFault>
+    requires recording { IsRecording (recording_field bytes.now) startdate.now (after_of startdate.now (recording_field bytes.now)) }
+    requires clean { IsClean (FixedPartFails bytes.now) 6 }
     ensures { MatchResult result
-        (λ start. IsCivil (startdate_field bytes.now) (starttime_field bytes.now) start × IsClean (FixedPartFails bytes.now) 8)
+        (λ start. IsCivil (startdate_field bytes.now) (starttime_field bytes.now) startdate.now start
+        × IsClean (FixedPartFails bytes.now) 9)
         (IsFirst (FixedPartFails bytes.now)) }
 {
     let date: [u8; 8] = field_at(bytes, STARTDATE);
     let time: [u8; 8] = field_at(bytes, STARTTIME);
-    match start_of(&date, &time) {
+    match start_of(&date, &time, *startdate) {
         Ok(start) => Ok(start),
         Err(StartFault::Date) => Err(HeaderFault::Startdate),
         Err(StartFault::Time) => Err(HeaderFault::Starttime),
+        Err(StartFault::Differs) => Err(HeaderFault::DatesDiffer),
     }
-}
-
-/// A Startdate subfield that is a date is the startdate's; or E8 is the first fault.
-pub(crate) fn check_same_day(
-    bytes: &[u8; 256],
-    startdate: &Option<Day>,
-    start: Instant,
-) -> Result<(), HeaderFault>
-    requires recording { IsRecording (recording_field bytes.now) startdate.now (after_of startdate.now (recording_field bytes.now)) }
-    requires start { IsCivil (startdate_field bytes.now) (starttime_field bytes.now) start }
-    requires clean { IsClean (FixedPartFails bytes.now) 8 }
-    ensures { MatchResult result
-        (λ _. ((days : ℕ) → IsDateText (startdate_field bytes.now) days → IsSameDay startdate.now days)
-        × IsClean (FixedPartFails bytes.now) 9)
-        (IsFirst (FixedPartFails bytes.now)) }
-{
-    let Some(day) = startdate else {
-        return Ok(());
-    };
-    if *day != start.day() {
-        return Err(HeaderFault::DatesDiffer);
-    }
-    Ok(())
 }
 
 /// Whether a reserved field names a file of EDF+.

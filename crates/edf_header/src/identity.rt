@@ -2,7 +2,7 @@ ghost use Rattle.std.specs.Prelude.{◌≡◌, ◌≤◌, ◌<◌, ◌+◌, ◌*
 ghost use Rattle.edf_field.specs.Number.{duration_of};
 ghost use Rattle.edf_field.specs.Text.{IsBehindStartdate, subfields};
 ghost use Rattle.edf_header.specs.Signal.{rows_of, signals_of, ordinary, samples_in_all, HasSamples, Passes};
-ghost use Rattle.edf_header.specs.Key.{Key, IsKey, dated_bytes, key_bytes, key_at, patient_code, investigation_code};
+ghost use Rattle.edf_header.specs.Key.{Key, IsKey, MayStart, dated_bytes, key_bytes, key_at, patient_code, investigation_code};
 ghost use Rattle.edf_header.specs.Identity.{HasLength, HasMark, signals_at, IsCleanKey, IsFirstKeyFault};
 ghost use Rattle.edf_header.specs.Inside.Shape.{key_from, place_of_check};
 
@@ -11,6 +11,7 @@ use crate::fixed::Fixed;
 use crate::header_signals::push_ordinary;
 use crate::identity_checks::{KeyNumbers, after, check_key};
 use edf_field::next_subfield;
+use edf_time::Instant;
 use std::alloc::{AllocError, Global};
 use std::marker::Model;
 use thiserror::Error;
@@ -175,6 +176,14 @@ impl Identity {
         ensures { result ≡ self.now.dated }
     {
         self.bytes[KEY_MARK] == b'D'
+    }
+
+    /// Whether its recording may start there: where it has no date, before 2085, since then only the two digits of the startdate
+    /// name the year (EDF+, the clipping date).
+    pub fn may_start(&self, start: Instant) -> bool
+        ensures { IsTrue result ↔ MayStart self.now start }
+    {
+        self.dated() || start.has_two_digit_year()
     }
 
     /// How many ordinary signals there are: 1 to 639.

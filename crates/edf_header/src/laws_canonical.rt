@@ -1,5 +1,5 @@
 ghost use Rattle.std.specs.Prelude.{◌≡◌, ℕ, ◌+◌, ◌*◌, ◌/◌, ◌^◌, ◌≤◌, ◌⊎◌, List};
-ghost use Rattle.edf_header.specs.Key.{Key, IsKey};
+ghost use Rattle.edf_header.specs.Key.{Key, IsKey, MayStart};
 ghost use Rattle.edf_header.specs.Header.{HeaderRecord, IsHeader};
 ghost use Rattle.edf_header.specs.Fault.{IsHeaderFault};
 ghost use Rattle.edf_header.specs.declared.fault.HeaderFault.{HeaderFault};
@@ -14,9 +14,9 @@ pub fn spelled_reads()
 {}
 
 /// A law: a canonical header is read as the identity, the second of the start, the number of data records and the samples of
-/// the annotations signal that it was made from.
+/// the annotations signal that it was made from, where the recording may start there.
 pub fn canonical_header_reads()
-    ensures { (bytes : List ℕ) (key : Key) (start count block : ℕ) → IsKey key → 1 ≤ count → count ≤ 99_999_999 → 1 ≤ block → block ≤ 2_097_152
+    ensures { (bytes : List ℕ) (key : Key) (start count block : ℕ) → IsKey key → MayStart key start → 1 ≤ count → count ≤ 99_999_999 → 1 ≤ block → block ≤ 2_097_152
         → IsCanonicalHeader bytes key start count block → IsReadAs bytes (spelled_layout key (start / 10 ^ 9 * 10 ^ 9) count block) }
 {}
 

@@ -3,12 +3,11 @@ use Rattle.std.proofs.Common.{◌≡◌, ℕ, ◌+◌, ◌≤◌, true, false, n
 use Rattle.std.proofs.lemmas.Bool.{cond_both, cond-true, false_from_ne_true, and_from, lt-ltb}
 use Rattle.edf_field.specs.Number.{duration_of}
 use Rattle.edf_fragment.specs.Fragment.{DataRecord}
-use Rattle.edf_fragment.specs.Told.{Fragment}
+use Rattle.edf_fragment.specs.Sound.{AreSound}
 use Rattle.edf_holdings.specs.Same.{same_record}
 use Rattle.edf_holdings.specs.Clash.{clashes, meets, near_of}
 use Rattle.edf_holdings.specs.Rising.{inserted}
 use Rattle.edf_holdings.specs.Holdings.{put, nothing_held}
-use Rattle.edf_holdings.specs.Reply.{IsSoundTold}
 use Rattle.edf_holdings.specs.Laws.{NothingIsSound, AddStaysSound}
 use Rattle.edf_holdings.proofs.Same.{clashes-true}
 use Rattle.edf_holdings.proofs.Members.{In, AreFree}
@@ -41,17 +40,17 @@ inserted_short r (x ∷ xs) =
     (λ _. omega arith) (λ _. omega (arith, inserted_short r xs)))
 
 pub add_stays_sound : AddStaysSound
-add_stays_sound cap h key r s w sound none room =
-    let one : IsSoundTold (Fragment key (r ∷ [])) = (w, (sound, (omega arith), tt)) in
+add_stays_sound cap h key r s w sound none room first =
+    let one : AreSound key 0 (r ∷ []) = (sound, omega arith, tt) in
     let may : MayJoin cap key (r ∷ []) h = record {
       free = free_where_none_near (duration_of key.duration) r (h key) none;
       room = inr (omega (arith, inserted_short r (h key), room));
     } in
     IsSound-from cap (put key (r ∷ []) h)
-    (IsGood-put cap key (r ∷ []) h w (apart-sound key 0 (r ∷ []) one.1) (IsGood-from_sound cap h s) may)
-    (HasHolders-put key (r ∷ []) h one (HasHolders-from_sound cap h s))
+    (IsGood-put cap key (r ∷ []) h w (apart-sound key 0 (r ∷ []) one) (IsGood-from_sound cap h s) may)
+    (HasHolders-put key (r ∷ []) h w one first (HasHolders-from_sound cap h s))
 
 pub nothing_is_sound : NothingIsSound
 nothing_is_sound cap = IsSound-from cap nothing_held
     (record { rising = λ k. tt; apart = λ k. tt; few = λ k. omega arith })
-    (record { records = λ k y m. absurd m; holders = λ k n. absurd (n refl); finite = []; all = λ k n. absurd (n refl) })
+    (record { records = λ k y m. absurd m; begins = λ k. tt; holders = λ k n. absurd (n refl); finite = []; all = λ k n. absurd (n refl) })

@@ -147,7 +147,7 @@ are-sound-from k low (r ∷ rs) a e = (e r (inl refl), a.0, are-sound-from k (r.
 
 -- so a recording's records are a fragment's
 pub held-sound : (cap : ℕ) (h : Holdings) (k : Key) → IsSound cap h → h k ≢ [] → IsSoundTold (Fragment k (h k))
-held-sound cap h k s some = (s.keys k some, are-sound-from k 0 (h k) ((IsGood-from_sound cap h s).apart k) (Each-from_All (IsSoundRecord k) (h k) (s.records k)))
+held-sound cap h k s some = (s.keys k some, are-sound-from k 0 (h k) ((IsGood-from_sound cap h s).apart k) (Each-from_All (IsSoundRecord k) (h k) (s.records k)), s.begins k)
 
 pub own_list : OwnList
 unfolding after_one

@@ -1,14 +1,14 @@
 -- Sound holdings stay sound.
-use Rattle.std.proofs.Common.{◌≢◌, ℕ, suc, ◌+◌, List, [], ◌∷◌, Contains, All, refl, subst, inl, inr, arith}
-use Rattle.std.proofs.lemmas.Bool.{cond_both, both_ways}
+use Rattle.std.proofs.Common.{◌≡◌, ◌≢◌, ℕ, suc, ◌+◌, nat_lt, cond, List, [], ◌∷◌, Contains, All, refl, subst, inl, inr, arith}
+use Rattle.std.proofs.lemmas.Bool.{cond_both, both_ways, ltb-true}
 use Rattle.std.proofs.lemmas.List.Elements.{All-nil, All-cons}
 use Rattle.edf_field.specs.Number.{duration_of}
-use Rattle.edf_header.specs.Key.{Key, IsKey}
+use Rattle.edf_header.specs.Key.{Key, IsKey, MayStart}
 use Rattle.edf_fragment.specs.Fragment.{DataRecord}
 use Rattle.edf_fragment.specs.Told.{Told, Fragment, Fault}
-use Rattle.edf_holdings.specs.Same.{same_key}
-use Rattle.edf_holdings.specs.Rising.{joined}
-use Rattle.edf_fragment.specs.Sound.{IsSoundRecord, AreSound}
+use Rattle.edf_holdings.specs.Same.{same_key, same_record}
+use Rattle.edf_holdings.specs.Rising.{inserted, joined}
+use Rattle.edf_fragment.specs.Sound.{IsSoundRecord, AreSound, MayBegin}
 use Rattle.edf_holdings.specs.Holdings.{Holdings, IsSound, put}
 use Rattle.edf_holdings.specs.Reply.{IsSoundTold, fits, after_one}
 use Rattle.edf_holdings.specs.Laws.{StaysSound}
@@ -33,19 +33,42 @@ each-sound k low [] s y m = absurd m
 each-sound k low (r ∷ rs) s y (inl p) = subst (IsSoundRecord k) p s.0
 each-sound k low (r ∷ rs) s y (inr m) = each-sound k (r.start + duration_of k.duration) rs s.2 y m
 
+-- a recording begins with what is there, or with an earlier record: where it may start with that, it may with this
+inserted-some : (r : DataRecord) (xs : List DataRecord) → inserted r xs ≢ []
+inserted-some r [] = λ e. cc
+inserted-some r (x ∷ xs) =
+    cond_both (same_record x r) (x ∷ xs) (cond (nat_lt r.start x.start) (r ∷ x ∷ xs) (x ∷ inserted r xs)) (λ (l : List DataRecord). l ≢ [])
+    (λ _ e. cc)
+    (λ _. cond_both (nat_lt r.start x.start) (r ∷ x ∷ xs) (x ∷ inserted r xs) (λ (l : List DataRecord). l ≢ []) (λ _ e. cc) (λ _ e. cc))
+
+inserted-begins : (k : Key) (r : DataRecord) (xs : List DataRecord) → MayBegin k xs → (xs ≡ [] → MayStart k r.start) → MayBegin k (inserted r xs)
+inserted-begins k r [] old first = first refl
+inserted-begins k r (x ∷ xs) old first =
+    cond_both (same_record x r) (x ∷ xs) (cond (nat_lt r.start x.start) (r ∷ x ∷ xs) (x ∷ inserted r xs)) (MayBegin k)
+    (λ _. old)
+    (λ _. cond_both (nat_lt r.start x.start) (r ∷ x ∷ xs) (x ∷ inserted r xs) (MayBegin k)
+    (λ e undated. omega (arith, ltb-true _ _ e, old undated)) (λ _. old))
+
+pub joined-begins : (k : Key) (xs records : List DataRecord) → MayBegin k xs → (xs ≡ [] → MayBegin k records) → MayBegin k (joined xs records)
+joined-begins k xs [] old first = old
+joined-begins k xs (r ∷ rs) old first =
+    joined-begins k (inserted r xs) rs (inserted-begins k r xs old first) (λ none. absurd (inserted-some r xs none))
+
 -- what soundness asks beside what `IsGood` has
 pub record HasHolders (h : Holdings) : Type 0 where
   pub records : (k : Key) → Each (IsSoundRecord k) (h k)
+  pub begins : (k : Key) → MayBegin k (h k)
   pub holders : (k : Key) → h k ≢ [] → IsKey k
   pub finite : List Key
   pub all : (k : Key) → h k ≢ [] → Contains finite k
 
-pub HasHolders-put : (key : Key) (records : List DataRecord) (h : Holdings) → IsSoundTold (Fragment key records) → HasHolders h → HasHolders (put key records h)
-HasHolders-put key records h w p = record {
+pub HasHolders-put : (key : Key) (records : List DataRecord) (h : Holdings) → IsKey key → AreSound key 0 records → (h key ≡ [] → MayBegin key records) → HasHolders h → HasHolders (put key records h)
+HasHolders-put key records h is_key sound first p = record {
   records = put_cases key records h (λ q l. Each (IsSoundRecord q) l)
-      (λ y m. elim (in_joined y (h key) records m) [ inl n ↦ p.records key y n | inr n ↦ each-sound key 0 records w.1 y n ])
+      (λ y m. elim (in_joined y (h key) records m) [ inl n ↦ p.records key y n | inr n ↦ each-sound key 0 records sound y n ])
       p.records;
-  holders = put_cases key records h (λ q l. l ≢ [] → IsKey q) (λ _. w.0) p.holders;
+  begins = put_cases key records h MayBegin (joined-begins key (h key) records (p.begins key) first) p.begins;
+  holders = put_cases key records h (λ q l. l ≢ [] → IsKey q) (λ _. is_key) p.holders;
   finite = key ∷ p.finite;
   all = λ k. cond_both (same_key key k) (joined (h k) records) (h k) (λ (l : List DataRecord). l ≢ [] → Contains (key ∷ p.finite) k)
       (λ e _. (0, omega arith, same_key-true key k e))
@@ -55,7 +78,7 @@ HasHolders-put key records h w p = record {
 HasHolders-one : (cap : ℕ) (h : Holdings) (t : Told) → IsSoundTold t → HasHolders h → HasHolders (after_one cap h t)
 unfolding after_one
 HasHolders-one cap h (Fault fault) w p = p
-HasHolders-one cap h (Fragment key records) w p = cond_both (fits cap key records h) (put key records h) h HasHolders (λ _. HasHolders-put key records h w p) (λ _. p)
+HasHolders-one cap h (Fragment key records) w p = cond_both (fits cap key records h) (put key records h) h HasHolders (λ _. HasHolders-put key records h w.0 w.1 (λ _. w.2) p) (λ _. p)
 
 pub IsSound-from : (cap : ℕ) (h : Holdings) → IsGood cap h → HasHolders h → IsSound cap h
 IsSound-from cap h good kept = record {
@@ -65,6 +88,7 @@ IsSound-from cap h good kept = record {
       (test_from_Clash (duration_of k.duration) r t c);
   few = good.few;
   records = λ k. All-from_Each (IsSoundRecord k) (h k) (kept.records k);
+  begins = kept.begins;
   keys = kept.holders;
   finite = (kept.finite, kept.all);
 }
@@ -72,6 +96,7 @@ IsSound-from cap h good kept = record {
 pub HasHolders-from_sound : (cap : ℕ) (h : Holdings) → IsSound cap h → HasHolders h
 HasHolders-from_sound cap h s = record {
   records = λ k. Each-from_All (IsSoundRecord k) (h k) (s.records k);
+  begins = s.begins;
   holders = s.keys;
   finite = s.finite.0;
   all = s.finite.1;

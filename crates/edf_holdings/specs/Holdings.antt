@@ -6,7 +6,7 @@ use Rattle.edf_fragment.specs.Fragment.{DataRecord}
 use Rattle.edf_holdings.specs.Same.{same_key}
 use Rattle.edf_holdings.specs.Clash.{NoClash}
 use Rattle.edf_holdings.specs.Rising.{IsRising, joined}
-use Rattle.edf_fragment.specs.Sound.{IsSoundRecord}
+use Rattle.edf_fragment.specs.Sound.{IsSoundRecord, MayBegin}
 
 -- each key's data records by rising starts, none where nothing is held
 abbrev pub Holdings : Type 0
@@ -15,12 +15,14 @@ Holdings = Key → List DataRecord
 abbrev pub nothing_held : Holdings
 nothing_held = λ k. []
 
--- the keys hold data records of theirs, of which no two clash, and at most so many each; and only finitely many keys hold any
+-- the keys hold data records of theirs, of which no two clash, and at most so many each; each recording may begin with its
+-- earliest; and only finitely many keys hold any
 pub record IsSound (cap : ℕ) (h : Holdings) : Type 0 where
   pub rising : (k : Key) → IsRising (h k)
   pub no_clash : (k : Key) → NoClash (duration_of k.duration) (h k)
   pub few : (k : Key) → length (h k) ≤ cap
   pub records : (k : Key) → All (IsSoundRecord k) (h k)
+  pub begins : (k : Key) → MayBegin k (h k)
   pub keys : (k : Key) → h k ≢ [] → IsKey k
   pub finite : (keys : List Key) × ((k : Key) → h k ≢ [] → Contains keys k)
 

@@ -2,7 +2,7 @@
 use Rattle.std.specs.Prelude.{◌≡◌, ℕ, ◌+◌, ◌<◌, ◌≤◌, ◌↔◌, List, [], ◌∷◌, ◌++◌, length, All, Contains, remove}
 use Rattle.std.specs.List.{AllByRecursion}
 use Rattle.edf_field.specs.Number.{duration_of}
-use Rattle.edf_header.specs.Key.{Key, IsKey}
+use Rattle.edf_header.specs.Key.{Key, IsKey, MayStart}
 use Rattle.edf_fragment.specs.Fragment.{DataRecord}
 use Rattle.edf_fragment.specs.declared.fault.FragmentFault.{FragmentFault}
 use Rattle.edf_fragment.specs.Told.{Told, Fragment, Tells}
@@ -27,10 +27,11 @@ ToldIsSound = (bytes : List ℕ) (told : Told) → Tells bytes told → IsSoundT
 abbrev pub NothingIsSound : Type 0
 NothingIsSound = (cap : ℕ) → IsSound cap nothing_held
 
--- one record more, near which nothing is held, where there is room
+-- one record more, near which nothing is held, where there is room; the first of a recording is one with which it may start
 abbrev pub AddStaysSound : Type 0
 AddStaysSound = (cap : ℕ) (h : Holdings) (key : Key) (r : DataRecord) → IsSound cap h → IsKey key → IsSoundRecord key r →
-    near_of (duration_of key.duration) r.start (h key) ≡ [] → length (h key) < cap → IsSound cap (put key (r ∷ []) h)
+    near_of (duration_of key.duration) r.start (h key) ≡ [] → length (h key) < cap → (h key ≡ [] → MayStart key r.start) →
+    IsSound cap (put key (r ∷ []) h)
 
 -- a fragment whose records are all held is accepted with nothing new, and changes nothing
 abbrev pub HeldIsKnown : Type 0

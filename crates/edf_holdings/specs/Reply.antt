@@ -6,14 +6,14 @@ use Rattle.edf_header.specs.Key.{Key, IsKey}
 use Rattle.edf_fragment.specs.Fragment.{DataRecord}
 use Rattle.edf_fragment.specs.declared.fault.FragmentFault.{FragmentFault}
 use Rattle.edf_fragment.specs.Told.{Told, Fragment, Fault}
-use Rattle.edf_fragment.specs.Sound.{AreSound}
+use Rattle.edf_fragment.specs.Sound.{AreSound, MayBegin}
 use Rattle.edf_holdings.specs.Clash.{clashes}
 use Rattle.edf_holdings.specs.Rising.{joined, new_of}
 use Rattle.edf_holdings.specs.Holdings.{Holdings, put}
 
 -- a fragment as bytes spell them: by a law nothing else is told
 abbrev pub IsSoundTold : Told → Type 0
-IsSoundTold (Fragment key records) = IsKey key × AreSound key 0 records
+IsSoundTold (Fragment key records) = IsKey key × AreSound key 0 records × MayBegin key records
 IsSoundTold (Fault fault) = Unit {0}
 
 -- no record of the second list clashes with one of the first: a test of all pairs

@@ -1,19 +1,22 @@
 -- The loop over the data records of a fragment: its begin, one turn, its end.
-use Rattle.std.proofs.Common.{◌≡◌, ℕ, ◌+◌, ◌-◌, ◌<◌, ◌≤◌, List, [], ◌∷◌, ◌++◌, length, Option, Some, None, Ok, sym, subst, arith}
+use Rattle.std.proofs.Common.{◌≡◌, ℕ, ◌+◌, ◌-◌, ◌<◌, ◌≤◌, List, [], ◌∷◌, ◌++◌, length, Option, Some, None, Ok, refl, sym, ap, subst, ◌∙◌, inl, arith}
 use Rattle.sqlite_trees.specs.declared.store.Store.{Ghosts}
 use Rattle.sqlite.specs.State.{HasCleanDisk}
 use Rattle.edf_field.specs.Number.{duration_of}
+use Rattle.edf_header.specs.Key.{MayStart}
 use Rattle.edf_header.specs.Header.{Layout, most_records}
 use Rattle.edf_fragment.specs.Fragment.{DataRecord}
+use Rattle.edf_fragment.specs.Sound.{MayBegin}
 use Rattle.edf_fragment.specs.Reading.{ReadsHeader, IsAnswer, at_first}
 use Rattle.edf_fragment.specs.Whole.{HasRead, ReadsFragment}
 use Rattle.edf_fragment.specs.declared.advance.Progress.{Progress}
 use Rattle.edf_fragment.specs.declared.advance.Status.TheVariants.{Reading}
 use Rattle.edf_fragment.proofs.Fragments.{reads_none, one_more_read, all_read}
-use Rattle.edf_fragment.proofs.Sound.{read-key, read-sound}
-use Rattle.edf_holdings.specs.Rising.{IsApart}
+use Rattle.edf_fragment.proofs.Sound.{read-key, read-sound, read-begins}
+use Rattle.edf_holdings.specs.Rising.{IsApart, joined}
 use Rattle.edf_holdings.specs.Holdings.{Holdings, put}
-use Rattle.edf_holdings.proofs.Joining.{IsGood-from_sound, apart-sound}
+use Rattle.edf_holdings.proofs.Members.{In, Within, joined_has}
+use Rattle.edf_holdings.proofs.Joining.{IsGood-from_sound, apart-sound, put_here}
 use Rattle.edf_holdings.proofs.Walked.{Taken, Walked, nothing_read, taken_room}
 use Rattle.edf_rows.proofs.RowsLemmas.{one-holdings}
 use Rattle.edf_store.specs.Held.{Kept, at}
@@ -29,6 +32,10 @@ seen_is_one g now h t clean a b =
     let p = a clean in
     let q = b clean in
     one-holdings (at g now).now.trees h t now.cap now.cap p.stand p.sound q.stand q.sound
+
+pub empty_within : (xs ys : List DataRecord) → Within xs ys → ys ≡ [] → xs ≡ []
+empty_within [] ys w e = refl
+empty_within (x ∷ xs) ys w e = absurd (subst (λ (l : List DataRecord). In x l) e (w x (inl refl)))
 
 module _ {S : Type 0} (g : Ghosts S) (first : Kept S) (l : Layout) (before left : Option (List ℕ)) (header : ReadsHeader before left l) (room : ℕ)
     (space : HasCleanDisk (at g first) → (h : Holdings) → Sees g first h → IsRoom first.cap (length (h l.key)) (most_records l.count) room) where
@@ -60,6 +67,21 @@ module _ {S : Type 0} (g : Ghosts S) (first : Kept S) (l : Layout) (before left 
       let one : m.0 ≡ h = seen_is_one g now m.0 h clean m.1 seen in
       let said : length (h l.key) < first.cap = subst (λ (z : Holdings). length (z l.key) < first.cap) one few in
       subst (λ (n : ℕ). length (h l.key) < n) (sym same) said
+
+  -- and where it holds none then, the next record is the first, with which it may start: each one before it was put in
+  pub first_seen : (now : Kept S) (mid rest : Option (List ℕ)) (p q : Progress) (tally : Tally) (r : DataRecord) → Walking g first now l left mid p tally → p.status ≡ Reading
+      → IsAnswer l p q mid rest (Ok (Some r)) → IsRunning g first → (HasCleanDisk (at g now) → HasCleanDisk (at g first)) → HasCleanDisk (at g now) → tally.clash ≡ None → tally.new < room
+      → (h : Holdings) → Sees g now h → h l.key ≡ [] → MayStart l.key r.start
+  first_seen now mid rest p q tally r w going answer running was clean none low h seen empty =
+      let some = running (was clean) in
+      let start : Sees g first some.0 = λ _. some.1 in
+      let m = w.met clean some.0 start in
+      let taken : Taken first.cap l.key some.0 w.records m.0 tally.new tally.known = subst (λ (o : Option Starts). Walked first.cap l.key some.0 w.records m.0 tally.new tally.known (starts_of o)) none m.2 in
+      let held : h ≡ put l.key w.records some.0 = sym (seen_is_one g now m.0 h clean m.1 seen) ∙ taken.whole (omega (arith, low, (space (was clean) some.0 start).fits)) in
+      let all : h l.key ≡ joined (some.0 l.key) w.records = ap (λ (z : Holdings). z l.key) held ∙ put_here l.key w.records some.0 in
+      let before_it : w.records ≡ [] = empty_within w.records (joined (some.0 l.key) w.records) (joined_has (some.0 l.key) w.records) (sym all ∙ empty) in
+      let read : HasRead l left rest (w.records ++ r ∷ []) q = (one_more_read l left mid rest w.records p q r w.read going answer).0 in
+      subst (λ (rs : List DataRecord). MayBegin l.key (rs ++ r ∷ [])) before_it (read-begins before left rest l (w.records ++ r ∷ []) q header read)
 
   -- one record more
   pub one_turn : (now next : Kept S) (mid rest : Option (List ℕ)) (p q : Progress) (from to : Tally) (r : DataRecord) → Walking g first now l left mid p from

@@ -4,7 +4,7 @@ use Rattle.std.specs.Option.{is_some}
 use Rattle.sqlite_trees.specs.declared.store.Store.{Ghosts}
 use Rattle.sqlite.specs.State.{HasCleanDisk}
 use Rattle.edf_field.specs.Number.{duration_of}
-use Rattle.edf_header.specs.Key.{Key}
+use Rattle.edf_header.specs.Key.{Key, MayStart}
 use Rattle.edf_fragment.specs.Fragment.{DataRecord}
 use Rattle.edf_fragment.specs.Sound.{IsSoundRecord}
 use Rattle.edf_holdings.specs.Clash.{near_of}
@@ -75,10 +75,11 @@ module _ {S : Type 0} (g : Ghosts S) (s u : Kept S) (id : ℤ) (key : Key) (r : 
         step_next room from to New none said (was clean) h (put key (r ∷ []) h) seen ((λ _. refl), (λ full. absurd (omega (arith, low, full))), refl),
       )
 
-  -- a record near which nothing is may be added
+  -- a record near which nothing is may be added, if its recording may start with it where it holds none
   pub may_take : IsSoundRecord key r → IsRunning g s → (HasCleanDisk (at g u) → HasCleanDisk (at g s)) → IsStep r near New
-      → (HasCleanDisk (at g s) → (h : Holdings) → Sees g s h → length (h key) < s.cap) → MayTake g u id r
-  may_take sound running was said few = record {
+      → (HasCleanDisk (at g s) → (h : Holdings) → Sees g s h → length (h key) < s.cap)
+      → (HasCleanDisk (at g s) → (h : Holdings) → Sees g s h → h key ≡ [] → MayStart key r.start) → MayTake g u id r
+  may_take sound running was said few may_start = record {
     key = key;
     is_under = same.ids id key under;
     sound = sound;
@@ -91,5 +92,6 @@ module _ {S : Type 0} (g : Ghosts S) (s u : Kept S) (id : ℤ) (key : Key) (r : 
         record {
           none_near = subst (λ (z : Holdings). near_of (duration_of key.duration) r.start (z key) ≡ []) one none;
           few = subst (λ (n : ℕ). length (h key) < n) (sym cap) (subst (λ (z : Holdings). length (z key) < s.cap) one below);
+          first = λ empty. may_start (was clean) some.0 first (subst (λ (z : Holdings). z key ≡ []) (sym one) empty);
         };
   }

@@ -5,7 +5,7 @@ use Rattle.sqlite_trees.specs.declared.store.Store.{Ghosts}
 use Rattle.sqlite.specs.State.{HasCleanDisk, Survives}
 use Rattle.sqlite.proofs.StateLemmas.{survives_weaker}
 use Rattle.edf_fragment.specs.Told.{Told, Fragment, Fault}
-use Rattle.edf_fragment.proofs.Sound.{spelled-key, spelled-sound}
+use Rattle.edf_fragment.proofs.Sound.{spelled-key, spelled-sound, spelled-begins}
 use Rattle.edf_holdings.specs.Holdings.{Holdings, IsSound}
 use Rattle.edf_holdings.specs.Reply.{IsSoundTold, Reply, Form, Overlap, Differs, Full, Accepted, IsAccepted, reply, replies, after}
 use Rattle.edf_holdings.proofs.Accepted.{refused_changes_nothing}
@@ -50,7 +50,11 @@ pub record IsMade {S : Type 0} (g : Ghosts S) (old new : Kept S) (t : Turn) : Ty
   pub crash : Survives (at g old) (at g new) (λ rows. (h : Holdings) → Holds g old h → AreKept old.cap rows (after old.cap h (somes (t.told ∷ []))) ⊎ AreUnended old.cap h (t ∷ []) rows)
 
 sound_told : (from to : Source) (told : Told) → Hears from to told → IsSoundTold told
-sound_told from to (Fragment key records) r = (spelled-key r.bytes key records r.spells, spelled-sound r.bytes key records r.spells)
+sound_told from to (Fragment key records) r = (
+  spelled-key r.bytes key records r.spells,
+  spelled-sound r.bytes key records r.spells,
+  spelled-begins r.bytes key records r.spells,
+)
 sound_told from to (Fault fault) r = tt
 
 module _ {S : Type 0} (g : Ghosts S) (old new : Kept S) (from to : Source) where

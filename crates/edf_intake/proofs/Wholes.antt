@@ -5,11 +5,11 @@ use Rattle.sqlite.specs.State.{HasCleanDisk}
 use Rattle.edf_header.specs.Key.{Key}
 use Rattle.edf_fragment.specs.Fragment.{DataRecord}
 use Rattle.edf_fragment.specs.Told.{Fragment}
-use Rattle.edf_fragment.proofs.Sound.{spelled-key, spelled-sound, spelled-some}
+use Rattle.edf_fragment.proofs.Sound.{spelled-key, spelled-sound, spelled-begins, spelled-some}
 use Rattle.edf_holdings.specs.Rising.{joined}
 use Rattle.edf_holdings.specs.Holdings.{Holdings, put}
 use Rattle.edf_holdings.specs.Reply.{IsSoundTold, reply}
-use Rattle.edf_holdings.proofs.Members.{In, Within, joined_has}
+use Rattle.edf_holdings.proofs.Members.{joined_has}
 use Rattle.edf_holdings.proofs.Joining.{IsGood-from_sound, put_here, put_grows}
 use Rattle.edf_store.specs.Held.{Kept, at}
 use Rattle.edf_store.specs.Transaction.{Sees, IsRunning, HasAtMost, HasNoMore, IsWhole}
@@ -21,12 +21,8 @@ use Rattle.edf_intake.specs.declared.walk.Tally.{Tally}
 use Rattle.edf_intake.specs.declared.answer.Refusal.{Refusal}
 use Rattle.edf_intake.specs.declared.answer.Refusal.TheVariants as refusal
 use Rattle.edf_intake.specs.declared.answer.Stop.TheVariants.{Input}
-use Rattle.edf_intake.proofs.Steps.{seen_is_one}
+use Rattle.edf_intake.proofs.Steps.{seen_is_one, empty_within}
 use Rattle.edf_intake.proofs.Conflicts.{counts_all, accepted_here, left_here}
-
-empty_within : (xs ys : List DataRecord) → Within xs ys → ys ≡ [] → xs ≡ []
-empty_within [] ys w e = refl
-empty_within (x ∷ xs) ys w e = absurd (subst (λ (l : List DataRecord). In x l) e (w x (inl refl)))
 
 none_there : (xs : List DataRecord) → 1 ≤ length xs → xs ≢ []
 none_there xs some e = absurd (omega (arith, some, ap (λ (l : List DataRecord). length l) e))
@@ -55,7 +51,11 @@ module _ {S : Type 0} (g : Ghosts S) (first made last : Kept S) (from to : Sourc
     (space : HasCleanDisk (at g made) → (h : Holdings) → Sees g made h → IsRoom first.cap (length (h key)) (length records) room)
     (met : HasCleanDisk (at g last) → (h : Holdings) → Sees g made h → IsTally key h records tally × (tally.clash ≡ None → tally.new ≤ room → Sees g last (put key records h))) where
   sound : IsSoundTold (Fragment key records)
-  sound = (spelled-key read.bytes key records read.spells, spelled-sound read.bytes key records read.spells)
+  sound = (
+    spelled-key read.bytes key records read.spells,
+    spelled-sound read.bytes key records read.spells,
+    spelled-begins read.bytes key records read.spells,
+  )
 
   pub some_read : 1 ≤ length records
   some_read = spelled-some read.bytes key records read.spells

@@ -1,7 +1,8 @@
 //! The data records of a fragment, one after another, inside a transaction.
 
-ghost use Rattle.std.specs.Prelude.{◌≡◌, ℕ, ◌+◌, ◌-◌, ◌^◌, ◌<◌, ◌≤◌, List, Option, None, false, length, IfOk, IfErr};
+ghost use Rattle.std.specs.Prelude.{◌≡◌, ℕ, ◌+◌, ◌-◌, ◌^◌, ◌<◌, ◌≤◌, List, [], Option, None, false, length, IfOk, IfErr};
 ghost use Rattle.sqlite.specs.State.{HasCleanDisk};
+ghost use Rattle.edf_header.specs.Key.{MayStart};
 ghost use Rattle.edf_header.specs.Header.{most_records};
 ghost use Rattle.edf_fragment.specs.Sound.{IsSoundRecord};
 ghost use Rattle.edf_fragment.specs.Fragment.{DataRecord};
@@ -85,6 +86,8 @@ fn take_record<S: Alter>(
     requires sound { IsSoundRecord identity.now data_record.now }
     requires few { HasCleanDisk (at S.Store transaction.old.store.now) → tally.clash ≡ None → tally.new < recording.room →
         (h : Holdings) → Sees S.Store transaction.old.store.now h → length (h identity.now) < transaction.old.store.now.cap }
+    requires first { HasCleanDisk (at S.Store transaction.old.store.now) → tally.clash ≡ None → tally.new < recording.room →
+        (h : Holdings) → Sees S.Store transaction.old.store.now h → h identity.now ≡ [] → MayStart identity.now data_record.now.start }
     requires countable { tally.new + tally.known < 2 ^ 32 - 1 }
     ensures same_reference { transaction.new.store.ghost_name ≡ transaction.old.store.ghost_name }
     ensures stays { Stays S.Store transaction.old.store.now transaction.new.store.now }

@@ -11,7 +11,7 @@ use Rattle.edf_fragment.specs.Fragment.{DataRecord}
 use Rattle.edf_holdings.specs.Same.{same_key}
 use Rattle.edf_holdings.specs.Clash.{NoClash}
 use Rattle.edf_holdings.specs.Rising.{IsRising}
-use Rattle.edf_fragment.specs.Sound.{IsSoundRecord, AreSound}
+use Rattle.edf_fragment.specs.Sound.{IsSoundRecord, AreSound, MayBegin}
 use Rattle.edf_holdings.specs.Holdings.{Holdings}
 use Rattle.edf_holdings.proofs.Same.{same_key-Decides, same_key-true, test_from_Clash}
 use Rattle.edf_holdings.proofs.Joining.{apart-sound, rising_from_apart, free_from_apart, lasting, In-from_Contains}
@@ -137,6 +137,7 @@ are-kept cap trees all apart owned =
         no_clash = held_keeps cap trees (λ k rs. NoClash (duration_of k.duration) rs) (λ k x y c d clash. no_member x c) (λ row has. no_clash has.key has.records has.sound) rows all;
         few = held_keeps cap trees (λ k rs. length rs ≤ cap) (λ k. omega arith) (λ row has. has.few) rows all;
         records = held_keeps cap trees (λ k rs. All (IsSoundRecord k) rs) (λ k. All-from_recursion (IsSoundRecord k) [] tt) (λ row has. All-from_recursion (IsSoundRecord has.key) has.records (each_sound has.key 0 has.records has.sound)) rows all;
+        begins = held_keeps cap trees MayBegin (λ k. tt) (λ row has. has.begins) rows all;
         keys = held_keeps cap trees (λ k rs. rs ≢ [] → IsKey k) (λ k some. absurd (some refl)) (λ row has some. has.is_key) rows all;
         finite = (keys_of cap trees rows all, all_keys cap trees rows all);
       };

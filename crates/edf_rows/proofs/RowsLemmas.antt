@@ -12,7 +12,7 @@ use Rattle.sqlite_value.specs.declared.value.Value.TheVariants.{Null, Int, Real,
 use Rattle.sqlite_value.specs.Order.{Row, column}
 use Rattle.sqlite_trees.specs.Tree.{Trees}
 use Rattle.edf_field.specs.Number.{duration_of}
-use Rattle.edf_header.specs.Key.{Key, IsKey, key_bytes, key_at}
+use Rattle.edf_header.specs.Key.{Key, IsKey, MayStart, key_bytes, key_at}
 use Rattle.edf_header.proofs.Cited.{key-back}
 use Rattle.edf_tal.specs.Canonical.{block_text}
 use Rattle.edf_tal.specs.Block.{IsRead}
@@ -20,14 +20,14 @@ use Rattle.edf_tal.specs.declared.place.Place.TheVariants.{Any}
 use Rattle.edf_tal.proofs.Cited.{one-writing, read-any}
 use Rattle.edf_fragment.specs.Fragment.{DataRecord}
 use Rattle.edf_holdings.specs.Same.{same_key}
-use Rattle.edf_fragment.specs.Sound.{IsSoundRecord}
+use Rattle.edf_fragment.specs.Sound.{IsSoundRecord, MayBegin}
 use Rattle.edf_holdings.specs.Rising.{IsApart}
 use Rattle.edf_holdings.specs.Holdings.{Holdings, IsSound}
 use Rattle.edf_holdings.proofs.Same.{same_key-Decides, same_key-true}
 use Rattle.edf_holdings.proofs.Joining.{IsGood-from_sound}
 use Rattle.edf_rows.specs.Cells.{record_cells, recording_cells, recordings_in}
 use Rattle.edf_rows.specs.Rows.{IsThere, IsRecording, IsOwned, StandFor, AreKept}
-use Rattle.edf_rows.specs.Foreign.{IsBadRow, bad_start, bad_samples, bad_block, AreTooNear, AreBadRecords, bad_row, too_near, too_few, too_many, IsForeign, bad_recording, bad_records, without_recording, twice}
+use Rattle.edf_rows.specs.Foreign.{IsBadRow, bad_start, bad_samples, bad_block, AreTooNear, BeginsTooLate, AreBadRecords, bad_row, too_near, too_late, too_few, too_many, IsForeign, bad_recording, bad_records, without_recording, twice}
 
 -- ---- members
 pub here : {X : Type 0} (x : X) (xs : List X) → Contains (x ∷ xs) x
@@ -197,21 +197,26 @@ not-bad k r s (bad_block none) = none (record {
   starts = refl;
 })
 
-pub not-bad-records : (cap : ℕ) (k : Key) (xs : List DataRecord) → AllByRecursion (IsSoundRecord k) xs → IsApart (duration_of k.duration) 0 xs → length xs ≤ cap → map record_cells xs ≢ []
+not-late : (k : Key) (xs : List DataRecord) → MayBegin k xs → ¬ BeginsTooLate k (map record_cells xs)
+not-late k [] begins late = late
+not-late k (x ∷ xs) begins (start, is, late) = late (subst (MayStart k) (pos-number x.start start (int-number (pos x.start) (pos start) is)) begins)
+
+pub not-bad-records : (cap : ℕ) (k : Key) (xs : List DataRecord) → AllByRecursion (IsSoundRecord k) xs → IsApart (duration_of k.duration) 0 xs → MayBegin k xs → length xs ≤ cap → map record_cells xs ≢ []
     → ¬ AreBadRecords cap k (map record_cells xs)
-not-bad-records cap k xs sound apart few some (bad_row row c bad) =
+not-bad-records cap k xs sound apart begins few some (bad_row row c bad) =
     let it = mapped record_cells (IsSoundRecord k) xs row sound c in
     not-bad k it.0 it.1 (subst (IsBadRow k) it.2 bad)
-not-bad-records cap k xs sound apart few some (too_near near) = not-near (duration_of k.duration) 0 xs apart near
-not-bad-records cap k xs sound apart few some (too_few none) = some none
-not-bad-records cap k xs sound apart few some (too_many more) = absurd (let n = length-map xs record_cells in omega (arith, n, more, few))
+not-bad-records cap k xs sound apart begins few some (too_near near) = not-near (duration_of k.duration) 0 xs apart near
+not-bad-records cap k xs sound apart begins few some (too_late late) = not-late k xs begins late
+not-bad-records cap k xs sound apart begins few some (too_few none) = some none
+not-bad-records cap k xs sound apart begins few some (too_many more) = absurd (let n = length-map xs record_cells in omega (arith, n, more, few))
 
 pub not-foreign : (cap : ℕ) (trees : Trees) (h : Holdings) → AreKept cap trees h → ¬ IsForeign cap trees
 not-foreign cap trees h kept (bad_recording row c bad) = bad (All-contains IsRecording (recordings_in trees) row kept.stand.recordings c)
 not-foreign cap trees h kept (bad_records id k is bad) =
     let rows = kept.stand.held id k is in
     let good = IsGood-from_sound cap h kept.sound in
-    not-bad-records cap k (h k) (recursion_from_All (IsSoundRecord k) (h k) (kept.sound.records k)) (good.apart k) (good.few k) (λ none. kept.each id k is (rows ∙ none)) (subst (AreBadRecords cap k) rows bad)
+    not-bad-records cap k (h k) (recursion_from_All (IsSoundRecord k) (h k) (kept.sound.records k)) (good.apart k) (kept.sound.begins k) (good.few k) (λ none. kept.each id k is (rows ∙ none)) (subst (AreBadRecords cap k) rows bad)
 not-foreign cap trees h kept (without_recording row c none) =
     let own : IsOwned trees row = All-contains (IsOwned trees) (trees 2) row kept.stand.owned c in
     none own.id own.key own.there own.owned

@@ -1,12 +1,12 @@
 -- The rows that no submissions leave.
-use Rattle.std.specs.Prelude.{◌≡◌, ℕ, ◌+◌, ◌*◌, ◌≤◌, ◌<◌, ℤ, pos, ◌⊎◌, List, [], length, Contains, IsTrue}
+use Rattle.std.specs.Prelude.{◌≡◌, ℕ, ◌+◌, ◌*◌, ◌≤◌, ◌<◌, ℤ, pos, ◌⊎◌, List, [], ◌∷◌, length, Contains, IsTrue}
 use Rattle.sqlite_value.specs.declared.value.Value.TheVariants.{Int, Blob}
 use Rattle.sqlite_value.specs.Order.{Row, column}
 use Rattle.sqlite_trees.specs.Tree.{Trees}
 use Rattle.edf_time.specs.Civil.{window}
 use Rattle.edf_field.specs.Number.{duration_of}
 use Rattle.edf_header.specs.Signal.{samples_in_all}
-use Rattle.edf_header.specs.Key.{Key}
+use Rattle.edf_header.specs.Key.{Key, MayStart}
 use Rattle.edf_tal.specs.Tal.{Annotation}
 use Rattle.edf_tal.specs.Block.{IsRead}
 use Rattle.edf_tal.specs.declared.place.Place.TheVariants.{Any}
@@ -51,10 +51,16 @@ pub record AreTooNear (rows : List Row) (duration : ℕ) : Type 0 where
   pub order : first ≤ second
   pub near : second < first + duration
 
--- a recording's records: one is bad, two are too near, there is none, or there are more than the cap
+-- of the rows, which come by rising starts, the first starts where the key's recording may not: after 2084 without a date
+abbrev pub BeginsTooLate : Key → List Row → Type 0
+BeginsTooLate k [] = ⊥
+BeginsTooLate k (row ∷ rows) = (start : ℕ) × (column row 0 ≡ Int (pos start)) × ¬ MayStart k start
+
+-- a recording's records: one is bad, two are too near, they begin too late, there is none, or there are more than the cap
 pub data AreBadRecords (cap : ℕ) (k : Key) (rows : List Row) : Type 0 where
   bad_row : (row : Row) → Contains rows row → IsBadRow k row → AreBadRecords cap k rows
   too_near : AreTooNear rows (duration_of k.duration) → AreBadRecords cap k rows
+  too_late : BeginsTooLate k rows → AreBadRecords cap k rows
   too_few : rows ≡ [] → AreBadRecords cap k rows
   too_many : cap < length rows → AreBadRecords cap k rows
 

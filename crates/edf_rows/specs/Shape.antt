@@ -8,7 +8,7 @@ use Rattle.edf_tal.specs.Block.{IsRead}
 use Rattle.edf_tal.specs.declared.place.Place.TheVariants.{Any}
 use Rattle.edf_tal.specs.Canonical.{block_text}
 use Rattle.edf_fragment.specs.Fragment.{DataRecord}
-use Rattle.edf_fragment.specs.Sound.{IsSoundRecord, AreSound}
+use Rattle.edf_fragment.specs.Sound.{IsSoundRecord, AreSound, MayBegin}
 use Rattle.edf_rows.specs.Cells.{record_cells, recording_cells, records_in}
 
 -- the block gives this start and list, and is the one that is written for them
@@ -25,7 +25,8 @@ pub record IsRowOf (k : Key) (r : DataRecord) (row : Row) : Type 0 where
   pub cells : row ≡ record_cells r
   pub sound : IsSoundRecord k r
 
--- the row is a recording's, and its records are sound ones that lie a duration apart, at least one and at most the cap
+-- the row is a recording's, and its records are sound ones that lie a duration apart and with which it may begin, at least one
+-- and at most the cap
 pub record HasRecords (cap : ℕ) (trees : Trees) (row : Row) : Type 0 where
   pub id : ℤ
   pub key : Key
@@ -33,6 +34,7 @@ pub record HasRecords (cap : ℕ) (trees : Trees) (row : Row) : Type 0 where
   pub cells : row ≡ recording_cells id key
   pub is_key : IsKey key
   pub sound : AreSound key 0 records
+  pub begins : MayBegin key records
   pub shown : records_in trees id ≡ map record_cells records
   pub some : records_in trees id ≢ []
   pub few : length records ≤ cap

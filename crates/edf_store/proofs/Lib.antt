@@ -6,7 +6,6 @@ pub mod KeyLemmas
 pub mod KeysReadLemmas
 pub mod NearLemmas
 pub mod OpenLemmas
-pub mod PutLemmas
 pub mod ReadyLemmas
 pub mod RowLemmas
 pub mod ShortLemmas

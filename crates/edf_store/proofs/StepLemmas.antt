@@ -15,6 +15,7 @@ use Rattle.edf_holdings.specs.Clash.{near_of, meets}
 use Rattle.edf_fragment.specs.Sound.{IsSoundRecord}
 use Rattle.edf_holdings.proofs.Near.{near_two}
 use Rattle.edf_holdings.proofs.Joining.{IsGood-from_sound}
+use Rattle.edf_holdings.proofs.Added.{add_stays_sound}
 use Rattle.std.specs.List.{AllByRecursion}
 use Rattle.std.proofs.lemmas.List.Elements.{recursion_from_All}
 use Rattle.sqlite_keyed.proofs.ListLemmas.{all-filter}
@@ -30,7 +31,6 @@ use Rattle.edf_rows.proofs.RowsLemmas.{same-recordings}
 use Rattle.edf_store.specs.Held.{AreHeld, IsSoundStore}
 use Rattle.edf_store.specs.Transaction.{AreSeen, SeesSome, StandsInside, IsUnder, SeesOn, IsCountIn, AreNearIn, MakesNone, MakesOnly, MayTakeIn, IsAddedIn, IsWholeIn, AreSeenRows}
 use Rattle.edf_store.proofs.HeldLemmas.{still_inside, still_under}
-use Rattle.edf_store.proofs.PutLemmas.{sound_put}
 use Rattle.edf_store.proofs.StandLemmas.{one_key, stand_more, there_too}
 use Rattle.edf_store.proofs.FoundLemmas.{found, stand_named, there_now, there_still, there_cases}
 use Rattle.edf_store.proofs.NearLemmas.{count_shown, near_shown, rows_rising}
@@ -80,7 +80,7 @@ module _ (cap : ℕ) (old new : State) (P : Trees → Type 0) (s : Survives old 
             is_open = (has clean).shown.is_open;
             inside = record_inside old new _ (has clean);
             stand = stand_more old new id may.key r h (has clean) it.stand mine room.none_near;
-            sound = sound_put cap may.key r h may.is_under.key may.sound it.sound room.none_near room.few;
+            sound = add_stays_sound cap h may.key r it.sound may.is_under.key may.sound room.none_near room.few room.first;
           })
 
   -- what is seen is kept where each recording holds a record

@@ -4,7 +4,7 @@ use Rattle.sqlite_trees.specs.declared.store.Store.{Ghosts}
 use Rattle.sqlite_trees.specs.Tree.{Trees}
 use Rattle.sqlite.specs.State.{State, HasCleanDisk}
 use Rattle.edf_field.specs.Number.{duration_of}
-use Rattle.edf_header.specs.Key.{Key, IsKey}
+use Rattle.edf_header.specs.Key.{Key, IsKey, MayStart}
 use Rattle.edf_fragment.specs.Fragment.{DataRecord}
 use Rattle.edf_holdings.specs.Clash.{near_of}
 use Rattle.edf_fragment.specs.Sound.{IsSoundRecord}
@@ -57,10 +57,12 @@ IsCountIn cap s id count = (h : Holdings) (k : Key) → AreSeen cap s h → IsUn
 abbrev pub TellsRoomIn : ℕ → State → ℤ → ℕ → Bool → Type 0
 TellsRoomIn cap s id more answer = (h : Holdings) (k : Key) → AreSeen cap s h → IsUnder s id k → answer ≡ nat_le (length (h k) + more) cap
 
--- there is a place for the record: none is near it, and there are fewer than the cap
+-- there is a place for the record: none is near it, there are fewer than the cap, and where the recording holds none, it may
+-- start with the record (one that holds some has a date or began before 2085, as sound holdings do)
 pub record HasPlace (cap : ℕ) (k : Key) (r : DataRecord) (h : Holdings) : Type 0 where
   pub none_near : near_of (duration_of k.duration) r.start (h k) ≡ []
   pub few : length (h k) < cap
+  pub first : h k ≡ [] → MayStart k r.start
 
 -- the recording may take the record, which is a sound one of its key
 pub record MayTakeIn (cap : ℕ) (s : State) (id : ℤ) (r : DataRecord) : Type 0 where

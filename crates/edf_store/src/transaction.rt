@@ -158,7 +158,8 @@ impl<S: Alter> StoreTx<'_, S> {
         }
     }
 
-    /// Adds a data record to a recording, which has none near it and fewer than the cap.
+    /// Adds a data record to a recording, which has none near it and fewer than the cap. The first of a recording is one with which
+    /// it may start: before 2085 where its identity has no date.
     ///
     /// # Errors
     /// `Memory` (E41) or `Store` (E42), and the transaction is to be given up.

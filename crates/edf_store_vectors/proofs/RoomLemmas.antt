@@ -1,7 +1,7 @@
 -- That a recording may take a data record, by its count and what is near.
-use Rattle.std.proofs.Common.{◌≡◌, ℕ, ◌<◌, ℤ, List, [], sym, ◌∙◌, arith}
+use Rattle.std.proofs.Common.{◌≡◌, ℕ, ◌<◌, ℤ, List, [], length, sym, ap, ◌∙◌, arith}
 use Rattle.sqlite.specs.State.{State, HasCleanDisk}
-use Rattle.edf_header.specs.Key.{Key}
+use Rattle.edf_header.specs.Key.{Key, MayStart}
 use Rattle.edf_fragment.specs.Fragment.{DataRecord}
 use Rattle.edf_fragment.specs.Sound.{IsSoundRecord}
 use Rattle.edf_store.specs.Transaction.{SeesSome, SeesOn, IsUnder, IsCountIn, AreNearIn, MayTakeIn}
@@ -10,8 +10,8 @@ use Rattle.edf_store.proofs.WholeLemmas.{seen_before}
 -- the count was taken between the first two states, and the near ones between the last two
 pub may_take : (cap : ℕ) (a b c : State) (was_a : HasCleanDisk b → HasCleanDisk a) (was_b : HasCleanDisk c → HasCleanDisk b) → SeesSome cap a → SeesOn cap a b → SeesOn cap b c
     → (id : ℤ) (k : Key) (r : DataRecord) (count : ℕ) (records : List DataRecord) → IsUnder a id k → (HasCleanDisk b → IsCountIn cap a id count) → (HasCleanDisk c → AreNearIn cap b id r.start records)
-    → records ≡ [] → count < cap → IsSoundRecord k r → MayTakeIn cap c id r
-may_take cap a b c was_a was_b running ab bc id k r count records under counts near none few sound = record {
+    → records ≡ [] → count < cap → IsSoundRecord k r → (count ≡ 0 → MayStart k r.start) → MayTakeIn cap c id r
+may_take cap a b c was_a was_b running ab bc id k r count records under counts near none few sound begins = record {
   key = k;
   is_under = bc.ids id k (ab.ids id k under);
   sound = sound;
@@ -21,5 +21,6 @@ may_take cap a b c was_a was_b running ab bc id k r count records under counts n
       record {
         none_near = sym (near clean h k in_b (ab.ids id k under)) ∙ none;
         few = let n = counts (was_b clean) h k in_a under in omega (arith, n, few);
+        first = λ empty. begins (counts (was_b clean) h k in_a under ∙ ap (λ (l : List DataRecord). length l) empty);
       };
 }

@@ -44,6 +44,9 @@ fn fill<S: Alter>(
     if data_record.samples().len() != identity.ordinary_bytes() {
         return Err(StoreFault::Foreign);
     }
+    if !identity.may_start(start) {
+        return Err(StoreFault::Foreign);
+    }
     tx.add(id, data_record)?;
     look(tx, id, identity, start, before)
 }

@@ -56,7 +56,7 @@ pub(crate) fn is_duration(duration: Option<u64>) -> bool
 impl Note {
     /// The annotation, or `None` where no TAL can hold it.
     ///
-    /// `duration` counts nanoseconds and is to be below 3,155,760,000,000,000,000, the length of the years 1985 to 2084;
+    /// `duration` counts nanoseconds and is to be below 6,311,433,600,000,000,000, the length of the years 1985 to 2184;
     /// `text` is to have no byte 0 or 20.
     pub fn new(onset: Instant, duration: Option<u64>, text: String) -> Option<Note>
         ensures found { IsSome result
@@ -94,7 +94,7 @@ impl Note {
         self.onset
     }
 
-    /// Its duration in nanoseconds, or none: below 3,155,760,000,000,000,000.
+    /// Its duration in nanoseconds, or none: below 6,311,433,600,000,000,000.
     pub fn duration(&self) -> Option<u64>
         ensures value { result ≡ self.now.duration }
         ensures note { IsAnnotation self.now }

@@ -1,11 +1,10 @@
--- The texts dd.mm.yy and hh.mm.ss, and the start that they name.
-use Rattle.std.proofs.Common.{◌≡◌, ℕ, ◌+◌, ◌*◌, ◌/◌, ◌%◌, ◌^◌, ◌≤◌, ◌<◌, List, [], ◌∷◌, ◌++◌, length, get_or, arith, refl, sym, ◌∙◌, subst, ℤ, pos, Option, Some, None}
-use Rattle.std.specs.Prelude.{MatchOption}
+-- The texts dd.mm.yy and hh.mm.ss.
+use Rattle.std.proofs.Common.{◌≡◌, ℕ, ◌+◌, ◌/◌, ◌%◌, ◌≤◌, ◌<◌, List, [], ◌∷◌, ◌++◌, length, get_or, arith, sym, ◌∙◌, ℤ, pos, Option, Some, None, inl, inr, ap, drop, take}
+use Rattle.std.specs.Prelude.{MatchOption, codes}
 use Rattle.std.proofs.lemmas.Slice.Eq.{text_from_reads}
-use Rattle.edf_time.specs.Civil.{IsDay, IsDateText, IsTimeText, IsCivil, IsStartFault, window, startdate_days, day_of, second_of_day, two_digits}
-use Rattle.edf_time.specs.declared.civil.StartFault.{StartFault}
-use Rattle.edf_time.specs.declared.civil.StartFault.TheVariants.{Date, Time}
-use Rattle.edf_time.proofs.Days.{number-in-window}
+use Rattle.std.proofs.lemmas.List.{get_or-drop, take_all, length-drop}
+use Rattle.edf_time.specs.Civil.{IsDay, IsDateText, IsYearlessText, IsLateDateText, IsDateField, IsTimeText, two_digit_days, window_days, two_digits}
+use Rattle.edf_time.proofs.Days.{number-in-window, number-late}
 use Rattle.edf_time.proofs.OneDay.{in-bounds, IsDay-same, one-number, one-date, one-clock, one-second}
 use Rattle.jiff_core.proofs.SignedLemmas.{signed_arith}
 
@@ -28,11 +27,38 @@ same-dotted a b c x y z a-low b-low c-low x-low y-low z-low e =
     let c2 : 48 + c % 10 ≡ 48 + z % 10 = cc in
     record { first = omega arith; second = omega arith; third = omega arith }
 
+-- two numbers of two digits, with a dot after each, and the letters yy
+abbrev pub lettered : ℕ → ℕ → List ℕ
+lettered a b = two_digits a ++ 46 ∷ two_digits b ++ codes ".yy"
+
+pub same-lettered : (a b x y : ℕ) → a < 100 → b < 100 → x < 100 → y < 100 → lettered a b ≡ lettered x y → (a ≡ x) × (b ≡ y)
+same-lettered a b x y a-low b-low x-low y-low e =
+    let a1 : 48 + a / 10 ≡ 48 + x / 10 = cc in
+    let a2 : 48 + a % 10 ≡ 48 + x % 10 = cc in
+    let b1 : 48 + b / 10 ≡ 48 + y / 10 = cc in
+    let b2 : 48 + b % 10 ≡ 48 + y % 10 = cc in
+    (omega arith, omega arith)
+
+-- a letter is no digit
+not-lettered : (a b c x y : ℕ) → c < 100 → ¬ (dotted a b c ≡ lettered x y)
+not-lettered a b c x y low e =
+    let letter : 48 + c % 10 ≡ 121 = cc in
+    absurd (omega (arith, letter))
+
 -- the eight bytes, read one by one
 pub dotted-reads : (t : List ℕ) (a b c : ℕ) → length t ≡ 8 → get_or t 2 0 ≡ 46 → get_or t 5 0 ≡ 46
     → get_or t 0 0 ∷ get_or t 1 0 ∷ [] ≡ two_digits a → get_or t 3 0 ∷ get_or t 4 0 ∷ [] ≡ two_digits b → get_or t 6 0 ∷ get_or t 7 0 ∷ [] ≡ two_digits c → t ≡ dotted a b c
 dotted-reads t a b c len p q first second third =
     text_from_reads t (dotted a b c) len (cc, (cc, (p, (cc, (cc, (q, (cc, (cc, tt))))))))
+
+pub lettered-reads : (t : List ℕ) (a b : ℕ) → get_or t 2 0 ≡ 46 → get_or t 0 0 ∷ get_or t 1 0 ∷ [] ≡ two_digits a → get_or t 3 0 ∷ get_or t 4 0 ∷ [] ≡ two_digits b
+    → length t ≡ 8 → take 3 (drop 5 t) ≡ codes ".yy" → t ≡ lettered a b
+lettered-reads t a b p first second len end =
+    let rest : drop 5 t ≡ codes ".yy" = sym (take_all 3 (drop 5 t) (omega (arith, length-drop 5 t))) ∙ end in
+    let t5 : get_or t 5 0 ≡ 46 = sym (get_or-drop 5 t 0 0) ∙ ap (λ (k : List ℕ). get_or k 0 0) rest in
+    let t6 : get_or t 6 0 ≡ 121 = sym (get_or-drop 5 t 1 0) ∙ ap (λ (k : List ℕ). get_or k 1 0) rest in
+    let t7 : get_or t 7 0 ≡ 121 = sym (get_or-drop 5 t 2 0) ∙ ap (λ (k : List ℕ). get_or k 2 0) rest in
+    text_from_reads t (lettered a b) len (cc, (cc, (p, (cc, (cc, (t5, (t6, (t7, tt))))))))
 
 -- the text of these parts names the day of these parts alone
 pub IsDay-text : (text : List ℕ) (year month day days : ℕ) → 1985 ≤ year → year ≤ 2084 → month < 100 → day < 100
@@ -46,15 +72,26 @@ IsDay-text text year month day days from to m-low d-low e t =
 
 pub answers-date : (text : List ℕ) (year month day : ℕ) (r : Option ℕ) → 1985 ≤ year → year ≤ 2084 → month < 100 → day < 100
     → text ≡ dotted day month (year % 100)
-    → MatchOption r ((days : ℤ) → ¬ IsDay year month day days) (λ days. IsDay year month day (pos days) × (days < startdate_days))
-    → MatchOption r ((days : ℕ) → ¬ IsDateText text days) (λ days. IsDateText text days × (days < startdate_days))
+    → MatchOption r ((days : ℤ) → ¬ IsDay year month day days) (λ days. IsDay year month day (pos days) × (days < two_digit_days))
+    → MatchOption r ((days : ℕ) → ¬ IsDateText text days) (λ days. IsDateText text days × (days < two_digit_days))
 answers-date text year month day None from to m-low d-low e none = λ days t. none (pos days) (IsDay-text text year month day days from to m-low d-low e t)
 answers-date text year month day (Some days) from to m-low d-low e found =
     (record { year = year; month = month; day = day; is_text = e; from = from; to = to; is_day = found.0 }, found.1)
 
-pub date-in-window : (text : List ℕ) (days : ℕ) → IsDateText text days → days < startdate_days
-date-in-window text days t =
+pub date-in-digits : (text : List ℕ) (days : ℕ) → IsDateText text days → days < two_digit_days
+date-in-digits text days t =
     let b = number-in-window t.year t.month t.day (pos days) t.from t.to t.is_day in
+    omega (arith, signed_arith, b.1)
+
+pub late-after-digits : (text : List ℕ) (days : ℕ) → IsLateDateText text days → two_digit_days ≤ days
+late-after-digits text days t =
+    let b = number-late t.year t.month t.day (pos days) t.from t.to t.is_day in
+    omega (arith, signed_arith, b.0)
+
+pub date-in-window : (text : List ℕ) (days : ℕ) → IsDateField text days → days < window_days
+date-in-window text days (inl t) = omega (arith, date-in-digits text days t)
+date-in-window text days (inr t) =
+    let b = number-late t.year t.month t.day (pos days) t.from t.to t.is_day in
     omega (arith, signed_arith, b.1)
 
 -- a text names one day, and a day has one text
@@ -65,10 +102,28 @@ one-date_day text a b p q =
     (IsDay-text text q.year q.month q.day a q.from q.to (omega (arith, bounds.month_to)) (omega (arith, bounds.day_to)) q.is_text p) q.is_day in
     omega (arith, signed_arith, e)
 
-pub one-date_text : (text other : List ℕ) (days : ℕ) → IsDateText text days → IsDateText other days → text ≡ other
-one-date_text text other days p q =
+digits_text : (text other : List ℕ) (days : ℕ) → IsDateText text days → IsDateText other days → text ≡ other
+digits_text text other days p q =
     let same = one-date p.year p.month p.day q.year q.month q.day (pos days) p.is_day q.is_day in
     p.is_text ∙ rw (same.year-is, same.month-is, same.day-is) (sym q.is_text)
+
+late_text : (text other : List ℕ) (days : ℕ) → IsLateDateText text days → IsLateDateText other days → text ≡ other
+late_text text other days p q =
+    let same = one-date p.year p.month p.day q.year q.month q.day (pos days) p.is_day q.is_day in
+    p.is_text ∙ rw (same.month-is, same.day-is) (sym q.is_text)
+
+pub one-date_text : (text other : List ℕ) (days : ℕ) → IsDateField text days → IsDateField other days → text ≡ other
+one-date_text text other days (inl p) (inl q) = digits_text text other days p q
+one-date_text text other days (inl p) (inr q) = absurd (omega (arith, date-in-digits text days p, late-after-digits other days q))
+one-date_text text other days (inr p) (inl q) = absurd (omega (arith, date-in-digits other days q, late-after-digits text days p))
+one-date_text text other days (inr p) (inr q) = late_text text other days p q
+
+-- digits are no letters
+pub not-yearless : (text : List ℕ) (days : ℕ) → IsDateText text days → ¬ IsYearlessText text
+not-yearless text days t y = not-lettered t.day t.month (t.year % 100) y.day y.month (omega arith) (sym t.is_text ∙ y.is_text)
+
+pub late-yearless : (text : List ℕ) (days : ℕ) → IsLateDateText text days → IsYearlessText text
+late-yearless text days t = record { year = t.year; month = t.month; day = t.day; days = pos days; is_text = t.is_text; is_day = t.is_day }
 
 -- a text names one second of the day, and a second has one text
 pub one-time_second : (text : List ℕ) (a b : ℕ) → IsTimeText text a → IsTimeText text b → a ≡ b
@@ -86,53 +141,3 @@ one-time_text text other seconds p q =
 
 pub time-in-day : (text : List ℕ) (seconds : ℕ) → IsTimeText text seconds → seconds < 86_400
 time-in-day text seconds t = omega (arith, t.is_clock.in_day, t.is_clock.in_hour, t.is_clock.in_minute, t.is_clock.count)
-
--- an instant by its day, the second of the day and the part of the second
-pub instant-parts : (n : ℕ) → n ≡ (day_of n * 86_400 + second_of_day n) * 10 ^ 9 + n % 10 ^ 9
-instant-parts n = omega arith
-
-pub record IsWholeSecond (days seconds nanos : ℕ) : Type 0 where
-  pub day : day_of nanos ≡ days
-  pub second : second_of_day nanos ≡ seconds
-  pub whole : nanos / 10 ^ 9 * 10 ^ 9 ≡ nanos
-
-pub whole-second : (days seconds nanos : ℕ) → seconds < 86_400 → nanos ≡ (days * 86_400 + seconds) * 10 ^ 9 → IsWholeSecond days seconds nanos
-whole-second days seconds nanos low e = record { day = omega arith; second = omega arith; whole = omega arith }
-
-pub record IsStart (date time : List ℕ) (nanos : ℕ) : Type 0 where
-  pub is_date : IsDateText date (day_of nanos)
-  pub is_time : IsTimeText time (second_of_day nanos)
-  pub in_window : nanos < window
-  pub whole : nanos / 10 ^ 9 * 10 ^ 9 ≡ nanos
-
--- the texts of a start are those of its day and of its second
-pub start-parts : (date time : List ℕ) (nanos : ℕ) → IsCivil date time nanos → IsStart date time nanos
-start-parts date time nanos (days, seconds, d, t, e) =
-    let w = whole-second days seconds nanos (time-in-day time seconds t) e in
-    record {
-      is_date = subst (λ (k : ℕ). IsDateText date k) (sym w.day) d;
-      is_time = subst (λ (k : ℕ). IsTimeText time k) (sym w.second) t;
-      in_window = omega (arith, date-in-window date days d, time-in-day time seconds t, e);
-      whole = w.whole;
-    }
-
--- and the texts of an instant's day and second name that second
-pub start-of-parts : (date time : List ℕ) (nanos : ℕ) → IsDateText date (day_of nanos) → IsTimeText time (second_of_day nanos) → IsCivil date time (nanos / 10 ^ 9 * 10 ^ 9)
-start-of-parts date time nanos d t = (day_of nanos, second_of_day nanos, d, t, omega arith)
-
-pub one-start : (date time : List ℕ) (m n : ℕ) → IsCivil date time m → IsCivil date time n → m ≡ n
-one-start date time m n (a, x, d, t, e) (b, y, f, g, h) =
-    let days = one-date_day date a b d f in
-    let seconds = one-time_second time x y t g in
-    omega (arith, days, seconds, e, h)
-
--- texts that name an instant have no fault, and others have one
-pub no-start_fault : (date time : List ℕ) (nanos : ℕ) (fault : StartFault) → IsCivil date time nanos → ¬ IsStartFault date time fault
-no-start_fault date time nanos Date (days, seconds, d, t, e) p = p days d
-no-start_fault date time nanos Time (days, seconds, d, t, e) p = p.1 seconds t
-
-pub one-start_fault : (date time : List ℕ) (a b : StartFault) → IsStartFault date time a → IsStartFault date time b → a ≡ b
-one-start_fault date time Date Date p q = refl
-one-start_fault date time Date Time p q = absurd (p q.0.0 q.0.1)
-one-start_fault date time Time Date p q = absurd (q p.0.0 p.0.1)
-one-start_fault date time Time Time p q = refl

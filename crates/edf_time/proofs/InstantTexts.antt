@@ -3,7 +3,7 @@ use Rattle.std.proofs.Common.{◌≡◌, ℕ, zero, suc, ◌+◌, ◌/◌, ◌%�
 use Rattle.edf_time.specs.Civil.{IsInstantText, day_of, second_of_day, two_digits, four_digits}
 use Rattle.edf_time.specs.Decimal.{fraction_text, fraction_digits, fraction_value}
 use Rattle.edf_time.proofs.Short.{fraction_value-text}
-use Rattle.edf_time.proofs.FieldTexts.{instant-parts}
+use Rattle.edf_time.proofs.Startdates.{instant-parts}
 use Rattle.edf_time.proofs.OneDay.{in-bounds, SameDate, IsDay-same, one-number, one-date, SameClock, one-clock, one-second}
 use Rattle.jiff_core.proofs.SignedLemmas.{signed_arith}
 

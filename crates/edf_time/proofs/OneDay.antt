@@ -1,6 +1,8 @@
 -- Parts and number of a day are one to one, and so are a clock's reading and its second.
 use Rattle.std.proofs.Common.{◌≡◌, ℕ, ◌≤◌, arith, sym, ◌∙◌, subst, ℤ, pos, ◌+ℤ◌}
 use Rattle.jiff_core.specs.declared.civil.date.Date.{Date}
+use Rattle.std.specs.Prelude.{◌-ℤ◌}
+use Rattle.jiff_core.specs.Calendar.{IsCivilDate, days_from_civil}
 use Rattle.jiff_core.specs.Date.{epoch_day}
 use Rattle.jiff_core.proofs.SignedLemmas.{signed_arith}
 use Rattle.jiff_core.proofs.CalendarLemmas.{days_in_month_bounds}
@@ -18,6 +20,10 @@ pub in-bounds : (year month day : ℕ) (days : ℤ) → IsDay year month day day
 in-bounds year month day days is =
     let long = days_in_month_bounds (pos year) month in
     record { month_from = is.exists.1.0; month_to = is.exists.1.1; day_from = is.exists.2.0; day_to = omega (arith, is.exists.2.1, long) }
+
+-- a day of the calendar has a number
+pub day-of : (y m d : ℕ) → IsCivilDate (pos y) m d → (days : ℤ) × IsDay y m d days
+day-of y m d exists = (days_from_civil (pos y) m d -ℤ pos 5_479, record { exists = exists; count = omega (arith, signed_arith) })
 
 -- three parts of one date
 pub record SameDate (y m d year month day : ℕ) : Type 0 where

@@ -1,22 +1,24 @@
 -- Each text has a reading, or it has a fault.
-use Rattle.std.proofs.Common.{◌≡◌, ℕ, suc, ◌+◌, ◌*◌, ◌%◌, ◌^◌, ◌≤◌, ◌<◌, ◌⊎◌, inl, inr, List, [], ◌∷◌, ◌++◌, length, take, drop, arith, refl, sym, ap, ◌∙◌, subst, ℤ, pos, negsuc}
-use Rattle.std.specs.Prelude.{neg_ℤ, ◌-ℤ◌, ◌≤ℤ◌}
+use Rattle.std.proofs.Common.{◌≡◌, ℕ, suc, ◌+◌, ◌*◌, ◌%◌, ◌^◌, ◌≤◌, ◌<◌, ◌⊎◌, inl, inr, List, [], ◌∷◌, ◌++◌, length, take, drop, arith, refl, sym, ap, ◌∙◌, subst, ℤ, pos, negsuc, Option, Some, None}
+use Rattle.std.specs.Prelude.{neg_ℤ, ◌≤ℤ◌}
 use Rattle.std.specs.Char.{digit_value}
 use Rattle.std.specs.Str.Parse.{AllDigits, IsNumeral, digits_value}
 use Rattle.std.proofs.lemmas.Bool.{cases_lt}
 use Rattle.std.proofs.lemmas.List.{length-append, take_at}
-use Rattle.jiff_core.specs.Calendar.{IsCivilDate, days_from_civil, days_in_month}
+use Rattle.jiff_core.specs.Calendar.{IsCivilDate, days_in_month}
 use Rattle.jiff_core.proofs.SignedLemmas.{signed_arith}
-use Rattle.edf_time.specs.Civil.{IsDay, IsDateText, IsTimeText, IsIdDate, IsCivil, IsStartFault, two_digits, four_digits, month_name}
+use Rattle.edf_time.specs.Civil.{IsDay, IsDateText, IsYearlessText, IsDateField, AreStartdates, HasDateForm, IsTimeText, IsIdDate, IsCivil, IsStartFault, window_days, two_digits, four_digits, month_name}
 use Rattle.edf_time.specs.Decimal.{IsDecimal, IsFine, IsSeconds, IsDecimalFault, fraction_value}
 use Rattle.edf_time.specs.declared.civil.StartFault.{StartFault}
-use Rattle.edf_time.specs.declared.civil.StartFault.TheVariants.{Date, Time}
+use Rattle.edf_time.specs.declared.civil.StartFault.TheVariants.{Date, Time, Differs}
 use Rattle.edf_time.specs.declared.decimal.DecimalFault.{DecimalFault}
 use Rattle.edf_time.specs.declared.decimal.DecimalFault.TheVariants.{Syntax, TooFine, TooLarge}
 use Rattle.edf_time.proofs.Days.{number-in-window}
 use Rattle.edf_time.proofs.Decided.{Decided, like, both, either, less, at-most, at-most-int, same-bytes, all-are, some-below}
-use Rattle.edf_time.proofs.FieldTexts.{dotted}
-use Rattle.edf_time.proofs.OneDay.{in-bounds}
+use Rattle.edf_time.proofs.FieldTexts.{dotted, lettered, one-date_text, date-in-window}
+use Rattle.edf_time.proofs.SomeText.{date-text}
+use Rattle.edf_time.proofs.YearlessTexts.{yearless, yearless-in-leap_year}
+use Rattle.edf_time.proofs.OneDay.{in-bounds, day-of}
 use Rattle.edf_time.proofs.OneValue.{same-parts}
 
 -- ---- decimals
@@ -135,9 +137,6 @@ civil-date y m d =
     (λ p. (p.0, p.1.0, p.1.1))
     (λ p. (p.0, (p.1, p.2)))
 
-day-of : (y m d : ℕ) → IsCivilDate (pos y) m d → (days : ℤ) × IsDay y m d days
-day-of y m d exists = (days_from_civil (pos y) m d -ℤ pos 5_479, record { exists = exists; count = omega (arith, signed_arith) })
-
 natural : (z : ℤ) → pos 0 ≤ℤ z → (n : ℕ) × (z ≡ pos n)
 natural (pos n) low = (n, refl)
 natural (negsuc n) low = absurd (omega (arith, signed_arith))
@@ -195,14 +194,46 @@ to-date text (days, t) = (t.year, omega (arith, t.to), (t.from, found date-form 
 pub some-date : (text : List ℕ) → Decided ((days : ℕ) × IsDateText text days)
 some-date text = like (some-below (HasWindowYear text) (λ y. both (at-most 1985 y) (year date-form text y)) 2085) (from-date text) (to-date text)
 
+-- dd.mm.yy with the letters yy
+from-yearless : (text : List ℕ) → HasYear (λ y m d. lettered d m) text 2000 → IsYearlessText text
+from-yearless text (m, month, (d, day, (is, exists))) = let number = day-of 2000 m d exists in yearless text m d number.0 is number.1
+
+pub some-yearless : (text : List ℕ) → Decided (IsYearlessText text)
+some-yearless text =
+    like (year (λ y m d. lettered d m) text 2000) (from-yearless text)
+    (λ t. let b = in-bounds t.year t.month t.day t.days t.is_day in
+    (t.month, omega (arith, b.month_to), (t.day, omega (arith, b.day_to), (t.is_text, yearless-in-leap_year text t))))
+
+-- the startdate of a day, and that of a Startdate subfield
+field-of : (text : List ℕ) (days : ℕ) → Decided (IsDateField text days)
+field-of text days =
+    elim (cases_lt days window_days) [
+      | inl lt ↦ let t = date-text days lt in
+          like (same-bytes text t.0) (λ e. subst (λ (k : List ℕ). IsDateField k days) (sym e) t.1) (λ f. one-date_text text t.0 days f t.1)
+      | inr le ↦ inr (λ f. absurd (omega (arith, le, date-in-window text days f)))
+    ]
+
+pub some-startdates : (text : List ℕ) (id : Option ℤ) → Decided ((days : ℕ) × AreStartdates text id days)
+some-startdates text None = some-date text
+some-startdates text (Some (pos n)) =
+    like (field-of text n) (λ f. (n, (refl, f))) (λ (days, (e, f)). let same : days ≡ n = omega (arith, signed_arith, e) in subst (λ (k : ℕ). IsDateField text k) same f)
+some-startdates text (Some (negsuc n)) = inr (λ (days, (e, f)). absurd (omega (arith, signed_arith, e)))
+
+some-form : (text : List ℕ) (id : Option ℤ) → Decided (HasDateForm text id)
+some-form text None = some-date text
+some-form text (Some day) = either (some-date text) (some-yearless text)
+
 -- ---- a start
 
-pub some-start : (date time : List ℕ) → ((start : ℕ) × IsCivil date time start) ⊎ ((fault : StartFault) × IsStartFault date time fault)
-some-start date time =
-    elim (some-date date) [
-      | inl d ↦ elim (some-time time) [
-        | inl t ↦ inl ((d.0 * 86_400 + t.0) * 10 ^ 9, (d.0, t.0, d.1, t.1, refl))
-        | inr never ↦ inr (Time, (d, λ seconds t. never (seconds, t)))
+pub some-start : (date time : List ℕ) (id : Option ℤ) → ((start : ℕ) × IsCivil date time id start) ⊎ ((fault : StartFault) × IsStartFault date time id fault)
+some-start date time id =
+    elim (some-form date id) [
+      | inl form ↦ elim (some-time time) [
+        | inl t ↦ elim (some-startdates date id) [
+          | inl d ↦ inl ((d.0 * 86_400 + t.0) * 10 ^ 9, (d.0, t.0, d.1, t.1, refl))
+          | inr never ↦ inr (Differs, (form, t, λ days d. never (days, d)))
+        ]
+        | inr never ↦ inr (Time, (form, λ seconds t. never (seconds, t)))
       ]
-      | inr never ↦ inr (Date, λ days d. never (days, d))
+      | inr never ↦ inr (Date, never)
     ]

@@ -1,15 +1,15 @@
 -- How long the texts are, and that each byte of them is visible.
-use Rattle.std.proofs.Common.{◌≡◌, ℕ, zero, suc, ◌+◌, ◌%◌, ◌^◌, ◌≤◌, ◌<◌, List, [], ◌∷◌, length, arith, rules, ap, ◌∙◌, ℤ, pos}
+use Rattle.std.proofs.Common.{◌≡◌, ℕ, zero, suc, ◌+◌, ◌%◌, ◌^◌, ◌≤◌, ◌<◌, List, [], ◌∷◌, length, arith, rules, ap, ◌∙◌, ℤ, pos, inl, inr}
 use Rattle.std.specs.List.{AllByRecursion}
 use Rattle.std.specs.Str.Parse.{AllDigits}
 use Rattle.edf_time.specs.Civil.{IsVisible}
-use Rattle.edf_time.specs.Civil.{IsDateText, IsTimeText, IsIdDate, IsInstantText}
+use Rattle.edf_time.specs.Civil.{IsDateField, IsTimeText, IsIdDate, IsInstantText}
 use Rattle.edf_time.specs.Decimal.{fraction_text, fraction_digits}
 use Rattle.edf_time.proofs.Digits.{digit_only}
 use Rattle.edf_time.proofs.Short.{AllDigits-text}
 use Rattle.edf_time.proofs.MonthNames.{AreCapitals, month_name-capitals}
 use Rattle.edf_time.proofs.OneDay.{in-bounds}
-use Rattle.edf_time.proofs.FieldTexts.{dotted}
+use Rattle.edf_time.proofs.FieldTexts.{dotted, lettered}
 use Rattle.edf_time.proofs.IdDates.{id_text, id_text-is}
 use Rattle.edf_time.proofs.InstantTexts.{stamp, AreLow, are-low}
 
@@ -19,13 +19,20 @@ AreVisible text = AllByRecursion IsVisible text
 dotted-visible : (a b c : ℕ) → a < 100 → b < 100 → c < 100 → AreVisible (dotted a b c)
 dotted-visible a b c a-low b-low c-low = search rules
 
-pub date-length : (text : List ℕ) (days : ℕ) → IsDateText text days → length text ≡ 8
-date-length text days t = ap length t.is_text
+lettered-visible : (a b : ℕ) → a < 100 → b < 100 → AreVisible (lettered a b)
+lettered-visible a b a-low b-low = search rules
 
-pub date-visible : (text : List ℕ) (days : ℕ) → IsDateText text days → AreVisible text
-date-visible text days t =
+pub date-length : (text : List ℕ) (days : ℕ) → IsDateField text days → length text ≡ 8
+date-length text days (inl t) = ap length t.is_text
+date-length text days (inr t) = ap length t.is_text
+
+pub date-visible : (text : List ℕ) (days : ℕ) → IsDateField text days → AreVisible text
+date-visible text days (inl t) =
     let bounds = in-bounds t.year t.month t.day (pos days) t.is_day in
     rw (t.is_text) (dotted-visible t.day t.month (t.year % 100) (omega (arith, bounds.day_to)) (omega (arith, bounds.month_to)) (omega arith))
+date-visible text days (inr t) =
+    let bounds = in-bounds t.year t.month t.day (pos days) t.is_day in
+    rw (t.is_text) (lettered-visible t.day t.month (omega (arith, bounds.day_to)) (omega (arith, bounds.month_to)))
 
 pub time-length : (text : List ℕ) (seconds : ℕ) → IsTimeText text seconds → length text ≡ 8
 time-length text seconds t = ap length t.is_text

@@ -1,20 +1,23 @@
 -- Civil days and clock readings, and the texts that name them.
-use Rattle.std.specs.Prelude.{◌≡◌, ℕ, ◌+◌, ◌-◌, ◌*◌, ◌/◌, ◌%◌, ◌^◌, ◌≤◌, List, [], ◌∷◌, ◌++◌, ℤ, pos, ◌+ℤ◌, ◌≤ℤ◌, ◌<ℤ◌, take, drop, codes}
+use Rattle.std.specs.Prelude.{◌≡◌, ◌⊎◌, ℕ, ◌+◌, ◌-◌, ◌*◌, ◌/◌, ◌%◌, ◌^◌, ◌≤◌, List, [], ◌∷◌, ◌++◌, ℤ, pos, ◌+ℤ◌, ◌≤ℤ◌, ◌<ℤ◌, take, drop, codes, Option, Some, None}
 use Rattle.jiff_core.specs.Calendar.{IsCivilDate, days_from_civil}
 use Rattle.edf_time.specs.Decimal.{fraction_text}
 use Rattle.edf_time.specs.declared.civil.StartFault.{StartFault}
-use Rattle.edf_time.specs.declared.civil.StartFault.TheVariants.{Date, Time}
+use Rattle.edf_time.specs.declared.civil.StartFault.TheVariants.{Date, Time, Differs}
 
--- the length of the window, from 1985-01-01 00:00:00 on: in days, and in nanoseconds
+-- the length of the window, from 1985-01-01 00:00:00 up to and without 2185-01-01: in days, and in nanoseconds
 abbrev pub window_days : ℕ
-window_days = 36_525
+window_days = 73_049
 
 abbrev pub window : ℕ
 window = window_days * 86_400 * 10 ^ 9
 
--- the days that a startdate can name by two digits of its year: those of 1985 to 2084, counted from 1985-01-01
-abbrev pub startdate_days : ℕ
-startdate_days = 36_525
+-- the part of it whose years a startdate can name by two digits, 1985 to 2084, up to and without 2085-01-01
+abbrev pub two_digit_days : ℕ
+two_digit_days = 36_525
+
+abbrev pub two_digit_window : ℕ
+two_digit_window = two_digit_days * 86_400 * 10 ^ 9
 
 -- a moment, counted in nanoseconds from 1985-01-01 00:00:00, lies in the window
 pub record IsInWindow (moment : ℤ) : Type 0 where
@@ -59,6 +62,40 @@ pub record IsDateText (text : List ℕ) (days : ℕ) : Type 0 where
   pub to : year ≤ 2084
   pub is_day : IsDay year month day (pos days)
 
+-- dd.mm.yy with the letters yy, of a day and a month that some year has
+pub record IsYearlessText (text : List ℕ) : Type 0 where
+  pub year : ℕ
+  pub month : ℕ
+  pub day : ℕ
+  pub days : ℤ
+  pub is_text : text ≡ two_digits day ++ 46 ∷ two_digits month ++ codes ".yy"
+  pub is_day : IsDay year month day days
+
+-- the same for a day of the years 2085 to 2184
+pub record IsLateDateText (text : List ℕ) (days : ℕ) : Type 0 where
+  pub year : ℕ
+  pub month : ℕ
+  pub day : ℕ
+  pub is_text : text ≡ two_digits day ++ 46 ∷ two_digits month ++ codes ".yy"
+  pub from : 2085 ≤ year
+  pub to : year ≤ 2184
+  pub is_day : IsDay year month day (pos days)
+
+-- the startdate of a day: two digits name its year up to 2084, and the letters yy stand there after that
+abbrev pub IsDateField : List ℕ → ℕ → Type 0
+IsDateField text days = IsDateText text days ⊎ IsLateDateText text days
+
+-- the startdate and the Startdate subfield name this day. The subfield is a date, or none for X; only a date tells the year
+-- of a startdate with the letters yy
+abbrev pub AreStartdates : List ℕ → Option ℤ → ℕ → Type 0
+AreStartdates date None days = IsDateText date days
+AreStartdates date (Some day) days = (day ≡ pos days) × IsDateField date days
+
+-- the startdate has one of its forms: the letters yy only beside a Startdate subfield that is a date
+abbrev pub HasDateForm : List ℕ → Option ℤ → Type 0
+HasDateForm date None = (days : ℕ) × IsDateText date days
+HasDateForm date (Some day) = ((days : ℕ) × IsDateText date days) ⊎ IsYearlessText date
+
 -- hh.mm.ss
 pub record IsTimeText (text : List ℕ) (seconds : ℕ) : Type 0 where
   pub hour : ℕ
@@ -67,15 +104,18 @@ pub record IsTimeText (text : List ℕ) (seconds : ℕ) : Type 0 where
   pub is_text : text ≡ two_digits hour ++ 46 ∷ two_digits minute ++ 46 ∷ two_digits second
   pub is_clock : IsClock hour minute second seconds
 
--- a date and a time name this instant
-abbrev pub IsCivil : List ℕ → List ℕ → ℕ → Type 0
-IsCivil date time nanos =
-    (days : ℕ) × (seconds : ℕ) × IsDateText date days × IsTimeText time seconds × (nanos ≡ (days * 86_400 + seconds) * 10 ^ 9)
+-- a startdate, a starttime and a Startdate subfield name this instant
+abbrev pub IsCivil : List ℕ → List ℕ → Option ℤ → ℕ → Type 0
+IsCivil date time id nanos =
+    (days : ℕ) × (seconds : ℕ) × AreStartdates date id days × IsTimeText time seconds × (nanos ≡ (days * 86_400 + seconds) * 10 ^ 9)
 
--- why a date and a time name no instant: the date is none, else the time is none
-abbrev pub IsStartFault : List ℕ → List ℕ → StartFault → Type 0
-IsStartFault date time Date = (days : ℕ) → ¬ IsDateText date days
-IsStartFault date time Time = ((days : ℕ) × IsDateText date days) × ((seconds : ℕ) → ¬ IsTimeText time seconds)
+-- why they name no instant: the startdate has none of its forms, else the starttime is no time, else the Startdate subfield
+-- is not the startdate's day
+abbrev pub IsStartFault : List ℕ → List ℕ → Option ℤ → StartFault → Type 0
+IsStartFault date time id Date = ¬ HasDateForm date id
+IsStartFault date time id Time = HasDateForm date id × ((seconds : ℕ) → ¬ IsTimeText time seconds)
+IsStartFault date time id Differs =
+    HasDateForm date id × ((seconds : ℕ) × IsTimeText time seconds) × ((days : ℕ) → ¬ AreStartdates date id days)
 
 -- the months of dd-MMM-yyyy
 abbrev pub month_name : ℕ → List ℕ

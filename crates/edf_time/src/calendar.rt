@@ -1,6 +1,6 @@
 //! Days of the calendar by their number from 1985-01-01.
 ghost use Rattle.std.specs.Prelude.{◌≡◌, ℕ, ◌+◌, ◌≤◌, ◌<◌, ℤ, pos, MatchOption};
-ghost use Rattle.edf_time.specs.Civil.{startdate_days, window_days, IsDay};
+ghost use Rattle.edf_time.specs.Civil.{two_digit_days, window_days, IsDay};
 
 use jiff::civil::Date;
 use jiff_core::civil;
@@ -23,15 +23,15 @@ pub(crate) fn day_number(year: u16, month: u8, day: u8) -> Option<i32>
     Some(date.to_plain().days_since_min() as i32 - FIRST_DAY as i32)
 }
 
-/// The same for a year of the window, whose days have numbers from 0 on.
-pub(crate) fn day_in_window(year: u16, month: u8, day: u8) -> Option<u32>
+/// The same for a year that two digits name, whose days have numbers from 0 on.
+pub(crate) fn two_digit_day(year: u16, month: u8, day: u8) -> Option<u32>
     requires from { 1985 ≤ year }
     requires to { year ≤ 2084 }
     requires month { month < 100 }
     requires day { day < 100 }
     ensures { MatchOption result
         ((days : ℤ) → ¬ IsDay year month day days)
-        (λ days. IsDay year month day (pos days) × (days < startdate_days)) }
+        (λ days. IsDay year month day (pos days) × (days < two_digit_days)) }
 {
     let days = day_number(year, month, day)?;
     Some(days as u32)
@@ -50,7 +50,9 @@ pub(crate) fn date_of(days: u32) -> CivilDate
     requires { days < window_days }
     ensures is_day { IsDay result.year result.month result.day (pos days) }
     ensures from { 1985 ≤ result.year }
-    ensures to { result.year ≤ 2084 }
+    ensures to { result.year ≤ 2184 }
+    ensures two_digits { days < two_digit_days → result.year ≤ 2084 }
+    ensures late { two_digit_days ≤ days → 2085 ≤ result.year }
     ensures month_from { 1 ≤ result.month }
     ensures month_to { result.month ≤ 12 }
     ensures day_to { result.day ≤ 31 }

@@ -1,5 +1,5 @@
 ghost use Rattle.std.specs.Prelude.{◌≡◌, ℕ, ◌∷◌, ◌+◌, ◌-◌, ◌*◌, ◌/◌, ◌%◌, ◌^◌, ◌≤◌, ◌<◌, ◌++◌, ℤ, pos, MatchOption, IfOk};
-ghost use Rattle.edf_time.specs.Civil.{day_of, second_of_day, IsClock, IsDateText, IsTimeText, IsIdDate, IsInstantText, two_digits};
+ghost use Rattle.edf_time.specs.Civil.{day_of, second_of_day, IsClock, IsDateField, IsTimeText, IsIdDate, IsInstantText, two_digits};
 ghost use Rattle.edf_time.specs.Decimal.{fraction_text};
 
 use crate::calendar::{date_of, day_number};
@@ -28,12 +28,11 @@ fn clock_at(seconds: u32) -> Clock
     }
 }
 
-/// Three numbers of two digits, with dots between them.
-fn dotted(first: u8, second: u8, third: u8) -> [u8; 8]
+/// Two numbers of two digits and two more characters, with dots between the three.
+fn dotted(first: u8, second: u8, third: [u8; 2]) -> [u8; 8]
     requires first { first < 100 }
     requires second { second < 100 }
-    requires third { third < 100 }
-    ensures { result ≡ two_digits first ++ 46 ∷ two_digits second ++ 46 ∷ two_digits third }
+    ensures { result ≡ two_digits first ++ 46 ∷ two_digits second ++ 46 ∷ third }
 {
     [
         tens(first),
@@ -42,18 +41,24 @@ fn dotted(first: u8, second: u8, third: u8) -> [u8; 8]
         tens(second),
         units(second),
         b'.',
-        tens(third),
-        units(third),
+        third[0],
+        third[1],
     ]
 }
 
 /// The startdate of a header, `dd.mm.yy`: 8 bytes, at 168 to 175 of the file (EDF, header record). The last two digits of the
-/// year stand for 1985 to 2084 (EDF+, the clipping date).
+/// year stand for 1985 to 2084 (EDF+, the clipping date); after 2084 the letters `yy` stand in their place (EDF+, additional
+/// specifications).
 pub fn date_field(instant: Instant) -> [u8; 8]
-    ensures { IsDateText result (day_of instant) }
+    ensures { IsDateField result (day_of instant) }
 {
     let date = date_of(instant.days());
-    dotted(date.day, date.month, (date.year % 100) as u8)
+    let short = (date.year % 100) as u8;
+    if instant.has_two_digit_year() {
+        dotted(date.day, date.month, [tens(short), units(short)])
+    } else {
+        dotted(date.day, date.month, *b"yy")
+    }
 }
 
 /// The starttime of a header, `hh.mm.ss`: 8 bytes, at 176 to 183 of the file (EDF, header record). A fraction of a second is
@@ -62,7 +67,11 @@ pub fn time_field(instant: Instant) -> [u8; 8]
     ensures { IsTimeText result (second_of_day instant) }
 {
     let clock = clock_at(instant.second_of_day());
-    dotted(clock.hour, clock.minute, clock.second)
+    dotted(
+        clock.hour,
+        clock.minute,
+        [tens(clock.second), units(clock.second)],
+    )
 }
 
 /// The day of the instant as the identification fields write one, `dd-MMM-yyyy`: 11 bytes, the months JAN to DEC in capitals

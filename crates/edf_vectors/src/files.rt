@@ -17,9 +17,9 @@ fn evening(time: &'static str, count: &'static str, samples: &'static str) -> He
 }
 
 /// Q's recording in the last second of the window.
-fn last_second(count: &'static str) -> Header<'static> {
-    q().recording("Startdate 31-DEC-2084 N1 T3 REC5")
-        .start("31.12.84", "23.59.59")
+pub(crate) fn last_second(count: &'static str) -> Header<'static> {
+    q().recording("Startdate 31-DEC-2184 N1 T3 REC5")
+        .start("31.12.yy", "23.59.59")
         .count(count)
         .annotations_samples("4")
 }

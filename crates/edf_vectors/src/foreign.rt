@@ -1,6 +1,7 @@
 //! Files that hold what no submissions leave, on a disk.
 
 use crate::disk::lend;
+use crate::late::late;
 use crate::run::{connected, opened, submitted_to};
 use edf_sample::named::{file_p5, file_q};
 use edf_store::Store;
@@ -123,5 +124,43 @@ fn a_recording_above_the_cap_is_foreign(rt: HostRuntime) {
     for (cap, number) in [(1u32, 45u8), (2, 0)] {
         let told = both_under(rt.alloc(), cap);
         assert_eq!(rt; told, Some((number, true)), "{cap}");
+    }
+}
+
+/// The same of a store of files that are named.
+fn named_behind(alloc: Global, names: &str, sql: &str) -> Option<(u8, bool)> {
+    let mut files = Vec::new(alloc);
+    for name in names.split_whitespace() {
+        files.push(late(alloc, name)?).ok()?;
+    }
+    opened_behind(alloc, files.as_slice(), sql, 9)
+}
+
+/// Files of one recording on both sides of the end of 2084, what is done to the store, and the
+/// number of the refusal.
+const LATE: &[(&str, &str, u8)] = &[
+    ("undated_into_2085.edf", "", 0),
+    (
+        "undated_into_2085.edf",
+        "DELETE FROM record WHERE start >= 3155760000000000000",
+        0,
+    ),
+    (
+        "undated_into_2085.edf",
+        "DELETE FROM record WHERE start < 3155760000000000000",
+        45,
+    ),
+    (
+        "end_of_2084.edf first_of_2085.edf",
+        "DELETE FROM record WHERE start < 3155760000000000000",
+        0,
+    ),
+];
+
+#[test]
+fn a_recording_without_a_date_that_begins_after_2084_is_foreign(rt: HostRuntime) {
+    for (names, sql, number) in LATE.iter().copied() {
+        let told = named_behind(rt.alloc(), names, sql);
+        assert_eq!(rt; told, Some((number, true)), "{names} {sql}");
     }
 }

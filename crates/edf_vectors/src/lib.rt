@@ -16,6 +16,7 @@
 //! - `answers`: receipts, refusals and what is held after them, by value.
 //! - `uncounted`, `several_signals`: all this of files that do not count their data records, and of
 //!   files of several annotations signals.
+//! - `late`: all this of files that start after 2084 or go on after it.
 //!
 //! By lists of fragments:
 //!
@@ -71,6 +72,8 @@ mod held;
 mod intake;
 #[cfg(test)]
 mod large;
+#[cfg(test)]
+mod late;
 #[cfg(test)]
 mod lines;
 #[cfg(test)]

@@ -3,6 +3,7 @@
 ghost use Rattle.std.specs.Prelude.{None, map, string_bytes};
 
 use crate::files::{expected, fitting, refused};
+use crate::late::late;
 use crate::several_signals::several;
 use crate::uncounted::uncounted;
 use edf_command::Inputs;
@@ -22,6 +23,9 @@ pub(crate) fn file_named(alloc: Global, name: &str) -> Option<Vec<u8>> {
         return Some(bytes);
     }
     if let Some(bytes) = several(alloc, name) {
+        return Some(bytes);
+    }
+    if let Some(bytes) = late(alloc, name) {
         return Some(bytes);
     }
     expected(alloc, name)

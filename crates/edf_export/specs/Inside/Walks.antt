@@ -4,7 +4,7 @@ use Rattle.std.specs.Io.KnownBytes.{Appends}
 use Rattle.edf_fragment.specs.Failures.{one_more}
 use Rattle.edf_header.specs.Key.{Key, IsKey}
 use Rattle.edf_fragment.specs.Fragment.{DataRecord}
-use Rattle.edf_fragment.specs.Sound.{AreSound}
+use Rattle.edf_fragment.specs.Sound.{AreSound, MayBegin}
 use Rattle.edf_store.specs.Fault.{IsStoreRefusal}
 use Rattle.edf_store.specs.Listed.{start_at}
 use Rattle.edf_export.specs.File.{second_of, block_of, Hold}
@@ -21,10 +21,11 @@ pub record IsLongest (file_start longest : ℕ) (records : List DataRecord) : Ty
   pub holds : All (λ r. length (block_of file_start r) ≤ longest) records
   pub least : (n : ℕ) → All (λ r. length (block_of file_start r) ≤ n) records → longest ≤ n
 
--- the records are sound ones of the key, and at most so many
+-- the records are sound ones of the key with which its recording may begin, and at most so many
 pub record IsSoundRecording (cap : ℕ) (k : Key) (records : List DataRecord) : Type 0 where
   pub key : IsKey k
   pub sound : AreSound k 0 records
+  pub begins : MayBegin k records
   pub few : length records ≤ cap
 
 -- the plan is that of the records' file

@@ -1,11 +1,23 @@
-use Rattle.std.proofs.Common.{◌∙◌, ◌*◌, refl}
+use Rattle.std.proofs.Common.{[], ◌∙◌, ◌*◌, refl, append-nil}
 use Rattle.std.proofs.lemmas.Result.{err_from_is_err_and}
+use Rattle.std.proofs.KnownBytes.{Appends-nil}
 use Rattle.edf_store.specs.Held.{at}
 use Rattle.edf_store.proofs.ReadyLemmas.{stays_then}
 use Rattle.edf_export.specs.File.{second_of}
-use Rattle.edf_export.proofs.WalkLemmas.{clean_before, refusal_told, idle_behind}
+use Rattle.edf_export.proofs.WalkLemmas.{stays_same, clean_before, refusal_told, idle_behind}
 use Rattle.edf_export.proofs.Texts.{fits_here, texts_more, texts_stop, texts_end}
 use Rattle.edf_export.proofs.writing.put_walk.Goals as goal
+
+pub loop-init : goal.loop-init
+loop-init g c = record {
+  going = c.requires.going;
+  ready = c.requires.ready;
+  same_reference = refl;
+  stays = stays_same g.S.Store c.args.walk.now.store.now;
+  moved = λ h k behind. behind;
+  wrote = λ clean h k behind plan. record { front = []; wrote = Appends-nil _; parts = append-nil _ };
+  count_is = refl;
+}
 
 pub returns-in_default-clause-stays : goal.returns-in_default-clause-stays
 returns-in_default-clause-stays g c = stays_then g.S.Store c.args.walk.now.store.now c.loop.walk.store.now c.next.new.self.store.now c.loop.invariant.stays c.next.ensures.stays

@@ -34,6 +34,7 @@ add-requires-clause-room g c =
     c.requires.sound c.requires.running (λ clean. omega (arith, c.in_ok-near.ensures.stays.crash.clean))
     (subst (λ (ns : List DataRecord). IsStep c.args.data_record.now ns New) c.as_slice.ensures.value c.in-New.ensures)
     (λ clean h seen. c.requires.few clean (none_of c.args.tally.clash (sym c.is_some.ensures ∙ c.if-is_some.false)) c.if-tally-recording.true h seen)
+    (λ clean h seen. c.requires.first clean (none_of c.args.tally.clash (sym c.is_some.ensures ∙ c.if-is_some.false)) c.if-tally-recording.true h seen)
 
 pub returns-in_err-add-in-New-clause-stays : goal.returns-in_err-add-in-New-clause-stays
 returns-in_err-add-in-New-clause-stays g c =

@@ -1,6 +1,6 @@
 use Rattle.std.proofs.Common.{◌≡◌, ℕ, ◌<◌, ◌++◌, ◌∷◌, [], length, Option, Some, None, Ok, Err, refl, sym, ap, subst, ◌∙◌, arith, rules}
 use Rattle.sqlite.specs.State.{HasCleanDisk}
-use Rattle.edf_header.specs.Key.{Key}
+use Rattle.edf_header.specs.Key.{Key, MayStart}
 use Rattle.edf_header.specs.Header.{Layout, IsLayout, most_records}
 use Rattle.edf_fragment.specs.Fragment.{DataRecord}
 use Rattle.edf_fragment.specs.Reading.{IsAnswer, CountsFault, at_first}
@@ -15,7 +15,7 @@ use Rattle.edf_store.proofs.ReadyLemmas.{stays_then}
 use Rattle.edf_intake.specs.Inside.Step.{IsNext}
 use Rattle.edf_intake.specs.declared.walk.Tally.{Tally}
 use Rattle.edf_intake.proofs.Walking.{Walking}
-use Rattle.edf_intake.proofs.Steps.{at_begin, few_seen, one_turn, at_end}
+use Rattle.edf_intake.proofs.Steps.{at_begin, few_seen, first_seen, one_turn, at_end}
 use Rattle.edf_intake.proofs.Taking.{no_more}
 use Rattle.edf_intake.proofs.walk.take_records.Goals as goal
 
@@ -52,6 +52,23 @@ take_record-requires-clause-few g c clean none low h seen =
     subst (λ (k : Key). length (h k) < now.cap) (sym same)
     (few_seen g.S.Store c.args.transaction.now.store.now c.args.fragment.now.header c.requires.header.0 (g.R.Input.remaining c.args.input.now) c.requires.header.1 c.args.recording.room c.requires.room
     now (g.R.Input.remaining c.records.input) c.records.fragment.progress c.records.tally inv.walking c.requires.running (λ w. omega (arith, inv.stays.crash.clean)) inv.stays.cap clean none low h seen)
+
+pub take_record-requires-clause-first : goal.take_record-requires-clause-first
+take_record-requires-clause-first g c clean none low h seen =
+    let inv = c.records.invariant in
+    let l = c.args.fragment.now.header in
+    let first = g.R.Input.remaining c.args.input.now in
+    let mid = g.R.Input.remaining c.records.input in
+    let rest = g.R.Input.remaining c.next.new.input in
+    let from = c.records.fragment.progress in
+    let to = c.next.new.self.progress in
+    let r = c.in-Ok-Some.data_record in
+    let same : c.identity-identity.result.now ≡ l.key = c.identity-identity.ensures ∙ ap (λ (x : Layout). x.key) (c.header.ensures ∙ (c.in-Ok-Some.ensures.header ∙ inv.header)) in
+    let answer = subst (λ (o : Option DataRecord). IsAnswer l from to mid rest (Ok o)) c.in-Ok-Some.field-0-is
+    (subst (λ (x : Layout). IsAnswer x from to mid rest (Ok c.in-Ok-Some.field-0)) inv.header c.in-Ok-Some.ensures.answer) in
+    subst (λ (k : Key). h k ≡ [] → MayStart k r.start) (sym same)
+    (first_seen g.S.Store c.args.transaction.now.store.now l c.requires.header.0 first c.requires.header.1 c.args.recording.room c.requires.room
+    c.records.transaction.store.now mid rest from to c.records.tally r inv.walking inv.status answer c.requires.running (λ w. omega (arith, inv.stays.crash.clean)) clean none low h seen)
 
 pub take_record-requires-clause-countable : goal.take_record-requires-clause-countable
 take_record-requires-clause-countable g c =

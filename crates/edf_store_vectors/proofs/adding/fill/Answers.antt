@@ -1,6 +1,7 @@
 use Rattle.std.proofs.Common.{◌≡◌, ℕ, ◌<◌, [], length, arith, rules, sym, ap, subst, ◌∙◌}
 use Rattle.std.proofs.lemmas.List.{nil_from_length}
 use Rattle.sqlite.specs.State.{HasCleanDisk}
+use Rattle.edf_header.specs.Key.{MayStart}
 use Rattle.edf_store.specs.Held.{at, Stays}
 use Rattle.edf_store.specs.Transaction.{SeesOn, IsWholeIn, IsAddedIn, MayTakeIn, AreNearIn, IsCountIn}
 use Rattle.edf_store.proofs.WholeLemmas.{whole_but, still_but, whole_added}
@@ -41,7 +42,8 @@ add-requires-clause-room g c =
       start = kept.start;
       limits = kept.size.annotations;
       notes = kept.notes;
-    }))
+    })
+    (λ none_there. subst (λ n. MayStart k n) c.start-start.ensures.value (c.may_start.ensures.0 c.if-not-may_start.false)))
 
 pub look-requires-clause-whole : goal.look-requires-clause-whole
 look-requires-clause-whole g c =

@@ -27,3 +27,13 @@ pub returns-clause-to : goal.returns-clause-to
 returns-clause-to c =
     let y = years (goal.at.returns-clause-to c).After-from_days_since_min-date in
     omega (arith, signed_arith, year-back _ _ y, y.to)
+
+pub returns-clause-two_digits : goal.returns-clause-two_digits
+returns-clause-two_digits c below =
+    let y = years (goal.at.returns-clause-two_digits c).After-from_days_since_min-date in
+    omega (arith, signed_arith, year-back _ _ y, y.two_digits below)
+
+pub returns-clause-late : goal.returns-clause-late
+returns-clause-late c above =
+    let y = years (goal.at.returns-clause-late c).After-from_days_since_min-date in
+    omega (arith, signed_arith, year-back _ _ y, y.late above)

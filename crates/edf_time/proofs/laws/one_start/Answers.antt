@@ -1,4 +1,4 @@
-use Rattle.edf_time.proofs.FieldTexts.{one-start, no-start_fault, one-start_fault}
+use Rattle.edf_time.proofs.Startdates.{one-start, no-start_fault, one-start_fault}
 use Rattle.edf_time.proofs.SomeReading.{some-start}
 use Rattle.edf_time.proofs.laws.one_start.Goals as goal
 

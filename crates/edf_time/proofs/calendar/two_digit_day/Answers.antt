@@ -1,7 +1,7 @@
 use Rattle.std.proofs.Common.{arith, w32, rules}
 use Rattle.edf_time.proofs.Days.{number-in-window, back-unsigned}
 use Rattle.jiff_core.proofs.SignedLemmas.{signed_arith}
-use Rattle.edf_time.proofs.calendar.day_in_window.Goals as goal
+use Rattle.edf_time.proofs.calendar.two_digit_day.Goals as goal
 
 pub overflow_cast-result : goal.overflow_cast-result
 overflow_cast-result c =
