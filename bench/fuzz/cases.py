@@ -1,7 +1,8 @@
 """Makes files for the fuzz bench: fragments of a few recordings, cut, spelled and ordered at random, some of them broken.
 
-Half of them don't tell how many data records they have (a count of -1), or have several annotations signals, or both. Nothing here
-reads a file or knows the program's answers: what a file deserves is told by bench/lib/model.py.
+Half of them don't tell how many data records they have (a count of -1), or have several annotations signals, or both; four in ten are
+of recordings that start in 2084 or later. Nothing here reads a file or knows the program's answers: what a file deserves is told by
+bench/lib/model.py.
 """
 import random
 from dataclasses import replace
@@ -12,6 +13,8 @@ from edf import ANNOTATIONS_LABEL, FIXED_WIDTHS, SIGNAL_WIDTHS, Header, Signal, 
 SECOND = 10**9
 DAYS = (datetime(1985, 1, 1), datetime(1999, 12, 31, 23, 59, 58), datetime(2000, 2, 28, 23, 59, 59), datetime(2002, 3, 2, 22, 30),
         datetime(2023, 10, 29, 1, 59, 57), datetime(2084, 12, 31, 23, 59, 55))
+LATE_DAYS = (datetime(2085, 1, 1), datetime(2088, 2, 28, 23, 59, 58), datetime(2100, 2, 28, 23, 59, 59),
+             datetime(2184, 12, 31, 22, 59, 55))
 DURATIONS = ("1", "1.0", "0.5", "2", "30", "0.000001", "00001.25")
 
 # Texts that each field of the fixed part may be given, right and wrong ones
@@ -23,9 +26,11 @@ FIXED_TEXTS = (
     ("Startdate 02-MAR-2002 N1 T3 REC5", "Startdate X N1 T3 REC5", "Startdate X  N1  T3  REC5 more", "Startdate 02-MAR-2002 N1 T3",
      " Startdate X N1 T3 REC5", "Startdate  X N1 T3 REC5", "startdate X N1 T3 REC5", "Startdate 2-MAR-2002 N1 T3 REC5", "",
      "Startdate 31-FEB-2002 N1 T3 REC5", "Startdate 03-MAR-2002 N1 T3 REC5", "StartdateX N1 T3 REC5", "Startdate Y N1 T3 REC5",
-     "Startdate X " + "a " * 34, "Startdate 01-JAN-9999 N1 T3 REC5", "Startdate X" + " " * 63 + "a b c"),
+     "Startdate X " + "a " * 34, "Startdate 01-JAN-9999 N1 T3 REC5", "Startdate X" + " " * 63 + "a b c",
+     "Startdate 02-MAR-2102 N1 T3 REC5", "Startdate 29-FEB-2100 N1 T3 REC5", "Startdate 02-MAR-yyyy N1 T3 REC5"),
     ("02.03.02", "31.02.02", "29.02.00", "29.02.01", "01.01.85", "31.12.84", "00.03.02", "02.13.02", "02.00.02", "2.03.02", "02-03-02",
-     "02.03.yy", "02.03. 2", "32.01.02", "31.04.10", "02.03.0a"),
+     "02.03.yy", "02.03. 2", "32.01.02", "31.04.10", "02.03.0a", "02.03.YY", "02.03.Yy", "02.03.y2", "31.02.yy", "29.02.yy",
+     "01.01.yy"),
     ("23.59.50", "24.00.00", "23.60.00", "23.59.60", "00.00.00", "23:59:50", "3.59.50", "23.59.5", "-1.00.00"),
     ("768", "512", "1024", "00000768", "768.0", "+768", "", " 768", "0"),
     ("EDF+C", "EDF+D", "", "EDF+", "EDF+E", "edf+c", " EDF+C", "EDF+C and what follows it, to its whole width", "BDF+C", "EDF+Dx"),
@@ -48,10 +53,16 @@ SIGNAL_TEXTS = (
     ("", "reserved", "\x1f"),
 )
 ONSETS = ("+0", "-0", "+1", "+1.5", "-1.5", "+00001.500", "+0.000000001", "+1.0000000010", "+1.0000000001", "+1.", "+.5", "1", "", "+",
-          "+ 1", "+1e3", "+1 ", "-3155760000", "+3155759999.999999999", "+9223372036.854775807", "+9223372036.854775808",
+          "+ 1", "+1e3", "+1 ", "-3155760000", "+3155759999.999999999", "-6311433600", "+6311433599.999999999", "+5769705609.999999999",
+          "+9223372036.854775807", "+9223372036.854775808",
           "+18446744073.709551616", "+" + "9" * 40, "+" + "0" * 300 + "1", "+1." + "0" * 300, "++1", "+1.5.5", "+1,5")
-SPANS = (None,) * 12 + ("0", "1", "2.50", "0.000000001", "3155759999.999999999", "3155760000", "0.0000000001", "1.0000000000", "", "-1", "+1",
-                        ".5", "1.", "9" * 30, "9223372036.854775808")
+SPANS = (None,) * 12 + ("0", "1", "2.50", "0.000000001", "3155760000", "6311433599.999999999", "6311433600", "0.0000000001",
+                        "1.0000000000", "", "-1", "+1", ".5", "1.", "9" * 30, "9223372036.854775808")
+# Startdates, and Startdate subfields, that are given together to the header of a file
+DATES = ("02.03.02", "02.03.yy", "02.03.YY", "29.02.00", "29.02.yy", "30.02.yy", "01.01.85", "01.01.yy", "31.12.84", "31.12.yy", "28.02.yy")
+SUBFIELDS = ("X", "X", "X", "02-MAR-2002", "02-MAR-2102", "03-MAR-2102", "02-APR-2102", "29-FEB-2000", "29-FEB-2088", "28-FEB-2100",
+             "29-FEB-2100", "01-JAN-1985", "01-JAN-2085", "01-JAN-2185", "31-DEC-2084", "31-DEC-2184", "31-DEC-1984", "02-MAR-2185",
+             "02-MAR-2084")
 TEXTS = (b"", b"a", b"Lights off", "Schädel bewegt".encode(), "\U0001f634".encode(), b"\xff", b"\xc0\x80", b"\xed\xa0\x80",
          b"\xf4\x90\x80\x80", b"\xe2\x82", b"x\x15y", b"line\nline", b"\x01\x7f", b"+1", b" ", b"\xef\xbf\xbf", b"a" * 300)
 
@@ -139,9 +150,10 @@ class Recording:
 
     def __init__(self, rng: random.Random):
         self.rng = rng
-        self.start = rng.choice(DAYS)
-        self.duration = rng.choice(DURATIONS)
         self.dated = rng.random() < 0.7
+        # Without a date no file of a recording that starts after 2084 is accepted: they are few.
+        self.start = rng.choice(DAYS + LATE_DAYS if self.dated or rng.random() < 0.1 else DAYS)
+        self.duration = rng.choice(DURATIONS)
         self.patient = rng.choice(("P7 F 02-MAY-1951 X", "P8 M X X and more", "X X X X"))
         self.following = rng.choice((" N1 T3 REC5", " N1  T3 REC5", " N2 T3 REC5 more"))
         self.signals = [Signal(label=f"EEG {n}", samples=rng.choice(("1", "2", "02", "3"))) for n in range(rng.randint(1, 3))]
@@ -191,7 +203,8 @@ class Recording:
         signals = placed(self.signals, noted_signals(pairs, (0, 0, 1, 20), rng), rng)
         day = begin.strftime("%d-%b-%Y").upper() if self.dated else "X"
         told = "-1" if rng.random() < 0.3 else rng.choice(("{}", "{}", "{:03}")).format(len(pairs))
-        header = Header(signals, begin.strftime("%d.%m.%y"), begin.strftime("%H.%M.%S"), self.patient,
+        year = "%y" if begin.year < 2085 else "yy"
+        header = Header(signals, begin.strftime(f"%d.%m.{year}"), begin.strftime("%H.%M.%S"), self.patient,
                         f"Startdate {day}{self.following}", rng.choice(("EDF+C", "EDF+D", "EDF+D and more")), told, self.duration)
         return header, pairs
 
@@ -210,6 +223,17 @@ def with_field(data: bytes, ns: int, rng: random.Random) -> bytes:
         which = rng.choice((0, 1, 2, 3, 3, 4, 4, 5, 5, 6, 6, 7, 8, 8, 9))
         at, width, text = column(ns, which, rng.randrange(ns)), SIGNAL_WIDTHS[which], rng.choice(SIGNAL_TEXTS[which])
     return data[:at] + text.encode("latin-1").ljust(width)[:width] + data[at + width:]
+
+
+def with_dates(header: Header, rng: random.Random) -> Header:
+    """The header with another startdate and Startdate subfield, which may be those of one day, now and then another starttime, and
+    now and then the startdate of the header alone with digits or letters for its year."""
+    if rng.random() < 0.2:
+        return replace(header, startdate=header.startdate[:6] + rng.choice(("yy", "84", "85", "02", "YY")))
+    startdate, subfield = rng.choice(DATES), rng.choice(SUBFIELDS)
+    _, _, following = header.recording.split(" ", 2)
+    starttime = rng.choice((header.starttime,) * 4 + ("24.00.00", "00.00.00", "23.59.59"))
+    return replace(header, startdate=startdate, starttime=starttime, recording=f"Startdate {subfield} {following}")
 
 
 def odd_list(rng: random.Random) -> bytes:
@@ -246,7 +270,7 @@ def odd_in_two(made: list, rng: random.Random) -> list:
     elif change == 1:       # no time-keeping list in the first block
         made[0], made[second] = rng.choice((b"", made[second], b"+0\x14\0")), made[0]
     elif change == 2:       # a list without annotations, of which only the times can be wrong
-        span = rng.choice((b"", b"\x151", b"\x153155759999.999999999", b"\x153155760000", b"\x159223372036.854775808"))
+        span = rng.choice((b"", b"\x151", b"\x156311433599.999999999", b"\x156311433600", b"\x159223372036.854775808"))
         made[second] += rng.choice(ONSETS).encode() + span + b"\x14\0"
     elif change == 3:
         made[first], made[second] = odd_block(made[first], rng), odd_block(made[second], rng)
@@ -314,6 +338,8 @@ def case(recording: Recording, rng: random.Random) -> bytes:
         rng.shuffle(pairs)
     if 0.24 <= kind < 0.25:
         header, pairs = without_ordinary(header, pairs)
+    if 0.55 <= kind < 0.61 or kind < 0.02:
+        header = with_dates(header, rng)
     data = fragment(header, pairs)
     if rng.random() < (0.3 if header.count == "-1" else 0.03):
         data = with_other_end(data, header, rng)

@@ -18,7 +18,8 @@ sys.set_int_max_str_digits(0)        # an onset may be spelled with a million ze
 
 SECOND = 10**9
 DAY = 86_400 * SECOND
-WINDOW = 36_525 * DAY
+WINDOW = 73_049 * DAY                # 1985 to 2184
+LETTERS = range(36_525, 73_049)      # the days of 2085 to 2184, whose startdates have the letters yy for the year
 EPOCH = date(1985, 1, 1).toordinal()
 ANNOTATIONS = b"EDF Annotations "
 UNKNOWN = b"-1      "                # the number of data records of a file that doesn't tell it
@@ -125,6 +126,20 @@ def start_date(text: bytes):
     return day_of(year + (1900 if year >= 85 else 2000), int(found[2]), int(found[1]))
 
 
+def is_yearless(text: bytes) -> bool:
+    """Whether the text is a day and a month of some year, with the letters yy for the year."""
+    found = re.match(rb"([0-9]{2})\.([0-9]{2})\.yy\Z", text)
+    return bool(found) and day_of(2096, int(found[2]), int(found[1])) is not None       # a leap year
+
+
+def late_date(text: bytes, day: int):
+    """The day that a startdate with the letters yy names beside this day in the Startdate subfield; None where it is not that one."""
+    if day not in LETTERS:
+        return None
+    named = date.fromordinal(EPOCH + day)
+    return day if text[:6] == b"%02d.%02d." % (named.day, named.month) else None
+
+
 def start_time(text: bytes):
     found = re.match(rb"([0-9]{2})\.([0-9]{2})\.([0-9]{2})\Z", text)
     if not found:
@@ -205,13 +220,16 @@ class Layout:
         if found is None:
             raise Refused("E5 Recording")
         day, self.dated, self.following = found
-        startday = start_date(data[168:176])
-        if startday is None:
+        text = data[168:176]
+        startday = start_date(text)
+        if startday is None and (day is None or not is_yearless(text)):
             raise Refused("E6 Startdate")
         time = start_time(data[176:184])
         if time is None:
             raise Refused("E7 Starttime")
-        if day is not None and day != startday:
+        if startday is None:
+            startday = late_date(text, day)
+        if startday is None or (day is not None and day != startday):
             raise Refused("E8 DatesDiffer")
         self.start = startday * DAY + time * SECOND
 
@@ -374,12 +392,13 @@ def canonical(key: Key, records: list) -> bytes:
     base = records[0].start // SECOND * SECOND
     day, hour, minute, second, _ = civil(base)
     dated = b"%02d-%s-%04d" % (day.day, MONTHS[day.month - 1], day.year) if key.dated == b"D" else b"X"
+    year = b"yy" if base // DAY in LETTERS else b"%02d" % (day.year % 100)
     blocks = [written_block(record, base) for record in records]
     samples = (max(len(block) for block in blocks) + 1) // 2
     notes = (ANNOTATIONS, b"", b"", b"-1", b"1", b"-32768", b"32767", b"", b"%d" % samples, b"")
     ns = len(key.rows) + 1
     fixed = b"".join((b"0       ", key.patient, (b"Startdate " + dated + key.following)[:80],
-                      b"%02d.%02d.%02d" % (day.day, day.month, day.year % 100), b"%02d.%02d.%02d" % (hour, minute, second),
+                      b"%02d.%02d.%s" % (day.day, day.month, year), b"%02d.%02d.%02d" % (hour, minute, second),
                       b"%-8d" % (256 + 256 * ns), b"EDF+D".ljust(44), b"%-8d" % len(records), key.duration_text, b"%-4d" % ns))
     part, at = [], 0
     for width, text in zip(WIDTHS, notes):

@@ -169,6 +169,30 @@ def five_files_make_one_night(checks: Checks) -> None:
     checks.run("convert", "U", out=canonical_u())
 
 
+def late(startdate: str, subfield: str, starttime: str = "23.59.50") -> bytes:
+    """Q's data record from another start, with this Startdate subfield."""
+    header = edf.Header((edf.Signal(), edf.annotations_signal(3)), startdate, starttime, recording=f"Startdate {subfield} N1 T3 REC5")
+    return edf.fragment(header, [(Q[768:772], edf.keeping("+0"))])
+
+
+def letters_are_the_year_of_a_startdate_after_2084(checks: Checks) -> None:
+    checks.begin("the letters yy are the year of a startdate after 2084")
+    march, end, begin = late("02.03.yy", "02-MAR-2102"), late("31.12.84", "31-DEC-2084"), late("01.01.yy", "01-JAN-2085", "00.00.05")
+    checks.run(given=march, out=march)
+    for data, text in ((late("02.03.yy", "X"), "E6 Startdate"), (late("02.03.YY", "02-MAR-2102"), "E6 Startdate"),
+                       (late("02.03.yy", "02-MAR-2102", "24.00.00"), "E7 Starttime"), (late("02.03.yy", "03-MAR-2102"), "E8 DatesDiffer"),
+                       (late("02.03.yy", "02-MAR-2185"), "E8 DatesDiffer"), (late("02.03.02", "02-MAR-2102"), "E8 DatesDiffer")):
+        checks.run(given=data, err=f"- refused {text}\n", status=1)
+    for name, data in (("march", march), ("end", end), ("begin", begin)):
+        checks.file(name, data)
+    checks.run("take", "night.db", "march", "begin", out="march accepted new=1 known=0\nbegin accepted new=1 known=0\n")
+    checks.run("list", "night.db", out="1 records=2 first=2085-01-01T00:00:05 patient=P7 investigation=N1\n")
+    checks.run("take", "other.db", "begin", "end", out="begin accepted new=1 known=0\nend accepted new=1 known=0\n")
+    checks.run("list", "other.db", out="1 records=2 first=2084-12-31T23:59:50 patient=P7 investigation=N1\n")
+    header = edf.Header((edf.Signal(), edf.annotations_signal(3)), "31.12.84", recording="Startdate 31-DEC-2084 N1 T3 REC5", count="2")
+    checks.run("export", "other.db", "1", out=edf.fragment(header, [(Q[768:772], edf.keeping("+0")), (Q[768:772], edf.keeping("+15"))]))
+
+
 def version() -> str:
     """The version, which one place of the repository has."""
     text = (Path(__file__).resolve().parents[2] / "crates/edf_order/src/help.rt").read_text()
@@ -195,7 +219,7 @@ def main() -> None:
                      an_overlap_is_told_with_both_starts, a_withheld_date_is_another_recording,
                      a_missing_file_is_trouble_and_the_next_is_taken, a_refused_conversion_writes_nothing, a_file_cut_anywhere,
                      a_file_of_unknown_count_cut_anywhere, annotations_of_several_signals_are_one_list, five_files_make_one_night,
-                     words_that_ask_for_nothing):
+                     letters_are_the_year_of_a_startdate_after_2084, words_that_ask_for_nothing):
             case(checks)
     checks.end()
 

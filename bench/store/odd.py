@@ -39,6 +39,11 @@ FOREIGN = (
     "INSERT INTO record SELECT recording, 541727990500000000, samples, x'2B3534313732373939302E35141400' FROM record",
 )
 
+# Two data records of a recording without a date, on both sides of the end of 2084
+OVER_2084 = edf.fragment(edf.Header((edf.Signal(), edf.annotations_signal(3)), "31.12.84", "23.59.59",
+                                    recording="Startdate X N1 T3 REC5", count="2"),
+                         [(b"\1\0\2\0", edf.keeping("+0")), (b"\3\0\4\0", edf.keeping("+1"))])
+
 # How another program may have made our two tables, and what is answered then
 MADE = (
     ("our tables", TABLES, ""),
@@ -73,10 +78,10 @@ class Odd:
         for path in self.folder.iterdir():
             shutil.rmtree(path) if path.is_dir() else path.unlink()
 
-    def held(self) -> Path:
-        """A store that holds one record."""
+    def held(self, data: bytes = b"") -> Path:
+        """A store that holds this file, or one record."""
         self.clean()
-        (self.folder / "a.edf").write_bytes(edf.small_files()["Q"])
+        (self.folder / "a.edf").write_bytes(data or edf.small_files()["Q"])
         subprocess.run([self.program, "take", self.store, self.folder / "a.edf"], check=True, stdout=subprocess.DEVNULL)
         return self.store
 
@@ -140,6 +145,10 @@ def foreign(odd: Odd) -> None:
     for statement in FOREIGN:
         changed(odd.held(), statement)
         odd.check(statement, "E45")
+    odd.held(OVER_2084)
+    odd.check("a recording without a date that goes on after 2084", "")
+    changed(odd.held(OVER_2084), "DELETE FROM record WHERE start < 3155760000000000000")
+    odd.check("a recording without a date that begins after 2084", "E45")
 
 
 def many_rows(odd: Odd) -> None:
