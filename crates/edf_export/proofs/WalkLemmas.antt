@@ -83,7 +83,7 @@ pub clean_before : {S : Type 0} (g : Ghosts S) (old new : Kept S) → Stays g ol
 clean_before g old new s clean = omega (arith, s.crash.clean, clean)
 
 -- what a walk stands in is sound
-pub sound_recording : (cap : ℕ) (s : State) (recording : Option ℤ) (after : ℤ) (h : Holdings) (k : Key) (n : ℕ) → StandsBehind cap s recording after h k n
+pub sound_recording : (cap : ℕ) (s : State) (recording : Option ℤ) (after : _) (h : Holdings) (k : Key) (n : ℕ) → StandsBehind cap s recording after h k n
     → IsSoundRecording cap k (h k)
 sound_recording cap s recording after h k n it =
     let sound : IsSound cap h = it.kept.sound in

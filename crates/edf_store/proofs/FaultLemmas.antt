@@ -23,3 +23,7 @@ caused_by (Err e) (inr m) = λ f. absurd (let c : Foreign ≡ Store None = sym m
 pub on_ok : {A E P : Type 0} (r : Result A E) → P → OnOk r P
 on_ok (Ok x) p = p
 on_ok (Err e) p = tt
+
+pub foreign_is : {A : Type 0} (r : Result A StoreFault) (P : StoreFault → Type 0) → P Foreign → IfErr r (λ e. e ≡ Foreign) → IfErr r P
+foreign_is (Ok x) P p told = tt
+foreign_is (Err e) P p told = subst P (sym told) p

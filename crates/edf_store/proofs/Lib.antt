@@ -5,6 +5,7 @@ pub mod HeldLemmas
 pub mod KeyLemmas
 pub mod KeysReadLemmas
 pub mod NearLemmas
+pub mod NextLemmas
 pub mod OpenLemmas
 pub mod ReadyLemmas
 pub mod RowLemmas

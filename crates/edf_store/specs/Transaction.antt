@@ -1,5 +1,5 @@
 -- What a transaction sees.
-use Rattle.std.specs.Prelude.{◌≡◌, ◌≢◌, ◌⊎◌, ℕ, ℤ, Bool, ◌+◌, ◌<◌, nat_le, List, [], ◌∷◌, length, IsTrue}
+use Rattle.std.specs.Prelude.{◌≡◌, ◌≢◌, ◌⊎◌, ℕ, ℤ, Bool, ◌+◌, ◌<◌, ◌≤◌, nat_le, List, [], ◌∷◌, length, map, All, Contains, Option, Some, None, IsTrue}
 use Rattle.sqlite_trees.specs.declared.store.Store.{Ghosts}
 use Rattle.sqlite_trees.specs.Tree.{Trees}
 use Rattle.sqlite.specs.State.{State, HasCleanDisk}
@@ -48,6 +48,14 @@ MakesOnly made old new = HasCleanDisk new → (id : ℤ) (k : Key) → IsThere n
 -- these are the records of the recording that lie near the start
 abbrev pub AreNearIn : ℕ → State → ℤ → ℕ → List DataRecord → Type 0
 AreNearIn cap s id start records = (h : Holdings) (k : Key) → AreSeen cap s h → IsUnder s id k → records ≡ near_of (duration_of k.duration) start (h k)
+
+-- the first start that is `from` or later, of those of the records; or none is
+abbrev pub IsNextStart : ℕ → List DataRecord → Option ℕ → Type 0
+IsNextStart from records None = All (λ r. r.start < from) records
+IsNextStart from records (Some start) = (from ≤ start) × Contains (map (λ r. r.start) records) start × All (λ r. r.start < from ⊎ start ≤ r.start) records
+
+abbrev pub IsNextStartIn : ℕ → State → ℤ → ℕ → Option ℕ → Type 0
+IsNextStartIn cap s id from answer = (h : Holdings) (k : Key) → AreSeen cap s h → IsUnder s id k → IsNextStart from (h k) answer
 
 -- the recording has so many
 abbrev pub IsCountIn : ℕ → State → ℤ → ℕ → Type 0
@@ -109,6 +117,9 @@ module _ {S : Type 0} (g : Ghosts S) where
 
   abbrev pub AreNear : Kept S → ℤ → ℕ → List DataRecord → Type 0
   AreNear store = AreNearIn store.cap (at g store)
+
+  abbrev pub IsNextStartOf : Kept S → ℤ → ℕ → Option ℕ → Type 0
+  IsNextStartOf store = IsNextStartIn store.cap (at g store)
 
   abbrev pub IsCountOf : Kept S → ℤ → ℕ → Type 0
   IsCountOf store = IsCountIn store.cap (at g store)

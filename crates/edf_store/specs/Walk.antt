@@ -1,19 +1,22 @@
 -- How far a walk over the records of a recording has come.
-use Rattle.std.specs.Prelude.{◌≡◌, ℕ, ◌+◌, ◌≤◌, ℤ, pos, Bool, false, List, length, drop, filter, slice_get, Option, Some, None, IsTrue, MatchOption}
+use Rattle.std.specs.Prelude.{◌≡◌, ℕ, ◌+◌, ◌≤◌, ℤ, pos, Bool, false, List, length, map, take, drop, filter, slice_get, Option, Some, None, IsTrue, MatchOption}
 use Rattle.std.specs.Ordering.{int_cmp, is_gt}
 use Rattle.sqlite.specs.State.{State, HasCleanDisk}
 use Rattle.edf_header.specs.Key.{Key, IsKey}
 use Rattle.edf_fragment.specs.Fragment.{DataRecord}
 use Rattle.edf_holdings.specs.Holdings.{Holdings}
 use Rattle.edf_tables.specs.Schema.{both_schema}
+use Rattle.edf_tables.specs.Cells.{cells_of}
+use Rattle.edf_rows.specs.Cells.{record_cells}
 use Rattle.edf_rows.specs.Rows.{IsThere, AreKept}
+use Rattle.edf_store.specs.declared.progress.Progress.{Progress}
 
 abbrev pub starts_behind : ℤ → DataRecord → Bool
 starts_behind after r = is_gt (int_cmp (pos r.start) after)
 
 -- no transaction is open, and the recording is the key's in these holdings; of its records those behind `after` are all but the
--- first n. Without a recording all its records are given
-pub record StandsBehind (cap : ℕ) (s : State) (recording : Option ℤ) (after : ℤ) (h : Holdings) (k : Key) (n : ℕ) : Type 0 where
+-- first n, and the rows that were read ahead show the records that come next. Without a recording all its records are given
+pub record StandsBehind (cap : ℕ) (s : State) (recording : Option ℤ) (after : Progress) (h : Holdings) (k : Key) (n : ℕ) : Type 0 where
   pub is_open : IsTrue s.is_open
   pub idle : s.in_transaction ≡ false
   pub settled : s.now ≡ s.committed
@@ -22,13 +25,15 @@ pub record StandsBehind (cap : ℕ) (s : State) (recording : Option ℤ) (after 
   pub key : IsKey k
   pub found : MatchOption recording (n ≡ length (h k)) (λ id. IsThere s.now.trees id k)
   pub within : n ≤ length (h k)
-  pub behind : filter (starts_behind after) (h k) ≡ drop n (h k)
+  pub some : 1 ≤ after.limit
+  pub behind : filter (starts_behind after.start) (h k) ≡ drop n (h k)
+  pub ahead : map cells_of after.rows.items ≡ map record_cells (take (length after.rows.items) (drop n (h k)))
 
-abbrev pub IsBehind : ℕ → State → Option ℤ → ℤ → Holdings → Key → ℕ → Type 0
+abbrev pub IsBehind : ℕ → State → Option ℤ → Progress → Holdings → Key → ℕ → Type 0
 IsBehind cap s recording after h k n = HasCleanDisk s → StandsBehind cap s recording after h k n
 
 -- the walk stands behind the first records of some list that is held
-abbrev pub StandsSomewhere : ℕ → State → Option ℤ → ℤ → Type 0
+abbrev pub StandsSomewhere : ℕ → State → Option ℤ → Progress → Type 0
 StandsSomewhere cap s recording after = HasCleanDisk s → (h : Holdings) × (k : Key) × (n : ℕ) × StandsBehind cap s recording after h k n
 
 -- the answer of one step: the record at this place of the list, or that there is no more

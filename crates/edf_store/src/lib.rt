@@ -14,6 +14,7 @@ mod ending;
 mod fault;
 pub mod laws;
 mod listing;
+mod progress;
 mod reading;
 mod ready;
 mod records;

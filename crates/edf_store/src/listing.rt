@@ -158,7 +158,7 @@ fn summary_from(count: u64, first: Option<i64>, last: Option<i64>) -> Result<Sum
 }
 
 /// The instant of a cell, if it is one.
-fn instant_in(cell: Option<i64>) -> Option<Instant>
+pub(crate) fn instant_in(cell: Option<i64>) -> Option<Instant>
     ensures { MatchOption result ((n : ℕ) → n < window → cell ≢ Some (pos n)) (λ i. cell ≡ Some (pos i)) }
 {
     match cell {

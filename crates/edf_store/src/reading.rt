@@ -1,16 +1,19 @@
 //! What a transaction reads of a recording.
 
-ghost use Rattle.std.specs.Prelude.{◌≡◌, ◌≢◌, ◌*◌, ◌<◌, ◌≤◌, ℤ, ◌-ℤ◌, unsigned_abs, Some, None, length, IsTrue, IfOk, IfErr};
+ghost use Rattle.std.specs.Prelude.{◌≡◌, ◌≢◌, ◌*◌, ◌<◌, ◌≤◌, ℕ, ℤ, pos, ◌-ℤ◌, unsigned_abs, Some, None, length, IsTrue, IfOk, IfErr};
+ghost use Rattle.std.specs.Option.{option_map};
 ghost use Rattle.sqlite.specs.State.{HasCleanDisk};
+ghost use Rattle.edf_time.specs.Civil.{window};
 ghost use Rattle.edf_field.specs.Number.{duration_of};
 ghost use Rattle.edf_header.specs.Key.{Key};
 ghost use Rattle.edf_holdings.specs.Holdings.{Holdings};
 ghost use Rattle.edf_store.specs.Fault.{IsStoreRefusal};
 ghost use Rattle.edf_store.specs.Held.{at, Stays};
-ghost use Rattle.edf_store.specs.Transaction.{Sees, IsRunning, IsOf, SeesAsBefore, HasNoMore, AreNear, IsCountOf, TellsRoom};
+ghost use Rattle.edf_store.specs.Transaction.{Sees, IsRunning, IsOf, SeesAsBefore, HasNoMore, AreNear, IsNextStartOf, IsCountOf, TellsRoom};
 
 use crate::decode::records_in;
 use crate::fault::StoreFault;
+use crate::listing::instant_in;
 use crate::store::Store;
 use edf_fragment::Record;
 use edf_tables::{count_rows, first_start, last_start, near_rows};
@@ -38,6 +41,41 @@ pub(crate) fn records_near<S: Alter>(
     let length = duration as i64;
     let rows = near_rows(&mut store.conn, id, begin - length, begin + length)?;
     records_in(store.alloc, rows)
+}
+
+/// The first start of a recording's data records that is `from` or later.
+pub(crate) fn next_start<S: Alter>(
+    store: &mut Store<S>,
+    id: i64,
+    from: Instant,
+) -> Result<Option<Instant>, StoreFault>
+    requires running { IsRunning S.Store store.old }
+    requires recording { (k : Key) × IsOf S.Store store.old id k }
+    ensures stays { Stays S.Store store.old store.new }
+    ensures next { HasCleanDisk (at S.Store store.new) → IfOk result (IsNextStartOf S.Store store.old id from) }
+    ensures same { IfOk result (λ _. SeesAsBefore S.Store store.old store.new) }
+    ensures only { IfOk result (λ _. HasNoMore S.Store store.old store.new) }
+    ensures told { HasCleanDisk (at S.Store store.new) → IfErr result IsStoreRefusal }
+    ensures unfailed { IfErr result (λ e. e ≢ StoreFault.Failed) }
+    ensures caused { IfErr result (λ e. e ≢ StoreFault.Store None) }
+{
+    let next = edf_tables::next_start(&mut store.conn, id, from.nanos() as i64)?;
+    start_in(next)
+}
+
+/// The start that the tables gave, if they gave one.
+fn start_in(next: Option<i64>) -> Result<Option<Instant>, StoreFault>
+    ensures read { IfOk result (λ start. next ≡ option_map pos start) }
+    ensures told { IfErr result (λ e. e ≡ StoreFault.Foreign) }
+    ensures own { IfErr result (λ _. (next ≢ None) × ((n : ℕ) → n < window → next ≢ Some (pos n))) }
+{
+    let Some(nanos) = next else {
+        return Ok(None);
+    };
+    match instant_in(Some(nanos)) {
+        Some(start) => Ok(Some(start)),
+        None => Err(StoreFault::Foreign),
+    }
 }
 
 #[tactic(auto, using(crate::proofs::StepLemmas::none_made))]

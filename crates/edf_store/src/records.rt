@@ -1,6 +1,6 @@
 //! The data records of one recording, one at a time.
 
-ghost use Rattle.std.specs.Prelude.{◌≡◌, ◌≢◌, ℕ, false, true, None, Ok, Err, IsTrue, IfOk, IfErr, ◌+◌, Some, pos, MatchOption};
+ghost use Rattle.std.specs.Prelude.{◌≡◌, ◌≢◌, ℕ, false, true, None, Ok, Err, IsTrue, OnOk, IfOk, IfErr, ◌+◌, Some, [], length, MatchOption};
 ghost use Rattle.std.specs.Borrow.{sem, RestsIfErr};
 ghost use Rattle.sqlite.specs.State.{HasCleanDisk};
 ghost use Rattle.edf_header.specs.Key.{Key};
@@ -10,6 +10,7 @@ ghost use Rattle.edf_store.specs.Walk.{IsBehind, StandsSomewhere, IsStep, moved}
 
 use crate::decode::record_in;
 use crate::fault::StoreFault;
+use crate::progress::{Progress, progress_at_first};
 use crate::ready::{find, ready};
 use crate::store::Store;
 use edf_fragment::Record;
@@ -17,43 +18,78 @@ use edf_header::Identity;
 use edf_rows::start_of;
 use edf_tables::page_rows;
 use sqlite::Alter;
+use std::collections::VecDeque;
 
-/// The first data record of a recording that starts behind `after`.
+/// Reads the next page of rows where none is left that was read ahead.
+fn read_ahead<S: Alter>(
+    store: &mut Store<S>,
+    recording: i64,
+    after: &mut Progress,
+) -> Result<(), StoreFault>
+    requires ready { StandsSomewhere store.old.cap (at S.Store store.old) (Some recording) after.old }
+    ensures stays { Stays S.Store store.old store.new }
+    ensures own { IfErr result (λ e. e ≢ StoreFault.Foreign) }
+    ensures unfailed { IfErr result (λ e. e ≢ StoreFault.Failed) }
+    ensures caused { IfErr result (λ e. e ≢ StoreFault.Store None) }
+    ensures ahead { OnOk result ((h : Holdings) (k : Key) (n : ℕ) →
+        IsBehind store.old.cap (at S.Store store.old) (Some recording) after.old h k n →
+        IsBehind store.new.cap (at S.Store store.new) (Some recording) after.new h k n) }
+    ensures last { HasCleanDisk (at S.Store store.new) → OnOk result ((h : Holdings) (k : Key) (n : ℕ) →
+        IsBehind store.old.cap (at S.Store store.old) (Some recording) after.old h k n →
+        after.new.rows.items ≡ [] → n ≡ length (h k)) }
+{
+    if !after.rows.is_empty() {
+        return Ok(());
+    }
+    let rows = page_rows(&mut store.conn, recording, after.start, after.limit)?;
+    after.rows = VecDeque::from_vec(rows);
+    Ok(())
+}
+
+/// The next data record of a recording, behind those that the walk gave.
 pub(crate) fn next_record<S: Alter>(
     store: &mut Store<S>,
     recording: i64,
-    after: i64,
+    after: &mut Progress,
 ) -> Result<Option<Record>, StoreFault>
-    requires ready { StandsSomewhere store.old.cap (at S.Store store.old) (Some recording) after }
+    requires ready { StandsSomewhere store.old.cap (at S.Store store.old) (Some recording) after.old }
     ensures stays { Stays S.Store store.old store.new }
     ensures own { HasCleanDisk (at S.Store store.new) → IfErr result (λ e. e ≢ StoreFault.Foreign) }
     ensures unfailed { IfErr result (λ e. e ≢ StoreFault.Failed) }
     ensures caused { IfErr result (λ e. e ≢ StoreFault.Store None) }
-    ensures step { HasCleanDisk (at S.Store store.new) → IfOk result (λ o. (h : Holdings) (k : Key) (n : ℕ) → IsBehind store.old.cap (at S.Store store.old) (Some recording) after h k n → IsStep (h k) n o) }
-    ensures moved { IfOk result (λ o. (h : Holdings) (k : Key) (n : ℕ) → IsBehind store.old.cap (at S.Store store.old) (Some recording) after h k n →
-        MatchOption o (IsBehind store.new.cap (at S.Store store.new) None after h k n)
-        (λ r. IsBehind store.new.cap (at S.Store store.new) (Some recording) (pos r.start) h k (n + 1))) }
+    ensures step { HasCleanDisk (at S.Store store.new) → IfOk result (λ o. (h : Holdings) (k : Key) (n : ℕ) →
+        IsBehind store.old.cap (at S.Store store.old) (Some recording) after.old h k n → IsStep (h k) n o) }
+    ensures moved { IfOk result (λ o. (h : Holdings) (k : Key) (n : ℕ) →
+        IsBehind store.old.cap (at S.Store store.old) (Some recording) after.old h k n →
+        MatchOption o (IsBehind store.new.cap (at S.Store store.new) None after.new h k n)
+        (λ _. IsBehind store.new.cap (at S.Store store.new) (Some recording) after.new h k (n + 1))) }
 {
-    let mut rows = page_rows(&mut store.conn, recording, after, 1)?;
-    let Some(row) = rows.pop() else {
+    read_ahead(store, recording, after)?;
+    let Some(row) = after.rows.pop_front() else {
         return Ok(None);
     };
     let data_record = record_in(store.alloc, row)?;
+    after.start = start_of(data_record.start());
     Ok(Some(data_record))
 }
 
 /// A walk over the data records of one recording, by their starts. It may be dropped at any of them, and the store is then as
 /// the walk left it.
 ///
-/// One data record is in memory at a time.
-pub struct Records<'store, S: Alter> {
+/// It reads ahead, by pages of rows. Beside the data record that it gave last, it has at most 64
+/// rows in memory, with at most 256 KiB of samples, or one row where a data record has more; and
+/// the annotations of these rows.
+///
+/// `P` is always `Progress`. It is a parameter since what owns memory would else keep callers from
+/// knowing that the store ends as the walk left it.
+pub struct Records<'store, S: Alter, P: Drop = Progress> {
     pub(crate) store: &'store mut Store<S>,
     pub(crate) recording: Option<i64>,
-    pub(crate) after: i64,
+    pub(crate) after: P,
     pub(crate) failed: bool,
 }
 
-impl<S: Alter> Drop for Records<'_, S> {
+impl<S: Alter, P: Drop> Drop for Records<'_, S, P> {
     fn drop(self)
         ensures { self.exit.0.now ≡ self.entry.store.now }
     {
@@ -86,10 +122,11 @@ impl<S: Alter> Store<S> {
     {
         ready(self)?;
         let recording = find(self, identity)?;
+        let after = progress_at_first(self.alloc, identity);
         Ok(Records {
             store: self,
             recording,
-            after: -1,
+            after,
             failed: false,
         })
     }
@@ -122,11 +159,8 @@ impl<S: Alter> Records<'_, S> {
         let Some(recording) = self.recording else {
             return Ok(None);
         };
-        match next_record(self.store, recording, self.after) {
-            Ok(Some(data_record)) => {
-                self.after = start_of(data_record.start());
-                Ok(Some(data_record))
-            }
+        match next_record(self.store, recording, &mut self.after) {
+            Ok(Some(data_record)) => Ok(Some(data_record)),
             Ok(None) => {
                 self.recording = None;
                 Ok(None)

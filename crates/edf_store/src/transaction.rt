@@ -7,7 +7,7 @@ ghost use Rattle.edf_header.specs.Key.{Key};
 ghost use Rattle.edf_holdings.specs.Holdings.{Holdings};
 ghost use Rattle.edf_store.specs.Fault.{IsStoreRefusal};
 ghost use Rattle.edf_store.specs.Held.{at, Holds, Stays};
-ghost use Rattle.edf_store.specs.Transaction.{Sees, IsRunning, IsOf, SeesAsBefore, HasNoMore, HasAtMost, AreNear, IsCountOf, TellsRoom, MayTake, IsAdded, IsWhole, IsSeen};
+ghost use Rattle.edf_store.specs.Transaction.{Sees, IsRunning, IsOf, SeesAsBefore, HasNoMore, HasAtMost, AreNear, IsNextStartOf, IsCountOf, TellsRoom, MayTake, IsAdded, IsWhole, IsSeen};
 
 use crate::adding::{add_record, find_or_make};
 use crate::ending::{commit_all, undo};
@@ -89,6 +89,39 @@ impl<S: Alter> StoreTx<'_, S> {
     {
         match records_near(self.store, id.row, start, duration) {
             Ok(records) => Ok(records),
+            Err(fault) => {
+                self.refused = true;
+                Err(fault)
+            }
+        }
+    }
+
+    /// The first start of a recording's data records that is `from` or later; `None` where none is. It reads no data record.
+    ///
+    /// # Errors
+    /// `Memory` (E41), `Store` (E42), or `Foreign` (E45) where the disk returned what was not written, and the transaction is
+    /// to be given up.
+    pub fn next_start(
+        &mut self,
+        id: RecordingId,
+        from: Instant,
+    ) -> Result<Option<Instant>, StoreFault>
+        requires spared { self.old.refused ≡ false }
+        requires running { IsRunning S.Store self.old.store.now }
+        requires recording { (k : Key) × IsOf S.Store self.old.store.now id.row k }
+        ensures same_reference { self.new.store.ghost_name ≡ self.old.store.ghost_name }
+        ensures stays { Stays S.Store self.old.store.now self.new.store.now }
+        ensures refused { IfErr result (λ _. self.new.refused ≡ true) }
+        ensures spared { IfOk result (λ _. self.new.refused ≡ false) }
+        ensures next { HasCleanDisk (at S.Store self.new.store.now) → IfOk result (IsNextStartOf S.Store self.old.store.now id.row from) }
+        ensures same { IfOk result (λ _. SeesAsBefore S.Store self.old.store.now self.new.store.now) }
+        ensures only { IfOk result (λ _. HasNoMore S.Store self.old.store.now self.new.store.now) }
+        ensures told { HasCleanDisk (at S.Store self.new.store.now) → IfErr result IsStoreRefusal }
+        ensures unfailed { IfErr result (λ e. e ≢ StoreFault.Failed) }
+        ensures caused { IfErr result (λ e. e ≢ StoreFault.Store None) }
+    {
+        match reading::next_start(self.store, id.row, from) {
+            Ok(start) => Ok(start),
             Err(fault) => {
                 self.refused = true;
                 Err(fault)

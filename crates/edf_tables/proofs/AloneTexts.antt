@@ -5,8 +5,8 @@ use Rattle.sqlite_tied.specs.Compute.{everything}
 use Rattle.sqlite.specs.Term.{lit, col}
 use Rattle.sqlite.specs.Listing.{understood}
 use Rattle.edf_tables.specs.Schema.{both_schema}
-use Rattle.edf_tables.proofs.Queries.{plain_query, ordered_query, paged_query, last_query, of_recording, start_samples_block, near_terms, after_terms, count_query, identity_terms}
-use Rattle.edf_tables.proofs.QueryTexts.{near_text, page_text, walk_text, count_text, first_text, last_text, id_text, identities_text, recordings_text, count_all_text}
+use Rattle.edf_tables.proofs.Queries.{plain_query, ordered_query, paged_query, last_query, of_recording, start_samples_block, near_terms, after_terms, from_terms, count_query, identity_terms}
+use Rattle.edf_tables.proofs.QueryTexts.{near_text, page_text, walk_text, count_text, first_text, next_text, last_text, id_text, identities_text, recordings_text, count_all_text}
 use Rattle.edf_tables.proofs.RefusedLemmas.{IsAlone, IsTaken, ungrouped, counted_small}
 
 pub near_alone : IsAlone both_schema near_text 3
@@ -43,6 +43,13 @@ first_alone = record { whole = omega arith; inputs = refl; plain = (refl, refl) 
 
 pub first_taken : (n : ℤ) → IsTaken (paged_query 2 (of_recording ∷ []) (col 1 2 ∷ []) 2 (lit (Int (pos 1)))) (Int n ∷ [])
 first_taken n = record { typed = refl; small = ungrouped (paged_query 2 (of_recording ∷ []) (col 1 2 ∷ []) 2 (lit (Int (pos 1)))) 2 (Int n ∷ []) refl refl }
+
+pub next_alone : IsAlone both_schema next_text 2
+unfolding understood everything
+next_alone = record { whole = omega arith; inputs = refl; plain = (refl, refl) }
+
+pub next_taken : (n : ℤ) (from : ℤ) → IsTaken (paged_query 2 from_terms (col 1 2 ∷ []) 2 (lit (Int (pos 1)))) (Int n ∷ Int from ∷ [])
+next_taken n from = record { typed = refl; small = ungrouped (paged_query 2 from_terms (col 1 2 ∷ []) 2 (lit (Int (pos 1)))) 2 (Int n ∷ Int from ∷ []) refl refl }
 
 pub last_alone : IsAlone both_schema last_text 1
 unfolding understood everything

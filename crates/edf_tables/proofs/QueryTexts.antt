@@ -7,7 +7,7 @@ use Rattle.sqlite.specs.Command.TheVariants.{Select}
 use Rattle.sqlite_tied.specs.Compute.{everything}
 use Rattle.sqlite.specs.Listing.{understood, reads_listing}
 use Rattle.sqlite.proofs.Callers.{IsPlain, command_of}
-use Rattle.edf_tables.proofs.Queries.{plain_query, ordered_query, paged_query, last_query, of_recording, start_samples_block, near_terms, after_terms, count_query, identity_terms}
+use Rattle.edf_tables.proofs.Queries.{plain_query, ordered_query, paged_query, last_query, of_recording, start_samples_block, near_terms, after_terms, from_terms, count_query, identity_terms}
 use Rattle.edf_tables.specs.Schema.{both_schema}
 
 -- the text is this query, which reads our rows and nothing else
@@ -30,6 +30,9 @@ count_text = codes "SELECT count(*) FROM record WHERE recording = ?1"
 
 abbrev pub first_text : List ℕ
 first_text = codes "SELECT start FROM record WHERE recording = ?1 ORDER BY start LIMIT 1"
+
+abbrev pub next_text : List ℕ
+next_text = codes "SELECT start FROM record WHERE recording = ?1 AND start >= ?2 ORDER BY start LIMIT 1"
 
 abbrev pub last_text : List ℕ
 last_text = codes "SELECT start FROM record WHERE recording = ?1 ORDER BY start DESC LIMIT 1"
@@ -68,6 +71,10 @@ count_is = record { command = refl; unlisted = refl; plain = (refl, refl) }
 pub first_is : Means first_text (paged_query 2 (of_recording ∷ []) (col 1 2 ∷ []) 2 (lit (Int (pos 1)))) (codes "start" ∷ [])
 unfolding understood everything
 first_is = record { command = refl; unlisted = refl; plain = (refl, refl) }
+
+pub next_is : Means next_text (paged_query 2 from_terms (col 1 2 ∷ []) 2 (lit (Int (pos 1)))) (codes "start" ∷ [])
+unfolding understood everything
+next_is = record { command = refl; unlisted = refl; plain = (refl, refl) }
 
 pub last_is : Means last_text (last_query 2 (of_recording ∷ []) (col 1 2 ∷ []) 2) (codes "start" ∷ [])
 unfolding understood everything

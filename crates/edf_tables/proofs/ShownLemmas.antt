@@ -25,13 +25,13 @@ use Rattle.sqlite_keyed.proofs.SortLemmas.{IsPermutation-sort_by}
 use Rattle.edf_tables.specs.declared.row.RecordRow.{RecordRow}
 use Rattle.edf_tables.specs.Cells.{cells_of, first_three}
 use Rattle.edf_tables.specs.Schema.{both_schema}
-use Rattle.edf_tables.specs.Records.{records_of, IsRising, IsReady, starts_after, starts_between, shown_record}
+use Rattle.edf_tables.specs.Records.{records_of, IsRising, IsReady, starts_after, starts_from, starts_between, shown_record}
 use Rattle.edf_schema.specs.Columns.{by_column, is_of}
 use Rattle.edf_tables.specs.Recordings.{named, IsIdIn, by_identity, AreNamedApart, shown_recording}
-use Rattle.edf_tables.proofs.Queries.{passes, paged_query, of_recording, start_samples_block, near_terms, after_terms, identity_terms}
-use Rattle.edf_tables.proofs.QueryTexts.{Means, near_text, near_is, page_text, page_is, walk_text, walk_is, count_text, count_is, first_text, first_is, last_text, last_is, id_text, id_is, identities_text, identities_is, recordings_text, recordings_is, count_all_text, count_all_is}
+use Rattle.edf_tables.proofs.Queries.{passes, paged_query, of_recording, start_samples_block, near_terms, after_terms, from_terms, identity_terms}
+use Rattle.edf_tables.proofs.QueryTexts.{Means, near_text, near_is, page_text, page_is, walk_text, walk_is, count_text, count_is, first_text, first_is, next_text, next_is, last_text, last_is, id_text, id_is, identities_text, identities_is, recordings_text, recordings_is, count_all_text, count_all_is}
 use Rattle.edf_tables.proofs.SortLemmas.{filter_sort, filter_twice, filter_true}
-use Rattle.edf_tables.proofs.TermLemmas.{is_of_passes, near_passes, after_passes, identity_passes}
+use Rattle.edf_tables.proofs.TermLemmas.{is_of_passes, near_passes, after_passes, from_passes, identity_passes}
 use Rattle.edf_tables.proofs.AnswerLemmas.{column_total, AreApart, answered, last_answered, some_order, in_order, any_order, counted}
 
 module _ (sql : List ℕ) (query : Query) (names : List (List ℕ)) (means : Means sql query names) where
@@ -135,6 +135,13 @@ first_shown n found old new rows ready h first =
     let all = records_of n (old.now.trees 2) in
     let shown = records_answer n (Int n ∷ []) (of_recording ∷ []) (λ _. true) (whole n) _ _ (overlay old.now.trees []) rows (answer_of first_text _ _ first_is (Int n ∷ []) old new rows ready.schema h) ready.rising in
     first ∙ ap (λ (l : List Row). option_map (λ row. column row 0) (slice_get l 0)) (shown ∙ ap (λ l. take 1 (map (λ r. column r 2 ∷ []) l)) (filter_true all)) ∙ head_of all
+
+pub next_shown : (n from : ℤ) (found : Option ℤ) (old new : State) (rows : List Row) → IsReady n old → Shown next_text (Int n ∷ Int from ∷ []) old new rows → option_map Int found ≡ option_map (λ row. column row 0) (slice_get rows 0)
+    → option_map Int found ≡ option_map (λ row. column row 2) (slice_get (filter (starts_from from) (records_of n (old.now.trees 2))) 0)
+next_shown n from found old new rows ready h first =
+    let params = Int n ∷ Int from ∷ [] in
+    let shown = records_answer n params from_terms (starts_from from) (from_passes n from) _ _ (overlay old.now.trees []) rows (answer_of next_text _ _ next_is params old new rows ready.schema h) ready.rising in
+    first ∙ ap (λ (l : List Row). option_map (λ row. column row 0) (slice_get l 0)) shown ∙ head_of (filter (starts_from from) (records_of n (old.now.trees 2)))
 
 pub last_shown : (n : ℤ) (found : Option ℤ) (old new : State) (rows : List Row) → IsReady n old → Shown last_text (Int n ∷ []) old new rows → option_map Int found ≡ option_map (λ row. column row 0) (slice_get rows 0)
     → option_map Int found ≡ option_map (λ row. column row 2) (slice_get (reverse (records_of n (old.now.trees 2))) 0)

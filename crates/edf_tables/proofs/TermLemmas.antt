@@ -1,16 +1,16 @@
 -- The terms of WHERE, as tests of rows.
-use Rattle.std.proofs.Common.{◌≡◌, ℕ, ℤ, Bool, true, false, ◌&&◌, List, [], ◌∷◌, Some, refl, ap, ap₂, ◌∙◌, is_eq, is_lt, is_gt}
+use Rattle.std.proofs.Common.{◌≡◌, ℕ, ℤ, Bool, true, false, ◌&&◌, List, [], ◌∷◌, Some, refl, ap, ap₂, ◌∙◌, is_eq, is_lt, is_gt, is_ge}
 use Rattle.sqlite.specs.declared.types.Value.{Value}
 use Rattle.sqlite.specs.declared.types.Value.TheVariants.{Null, Int, Real, Text, Blob}
 use Rattle.sqlite.specs.Order.{Row}
 use Rattle.sqlite.specs.Collation.TheVariants.{Binary}
 use Rattle.sqlite_value.specs.Order.{column, value_cmp}
 use Rattle.sqlite_sql.specs.declared.ops.BinaryOp.TheVariants as by
-use Rattle.sqlite_sql.specs.declared.ops.CompareOp.TheVariants.{Eq, Lt, Gt}
+use Rattle.sqlite_sql.specs.declared.ops.CompareOp.TheVariants.{Eq, Lt, Gt, Ge}
 use Rattle.sqlite_sql.specs.Ops.{binary, is_true, from_truth}
-use Rattle.edf_tables.specs.Records.{starts_after, starts_between}
+use Rattle.edf_tables.specs.Records.{starts_after, starts_from, starts_between}
 use Rattle.edf_schema.specs.Columns.{is_of}
-use Rattle.edf_tables.proofs.Queries.{passes, of_recording, near_terms, after_terms, identity_terms}
+use Rattle.edf_tables.proofs.Queries.{passes, of_recording, near_terms, after_terms, from_terms, identity_terms}
 
 pub truth_of : (b : Bool) → is_true (from_truth (Some b)) ≡ b
 truth_of true = refl
@@ -40,6 +40,14 @@ above (Real x) n = truth_of _
 above (Text t) n = truth_of _
 above (Blob b) n = truth_of _
 
+not_below : (v : Value) (n : ℤ) → is_true (binary (by.Compare Ge Binary) v (Int n)) ≡ is_ge (value_cmp v (Int n))
+unfolding binary value_cmp
+not_below Null n = refl
+not_below (Int m) n = truth_of _
+not_below (Real x) n = truth_of _
+not_below (Text t) n = truth_of _
+not_below (Blob b) n = truth_of _
+
 both : (a b : Bool) → (is_true (from_truth (Some a)) && is_true (from_truth (Some b))) ≡ (a && b)
 both true b = truth_of b
 both false b = refl
@@ -65,6 +73,9 @@ near_passes n after before r = ap₂ (λ a b. a && b) (equals (column r 1) n) (a
 
 pub after_passes : (n after : ℤ) (more : Row) (r : Row) → passes (Int n ∷ Int after ∷ more) after_terms r ≡ (is_of n r && starts_after after r)
 after_passes n after more r = ap₂ (λ a b. a && b) (equals (column r 1) n) (and_true _ ∙ above (column r 2) after)
+
+pub from_passes : (n from : ℤ) (r : Row) → passes (Int n ∷ Int from ∷ []) from_terms r ≡ (is_of n r && starts_from from r)
+from_passes n from r = ap₂ (λ a b. a && b) (equals (column r 1) n) (and_true _ ∙ not_below (column r 2) from)
 
 pub identity_passes : (identity : List ℕ) (r : Row) → passes (Blob identity ∷ []) identity_terms r ≡ is_eq (value_cmp (column r 2) (Blob identity))
 identity_passes identity r = and_true _ ∙ equals_bytes (column r 2) identity

@@ -1,7 +1,7 @@
 -- The rows of the table `record`, by recording and start.
 use Rattle.std.specs.Prelude.{◌≡◌, ◌&&◌, ℤ, Bool, List, [], ◌∷◌, filter}
 use Rattle.std.specs.declared.cmp.Ordering.TheVariants.{Less}
-use Rattle.std.specs.Ordering.{is_lt, is_gt}
+use Rattle.std.specs.Ordering.{is_lt, is_gt, is_ge}
 use Rattle.sqlite.specs.declared.types.Value.TheVariants.{Int}
 use Rattle.sqlite.specs.Order.{Row}
 use Rattle.sqlite.specs.State.{State}
@@ -21,6 +21,9 @@ IsRising = IsAscending (λ a b. by_column 2 a b ≡ Less)
 
 abbrev pub starts_after : ℤ → Row → Bool
 starts_after after row = is_gt (value_cmp (column row 2) (Int after))
+
+abbrev pub starts_from : ℤ → Row → Bool
+starts_from from row = is_ge (value_cmp (column row 2) (Int from))
 
 abbrev pub starts_between : ℤ → ℤ → Row → Bool
 starts_between after before row = starts_after after row && is_lt (value_cmp (column row 2) (Int before))

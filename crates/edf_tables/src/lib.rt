@@ -9,8 +9,8 @@
 //! - [`create_tables`], [`create_recording`], [`create_records`]: the tables, made where they are missing.
 //! - [`begin`], [`commit`], [`roll_back`]: a transaction.
 //! - [`insert_recording`], [`insert_record`]: one row more.
-//! - [`near_rows`], [`page_rows`], [`count_rows`], [`first_start`], [`last_start`]: the records of one recording, as
-//!   [`RecordRow`].
+//! - [`near_rows`], [`page_rows`], [`count_rows`], [`first_start`], [`next_start`], [`last_start`]: the records of one
+//!   recording, as [`RecordRow`].
 //! - [`select_recording`], [`identities`], [`recordings`], [`count_all_rows`]: all recordings.
 #![tactic(auto)]
 
@@ -23,7 +23,7 @@ mod write;
 
 pub use create::{create_recording, create_records, create_tables};
 pub use list::{count_all_rows, identities, recordings, select_recording};
-pub use records::{count_rows, first_start, last_start, near_rows, page_rows};
+pub use records::{count_rows, first_start, last_start, near_rows, next_start, page_rows};
 pub use row::RecordRow;
 pub use transaction::{begin, commit, roll_back};
 pub use write::{insert_record, insert_recording};

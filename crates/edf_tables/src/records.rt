@@ -9,7 +9,7 @@ ghost use Rattle.sqlite_value.specs.Order.{column};
 ghost use Rattle.edf_tables.specs.Schema.{both_schema};
 ghost use Rattle.edf_tables.specs.Cells.{cells_of};
 ghost use Rattle.edf_tables.specs.Refused.{IsUntold};
-ghost use Rattle.edf_tables.specs.Records.{IsReady, records_of, shown_record, starts_after, starts_between};
+ghost use Rattle.edf_tables.specs.Records.{IsReady, records_of, shown_record, starts_after, starts_between, starts_from};
 
 use crate::row::{RecordRow, first_count, first_number, record_rows, rows_shown};
 use sqlite::{Alter, Connection, Error, params};
@@ -100,6 +100,30 @@ pub fn first_start<S: Alter>(conn: &mut Connection<S>, recording: i64) -> Result
         conn,
         "SELECT start FROM record WHERE recording = ?1 ORDER BY start LIMIT 1",
         params![recording],
+    )?;
+    first_number(rows)
+}
+
+/// The first start of a recording's records that is `from` or later.
+///
+/// # Errors
+/// `sqlite`'s, and that of a cell of another type; what is committed stays, and an open transaction may be undone.
+pub fn next_start<S: Alter>(
+    conn: &mut Connection<S>,
+    recording: i64,
+    from: i64,
+) -> Result<Option<i64>, Error>
+    requires ready { HasCleanDisk (state S.Store conn.old) → IsReady recording (state S.Store conn.old) }
+    ensures why { HasCleanDisk (state S.Store conn.new) → IfErr result (IsUntold (state S.Store conn.old) (state S.Store conn.new)) }
+    ensures next { HasCleanDisk (state S.Store conn.new) → IfOk result (λ start. option_map Int start ≡ option_map (λ row. column row 2) (slice_get (filter (starts_from from) (records_of recording ((state S.Store conn.old).now.trees 2))) 0)) }
+    ensures same { HasCleanDisk (state S.Store conn.new) → OnOk result (IsUnchanged (state S.Store conn.old) (state S.Store conn.new)) }
+    ensures kept { HasCleanDisk (state S.Store conn.new) → KeepsCommit (state S.Store conn.old) (state S.Store conn.new) }
+    ensures survives { Survives (state S.Store conn.old) (state S.Store conn.new) (λ _. ⊥) }
+{
+    let rows = rows_shown(
+        conn,
+        "SELECT start FROM record WHERE recording = ?1 AND start >= ?2 ORDER BY start LIMIT 1",
+        params![recording, from],
     )?;
     first_number(rows)
 }

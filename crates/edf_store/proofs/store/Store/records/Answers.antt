@@ -1,8 +1,9 @@
-use Rattle.std.proofs.Common.{◌≡◌, Result, Err, None, refl, ap, arith, negsuc}
+use Rattle.std.proofs.Common.{◌≡◌, Result, Err, None, refl, ap, arith, pos, ◌<ℤ◌}
 use Rattle.std.proofs.lemmas.Int.{ints}
 use Rattle.std.proofs.lemmas.Result.{err_from_is_err_and}
 use Rattle.edf_store.specs.declared.fault.StoreFault.{StoreFault}
 use Rattle.edf_store.specs.declared.fault.StoreFault.TheVariants as fault
+use Rattle.edf_holdings.specs.Holdings.{Holdings}
 use Rattle.edf_store.specs.Held.{at}
 use Rattle.edf_store.proofs.ReadyLemmas.{stays_then, held_now}
 use Rattle.edf_store.proofs.WalkLemmas.{at_start}
@@ -52,7 +53,10 @@ returns g c =
     let s = at g.S.Store c.find.new.store in
     let cap = c.find.new.store.cap in
     let k = c.args.identity.now in
-    let id = c.in_ok-recording.recording in (
+    let id = c.in_ok-recording.recording in
+    let begun = c.progress_at_first-after.ensures in
+    let low : c.progress_at_first-after.result.start <ℤ pos 0 = omega (arith, ints, begun.start) in
+    let start = λ (h : Holdings). at_start cap s id c.progress_at_first-after.result h k low begun.limit begun.rows in (
       (refl, (λ w. refl), tt),
       record {
         refused = tt;
@@ -66,11 +70,11 @@ returns g c =
           refl,
           λ clean.
               let it = c.in_ok-recording.ensures.settled clean in
-              (it.holdings.0, k, 0, at_start cap s id (negsuc 0) it.holdings.0 k (omega (arith, ints)) it it.holdings.1 c.find.ensures.key (c.in_ok-recording.ensures.found clean it.holdings.0 it.holdings.1)),
+              (it.holdings.0, k, 0, start it.holdings.0 it it.holdings.1 c.find.ensures.key (c.in_ok-recording.ensures.found clean it.holdings.0 it.holdings.1)),
         );
         at_first = λ h held clean.
             let it = c.in_ok-recording.ensures.settled clean in
             let kept = held_now cap s clean it h (c.find.ensures.stays.holdings h (c.ready.ensures.stays.holdings h held)) in
-            at_start cap s id (negsuc 0) h k (omega (arith, ints)) it kept c.find.ensures.key (c.in_ok-recording.ensures.found clean h kept);
+            start h it kept c.find.ensures.key (c.in_ok-recording.ensures.found clean h kept);
       },
     )
