@@ -136,6 +136,34 @@ fn find<S: Alter>(
     tx.near(id, start, identity.duration())
 }
 
+/// The first start of the identity's data records that is `from` or later.
+///
+/// # Errors
+/// The store's.
+pub(crate) fn next_start<S: Alter>(
+    store: &mut Store<S>,
+    identity: &Identity,
+    from: Instant,
+) -> Result<Option<Instant>, StoreFault> {
+    let mut tx = store.transaction()?;
+    let found = find_next(&mut tx, identity, from);
+    tx.give_up()?;
+    found
+}
+
+fn find_next<S: Alter>(
+    tx: &mut StoreTx<'_, S>,
+    identity: &Identity,
+    from: Instant,
+) -> Result<Option<Instant>, StoreFault>
+    requires spared { tx.old.refused ≡ false }
+    requires running { IsRunning S.Store tx.old.store.now }
+    ensures same_reference { tx.new.store.ghost_name ≡ tx.old.store.ghost_name }
+{
+    let id = tx.recording(identity)?;
+    tx.next_start(id, from)
+}
+
 /// Whether the identity's recording, which is made where it is missing, has room for so many data records more.
 ///
 /// # Errors

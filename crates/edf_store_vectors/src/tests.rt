@@ -1,6 +1,6 @@
 //! Data records that are added, given up, looked for and read again, in memory and on disks in memory.
 
-use crate::adding::{has_room, near, put};
+use crate::adding::{has_room, near, next_start, put};
 use edf_fragment::{Counted, OpenFragment, Record};
 use edf_header::Identity;
 use edf_sample::Source;
@@ -197,21 +197,29 @@ fn keep_two<S: Alter>(store: &mut Store<S>, two: &Two) -> Option<Kept> {
     })
 }
 
-/// An instant, by the half seconds behind the first of the two, and which of them are near it.
-const NEAR: &[(i8, Which)] = &[
-    (-2, Which::Neither),
-    (-1, Which::First),
-    (0, Which::First),
-    (1, Which::Both),
-    (2, Which::Second),
-    (3, Which::Second),
-    (4, Which::Neither),
+/// An instant, by the half seconds after the first of the two, which of them are near it, and the next start, counted likewise.
+const NEAR: &[(i8, Which, Option<i64>)] = &[
+    (-2, Which::Neither, Some(0)),
+    (-1, Which::First, Some(0)),
+    (0, Which::First, Some(0)),
+    (1, Which::Both, Some(2)),
+    (2, Which::Second, Some(2)),
+    (3, Which::Second, None),
+    (4, Which::Neither, None),
 ];
 
-/// The first instant near which others are than those of the table.
+/// The next start of the two, by the half seconds after the first of them; at or after the instant that is counted likewise.
+fn next_at<S: Alter>(store: &mut Store<S>, two: &Two, halves: i8) -> Option<Option<i64>> {
+    match next_start(store, &two.identity, instant(halves)?).ok()? {
+        Some(next) => Some(Some(next.since(Instant::at(START)?) / 500_000_000)),
+        None => Some(None),
+    }
+}
+
+/// The first instant near which others are, or after which another starts, than the table has.
 fn told_near<S: Alter>(store: &mut Store<S>, two: &Two) -> Option<Option<i8>> {
-    for (halves, wanted) in NEAR.iter().copied() {
-        if near_at(store, two, halves)? != wanted {
+    for (halves, wanted, next) in NEAR.iter().copied() {
+        if near_at(store, two, halves)? != wanted || next_at(store, two, halves)? != next {
             return Some(Some(halves));
         }
     }
