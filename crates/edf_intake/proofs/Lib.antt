@@ -2,6 +2,7 @@ pub mod Ending
 pub mod Passed
 pub mod Walking
 pub mod Steps
+pub mod Gaps
 pub mod Taking
 pub mod Finding
 pub mod Conflicts

@@ -1,3 +1,4 @@
+pub mod Gap
 pub mod Step
 pub mod Halt
 pub mod Taken

@@ -10,6 +10,7 @@
 
 mod answer;
 mod fragment;
+mod gap;
 pub mod laws;
 mod submission;
 mod walk;

@@ -1,5 +1,6 @@
 -- What one data record of a fragment meets in the store, and what all that were read so far have met.
 use Rattle.std.specs.Prelude.{◌≡◌, ◌⊎◌, ℕ, ◌+◌, ◌<◌, ◌≤◌, true, List, [], ◌∷◌, length, Some, None, MatchOption}
+use Rattle.sqlite_trees.specs.declared.store.Store.{Ghosts}
 use Rattle.edf_field.specs.Number.{duration_of}
 use Rattle.edf_header.specs.Key.{Key}
 use Rattle.edf_fragment.specs.Fragment.{DataRecord}
@@ -7,6 +8,8 @@ use Rattle.edf_holdings.specs.Clash.{near_of, other_of}
 use Rattle.edf_holdings.specs.Rising.{holds, new_of}
 use Rattle.edf_holdings.specs.Holdings.{Holdings, put}
 use Rattle.edf_holdings.specs.Reply.{first_clash}
+use Rattle.edf_store.specs.Held.{Kept}
+use Rattle.edf_store.specs.Transaction.{Sees}
 use Rattle.edf_intake.specs.declared.walk.Step.{Step}
 use Rattle.edf_intake.specs.declared.walk.Step.TheVariants.{Clashes, Known, New}
 use Rattle.edf_intake.specs.declared.walk.Starts.{Starts}
@@ -22,6 +25,10 @@ abbrev pub IsStep : DataRecord → List DataRecord → Step → Type 0
 IsStep r near (Clashes stored) = (s : DataRecord) × (other_of r near ≡ Some s) × (stored ≡ s.start)
 IsStep r near Known = (other_of r near ≡ None) × (holds near r ≡ true)
 IsStep r near New = near ≡ []
+
+-- what the key's records that the transaction sees say of it
+abbrev pub IsStepIn : {S : Type 0} → Ghosts S → Kept S → Key → DataRecord → Step → Type 0
+IsStepIn g store key r step = (h : Holdings) → Sees g store h → IsStep r (near_of (duration_of key.duration) r.start (h key)) step
 
 -- one record more, where these lie near it: the tally then, and what is held of what was
 abbrev pub Counts : ℕ → Key → DataRecord → List DataRecord → Holdings → Tally → Holdings → Tally → Step → Type 0

@@ -12,6 +12,7 @@ use Rattle.edf_holdings.specs.Holdings.{Holdings}
 use Rattle.edf_store.specs.Held.{at}
 use Rattle.edf_store.specs.Transaction.{Sees, IsOf}
 use Rattle.edf_store.proofs.ReadyLemmas.{stays_then}
+use Rattle.edf_intake.specs.Inside.Gap.{IsGapIn}
 use Rattle.edf_intake.specs.Inside.Step.{IsNext}
 use Rattle.edf_intake.specs.declared.walk.Tally.{Tally}
 use Rattle.edf_intake.proofs.Walking.{Walking}
@@ -37,6 +38,7 @@ records-init g c =
       status = ap (λ (p : Progress). p.status) c.requires.at_first;
       count = refl;
       walking = subst (λ (p : Progress). Walking g.S.Store store store header left left p tally) (sym c.requires.at_first) begun;
+      gap = λ clean h seen. tt;
     }
 
 pub take_record-requires-clause-recording : goal.take_record-requires-clause-recording
@@ -51,7 +53,7 @@ take_record-requires-clause-few g c clean none low h seen =
     let same : c.identity-identity.result.now ≡ c.args.fragment.now.header.key = c.identity-identity.ensures ∙ ap (λ (l : Layout). l.key) (c.header.ensures ∙ (c.in-Ok-Some.ensures.header ∙ inv.header)) in
     subst (λ (k : Key). length (h k) < now.cap) (sym same)
     (few_seen g.S.Store c.args.transaction.now.store.now c.args.fragment.now.header c.requires.header.0 (g.R.Input.remaining c.args.input.now) c.requires.header.1 c.args.recording.room c.requires.room
-    now (g.R.Input.remaining c.records.input) c.records.fragment.progress c.records.tally inv.walking c.requires.running (λ w. omega (arith, inv.stays.crash.clean)) inv.stays.cap clean none low h seen)
+    now (g.R.Input.remaining c.records.input) c.records.fragment.progress c.records.course.tally inv.walking c.requires.running (λ w. omega (arith, inv.stays.crash.clean)) inv.stays.cap clean none low h seen)
 
 pub take_record-requires-clause-first : goal.take_record-requires-clause-first
 take_record-requires-clause-first g c clean none low h seen =
@@ -68,7 +70,14 @@ take_record-requires-clause-first g c clean none low h seen =
     (subst (λ (x : Layout). IsAnswer x from to mid rest (Ok c.in-Ok-Some.field-0)) inv.header c.in-Ok-Some.ensures.answer) in
     subst (λ (k : Key). h k ≡ [] → MayStart k r.start) (sym same)
     (first_seen g.S.Store c.args.transaction.now.store.now l c.requires.header.0 first c.requires.header.1 c.args.recording.room c.requires.room
-    c.records.transaction.store.now mid rest from to c.records.tally r inv.walking inv.status answer c.requires.running (λ w. omega (arith, inv.stays.crash.clean)) clean none low h seen)
+    c.records.transaction.store.now mid rest from to c.records.course.tally r inv.walking inv.status answer c.requires.running (λ w. omega (arith, inv.stays.crash.clean)) clean none low h seen)
+
+pub take_record-requires-clause-gap : goal.take_record-requires-clause-gap
+take_record-requires-clause-gap g c =
+    let inv = c.records.invariant in
+    let now = c.records.transaction.store.now in
+    let same : c.identity-identity.result.now ≡ c.args.fragment.now.header.key = c.identity-identity.ensures ∙ ap (λ (l : Layout). l.key) (c.header.ensures ∙ (c.in-Ok-Some.ensures.header ∙ inv.header)) in
+    subst (λ (k : Key). HasCleanDisk (at g.S.Store now) → IsGapIn g.S.Store now k c.records.course.gap) (sym same) inv.gap
 
 pub take_record-requires-clause-countable : goal.take_record-requires-clause-countable
 take_record-requires-clause-countable g c =
@@ -137,9 +146,10 @@ records-preserved g c =
       status = ap (λ (p : Progress). p.status) step.0;
       count = c.in-Ok-Some.ensures.counted ∙ inv.count;
       walking = one_turn g.S.Store first l c.requires.header.0 left c.requires.header.1 c.args.recording.room c.requires.room
-          now next mid rest from to c.records.tally c.in-Ok.next r inv.walking inv.status answer (ap (λ (p : Progress). p.given) step.0) step.1.may_come was was_first
-          (subst (λ (k : Key). HasCleanDisk (at g.S.Store next) → (h : Holdings) → Sees g.S.Store now h → (t : Holdings) × Sees g.S.Store next t × IsNext c.args.recording.room k r h c.records.tally t c.in-Ok.next) same e.next)
+          now next mid rest from to c.records.course.tally c.in-Ok.next.tally r inv.walking inv.status answer (ap (λ (p : Progress). p.given) step.0) step.1.may_come was was_first
+          (subst (λ (k : Key). HasCleanDisk (at g.S.Store next) → (h : Holdings) → Sees g.S.Store now h → (t : Holdings) × Sees g.S.Store next t × IsNext c.args.recording.room k r h c.records.course.tally t c.in-Ok.next.tally) same e.next)
           e.counted;
+      gap = subst (λ (k : Key). HasCleanDisk (at g.S.Store next) → IsGapIn g.S.Store next k c.in-Ok.next.gap) same e.gap;
     }
 
 pub returns-in-Ok-None-clause-read : goal.returns-in-Ok-None-clause-read
@@ -153,7 +163,7 @@ returns-in-Ok-None-clause-read g c =
     let answer = subst (λ (o : Option DataRecord). IsAnswer l from to mid rest (Ok o)) c.in-Ok-None.field-0-is
     (subst (λ (x : Layout). IsAnswer x from to mid rest (Ok c.in-Ok-None.field-0)) inv.header c.in-Ok-None.ensures.answer) in
     at_end g.S.Store c.args.transaction.now.store.now l c.requires.header.0 (g.R.Input.remaining c.args.input.now) c.requires.header.1 c.args.recording.room c.requires.room
-    c.records.transaction.store.now mid rest from to c.records.tally inv.walking inv.status answer (λ clean. omega (arith, inv.stays.crash.clean))
+    c.records.transaction.store.now mid rest from to c.records.course.tally inv.walking inv.status answer (λ clean. omega (arith, inv.stays.crash.clean))
 
 pub returns-in-Err-clause-halted : goal.returns-in-Err-clause-halted
 returns-in-Err-clause-halted g c left head =

@@ -1,8 +1,10 @@
 use Rattle.std.proofs.Common.{◌≡◌, ◌-◌, false}
+use Rattle.sqlite.specs.State.{HasCleanDisk}
 use Rattle.edf_header.specs.Header.{most_records}
 use Rattle.edf_fragment.specs.declared.advance.Status.TheVariants.{Reading}
-use Rattle.edf_store.specs.Held.{Stays}
+use Rattle.edf_store.specs.Held.{at, Stays}
 use Rattle.edf_store.specs.Transaction.{IsRunning, IsOf, HasNoMore}
+use Rattle.edf_intake.specs.Inside.Gap.{IsGapIn}
 use Rattle.edf_intake.proofs.Walking.{Walking}
 use Rattle.edf_intake.proofs.walk.take_records.Given as goal
 
@@ -18,7 +20,8 @@ invariant-records g l = record {
   status : l.fragment.progress.status ≡ Reading;
   count : g.R.Input.failures l.input ≡ g.R.Input.failures l.initial.input;
   walking : Walking g.S.Store l.initial.transaction.store.now l.transaction.store.now l.initial.fragment.header
-      (g.R.Input.remaining l.initial.input) (g.R.Input.remaining l.input) l.fragment.progress l.tally;
+      (g.R.Input.remaining l.initial.input) (g.R.Input.remaining l.input) l.fragment.progress l.course.tally;
+  gap : HasCleanDisk (at g.S.Store l.transaction.store.now) → IsGapIn g.S.Store l.transaction.store.now l.initial.fragment.header.key l.course.gap;
 }
 
 abbrev pub decreases-records : goal.decreases-records

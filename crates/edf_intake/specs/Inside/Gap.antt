@@ -1,0 +1,21 @@
+-- What is known of where a recording's data records start.
+use Rattle.std.specs.Prelude.{◌⊎◌, ℕ, ◌≤◌, List, All, Option, IfSome, IsSomeAnd}
+use Rattle.sqlite_trees.specs.declared.store.Store.{Ghosts}
+use Rattle.edf_header.specs.Key.{Key}
+use Rattle.edf_fragment.specs.Fragment.{DataRecord}
+use Rattle.edf_holdings.specs.Holdings.{Holdings}
+use Rattle.edf_store.specs.Held.{Kept}
+use Rattle.edf_store.specs.Transaction.{Sees}
+use Rattle.edf_intake.specs.declared.gap.Gap.{Gap}
+
+-- the start is not in the gap
+abbrev pub IsOutside : Gap → ℕ → Type 0
+IsOutside gap start = (start ≤ gap.from) ⊎ IsSomeAnd gap.until (λ until. until ≤ start)
+
+-- none of the records starts in the gap
+abbrev pub IsGap : List DataRecord → Gap → Type 0
+IsGap records gap = All (λ r. IsOutside gap r.start) records
+
+-- the gap, where one is known, is one of the key's records that the transaction sees
+abbrev pub IsGapIn : {S : Type 0} → Ghosts S → Kept S → Key → Option Gap → Type 0
+IsGapIn g store key gap = (h : Holdings) → Sees g store h → IfSome gap (IsGap (h key))
