@@ -1,5 +1,6 @@
 """Runs programs by the clock, and tells their peak memory."""
 import os
+import re
 import shutil
 import subprocess
 import sys
@@ -76,6 +77,18 @@ def run(command: list, out: Path = None, given: Path = None, statuses=(0,)) -> R
         sys.exit(f"{' '.join(map(str, command))[:300]}\nended with status {answer.status}\n"
                  f"{answer.err.decode(errors='replace')[:1000]}")
     return answer
+
+
+def instructions(command: list, out: Path, given: Path = None) -> int:
+    """The instructions that a run takes, counted by callgrind: the same whatever else the machine does."""
+    with tempfile.NamedTemporaryFile("r") as told, open(given or os.devnull, "rb") as source, open(out, "wb") as into:
+        counted = ["valgrind", "--tool=callgrind", "--callgrind-out-file=/dev/null", f"--log-file={told.name}", *map(str, command)]
+        done = subprocess.run(counted, stdin=source, stdout=into, stderr=subprocess.PIPE, check=False)
+        collected = re.search(r"Collected : (\d+)", told.read())
+    if done.returncode or not collected:
+        sys.exit(f"{' '.join(map(str, command))[:300]}\nended with status {done.returncode} under callgrind\n"
+                 f"{done.stderr.decode(errors='replace')[:1000]}")
+    return int(collected[1])
 
 
 def remove_store(store: Path) -> None:

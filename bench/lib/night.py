@@ -1,8 +1,9 @@
 """Nights for the benches: a memory card and the fragments that a recorder sent of it, the same bytes for the same seed.
 
 A clinic night is 28,800 data records of 1 s, 20 signals of 64 to 256 Hz and an annotation in every seventh record, 195 MB, and is
-sent as 96 fragments of five minutes. A night of long records is 960 of 30 s with 200 kB each. Samples are slices of one pool of
-random bytes, so a night is made about as fast as it is written.
+sent as 96 fragments of five minutes. A night of long records is 960 of 30 s with 200 kB each, a short night 7,200 of 1 s with
+1.7 kB each, as its instructions are counted. Samples are slices of one pool of random bytes, so a night is made about as fast as it is
+written.
 """
 import random
 from dataclasses import dataclass, replace
@@ -85,6 +86,7 @@ class Night:
 
 
 CLINIC = Night()
+SHORT = Night(records=7_200, samples=(256, 256, 128, 128, 64), fragments=18)
 LONG_RECORDS = Night(records=960, seconds=30, samples=(10_000,) * 10, fragments=96, annotation_samples=57)
 
 

@@ -562,6 +562,42 @@ def recordings_without_a_date(worked: Worked) -> None:
                  (dated("01.01.85", "X", "00.00.00"), FIRST), (dated("01.01.yy", "01-JAN-2085", "00.00.00"), FIRST))
 
 
+# Data records that come between stored ones
+
+def night_of(second: int, *onsets) -> bytes:
+    """Data records of a second, of a file that starts at that second of 2002-03-03."""
+    return several(*([onset if isinstance(onset, bytes) else keeping(f"+{onset}")] for onset in onsets), order="En",
+                   starttime=f"00.00.{second:02}", **MARCH_3)
+
+
+def new_ones_between_stored_ones(worked: Worked) -> None:
+    """One is stored at 10 s and one at 20 s."""
+    stored = ((night_of(10, 0), FIRST), (night_of(20, 0), FIRST))
+    at = "2002-03-03T00:00:"
+    for name, file, answer in (
+            ("up to the first", night_of(5, 0, 1, 2, 3, 4), "new=5 known=0"),
+            ("a nanosecond too far", night_of(5, 0, 1, 2, 3, "4.000000001"), f"E30 Overlap start={at}09.000000001 stored={at}10"),
+            ("over the first", night_of(5, 0, 1, 2, 3, 4, 5, 6), "new=6 known=1"),
+            ("over both", night_of(5, *range(20)), "new=18 known=2"),
+            ("past the first and into it", night_of(5, 0, 1, "5.5"), f"E30 Overlap start={at}10.5 stored={at}10"),
+            ("past the first and after it", night_of(5, 0, 1, 6, 7), "new=4 known=0"),
+            ("past both", night_of(5, 0, 1, 16, 17), "new=4 known=0"),
+            ("into the second, after the first was known", night_of(10, *range(9), "9.5"), f"E30 Overlap start={at}19.5 stored={at}20"),
+            ("from the first to after the second", night_of(10, *range(12)), "new=10 known=2"),
+            ("another at the first", night_of(8, 0, 1, keeping("+2") + tal("+2", "Snore")), f"E31 Differs start={at}10"),
+            ("another at the second, after the first was known", night_of(10, *range(10), keeping("+10") + tal("+10", "Snore"), 11),
+             f"E31 Differs start={at}20"),
+            ("two that clash, the first is told", night_of(5, 0, "5.5", "15.5"), f"E30 Overlap start={at}10.5 stored={at}10"),
+            ("one that clashes before a fault", night_of(5, 0, "5.5", "5.7"), "E27 Order record=3"),
+            ("after both", night_of(21, 0, 1, 2), "new=3 known=0")):
+        again = [(file, f"new=0 known={sum(int(word.split('=')[1]) for word in answer.split())}")] if answer.startswith("new") else []
+        worked.store(f"new ones {name}", *stored, (file, answer), *again, *((same, KNOWN) for same, _ in stored))
+    worked.store("a refused file leaves the stored ones", *stored, (night_of(5, 0, 1, "5.5"), f"E30 Overlap start={at}10.5 stored={at}10"),
+                 exports=[canonical((SAMPLES, EMPTY), (SAMPLES, keeping("+10")), starttime="00.00.10", **MARCH_3)])
+    worked.store("between two that touch", (night_of(10, 0, 1), "new=2 known=0"),
+                 (night_of(5, 0, "5.5"), f"E30 Overlap start={at}10.5 stored={at}10"))
+
+
 def main() -> None:
     words = sys.argv[1:]
     worked = Worked(Path(words[1]).resolve() if words[:1] == ["--program"] else None)
@@ -571,7 +607,7 @@ def main() -> None:
                     the_first_block_keeps_time, times_outside_the_window, lists_in_the_order_of_the_blocks, recordings_of_several,
                     the_greatest_lists, unknown_count_and_several, blocks_by_themselves, one_annotations_signal, headers_with_a_fault,
                     startdates_that_name_a_day, startdates_that_name_none, startdates_that_name_another_day, recordings_of_many_years,
-                    the_end_of_the_window, recordings_without_a_date):
+                    the_end_of_the_window, recordings_without_a_date, new_ones_between_stored_ones):
         answers(worked)
     print(f"{worked.done} answers, {worked.wrong} wrong")
     sys.exit(1 if worked.wrong else 0)

@@ -1,12 +1,14 @@
 #!/usr/bin/env python3
-"""The program as a person runs it: each word by the clock, against `cat` and plain C over SQLite, with its peak memory.
+"""The program as a person runs it: each word by the clock, against `cat` and plain C over SQLite, with its peak memory, and by the
+instructions that it takes.
 
     bench/program/run.py [--program PATH] [RUNS]       best of RUNS runs of each, 5 if left out
 
 A night of 195 MB: `take` of its 96 fragments into a new store, `take` of the card into that store, `list`, `export`, `convert`
 of the card. Each run is a process of its own, so every word but the first `take` and `convert` pays for opening the store, which
 reads all of it. The C program (bench/store/plain.c) does the same rows, but opens without reading the store; `open` of it reads
-and checks everything. Then a thousand files in one `take`. It needs cc, libsqlite3-dev and time; about 2 GB in TMPDIR.
+and checks everything. Then a thousand files in one `take`. Then the same words on a night of 7,200 records of 1.7 kB, whose
+instructions callgrind counts: they are the same in a noisy hour. It needs cc, libsqlite3-dev, time and valgrind; about 2 GB in TMPDIR.
 """
 import filecmp
 import sys
@@ -43,6 +45,22 @@ def one_round(program, plain, files: dict, folder: Path, best: dict) -> None:
         best["cat"][word] = better(best["cat"].get(word), measure.run(["cat", *sources], out=folder / "copy"))
 
 
+def counted(program, plain, folder: Path) -> None:
+    """Each word's instructions on a short night, of both programs."""
+    parts, card = night.arrival(night.SHORT.parts(folder)), night.SHORT.card(folder / "short.edf")
+    store, out, lines = folder / "short.db", folder / "short-out", {}
+    for command, place, piped in ((program, ["1"], ["-"]), (plain, [], [])):
+        measure.remove_store(store)
+        for word, words in (("take fragments", ["take", store, *parts]), ("take card", ["take", store, card]),
+                            ("list", ["list" if place else "open", store]), ("export", ["export", store, *place])):
+            lines.setdefault(word, []).append(measure.instructions([command, *words], out))
+        lines.setdefault("convert", []).append(measure.instructions([command, "convert", *piped], out, given=card))
+    print(f"instructions on a night of {night.SHORT.records:,} records, {measure.mb(card.stat().st_size)}")
+    measure.table(("", "edfstore", "a record", "plain C", "/ plain C"),
+                  [(word, f"{ours / 1e6:.0f} million", f"{ours // night.SHORT.records:,}", f"{theirs / 1e6:.0f} million",
+                    f"{ours / theirs:.2f}") for word, (ours, theirs) in lines.items()])
+
+
 def report(best: dict) -> None:
     lines = []
     for word, ours in best["edfstore"].items():
@@ -74,7 +92,7 @@ def thousand(program, folder: Path) -> None:
 
 def main() -> None:
     program, words = measure.program(sys.argv[1:])
-    measure.need("cc", "cat", "/usr/bin/time")
+    measure.need("cc", "cat", "/usr/bin/time", "valgrind")
     runs = int(words[0]) if words else 5
     with measure.scratch() as name:
         folder = Path(name)
@@ -91,6 +109,7 @@ def main() -> None:
         for path in (*files["parts"], files["card"], *made):
             path.unlink()
         thousand(program, folder)
+        counted(program, plain, folder)
 
 
 main()
