@@ -305,10 +305,11 @@ fn submissions_without_memory_leave_what_is_held_and_are_accepted_again(rt: Host
     assert!(rt; matches!(told, Some((0, 0, 100..))), "{told:?}");
 }
 
+/// A walk reads both data records ahead in one page, so memory runs out before a byte is written, or not at all.
 #[test]
-fn an_export_without_memory_is_a_front_of_the_file_or_nothing(rt: HostRuntime) {
+fn an_export_without_memory_for_its_page_is_not_begun(rt: HostRuntime) {
     let told = tried_until_whole(rt.alloc(), Trial::Export);
-    assert!(rt; matches!(told, Some((1.., 0, 1..))), "{told:?}");
+    assert!(rt; matches!(told, Some((1.., 0, 0))), "{told:?}");
 }
 
 #[test]
