@@ -147,7 +147,7 @@ up_more rows i row last id low is up after = subst (AllByRecursion (IsUpTo (Some
 pub last_more : (rows : List Row) (i : ℕ) (row : Row) (last : Option ℤ) (id : ℤ) → i < length rows → row ≡ get_or rows i row → IsAfter last row id → IsLastOf (Some id) (take (i + 1) rows)
 last_more rows i row last id low is after = (take i rows, row, sym (more_rows rows i row low is), is_id last id row after)
 
--- an id that does not come after the last one, where the rows are in order, stands twice
+-- an id that does not come after the last one, where the rows are in order, occurs twice
 pub id_twice : (cap : ℕ) (trees : Trees) (rows : List Row) (i : ℕ) (row : Row) (last : Option ℤ) (id : ℤ) → IsPermutation (recordings_in trees) rows → IsSorted (by_column 0) rows → i < length rows → row ≡ get_or rows i row
     → IsLastOf last (take i rows) → column row 0 ≡ Int id → IsNotAfter last row → IsForeign cap trees
 id_twice cap trees rows i row None id same sorted low is met at none = absurd (none id at)

@@ -1,4 +1,4 @@
--- Where a walk by `Rows` stands, and what it tells when it ends.
+-- Where a walk by `Rows` is, and what it tells when it ends.
 use Rattle.std.proofs.Common.{◌≡◌, ap₂, is_lt, Less, IsSorted, false, true≢false, ℕ, ◌+◌, ◌<◌, ◌≤◌, inl, inr, ℤ, pos, List, [], ◌∷◌, ◌++◌, map, length, Option, Some, None, refl, sym, ap, subst, ◌∙◌, arith, IsPermutation, append_assoc}
 use Rattle.std.proofs.lemmas.List.{length-append, length-map, map-append, nil_from_length}
 use Rattle.std.proofs.lemmas.List.Sorted.{length_permutation}
@@ -123,7 +123,7 @@ module _ {S : Type 0} (g : Ghosts S) (recording : ℤ) (k : Key) (long : 0 < dur
           let all : (rows ++ row ∷ []) ++ it.0 ≡ row ∷ it.0 = ap (λ l. (l ++ row ∷ []) ++ it.0) none in
           late_first cap k rows_there it.0 row late.start (by_start old.now.trees recording) (subst (IsSorted (by_column 0)) all it.2) (subst (IsPermutation rows_there) all it.1) late.start_is late.late
 
-  -- the rows come in order, so a row is refused for want of memory alone
+  -- the rows come in order, so a row is refused only where memory ran out
   pub refused_row : (count : ℕ) (last : Option ℕ) (row : Row) (was now : Held S) (new : State) (e : Error) → IsUnchanged old (state g now) → Stands g recording k last count was → Advances g was now (Some row) → IsRowRefused last row e → IsUnread old new e
   refused_row count last row was now new e same stands on (no_memory is) = stopped (memory is)
   refused_row count last row was now new e same stands on (unordered is out) =

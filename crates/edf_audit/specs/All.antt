@@ -29,13 +29,13 @@ owns recording row = is_eq (value_cmp (column row 1) (column recording 0))
 abbrev pub owned_by : Trees → List Row → ℕ
 owned_by trees rows = length (filter (λ r. list_any (λ g. owns g r) rows) (trees 2))
 
--- each recording has sound records, no id stands twice, and so many records are theirs
+-- each recording has sound records, no id occurs twice, and `sum` records are theirs
 pub record AreCounted (cap : ℕ) (trees : Trees) (rows : List Row) (sum : ℕ) : Type 0 where
   pub has : AllByRecursion (HasRecords cap trees) rows
   pub apart : IsAscending (λ a b. value_cmp (column a 0) (column b 0) ≡ Less) rows
   pub sums : sum ≡ owned_by trees rows
 
--- so many records belong to the recordings, or the rows are foreign
+-- `Some sum`: `sum` records belong to the recordings; `None`: the rows are foreign
 abbrev pub Counts : ℕ → Trees → List Row → Option ℕ → Type 0
 Counts cap trees rows None = IsForeign cap trees
 Counts cap trees rows (Some sum) = AreCounted cap trees rows sum

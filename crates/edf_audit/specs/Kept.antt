@@ -19,7 +19,7 @@ pub record KeepsRows (old new : State) : Type 0 where
 abbrev pub first_two : Row → Row
 first_two row = column row 0 ∷ column row 1 ∷ []
 
--- the row is a recording's with so many records, or the rows are foreign
+-- `Some count`: the row is of a recording with `count` records; `None`: the rows are foreign
 abbrev pub Checks : ℕ → Trees → Row → Option ℕ → Type 0
 Checks cap trees row None = Contains (recordings_in trees) row → IsForeign cap trees
 Checks cap trees row (Some count) = Contains (recordings_in trees) row → (has : HasRecords cap trees row) × (count ≡ length (records_in trees has.id))

@@ -36,7 +36,8 @@ fn next_id(row: &Row, last: Option<i64>) -> Option<i64>
     }
 }
 
-/// How many records the recordings have, or `None` where one of them may not stand, as where its id stands twice.
+/// How many records the recordings have, or `None` where the rows are foreign, as where an id
+/// occurs twice.
 ///
 /// # Errors
 /// `sqlite`'s; `OutOfMemory` where memory runs out; `IntegerOverflow` where the recordings have `MOST_COUNTED` records or more.

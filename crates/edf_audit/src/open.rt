@@ -18,7 +18,7 @@ use std::alloc::Global;
 /// submissions under the cap.
 ///
 /// # Errors
-/// As `audit` has them.
+/// Those of `audit`.
 fn audit_tables<S: Alter>(alloc: Global, conn: &mut Connection<S>, cap: u32) -> Result<bool, Error>
     requires cap { cap < 2 ^ 32 - 1 }
     requires ours { HasCleanDisk (state S.Store conn.old) → IsOurs (state S.Store conn.old).now }

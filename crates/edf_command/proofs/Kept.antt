@@ -15,7 +15,7 @@ stays-same g a = record { cap = refl; holdings = λ h held. held; crash = surviv
 pub was-clean : {S : Type 0} (g : Ghosts S) (a b : Kept S) → Stays g a b → HasCleanDisk (at g b) → HasCleanDisk (at g a)
 was-clean g a b s clean = omega (arith, s.crash.clean)
 
--- what is neither told of foreign rows nor of an earlier fault is want of memory or a refusal
+-- a fault that tells neither foreign rows nor an earlier fault is out of memory or a refusal
 pub is-refusal : (fault : StoreFault) → fault ≢ Foreign → fault ≢ Failed → IsStoreRefusal fault
 is-refusal Memory own unfailed = tt
 is-refusal (Store cause) own unfailed = tt

@@ -43,7 +43,7 @@ module _ (w : Growth) where
   trouble-lines lines count wanted (inl cut) = inl (inr (cut, refl))
   trouble-lines lines count wanted (inr lacks) = inr (lacks, refl)
 
-  -- ---- a line that is there, or is not for want of memory
+  -- ---- a line that is there, or is not since memory ran out
   module _ {T E : Type 0} (items : T → List ℕ) where
     abbrev pub IsPutBy : Result T E → Bool → Type 0
     IsPutBy line written = MatchResult line (λ l. IsPut w (items l) written) (λ _. Gets w [] × (written ≡ false))
@@ -74,7 +74,7 @@ module _ (w : Growth) where
     told-trouble (Ok l) written wanted p e = trouble-put (items l) written wanted p e
     told-trouble (Err x) written wanted p e = (p.0, refl)
 
--- ---- one behind the other
+-- ---- one after the other
 
 -- nothing was written
 pub nothing-gets : (known : Option (List ℕ)) (failed : ℕ) → Gets (grown known failed known failed) []
@@ -87,7 +87,7 @@ module _ (a : Option (List ℕ)) (old : ℕ) (b : Option (List ℕ)) (mid : ℕ)
   pub gets-no_more : (done : List ℕ) → Gets (grown a old b mid) done → Gets (grown b mid c new) [] → Gets (grown a old c new) done
   gets-no_more done first then = subst (Gets (grown a old c new)) (append-nil done) (gets-behind done [] first then)
 
-  -- some bytes were written, and then a front of those behind them
+  -- some bytes were written, and then a front of those after them
   pub front-behind : (done line rest all : List ℕ) → all ≡ done ++ (line ++ rest) → Gets (grown a old b mid) done → GetsFront (grown b mid c new) line → GetsFront (grown a old c new) all
   front-behind done line rest all e first then = (
     record {
@@ -106,7 +106,7 @@ module _ (a : Option (List ℕ)) (old : ℕ) (b : Option (List ℕ)) (mid : ℕ)
   stops-behind lines count n line rest lt e first (inl cut) = inl (front-behind (lines n) line rest (lines count) e first cut)
   stops-behind lines count n line rest lt e first (inr none) = inr (record { written = n; fewer = lt; wrote = gets-no_more (lines n) first none })
 
-  -- some bytes were written, and others behind them or a front of those
+  -- some bytes were written, and others after them or a front of those
   pub written-behind : (done more : List ℕ) (written : Bool) (wanted status : Status) → IsPut (grown a old b mid) done written → written ≡ true
       → IsWritten (grown b mid c new) more wanted status → IsWritten (grown a old c new) (done ++ more) wanted status
   written-behind done more true wanted status first e (inl whole) = inl (gets-behind done more first whole.0, whole.1)

@@ -72,7 +72,7 @@ module _ (spell : ℕ → List ℕ) (files : List (String Global)) (answers : Li
   abbrev pub pair_line : List ℕ × Answer → List ℕ
   pair_line p = take_line spell p.0 p.1
 
-  -- the lines of the first so many answers, and of all
+  -- the lines of the first n answers, and of all
   pub first-pairs : (n : ℕ) → first_take_lines spell (map string_bytes files) answers n ≡ flat_map pair_line (take n pairs)
   first-pairs n = ap (flat_map pair_line) (zip-take n (map string_bytes files) answers)
 

@@ -31,7 +31,7 @@ take_line spell name (Err refusal) = name ++ (codes " refused " ++ (refusal_text
 abbrev pub take_lines : (ℕ → List ℕ) → List (List ℕ) → List Answer → List ℕ
 take_lines spell names answers = flat_map (λ p. take_line spell p.0 p.1) (zip names answers)
 
--- those of the first so many answers
+-- those of the first n answers
 abbrev pub first_take_lines : (ℕ → List ℕ) → List (List ℕ) → List Answer → ℕ → List ℕ
 first_take_lines spell names answers n = take_lines spell names (take n answers)
 
@@ -79,7 +79,7 @@ abbrev pub list_lines : (ℕ → List ℕ) → Holdings → ℕ → List Key →
 list_lines spell h place [] = []
 list_lines spell h place (k ∷ ks) = list_line spell place k (h k) ++ list_lines spell h (place + 1) ks
 
--- those of the first so many recordings
+-- those of the first n recordings
 abbrev pub first_list_lines : (ℕ → List ℕ) → Holdings → List Key → ℕ → List ℕ
 first_list_lines spell h keys n = list_lines spell h 1 (take n keys)
 

@@ -26,7 +26,8 @@ Gets w bytes = Appends w.before w.after bytes × (w.failed_after ≡ w.failed_be
 abbrev pub GetsFront : Growth → List ℕ → Type 0
 GetsFront w bytes = WritesFront w.before w.after bytes × (w.failed_after ≡ one_more w.failed_before)
 
--- memory for the text of a line was refused, and of so many lines, of which the first n are `lines n`, it got those before it
+-- memory for the text of a line was refused: of `count` lines, of which the first n are `lines n`,
+-- those before it were written
 pub record LacksText (w : Growth) (lines : ℕ → List ℕ) (count : ℕ) : Type 0 where
   pub written : ℕ
   pub fewer : written < count
@@ -42,7 +43,7 @@ IsPut w bytes written = MatchBool written (Gets w bytes) (GetsFront w bytes)
 abbrev pub IsLinePut : Growth → List ℕ → Bool → Type 0
 IsLinePut w text written = MatchBool written (Gets w text) (GetsFront w text ⊎ Gets w [])
 
--- so many lines were written; or a write failed, or memory for the text of one was refused
+-- `count` lines were written; or a write failed, or memory for the text of one was refused
 abbrev pub ArePut : Growth → (ℕ → List ℕ) → ℕ → Bool → Type 0
 ArePut w lines count written = MatchBool written (Gets w (lines count)) (GetsFront w (lines count) ⊎ LacksText w lines count)
 

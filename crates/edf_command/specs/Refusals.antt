@@ -1,4 +1,5 @@
--- The texts of refusals: `E`, the number, the name and the details, each behind a space. Numbers are decimal.
+-- The texts of refusals: `E`, the number, the name and the details, each after a space. Numbers are
+-- decimal.
 use Rattle.std.specs.Prelude.{ℕ, ◌<◌, List, [], ◌++◌, Option, Some, None, codes, decimal}
 use Rattle.edf_time.specs.Civil.{window, IsInstantText}
 use Rattle.edf_header.specs.declared.fault.HeaderFault.{HeaderFault}
@@ -21,7 +22,7 @@ use Rattle.edf_export.specs.declared.fault.ExportFault.TheVariants as out
 abbrev pub IsSpelling : (ℕ → List ℕ) → Type 0
 IsSpelling spell = (instant : ℕ) → instant < window → IsInstantText (spell instant) instant
 
--- E1 to E20: the name, and what stands before the place
+-- E1 to E20: the name, and what comes before the place
 abbrev pub header_words : HeaderFault → List ℕ
 header_words header.Cut = codes "Cut"
 header_words (header.Unprintable offset) = codes "Unprintable offset="

@@ -79,7 +79,7 @@ module _ {S : Type 0} (g : Ghosts S) (old new : Kept S) (out err : Growth) where
     pub said : (spell : ℕ → List ℕ) → IsSpelling spell → AreTold out (first_list_lines spell h keys) (length keys) Done status
     pub silent : Gets err []
 
-  -- the store refused behind some lines
+  -- the store refused after some lines
   pub record StopsListing (h : Holdings) (status : Status) : Type 0 where
     pub given : List Key
     pub fault : StoreFault
@@ -88,7 +88,8 @@ module _ {S : Type 0} (g : Ghosts S) (old new : Kept S) (out err : Growth) where
     pub written : (spell : ℕ → List ℕ) → IsSpelling spell → Gets out (list_lines spell h 1 given)
     pub said : IsWritten err (list_refused_line fault) Trouble status
 
-  -- on any disk: it is done, nothing is told and no write failed; or a line could not be written; or why not is told, and no write failed
+  -- on any disk: it is done, nothing is printed on `err` and no write failed; or a line could not
+  -- be written; or why not is printed, and no write failed
   abbrev pub TellsLines : Status → Type 0
   TellsLines status =
       ((out.failed_after ≡ out.failed_before) × Gets err [] × (status ≡ Done))
@@ -109,7 +110,8 @@ module _ {S : Type 0} (g : Ghosts S) (old new : Kept S) (out err : Growth) where
       ⊎ ((fault : ExportFault) × IsNotExported out.before out.after k (h k) fault × CountsExportFault out.failed_before out.failed_after fault
       × IsWritten err (export_refused_line fault) (export_status fault) status)
 
-  -- on any disk: it is done, nothing is told and no write failed; or why not is told, E43 exactly where a write failed
+  -- on any disk: it is done, nothing is printed on `err` and no write failed; or why not is
+  -- printed, E43 exactly where a write failed
   abbrev pub TellsWrites : Status → Type 0
   TellsWrites status =
       ((out.failed_after ≡ out.failed_before) × Gets err [] × (status ≡ Done))

@@ -16,7 +16,7 @@ use edf_store::Store;
 use sqlite::Alter;
 use std::alloc::Global;
 
-/// Tells that there is no memory for the reader. It takes none.
+/// Prints that there is no memory for the reader. Printing takes none.
 fn tell_memory<F: Output>(err: &mut F, name: &str) -> Status
     ensures { IsWritten (grown (F.contents err.old) (F.failures err.old) (F.contents err.new) (F.failures err.new)) (convert_memory_line name.now) Status.Trouble result }
 {

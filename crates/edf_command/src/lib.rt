@@ -5,7 +5,7 @@
 //! - [`run`]: one order over its store and over what opens files ([`Inputs`]).
 //! - [`parse`], [`Order`], [`CommandFault`]: the words, read, and nothing else.
 //! - [`Status`]: how it went, and the number that the program ends with.
-//! - [`refusal_text`]: a refusal as a line tells it.
+//! - [`refusal_text`]: a refusal, as a line has it.
 #![tactic(auto)]
 
 mod converting;

@@ -84,7 +84,8 @@ fn put_recording<S: Alter, O: Output>(
     }
 }
 
-/// A line a recording, in their order. None is written behind one that is not written whole.
+/// One line for each recording, in their order. After one that is not written whole none is
+/// written.
 fn put_recordings<S: Alter, O: Output>(
     alloc: Global,
     store: &mut Store<S>,
@@ -109,7 +110,8 @@ fn put_recordings<S: Alter, O: Output>(
     Ok(true)
 }
 
-/// That the store refused. The line is ready, so that it can be told where memory ran out.
+/// The line that the store refused. It is ready made, so that it can be printed where memory ran
+/// out.
 fn list_refused_line(fault: &StoreFault) -> &'static str
     ensures { result.now ≡ list_refused_line fault.now }
 {
@@ -121,7 +123,7 @@ fn list_refused_line(fault: &StoreFault) -> &'static str
     }
 }
 
-/// Tells why no more is listed.
+/// Prints why no more is listed.
 fn tell_refusal<F: Output>(err: &mut F, fault: &StoreFault) -> Status
     ensures { IsWritten (grown (F.contents err.old) (F.failures err.old) (F.contents err.new) (F.failures err.new)) (list_refused_line fault.now) Status.Trouble result }
 {

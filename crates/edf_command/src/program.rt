@@ -57,7 +57,8 @@ pub fn store_path(order: &Order) -> Option<&str>
     }
 }
 
-/// That a store can't be opened. The line is ready, so that it can be told where memory ran out.
+/// The line that a store can't be opened. It is ready made, so that it can be printed where memory
+/// ran out.
 fn store_refused_line(fault: &StoreFault) -> &'static str
     ensures { result.now ≡ store_refused_line fault.now }
 {
@@ -69,7 +70,7 @@ fn store_refused_line(fault: &StoreFault) -> &'static str
     }
 }
 
-/// Tells that the store of an order can't be opened. The order is not run.
+/// Prints that the store of an order can't be opened. The order is not run.
 pub fn refuse_store<F: Output>(fault: &StoreFault, err: &mut F) -> Status
     ensures { IsWritten (grown (F.contents err.old) (F.failures err.old) (F.contents err.new) (F.failures err.new)) (store_refused_line fault.now) Status.Trouble result }
 {

@@ -14,7 +14,7 @@ use edf_tal::TalFault;
 use edf_time::{Instant, instant_text};
 use std::alloc::{AllocError, Global};
 
-/// The name of a header's fault, and what stands before its place.
+/// The name of a header's fault, and what comes before its place.
 fn header_words(fault: &HeaderFault) -> &'static str
     ensures { result.now ≡ header_words fault.now }
 {
@@ -116,7 +116,7 @@ fn store_text(alloc: Global, fault: &StoreFault) -> Result<String, AllocError>
     }
 }
 
-/// Three texts, one behind another.
+/// Three texts, one after another.
 #[tactic(auto, using(std::proofs::Common::append_assoc))]
 pub(crate) fn joined(
     alloc: Global,

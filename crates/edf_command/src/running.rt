@@ -41,9 +41,10 @@ pub trait Inputs {
 
 /// Runs an order over a store, which is the one that the order names; for `Convert` it is an empty one.
 ///
-/// Files and lists go to `out`, and why something is not done to `err`, but for the files of `take`: their lines all go to `out`.
-/// `take` submits every file before it writes a line. A line that can't be written, for a failed write or for want of memory,
-/// is trouble, and no line follows it; a part of a line goes out only where a write failed.
+/// Files and lists go to `out`, and why something is not done to `err`, but for the files of
+/// `take`: their lines all go to `out`. `take` submits every file before it writes a line. A line
+/// that can't be written, for a failed write or since memory ran out, is trouble, and no line
+/// follows it; a part of a line goes out only where a write failed.
 pub fn run<S: Alter, I: Inputs, O: Output, F: Output>(
     alloc: Global,
     order: &Order,

@@ -19,7 +19,7 @@ use itoa::Buffer;
 use sqlite::Alter;
 use std::alloc::Global;
 
-/// That the store refused an export.
+/// The line that the store refused an export.
 fn store_refused_line(fault: &StoreFault) -> &'static str
     ensures { result.now ≡ codes "export refused " ++ (store_text fault.now ++ (10 ∷ [])) }
 {
@@ -31,7 +31,8 @@ fn store_refused_line(fault: &StoreFault) -> &'static str
     }
 }
 
-/// Why a recording is not exported. The line is ready, so that it can be told where memory ran out.
+/// The line why a recording is not exported. It is ready made, so that it can be printed where
+/// memory ran out.
 fn export_refused_line(fault: &ExportFault) -> &'static str
     ensures { result.now ≡ export_refused_line fault.now }
 {
@@ -43,7 +44,7 @@ fn export_refused_line(fault: &ExportFault) -> &'static str
     }
 }
 
-/// Tells why a recording is not exported.
+/// Prints why a recording is not exported.
 fn tell_refusal<F: Output>(err: &mut F, fault: &ExportFault) -> Status
     ensures { IsWritten (grown (F.contents err.old) (F.failures err.old) (F.contents err.new) (F.failures err.new))
         (export_refused_line fault.now) (export_status fault.now) result }
@@ -52,7 +53,7 @@ fn tell_refusal<F: Output>(err: &mut F, fault: &ExportFault) -> Status
     tell_bytes(err, export_refused_line(fault).as_bytes(), status)
 }
 
-/// Tells that no recording has the place. It takes no memory.
+/// Prints that no recording has the place. Printing takes no memory.
 fn tell_no_recording<F: Output>(err: &mut F, place: u32) -> Status
     ensures { IsWritten (grown (F.contents err.old) (F.failures err.old) (F.contents err.new) (F.failures err.new)) (no_recording_line place) Status.Refused result }
 {
@@ -65,7 +66,7 @@ fn tell_no_recording<F: Output>(err: &mut F, place: u32) -> Status
     }
 }
 
-/// Writes a recording's canonical file, or tells why not.
+/// Writes a recording's canonical file, or prints why not.
 pub(crate) fn send_recording<S: Alter, O: Output, F: Output>(
     alloc: Global,
     store: &mut Store<S>,

@@ -76,7 +76,7 @@ fn take_line(
     }
 }
 
-/// A line a file, in their order. None is written behind one that is not written whole.
+/// One line for each file, in their order. After one that is not written whole none is written.
 fn put_answers<O: Output>(
     alloc: Global,
     out: &mut O,
@@ -115,7 +115,8 @@ fn take_status(answers: &[Result<Receipt, Refusal>]) -> Status
     status
 }
 
-/// Submits each file in the order of the words, whatever became of those before, and writes a line for each.
+/// Submits each file in the order of the words, also after refused ones, and writes one line for
+/// each.
 pub(crate) fn take<S: Alter, I: Inputs, O: Output, F: Output>(
     alloc: Global,
     files: &[String],

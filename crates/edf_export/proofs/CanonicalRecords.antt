@@ -18,7 +18,7 @@ use Rattle.edf_export.specs.File.{block_of, record_text}
 use Rattle.edf_fragment.specs.Sound.{IsSoundRecord, AreSound}
 use Rattle.edf_export.proofs.Records.{AreReadable, one_block, record-read}
 
--- where a record that starts at `start` may stand in a file that starts at `base`
+-- where a record that starts at `start` may be in a file that starts at `base`
 abbrev pub MayStand : Place → ℕ → ℕ → Type 0
 MayStand First base start = (base ≤ start) × (start < base + 10 ^ 9)
 MayStand (After before duration) base start = before + duration ≤ start

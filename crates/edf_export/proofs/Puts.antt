@@ -1,4 +1,4 @@
--- Bytes put through a buffer, one piece behind another.
+-- Bytes put through a buffer, one piece after another.
 use Rattle.std.proofs.Common.{◌≡◌, ℕ, List, [], ◌++◌, take, drop, refl, sym, ap, ◌∙◌, subst, append_assoc, append-nil, take-append-drop, Option, Result, Ok, Err}
 use Rattle.std.specs.Io.KnownBytes.{Appends}
 use Rattle.std.proofs.KnownBytes.{Appends-trans, Appends-nil}
@@ -33,7 +33,7 @@ pub flush-failed : (a b : Buffered) (n : ℕ) → Appends a.contents b.contents 
 flush-failed a b n wrote =
     (drop n a.held, record { front = take n a.held; wrote = wrote; parts = append-nil a.held ∙ sym (take-append-drop n a.held) })
 
--- bytes behind an empty buffer, or a front of them
+-- bytes after an empty buffer, or a front of them
 pub sent : (a b : Buffered) (bytes : List ℕ) → a.held ≡ [] → b.held ≡ [] → Appends a.contents b.contents bytes → Writes a b bytes b.held
 sent a b bytes none left wrote = record {
   front = bytes;
@@ -85,17 +85,17 @@ pub flush-refused : (a b : Buffered) (bytes : List ℕ) (fault : OutputFault) �
 flush-refused a b bytes fault f =
     ((f.0.0 ++ bytes, writes-no-more a b [] bytes f.0.0 f.0.1), subst (CountsOutputFault a.failures b.failures) (sym f.1) f.2)
 
--- bytes behind others that were put
+-- bytes after others that were put
 pub put-behind : (a b c : Buffered) (x y : List ℕ) (result : Result (Unit {0}) OutputFault) → Writes a b x b.held → b.failures ≡ a.failures → IsPut b c y result → IsPut a c (x ++ y) result
 put-behind a b c x y (Ok u) w same p = (writes-then a b c x y c.held w p.0, p.1 ∙ same)
 put-behind a b c x y (Err fault) w same p =
     ((p.0.0, writes-then a b c x y p.0.0 w p.0.1), counted-behind a.failures b.failures c.failures fault same p.1)
 
--- and behind a flush
+-- and after a flush
 pub put-flushed : (a b c : Buffered) (bytes : List ℕ) (result : Result (Unit {0}) OutputFault) (u : Unit {0}) → IsFlushed a b (Ok u) → IsPut b c bytes result → IsPut a c bytes result
 put-flushed a b c bytes result u f p = put-behind a b c [] bytes result (subst (Writes a b []) (sym f.1) f.0) f.2 p
 
--- bytes that fail leave those behind them
+-- bytes that fail leave those after them
 pub put-fails : (a b : Buffered) (x y : List ℕ) (fault : OutputFault) → IsPut a b x (Err fault) → IsPut a b (x ++ y) (Err fault)
 put-fails a b x y fault p = ((p.0.0 ++ y, writes-no-more a b x y p.0.0 p.0.1), p.1)
 

@@ -10,7 +10,7 @@ use Rattle.edf_tal.specs.declared.place.Place.{Place}
 use Rattle.edf_fragment.specs.Fragment.{DataRecord, IsDataRecord, AreDataRecords, blocks, outside, ordinary_bytes, place_behind}
 use Rattle.edf_export.specs.File.{block_of, record_text}
 
--- the one block that stands behind so many bytes
+-- the one block, of `size` bytes, that comes after `at` bytes
 abbrev pub one_block : ℕ → ℕ → List Block
 one_block at size = record { at = at; bytes = size } ∷ []
 

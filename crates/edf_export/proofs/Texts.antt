@@ -1,4 +1,4 @@
--- The texts of the records that a walk gives, put out one behind another.
+-- The texts of the records that a walk gives, put out one after another.
 use Rattle.std.proofs.Common.{◌≡◌, ℕ, ◌+◌, ◌*◌, ◌≤◌, ◌<◌, List, [], ◌++◌, length, take, drop, get_or, refl, sym, ap, ◌∙◌, subst, arith, append-nil, take-append-drop, Some, Err}
 use Rattle.std.specs.List.{flat_map, slice_get}
 use Rattle.std.specs.Io.KnownBytes.{Appends}
@@ -70,7 +70,7 @@ module _ (base samples fs size i : ℕ) (rs : List DataRecord) (r : DataRecord) 
   texts_stop a b c left w put =
       (left ++ texts (drop (i + 1) rs), writes-same a c _ _ _ (sym all) (writes-no-more a c _ (texts (drop (i + 1) rs)) left (writes-then a b c _ _ left w put)))
 
--- the records so far, and none behind them
+-- the records so far, and none after them
 pub texts_end : (base samples i : ℕ) (rs : List DataRecord) (a b : Buffered) → Writes a b (flat_map (record_text base (2 * samples)) (take i rs)) b.held
     → (rest : List ℕ) × Writes a b (flat_map (record_text base (2 * samples)) rs) rest
 texts_end base samples i rs a b w =
@@ -79,7 +79,7 @@ texts_end base samples i rs a b w =
     sym (flat_map-append f (take i rs) (drop i rs)) ∙ ap (λ (l : List DataRecord). flat_map f l) (take-append-drop i rs) in
     (b.held ++ flat_map f (drop i rs), writes-same a b _ _ _ all (writes-no-more a b _ (flat_map f (drop i rs)) b.held w))
 
--- ---- from an empty buffer: a header, and a body behind it
+-- ---- from an empty buffer: a header, and then a body
 
 module _ (a b : Buffered) (header body : List ℕ) (none : a.held ≡ []) where
   pub header_stops : (left : List ℕ) → Writes a b header left → WritesFront a.contents b.contents (header ++ body)

@@ -31,7 +31,7 @@ refusal_told (Store cause) a b = tt
 refusal_told Foreign a b = absurd (a refl)
 refusal_told Failed a b = absurd (b refl)
 
--- behind no refusal is a transaction open where none is
+-- no refusal leaves a transaction open where none was
 pub idle_behind : (s : State) (fault : ExportFault) → s.in_transaction ≡ false → IsIdleBehind s fault
 idle_behind s NoRecording idle = idle
 idle_behind s (Refused fault) idle = tt
@@ -82,7 +82,7 @@ stays_same g s = record {
 pub clean_before : {S : Type 0} (g : Ghosts S) (old new : Kept S) → Stays g old new → HasCleanDisk (at g new) → HasCleanDisk (at g old)
 clean_before g old new s clean = omega (arith, s.crash.clean, clean)
 
--- what a walk stands in is sound
+-- the recording that a walk is in is sound
 pub sound_recording : (cap : ℕ) (s : State) (recording : Option ℤ) (after : _) (h : Holdings) (k : Key) (n : ℕ) → StandsBehind cap s recording after h k n
     → IsSoundRecording cap k (h k)
 sound_recording cap s recording after h k n it =

@@ -36,8 +36,9 @@ abbrev pub StaysInFile : Option (List ℕ) → Option (List ℕ) → Key → Lis
 StaysInFile before after k [] = Keeps before after
 StaysInFile before after k (r ∷ rs) = (file : List ℕ) → IsCanonicalFile file k (r ∷ rs) → WritesFront before after file
 
--- what went out before each refusal, and of what records: there are none where that is told, and some where a write failed;
--- the store refuses for want of memory or because `sqlite` refused, and never finds its rows foreign
+-- what went out before each refusal, and of what records: there are none where that is told, and
+-- some where a write failed; the store refuses since memory ran out or since `sqlite` refused, and
+-- never finds its rows foreign
 abbrev pub IsNotExported : Option (List ℕ) → Option (List ℕ) → Key → List DataRecord → ExportFault → Type 0
 IsNotExported before after k records NoRecording = (records ≡ []) × Keeps before after
 IsNotExported before after k records (Store fault) = StaysInFile before after k records × IsStoreRefusal fault
@@ -54,7 +55,7 @@ CountsExportFault old new Write = new ≡ one_more old
 abbrev pub CountsExport : ℕ → ℕ → Result ℕ ExportFault → Type 0
 CountsExport old new result = MatchResult result (λ len. new ≡ old) (CountsExportFault old new)
 
--- no transaction is open behind a file, nor behind a refusal that is not the store's
+-- after a file no transaction is open, nor after a refusal that is not the store's
 abbrev pub IsIdleBehind : State → ExportFault → Type 0
 IsIdleBehind s NoRecording = s.in_transaction ≡ false
 IsIdleBehind s (Store fault) = Unit {0}

@@ -14,7 +14,7 @@ second_of instant = instant / 10 ^ 9 * 10 ^ 9
 abbrev pub block_of : ℕ → DataRecord → List ℕ
 block_of file_start r = block_text file_start r.start r.annotations
 
--- the block, and zeros behind it up to this size
+-- the block, and then zeros up to `size` bytes
 abbrev pub filled_block : ℕ → ℕ → DataRecord → List ℕ
 filled_block file_start size r = block_of file_start r ++ replicate (size - length (block_of file_start r)) 0
 
@@ -22,7 +22,7 @@ filled_block file_start size r = block_of file_start r ++ replicate (size - leng
 abbrev pub record_text : ℕ → ℕ → DataRecord → List ℕ
 record_text file_start size r = r.samples ++ filled_block file_start size r
 
--- so many samples, two bytes each, hold the block of every record
+-- `samples` samples, two bytes each, hold the block of every record
 abbrev pub Hold : ℕ → ℕ → List DataRecord → Type 0
 Hold file_start samples records = All (λ r. length (block_of file_start r) ≤ 2 * samples) records
 

@@ -1,4 +1,4 @@
-//! A data record as it stands in a canonical file.
+//! A data record as it is in a canonical file.
 
 ghost use Rattle.std.specs.Prelude.{◌≤◌, length};
 ghost use Rattle.edf_export.specs.File.{block_of, filled_block, record_text};
@@ -11,7 +11,7 @@ use edf_tal::write_block;
 use edf_time::Instant;
 use std::alloc::Global;
 
-/// Puts the block of a data record, and zeros behind it up to `size` bytes.
+/// Puts the block of a data record, and then zeros up to `size` bytes.
 fn put_block<W: Output>(
     alloc: Global,
     out: &mut W,

@@ -40,7 +40,7 @@ pub(crate) fn flush<W: Output>(out: &mut W, held: &mut Buffer) -> Result<(), Out
     Ok(())
 }
 
-/// Writes bytes out behind those that are held.
+/// Writes the held bytes, and then these.
 fn put_through<W: Output>(out: &mut W, held: &mut Buffer, bytes: &[u8]) -> Result<(), OutputFault>
     ensures { IsPut (buffered (W.contents out.old) (W.failures out.old) held.old.bytes.items)
         (buffered (W.contents out.new) (W.failures out.new) held.new.bytes.items) bytes.now result }
@@ -52,7 +52,7 @@ fn put_through<W: Output>(out: &mut W, held: &mut Buffer, bytes: &[u8]) -> Resul
     Ok(())
 }
 
-/// Holds bytes back behind those that are held.
+/// Holds these bytes back after those already held.
 fn hold<W: Output>(out: &mut W, held: &mut Vec<u8>, bytes: &[u8]) -> Result<(), OutputFault>
     ensures put { IsPut (buffered (W.contents out.old) (W.failures out.old) held.old.items)
         (buffered (W.contents out.new) (W.failures out.new) held.new.items) bytes.now result }
@@ -64,7 +64,7 @@ fn hold<W: Output>(out: &mut W, held: &mut Vec<u8>, bytes: &[u8]) -> Result<(), 
     }
 }
 
-/// Holds the bytes back behind those that are held, where there is room, and else writes.
+/// Holds these bytes back after those already held where there is room, and else writes.
 pub(crate) fn put<W: Output>(
     out: &mut W,
     held: &mut Buffer,
@@ -83,10 +83,10 @@ pub(crate) fn put<W: Output>(
     hold(out, &mut held.bytes, bytes)
 }
 
-/// Zeros, as many as are put at once.
+/// The most zeros that are put at once.
 const ZEROS: [u8; 4_096] = [0; 4_096];
 
-/// Puts so many zeros.
+/// Puts `count` zeros.
 pub(crate) fn put_zeros<W: Output>(
     out: &mut W,
     held: &mut Buffer,

@@ -24,7 +24,8 @@ pub(crate) struct Plan {
     pub(crate) samples: u32,
 }
 
-/// The bytes of the longest block of so many data records, onsets counted from `file_start`.
+/// Length in bytes of the longest block among the next `count` records of a walk, with onsets
+/// counted from `file_start`.
 fn longest_block<S: Alter>(
     walk: &mut Records<'_, S>,
     count: u32,
@@ -57,7 +58,7 @@ fn longest_block<S: Alter>(
     Ok(longest)
 }
 
-/// The bytes of the longest block of the data records that an identity holds, which are so many.
+/// Length in bytes of the longest block among the identity's `count` records.
 fn measure<S: Alter>(
     store: &mut Store<S>,
     identity: &Identity,

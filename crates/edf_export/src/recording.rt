@@ -18,8 +18,9 @@ use std::alloc::Global;
 
 /// Writes the canonical EDF+D file of what is held under an identity, and tells its length in bytes.
 ///
-/// The data records stand in it by rising starts, with onsets that count from the second in which the first begins. One of
-/// them is in memory at a time, beside a buffer of 64 KiB. The store stays as it is. The writer is not flushed.
+/// The data records are in it by rising starts, with onsets that count from the second in which the
+/// first begins. One of them is in memory at a time, beside a buffer of 64 KiB. The store stays as
+/// it is. The writer is not flushed.
 ///
 /// # Errors
 /// `NoRecording` (E44) where nothing is held under the identity; then nothing was written. `Store` where the store refuses a read:

@@ -48,7 +48,7 @@ fn put_fitting<W: Output>(
     Ok(())
 }
 
-/// Puts the data records of a walk, which are as many as planned.
+/// Puts the data records of a walk. Their number is the planned one.
 fn put_walk<S: Alter, W: Output>(
     alloc: Global,
     walk: &mut Records<'_, S>,
@@ -82,7 +82,7 @@ fn put_walk<S: Alter, W: Output>(
     Ok(())
 }
 
-/// Writes a header and the data records of a walk behind it, from an empty buffer.
+/// Writes a header and then the data records of a walk, from an empty buffer.
 fn send_file<S: Alter, W: Output>(
     alloc: Global,
     walk: &mut Records<'_, S>,
@@ -111,7 +111,7 @@ fn send_file<S: Alter, W: Output>(
     Ok(())
 }
 
-/// Writes a header and behind it the data records that an identity holds.
+/// Writes a header and then the data records that an identity holds.
 fn send_recording<S: Alter, W: Output>(
     alloc: Global,
     store: &mut Store<S>,

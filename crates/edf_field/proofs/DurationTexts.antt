@@ -33,7 +33,7 @@ value-none (d ∷ ds) zeros =
     let e : digit_value d ≡ 0 = ap digit_value (All-head (λ (b : ℕ). b ≡ 48) d ds zeros) in
     rw (value-cons d ds, e, value-none ds (All-tail (λ (b : ℕ). b ≡ 48) d ds zeros)) (omega arith)
 
--- what a digit counts that has j - 1 places behind it
+-- what a digit counts that has j - 1 places after it
 abbrev unit_of : ℕ → ℕ
 unit_of zero = 0
 unit_of (suc j) = 10 ^ j
@@ -45,7 +45,7 @@ unit-next (suc j) = omega (arith, pow-succ' 10 j)
 step : (x p d l j : ℕ) → p * l ≡ d * j → (x * j + p) * (10 * l) ≡ (x * l + d) * (10 * j)
 step x p d l j e = omega (arith, e)
 
--- what digits behind a dot are worth, and what they write, where those past the last unit are zeros
+-- what digits after a dot are worth, and what they write, where those past the last unit are zeros
 worth : (j : ℕ) (ds : List ℕ) → AllDigits 10 ds → AreZeros (drop j ds) → fraction_value (unit_of j) ds * 10 ^ length ds ≡ digits_value 10 ds * 10 ^ j
 worth zero ds all zeros = rw (places-none ds, value-none ds zeros) (omega arith)
 worth (suc j) [] all zeros = omega arith
@@ -122,7 +122,7 @@ behind-dot : (f : List ℕ) → point f ≢ Some []
 behind-dot [] e = cc
 behind-dot (c ∷ f) e = cc
 
--- a decimal and spaces behind it
+-- a decimal and spaces after it
 of-seconds : (text rest : List ℕ) (nanos : ℕ) → IsSeconds text nanos → AreSpaces rest → 0 < nanos → IsDurationText (text ++ rest) nanos
 of-seconds text rest nanos s blank some =
     let w : AreDigits s.whole = digits-are s.whole (whole-digits text s.whole s.fraction s.parts) in

@@ -15,7 +15,7 @@ len-at [] [] all off = refl
 len-at [] (c ∷ cs) all off = rw off refl
 len-at (d ∷ ds) rest all off = rw all.0 (omega (arith, len-at ds rest all.1 off))
 
--- the digits, and what is behind them
+-- the digits, and what is after them
 pub front : (ds rest : List ℕ) → AreDigits ds → is_ascii_digit (get_or rest 0 0) ≡ false → digits (ds ++ rest) ≡ ds
 front ds rest all off = rw (len-at ds rest all off) (take_at ds rest (length ds) refl)
 
@@ -30,7 +30,7 @@ unsigned-is None d ds rest h = rw (no-sign d h) refl
 unsigned-is (Some true) d ds rest h = refl
 unsigned-is (Some false) d ds rest h = refl
 
--- so many spaces
+-- n spaces
 pub spaces-are : (xs : List ℕ) (n : ℕ) → length xs ≡ n → All (λ x. x ≡ 32) xs → xs ≡ replicate n 32
 spaces-are xs n len all =
     ext_get_or 0 xs (replicate n 32) (omega (arith, length-replicate {A = ℕ} n 32)) (λ i lt. all i 0 lt ∙ sym (get_or-replicate n i 32 0 (omega arith)))

@@ -44,7 +44,7 @@ sign-of : (text : List ℕ) → SignOf text
 sign-of [] = record { sign = None; parts = refl; minus = refl }
 sign-of (b ∷ bs) = sign-by b bs (b == 43) (b == 45) refl refl
 
--- its dot with the digits behind it, and what follows them
+-- its dot with the digits after it, and what follows them
 record PointOf (text : List ℕ) : Type 0 where
   point : Option (List ℕ)
   parts : text ≡ point_text point ++ behind_fraction text

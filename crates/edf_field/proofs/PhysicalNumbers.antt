@@ -8,7 +8,7 @@ use Rattle.edf_field.specs.Grammar.{IsPhysicalText}
 use Rattle.edf_field.proofs.Decimals.{power}
 use Rattle.edf_field.proofs.NumberTexts.{physical-from}
 
--- numbers with a sign are equal where they are so many times as large
+-- numbers with a sign stay equal multiplied by one number, and are equal where those products are
 no-sign : (x y : ℕ) → x ≡ 0 → y ≡ 0 → (neg_ℤ (pos x) ≡ pos y) × (pos y ≡ neg_ℤ (pos x))
 no-sign x y a b = (rw (a, b) refl, rw (a, b) refl)
 
@@ -30,7 +30,7 @@ cut false false m n c some e = ap pos (eq_of_mul-eq-mul_right c some m n (omega 
 cut true false m n c some e = (no-sign m n (none m c some (omega (arith, ints))) (none n c some (omega (arith, ints)))).0
 cut false true m n c some e = (no-sign n m (none n c some (omega (arith, ints))) (none m c some (omega (arith, ints)))).1
 
--- sizes of p and q places, each by the places of the other, are those at one place, so many times as large
+-- a number of p decimal places, brought to `at` places, where another has q
 cross : (a p q at : ℕ) → p ≤ at → a * 10 ^ q * 10 ^ at ≡ a * 10 ^ (at - p) * 10 ^ (p + q)
 cross a p q at le =
     let e : at ≡ at - p + p = omega arith in

@@ -21,7 +21,7 @@ one-after f None (Some day) a b p q = absurd (x-no-date f day p.0 q.1)
 one-after f (Some other) None a b p q = absurd (x-no-date f other q.0 p.1)
 one-after f (Some other) (Some day) a b p q = (ap (λ (z : ℤ). Some z) (one-id_day (field f 10 11) other day p.1 q.1), p.2 ∙ sym q.2)
 
--- no Startdate subfield stands behind another front
+-- no Startdate subfield comes after another front
 pub other-front : (f : List ℕ) → take 10 f ≢ codes "Startdate " → (s : Option ℤ) (after : List ℕ) → ¬ IsStartdate f s after
 other-front f other None after p = other (sym (take-take 10 11 f (omega arith)) ∙ ap (take 10) p.0)
 other-front f other (Some day) after p = other p.0

@@ -61,7 +61,7 @@ first-front text some =
           ap subfields (sym e) ∙ alone (take n text) long (front-all text) ∙ ap (λ (l : List ℕ). take n text ∷ subfields l) (sym (drop_all n text past))
     ]
 
--- past the spaces at the front something stands at once, or nothing at all
+-- after the spaces at the front comes something at once, or nothing at all
 pub front-some : (text : List ℕ) → 0 < length (drop (spaces_len text) text) → 0 < front_len (drop (spaces_len text) text)
 front-some text some =
     let n = spaces_len text in

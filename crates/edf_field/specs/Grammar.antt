@@ -46,15 +46,15 @@ with_sign sign n = signed (unwrap_or sign false) n
 abbrev pub IsSignedText : List ℕ → ℤ → Type 0
 IsSignedText text z = (sign : Option Bool) × (whole : List ℕ) × IsNumberText text sign whole None × (z ≡ with_sign sign (digits_value 10 whole))
 
--- the digits of a decimal that is written to so many places behind its dot, zeros at the end
+-- the digits of a decimal that is written to `at` places after its dot, zeros at the end
 abbrev pub filled : List ℕ → List ℕ → ℕ → List ℕ
 filled whole part at = whole ++ (part ++ replicate (at - length part) 48)
 
--- and with so many digits before it, zeros at the front
+-- and with `wide` digits before it, zeros at the front
 abbrev pub widened : List ℕ → List ℕ → ℕ → ℕ → List ℕ
 widened whole part wide at = replicate (wide - length whole) 48 ++ filled whole part at
 
--- a physical value that is z where it counts in the last of `at` places behind the dot
+-- a physical value that is z where it counts in the last of `at` places after the dot
 pub record IsPhysicalText (text : List ℕ) (at : ℕ) (z : ℤ) : Type 0 where
   pub sign : Option Bool
   pub whole : List ℕ
@@ -63,8 +63,9 @@ pub record IsPhysicalText (text : List ℕ) (at : ℕ) (z : ℤ) : Type 0 where
   pub places_in : length (unwrap_or point []) ≤ at
   pub value : z ≡ with_sign sign (digits_value 10 (filled whole (unwrap_or point []) at))
 
--- a duration: a decimal without a sign, and with a digit behind its dot; its seconds, the number of all its digits over so many
--- places, are these nanoseconds, more than none
+-- a duration: a decimal without a sign, and with a digit after its dot. Its seconds, the number of
+-- all its digits divided by 10 for each place after the dot, are `nanos` nanoseconds, more than
+-- none
 pub record IsDurationText (text : List ℕ) (nanos : ℕ) : Type 0 where
   pub whole : List ℕ
   pub point : Option (List ℕ)
@@ -73,7 +74,7 @@ pub record IsDurationText (text : List ℕ) (nanos : ℕ) : Type 0 where
   pub value : nanos * 10 ^ length (unwrap_or point []) ≡ digits_value 10 (whole ++ unwrap_or point []) * 10 ^ 9
   pub some : 0 < nanos
 
--- a decimal's digits, of which so many at most stand before its dot and behind it
+-- a decimal's digits: at most `wide` before its dot, and at most `at` after it
 pub record AreDecimalDigits (whole part : List ℕ) (wide at : ℕ) : Type 0 where
   pub whole_digits : AreDigits whole
   pub part_digits : AreDigits part

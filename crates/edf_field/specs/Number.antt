@@ -1,18 +1,18 @@
--- The number texts of header fields: each stands at the start of its field, and only spaces follow it.
+-- The number texts of header fields: each is at the start of its field, and only spaces follow it.
 use Rattle.std.specs.Prelude.{◌≡◌, ◌≢◌, ℕ, ◌+◌, ◌*◌, ◌^◌, ◌<◌, ◌==◌, ◌||◌, Bool, not, List, [], length, take, drop, slice_index, All, ℤ, pos, neg_ℤ, if◌then◌else◌}
 use Rattle.std.specs.List.{prefix_len}
 use Rattle.std.specs.Char.{is_ascii_digit}
 use Rattle.std.specs.Str.Parse.{digits_value}
 use Rattle.edf_time.specs.Decimal.{IsSeconds, fraction_value as decimal_places}
 
--- so many bytes from this place on
+-- `len` bytes from this place on
 abbrev pub field : List ℕ → ℕ → ℕ → List ℕ
 field bytes at len = take len (drop at bytes)
 
 abbrev pub AreSpaces : List ℕ → Type 0
 AreSpaces text = All (λ b. b ≡ 32) text
 
--- how many digits stand at the front
+-- how many digits are at the front
 abbrev pub digits_len : List ℕ → ℕ
 digits_len text = prefix_len is_ascii_digit text
 
@@ -36,21 +36,21 @@ pub record IsNumber (text : List ℕ) (n : ℕ) : Type 0 where
   pub whole : IsWhole text
   pub value : n ≡ whole_value text
 
--- without the sign, where one stands at the front
+-- without the sign, where one is at the front
 abbrev pub unsigned : List ℕ → List ℕ
 unsigned text = if (slice_index text 0 == 43) || (slice_index text 0 == 45) then drop 1 text else text
 
 abbrev pub signed : Bool → ℕ → ℤ
 signed negative n = if negative then neg_ℤ (pos n) else pos n
 
--- a whole number behind a sign or none
+-- a whole number after a sign or none
 abbrev pub IsSigned : List ℕ → Type 0
 IsSigned text = IsWhole (unsigned text)
 
 abbrev pub signed_value : List ℕ → ℤ
 signed_value text = signed (slice_index text 0 == 45) (whole_value (unsigned text))
 
--- the digits behind a dot, where one stands at the front, and what follows
+-- the digits after a dot, where one is at the front, and what follows
 abbrev pub fraction : List ℕ → List ℕ
 fraction text = if slice_index text 0 == 46 then digits (drop 1 text) else []
 
@@ -61,14 +61,14 @@ behind_fraction text = if slice_index text 0 == 46 then behind_digits (drop 1 te
 abbrev pub IsPhysical : List ℕ → Type 0
 IsPhysical text = (0 < digits_len (unsigned text)) × AreSpaces (behind_fraction (behind_digits (unsigned text)))
 
--- how many digits stand behind its dot, and the number that all its digits write
+-- how many digits are after its dot, and the number that all its digits write
 abbrev pub fraction_len : List ℕ → ℕ
 fraction_len text = length (fraction (behind_digits (unsigned text)))
 
 abbrev pub unscaled : List ℕ → ℕ
 unscaled text = digits_value 10 (digits (unsigned text)) * 10 ^ fraction_len text + digits_value 10 (fraction (behind_digits (unsigned text)))
 
--- its value, so many decimal places further on
+-- its value, `more` decimal places further on
 abbrev pub scaled : List ℕ → ℕ → ℤ
 scaled text more = signed (slice_index text 0 == 45) (unscaled text * 10 ^ more)
 
@@ -76,7 +76,7 @@ scaled text more = signed (slice_index text 0 == 45) (unscaled text * 10 ^ more)
 abbrev pub Differ : List ℕ → List ℕ → Type 0
 Differ a b = scaled a (fraction_len b) ≢ scaled b (fraction_len a)
 
--- how many bytes stand before the first space
+-- how many bytes come before the first space
 abbrev pub front_len : List ℕ → ℕ
 front_len text = prefix_len (λ b. not (b == 32)) text
 

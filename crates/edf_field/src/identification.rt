@@ -7,7 +7,7 @@ ghost use Rattle.edf_field.specs.Text.{subfields, IsPatient, IsSex, IsBirthdate,
 
 use edf_time::{Day, id_date};
 
-/// How many spaces stand at the front.
+/// How many spaces are at the front.
 fn spaces_len(text: &[u8]) -> usize
     ensures { result ≡ prefix_len (λ b. b == 32) text.now }
 {
@@ -19,7 +19,7 @@ fn spaces_len(text: &[u8]) -> usize
     text.len()
 }
 
-/// How many bytes stand before the first space.
+/// How many bytes come before the first space.
 pub(crate) fn front_len(text: &[u8]) -> usize
     ensures { result ≡ front_len text.now }
 {
@@ -96,7 +96,7 @@ fn has_three(text: &[u8]) -> bool
 /// Whether what follows a Startdate subfield is a space, and has an investigation code, a technician and an equipment code, and
 /// maybe more subfields (EDF+, additional specifications).
 ///
-/// In a recording field it is the 59 bytes behind a date, or the 69 behind `X`.
+/// In a recording field it is the 59 bytes after a date, or the 69 after `X`.
 pub fn is_behind_startdate(after: &[u8]) -> bool
     ensures { IsTrue result ↔ IsBehindStartdate after.now }
 {
@@ -106,7 +106,8 @@ pub fn is_behind_startdate(after: &[u8]) -> bool
     }
 }
 
-/// The Startdate subfield behind `Startdate` and a space: its day, or none where it is `X`; and what follows it.
+/// The Startdate subfield after `Startdate` and a space: its day, or none where it is `X`; and what
+/// follows it.
 fn read_startdate(text: &[u8]) -> Option<(Option<Day>, &[u8])>
     requires { length text.now ≡ 80 }
     ensures { MatchOption result

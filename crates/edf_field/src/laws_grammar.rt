@@ -18,8 +18,9 @@ pub fn signed_texts()
     ensures { (text : List ℕ) (z : ℤ) → (IsSigned text × (z ≡ signed_value text)) ↔ IsSignedText text z }
 {}
 
-/// A physical value is a sign or none, one digit or more, maybe a dot and zero or more digits, and then spaces. Counted in units
-/// of its last decimal place, or of any behind it, it is what its digits write, filled up with zeros to that place.
+/// A physical value is a sign or none, one digit or more, maybe a dot and zero or more digits, and
+/// then spaces. Counted in units of its last decimal place, or of any after it, it is what its
+/// digits write, filled up with zeros to that place.
 pub fn physical_texts()
     ensures { (text : List ℕ) (at : ℕ) (z : ℤ) → (IsPhysical text × (fraction_len text ≤ at) × (z ≡ scaled text (at - fraction_len text))) ↔ IsPhysicalText text at z }
 {}
@@ -35,7 +36,8 @@ pub fn duration_texts()
     ensures { (text : List ℕ) (nanos : ℕ) → IsDuration text nanos ↔ IsDurationText text nanos }
 {}
 
-/// Decimals write one number exactly where they have the same digits, but for zeros at the front and behind the last.
+/// Decimals write one number exactly where they have the same digits, but for zeros at the front
+/// and at the end.
 pub fn decimal_digits()
     ensures { (whole part other rest : List ℕ) (wide at : ℕ) → AreDecimalDigits whole part wide at → AreDecimalDigits other rest wide at
         → ((digits_value 10 (filled whole part at) ≡ digits_value 10 (filled other rest at)) ↔ (widened whole part wide at ≡ widened other rest wide at)) }

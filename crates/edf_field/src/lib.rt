@@ -1,6 +1,7 @@
 //! The texts of header fields: numbers, durations, and the identifications of EDF+.
 //!
-//! - [`read_whole`], [`read_signed`], [`physical_values_differ`], [`are_spaces`]: number texts, behind which only spaces stand.
+//! - [`read_whole`], [`read_signed`], [`physical_values_differ`], [`are_spaces`]: number texts,
+//!   which only spaces follow.
 //! - [`read_duration`]: the duration of a data record.
 //! - [`next_subfield`]: the subfields of an identification, one after the other.
 //! - [`is_patient`], [`read_recording`], [`is_behind_startdate`]: the patient and the recording identification.

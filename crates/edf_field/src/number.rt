@@ -33,14 +33,14 @@ pub(crate) fn read_digits(text: &[u8]) -> u32
     number
 }
 
-/// Whether there are only spaces, which fill a field behind its text (EDF, header record).
+/// Whether there are only spaces, which fill a field after its text (EDF, header record).
 pub fn are_spaces(text: &[u8]) -> bool
     ensures { IsTrue result ↔ AreSpaces text.now }
 {
     text.iter().all(|b| *b == b' ')
 }
 
-/// Without the sign, where one stands at the front.
+/// The text without its sign, where one is at the front.
 pub(crate) fn without_sign(text: &[u8]) -> &[u8]
     ensures value { result.now ≡ unsigned text.now }
     ensures len { length result.now ≤ length text.now }
@@ -61,8 +61,8 @@ pub(crate) fn split_digits(text: &[u8]) -> (&[u8], &[u8])
     text.split_at(digits_end(text))
 }
 
-/// Reads a field of at most eight bytes as a whole number, at most 99,999,999: one digit or more, leading zeros allowed, behind
-/// which only spaces stand. `None` for any other text.
+/// Reads a field of at most eight bytes as a whole number, at most 99,999,999: one digit or more,
+/// leading zeros allowed, and then only spaces. `None` for any other text.
 ///
 /// In a header: the bytes in it, 184 to 191; the data records, 236 to 243; the signals, 252 to 255; and each signal's samples per
 /// data record, 8 bytes at 216 of its row of 256 (EDF, header record).
@@ -77,8 +77,8 @@ pub fn read_whole(field: &[u8]) -> Option<u32>
     Some(read_digits(digits))
 }
 
-/// Reads a field of at most eight bytes as a whole number behind a sign or none, behind which only spaces stand. `None` for any
-/// other text.
+/// Reads a field of at most eight bytes as a whole number after a sign or none, and then only
+/// spaces. `None` for any other text.
 ///
 /// In a header: each signal's digital minimum and maximum, 8 bytes at 120 and 8 at 128 of its row of 256 (EDF, header record).
 pub fn read_signed(field: &[u8]) -> Option<i32>
@@ -92,8 +92,8 @@ pub fn read_signed(field: &[u8]) -> Option<i32>
     Some(size)
 }
 
-/// Reads a field of at most eight bytes as the duration of a data record, in nanoseconds: a decimal of seconds above 0, behind
-/// which only spaces stand. `None` for any other text, and for 0.
+/// Reads a field of at most eight bytes as the duration of a data record, in nanoseconds: a decimal
+/// of seconds above 0, and then only spaces. `None` for any other text, and for 0.
 ///
 /// In a header it is bytes 244 to 251 (EDF, header record).
 pub fn read_duration(field: &[u8]) -> Option<u64>

@@ -4,7 +4,7 @@ ghost use Rattle.edf_field.specs.Number.{fraction, behind_fraction, IsPhysical, 
 
 use crate::number::{are_spaces, read_digits, split_digits, without_sign};
 
-/// A number with a sign, as all its digits write it, and how many of them stand behind the dot.
+/// A number with a sign, as all its digits write it, and how many of them are after the dot.
 #[derive(Clone, Copy)]
 struct Physical {
     negative: bool,
@@ -14,7 +14,7 @@ struct Physical {
     ghost few: { fraction_len < 8 },
 }
 
-/// The digits behind a dot, where one stands at the front, and what follows.
+/// The digits after a dot, where one is at the front, and what follows.
 fn split_fraction(text: &[u8]) -> (&[u8], &[u8])
     ensures digits { result.0.now ≡ fraction text.now }
     ensures rest { result.1.now ≡ behind_fraction text.now }

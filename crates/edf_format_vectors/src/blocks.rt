@@ -61,7 +61,7 @@ fn is_written_as(alloc: Global, block: &[u8], want: &[u8]) -> Option<bool> {
     Some(written(alloc, block)?.as_slice() == want)
 }
 
-/// `front`, so many times `middle`, and `back`.
+/// `front`, `count` times `middle`, and `back`.
 pub(crate) fn repeated(
     alloc: Global,
     front: &[u8],
@@ -138,7 +138,7 @@ fn blocks_of_a_first_record_are_read_or_refused(rt: HostRuntime) {
     }
 }
 
-/// Whether a block of a record of one second that comes behind one at the file's start says this.
+/// Whether a block of a record of one second that comes after one at the file's start says this.
 fn says_behind(alloc: Global, block: &[u8], want: &str) -> Option<bool> {
     let start = Instant::at(EVENING)?;
     let after = Place::After {
@@ -221,8 +221,8 @@ fn blocks_are_written_in_one_way(rt: HostRuntime) {
     }
 }
 
-/// A list of 10,000 annotations, one of as many whose texts are all empty, and one text of 1,000,000 bytes: whether each is
-/// written as it wants.
+/// A list of 10,000 annotations, one of 10,000 whose texts are all empty, and one text of 1,000,000
+/// bytes: whether each is written as it wants.
 fn long_lists_are_written(alloc: Global) -> Option<(bool, bool, bool)> {
     let many = repeated(alloc, b"+0\x14\x14\0", b"+0\x14a\x14\0", 10_000, b"").ok()?;
     let empty = repeated(alloc, b"+0\x14", b"\x14", 10_001, b"\0").ok()?;

@@ -42,7 +42,7 @@ fn told_with(alloc: Global, at: usize, text: &[u8]) -> Option<(Option<u32>, bool
     Some(told(&read_patched(alloc, at, text)?.ok()?))
 }
 
-/// Where another text stands, the text, and what is read then.
+/// The place of another text, the text, and what is read then.
 const CHANGES: &[(usize, &[u8], (Option<u32>, bool, u64))] = &[
     (8, b"P7 M X X more     ", (Some(1), true, 1_000_000_000)),
     (
@@ -67,7 +67,7 @@ fn a_fixed_part_with_one_change_is_read_as_it_says(rt: HostRuntime) {
     }
 }
 
-/// Where another text stands, the text, and its fault.
+/// The place of another text, the text, and its fault.
 const FAULTS: &[(usize, &[u8], HeaderFault)] = &[
     (0, b"1", HeaderFault::Version),
     (8, b"P7 F 02-MAY-1951  ", HeaderFault::Patient),

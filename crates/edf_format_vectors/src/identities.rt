@@ -66,7 +66,7 @@ fn fault_at(alloc: Global, at: usize, text: &[u8]) -> Option<IdentityFault> {
     read_patched(alloc, at, text)?.err()
 }
 
-/// Where another text stands, the text, and its fault.
+/// The place of another text, the text, and its fault.
 const FAULTS: &[(usize, &[u8], IdentityFault)] = &[
     (0, b"\xb5", IdentityFault::Unprintable(0)),
     (413, b"\x7f", IdentityFault::Unprintable(413)),

@@ -1,5 +1,5 @@
-//! Tests of the crates below the store. They stand in a crate of their own, so that none of those crates is proved once more for its
-//! tests.
+//! Tests of the crates below the store. They are in a crate of their own, so that none of those
+//! crates is proved once more for its tests.
 //!
 //! By values from the standards' text:
 //!
@@ -14,7 +14,7 @@
 //! - `uncounted`, `several_signals`: fragments whose header does not count their data records, and
 //!   those of several annotations signals.
 //! - `records`: data records, compared with one another.
-//! - `stops`: reads and writes that fail, and what was read behind a refusal.
+//! - `stops`: reads and writes that fail, and what was read after a refusal.
 #![tactic(auto)]
 
 #[cfg(test)]

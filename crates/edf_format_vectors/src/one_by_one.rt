@@ -33,7 +33,7 @@ pub(crate) fn read_all(alloc: Global, bytes: &[u8], step: usize) -> Option<Vec<R
     }
 }
 
-/// Whether a header with this count may have so many data records.
+/// Whether a header with this count may have `records` data records.
 fn fits(count: Option<u32>, records: usize) -> bool {
     match count {
         Some(count) => count as usize == records,

@@ -22,7 +22,8 @@ fn notes(alloc: Global, count: usize, text: &str) -> Option<Vec<Note>> {
     Some(list)
 }
 
-/// How many annotations the data record of so many sample bytes and annotations has, where there is one.
+/// How many annotations a data record of `bytes` sample bytes and `count` annotations has, where
+/// there is one.
 fn made(alloc: Global, bytes: usize, count: usize, text: &str) -> Option<usize> {
     let samples = vec![in alloc; 0u8; bytes].ok()?;
     let list = notes(alloc, count, text)?;

@@ -5,7 +5,7 @@ use edf_tal::{Note, Place, TalFault, read_blocks};
 use edf_time::Instant;
 use std::alloc::Global;
 
-/// What two blocks are answered that stand one after the other.
+/// What two blocks, one after the other, are answered.
 fn read_two(
     alloc: Global,
     blocks: [&[u8]; 2],
@@ -193,15 +193,15 @@ fn counted(alloc: Global, first: &[u8], second: &[u8]) -> Option<Result<usize, u
     }
 }
 
-/// The same of so many empty annotations in the first block, with the one that keeps time, and so
-/// many in the second.
+/// The same of `first` empty annotations in the first block, with the one that keeps time, and
+/// `second` in the second.
 fn empty_texts(alloc: Global, first: usize, second: usize) -> Option<Result<usize, u8>> {
     let one = repeated(alloc, b"+0\x14", b"\x14", first, b"\0").ok()?;
     let two = repeated(alloc, b"+0\x14", b"\x14", second, b"\0").ok()?;
     counted(alloc, &one, &two)
 }
 
-/// The same of an annotation in each block, whose texts have so many bytes.
+/// The same of an annotation in each block, whose texts have `first` and `second` bytes.
 fn long_texts(alloc: Global, first: usize, second: usize) -> Option<Result<usize, u8>> {
     let one = repeated(alloc, b"+0\x14\x14", b"x", first, b"\x14\0").ok()?;
     let two = repeated(alloc, b"+0\x14", b"x", second, b"\x14\0").ok()?;

@@ -42,7 +42,7 @@ fn a_record_has_the_annotations_of_all_its_blocks(rt: HostRuntime) {
     assert_eq!(rt; v_is_read_as_q(rt.alloc()), Some(true));
 }
 
-/// Where another text stands in V, the text, and the fault of the data record.
+/// The place of another text in V, the text, and the fault of the data record.
 const FAULTS: &[(usize, &[u8], TalFault)] = &[
     (1_049, b"\x01", TalFault::Tal { offset: 18 }),
     (1_045, b"\x01", TalFault::Tal { offset: 6 }),

@@ -35,8 +35,8 @@ fn the_signal_part_of_a_night_is_read(rt: HostRuntime) {
     assert_eq!(rt; is_read_as_q(rt.alloc()), Some(true));
 }
 
-/// Whether Q's header with another text from an offset on has a block of so many bytes, and the identity with that text at a
-/// place in its bytes, where there is such a place.
+/// Whether Q's header with `text` from `at` on has a block of `block` bytes, and the identity with
+/// that text from `place` on.
 fn is_read_as(alloc: Global, at: usize, text: &[u8], place: usize, block: usize) -> Option<bool> {
     let wanted = patched(alloc, &identity_q(alloc).ok()?, place, text).ok()?;
     let header = read_patched(alloc, at, text)?.ok()?;
@@ -47,7 +47,8 @@ fn is_read_as(alloc: Global, at: usize, text: &[u8], place: usize, block: usize)
     )
 }
 
-/// Where another text stands in the file, the text, where the identity has it, and the bytes of the annotations block.
+/// The place of another text in the file, the text, its place in the identity or 500, and the bytes
+/// of the annotations block.
 const CHANGES: &[(usize, &[u8], usize, usize)] = &[
     (464, b"-440.", 262, 6),
     (472, b"+0.5", 500, 6),
@@ -64,7 +65,7 @@ fn a_signal_part_with_one_change_is_read_as_it_says(rt: HostRuntime) {
     }
 }
 
-/// Where another text stands, the text, and its fault.
+/// The place of another text, the text, and its fault.
 const FAULTS: &[(usize, &[u8], HeaderFault)] = &[
     (
         448,
@@ -269,7 +270,7 @@ fn a_fault_is_told_of_the_first_signal_that_has_it(rt: HostRuntime) {
     }
 }
 
-/// Reads a header of one ordinary signal and 639 annotations signals of so many samples.
+/// Reads a header of one ordinary signal and 639 annotations signals of `samples` samples.
 fn read_639(alloc: Global, samples: &'static str) -> Option<Result<Header, HeaderFault>> {
     let mut signals = Vec::new(alloc);
     signals.push(Signal::eeg()).ok()?;

@@ -1,4 +1,5 @@
-//! Readers that end or fail once and then go on, behind which nothing is read; and writers that fail.
+//! Readers that end or fail once and then go on, after which nothing is read; and writers that
+//! fail.
 
 use edf_fragment::{Counted, FragmentFault, FragmentReader, send};
 use edf_header::HeaderFault;
@@ -78,7 +79,7 @@ fn drained_other(alloc: Global, at: usize, text: &[u8]) -> Option<(Option<Fragme
     Some(drained(alloc, &other, usize::MAX, true))
 }
 
-/// Where another text stands, the text, how many bytes are read, and the fault.
+/// The place of another text, the text, how many bytes are read, and the fault.
 const REFUSALS: &[(usize, &[u8], usize, FragmentFault)] = &[
     (
         176,

@@ -104,13 +104,13 @@ fn spaces_are_nothing_else(rt: HostRuntime) {
     }
 }
 
-/// Whether the first subfield of a text is this one, with this behind it.
+/// Whether the first subfield of a text is this one, with this after it.
 fn begins(text: &[u8], subfield: &[u8], behind: &[u8]) -> Option<bool> {
     let (first, rest) = next_subfield(text)?;
     Some(first == subfield && rest == behind)
 }
 
-/// A text, its first subfield, and what is behind that.
+/// A text, its first subfield, and what is after that.
 const SUBFIELDS: &[(&[u8], &[u8], &[u8])] = &[
     (
         b"MCH-0234567 F 02-MAY-1951 Haagse_Harry",
@@ -153,7 +153,8 @@ fn day_at(nanos: u64) -> Option<Day> {
     Some(Instant::at(nanos)?.day())
 }
 
-/// Whether a recording identification has this startdate, or none where that is `X`, and this behind it.
+/// Whether a recording identification has this startdate, or none where that is `X`, and this after
+/// it.
 fn is_recorded(text: &[u8; 80], startdate: Option<Day>, behind: &[u8]) -> bool {
     match read_recording(text) {
         Some((day, after)) => day == startdate && after == behind,
@@ -182,7 +183,7 @@ fn a_recording_identification_has_a_startdate_and_three_codes(rt: HostRuntime) {
     }
 }
 
-/// A text, and whether it may stand behind the startdate.
+/// A text, and whether it may come after the startdate.
 const BEHIND_STARTDATE: &[(&[u8], bool)] = &[
     (b" EMG561 BK/JOP Sony.", true),
     (b"  X X X MNC R Median Nerve. ", true),

@@ -355,7 +355,7 @@ fn are_before(nanos: u64, other: u64) -> Option<bool> {
     Some(one < two && one.day() < day)
 }
 
-/// Where an instant stands, how far it is moved, and where it stands then.
+/// Where an instant is, how far it is moved, and where it is then.
 const MOVES: &[(u64, i64, Option<u64>)] = &[
     (0, LAST as i64, Some(LAST)),
     (LATE - 1, 1, Some(LATE)),

@@ -61,8 +61,8 @@ fn a_file_has_the_same_records_without_its_count(rt: HostRuntime) {
     }
 }
 
-/// How many data records a file without its count, and ten zeros, tell of their first so many bytes, or
-/// in which data record they are cut.
+/// How many data records the first `len` bytes of a file without its count, with ten zeros after
+/// it, tell, or in which data record they are cut.
 fn told_of_front(alloc: Global, name: &str, len: usize) -> Option<Result<usize, u32>> {
     let mut bytes = uncounted(alloc, name)?;
     bytes.extend_from_slice(&[0; 10]).ok()?;
@@ -162,7 +162,7 @@ fn a_failed_read_is_no_end_also_where_a_record_ends(rt: HostRuntime) {
     }
 }
 
-/// What opening K without its count and then three calls tell, where reads fail after so many
+/// What opening K without its count and then three calls tell, where reads fail after `len`
 /// bytes.
 fn told_of_failing(alloc: Global, len: usize) -> Option<Faults> {
     let bytes = uncounted(alloc, "k")?;
@@ -187,7 +187,7 @@ fn records_before_a_failed_read_are_given(rt: HostRuntime) {
 }
 
 /// The fault and the number of reads of K without its count, one record after another, by a reader
-/// that gives one byte a read and ends or fails once after so many of them.
+/// that gives one byte a read and ends or fails once after `stop` of them.
 fn drained_k(alloc: Global, stop: usize, fails: bool) -> Option<(Option<FragmentFault>, usize)> {
     Some(drained(alloc, &uncounted(alloc, "k")?, stop, fails))
 }

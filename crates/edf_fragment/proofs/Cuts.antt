@@ -11,7 +11,8 @@ use Rattle.edf_header.specs.declared.header.Block.{Block}
 use Rattle.edf_fragment.specs.Fragment.{outside}
 use Rattle.edf_fragment.proofs.Layouts.{pieces, joined, apart-within, length-field, length-outside, length-joined}
 
--- the blocks before these are cut off: so many ordinary bytes stand in the samples, and so many of the blocks are joined
+-- the blocks before these are cut off: `ordinary` bytes are in the samples, and `copied` bytes of
+-- the blocks are joined
 pub record IsCutTo (all rest : List Block) (whole samples blocks : List ℕ) (ordinary copied : ℕ) : Type 0 where
   pub samples_len : length samples ≡ length (outside 0 all whole)
   pub blocks_len : length blocks ≡ length (joined (pieces all whole))
@@ -21,7 +22,7 @@ pub record IsCutTo (all rest : List Block) (whole samples blocks : List ℕ) (or
   pub samples_are : take ordinary samples ++ outside (ordinary + copied) rest whole ≡ outside 0 all whole
   pub blocks_are : take copied blocks ++ joined (pieces rest whole) ≡ joined (pieces all whole)
 
--- the next block fits behind what is done, and so do the ordinary bytes before it
+-- the next block fits after what is done, and so do the ordinary bytes before it
 pub record HasRoom (ordinary before copied size samples blocks : ℕ) : Type 0 where
   pub ordinary_fits : ordinary + before ≤ samples
   pub copied_fits : copied + size ≤ blocks

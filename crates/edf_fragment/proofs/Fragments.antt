@@ -23,7 +23,7 @@ use Rattle.edf_header.proofs.Cited.{header-has-layout}
 use Rattle.edf_fragment.proofs.Layouts.{blocks-front}
 use Rattle.edf_fragment.proofs.Runs.{AreDataRecords-more, IsHeader-more, IsHeaderFault-more, reads_more}
 
--- a header, and the data records behind it
+-- a header, and the data records after it
 pub fragment_read : (left mid rest : Option (List ℕ)) (l : Layout) (rs : List DataRecord) → ReadsHeader left mid l → ReadsRecords l mid rest rs → ReadsFragment left rest l rs
 fragment_read left mid rest l rs a b =
     let are = subst (λ (x : Layout). AreDataRecords x First b.bytes rs b.last []) a.layout_is b.are_records in
@@ -61,7 +61,7 @@ first_in_header left rest e f = absurd f
 pub open_refused : (left rest : Option (List ℕ)) (e : FragmentFault) → IsOpenFault left rest e → IsFragmentFault left rest e
 open_refused left rest e f = record { place = inl f; first = first_in_header left rest e f }
 
--- ---- a fault behind some data records
+-- ---- a fault after some data records
 
 -- the bytes of a header, those of the data records, and what is left
 abbrev up_to : (all one two a b : List ℕ) (h : HeaderRecord) (rs : List DataRecord) (p : Place) → all ≡ a ++ one → one ≡ b ++ two → IsHeader a h [] → AreDataRecords (layout_of h) First b rs p [] → ReadsUpTo all

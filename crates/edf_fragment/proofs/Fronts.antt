@@ -1,4 +1,4 @@
--- Two fronts of one length, and what is behind them.
+-- Two fronts of one length, and what is after them.
 use Rattle.std.proofs.Common.{◌≡◌, ℕ, List, ◌++◌, length, take, drop, refl, sym, ap, ◌∙◌, take_at, drop_at}
 
 pub record SameFront (a b c d : List ℕ) : Type 0 where

@@ -52,7 +52,7 @@ field_front a b at n within =
     let room : n ≤ length (drop at a) = omega (arith, length-drop at a) in
     ap (take n) (drop-append-le at a b (omega arith)) ∙ take-append-le n (drop at a) b room
 
--- a fixed part, and behind it signals with a fault
+-- a fixed part, and after it signals with a fault
 pub second_fault : (a b : List ℕ) (f : FixedPart) (e : HeaderFault) → IsFixedHeader a f → length b ≤ 256 * f.signal_count
     → IsFirst (SignalsFail b f.signal_count) e → IsHeaderFault (a ++ b) e
 second_fault a b f e fixed within first =
@@ -110,7 +110,7 @@ signals-from s n (Samples at) f = omega arith
 signals-from s n Size f = omega arith
 signals-from s n e f = absurd f
 
--- the number of signals that stands in the fixed part
+-- the number of signals that the fixed part tells
 count-of : (a b : List ℕ) (f : FixedPart) (n : ℕ) → IsFixedHeader a f → HasSignals (a ++ b) n → n ≡ f.signal_count
 count-of a b f n fixed has =
     let there : field (a ++ b) 252 4 ≡ field a 252 4 = field_front a b 252 4 (omega (arith, fixed.len)) in

@@ -143,7 +143,7 @@ read-begins left one two l rs p h b = may-begin l b.bytes rs p.place [] (read-la
 abbrev pub Begins : List DataRecord → List DataRecord → Type 0
 Begins all rs = (later : List DataRecord) × (all ≡ rs ++ later)
 
--- no data record stands where nothing is left
+-- no data record is there where nothing is left
 none-behind : (l : Layout) (p q : Place) (x : List ℕ) (rs : List DataRecord) → IsLayout l → AreDataRecords l p [] rs q x → 0 < length rs → ⊥
 none-behind l p q x [] i are some = omega (arith, some)
 none-behind l p q x (r ∷ rs) i (front, back, parts, is, more) some =
@@ -160,7 +160,7 @@ not-past l f p q b x rs all i read spelled =
       | inr few ↦ few
     ]
 
--- behind the same header, in the same bytes
+-- after the same header, in the same bytes
 front-of : (a b c : List ℕ) (h g : HeaderRecord) (rest : List ℕ) (rs all : List DataRecord) (p q : Place) → IsHeader (a ++ (b ++ c)) g rest → IsHeader a h []
     → AreDataRecords (layout_of h) First b rs p [] → AreDataRecords (layout_of g) First rest all q [] → ((layout_of g).key ≡ (layout_of h).key) × Begins all rs
 front-of a b c h g rest rs all p q is read are spelled =

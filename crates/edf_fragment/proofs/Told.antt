@@ -76,7 +76,7 @@ module _ (b : List ℕ) (h : HeaderRecord) (rest : List ℕ) (is : IsHeader b h 
       let same : blocks l left ≡ blocks l (take n left) = ap (blocks l) parts ∙ blocks-front l (take n left) (drop n left) (header-has-layout b h rest is) (omega (arith, len)) in
       record { len = len; read = subst (λ (x : List (List ℕ)). AreRead x l.start last start list) same read; samples_are = refl }
 
-  -- from behind some data records on, where there may be so many more
+  -- what comes after some data records, where there may be n more
   walk : (n : ℕ) (rs : List DataRecord) (last : Place) (left : List ℕ) → AreDataRecords (layout_of h) First rest rs last left → length rs + n ≡ most_records (layout_of h).count → HasAnswer b
   walk zero rs last left are all = at-end rs last left are (omega (arith, all))
   walk (suc n) rs last left are all =

@@ -51,7 +51,8 @@ pub record IsTrailing (bytes : List ℕ) : Type 0 where
   pub all : length up_to.records ≡ most_records (layout up_to).count
   pub more : 0 < length up_to.left
 
--- the one fault of bytes that spell no fragment: a record's fault stands behind all records before it, which have none
+-- the one fault of bytes that spell no fragment: a record's fault comes after all records before
+-- it, which have none
 abbrev pub IsFirstFault : List ℕ → FragmentFault → Type 0
 IsFirstFault bytes (BadHeader fault) = IsHeaderFault bytes fault
 IsFirstFault bytes (CutRecord nth) = IsCutRecord bytes nth

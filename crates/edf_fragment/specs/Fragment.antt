@@ -33,17 +33,18 @@ outside from (b ∷ bs) bytes = field bytes from (b.at - from) ++ outside (b.at 
 abbrev pub ordinary_bytes : Layout → List ℕ → List ℕ
 ordinary_bytes l bytes = outside 0 l.blocks bytes
 
--- the bytes are the data record, which stands at this place
+-- the bytes are the data record, which is at this place
 pub record IsDataRecord (l : Layout) (place : Place) (bytes : List ℕ) (r : DataRecord) : Type 0 where
   pub len : length bytes ≡ l.record_bytes
   pub read : AreRead (blocks l bytes) l.start place r.start r.annotations
   pub samples_are : r.samples ≡ ordinary_bytes l bytes
 
--- the place of the record behind one that starts there
+-- the place of the record after one that starts there
 abbrev pub place_behind : Layout → ℕ → Place
 place_behind l start = After start (duration_of l.key.duration)
 
--- the bytes begin with these data records, the first at `place`; the next would stand at `last`, and the rest is left
+-- the bytes begin with these data records, the first at `place`; the next would be at `last`, and
+-- the rest is left
 abbrev pub AreDataRecords : Layout → Place → List ℕ → List DataRecord → Place → List ℕ → Type 0
 AreDataRecords l place bytes [] last rest = (last ≡ place) × (rest ≡ bytes)
 AreDataRecords l place bytes (r ∷ rs) last rest =

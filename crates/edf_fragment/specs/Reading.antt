@@ -16,7 +16,7 @@ use Rattle.edf_fragment.specs.declared.advance.Status.TheVariants.{Reading, Ende
 use Rattle.edf_fragment.specs.declared.fault.FragmentFault.{FragmentFault}
 use Rattle.edf_fragment.specs.declared.fault.FragmentFault.TheVariants.{Header as BadHeader, CutRecord, Tal, Trailing, Read, Memory, Failed}
 
--- what was left begins with some bytes, fewer than so many, and the rest is left
+-- what was left begins with some bytes, fewer than `wanted`, and the rest is left
 pub record ReadsFewer (wanted : ℕ) (left rest : Option (List ℕ)) : Type 0 where
   pub bytes : List ℕ
   pub read : Consumes left rest bytes
@@ -57,7 +57,8 @@ pub record ReadsInSignals (left rest : Option (List ℕ)) : Type 0 where
   pub is_fixed : IsFixedHeader first fixed
   pub fewer : length second < 256 * fixed.signal_count
 
--- memory ran out behind a fixed part without a fault: before a byte of its signals was read, or behind signals that have none
+-- memory ran out after a fixed part without a fault: before a byte of its signals was read, or
+-- after signals that have none
 pub record LacksHeaderMemory (left rest : Option (List ℕ)) : Type 0 where
   pub fixed : FixedPart
   pub first : List ℕ
@@ -78,7 +79,7 @@ IsOpenFault left rest fault = ⊥
 abbrev pub at_first : Progress
 at_first = record { given = 0; place = First; status = Reading }
 
--- how far it is behind one more record, behind the end, behind a fault
+-- how far it is after one more record, after the end, after a fault
 abbrev pub progress_after : Layout → Progress → Result (Option DataRecord) FragmentFault → Progress
 progress_after l from (Ok (Some r)) = record { given = from.given + 1; place = place_behind l r.start; status = Reading }
 progress_after l from (Ok None) = record from { status = Ended }
@@ -153,7 +154,8 @@ IsNext l from left rest (Err fault) = IsNextFault l from left rest fault
 abbrev pub Rests : Progress → Progress → Option (List ℕ) → Option (List ℕ) → Type 0
 Rests from to left rest = (to ≡ from) × (rest ≡ left)
 
--- what is answered in this status: what comes next; behind the end no record; behind a fault that it failed
+-- what is answered in this status: what comes next; after the end no record; after a fault that it
+-- failed
 abbrev pub AnswersIn : Status → Layout → Progress → Progress → Option (List ℕ) → Option (List ℕ) → Result (Option DataRecord) FragmentFault → Type 0
 AnswersIn Reading l from to left rest result = (to ≡ progress_after l from result) × IsNext l from left rest result
 AnswersIn Ended l from to left rest result = (result ≡ Ok None) × Rests from to left rest

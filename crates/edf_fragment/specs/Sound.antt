@@ -23,7 +23,7 @@ pub record IsSoundRecord (k : Key) (r : DataRecord) : Type 0 where
   pub limits : IsWithinLimits r.annotations
   pub notes : AllByRecursion IsAnnotation r.annotations
 
--- records that start from `low` on, each at least a duration of a data record behind the one before
+-- records that start from `low` on, each at least a duration of a data record after the one before
 abbrev pub AreSound : Key → ℕ → List DataRecord → Type 0
 AreSound k low [] = Unit {0}
 AreSound k low (r ∷ rs) = IsSoundRecord k r × (low ≤ r.start) × AreSound k (r.start + duration_of k.duration) rs

@@ -10,7 +10,7 @@ use Rattle.edf_fragment.specs.declared.advance.Progress.{Progress}
 use Rattle.edf_fragment.specs.declared.fault.FragmentFault.{FragmentFault}
 use Rattle.edf_fragment.specs.declared.fault.FragmentFault.TheVariants.{Read, Memory, Failed}
 
--- these data records were read, and the next would stand as this progress says
+-- these data records were read, and this progress says where the next would be
 pub record HasRead (l : Layout) (left rest : Option (List ℕ)) (records : List DataRecord) (p : Progress) : Type 0 where
   pub bytes : List ℕ
   pub read : Consumes left rest bytes
@@ -41,15 +41,16 @@ pub record ReadsFragment (left rest : Option (List ℕ)) (layout : Layout) (reco
   pub spells : Spells bytes layout.key records
   pub layout_is : layout ≡ layout_of spells.header
 
--- the fault is the first of all the bytes, where these are known; a failed read and want of memory say nothing of them
+-- the fault is the first of all the bytes, where these are known; a failed read and memory that ran
+-- out say nothing of them
 abbrev pub IsFirstWhereKnown : Option (List ℕ) → FragmentFault → Type 0
 IsFirstWhereKnown left Read = Unit {0}
 IsFirstWhereKnown left Memory = Unit {0}
 IsFirstWhereKnown left Failed = ⊥
 IsFirstWhereKnown left fault = IfSome left (λ all. IsFirstFault all fault)
 
--- why an input gives no fragment: the fault came in the header, or behind it and some data records; and nothing more was
--- read than the bytes of these and those of the fault
+-- why an input gives no fragment: the fault came in the header, or after it and some data records;
+-- and nothing more was read than the bytes of these and those of the fault
 pub record IsFragmentFault (left rest : Option (List ℕ)) (fault : FragmentFault) : Type 0 where
   pub place : IsOpenFault left rest fault ⊎ FailsBehindHeader left rest fault
   pub first : IsFirstWhereKnown left fault

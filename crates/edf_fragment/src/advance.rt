@@ -36,7 +36,7 @@ pub enum Status {
 pub struct Progress {
     /// How many data records it gave.
     pub given: u32,
-    /// Where the next one must stand.
+    /// Where the next one must be.
     pub place: Place,
     /// Whether it may go on.
     pub status: Status,
@@ -58,7 +58,7 @@ impl Progress {
     }
 }
 
-/// The refusal for a fault of the nth data record's blocks. Want of memory has its own.
+/// The refusal for a fault of the nth data record's blocks. Out of memory has its own.
 fn block_refusal(nth: u32, fault: TalFault) -> FragmentFault
     ensures memory { fault ≡ TalFault.Memory → result ≡ FragmentFault.Memory }
     ensures other { fault ≢ TalFault.Memory → result ≡ FragmentFault.Tal nth fault }
@@ -186,7 +186,7 @@ fn find_end<R: Input>(input: &mut R) -> Result<(), FragmentFault>
     }
 }
 
-/// Reads the next data record, or the end behind the last.
+/// Reads the next data record, or the end after the last.
 pub(crate) fn record_or_end<R: Input>(
     alloc: Global,
     input: &mut R,
@@ -208,7 +208,7 @@ pub(crate) fn record_or_end<R: Input>(
     }
 }
 
-/// How far a reader is behind an answer.
+/// How far a reader is after an answer.
 pub(crate) fn progress_behind(
     header: &Header,
     progress: Progress,

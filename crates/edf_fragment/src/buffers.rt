@@ -1,4 +1,4 @@
-//! The buffers of a data record: its bytes as they stand in the file, and its annotations blocks
+//! The buffers of a data record: its bytes as they are in the file, and its annotations blocks
 //! one after another.
 ghost use Rattle.std.specs.Prelude.{◌≡◌, ℕ, ◌+◌, length, map, sum_by, IfOk};
 ghost use Rattle.std.specs.List.{flat_map};

@@ -79,8 +79,9 @@ pub fn records_so_far()
         (key ≡ l.key) × ((later : List DataRecord) × (spelled ≡ records ++ later)) }
 {}
 
-/// The answers of a reader, one after another, are those of the whole: data records that were read one by one are in
-/// their order what the bytes begin with, and `None` and each fault mean behind them what they mean for the whole input.
+/// The answers of a reader, one after another, are those of the whole: data records that were read
+/// one by one are in their order what the bytes begin with, and `None` and each fault mean after
+/// them what they mean for the whole input.
 pub fn answers_join()
     ensures none { (l : Layout) (left : Option (List ℕ)) → HasRead l left left [] at_first }
     ensures more { (l : Layout) (left mid rest : Option (List ℕ)) (records : List DataRecord) (p q : Progress) (r : DataRecord) →

@@ -15,9 +15,9 @@ use std::alloc::Global;
 
 /// A fragment whose header was read, and how far its data records were read.
 ///
-/// It doesn't hold the input: each call takes the one that the header was read from. Use it where the input is wanted again
-/// behind the last record or behind a fault, or where a proof follows it there; `FragmentReader` holds both, and suits
-/// callers that read a fragment and nothing else.
+/// It doesn't hold the input: each call takes the one that the header was read from. Use it where
+/// the input is wanted again after the last record or after a fault, or where a proof follows it
+/// there; `FragmentReader` holds both, and suits callers that read a fragment and nothing else.
 #[derive(Drop)]
 pub struct OpenFragment {
     alloc: Global,
@@ -32,8 +32,8 @@ impl OpenFragment {
     /// Reads the header, and no byte more.
     ///
     /// # Errors
-    /// `Header` where the header is refused, `Read` where a read failed, `Memory` where memory ran out. The input then
-    /// stands where reading stopped.
+    /// `Header` where the header is refused, `Read` where a read failed, `Memory` where memory ran
+    /// out. The input then is where reading stopped.
     pub fn read<R: Input>(alloc: Global, input: &mut R) -> Result<OpenFragment, FragmentFault>
         ensures step { MatchResult result
             (λ o. ReadsHeader (R.remaining input.old) (R.remaining input.new) o.header × (o.progress ≡ at_first))

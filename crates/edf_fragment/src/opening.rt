@@ -7,7 +7,7 @@ use crate::streams::{Filled, Input, fill};
 use edf_header::{Fixed, Header, HeaderFault, read_fixed, read_signals};
 use std::alloc::Global;
 
-/// The refusal for a header's fault. Want of memory has its own.
+/// The refusal for a header's fault. Out of memory has its own.
 fn header_refusal(fault: HeaderFault) -> FragmentFault
     ensures memory { fault ≡ HeaderFault.Memory → result ≡ FragmentFault.Memory }
     ensures other { fault ≢ HeaderFault.Memory → result ≡ FragmentFault.Header fault }

@@ -9,14 +9,15 @@ use crate::streams::Input;
 use edf_header::Header;
 use std::alloc::Global;
 
-/// The data records of a fragment, one at a time, from a reader that stands at its first byte.
+/// The data records of a fragment, one at a time, from a reader that is at its first byte.
 ///
 /// It reads no byte before it is asked for what the byte belongs to: `open` the header's, `next`
 /// those of one data record, and after the last it asks for more, to find that nothing follows. It
-/// holds one data record at a time: its bytes as they stand in the file, and what they say.
+/// holds one data record at a time: its bytes as they are in the file, and what they say.
 ///
-/// Use it where a fragment is read and nothing else. Where the input is wanted again behind a fault or the end, or a proof
-/// is to follow it there, use `OpenFragment`, which leaves it with the caller.
+/// Use it where a fragment is read and nothing else. Where the input is wanted again after a fault
+/// or the end, or a proof is to follow it there, use `OpenFragment`, which leaves it with the
+/// caller.
 pub struct FragmentReader<'a, R> {
     input: &'a mut R,
     fragment: OpenFragment,
@@ -45,8 +46,9 @@ impl<'a, R: Input> FragmentReader<'a, R> {
     /// Reads the header, and no byte more.
     ///
     /// # Errors
-    /// `Header` where the header is refused, `Read` where a read failed, `Memory` where memory ran out. The input then
-    /// stands where reading stopped; `OpenFragment::read`, which does the same, also says so in its contract.
+    /// `Header` where the header is refused, `Read` where a read failed, `Memory` where memory ran
+    /// out. The input then is where reading stopped; `OpenFragment::read`, which does the same,
+    /// also says so in its contract.
     pub fn open(alloc: Global, input: &'a mut R) -> Result<FragmentReader<'a, R>, FragmentFault>
         ensures same_reference { IfOk result (λ r. r.input.ghost_name ≡ input.entry.ghost_name) }
         ensures opened { IfOk result

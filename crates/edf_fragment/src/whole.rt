@@ -10,7 +10,7 @@ use crate::streams::Input;
 use edf_header::Header;
 use std::alloc::Global;
 
-/// Reads all data records behind a header that was just read.
+/// Reads all data records after a header that was just read.
 fn read_records<R: Input>(
     alloc: Global,
     fragment: &mut OpenFragment,

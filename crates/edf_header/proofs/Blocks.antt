@@ -73,7 +73,7 @@ no-blocks : (at : ℕ) (ss : List (List ℕ)) → All (Passes Label) ss → bloc
 no-blocks at [] all = refl
 no-blocks at (s ∷ ss) all = rw (no-label s (All-head (Passes Label) s ss all)) (no-blocks (at + 2 * samples s) ss (All-tail (Passes Label) s ss all))
 
--- ordinary signals, and behind them an annotations signal
+-- ordinary signals, and after them an annotations signal
 pub block-last : (ss : List (List ℕ)) (row : List ℕ) → All (Passes Label) ss → IsLabelled row → blocks_from 0 (ss ++ row ∷ []) ≡ block_of (2 * samples_in_all ss) row ∷ []
 block-last ss row all is =
     let start : 0 + 2 * samples_in_all ss ≡ 2 * samples_in_all ss = omega arith in

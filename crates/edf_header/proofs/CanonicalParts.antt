@@ -14,7 +14,7 @@ spaces-end start old i count was past upto =
     let e : i ≡ count = omega arith in
     was ∙ ap (λ (n : ℕ). start ++ spaces n) e
 
--- the rows behind the first 158 bytes of an identity
+-- the rows after the first 158 bytes of an identity
 pub rows-behind : (b : List ℕ) (k : Key) → key_at b ≡ k → rows_of (take (length b - 158) (drop 158 b)) ≡ k.signals
 rows-behind b k is =
     let all : take (length b - 158) (drop 158 b) ≡ drop 158 b = take_all (length b - 158) (drop 158 b) (omega (arith, length-drop 158 b)) in

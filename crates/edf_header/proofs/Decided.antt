@@ -43,7 +43,7 @@ same a b =
 pub same-int : (a b : ℤ) → Decided (a ≡ b)
 same-int a b = of-test _ (Decides-int_eq a b)
 
--- every member has it, or one is the first that has it not
+-- every element has it, or one is the first that lacks it
 good-more : {X : Type 0} (P : X → Type 0) (x : X) (xs : List X) (at : ℕ) → P x → AllWithin P xs 0 at → AllWithin P (x ∷ xs) 0 (suc at)
 good-more P x xs at p all zero d low lt = p
 good-more P x xs at p all (suc k) d low lt = all k d (omega arith) (omega arith)

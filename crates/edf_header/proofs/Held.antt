@@ -16,7 +16,7 @@ use Rattle.edf_header.proofs.Keys.{key-back, field-at}
 use Rattle.edf_header.proofs.SignalKinds.{all-ordinary}
 use Rattle.edf_header.proofs.RowSteps.{length-rows}
 
--- what a loop over the bytes behind 158 looks through are the key's signals
+-- what a loop over the bytes from 158 on looks through are the key's signals
 pub sliced : (b : List ℕ) → rows_of (take (length b - 158) (drop 158 b)) ≡ signals_at b
 sliced b =
     let e : take (length b - 158) (drop 158 b) ≡ drop 158 b = take_all (length b - 158) (drop 158 b) (omega (arith, length-drop 158 b)) in

@@ -33,11 +33,11 @@ two-fields bytes at m n =
     let small : m ≤ m + n = omega arith in
     rw (← drop-drop m at bytes, ← drop-take m n xs, ← take-take m (m + n) xs small) (take-append-drop m (take (m + n) xs))
 
--- a field between what stands before it and behind it
+-- a field between what comes before it and what comes after
 pub field-at : (a b c bytes : List ℕ) (at len : ℕ) → bytes ≡ a ++ (b ++ c) → length a ≡ at → length b ≡ len → field bytes at len ≡ b
 field-at a b c bytes at len is la lb = rw is (ap (take len) (drop_at a (b ++ c) at la) ∙ take_at b c len lb)
 
--- the three parts that stand at the same place in all keys, m being the 70 bytes behind the patient
+-- the three parts that are at the same place in all keys, m being the 70 bytes after the patient
 record Parts (p d : List ℕ) (ss : List (List ℕ)) (bytes : List ℕ) : Type 0 where
   patient : field bytes 0 80 ≡ p
   duration : field bytes 150 8 ≡ d
@@ -84,7 +84,7 @@ parts-back false p a d ss bytes is lp la ld each =
 pub key-back : (k : Key) → IsSized k → key_at (key_bytes k) ≡ k
 key-back k s = parts-back k.dated k.patient k.after k.duration k.signals (key_bytes k) refl s.patient s.after s.duration s.signals
 
--- the bytes behind the patient, of both kinds
+-- the bytes after the patient, of both kinds
 front-back : (bytes : List ℕ) (n : ℕ) → length bytes ≡ 158 + 256 * n → ((get_or bytes 80 0 ≡ 68) × (field bytes 140 10 ≡ spaces 10)) ⊎ (get_or bytes 80 0 ≡ 88)
     → dated_bytes (get_or bytes 80 0 == 68) (field bytes 81 (cond (get_or bytes 80 0 == 68) 59 69)) ≡ field bytes 80 70
 front-back bytes n len kind =

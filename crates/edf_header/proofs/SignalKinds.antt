@@ -89,7 +89,7 @@ pub none-labelled : (ss : List (List ℕ)) → All (Passes Label) ss → labelle
 none-labelled [] all = refl
 none-labelled (s ∷ ss) all = rw (no-label s (All-head (Passes Label) s ss all)) (none-labelled ss (All-tail (Passes Label) s ss all))
 
--- ordinary signals, and behind them an annotations signal
+-- ordinary signals, and after them an annotations signal
 pub ordinary-front : (ss : List (List ℕ)) (row : List ℕ) → All (Passes Label) ss → IsLabelled row → ordinary (ss ++ row ∷ []) ≡ ss
 ordinary-front ss row all is =
     filter-append (λ s. not (has_label s)) ss (row ∷ []) ∙ ap (λ (b : Bool). ordinary ss ++ cond (not b) (row ∷ []) []) (has-label row is)

@@ -15,7 +15,7 @@ use Rattle.edf_header.proofs.FixedLaws.{no-fault, one-fixed, one-fault}
 use Rattle.edf_header.proofs.SignalLaws.{one-signals, signals-clean}
 use Rattle.edf_header.proofs.SpelledParts.{IsPartAt, part-here}
 
--- where the two parts of a header stand
+-- where the two parts of a header are
 pub record ArePlaced (b first second rest : List ℕ) (n : ℕ) : Type 0 where
   pub fixed : take 256 b ≡ first
   pub signals : field b 256 (256 * n) ≡ second

@@ -1,4 +1,4 @@
--- Lists that stand one behind the other: what all members have, fields in turn, and the columns of rows.
+-- Lists one after the other: what all members have, fields in turn, and the columns of rows.
 use Rattle.std.proofs.Common.{◌≡◌, ℕ, ◌+◌, ◌*◌, ◌≤◌, List, [], ◌∷◌, ◌++◌, length, take, drop, refl, sym, ap, ◌∙◌, subst, arith}
 use Rattle.std.specs.Prelude.{All}
 use Rattle.std.specs.List.{flat_map}
@@ -52,7 +52,7 @@ length-columns-by (f ∷ fs) at rows t each =
 pub length-columns : (rows : List (List ℕ)) → All (λ s. length s ≡ 256) rows → length (columns rows) ≡ 256 * length rows
 length-columns rows each = omega (arith, length-columns-by fields 0 rows tiles each)
 
--- the next part of bytes that are parts, and what is behind it
+-- the next part of bytes that are parts, and what is after it
 pub record IsPartAt (bytes b c : List ℕ) (at len : ℕ) : Type 0 where
   pub here : field bytes at len ≡ b
   pub behind : drop (at + len) bytes ≡ c

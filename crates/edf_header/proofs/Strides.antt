@@ -25,7 +25,7 @@ length-parts f w [] each = omega arith
 length-parts f w (x ∷ xs) each =
     omega (arith, length-append (f x) (flat_map f xs), All-head (λ x. length (f x) ≡ w) x xs each, length-parts f w xs (All-tail (λ x. length (f x) ≡ w) x xs each))
 
--- the fields stand side by side from here to the end
+-- the fields are side by side from here to the end
 abbrev pub Tiles : ℕ → List (ℕ × ℕ) → Type 0
 Tiles at [] = at ≡ 256
 Tiles at (f ∷ fs) = (f.0 ≡ at) × Tiles (at + f.1) fs

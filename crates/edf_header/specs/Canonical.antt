@@ -16,8 +16,8 @@ annotations_signal samples =
 abbrev pub canonical_signals : Key → ℕ → List (List ℕ)
 canonical_signals k samples = k.signals ++ annotations_signal samples ∷ []
 
--- the header of a canonical file of so many records, the first of which starts at `start`; the start is named to the second,
--- and numbers stand without leading zeros
+-- the header of a canonical file of `count` records, the first of which starts at `start`; the
+-- start is named to the second, and numbers have no leading zeros
 pub record IsCanonicalHeader (bytes : List ℕ) (k : Key) (start count samples : ℕ) : Type 0 where
   pub date : List ℕ
   pub time : List ℕ

@@ -109,12 +109,13 @@ IsClean Holds n = (other : HeaderFault) → header_fault_number other < n → ¬
 abbrev pub IsFirst : (HeaderFault → Type 0) → HeaderFault → Type 0
 IsFirst Holds fault = Holds fault × IsClean Holds (header_fault_number fault)
 
--- why bytes begin with no header: a fault of the fixed part, or, where it has none, of the signal part behind it
+-- why bytes begin with no header: a fault of the fixed part, or, where it has none, of the signal
+-- part after it
 abbrev pub IsHeaderFault : List ℕ → HeaderFault → Type 0
 IsHeaderFault bytes fault =
     IsFirst (FixedPartFails (take 256 bytes)) fault
     ⊎ ((n : ℕ) × IsClean (FixedPartFails (take 256 bytes)) 14 × HasSignals bytes n × IsFirst (SignalsFail (field bytes 256 (256 * n)) n) fault)
 
--- why the signal part is not read: want of memory, where it has no fault, or the first fault
+-- why the signal part is not read: memory ran out, where it has no fault, or the first fault
 abbrev pub IsSignalsRefusal : List ℕ → ℕ → HeaderFault → Type 0
 IsSignalsRefusal s n fault = ((fault ≡ Memory) × IsClean (SignalsFail s n) 21) ⊎ IsFirst (SignalsFail s n) fault

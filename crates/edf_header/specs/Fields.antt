@@ -1,4 +1,4 @@
--- Where the fields of a header stand: at which byte each begins, and how many bytes it has.
+-- Where the fields of a header are: at which byte each begins, and how many bytes it has.
 use Rattle.std.specs.Prelude.{ℕ, ◌-◌, ◌/◌, List, [], ◌∷◌, length, drop, slice_index}
 use Rattle.edf_field.specs.Number.{field}
 

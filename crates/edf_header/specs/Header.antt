@@ -35,7 +35,7 @@ fixed_from patient recording startdate start count duration signals = record {
   signal_count = signals;
 }
 
--- the same, where the fields of 256 bytes stand
+-- the same, of the fields in these 256 bytes
 abbrev pub fixed_at : List ℕ → Option ℤ → ℕ → Option ℕ → ℕ → FixedPart
 fixed_at bytes startdate start count signals = fixed_from (patient_field bytes) (recording_field bytes) startdate start count (duration_field bytes) signals
 
@@ -139,8 +139,9 @@ blocks_from at (row ∷ rows) =
     if has_label row then record { at = at; bytes = 2 * samples row } ∷ blocks_from (at + 2 * samples row) rows
     else blocks_from (at + 2 * samples row) rows
 
--- what a header says of its data records: whose they are, from where their onsets count in nanoseconds, how many there are, or
--- none where the count is -1; and in bytes where the annotations blocks stand in each, and how long the whole record is
+-- what a header says of its data records: whose they are, from where their onsets count in
+-- nanoseconds, how many there are, or none where the count is -1; and in bytes where the
+-- annotations blocks are in each, and how long the whole record is
 pub record Layout : Type 0 where
   pub key : Key
   pub start : ℕ

@@ -42,7 +42,7 @@ KeyFails b (Samples signal) = IsBadSignal checks.Samples (signals_at b) signal
 KeyFails b Size = 4_194_304 < 2 * samples_in_all (signals_at b)
 KeyFails b Memory = Unit {0}
 
--- the order of the faults; want of memory comes last, so it says that no other is true
+-- the order of the faults; `Memory` comes last, so it says that no other is true
 abbrev pub place_in_order : IdentityFault → ℕ
 place_in_order Length = 1
 place_in_order (Unprintable offset) = 2

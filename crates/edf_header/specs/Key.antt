@@ -7,8 +7,8 @@ use Rattle.edf_field.specs.Text.{IsPrintable, IsPatient, IsBehindStartdate, spac
 use Rattle.edf_header.specs.Fields.{key_patient_field, key_mark, key_after_field, key_duration_field, key_signals_count, key_signals_part}
 use Rattle.edf_header.specs.Signal.{rows, IsOrdinary, HasSamples, samples_in_all}
 
--- the patient field; whether the Startdate subfield is a date; what follows it, 59 bytes behind a date and 69 behind X;
--- the duration field; the ordinary signals' headers
+-- the patient field; whether the Startdate subfield is a date; what follows it, 59 bytes after a
+-- date and 69 after X; the duration field; the ordinary signals' headers
 pub record Key : Type 0 where
   pub patient : List ℕ
   pub dated : Bool

@@ -1,4 +1,5 @@
--- The headers of signals: each a row of 256 bytes, its ten fields one behind the other; a file has them in columns.
+-- The headers of signals: each a row of 256 bytes, its ten fields one after the other; a file has
+-- them in columns.
 use Rattle.std.specs.Prelude.{◌≡◌, ℕ, ◌+◌, ◌*◌, ◌/◌, ◌≤◌, ◌<◌, zero, suc, Bool, not, List, [], ◌∷◌, length, take, drop, map, filter, sum_by, codes, pos, neg_ℤ, ◌<ℤ◌, ◌≤ℤ◌}
 use Rattle.std.specs.List.{flat_map, range_with_len, HoldsAt, AllWithin}
 use Rattle.std.specs.Str.{bytes_eq}
@@ -28,7 +29,7 @@ row_at bytes n i = row_by fields bytes n i
 abbrev pub signals_of : List ℕ → ℕ → List (List ℕ)
 signals_of bytes n = map (row_at bytes n) (range_with_len 0 n)
 
--- so many rows that stand one behind the other
+-- n rows of 256 bytes, one after the other
 abbrev pub rows : ℕ → List ℕ → List (List ℕ)
 rows zero bytes = []
 rows (suc n) bytes = take 256 bytes ∷ rows n (drop 256 bytes)
@@ -100,7 +101,7 @@ Passes Physical row = (¬ IsLabelled row) → HasPhysical row
 Passes Digital row = (¬ IsLabelled row) → HasDigital row
 Passes Samples row = HasSamples row
 
--- the place, from 0, of the first member that has it not
+-- the index, from 0, of the first element failing P
 pub record IsFirstBad {X : Type 0} (P : X → Type 0) (xs : List X) (at : ℕ) : Type 0 where
   pub within : at < length xs
   pub bad : HoldsAt (λ x. ¬ P x) xs at

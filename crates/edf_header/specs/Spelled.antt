@@ -68,7 +68,7 @@ pub record IsReadAs (bytes : List ℕ) (layout : Layout) : Type 0 where
   pub says : layout_of header ≡ layout
   pub len : length bytes ≡ 512 + 256 * length layout.key.signals
 
--- what it says: the annotations block of so many samples stands last in each data record
+-- what it says: the annotations block of `block` samples is last in each data record
 abbrev pub spelled_layout : Key → ℕ → ℕ → ℕ → Layout
 spelled_layout k start count block = record {
   key = k;

@@ -11,7 +11,7 @@ use crate::identity::Identity;
 use edf_time::{Instant, date_field, id_date_text, time_field};
 use std::alloc::{AllocError, Global};
 
-/// Writes so many spaces.
+/// Writes `count` spaces.
 fn push_spaces(out: &mut Vec<u8>, count: usize) -> Result<(), AllocError>
     ensures { OnOk result (out.new.items ≡ out.old.items ++ spaces count) }
 {
@@ -44,7 +44,8 @@ fn push_number(
     Ok(())
 }
 
-/// The header of a canonical file's annotations signal of so many samples per data record, in a row.
+/// The header of a canonical file's annotations signal of `samples` samples per data record, in a
+/// row.
 fn annotations_row(alloc: Global, samples: u32) -> Result<Vec<u8>, AllocError>
     ensures { IfOk result (λ v. v.items ≡ annotations_signal samples) }
 {
@@ -121,10 +122,11 @@ fn push_signals(
 /// The canonical header of `count` data records of a recording, the first of which starts in the second of `start` (EDF, header
 /// record; EDF+, additional specifications and the annotations signal).
 ///
-/// It is EDF+D: 256 bytes, then 256 for each ordinary signal and for the annotations signal, which stands last and has
-/// `block_samples` samples per data record, two bytes each. `count` is 1 to 99,999,999, `block_samples` 1 to 2,097,152. Where the
-/// identity has no date, `start` is before 2085, since only two digits name its year. Every number but those of the identity
-/// is without leading zeros.
+/// It is EDF+D: 256 bytes, then 256 for each ordinary signal and for the annotations signal, which
+/// is last and has `block_samples` samples per data record, two bytes each. `count` is 1 to
+/// 99,999,999, `block_samples` 1 to 2,097,152. Where the identity has no date, `start` is before
+/// 2085, since only two digits name its year. Every number but those of the identity is without
+/// leading zeros.
 ///
 /// # Errors
 /// Where memory runs out.

@@ -44,8 +44,8 @@ impl Model for Fixed {
 }
 
 impl Fixed {
-    /// The number of signals, 2 to 640, bytes 252 to 255 of the header, the annotations signals among
-    /// them: so many headers of 256 bytes follow the fixed part.
+    /// The number of signals, 2 to 640, bytes 252 to 255 of the header, the annotations signals
+    /// among them. For each a header of 256 bytes follows the fixed part.
     pub fn signals(&self) -> usize
         ensures value { result ≡ self.now.signal_count }
         ensures from { 2 ≤ result }
@@ -69,7 +69,8 @@ impl Fixed {
         self.startdate.is_some()
     }
 
-    /// What follows the Startdate subfield in the recording field: 59 bytes behind a date, 69 behind `X`.
+    /// What follows the Startdate subfield in the recording field: 59 bytes after a date, 69 after
+    /// `X`.
     pub(crate) fn after(&self) -> &[u8]
         ensures { result.now ≡ self.now.after }
     {

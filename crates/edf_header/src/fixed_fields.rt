@@ -166,7 +166,8 @@ pub(crate) fn read_signal_count(bytes: &[u8; 256]) -> Result<u32, HeaderFault>
     }
 }
 
-/// The number of header bytes, bytes 184 to 191, is that of so many signals; or E13 is the first fault.
+/// The number of header bytes, bytes 184 to 191, is that of `signals` signals; or E13 is the first
+/// fault.
 pub(crate) fn check_header_bytes(bytes: &[u8; 256], signals: u32) -> Result<(), HeaderFault>
     requires signals { HasSignals bytes.now signals }
     requires clean { IsClean (FixedPartFails bytes.now) 13 }

@@ -5,7 +5,7 @@ use crate::identity::Identity;
 use edf_time::Instant;
 use std::marker::Model;
 
-/// An annotations block: where the samples of one annotations signal stand in each data record
+/// An annotations block: where the samples of one annotations signal are in each data record
 /// (EDF+, the annotations signal).
 #[derive(Clone, Copy, Debug, PartialEq, Eq)]
 pub struct Block {
@@ -17,7 +17,7 @@ pub struct Block {
 }
 
 /// What a header says of its data records: whose they are, from where their onsets count, how many
-/// there are, and where the annotations blocks stand in each (EDF, header record and data records;
+/// there are, and where the annotations blocks are in each (EDF, header record and data records;
 /// EDF+, the annotations signals).
 #[derive(Drop)]
 pub struct Header {

@@ -1,5 +1,5 @@
-//! Loops over the signals of a header, whose fields stand in columns. Each signal in turn is laid out in a row on the stack, so that
-//! the checks take no memory.
+//! Loops over the signals of a header, whose fields are in columns. Each signal in turn is laid out
+//! in a row on the stack, so that the checks take no memory.
 ghost use Rattle.std.specs.Prelude.{◌≡◌, ◌*◌, ◌≤◌, ◌++◌, length, OnOk, IfOk, MatchOption, All};
 ghost use Rattle.std.specs.List.{flat_map};
 ghost use Rattle.edf_header.specs.Signal.{signals_of, labelled, ordinary};

@@ -58,9 +58,10 @@ pub enum IdentityFault {
 /// duration of a data record, and the headers of the ordinary signals (EDF, header record; EDF+, additional specifications).
 /// Two fragments are of one recording where all these bytes are the same.
 ///
-/// Its bytes: 0 to 79 the patient field; 80 `D` where the Startdate subfield is a date, else `X`; 81 to 149 what follows
-/// that subfield, filled with spaces; 150 to 157 the duration field; then 256 for each of 1 to 639 ordinary signals, its ten
-/// fields one behind the other, as `read_signals` has them.
+/// Its bytes: 0 to 79 the patient field; 80 `D` where the Startdate subfield is a date, else `X`;
+/// 81 to 149 what follows that subfield, filled with spaces; 150 to 157 the duration field; then
+/// 256 for each of 1 to 639 ordinary signals, its ten fields one after the other, as `read_signals`
+/// has them.
 #[derive(Drop)]
 pub struct Identity {
     pub(crate) bytes: Vec<u8>,
@@ -223,7 +224,7 @@ impl Identity {
         }
     }
 
-    /// The investigation code: the first subfield behind the Startdate subfield of the recording identification.
+    /// The investigation code: the recording field's first subfield after the Startdate subfield.
     pub fn investigation_code(&self) -> &[u8]
         ensures { result.now ≡ investigation_code self.now }
     {

@@ -63,7 +63,7 @@ pub(crate) struct KeyNumbers {
     pub(crate) ordinary_bytes: usize,
 }
 
-/// Checks what stands before the signals, and reads the duration of a data record in nanoseconds.
+/// Checks what comes before the signals, and reads the duration of a data record in nanoseconds.
 fn check_front(bytes: &[u8]) -> Result<u64, IdentityFault>
     ensures { MatchResult result
         (λ nanos. IsKeyFront bytes.now × (nanos ≡ duration_of (key_at bytes.now).duration))

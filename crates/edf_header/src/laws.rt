@@ -68,7 +68,7 @@ pub fn one_key_fault()
     ensures { (bytes : List ℕ) (fault other : IdentityFault) → IsFirstKeyFault bytes fault → IsFirstKeyFault bytes other → fault ≡ other }
 {}
 
-/// A law: behind one fixed part, bytes spell the signals of one header at most.
+/// A law: after one fixed part, bytes spell the signals of one header at most.
 pub fn one_signals()
     ensures { (bytes : List ℕ) (header other : HeaderRecord) → AreSignals bytes header → AreSignals bytes other → header.fixed ≡ other.fixed → header ≡ other }
 {}

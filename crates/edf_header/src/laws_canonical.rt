@@ -26,7 +26,7 @@ pub fn one_canonical_header()
         → IsCanonicalHeader other key start count block → bytes ≡ other }
 {}
 
-/// A law: bytes begin with one header at most, and end with one rest behind it.
+/// A law: bytes begin with one header at most, and end with one rest after it.
 pub fn is_header_one()
     ensures { (bytes rest other_rest : List ℕ) (header other : HeaderRecord) → IsHeader bytes header rest → IsHeader bytes other other_rest
         → (header ≡ other) × (rest ≡ other_rest) }

@@ -92,13 +92,15 @@ fn header_from(
     })
 }
 
-/// Reads the signal part of a header, which stands behind the fixed part: 256 bytes a signal, field by field, each for all
-/// signals in turn (EDF, header record; EDF+, the annotations signals).
+/// Reads the signal part of a header, which comes after the fixed part: 256 bytes a signal, field
+/// by field, each for all signals in turn (EDF, header record; EDF+, the annotations signals).
 ///
-/// The ten fields with their bytes, and where they stand in a signal's row, in which they are laid one behind the other: label
-/// 16 at 0; transducer type 80 at 16; physical dimension 8 at 96; physical minimum 8 at 104; physical maximum 8 at 112; digital
-/// minimum 8 at 120; digital maximum 8 at 128; prefiltering 80 at 136; samples per data record 8 at 216; reserved 32 at 224. Of
-/// `n` signals the field of signal `i`, from 0, with `width` bytes at `at` stands at `256 + n * at + i * width` of the file.
+/// The ten fields with their bytes, and where they are in a signal's row, which has them one after
+/// the other: label 16 at 0; transducer type 80 at 16; physical dimension 8 at 96; physical minimum
+/// 8 at 104; physical maximum 8 at 112; digital minimum 8 at 120; digital maximum 8 at 128;
+/// prefiltering 80 at 136; samples per data record 8 at 216; reserved 32 at 224. Of `n` signals the
+/// field of signal `i`, from 0, with `width` bytes at `at` is at `256 + n * at + i * width` of the
+/// file.
 ///
 /// # Errors
 /// The first of E14 to E20 that is true of the bytes: `CutSignals`, `UnprintableSignals` with the offset in the file of the first

@@ -31,7 +31,7 @@ Contains-from_In [] r h = absurd h
 Contains-from_In (x ∷ xs) r (inl p) = (0, omega arith, p)
 Contains-from_In (x ∷ xs) r (inr h) = let c = Contains-from_In xs r h in (suc c.0, omega (arith, c.1), c.2)
 
--- rising starts and no clash are starts that stand apart
+-- rising starts and no clash are starts that lie apart
 
 pub clashes-self : (d : ℕ) (r : DataRecord) → clashes d r r ≡ false
 clashes-self d r = false_from_ne_true _ (λ e. (clashes-true d r r e).0 refl)

@@ -178,7 +178,7 @@ joined_held d low xs (r ∷ rs) z a w =
 abbrev pub AreFree : ℕ → List DataRecord → List DataRecord → Type 0
 AreFree d xs rs = (r x : DataRecord) → In r rs → In x xs → clashes d r x ≡ false
 
--- records that stand apart don't clash
+-- records that lie apart don't clash
 pub apart_first : (d low : ℕ) (r s : DataRecord) (rs : List DataRecord) → IsApart d low (r ∷ rs) → In s rs → clashes d s r ≡ false
 apart_first d low r s rs a h = elim (cases_Bool (clashes d s r)) [ inr e ↦ e | inl e ↦ absurd (close (clashes-true d s r e)) ]
   where
@@ -202,7 +202,7 @@ same_Bool true b f g = sym (f refl)
 same_Bool false true f g = g refl
 same_Bool false false f g = refl
 
--- two sets that have the same of a list's records lack as many of them
+-- two sets that have the same of a list's records lack the same number of them
 pub new_same : (xs ys rs : List DataRecord) → ((y : DataRecord) → In y rs → (In y ys → In y xs) × (In y xs → In y ys)) → new_of ys rs ≡ new_of xs rs
 new_same xs ys [] w = refl
 new_same xs ys (s ∷ rs) w =

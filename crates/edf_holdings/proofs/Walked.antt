@@ -18,7 +18,7 @@ use Rattle.edf_holdings.proofs.Joining.{IsGood, fits_from_MayJoin, put_here, las
 use Rattle.edf_holdings.proofs.Replies.{AreFree-from_first}
 use Rattle.edf_holdings.proofs.Near.{earliest_near, earliest_joined, held_near, held_joined, joined-append, new_of-append, first_clash-append}
 
--- one record more, behind those of a list
+-- one record more, after those of a list
 
 apart_last : (d low : ℕ) (rs : List DataRecord) (r : DataRecord) → IsApart d low (rs ++ r ∷ []) → low ≤ r.start
 apart_last d low [] r a = a.0
@@ -44,7 +44,7 @@ in_snoc y r [] (q ∷ qs) w m = inr (in_snoc y r [] qs (λ z n. absurd n) m)
 in_snoc y r (p ∷ ps) rs w (inl e) = in_left y rs (r ∷ []) (w y (inl e))
 in_snoc y r (p ∷ ps) rs w (inr m) = in_snoc y r ps rs (λ z n. w z (inr n)) m
 
--- records put in one behind the other are put in together
+-- records put in one after the other are put in together
 pub put-append : (key : Key) (ps : List DataRecord) (r : DataRecord) (h : Holdings) → put key (r ∷ []) (put key ps h) ≡ put key (ps ++ r ∷ []) h
 put-append key ps r h = fun_ext (λ k. step k (same_key key k) refl)
   where
@@ -108,7 +108,7 @@ nothing_read cap key h = record {
   whole = λ _. sym (put_none key h);
 }
 
--- behind a clash nothing that follows counts
+-- after a clash nothing that follows counts
 pub still_stopped : (key : Key) (h : Holdings) (rs : List DataRecord) (r : DataRecord) (starts : ℕ × ℕ) → Stopped key h rs starts → Stopped key h (rs ++ r ∷ []) starts
 still_stopped key h rs r starts c = record {
   pair = c.pair;

@@ -25,7 +25,7 @@ twice : replies 9 nothing_held (told 1 7 (100 ∷ []) ∷ told 1 7 (100 ∷ []) 
 unfolding reply after_one same_key same_record clashes
 twice = refl
 
--- an overlap, other samples at the same start, a touch behind and one before
+-- an overlap, other samples at the same start, a touch after and one before
 conflicts : replies 9 nothing_held (told 1 7 (100 ∷ []) ∷ told 1 7 (90 ∷ 105 ∷ []) ∷ told 1 8 (100 ∷ []) ∷ told 1 7 (110 ∷ []) ∷ told 1 7 (90 ∷ []) ∷ [])
     ≡ Accepted (key 1) 1 0 ∷ Overlap 105 100 ∷ Differs 100 ∷ Accepted (key 1) 1 0 ∷ Accepted (key 1) 1 0 ∷ []
 unfolding reply after_one same_key same_record clashes
@@ -47,7 +47,7 @@ rises : after 9 nothing_held (told 1 7 (110 ∷ []) ∷ told 1 7 (90 ∷ 100 ∷
 unfolding after_one same_key same_record clashes
 rises = refl
 
--- a repeat of what was refused for want of room may be refused for a clash
+-- a repeat of what was refused with `Full` may be refused for a clash
 full_then_overlap : replies 2 nothing_held (told 1 7 (100 ∷ []) ∷ told 1 7 (200 ∷ 300 ∷ []) ∷ told 1 7 (205 ∷ []) ∷ told 1 7 (200 ∷ 300 ∷ []) ∷ [])
     ≡ Accepted (key 1) 1 0 ∷ Full 1 2 2 ∷ Accepted (key 1) 1 0 ∷ Overlap 200 205 ∷ []
 unfolding reply after_one same_key same_record clashes

@@ -15,8 +15,8 @@ Holdings = Key → List DataRecord
 abbrev pub nothing_held : Holdings
 nothing_held = λ k. []
 
--- the keys hold data records of theirs, of which no two clash, and at most so many each; each recording may begin with its
--- earliest; and only finitely many keys hold any
+-- the keys hold data records of theirs, of which no two clash, and at most `cap` each; each
+-- recording may begin with its earliest; and only finitely many keys hold any
 pub record IsSound (cap : ℕ) (h : Holdings) : Type 0 where
   pub rising : (k : Key) → IsRising (h k)
   pub no_clash : (k : Key) → NoClash (duration_of k.duration) (h k)

@@ -87,7 +87,8 @@ ClashIsThere = (cap : ℕ) (h : Holdings) (key : Key) (records : List DataRecord
     Contains records r → Contains (h key) s → Clash (duration_of key.duration) r s →
     (q : DataRecord) × (x : DataRecord) × IsFirstClash (duration_of key.duration) (h key) records q x
 
--- where nothing clashes, the answer is want of room exactly where some are new and are too many, else that it is accepted
+-- where nothing clashes, the answer is `Full` exactly where some are new and are too many, else
+-- that it is accepted
 abbrev pub CountsAreNamed : Type 0
 CountsAreNamed = (cap : ℕ) (h : Holdings) (key : Key) (records : List DataRecord) → IsClear h key records →
     (0 < new_of (h key) records → cap < length (h key) + new_of (h key) records →

@@ -65,7 +65,7 @@ first_clash d xs (r ∷ rs) = clash_or r (find (clashes d r) xs) (first_clash d 
 abbrev pub is_past : ℕ → ℕ → ℕ → Bool
 is_past cap held new = nat_lt 0 new && nat_lt cap (held + new)
 
--- the answer where so many are held and so many would be new, of so many
+-- the answer where `held` are held and `new` of `all` would be new
 abbrev pub reply_to_counts : ℕ → Key → ℕ → ℕ → ℕ → Reply
 reply_to_counts cap key held new all = cond (is_past cap held new) (Full held new cap) (Accepted key new (all - new))
 
@@ -74,7 +74,8 @@ abbrev pub reply_to_clash : ℕ → Key → List DataRecord → List DataRecord 
 reply_to_clash cap key records xs (Some p) = cond (nat_eq p.0.start p.1.start) (Differs p.0.start) (Overlap p.0.start p.1.start)
 reply_to_clash cap key records xs None = reply_to_counts cap key (length xs) (new_of xs records) (length records)
 
--- what is answered to one submission: its fault of form, else its first clash, else want of room, else that it is accepted
+-- what is answered to one submission: its fault of form, else its first clash, else `Full`, else
+-- that it is accepted
 unfoldable pub reply : ℕ → Holdings → Told → Reply
 reply cap h (Fragment key records) = reply_to_clash cap key records (h key) (first_clash (duration_of key.duration) (h key) records)
 reply cap h (Fault fault) = Form fault

@@ -17,7 +17,8 @@ abbrev pub holds : List DataRecord → DataRecord → Bool
 holds [] r = false
 holds (x ∷ xs) r = same_record x r || holds xs r
 
--- the list with one record more, which stands before the first that starts later; one that is there is not put in again
+-- the list with one record more, which comes before the first that starts later; one that is there
+-- is not put in again
 abbrev pub inserted : DataRecord → List DataRecord → List DataRecord
 inserted r [] = r ∷ []
 inserted r (x ∷ xs) = cond (same_record x r) (x ∷ xs) (cond (nat_lt r.start x.start) (r ∷ x ∷ xs) (x ∷ inserted r xs))

@@ -1,4 +1,5 @@
-//! How two data records clash: apart from `clash`, since names that differ in case alone can't stand in one module.
+//! How two data records clash: apart from `clash`, since names that differ in case alone can't be
+//! in one module.
 
 /// How two data records of one recording clash.
 #[derive(Clone, Copy, Debug, PartialEq, Eq)]

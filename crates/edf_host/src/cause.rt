@@ -15,7 +15,7 @@ const OTHER_TABLES: &str = "a database with other tables than a store's; it was 
 
 const OTHER_ROWS: &str = "its rows are such as no submissions leave; put it aside, as it is";
 
-/// What the system answered, if the words of the system itself would not do.
+/// Plain words for a system error; `None` means print the error itself.
 fn system_words(error: &io::Error) -> Option<&'static str> {
     match error.kind() {
         ErrorKind::NotFound => Some("no such file or directory"),
@@ -41,7 +41,7 @@ fn tell_system_error(terminal: &Terminal<'_>, path: &str, error: io::Error) {
     }
 }
 
-/// What the system answered to one who only reads, if its own words would not do.
+/// Plain words for a system error of a file that is only read; `None` means print the error itself.
 fn reading_words(error: &io::Error) -> Option<&'static str> {
     match error.kind() {
         ErrorKind::PermissionDenied => Some("no permission to read it"),
@@ -50,7 +50,7 @@ fn reading_words(error: &io::Error) -> Option<&'static str> {
     }
 }
 
-/// Tells why a file of this name, or standard input, could not be read.
+/// Prints why a file of this name, or standard input, could not be read.
 pub(crate) fn tell_unread(terminal: &Terminal<'_>, name: &str, error: &io::Error) {
     match reading_words(error) {
         Some(words) => terminal.say(name, words),
@@ -58,7 +58,8 @@ pub(crate) fn tell_unread(terminal: &Terminal<'_>, name: &str, error: &io::Error
     }
 }
 
-/// Tells why there is no file to be had at the path, for which it is asked for once more: the port of SQLite does not tell.
+/// Prints why the store could not be opened. SQLite's port gives no cause, so the path is opened
+/// again to get one.
 fn tell_unopened(rt: &HostRuntime, terminal: &Terminal<'_>, path: &str) {
     if path.starts_with("file:") {
         return terminal.say(path, "a path that begins with 'file:' is written './file:'");
@@ -74,7 +75,7 @@ fn tell_unopened(rt: &HostRuntime, terminal: &Terminal<'_>, path: &str) {
     }
 }
 
-/// What `sqlite` answered, if its own words would not do.
+/// Plain words for an error code of `sqlite`; `None` means print the code itself.
 fn code_words(code: ErrorCode) -> Option<&'static str> {
     match code {
         ErrorCode::NotADatabase => Some("not a database, or none that can be read here"),
@@ -87,7 +88,7 @@ fn code_words(code: ErrorCode) -> Option<&'static str> {
     }
 }
 
-/// Tells what `sqlite` refused a store for.
+/// Prints why `sqlite` refused a store.
 pub(crate) fn tell_error(rt: &HostRuntime, terminal: &Terminal<'_>, path: &str, error: Error) {
     let Error::SqliteFailure(code) = error else {
         return terminal.say(path, error);
@@ -101,7 +102,7 @@ pub(crate) fn tell_error(rt: &HostRuntime, terminal: &Terminal<'_>, path: &str, 
     }
 }
 
-/// Tells why a store was not opened. Want of memory has no further cause.
+/// Prints why a store was not opened. Out of memory has no further cause.
 pub(crate) fn tell_refused(
     rt: &HostRuntime,
     terminal: &Terminal<'_>,

@@ -13,19 +13,19 @@ use std::fs::File;
 use std::io::{self, BufReader, Read, Stdin};
 use std::rc::Rc;
 
-/// How many bytes of a file are asked for at once, and of standard input.
+/// How many bytes of a file, and of standard input, are asked for at once.
 const PIECE: usize = 16_384;
 
 const STREAM_PIECE: usize = 65_536;
 
-/// What gives each word its reader: a path that of the file, and `-` that of standard input, which reads on where the last stopped.
+/// Opens FILE arguments; repeated `-` continues standard input.
 #[derive(Drop)]
 pub struct Files<'rt> {
     rt: &'rt HostRuntime,
     terminal: &'rt Terminal<'rt>,
     /// Standard input, once a `-` was opened.
     stream: Option<Rc<RefCell<BufReader<Stdin>>>>,
-    /// The words that were opened, in turn.
+    /// The names that were opened, in turn.
     names: Vec<String>,
 }
 
@@ -67,7 +67,7 @@ enum Place {
     Ended,
 }
 
-/// A reader of a file or of standard input, which tells a person how far it is, and why a read failed.
+/// A reader of a file or of standard input, which shows progress, and prints why a read failed.
 #[derive(Drop)]
 pub struct Source<'rt> {
     rt: &'rt HostRuntime,

@@ -34,7 +34,7 @@ struct Streams<'t> {
     err: Counted<Clearing<'t, Stderr>>,
 }
 
-/// Tells why the words can't be had: one is not UTF-8, or memory ran out.
+/// Prints why the words can't be had: one is not UTF-8, or memory ran out.
 fn refuse_words(rt: &HostRuntime, error: &io::Error) -> Status {
     let (line, status) = if error.kind() == ErrorKind::InvalidData {
         ("error: a word is not UTF-8", Status::Usage)
@@ -54,7 +54,7 @@ fn order_of(rt: &HostRuntime, words: &[String]) -> Result<Order, Status> {
     read_order(rt.alloc(), words, &mut out, &mut err)
 }
 
-/// The terminal of an order: a person is told how far `take` is.
+/// The terminal of an order, which shows a person how far `take` is.
 fn terminal_of<'rt>(rt: &'rt HostRuntime, order: &Order) -> Terminal<'rt> {
     match order {
         Order::Take { store: _, files } => Terminal::new(rt, files.len()),
@@ -80,7 +80,8 @@ fn run_over<S: Alter>(
     )
 }
 
-/// Runs an order over the file of the store that it names. A person is told where that is made, and why it is refused.
+/// Runs an order over the file of the store that it names. For a person it prints where that is
+/// made, and why it is refused.
 fn run_on_file(
     rt: &HostRuntime,
     terminal: &Terminal<'_>,
@@ -144,7 +145,8 @@ fn run_order(rt: &HostRuntime, order: &Order) -> Status {
     status
 }
 
-/// Does what words ask for, which stand behind the program's name, and answers the status that the program ends with: 0 to 3.
+/// Does what the words after the program's name ask for, and answers the status that the program
+/// ends with: 0 to 3.
 pub fn run_words(rt: &HostRuntime, words: &[String]) -> Status {
     match order_of(rt, words) {
         Ok(order) => run_order(rt, &order),

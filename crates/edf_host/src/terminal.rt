@@ -1,23 +1,23 @@
-//! What is said to a person: on standard error, and only where that is a terminal.
+//! What is printed for a person: on standard error, and only where that is a terminal.
 //!
-//! These are lines, and how far `take` is, in one line that is written over and that no other stands behind.
+//! Messages are lines; progress is one overwritten line, erased before other output.
 
 use std::cell::Cell;
 use std::fmt::Display;
 use std::io::{self, IsTerminal, Write};
 
-/// How far `take` is, is told again each time so many bytes were read.
+/// Progress is written again each time this number of bytes was read.
 const MEGABYTE: u64 = 1_000_000;
 
-/// What is written over that line, which is never longer.
+/// What is written over the line of progress, which is never longer.
 const WIPED: &str = "\r                                                            \r";
 
-/// Standard error as a person sees it. Nothing is said where it is no terminal.
+/// Standard error as a person sees it. Nothing is printed where it is no terminal.
 #[derive(Drop)]
 pub(crate) struct Terminal<'rt> {
     rt: &'rt HostRuntime,
     is_there: bool,
-    /// How many files there are to take; 0 where how far that is isn't told.
+    /// How many files there are to take; 0 where no progress is shown.
     files: usize,
     begun: Cell<usize>,
     bytes: Cell<u64>,
@@ -25,7 +25,7 @@ pub(crate) struct Terminal<'rt> {
 }
 
 impl<'rt> Terminal<'rt> {
-    /// A terminal that is told how far the taking of so many files is, if there are any.
+    /// A terminal that shows the progress of taking `files` files, if there are any.
     pub(crate) fn new(rt: &'rt HostRuntime, files: usize) -> Terminal<'rt> {
         let is_there = rt.stderr().is_terminal();
         Terminal {
@@ -38,12 +38,13 @@ impl<'rt> Terminal<'rt> {
         }
     }
 
-    /// Whether a person reads what is said.
+    /// Whether a person reads what is printed.
     pub(crate) fn is_there(&self) -> bool {
         self.is_there
     }
 
-    /// A line about the file or the store of this name. One that can't be written is no matter.
+    /// A line about the file or the store of this name. Where it can't be written, that does not
+    /// matter.
     pub(crate) fn say(&self, name: &str, words: impl Display + Drop) {
         if self.is_there {
             self.wipe_progress();
@@ -51,7 +52,7 @@ impl<'rt> Terminal<'rt> {
         }
     }
 
-    /// Tells that one more file is read.
+    /// Counts one more file as begun, and shows the progress.
     pub(crate) fn begin_file(&self) {
         if self.files > 0 {
             self.begun.set(self.begun.get().saturating_add(1));
@@ -59,7 +60,7 @@ impl<'rt> Terminal<'rt> {
         }
     }
 
-    /// Tells that so many more bytes were read, where a megabyte is full.
+    /// Counts `count` more bytes as read, and shows the progress where a megabyte is full.
     pub(crate) fn add_bytes(&self, count: usize) {
         if self.files > 0 {
             let before = self.bytes.get();
@@ -78,7 +79,7 @@ impl<'rt> Terminal<'rt> {
         self.is_progress_shown.set(true);
     }
 
-    /// Wipes out how far `take` is, if it stands there.
+    /// Erases the line of progress, if it is there.
     pub(crate) fn wipe_progress(&self) {
         if self.is_progress_shown.get() {
             let _ = eprint!(self.rt; "{WIPED}");
@@ -87,7 +88,7 @@ impl<'rt> Terminal<'rt> {
     }
 }
 
-/// A standard stream whose lines never stand behind how far `take` is.
+/// A standard stream that erases the line of progress before it writes.
 #[derive(Drop)]
 pub(crate) struct Clearing<'t, W> {
     terminal: &'t Terminal<'t>,

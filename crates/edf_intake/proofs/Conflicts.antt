@@ -51,7 +51,8 @@ clash_told cap key h records starts told differs overlaps k =
     named : reply cap h (Fragment key records) ≡ cond (nat_eq starts.start starts.stored) (Differs starts.start) (Overlap starts.start starts.stored)
     named = reply_stopped cap key h records (starts.start, starts.stored) (stopped_of key h records starts k)
 
--- want of room where a fragment has more new records than there is room for: no less room was found than there is
+-- `Full` where a fragment has more new records than there is room for: no less room was found than
+-- there is
 pub full_here : (cap room : ℕ) (key : Key) (h : Holdings) (records : List DataRecord) (tally : Tally) → CountsAll key h records tally
     → IsRoom cap (length (h key)) (length records) room → room < tally.new → reply cap h (Fragment key records) ≡ Full (cap - room) tally.new cap
 full_here cap room key h records tally k it past =

@@ -24,7 +24,7 @@ held_now g old new id key count cap running same under was is clean h seen =
       (seen clean).sound.few key,
     )
 
--- room for as many as were asked for
+-- room for the number that was asked for
 pub room_now : {S : Type 0} (g : Ghosts S) (old new : Kept S) (id : ℤ) (key : Key) (more : ℕ) → new.cap ≡ old.cap → IsRunning g old → SeesAsBefore g old new → IsOf g old id key
     → (HasCleanDisk (at g new) → HasCleanDisk (at g old)) → (HasCleanDisk (at g new) → TellsRoom g old id more true)
     → HasCleanDisk (at g new) → (h : Holdings) → Sees g new h → IsRoom old.cap (length (h key)) more more

@@ -53,7 +53,7 @@ next_wider room full wanted key r h new known None t to low enough below (step, 
     (step, is, counts_wider room full wanted key r (near_of (duration_of key.duration) r.start (h key)) h (record { new = new; known = known; clash = None }) t to step low enough below counts)
 next_wider room full wanted key r h new known (Some s) t to low enough below same = same
 
--- the room that there is, where so much was found
+-- the same for all the room that there is, where what was found is enough
 pub next_in_all : (cap held wanted room : ℕ) (key : Key) (r : DataRecord) (h : Holdings) (from : Tally) (t : Holdings) (to : Tally) → IsRoom cap held wanted room → from.new < wanted → IsNext room key r h from t to → IsNext (cap - held) key r h from t to
 next_in_all cap held wanted room key r h from t to it below next =
     next_wider room (cap - held) wanted key r h from.new from.known from.clash t to (omega (arith, it.fits))

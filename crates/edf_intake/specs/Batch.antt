@@ -34,7 +34,7 @@ told_in turns = somes (map (λ (t : Turn). t.told) turns)
 abbrev pub replies_in : List Turn → List Reply
 replies_in turns = somes (map (λ (t : Turn). reply_told t.answer) turns)
 
--- a fault is answered as one of form, and a fragment never is; one that is accepted, under its key
+-- a faulty file gets `Form`; a good one never does; `Accepted` carries its own key
 abbrev pub MayBeAnswered : Told → Reply → Type 0
 MayBeAnswered (Fault fault) answer = answer ≡ Form fault
 MayBeAnswered (Fragment key records) (Form fault) = ⊥

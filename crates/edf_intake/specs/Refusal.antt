@@ -20,7 +20,7 @@ refusal_number (refusal.Store fault) = number fault
 abbrev pub Answer : Type 0
 Answer = Result Receipt Refusal
 
--- the reply that an answer tells; a failed read, want of memory and a refusal of the store tell none
+-- the reply that an answer tells; a failed read, out of memory and a refusal of the store tell none
 abbrev pub reply_told : Answer → Option Reply
 reply_told (Ok receipt) = Some (Accepted receipt.identity receipt.new receipt.known)
 reply_told (Err (refusal.Form fault)) = Some (Form fault)

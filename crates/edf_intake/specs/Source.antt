@@ -50,7 +50,7 @@ module _ (from to : Source) where
   Hears (Fragment key records) = ReadsWhole key records
   Hears (Fault fault) = ReadsFault fault
 
-  -- one read failed, and the input stands there
+  -- one read failed, and the input is there
   pub record FailsToRead : Type 0 where
     pub is_fault : IsFragmentFault from.left to.left Read
     pub counted : CountsFault from.failed to.failed Read

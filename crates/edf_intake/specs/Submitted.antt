@@ -22,7 +22,8 @@ use Rattle.edf_intake.specs.declared.answer.Refusal.TheVariants as refusal
 abbrev pub found_busy : Answer
 found_busy = Err (refusal.Store (store.Store None))
 
--- what the store refused, E42 or E45: want of memory has a refusal of its own, and a clean disk gives back what was written
+-- what the store refused, E42 or E45: out of memory has a refusal of its own, and a clean disk
+-- gives back what was written
 pub record IsRefusal {S : Type 0} (g : Ghosts S) (new : Kept S) (fault : StoreFault) : Type 0 where
   pub other : fault ≢ store.Memory
   pub told : (fault ≡ store.Foreign) ⊎ IsStoreRefusal fault
@@ -76,8 +77,8 @@ module _ {S : Type 0} (g : Ghosts S) (old new : Kept S) where
       pub read : FailsToRead from to
       pub stays : Stays g old new
 
-    -- memory ran out or the store refused; what is held stays. Only behind E41 and E42, and where the whole input was read and
-    -- told a fragment, may a crash leave that it was submitted
+    -- memory ran out or the store refused; what is held stays. Only after E41 and E42, and where
+    -- the whole input was read and told a fragment, may a crash leave that it was submitted
     abbrev pub StopsThere : Answer → Type 0
     StopsThere answer = (Stays g old new × ReadsFront from to)
         ⊎ (IsInDoubt answer × ((key : Key) × (records : List DataRecord) × ReadsWhole from to key records × MayLeave (Fragment key records)))

@@ -24,7 +24,7 @@ pub struct Receipt {
 /// Why a fragment is not accepted. What was held before the submission is held after it.
 #[derive(Clone, Copy, Debug, PartialEq, Eq, Drop, Error)]
 pub enum Refusal {
-    /// E1 to E29: the input is no fragment. The fault is neither a failed read nor want of memory.
+    /// E1 to E29: the input is no fragment. The fault is neither a failed read nor out of memory.
     #[error("{0}")]
     Form(FragmentFault),
     /// E30: a data record overlaps a stored one that starts at another instant. It is the first of the fragment that clashes,
@@ -65,7 +65,7 @@ impl Refusal {
     }
 }
 
-/// Want of memory has a refusal of its own.
+/// Out of memory has a refusal of its own.
 impl From<StoreFault> for Refusal {
     ghost use Rattle.edf_intake.specs.Inside.Halt.{refusal_of};
 
@@ -109,7 +109,7 @@ impl From<FragmentFault> for Stop {
     }
 }
 
-/// The refusal for a fault of the fragment. A failed read and want of memory have their own.
+/// The refusal for a fault of the fragment. A failed read and out of memory have their own.
 pub(crate) fn refusal_by(fault: FragmentFault) -> Refusal
     ensures { result ≡ refusal_by fault }
 {

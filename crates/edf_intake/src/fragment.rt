@@ -52,8 +52,8 @@ fn known_room<S: Alter>(
     if fits { Ok(Some(wanted)) } else { Ok(None) }
 }
 
-/// The recording of an identity, which is made where it is missing, with room for `count` data records if it has so much;
-/// where their number is unknown, with all the room that it has.
+/// The recording of an identity, which is made where it is missing, with room for `count` data
+/// records if it has that; where their number is unknown, with all the room that it has.
 fn find_recording<S: Alter>(
     transaction: &mut StoreTx<'_, S>,
     cap: u32,
@@ -98,7 +98,7 @@ fn clash_refusal(starts: Starts) -> Refusal
     }
 }
 
-/// Why a whole fragment is not accepted: its first clash, or want of room. `None` where it is accepted.
+/// Why a whole fragment is not accepted: its first clash, or no room. `None` where it is accepted.
 fn conflict(recording: Recording, cap: u32, tally: Tally) -> Option<Refusal>
     ensures accepted { result ≡ None → (tally.clash ≡ None) × (tally.new ≤ recording.room) }
     ensures refused { IfSome result IsConflict }

@@ -1,7 +1,7 @@
 //! The intake of recordings: fragments in, whole or not at all.
 //!
 //! - [`submit`]: one fragment, read record by record inside one transaction of a store.
-//! - [`submit_all`]: a list of them, each in turn, whatever became of those before.
+//! - [`submit_all`]: a list of them, each in turn, also after refused ones.
 //! - [`Receipt`], [`Refusal`]: how a submission is answered.
 //! - [`clash`], [`Clash`]: whether two data records of one recording clash, and how.
 //! - [`laws`]: repeats add nothing, and lists without conflicts end alike, however ordered or cut; functions that do nothing,

@@ -15,18 +15,21 @@ use std::alloc::{AllocError, Global};
 
 /// Submits one fragment, which is accepted whole or refused whole.
 ///
-/// The input is read once, up to its end or to where it has a fault of form, one data record in memory at a time. A fragment is
-/// accepted where none of its data records clashes with a stored one of its identity, and where it adds none or the recording
-/// then has at most as many as the store's cap. The input is read to its end also where a record clashes or there is no more
-/// room, so a fault of form is always told before these.
+/// The input is read once, up to its end or to where it has a fault of form, one data record in
+/// memory at a time. A fragment is accepted where none of its data records clashes with a stored
+/// one of its identity, and where it adds none or the recording then has no more than the store's
+/// cap. The input is read to its end also where a record clashes or there is no more room, so a
+/// fault of form is always told before these.
 ///
 /// # Errors
-/// `Form` (E1 to E29), the first fault of the input; else `Overlap` (E30) or `Differs` (E31), for the first data record that
-/// clashes, with the earliest stored one that it clashes with; else `Full` (E32). `Read` (E40) where a read failed, in place of
-/// what would have been found behind it and of E30 to E32. `Memory` (E41) where memory ran out and `Store` (E42, E45) where the
-/// store refused, in place of any other. Where calls of the store were refused, the first is told, and the one that undoes what
-/// was added counts among them. What was held before stays after each refusal. E45 comes only from a disk that does not give
-/// back what was written; E42 without a cause where the connection was left in a transaction, and then nothing was read.
+/// `Form` (E1 to E29), the first fault of the input; else `Overlap` (E30) or `Differs` (E31), for
+/// the first data record that clashes, with the earliest stored one that it clashes with; else
+/// `Full` (E32). `Read` (E40) where a read failed, in place of what would have been found after it
+/// and of E30 to E32. `Memory` (E41) where memory ran out and `Store` (E42, E45) where the store
+/// refused, in place of any other. Where calls of the store were refused, the first is told, and
+/// the one that undoes what was added counts among them. What was held before stays after each
+/// refusal. E45 comes only from a disk that does not give back what was written; E42 without a
+/// cause where the connection was left in a transaction, and then nothing was read.
 pub fn submit<S: Alter, R: Input>(
     alloc: Global,
     store: &mut Store<S>,
@@ -58,7 +61,8 @@ pub fn submit<S: Alter, R: Input>(
     }
 }
 
-/// Submits each input in turn, whatever became of those before, and answers as many times in their order.
+/// Submits each input in turn, also after refused ones, and gives one answer for each, in
+/// their order.
 ///
 /// # Errors
 /// `AllocError` where there is no memory for the answers; then nothing was read or submitted.

@@ -68,7 +68,7 @@ pub(crate) struct Tally {
     pub(crate) clash: Option<Starts>,
 }
 
-/// A recording in a transaction, which may take so many data records more.
+/// A recording in a transaction, which may take `room` more data records.
 #[derive(Clone, Copy)]
 pub(crate) struct Recording {
     pub(crate) id: RecordingId,
@@ -219,7 +219,7 @@ fn take_record<S: Alter>(
     }
 }
 
-/// All data records of a fragment whose header was just read, and the end of the input behind them.
+/// All data records of a fragment whose header was just read, and the end of the input after them.
 pub(crate) fn take_records<S: Alter, R: Input>(
     transaction: &mut StoreTx<'_, S>,
     recording: Recording,

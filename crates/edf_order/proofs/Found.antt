@@ -1,4 +1,4 @@
--- The word that `clap` met, and the values behind it, as a pair.
+-- The word that `clap` met, and the values after it, as a pair.
 use Rattle.std.proofs.Common.{◌≡◌, refl, sym, ap, ap₂, List, Option, Some, None, true≢false, option_map}
 use Rattle.std.specs.Borrow.{Bor}
 use Rattle.std.specs.Box.{box_value}

@@ -19,7 +19,7 @@ top = (built edfstore_app).top
 pub simple : is_simple_and_free edfstore_app ≡ true
 simple = refl
 
--- what a level fails by, given what stands below it, where its walk ends and what its words fail by
+-- what a level fails by, given what is below it, where its walk ends and what its words fail by
 abbrev pub level_by : Shape → Bool → Kinds → Walk → Kinds → Kinds
 level_by s has_subcommand below w fault = or_else fault
     (or_else below (or_else (settle_fault s.rules s.args_override_self w.held)

@@ -59,7 +59,7 @@ in_range n least most =
     let many : nat_lt usize_max n ≡ false = le-ltb usize_max n most in
     rw (some, few, many) refl
 
--- the files that stand at the end are used
+-- the files at the end are used
 files_used : (a f : Text) (more : List Text) → length (f ∷ more) ≤ usize_max → settle_fault (sub 0).rules false (files_at a (f ∷ more)).held ≡ []
 files_used a f more fits = ap₂ or_else (in_range (length (f ∷ more)) (omega arith) fits) (texts_pass (f ∷ more))
 

@@ -13,7 +13,7 @@ abbrev pub export_found : Option Text → Option Text → Option Asked
 export_found (Some store) (Some place) = option_map (export store) (place_of place)
 export_found _ _ = None
 
--- by the word that was met and the values behind it
+-- by the word that was met and the values after it
 abbrev pub found_by : Text → List Row → Option Asked
 found_by word rows = if bytes_eq word (codes "take") then take_found (first_of (codes "STORE") rows) (all_of (codes "FILE") rows)
     else (if bytes_eq word (codes "list") then option_map list (first_of (codes "STORE") rows)

@@ -35,7 +35,7 @@ is_place text = nat_lt 0 (length text) && (list_all (λ d. nat_lt (digit_value d
 abbrev pub place_of : Text → Option ℕ
 place_of text = if is_place text then Some (digits_value 10 text) else None
 
--- what is asked for by the values behind each word that may come first
+-- what is asked for by the values after each word that may come first
 abbrev pub asked_of_take : List Text → Option Asked
 asked_of_take (store ∷ file ∷ files) = Some (take store (file ∷ files))
 asked_of_take _ = None

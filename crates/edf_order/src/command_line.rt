@@ -36,11 +36,12 @@ fn read<'a>(
 
 /// What the words after the program's name ask for.
 ///
-/// The words are `take STORE FILE...`, `list STORE`, `export STORE PLACE` or `convert FILE`; no word at all is `convert -`.
-/// PLACE is digits, without a sign, with a value from 1 to 4,294,967,295; zeros may lead. A word that begins with `-` is a
-/// flag, but for `-` alone, which is a value: `--help` and `-h` ask for help, as the words `help` and `help WORD` do, and
-/// behind a `--` that follows the first word all are values. `--version` and `-V` ask for the version: `edfstore`, a space and
-/// the version in a line.
+/// The words are `take STORE FILE...`, `list STORE`, `export STORE PLACE` or `convert FILE`; no
+/// word at all is `convert -`. PLACE is digits, without a sign, with a value from 1 to
+/// 4,294,967,295; zeros may lead. A word that begins with `-` is a flag, but for `-` alone, which
+/// is a value: `--help` and `-h` ask for help, as the words `help` and `help WORD` do, and after a
+/// `--` that follows the first word all are values. `--version` and `-V` ask for the version:
+/// `edfstore`, a space and the version in a line.
 ///
 /// # Errors
 /// Where no word is a flag, `Help` or `Usage` comes exactly where the words ask for nothing, and it is `Usage` where `help` is

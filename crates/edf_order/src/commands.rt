@@ -1,4 +1,4 @@
-//! The words of the program, as `clap` is told of them.
+//! The words of the program, as `clap` gets them.
 
 ghost use Rattle.std.specs.Prelude.{◌≡◌, false, IfOk};
 ghost use Rattle.clap.specs.Words.{rule_of};

@@ -1,6 +1,7 @@
 //! What `edfstore --help` and the help of each word say. Lines are broken here, since nothing else breaks them.
 
-/// What `edfstore --version` tells after the program's name. No other place of the repository has it.
+/// What `edfstore --version` prints after the program's name. No other place of the repository has
+/// it.
 pub const VERSION: &str = "1.0.0";
 
 /// What `edfstore` is.

@@ -2,8 +2,9 @@
 //!
 //! - [`parse`]: the words to an [`Order`], by `clap`, or the [`CommandFault`] that says why they ask for nothing.
 //! - [`Order`]: `take`, `list`, `export` or `convert`, with its values.
-//! - [`CommandFault`]: help or the version that was asked for, words that ask for nothing, or want of memory.
-//! - [`VERSION`]: the program's version, which `--version` tells.
+//! - [`CommandFault`]: help or the version that was asked for, words that ask for nothing, or out
+//!   of memory.
+//! - [`VERSION`]: the program's version, which `--version` prints.
 //!
 //! No file is opened and nothing is printed here.
 #![tactic(auto)]

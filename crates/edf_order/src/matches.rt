@@ -35,7 +35,7 @@ fn values_in<'m, 'a>(values: &'m ArgMatches<'a>, name: &str) -> Option<&'m [&'a 
     values.get_strs(name)
 }
 
-/// The word that says what to do, and the values behind it.
+/// The word that says what to do, and the values after it.
 fn command_in<'m, 'a>(matches: &'m ArgMatches<'a>) -> Option<(&'a str, &'m ArgMatches<'a>)>
     ensures { option_map (λ p. (p.0.now, rows_of (found_of p.1.now))) result
         ≡ subcommand_rows_of matches.now }

@@ -35,7 +35,7 @@ pub enum Order {
     },
 }
 
-/// The sign behind which a `u32` is read too.
+/// The sign after which a `u32` is read too.
 const PLUS: u8 = b'+';
 
 /// The place that a text names: digits without a sign, from 1 to 4,294,967,295.

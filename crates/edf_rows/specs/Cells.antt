@@ -1,4 +1,4 @@
--- The cells of a data record and of a recording, and where they stand in the rows of the two tables.
+-- The cells of a data record and of a recording, and where they are in the rows of the two tables.
 use Rattle.std.specs.Prelude.{ℤ, pos, List, [], ◌∷◌, map, filter}
 use Rattle.sqlite_value.specs.declared.value.Value.TheVariants.{Int, Blob}
 use Rattle.sqlite_value.specs.Order.{Row, column}

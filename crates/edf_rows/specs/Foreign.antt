@@ -19,7 +19,7 @@ use Rattle.edf_rows.specs.Rows.{IsThere, IsRecording, AreTwoOf}
 abbrev pub IsStart : Row → ℕ → Type 0
 IsStart row start = (column row 0 ≡ Int (pos start)) × (start < window)
 
--- the cell is as many sample bytes as the key says
+-- the cell is the number of sample bytes that the key says
 abbrev pub AreSamples : Key → Row → Type 0
 AreSamples k row = (samples : List ℕ) × (column row 1 ≡ Blob samples) × (length samples ≡ 2 * samples_in_all k.signals)
 
@@ -64,8 +64,9 @@ pub data AreBadRecords (cap : ℕ) (k : Key) (rows : List Row) : Type 0 where
   too_few : rows ≡ [] → AreBadRecords cap k rows
   too_many : cap < length rows → AreBadRecords cap k rows
 
--- why the rows are not those that submissions leave under the cap: a row is no recording; a recording's records are bad; a
--- record's recording is not there; or, which the tables themselves exclude, an id or an identity stands twice
+-- why the rows are not those that submissions leave under the cap: a row is no recording; a
+-- recording's records are bad; a record's recording is not there; or, which the tables themselves
+-- exclude, an id or an identity occurs twice
 pub data IsForeign (cap : ℕ) (trees : Trees) : Type 0 where
   bad_recording : (row : Row) → Contains (recordings_in trees) row → ¬ IsRecording row → IsForeign cap trees
   bad_records : (id : ℤ) (k : Key) → IsThere trees id k → AreBadRecords cap k (records_in trees id) → IsForeign cap trees

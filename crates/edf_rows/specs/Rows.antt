@@ -26,7 +26,7 @@ pub record IsOwned (trees : Trees) (row : Row) : Type 0 where
   pub there : IsThere trees id key
   pub owned : IsTrue (is_of id row)
 
--- a and b stand at two places of the list
+-- a and b are at two places of the list
 abbrev pub AreTwoOf : List Row → Row → Row → Type 0
 AreTwoOf rows a b = (rest : List Row) × IsPermutation rows (a ∷ b ∷ rest)
 
@@ -35,9 +35,10 @@ pub record AreOther (a b : Row) : Type 0 where
   pub id : column a 0 ≢ column b 0
   pub identity : column a 1 ≢ column b 1
 
--- the rows stand for these holdings: each row of a recording is an id and the bytes of a key, no id and no key stands twice,
--- each record belongs to a recording, and a recording's records by rising starts are what its key holds. A key without a
--- recording holds nothing; a recording without a record is possible inside a transaction
+-- the rows stand for these holdings: each row of a recording is an id and the bytes of a key, no id
+-- and no key occurs twice, each record belongs to a recording, and a recording's records by rising
+-- starts are what its key holds. A key without a recording holds nothing; a recording without a
+-- record is possible inside a transaction
 pub record StandFor (trees : Trees) (h : Holdings) : Type 0 where
   pub recordings : All IsRecording (recordings_in trees)
   pub apart : (a b : Row) → AreTwoOf (recordings_in trees) a b → AreOther a b

@@ -79,9 +79,9 @@ fn read_row(
     }
 }
 
-/// The start of a row, if its cells are those of a data record of the identity; `None` where the start is outside the
-/// window, the samples are not as many as the identity says, or the block is not the one that is written for what is read
-/// from it with that start.
+/// The start of a row, if its cells are those of a data record of the identity; `None` where the
+/// start is outside the window, the samples are more or fewer than the identity says, or the block
+/// is not the one that is written for what is read from it with that start.
 ///
 /// # Errors
 /// Where memory runs out, which says nothing of the row.

@@ -30,7 +30,7 @@ impl<'a> Signal<'a> {
         }
     }
 
-    /// An annotations signal of so many samples.
+    /// An annotations signal of `samples` samples.
     pub fn annotations(samples: &'a str) -> Signal<'a> {
         Signal {
             label: "EDF Annotations ",
@@ -220,13 +220,13 @@ impl<'a> Header<'a> {
         self
     }
 
-    /// The annotations signal stands before the EEG signal.
+    /// The annotations signal comes before the EEG signal.
     pub fn annotations_first(mut self) -> Header<'a> {
         self.annotations_first = true;
         self
     }
 
-    /// These signals, in file order, stand in place of the EEG signal and the annotations signal.
+    /// These signals, in file order, take the place of the EEG signal and the annotations signal.
     pub fn listed(mut self, signals: &'a [Signal<'a>]) -> Header<'a> {
         self.listed = Some(signals);
         self
@@ -300,7 +300,7 @@ pub fn file(alloc: Global, header: &Header<'_>, pieces: &[&[u8]]) -> Result<Vec<
     Ok(file)
 }
 
-/// The same bytes but for these, which stand from this offset on.
+/// The same bytes, but for `text` from `offset` on.
 pub fn patched(
     alloc: Global,
     bytes: &[u8],

@@ -113,8 +113,8 @@ pub fn file_k(alloc: Global) -> Result<Vec<u8>, AllocError> {
     )
 }
 
-/// One data record of Q's recording from Q's start, of three signals: 1,050 bytes. The annotations signals stand round the EEG
-/// signal. The first keeps time, the second has an annotation.
+/// One data record of Q's recording from Q's start, of three signals: 1,050 bytes. The annotations
+/// signals are before and after the EEG signal. The first keeps time, the second has an annotation.
 pub fn file_v(alloc: Global) -> Result<Vec<u8>, AllocError> {
     let signals = [
         Signal::annotations("3"),

@@ -47,7 +47,7 @@ impl Scarce {
         }
     }
 
-    /// Leaves one block of so many bytes free, and no other. Whether there was one.
+    /// Leaves one block of `bytes` bytes free, and no other, and tells whether there was one.
     ///
     /// The C library keeps freed blocks up to 1,032 bytes in bins by their sizes, which are emptied too: a block that small would
     /// serve its own size alone. With 0 nothing is free.

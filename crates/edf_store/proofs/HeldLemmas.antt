@@ -27,7 +27,7 @@ still_held cap old new P s keeps h held clean is_open =
     let it = keeps clean in
     subst (λ (d : Database). AreKept cap d.trees h) (sym (it.committed is_open)) (held (omega (arith, s.clean)) (it.was_open is_open))
 
--- an unchanged transaction stands for what it stood for
+-- an unchanged transaction stands for the same holdings
 pub still_inside : (cap : ℕ) (old new : State) (h : Holdings) → IsUnchanged old new → StandsInside cap old h → StandsInside cap new h
 still_inside cap old new h same it = record {
   is_open = same.0.is_open;

@@ -1,4 +1,5 @@
--- Bytes of a key are refused for want of memory alone, and the identities of all rows are those of keys.
+-- Bytes of a key are refused only where memory ran out, and the identities of all rows are those of
+-- keys.
 use Rattle.std.proofs.Common.{◌≡◌, ℕ, zero, suc, ◌<◌, List, [], ◌∷◌, map, length, slice_get, slice_index_or, Option, Some, None, Result, Ok, Err, IfOk, IfErr, Vec, Global, refl, ap, subst, ◌∙◌, arith}
 use Rattle.std.proofs.lemmas.List.Elements.{recursion_from_All}
 use Rattle.std.proofs.lemmas.List.Sorted.{IsPermutation-sym}

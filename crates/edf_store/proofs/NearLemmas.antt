@@ -75,7 +75,7 @@ later_all after low (x ∷ xs) a l =
     let yes : is_gt (int_cmp (pos x.start) (pos after)) ≡ true = sym (ap is_gt (value_cmp-Int (pos x.start) (pos after))) ∙ ap is_gt (cell_more (pos x.start) (pos after) (pos_less after x.start (omega (arith, a.0, l)))) in
     rw yes (ap (λ (l : List DataRecord). x ∷ l) (later_all after (x.start + 1) xs a.1 (omega (arith, a.0, l))))
 
--- behind the record at a place of a rising list are those that follow it
+-- after the record at a place of a rising list come those that follow it
 pub behind_place : (low : ℕ) (xs : List DataRecord) → IsApart 1 low xs → (n : ℕ) (r : DataRecord) → slice_get xs n ≡ Some r → filter (λ (y : DataRecord). is_gt (int_cmp (pos y.start) (pos r.start))) xs ≡ drop (suc n) xs
 behind_place low [] a n r e = absurd (let x : ◌≡◌ {A = Option DataRecord} None (Some r) = e in cc)
 behind_place low (x ∷ xs) a zero r e =

@@ -38,7 +38,7 @@ abs_far m n l = omega (arith, ints, l)
 fewer : (m n d : ℕ) → m * d < n * d → m < n
 fewer m n d l = elim (cases_lt m n) [ inl low ↦ low | inr high ↦ absurd (omega (arith, l, mul-le-mul_right d high)) ]
 
--- a list that reaches over fewer than so many durations has at most so many
+-- a list that reaches over less time than `most` durations has at most `most` records
 short_list : (d most : ℕ) (xs : List DataRecord) → IsApart d 0 xs → (a b : ℤ) → number_at xs ≡ Some a → number_at (reverse xs) ≡ Some b → unsigned_abs (b -ℤ a) < most * d → (0 < length xs) × (length xs ≤ most)
 short_list d most [] apart a b first last l = absurd (let none : ◌≡◌ {A = Option ℤ} None (Some a) = first in cc)
 short_list d most (x ∷ xs) apart a b first last l =
@@ -74,7 +74,7 @@ module _ (cap : ℕ) (a b c : State) (id : ℤ) (first last : Option ℤ)
       let of_q : d ≡ duration_of q.duration = duration ∙ ap (λ (z : Key). duration_of z.duration) key in
       short_list (duration_of q.duration) most (h q) ((IsGood-from_sound cap h it.sound).apart q) x y (sym began_is ∙ f) (sym ended_is ∙ l) (subst (λ n. unsigned_abs (y -ℤ x) < most * n) of_q near)
 
--- there is room where the cap leaves as many
+-- there is room for `more` exactly where the cap leaves it
 pub room_counted : (cap more left held n : ℕ) → left ≡ cap - held → held ≡ n → n ≤ cap → nat_le more left ≡ nat_le (n + more) cap
 room_counted cap more left held n is same few = elim (cases_Bool (nat_le (n + more) cap)) [
   | inl fits ↦ le-leb more left (omega (arith, is, same, few, leb-true (n + more) cap fits)) ∙ sym fits

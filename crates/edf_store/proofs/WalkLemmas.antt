@@ -49,7 +49,7 @@ none_left (x ∷ xs) zero (suc limit) [] within some e none = absurd (let m : �
 none_left (x ∷ xs) zero (suc limit) (row ∷ rows) within some e none = absurd (let m : ◌≡◌ {A = ℕ} (suc (length rows)) 0 = ap length none in omega (arith, m))
 none_left (x ∷ xs) (suc n) limit rows within some e none = ap suc (none_left xs n limit rows (omega (arith, within)) some e none)
 
--- the first row shows the next record, and the others those behind it
+-- the first row shows the next record, and the others those after it
 pub row_left : (xs : List DataRecord) (n : ℕ) (row : RecordRow) (rest : List RecordRow) → ShowFirst (row ∷ rest) (drop n xs) → (d : DataRecord) × (slice_get xs n ≡ Some d) × (cells_of row ≡ record_cells d) × ShowFirst rest (drop (suc n) xs)
 row_left [] zero row rest e = absurd (let m : ◌≡◌ {A = ℕ} (suc (length (map cells_of rest))) 0 = ap length e in omega (arith, m))
 row_left [] (suc n) row rest e = absurd (let m : ◌≡◌ {A = ℕ} (suc (length (map cells_of rest))) 0 = ap length e in omega (arith, m))

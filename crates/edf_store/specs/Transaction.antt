@@ -57,11 +57,11 @@ IsNextStart from records (Some start) = (from ≤ start) × Contains (map (λ r.
 abbrev pub IsNextStartIn : ℕ → State → ℤ → ℕ → Option ℕ → Type 0
 IsNextStartIn cap s id from answer = (h : Holdings) (k : Key) → AreSeen cap s h → IsUnder s id k → IsNextStart from (h k) answer
 
--- the recording has so many
+-- the recording has `count` records
 abbrev pub IsCountIn : ℕ → State → ℤ → ℕ → Type 0
 IsCountIn cap s id count = (h : Holdings) (k : Key) → AreSeen cap s h → IsUnder s id k → count ≡ length (h k)
 
--- it is told whether with so many more the recording has at most the cap
+-- the answer tells whether the recording with `more` more has at most the cap
 abbrev pub TellsRoomIn : ℕ → State → ℤ → ℕ → Bool → Type 0
 TellsRoomIn cap s id more answer = (h : Holdings) (k : Key) → AreSeen cap s h → IsUnder s id k → answer ≡ nat_le (length (h k) + more) cap
 

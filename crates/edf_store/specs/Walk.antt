@@ -14,8 +14,9 @@ use Rattle.edf_store.specs.declared.progress.Progress.{Progress}
 abbrev pub starts_behind : ℤ → DataRecord → Bool
 starts_behind after r = is_gt (int_cmp (pos r.start) after)
 
--- no transaction is open, and the recording is the key's in these holdings; of its records those behind `after` are all but the
--- first n, and the rows that were read ahead show the records that come next. Without a recording all its records are given
+-- no transaction is open, and the recording is the key's in these holdings; of its records those
+-- that start after `after` are all but the first n, and the rows that were read ahead show the
+-- records that come next. Without a recording all its records are given
 pub record StandsBehind (cap : ℕ) (s : State) (recording : Option ℤ) (after : Progress) (h : Holdings) (k : Key) (n : ℕ) : Type 0 where
   pub is_open : IsTrue s.is_open
   pub idle : s.in_transaction ≡ false
@@ -32,7 +33,7 @@ pub record StandsBehind (cap : ℕ) (s : State) (recording : Option ℤ) (after 
 abbrev pub IsBehind : ℕ → State → Option ℤ → Progress → Holdings → Key → ℕ → Type 0
 IsBehind cap s recording after h k n = HasCleanDisk s → StandsBehind cap s recording after h k n
 
--- the walk stands behind the first records of some list that is held
+-- the walk is after the first records of some list that is held
 abbrev pub StandsSomewhere : ℕ → State → Option ℤ → Progress → Type 0
 StandsSomewhere cap s recording after = HasCleanDisk s → (h : Holdings) × (k : Key) × (n : ℕ) × StandsBehind cap s recording after h k n
 

@@ -121,7 +121,7 @@ pub(crate) fn has_room<S: Alter>(
     Ok(more <= cap.saturating_sub(held))
 }
 
-/// Whether a recording has records, and reaches over so little time that it has at most so many.
+/// Whether a recording has records, and reaches over so little time that it has at most `most`.
 fn is_short<S: Alter>(
     store: &mut Store<S>,
     id: i64,

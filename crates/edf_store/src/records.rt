@@ -46,7 +46,7 @@ fn read_ahead<S: Alter>(
     Ok(())
 }
 
-/// The next data record of a recording, behind those that the walk gave.
+/// The next data record of a recording, after those that the walk gave.
 pub(crate) fn next_record<S: Alter>(
     store: &mut Store<S>,
     recording: i64,

@@ -164,7 +164,8 @@ fn find_next<S: Alter>(
     tx.next_start(id, from)
 }
 
-/// Whether the identity's recording, which is made where it is missing, has room for so many data records more.
+/// Whether the identity's recording, which is made where it is missing, has room for `more` more
+/// data records.
 ///
 /// # Errors
 /// The store's.

@@ -46,7 +46,7 @@ fn a_file_of_our_tables_alone_gets_those_that_are_missing(rt: HostRuntime) {
     }
 }
 
-/// What makes the file, what is made behind it, and how many tables, indexes and views it has.
+/// What makes the file, what is made after it, and how many tables, indexes and views it has.
 const FOREIGN: &[(&str, &str, i64)] = &[
     ("", "CREATE TABLE record (x)", 1),
     (RECORDING, "CREATE TABLE record (x)", 3),

@@ -11,13 +11,13 @@ use sqlite::{Alter, Connection, FileStore, Files, MemStore, Options};
 use sqlite_disk::Memory;
 use std::alloc::Global;
 
-/// 2002-03-02 23:59:50, where file Q starts, in nanoseconds behind 1985-01-01 00:00:00.
+/// 2002-03-02 23:59:50, where file Q starts, in nanoseconds after 1985-01-01 00:00:00.
 const START: u64 = 541_727_990_000_000_000;
 
 /// The program's cap.
 const CAP: u32 = 99_999_999;
 
-/// An instant, by the half seconds behind the start of file Q.
+/// An instant, by the half seconds after the start of file Q.
 fn instant(halves: i8) -> Option<Instant> {
     Instant::at(START)?.after(i64::from(halves) * 500_000_000)
 }
@@ -30,7 +30,8 @@ fn first_of(alloc: Global, file: &[u8]) -> Option<(Identity, Record)> {
     Some((fragment.into_header().into_identity(), data_record))
 }
 
-/// A data record of one second of one ordinary signal, without annotations, so many half seconds behind Q's.
+/// A data record of one second of one ordinary signal, without annotations, `halves` half seconds
+/// after Q's.
 fn record_behind(alloc: Global, halves: i8) -> Option<Record> {
     let samples = Vec::from_slice(alloc, &[2, 0, 0xFE, 0xFF]).ok()?;
     Record::new(instant(halves)?, samples, Vec::new(alloc))
@@ -128,13 +129,14 @@ fn add<S: Alter>(
     Some((seen.before, seen.after, near))
 }
 
-/// Which of the two meet the interval that begins so many half seconds behind the first.
+/// Which of the two meet the interval that begins `halves` half seconds after the first.
 fn near_at<S: Alter>(store: &mut Store<S>, two: &Two, halves: i8) -> Option<Which> {
     let found = near(store, &two.identity, instant(halves)?).ok()?;
     Some(told_which(found.as_slice(), two))
 }
 
-/// How many data records a recording has, and where the first and the last start, in nanoseconds behind Q's.
+/// How many data records a recording has, and where the first and the last start, in nanoseconds
+/// after Q's.
 fn summed<S: Alter>(store: &mut Store<S>, identity: &Identity) -> Option<(u32, i64, i64)> {
     let start = Instant::at(START)?;
     let summary = store.summary(identity).ok()??;
@@ -160,7 +162,7 @@ fn told_of_nothing<S: Alter>(
 struct Kept {
     nothing: (u32, usize, bool),
     first: (u32, u32, Which),
-    /// Where the first starts, and half a second behind that.
+    /// Where the first starts, and half a second after that.
     near_one: (Which, Which),
     given_up: (u32, u32, Which),
     one: (u32, i64, i64),
@@ -298,7 +300,7 @@ fn room_for<S: Alter>(
     Some((fits, fits_more))
 }
 
-/// What is told of room as Q's data record is kept, and one so many half seconds behind it.
+/// What is told of room as Q's data record is kept, and one `halves` half seconds after it.
 fn rooms<S: Alter>(alloc: Global, store: &mut Store<S>, halves: i8) -> Option<Room> {
     let (identity, first) = first_of(alloc, &file_q(alloc).ok()?)?;
     let later = record_behind(alloc, halves)?;

@@ -43,7 +43,7 @@ abbrev pub names_of : Result Compiled CompileError → ℕ
 names_of (Ok c) = length c.names
 names_of (Err e) = 0
 
--- the text is one statement, and has so many parameters
+-- the text is one statement, and has `takes` parameters
 pub record IsAlone (schema : Schema) (sql : List ℕ) (takes : ℕ) : Type 0 where
   pub whole : length sql ≤ tail_of (understood schema sql)
   pub inputs : names_of (understood schema sql) ≡ takes
@@ -73,7 +73,7 @@ stopped_or old new TooLarge e h = go h.0 h.1 h.2
 pub stopped_by : (old new : State) (e : Error) → Fails old new ⊥ e → IsStopped old new e
 stopped_by old new e h = elim (stopped_or old new ⊥ e h) [ inl it ↦ it | inr never ↦ absurd never.1 ]
 
--- ---- a statement behind another
+-- ---- a statement after another
 
 failed_since : (old mid new : State) → old.faults ≤ mid.faults → HasFailed mid new → HasFailed old new
 failed_since old mid new counts h = omega (arith, counts, h)

@@ -30,7 +30,8 @@ pub data HasTables (old new : Database) : Type 0 where
 abbrev pub AreOf : Schema → Trees → Type 0
 AreOf schema db = IsDatabase (record { schema = schema; trees = db })
 
--- what a crash may leave besides: the first missing table is made, or both are, and the rows are the same
+-- what else a crash may leave: the first missing table is made, or both are, and the rows are the
+-- same
 pub data IsMadeOf (old : Database) (db : Trees) : Type 0 where
   left_first : old.schema ≡ no_schema → AreOf one_schema db → db 0 ≡ [] → IsMadeOf old db
   left_both : old.schema ≡ no_schema → AreOf both_schema db → db 0 ≡ [] → db 2 ≡ [] → IsMadeOf old db

@@ -28,7 +28,7 @@ by_identity rows = sort_by (by_column 2) rows
 abbrev pub shown_recording : Row → Row
 shown_recording row = column row 0 ∷ column row 2 ∷ []
 
--- the tables stand, and no two recordings have one identity
+-- the tables are there, and no two recordings have one identity
 pub record AreNamedApart (s : State) : Type 0 where
   pub schema : s.now.schema ≡ both_schema
   pub apart : IsAscending (λ a b. by_column 2 a b ≡ Less) (by_identity (s.now.trees 0))

@@ -32,7 +32,7 @@ starts_between after before row = starts_after after row && is_lt (value_cmp (co
 abbrev pub shown_record : Row → Row
 shown_record row = column row 2 ∷ column row 3 ∷ column row 4 ∷ []
 
--- the tables stand, and no two records of this recording start together
+-- the tables are there, and no two records of this recording start together
 pub record IsReady (recording : ℤ) (s : State) : Type 0 where
   pub schema : s.now.schema ≡ both_schema
   pub rising : IsRising (records_of recording (s.now.trees 2))

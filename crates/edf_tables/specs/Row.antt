@@ -34,7 +34,7 @@ cells recording start samples block = Int recording ∷ Int start ∷ Blob sampl
 abbrev pub named_cells : List ℕ → Row
 named_cells identity = Null ∷ Blob identity ∷ []
 
--- the tables stand, and a transaction is open
+-- the tables are there, and a transaction is open
 pub record IsInside (s : State) : Type 0 where
   pub schema : s.now.schema ≡ both_schema
   pub mode : IsTrue s.in_transaction

@@ -3,8 +3,9 @@
 //! One SQL text is one function, over any store that `sqlite` takes; what the cells mean is known above. Two tables are kept: `recording`
 //! has an id and the bytes of an identity, `record` the id of its recording, a start, samples and a block.
 //!
-//! What `sqlite` refuses is for want of memory, a failure of the disk, a connection that is shut, or, by the statement, a limit of
-//! steps, a transaction that is open or is not, a rule, or a size: clause `why` of each.
+//! `sqlite` refuses where memory ran out, for a failure of the disk, a connection that is shut, or,
+//! by the statement, a limit of steps, a transaction that is open or is not, a rule, or a size:
+//! clause `why` of each.
 //!
 //! - [`create_tables`], [`create_recording`], [`create_records`]: the tables, made where they are missing.
 //! - [`begin`], [`commit`], [`roll_back`]: a transaction.

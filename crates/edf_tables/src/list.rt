@@ -56,7 +56,7 @@ pub fn identities<S: Alter>(conn: &mut Connection<S>) -> Result<Vec<Vec<u8>>, Er
     identities_in(rows)
 }
 
-/// The id and the identity of all recordings, as they stand, also where a cell has another type.
+/// The id and the identity of all recordings, as they are, also where a cell has another type.
 ///
 /// They come by their ids; without ORDER BY they would come in the order of the index of identities.
 ///
@@ -74,7 +74,8 @@ pub fn recordings<S: Alter>(conn: &mut Connection<S>) -> Result<Vec<Row>, Error>
     rows_shown(conn, "SELECT id, identity FROM recording ORDER BY id", &[])
 }
 
-/// The number of records of all recordings, and of those that have none; 2^63 - 1 where there are more.
+/// The number of all record rows, including orphans with no recording; 2^63 - 1 where there are
+/// more.
 ///
 /// # Errors
 /// `sqlite`'s, and that of a cell of another type; what is committed stays, and an open transaction may be undone.

@@ -18,7 +18,8 @@ use sqlite::{Alter, Connection, Error, Row};
 /// A row of the table `record`, without its recording.
 #[derive(Debug, PartialEq, Eq, Drop)]
 pub struct RecordRow {
-    /// By which the rows of a recording are ordered: nanoseconds from 1985-01-01 00:00:00, as `edf_rows` counts them.
+    /// What orders the rows of a recording: nanoseconds from 1985-01-01 00:00:00, as `edf_rows`
+    /// counts them.
     pub start: i64,
     /// The sample bytes of the data record.
     pub samples: Vec<u8>,

@@ -106,7 +106,7 @@ front-texts bytes texts rest t f =
 
 -- ---- the walk over the TALs
 
--- what stands behind the TALs
+-- what comes after the TALs
 behind : (fuel : ℕ) (bytes : List ℕ) → length bytes < fuel → (rest : List ℕ) × IsBehind bytes rest × NoTal rest
 behind zero bytes short = absurd (omega arith)
 behind (suc fuel) bytes short =

@@ -25,7 +25,7 @@ pub record IsBadFront (bytes : List ℕ) (at : ℕ) : Type 0 where
   pub bad : ¬ IsUtf8 text
   pub place : at ≡ length onset + length duration + 1 + length (ended good)
 
--- behind good TALs
+-- after good TALs
 pub record BadParts (bytes : List ℕ) (at : ℕ) : Type 0 where
   pub front : List ℕ
   pub rest : List ℕ
@@ -89,11 +89,11 @@ no-zero : (text back rest : List ℕ) → IsText text → text ++ 20 ∷ back �
 no-zero [] back rest p e = let z : ◌≡◌ {A = ℕ} 20 0 = cc in absurd (omega arith)
 no-zero (b ∷ text) back rest p e = p.0.0 (let z : b ≡ 0 = cc in z)
 
--- the first text and what is behind it
+-- the first text and what is after it
 pub first-text : (x : List ℕ) (xs : List (List ℕ)) (rest : List ℕ) → ended (x ∷ xs) ++ rest ≡ x ++ 20 ∷ (ended xs ++ rest)
 first-text x xs rest = append_assoc (x ++ 20 ∷ []) (ended xs) rest ∙ append_assoc x (20 ∷ []) (ended xs ++ rest)
 
--- a text behind good ones is one of the TAL's
+-- a text after good ones is one of the TAL's
 among : (good xs : List (List ℕ)) (text back rest : List ℕ) → AllByRecursion (λ x. IsText x × IsUtf8 x) good → IsText text
     → AllByRecursion IsText xs → AllByRecursion IsUtf8 xs → ended good ++ (text ++ 20 ∷ back) ≡ ended xs ++ 0 ∷ rest → IsUtf8 text
 among [] [] text back rest g p ts us e = absurd (no-zero text back rest p e)

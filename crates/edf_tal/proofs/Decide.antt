@@ -1,4 +1,4 @@
--- Whether a TAL stands at the front of bytes, and which.
+-- Whether a TAL is at the front of bytes, and which.
 use Rattle.std.proofs.Common.{◌≡◌, ℕ, ◌⊎◌, inl, inr, List, [], ◌∷◌, ◌++◌, sym, ap, subst, ℤ, pos, neg_ℤ, Option, Some, None}
 use Rattle.std.proofs.lemmas.Bool.{cases_eq}
 use Rattle.edf_time.proofs.Cited.{some-value}
@@ -41,7 +41,7 @@ times bytes =
       ]
     ]
 
--- behind a sign
+-- after a sign
 signed : (b : ℕ) (bytes : List ℕ) (n : ℕ) (d : Option ℕ) → IsTimes bytes n d
     → ((z : ℤ) × (d : Option ℕ) × IsHead (b ∷ bytes) z d) ⊎ ((z : ℤ) (d : Option ℕ) → ¬ IsHead (b ∷ bytes) z d)
 signed b bytes n d t =

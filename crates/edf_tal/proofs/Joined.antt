@@ -225,7 +225,7 @@ form-append bs cs s (BadText at) g p q = (BadText at, (lists-both bs cs p.0 (for
 
 -- ---- one block
 
--- the front of TALs is the longest, and what is behind it would be the zeros
+-- the front of TALs is the longest, and what is after it would be the zeros
 not-block : (block rest : List ℕ) → IsBehind block rest → NoTal rest → ¬ AreZeros rest → (ts : List Tal) → ¬ AreTalsAndZeros block ts
 not-block block rest b last not-zeros ts (front, zeros, parts, tals, are) =
     not-zeros (rw (same-tals b.tals ts b.front rest front zeros b.whole tals last (zeros-no-tal zeros are) (sym b.parts ∙ parts)).rest are)

@@ -41,7 +41,8 @@ pub record IsLongestFront (bytes : List ℕ) (n : ℕ) : Type 0 where
   pub front : AreTals (take n bytes) tals
   pub longest : (m : ℕ) (others : List Tal) → m ≤ length bytes → AreTals (take m bytes) others → m ≤ n
 
--- the first text that is no UTF-8 stands at this place: behind whole TALs, and texts of its own TAL, which all are UTF-8
+-- the first text that is no UTF-8 is at this place: after whole TALs, and texts of its own TAL,
+-- which all are UTF-8
 pub record IsBadText (bytes : List ℕ) (at : ℕ) : Type 0 where
   pub front : List ℕ
   pub tals : List Tal
@@ -73,7 +74,8 @@ pub record IsBroken (blocks : List (List ℕ)) (at : ℕ) : Type 0 where
   pub longest : IsLongestFront block offset
   pub place : at ≡ sum_by length front + offset
 
--- the first text of all blocks that is no UTF-8: it stands at `offset` in its block, and at `at` in the blocks joined
+-- the first text of all blocks that is no UTF-8: it is at `offset` in its block, and at `at` in the
+-- blocks joined
 pub record HasBadText (blocks : List (List ℕ)) (at : ℕ) : Type 0 where
   pub front : List (List ℕ)
   pub block : List ℕ
@@ -84,7 +86,7 @@ pub record HasBadText (blocks : List (List ℕ)) (at : ℕ) : Type 0 where
   pub bad : IsBadText block offset
   pub place : at ≡ sum_by length front + offset
 
--- the fault is true of the blocks of a data record that stands at this place
+-- the fault is true of the blocks of a data record that is at this place
 abbrev pub BlocksFail : List (List ℕ) → ℕ → Place → TalFault → Type 0
 BlocksFail bs s place (NotTals offset) = IsBroken bs offset
 BlocksFail bs s place (Text offset) = ((tss : List (List Tal)) × AreBlocks bs tss) × HasBadText bs offset
@@ -115,7 +117,8 @@ pub record IsBlocksFault (bs : List (List ℕ)) (s : ℕ) (place : Place) (fault
 abbrev pub IsBlockFault : List ℕ → ℕ → Place → TalFault → Type 0
 IsBlockFault block s place fault = IsBlocksFault (block ∷ []) s place fault
 
--- why blocks are not read: their first fault; want of memory only where they have none, and so a start and a list
+-- why blocks are not read: their first fault; out of memory only where they have none, and so a
+-- start and a list
 abbrev pub IsBlocksRefusal : List (List ℕ) → ℕ → Place → TalFault → Type 0
 IsBlocksRefusal bs s place Memory = (start : ℕ) × (list : List Annotation) × AreRead bs s place start list
 IsBlocksRefusal bs s place fault = IsBlocksFault bs s place fault

@@ -45,7 +45,7 @@ pub record IsTal (bytes : List ℕ) (t : Tal) : Type 0 where
   pub is_duration : IsDurationPart duration t.duration
   pub are_texts : AllByRecursion IsText t.texts
 
--- TALs alone, each right behind the one before
+-- TALs alone, each right after the one before
 abbrev pub AreTals : List ℕ → List Tal → Type 0
 AreTals bytes [] = bytes ≡ []
 AreTals bytes (t ∷ ts) = (front : List ℕ) × (rest : List ℕ) × (bytes ≡ front ++ rest) × IsTal front t × AreTals rest ts

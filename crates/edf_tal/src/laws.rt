@@ -33,7 +33,7 @@ pub fn one_answer()
         IsBlocksFault bs s p e → IsBlocksFault bs s p f → e ≡ f }
 {}
 
-/// The blocks of a data record have an answer at each place: a start and a list, or a fault. Want
+/// The blocks of a data record have an answer at each place: a start and a list, or a fault. Out
 /// of memory is no fault of theirs.
 pub fn some_answer()
     ensures some { (bs : List (List ℕ)) (s : ℕ) (p : Place) →

@@ -12,8 +12,8 @@ use std::marker::Model;
 /// An annotation of a data record: an instant, a duration in nanoseconds or none, and a text (EDF+, time-stamped annotations
 /// lists).
 ///
-/// A duration of 0 is not the same as none. The text is UTF-8 without byte 20, which ends a text, and byte 0, which ends a TAL;
-/// byte 21, which stands before a duration, may stand in it.
+/// A duration of 0 is not the same as none. The text is UTF-8 without byte 20, which ends a text,
+/// and byte 0, which ends a TAL; byte 21, which comes before a duration, may be in it.
 #[derive(Drop)]
 pub struct Note {
     onset: Instant,

@@ -97,7 +97,7 @@ pub(crate) fn push_tals(
     Ok(())
 }
 
-/// What stands behind an empty first text.
+/// What follows an empty first text.
 fn behind_empty(texts: &[u8]) -> &[u8]
     requires { (rest : List ℕ) × (texts.now ≡ 20 ∷ rest) }
     ensures { (rest : List ℕ) → texts.now ≡ 20 ∷ rest → result.now ≡ rest }

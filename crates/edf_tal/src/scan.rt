@@ -5,13 +5,13 @@ ghost use Rattle.edf_tal.specs.Inside.Scan.{Lacks, NoTal, capped, IsTimes, IsHea
 
 use edf_time::{DecimalFault, read_seconds};
 
-/// The byte behind the times of a TAL, and behind each of its texts.
+/// The byte after the times of a TAL, and after each of its texts.
 pub(crate) const TEXT_END: u8 = 20;
 
 /// The byte between an onset and a duration.
 pub(crate) const DURATION_MARK: u8 = 21;
 
-/// The byte behind a TAL, with which a block is filled too.
+/// The byte after a TAL, with which a block is filled too.
 pub(crate) const TAL_END: u8 = 0;
 
 /// The onset and the duration of a TAL, in nanoseconds; what does not fit 63 bits counts as 2 ^ 63.
@@ -28,11 +28,11 @@ pub(crate) struct FrontTal<'a> {
     pub(crate) times: Times,
     /// Its texts, each with the byte that ends it.
     pub(crate) texts: &'a [u8],
-    /// What stands behind it.
+    /// What follows it.
     pub(crate) rest: &'a [u8],
 }
 
-/// What stands before the first such byte, and what stands behind it.
+/// What comes before the first such byte, and what follows it.
 pub(crate) fn split_first(bytes: &[u8], byte: u8) -> Option<(&[u8], &[u8])>
     ensures { MatchOption result (Lacks byte bytes.now)
         (λ sides. Lacks byte sides.0.now × (bytes.now ≡ sides.0.now ++ byte ∷ sides.1.now)) }
@@ -77,7 +77,7 @@ fn spans(bytes: &[u8]) -> Option<(u64, Option<u64>)>
     }
 }
 
-/// The times behind a sign.
+/// The times after a sign.
 fn signed_times(sign: u8, unsigned: &[u8]) -> Option<Times>
     ensures { MatchOption result ((z : ℤ) (d : Option ℕ) → ¬ IsHead (sign ∷ unsigned.now) z d)
         (λ t. (z : ℤ) × (d : Option ℕ) × IsHead (sign ∷ unsigned.now) z d

@@ -11,7 +11,7 @@ use edf_time::Instant;
 /// What the TALs of a block come to, where all their texts are UTF-8.
 #[derive(Clone, Copy)]
 pub(crate) struct Totals<'a> {
-    /// What stands behind the last TAL.
+    /// What follows the last TAL.
     pub(crate) rest: &'a [u8],
     /// Whether each onset and duration keeps the window.
     pub(crate) in_window: bool,
@@ -25,7 +25,7 @@ pub(crate) struct Totals<'a> {
 #[derive(Clone, Copy)]
 pub(crate) struct BadText<'a> {
     pub(crate) offset: usize,
-    /// What stands behind the last TAL.
+    /// What follows the last TAL.
     pub(crate) rest: &'a [u8],
 }
 
@@ -57,7 +57,7 @@ pub(crate) fn is_in_window(times: Times, file_start: Instant) -> bool
     }
 }
 
-/// What stands behind the TALs at the front.
+/// What follows the TALs at the front.
 pub(crate) fn behind_tals(bytes: &[u8]) -> &[u8]
     ensures whole { IsBehind bytes.now result.now }
     ensures last { NoTal result.now }

@@ -132,9 +132,10 @@ pub fn block_len(start: Instant, notes: &[Note], base: Instant) -> usize
 /// The canonical annotations block of a data record, without the bytes 0 that fill its signal (EDF+, time-stamped annotations
 /// lists).
 ///
-/// The time-keeping annotation stands alone in the first TAL, then each annotation in a TAL of its own, in order. Onsets
-/// count from `base`, with `+` where they do not lie before it; every decimal is the shortest. There are at most 10,000 annotations,
-/// with texts of 1,000,000 bytes in all, so the block has at most 1,450,045 bytes.
+/// The time-keeping annotation is alone in the first TAL, then each annotation in a TAL of its own,
+/// in order. Onsets count from `base`, with `+` where they do not lie before it; every decimal is
+/// the shortest. There are at most 10,000 annotations, with texts of 1,000,000 bytes in all, so the
+/// block has at most 1,450,045 bytes.
 ///
 /// # Errors
 /// Where memory runs out.

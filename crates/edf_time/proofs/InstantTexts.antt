@@ -21,7 +21,7 @@ abbrev pub stamp : ℕ → ℕ → ℕ → ℕ → ℕ → ℕ → List ℕ → 
 stamp year month day hour minute second fraction =
     four_digits year ++ 45 ∷ two_digits month ++ 45 ∷ two_digits day ++ 84 ∷ two_digits hour ++ 58 ∷ two_digits minute ++ 58 ∷ two_digits second ++ fraction
 
--- its date, and what stands behind the T
+-- its date, and what follows the T
 abbrev date_front : ℕ → ℕ → ℕ → List ℕ
 date_front year month day = four_digits year ++ 45 ∷ two_digits month ++ 45 ∷ two_digits day
 

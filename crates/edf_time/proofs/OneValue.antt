@@ -31,7 +31,7 @@ first-dot text w (c ∷ f) d =
       found = λ lt. ap (λ (t : List ℕ). get_or t (length w) 0) d.2 ∙ middle w (c ∷ f);
     }
 
--- the digits before the dot and behind it
+-- the digits before the dot and after it
 pub record SameParts (w f v g : List ℕ) : Type 0 where
   pub whole : w ≡ v
   pub fraction : f ≡ g

@@ -30,7 +30,7 @@ all-digits (d ∷ ds) = both (less (digit_value d) 10) (all-digits ds)
 numeral : (ds : List ℕ) → Decided (IsNumeral 10 ds)
 numeral ds = both (less 0 (length ds)) (all-digits ds)
 
--- a dot at this place, with digits before and behind it
+-- a dot at this place, with digits before and after it
 abbrev IsDottedAt : List ℕ → ℕ → Type 0
 IsDottedAt text at = IsNumeral 10 (take at text) × IsNumeral 10 (drop (suc at) text) × (text ≡ take at text ++ 46 ∷ drop (suc at) text)
 

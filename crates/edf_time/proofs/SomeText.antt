@@ -9,7 +9,7 @@ use Rattle.edf_time.specs.Decimal.{fraction_text}
 use Rattle.edf_time.proofs.FieldTexts.{dotted, lettered}
 use Rattle.edf_time.proofs.Days.{first_day, late_day, end_day, year-from, year-to}
 
--- a day of the calendar that lies so many days behind 1985-01-01
+-- a day of the calendar that is n days after 1985-01-01
 record IsFound (n : ℕ) : Type 0 where
   year : ℕ
   month : ℕ
@@ -30,7 +30,7 @@ found n y m d low month-from month-to day-from day-to e = record {
 count-is : (n y m d : ℕ) → IsDay y m d (pos n) → day_count (pos y) m d ≡ 4_377_432 + n
 count-is n y m d is = omega (arith, signed_arith, is.count, days_from_civil-day_count (pos y) m d)
 
--- the day behind the last of a year
+-- the day after the last of a year
 next-year : (n y m d : ℕ) → y ≤ 2184 → m ≡ 12 → d ≡ days_in_month (pos y) m → day_count (pos y) m d ≡ 4_377_432 + n → IsFound (suc n)
 next-year n y m d low month long e =
     let last : d ≡ 31 = long ∙ ap (λ x. days_in_month (pos y) x) month in
@@ -38,7 +38,7 @@ next-year n y m d low month long e =
     found (suc n) (y + 1) 1 1 (omega arith) (omega arith) (omega arith) (omega arith) (omega (arith, days_in_month_bounds (pos (y + 1)) 1))
     (omega (arith, e, same, day_count-last_of_year (pos y), day_count-next_year (pos y) (pos (y + 1)) (omega (arith, signed_arith)) (omega (arith, signed_arith))))
 
--- the day behind a day
+-- the day after a day
 next-day : (n y m d : ℕ) → y ≤ 2184 → IsDay y m d (pos n) → IsFound (suc n)
 next-day n y m d low is =
     let e = count-is n y m d is in

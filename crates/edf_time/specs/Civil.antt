@@ -81,7 +81,7 @@ pub record IsLateDateText (text : List ℕ) (days : ℕ) : Type 0 where
   pub to : year ≤ 2184
   pub is_day : IsDay year month day (pos days)
 
--- the startdate of a day: two digits name its year up to 2084, and the letters yy stand there after that
+-- the startdate of a day: up to 2084 two digits name its year; after that it has the letters yy
 abbrev pub IsDateField : List ℕ → ℕ → Type 0
 IsDateField text days = IsDateText text days ⊎ IsLateDateText text days
 

@@ -46,9 +46,9 @@ fn dotted(first: u8, second: u8, third: [u8; 2]) -> [u8; 8]
     ]
 }
 
-/// The startdate of a header, `dd.mm.yy`: 8 bytes, at 168 to 175 of the file (EDF, header record). The last two digits of the
-/// year stand for 1985 to 2084 (EDF+, the clipping date); after 2084 the letters `yy` stand in their place (EDF+, additional
-/// specifications).
+/// The startdate of a header, `dd.mm.yy`: 8 bytes, at 168 to 175 of the file (EDF, header record).
+/// The last two digits of the year mean 1985 to 2084 (EDF+, the clipping date); after 2084 the
+/// letters `yy` are in their place (EDF+, additional specifications).
 pub fn date_field(instant: Instant) -> [u8; 8]
     ensures { IsDateField result (day_of instant) }
 {
@@ -74,8 +74,9 @@ pub fn time_field(instant: Instant) -> [u8; 8]
     )
 }
 
-/// The day of the instant as the identification fields write one, `dd-MMM-yyyy`: 11 bytes, the months JAN to DEC in capitals
-/// (EDF+, additional specifications). Behind `Startdate ` it stands at bytes 98 to 108 of the file.
+/// The day of the instant as the identification fields write one, `dd-MMM-yyyy`: 11 bytes, the
+/// months JAN to DEC in capitals (EDF+, additional specifications). After `Startdate ` it is bytes
+/// 98 to 108 of the file.
 pub fn id_date_text(instant: Instant) -> [u8; 11]
     ensures { IsIdDate result (pos (day_of instant)) }
 {

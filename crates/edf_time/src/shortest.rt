@@ -4,8 +4,8 @@ ghost use Rattle.edf_time.specs.Decimal.{IsShortest, short, fraction_text};
 
 use std::alloc::{AllocError, Global};
 
-/// The shortest decimal of so many nanoseconds, in seconds: no zero leads but one before the dot, none trails, and no dot
-/// stands without a fraction. It has at most 21 bytes.
+/// The shortest decimal of `nanos` nanoseconds, in seconds: no zero leads but one before the dot,
+/// none trails, and no dot is without a fraction. It has at most 21 bytes.
 ///
 /// So the onsets and durations of annotations are written (EDF+, time-stamped annotations lists).
 ///
@@ -41,7 +41,8 @@ pub(crate) fn push_fraction(text: &mut Vec<u8>, mut part: u64) -> Result<(), All
     Ok(())
 }
 
-/// The length in bytes of the shortest decimal of so many nanoseconds, as `write_seconds` writes it: 1 to 21.
+/// The length in bytes of the shortest decimal of `nanos` nanoseconds, as `write_seconds` writes
+/// it: 1 to 21.
 pub fn seconds_len(nanos: u64) -> usize
     ensures { result ≡ length (short nanos) }
 {

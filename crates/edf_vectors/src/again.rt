@@ -63,7 +63,8 @@ fn first_start<S: Alter>(
     }
 }
 
-/// Whether P5 and Q sum up to what they are behind a walk over them that is left at Q, and what Q is answered then.
+/// Whether P5 and Q sum up to what they are after a walk over them that is left at Q, and what Q is
+/// answered then.
 fn q_behind_a_walk(alloc: Global) -> Option<(bool, Answer)> {
     let first = Instant::at(541_727_990_000_000_000)?;
     let last = first.after(15_000_000_000)?;

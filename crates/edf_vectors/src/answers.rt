@@ -216,7 +216,7 @@ fn a_receipt_names_the_recording(rt: HostRuntime) {
     }
 }
 
-/// Of each recording that is held after some files, whether it is dated: `D` or `X`.
+/// Whether each recording that is held after some files is dated: `D` or `X`.
 fn dated(alloc: Global, names: &str) -> Option<String> {
     let mut store = empty_store(alloc, CAP)?;
     answers(alloc, &mut store, names)?;
@@ -236,7 +236,8 @@ fn recordings_are_listed_by_their_bytes_and_none_of_a_refused_file(rt: HostRunti
     assert_eq!(rt; none.as_deref(), Some(""));
 }
 
-/// Of Q's recording after some files: the number of its data records, and the seconds of the first and the last behind Q's.
+/// Of Q's recording after some files: the number of its data records, and the seconds of the first
+/// and the last after Q's.
 fn summary(alloc: Global, names: &str) -> Option<(u32, i64, i64)> {
     let mut store = empty_store(alloc, CAP)?;
     answers(alloc, &mut store, names)?;

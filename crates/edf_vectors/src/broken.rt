@@ -14,7 +14,8 @@ fn half<'a>(bytes: Option<&&'a [u8]>) -> Option<&'a [u8]> {
     }
 }
 
-/// Whether files of `canonical` are accepted but for one that breaks off behind so many of them, and then all of them again.
+/// Whether `sent` of the files of `canonical` and, once the next one broke off, all of them are
+/// accepted.
 fn ends_alike(alloc: Global, files: &[&[u8]], sent: usize, canonical: &[u8]) -> Option<bool> {
     let mut store = empty_store(alloc, 20)?;
     let front = take(alloc, &mut store, files.get(..sent)?)?;
@@ -26,7 +27,7 @@ fn ends_alike(alloc: Global, files: &[&[u8]], sent: usize, canonical: &[u8]) -> 
     Some(accepted && refused && held.as_slice() == canonical)
 }
 
-/// Whether a night's list ends alike, behind how many of its files ever it broke off.
+/// Whether a night's list ends alike, wherever it broke off.
 fn ends_alike_always(alloc: Global, seed: u32) -> Option<bool> {
     let mut chance = Chance::new(seed);
     let night = night(alloc, &mut chance)?;

@@ -7,7 +7,7 @@ use edf_intake::Refusal;
 use edf_sample::named::{file_q, file_u, file_v};
 use std::alloc::Global;
 
-/// The fault of a file that is cut to so many bytes, where its header and its first data record end
+/// The fault of a file that is cut to `len` bytes, where its header and its first data record end
 /// there.
 fn cut_to(len: usize, header: usize, first: usize) -> FragmentFault {
     if len < 256 {

@@ -4,11 +4,11 @@ use sqlite::Files;
 use sqlite_disk::{Disk, Fuse, Memory, Tally};
 use std::io;
 
-/// A file in memory that is there again when the store over it is gone, and stops behind so many calls. Each store over disks is one over
-/// this type, so that its code is compiled once.
+/// A file in memory that is there again when the store over it is gone, and stops after a number of
+/// calls. Each store over disks is one over this type, so that its code is compiled once.
 pub(crate) type Lendable<'a> = Fuse<Lent<'a, Memory>>;
 
-/// A log and a database file, of which so many calls reach each.
+/// A log and a database file, which are reached by `log_calls` and `db_calls` calls.
 pub(crate) fn stopping<'a>(
     log: &'a mut Memory,
     db: &'a mut Memory,

@@ -9,7 +9,8 @@ use std::alloc::Global;
 
 const ZEROS: &[u8] = &[0; 27];
 
-/// Q's recording on the second of March from this time on: so many data records, so many samples for annotations.
+/// Q's recording on the second of March from `time` on: `count` data records, `samples` samples for
+/// annotations.
 fn evening(time: &'static str, count: &'static str, samples: &'static str) -> Header<'static> {
     q().start("02.03.02", time)
         .count(count)
@@ -87,7 +88,8 @@ fn last(alloc: Global) -> Option<Vec<u8>> {
     .ok()
 }
 
-/// The onset of a data record, four bytes at most, with the two bytes behind it and zeros up to eight.
+/// The onset of a data record, four bytes at most, with the two bytes after it and zeros up to
+/// eight.
 fn push_onset(alloc: Global, bytes: &mut Vec<u8>, onset: u32) -> Option<()> {
     let block = format!(in alloc; "+{onset}\x14\x14").ok()?;
     bytes.extend_from_slice(block.as_bytes()).ok()?;
@@ -145,21 +147,21 @@ fn trailing(alloc: Global) -> Option<Vec<u8>> {
     Some(bytes)
 }
 
-/// Two data records, the second half a second behind the window's end.
+/// Two data records, the second half a second after the window's end.
 fn past(alloc: Global) -> Option<Vec<u8>> {
     let first = b"\x01\0\xff\xff+0.5\x14\x14\0\0";
     let second = b"\x02\0\xff\xff+1.5\x14\x14\0\0";
     file(alloc, &last_second("2"), &[first, second]).ok()
 }
 
-/// Two data records ten seconds and a half apart: the second starts half a second behind Q's.
+/// Two data records ten seconds and a half apart: the second starts half a second after Q's.
 pub(crate) fn half(alloc: Global) -> Option<Vec<u8>> {
     let first = b"\x05\0\0\0+0\x14\x14\0\0\0\0";
     let second = b"\x06\0\0\0+10.5\x14\x14\0";
     file(alloc, &evening("23.59.40", "2", "4"), &[first, second]).ok()
 }
 
-/// One data record that starts half a second behind Q's.
+/// One data record that starts half a second after Q's.
 fn half_alone(alloc: Global) -> Option<Vec<u8>> {
     let header = evening("23.59.50", "1", "4");
     file(alloc, &header, &[b"\x05\0\0\0+0.5\x14\x14\0\0"]).ok()
@@ -199,7 +201,7 @@ pub(crate) fn expected(alloc: Global, name: &str) -> Option<Vec<u8>> {
     }
 }
 
-/// The data record of P5, 15 seconds behind Q's: the annotations have TALs of their own.
+/// The data record of P5, 15 seconds after Q's: the annotations have TALs of their own.
 pub(crate) const P5_BEHIND_Q: &[u8] =
     b"\x02\0\xfe\xff+15\x14\x14\0+15.5\x14Snore\x14\0+15.5\x14Turn\x14\0\0";
 

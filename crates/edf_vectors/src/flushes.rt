@@ -75,7 +75,8 @@ fn a_file_longer_than_the_buffer_goes_out_whole_in_writes_of_a_thousand_bytes(rt
 }
 
 /// Of the rooms from two bytes less than `end` to two more, the first for which an export does not
-/// end as it must: with so many bytes of the file and a failed write, or with the whole file.
+/// end as it must: with that number of bytes of the file and a failed write, or with the whole
+/// file.
 fn other_room(
     alloc: Global,
     store: &mut Store<MemStore>,

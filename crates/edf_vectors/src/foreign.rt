@@ -52,7 +52,8 @@ fn answered<S: Alter + Drop>(alloc: Global, conn: Connection<S>, cap: u32) -> Op
     }
 }
 
-/// How the connection of a store is opened again behind files, all accepted, and a statement; and the rows that the statement left.
+/// How the connection of a store is opened again after files, all accepted, and a statement; and
+/// the rows that the statement left.
 fn reopened<S: Alter + Drop>(
     alloc: Global,
     store: Store<S>,

@@ -73,7 +73,7 @@ pub(crate) fn held<S: Alter>(alloc: Global, store: &mut Store<S>) -> Option<(u32
     }
 }
 
-/// Whether a store holds so many data records, and this is their canonical file.
+/// Whether a store holds `records` data records, and this is their canonical file.
 pub(crate) fn holds(
     alloc: Global,
     store: &mut Store<MemStore>,

@@ -13,7 +13,7 @@ use std::alloc::Global;
 /// How many data records of a file were added and were there; or why it was refused.
 pub(crate) type Answer = Result<(u32, u32), Refusal>;
 
-/// The files that stand at these places of a list.
+/// The files at these places of a list.
 pub(crate) fn picked<'a>(
     alloc: Global,
     files: &'a [Vec<u8>],

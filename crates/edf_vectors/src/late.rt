@@ -162,7 +162,7 @@ fn annotation_past(alloc: Global) -> Option<Vec<u8>> {
     file(alloc, &last_second("1").annotations_samples("7"), &[record]).ok()
 }
 
-/// A recording in the last second of 2084: two data records, so many samples for annotations.
+/// A recording in the last second of 2084: two data records, `samples` samples for annotations.
 fn last_of_2084(recording: &'static str, samples: &'static str) -> Header<'static> {
     q().recording(recording)
         .start("31.12.84", "23.59.59")
@@ -211,7 +211,7 @@ fn q_and_2102(alloc: Global) -> Option<Vec<u8>> {
     file(alloc, &header, &[first, ZEROS, second]).ok()
 }
 
-/// Words, and what is told of them.
+/// Words, and what the program prints then.
 const TOLD: &[(&str, &str)] = &[
     (
         "take night.db of_2102.edf of_2102.edf; list night.db",

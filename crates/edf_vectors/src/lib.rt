@@ -2,8 +2,8 @@
 //! order, sent again, broken off, and cut in any way; and hostile use: memory that runs out, readers and writers that fail, disks that
 //! stop, foreign files. What was held stays, and each refusal is the exact one.
 //!
-//! They stand in a crate of their own, so that the crates that they test are proved once. Each file that is wanted is spelled by the
-//! builders of files and by no program.
+//! They are in a crate of their own, so that the crates that they test are proved once. Each file
+//! that is wanted is spelled by the builders of files and by no program.
 //!
 //! By the program's words, in which names stand for files of a shelf. Each file that is exported on the way is taken by an empty store
 //! and exported again.
@@ -39,7 +39,7 @@
 //! again holds what a front of the submissions leaves, and takes all of them again.
 //!
 //! - `disk`: a disk that is there again when the store over it is gone, and that may stop.
-//! - `three_files`: three files, and what is held after the first so many of them, spelled by hand.
+//! - `three_files`: three files, and what is held after the first few of them, spelled by hand.
 //! - `run`: a store opened, filled and closed over disks that may stop.
 //! - `stops`: the tests of stops, each over a range of them.
 //! - `many`: three hundred recordings, on a disk that is opened again.

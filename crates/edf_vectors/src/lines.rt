@@ -72,7 +72,8 @@ pub(crate) fn silence(alloc: Global) -> Option<Said> {
     Some(Said { out, err })
 }
 
-/// Where an order writes: so many bytes on `out` and on `err`, and then writes fail, or take none.
+/// Where an order writes: how many bytes fit on `out` and on `err` before writes fail, or take
+/// none.
 #[derive(Clone, Copy)]
 pub(crate) struct Room {
     pub(crate) out: usize,
@@ -94,8 +95,8 @@ pub(crate) fn ran(
     run(alloc, order, store, shelf, &mut out, &mut err)
 }
 
-/// Takes both files into an empty store with so much room on `out`. The status, and whether just so many bytes of the two lines
-/// went out, and nothing else, and the store holds both.
+/// Takes both files into an empty store with room for `out` bytes of lines. The status, and whether
+/// just these bytes of the two lines went out, and nothing else, and the store holds both.
 fn took(alloc: Global, out: usize, full: bool) -> Option<(Status, bool)> {
     let (p5, q) = (file_p5(alloc).ok()?, file_q(alloc).ok()?);
     let mut shelf = Shelf::new(alloc, &p5, &q);
@@ -131,7 +132,8 @@ fn ran_over_both(alloc: Global, order: &Order, out: usize, err: usize) -> Option
     Some((status, said))
 }
 
-/// Lists the recording with so much room. The status, and whether just so many bytes of its line went out, and nothing else.
+/// Lists the recording with room for `out` bytes. The status, and whether just these of its line
+/// went out, and nothing else.
 fn listed(alloc: Global, out: usize) -> Option<(Status, bool)> {
     let store = String::from_str(alloc, "night.db").ok()?;
     let (status, said) = ran_over_both(alloc, &Order::List { store }, out, 100)?;
@@ -149,13 +151,14 @@ fn a_list_whose_line_cannot_be_written_is_trouble(rt: HostRuntime) {
     assert_eq!(rt; listed(rt.alloc(), 66), Some((Status::Done, true)));
 }
 
-/// Exports the recording at a place with so much room.
+/// Exports the recording at a place with room for `out` and `err` bytes.
 fn sent(alloc: Global, place: u32, out: usize, err: usize) -> Option<(Status, Said)> {
     let store = String::from_str(alloc, "night.db").ok()?;
     ran_over_both(alloc, &Order::Export { store, place }, out, err)
 }
 
-/// The status where there is so much room for the file, and whether just so many bytes of it went out, and a line why no more.
+/// The status where there is room for `out` bytes of the file, and whether just these went out, and
+/// a line why no more.
 fn sent_file(alloc: Global, out: usize) -> Option<(Status, bool)> {
     let wanted = q_and_p5(alloc)?;
     let (status, said) = sent(alloc, 1, out, 100)?;
@@ -166,7 +169,8 @@ fn sent_file(alloc: Global, out: usize) -> Option<(Status, bool)> {
     ))
 }
 
-/// The status where there is so much room for the line that a place is not there, and whether just so many bytes of it went out.
+/// The status where there is room for `err` bytes of the line that a place is not there, and
+/// whether just these went out.
 fn missed_place(alloc: Global, err: usize) -> Option<(Status, bool)> {
     let (status, said) = sent(alloc, 2, 100, err)?;
     let front = said.err.as_slice() == b"no recording at place 2\n".get(..err)?;

@@ -35,7 +35,7 @@ enum Served {
     Unbegun,
     /// Memory ran out, and there was none to tell it.
     Silent,
-    /// Memory ran out, behind some of it.
+    /// Memory ran out, after some of it.
     Short,
     /// It sufficed.
     Whole,
@@ -132,7 +132,8 @@ fn export_under(alloc: Global, scarce: &mut Scarce, budget: usize) -> Option<Ser
     }
 }
 
-/// How many were accepted with one new data record; `None` where another was answered anything but want of memory.
+/// How many were accepted with one new data record; `None` where another was answered anything but
+/// out of memory.
 fn accepted(answers: &[Result<Receipt, Refusal>]) -> Option<u32> {
     let mut count = 0u32;
     for answer in answers {
@@ -161,7 +162,8 @@ fn accepts_all(
     true
 }
 
-/// Submits N1 and N2 in one list under a budget. A list that is not begun is accepted behind that, from the same readers.
+/// Submits N1 and N2 in one list under a budget. A list that is not begun is accepted after that,
+/// from the same readers.
 fn list_under(alloc: Global, scarce: &mut Scarce, budget: usize) -> Option<Served> {
     let (n1, n2) = (file_n1(alloc).ok()?, file_n2(alloc).ok()?);
     let mut store = empty_store(alloc, CAP)?;
@@ -209,8 +211,8 @@ const SHORTAGES: &[(&[u8], u32, u32)] = &[
     ),
 ];
 
-/// Whether an order to take P5 and Q may write so where memory runs out, and leave so many data records. The files behind a line
-/// that is not written were submitted all the same.
+/// Whether an order to take P5 and Q may write so where memory runs out, and leave `records` data
+/// records. The files after a line that is not written were submitted all the same.
 fn tells_of_shortage(out: &[u8], records: u32) -> bool {
     for (text, least, most) in SHORTAGES.iter().copied() {
         if out == text {
@@ -220,7 +222,8 @@ fn tells_of_shortage(out: &[u8], records: u32) -> bool {
     false
 }
 
-/// How the budget served under which an order to take P5 and Q ended so, wrote so and left so many data records.
+/// How the budget served under which an order to take P5 and Q ended so, wrote so and left
+/// `records` data records.
 fn served_order(status: Status, said: &Said, records: u32) -> Option<Served> {
     if !said.err.is_empty() {
         let told = said.err.as_slice() == &b"take refused E41 Memory\n"[..];

@@ -29,8 +29,8 @@ impl Chance {
     }
 }
 
-/// A data record of one second: when it starts, in half seconds behind 2002-03-02 23:59:40, its samples, and whether it has an
-/// annotation, which stands a second before it starts.
+/// A data record of one second: when it starts, in half seconds after 2002-03-02 23:59:40, its
+/// samples, and whether it has an annotation, whose onset is a second before it starts.
 #[derive(Clone, Copy)]
 pub(crate) struct Second {
     start: u32,
@@ -65,7 +65,7 @@ pub(crate) fn turn(records: &mut [Second], place: usize) -> Option<()> {
     Some(())
 }
 
-/// An onset, by the half seconds behind the file's start.
+/// An onset, by the half seconds after the file's start.
 fn onset(alloc: Global, halves: i64) -> Option<String> {
     let sign = if halves < 0 { "-" } else { "+" };
     let whole = halves.unsigned_abs() / 2;
@@ -123,7 +123,7 @@ fn body(alloc: Global, records: &[Second], blocks: &[String], bytes: usize) -> O
     Some(body)
 }
 
-/// The starttime of a file, by the seconds behind 23:59:40.
+/// The starttime of a file, by the seconds after 23:59:40.
 fn time(alloc: Global, second: u32) -> Option<String> {
     if second < 20 {
         let past = second + 40;

@@ -27,7 +27,7 @@ fn order(number: usize) -> [usize; 4] {
     order
 }
 
-/// Whether the files, sent once more, add so many data records and leave this canonical file.
+/// Whether the files, sent once more, add `count` data records and leave this canonical file.
 fn adds(
     alloc: Global,
     store: &mut Store<MemStore>,

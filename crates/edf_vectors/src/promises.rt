@@ -11,7 +11,7 @@ use edf_sample::{Header, Signal, file, q};
 use edf_tal::TalFault;
 use std::alloc::Global;
 
-/// What a store of Q answers Q's data record behind another header, and whether it keeps Q alone.
+/// What a store of Q answers Q's data record after another header, and whether it keeps Q alone.
 fn told_of_header(alloc: Global, header: &Header<'_>) -> Option<(Answer, bool)> {
     let bytes = file(alloc, header, &[b"\x01\0\xff\xff+0\x14\x14\0\0"]).ok()?;
     told(alloc, &bytes)
@@ -60,7 +60,8 @@ fn signals_that_are_too_large_together_are_refused(rt: HostRuntime) {
     assert_eq!(rt; told_of_large_signals(rt.alloc()), Some((Err(size), true)));
 }
 
-/// One data record with one annotation, whose text has so many bytes, in a block of so many samples.
+/// One data record with one annotation, whose text has `len` bytes, in a block of `samples`
+/// samples.
 fn long_text(alloc: Global, len: usize, samples: &str) -> Option<Vec<u8>> {
     let text = vec![in alloc; b'a'; len].ok()?;
     let header = q().annotations_samples(samples);
@@ -68,7 +69,7 @@ fn long_text(alloc: Global, len: usize, samples: &str) -> Option<Vec<u8>> {
     file(alloc, &header, &[begin, &text, b"\x14\0"]).ok()
 }
 
-/// What an empty store answers a text of as many bytes as a data record may have.
+/// What an empty store answers a text of the most bytes that a data record may have.
 fn told_of_longest(alloc: Global) -> Option<Answer> {
     let bytes = long_text(alloc, 1_000_000, "500005")?;
     Some(taken(alloc, &mut empty_store(alloc, CAP)?, &bytes))

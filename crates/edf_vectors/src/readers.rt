@@ -11,7 +11,8 @@ use sqlite::MemStore;
 use std::alloc::Global;
 use std::io::ErrorKind;
 
-/// Whether a store of Q answers E40 and keeps Q alone where a reader of these bytes fails behind so many of them.
+/// Whether a store of Q answers E40 and keeps Q alone where a reader of these bytes fails after
+/// `cut` of them.
 fn is_failed_read(
     alloc: Global,
     store: &mut Store<MemStore>,
@@ -28,7 +29,8 @@ fn p5(alloc: Global, count: &[u8]) -> Option<Vec<u8>> {
     patched(alloc, &file_p5(alloc).ok()?, 236, count).ok()
 }
 
-/// Behind how many bytes of P5 a reader may fail and be refused so; and then what the whole of P5 is answered.
+/// After how many bytes of P5 a reader may fail and be refused so; and then what the whole of P5 is
+/// answered.
 fn failed_reads(alloc: Global, count: &[u8], kind: ErrorKind) -> Option<(usize, Answer)> {
     let bytes = p5(alloc, count)?;
     let mut store = store_of_q(alloc)?;

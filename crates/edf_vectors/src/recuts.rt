@@ -6,7 +6,8 @@ use crate::night::{Chance, Second, file_of, night, turn};
 use crate::stage::empty_store;
 use std::alloc::Global;
 
-/// Whether the fragments of these data records, each sent once or more, are all accepted, add as many and leave this file.
+/// Whether the fragments of these data records, each sent once or more, are all accepted, add just
+/// these and leave this file.
 fn end_as(alloc: Global, chance: &mut Chance, records: &[Second], file: &[u8]) -> Option<bool> {
     let files = fragments(alloc, chance, records)?;
     let order = shuffled(alloc, chance)?;

@@ -1,7 +1,7 @@
 //! A store that is opened, filled and closed.
 //!
-//! What is done with an open store stands in functions over any kind of store, which take it whole: a proof at the kind that lies over
-//! disks is long.
+//! What is done with an open store is in functions over any kind of store, which take it whole: a
+//! proof at the kind that lies over disks is long.
 
 use crate::disk::{lend, stopping};
 use crate::held::{held, taken};
@@ -31,14 +31,14 @@ pub(crate) struct Outcome {
     pub(crate) accepted: usize,
     /// Whether the files were closed.
     pub(crate) closed: bool,
-    /// After how many submissions the store stood that was opened again.
+    /// How many submissions the store that was opened again holds.
     pub(crate) found: Option<usize>,
     /// Whether all submissions were then accepted, and gave the whole file.
     pub(crate) whole: bool,
 }
 
 impl Outcome {
-    /// What was accepted is held, and at most the submission behind it.
+    /// What was accepted is held, and at most the submission after it.
     pub(crate) fn is_front(&self) -> bool {
         match self.found {
             Some(found) => self.accepted <= found && found <= self.accepted.saturating_add(1),
@@ -83,7 +83,7 @@ pub(crate) fn opened<D: Disk + Drop>(
     store_of(alloc, connected(alloc, files, frames)?)
 }
 
-/// How many of the files are accepted. Those behind one that is refused are submitted too.
+/// How many of the files are accepted. Those after one that is refused are submitted too.
 fn accepted<S: Alter>(alloc: Global, store: &mut Store<S>, files: &[Vec<u8>]) -> usize {
     let mut count = 0usize;
     for file in files {
@@ -94,7 +94,7 @@ fn accepted<S: Alter>(alloc: Global, store: &mut Store<S>, files: &[Vec<u8>]) ->
     count
 }
 
-/// After how many submissions the store stands.
+/// How many submissions the store holds.
 fn found<S: Alter>(alloc: Global, store: &mut Store<S>, night: &Night) -> Option<usize> {
     let (_, bytes) = held(alloc, store)?;
     night
@@ -103,7 +103,7 @@ fn found<S: Alter>(alloc: Global, store: &mut Store<S>, night: &Night) -> Option
         .position(|file| file.as_slice() == bytes.as_slice())
 }
 
-/// Submits files, and gives the connection of the store behind how many of them are accepted.
+/// Submits files, and tells how many of them are accepted, with the connection of the store then.
 pub(crate) fn submitted_to<S: Alter>(
     alloc: Global,
     mut store: Store<S>,
@@ -129,7 +129,7 @@ pub(crate) fn filled<D: Disk + Drop>(
     }
 }
 
-/// Submits all again to what a run left: after how many submissions it stood, and whether it is whole now.
+/// Submits all again to what a run left: how many submissions it held, and whether it is whole now.
 fn made_whole<S: Alter + Drop>(
     alloc: Global,
     mut store: Store<S>,

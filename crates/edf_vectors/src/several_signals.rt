@@ -77,7 +77,7 @@ fn no_ordinary(alloc: Global) -> Option<Vec<u8>> {
     file(alloc, &header, &[b"\x01\0\xff\xff+0\x14\x14\0\0"]).ok()
 }
 
-/// Words, and what is told of them.
+/// Words, and what the program prints then.
 const TOLD: &[(&str, &str)] = &[
     (
         "take night.db v.edf v.edf canonical_v.edf uncounted_v.edf",

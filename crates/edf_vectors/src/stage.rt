@@ -69,7 +69,7 @@ pub(crate) fn told_alone(alloc: Global, line: &str) -> Option<Outcome> {
     told(alloc, &mut store, Shelf::new(b""), usize::MAX, line)
 }
 
-/// The text of standard output, then that of standard error behind `err: `, then the status.
+/// The text of standard output, then that of standard error after `err: `, then the status.
 fn push_told(alloc: Global, text: &mut Vec<u8>, told: &Outcome) -> Option<()> {
     text.extend_from_slice(told.out.as_slice()).ok()?;
     if !told.err.is_empty() {
@@ -80,7 +80,8 @@ fn push_told(alloc: Global, text: &mut Vec<u8>, told: &Outcome) -> Option<()> {
     text.extend_from_slice(status.as_bytes()).ok()
 }
 
-/// What orders write, one after another over one store, and how each ends. A semicolon stands between two.
+/// What orders write, one after another over one store, and how each ends. A semicolon is between
+/// two.
 pub(crate) fn story(alloc: Global, cap: u32, orders: &str) -> Option<String> {
     let mut store = empty_store(alloc, cap)?;
     let mut text = Vec::new(alloc);

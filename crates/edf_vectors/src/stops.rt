@@ -7,7 +7,7 @@ use crate::three_files::three_files;
 use std::alloc::Global;
 use std::process::Abort;
 
-/// A stop of the log, or of the database file, behind so many calls.
+/// A stop of the log, or of the database file, after `passed` calls.
 fn stop(is_log: bool, passed: u64, frames: usize) -> Stop {
     Stop {
         log_calls: if is_log { passed } else { u64::MAX },
@@ -53,7 +53,8 @@ fn stopped(
     None
 }
 
-/// Whether runs were stopped before each of the submissions and behind the last, and then one was not.
+/// Whether runs were stopped before each of the submissions and after the last, and then one was
+/// not.
 fn is_met_everywhere(stops: Option<[usize; 4]>) -> bool {
     let Some(counts) = stops else {
         return false;
@@ -61,7 +62,7 @@ fn is_met_everywhere(stops: Option<[usize; 4]>) -> bool {
     counts.iter().all(|count| *count > 0)
 }
 
-/// Whether runs were stopped before the first submission and behind the last, and then one was not.
+/// Whether runs were stopped before the first submission and after the last, and then one was not.
 fn is_met_at_the_ends(stops: Option<[usize; 4]>) -> bool {
     let Some(counts) = stops else {
         return false;
@@ -105,7 +106,7 @@ fn what_was_accepted_is_held_wherever_the_copying_of_the_log_stops(rt: HostRunti
     }
 }
 
-/// How many data records a store holds after the first so many files, and how long their file is,
+/// How many data records a store holds after the first `count` files, and how long their file is,
 /// where it is the one that is wanted.
 fn held_after(alloc: Global, count: usize) -> Option<(u32, usize)> {
     let night = three_files(alloc)?;

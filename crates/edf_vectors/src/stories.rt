@@ -9,7 +9,7 @@ use edf_sample::Sink;
 use edf_store::StoreFault;
 use std::alloc::Global;
 
-/// Words, and what is told of them.
+/// Words, and what the program prints then.
 const FIT: &[(&str, &str)] = &[
     (
         "take night.db q.edf q.edf",
@@ -47,7 +47,7 @@ fn files_that_fit_are_accepted_with_what_they_add(rt: HostRuntime) {
     }
 }
 
-/// Words, and what is told of them.
+/// Words, and what the program prints then.
 const MANY: &[(&str, &str)] = &[
     (
         "take night.db q_and_p5.edf undated.edf last.edf u.edf",
@@ -92,7 +92,7 @@ fn is_refused_alone(alloc: Global, line: &str, want: &str) -> Option<bool> {
     Some(got == all)
 }
 
-/// Words, and what is told of them.
+/// Words, and what the program prints then.
 const FORM: &[(&str, &str)] = &[
     ("take night.db empty.edf", "empty.edf refused E1 Cut\n"),
     (
@@ -137,7 +137,7 @@ fn files_with_a_fault_of_form_are_refused_with_its_place(rt: HostRuntime) {
 const Q_LISTED: &str =
     "1 records=1 first=2002-03-02T23:59:50 patient=P7 investigation=N1\nstatus 0\n";
 
-/// Whether a file behind Q is refused with this line, and Q is listed as before.
+/// Whether a file after Q is refused with this line, and Q is listed as before.
 fn is_refused_behind_q(alloc: Global, line: &str, want: &str) -> Option<bool> {
     let orders = format!(in alloc; "take night.db q.edf; {line}; list night.db").ok()?;
     let got = story(alloc, CAP, &orders)?;
@@ -146,7 +146,7 @@ fn is_refused_behind_q(alloc: Global, line: &str, want: &str) -> Option<bool> {
     Some(got == all)
 }
 
-/// Words, and what is told of them.
+/// Words, and what the program prints then.
 const CLASH: &[(&str, &str)] = &[
     (
         "take night.db half.edf",
@@ -174,7 +174,7 @@ fn files_that_clash_are_refused_with_the_starts(rt: HostRuntime) {
     }
 }
 
-/// Words, and what is told of them.
+/// Words, and what the program prints then.
 const FULL: &[(&str, &str)] = &[
     (
         "take night.db n1.edf k.edf; list night.db",
@@ -226,7 +226,7 @@ fn a_night_is_taken_and_listed_and_has_no_second_place(rt: HostRuntime) {
     assert_eq!(rt; got.as_deref(), Some(want));
 }
 
-/// Words, and what is told of them.
+/// Words, and what the program prints then.
 const LISTED: &[(&str, &str)] = &[
     (
         "take night.db q.edf after.edf undated.edf",
@@ -253,7 +253,7 @@ fn recordings_are_listed_by_the_bytes_of_their_identities(rt: HostRuntime) {
     }
 }
 
-/// What is listed after a line of words that had so much room to write.
+/// What is listed after a line of words that had room to write `room` bytes.
 fn listed(alloc: Global, room: usize, line: &str) -> Option<String> {
     let mut store = empty_store(alloc, CAP)?;
     let shelf = Shelf::new(b"");
@@ -271,14 +271,14 @@ fn files_are_taken_all_the_same_behind_a_line_that_cannot_be_written(rt: HostRun
     assert_eq!(rt; status_in_room(rt.alloc(), 100, line), Some(Status::Done));
 }
 
-/// How a line of words ends that has so much room to write.
+/// How a line of words ends that has room to write `room` bytes.
 fn status_in_room(alloc: Global, room: usize, line: &str) -> Option<Status> {
     let mut store = empty_store(alloc, CAP)?;
     let outcome = told(alloc, &mut store, Shelf::new(b""), room, line)?;
     Some(outcome.status)
 }
 
-/// Words, and what is told of them.
+/// Words, and what the program prints then.
 const MISSING: &[(&str, &str)] = &[
     (
         "take night.db missing.edf q.edf",

@@ -5,7 +5,7 @@ use edf_sample::named::{file_k, file_p5, file_q};
 use edf_sample::{file, q};
 use std::alloc::{AllocError, Global};
 
-/// What is submitted, in this order, and what is exported after the first so many.
+/// What is submitted, in this order, and what is exported after each number of them.
 #[derive(Drop)]
 pub(crate) struct Night {
     pub(crate) files: Vec<Vec<u8>>,

@@ -63,7 +63,7 @@ pub(crate) fn uncounted(alloc: Global, name: &str) -> Option<Vec<u8>> {
     None
 }
 
-/// Words, and what is told of them.
+/// Words, and what the program prints then.
 const TAKEN: &[(&str, &str)] = &[
     (
         "take night.db uncounted_q.edf q.edf",
@@ -103,7 +103,7 @@ fn as_many_records_are_taken_as_follow(rt: HostRuntime) {
     }
 }
 
-/// Words, and what is told of them.
+/// Words, and what the program prints then.
 const REFUSED: &[(&str, &str)] = &[
     (
         "take night.db uncounted_q_header.edf uncounted_q_more.edf uncounted_u_cut.edf",
@@ -146,7 +146,7 @@ fn a_file_cut_in_a_record_is_refused_for_that_and_one_cut_between_records_for_a_
     }
 }
 
-/// Words, and what is told of them where a recording has two data records at most.
+/// Words, and what the program prints then, where a recording has two data records at most.
 const FULL: &[(&str, &str)] = &[
     (
         "take night.db uncounted_k.edf; list night.db",
@@ -184,7 +184,7 @@ fn a_full_recording_tells_what_it_held_and_how_many_followed(rt: HostRuntime) {
     }
 }
 
-/// The receipt of a file with so many new and known data records.
+/// The receipt of a file with `new` new and `known` known data records.
 fn receipt(new: u32, known: u32) -> Answer {
     Ok((new, known))
 }
@@ -268,7 +268,7 @@ fn an_export_counts_its_records(rt: HostRuntime) {
     assert_eq!(rt; told, Some(798));
 }
 
-/// What a store is to answer the first so many bytes of K without its count, where it was sent each
+/// What a store is to answer the first `len` bytes of K without its count, where it was sent each
 /// shorter front before.
 fn answer_of_front(len: usize) -> Answer {
     let fault = match len {

@@ -78,7 +78,7 @@ fn an_order_has_the_path_of_its_store_but_for_one_in_memory(rt: HostRuntime) {
     }
 }
 
-/// Words, how what they are told begins, and a text that it has.
+/// Words, how what is printed begins, and a text that it has.
 const TOLD: &[(&str, &str, &str)] = &[
     ("list", "usage: ", "<STORE>"),
     ("list night.db 1", "usage: ", "'1'"),
@@ -117,7 +117,7 @@ const TOLD: &[(&str, &str, &str)] = &[
     ),
 ];
 
-/// What a line is told that asks for the version, and nothing else is.
+/// What is printed where a line asks for the version.
 fn version(alloc: Global) -> Option<String> {
     format!(in alloc; "help: edfstore {VERSION}\n").ok()
 }

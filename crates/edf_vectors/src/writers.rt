@@ -10,10 +10,12 @@ use edf_store::Store;
 use sqlite::MemStore;
 use std::alloc::Global;
 
-/// What an export is answered, and whether just so many bytes went out, those at the front of the file.
+/// What an export is answered, and whether just the bytes that the writer has room for went out,
+/// from the front of the file.
 pub(crate) type Sent = (Result<u64, ExportFault>, bool);
 
-/// An export to a writer of so much room, which then fails, or takes none; `wanted` is the file.
+/// An export to a writer with room for `room` bytes, which then fails, or takes none; `wanted` is
+/// the file.
 pub(crate) fn stopped(
     alloc: Global,
     store: &mut Store<MemStore>,

@@ -1,5 +1,5 @@
-//! The program `edfstore`, run, and then orders of it, one after another: behind what each writes to standard output stands a line with
-//! its status.
+//! The program `edfstore`, run, and then orders of it, one after another: after what each writes to
+//! standard output comes a line with its status.
 #![tactic(auto)]
 
 use edf_host::{run_program, run_words};

@@ -18,7 +18,7 @@ pub record Buffered : Type 0 where
 abbrev pub buffered : Option (List ℕ) → ℕ → List ℕ → Buffered
 buffered contents failures held = record { contents = contents; failures = failures; held = held }
 
--- of what was held back and the bytes behind it, a front was written, and the rest is left
+-- of what was held back and the bytes after it, a front was written, and the rest is left
 pub record Writes (before after : Buffered) (bytes left : List ℕ) : Type 0 where
   pub front : List ℕ
   pub wrote : Appends before.contents after.contents front

@@ -16,12 +16,12 @@ use Rattle.edf_export.specs.declared.fault.OutputFault.TheVariants.{Write as Fai
 use Rattle.edf_export.specs.declared.fault.ExportFault.{ExportFault}
 use Rattle.edf_export.specs.declared.fault.ExportFault.TheVariants.{NoRecording, Store, Memory, Write}
 
--- the longest block of the records has so many bytes
+-- the longest block of the records has `longest` bytes
 pub record IsLongest (file_start longest : ℕ) (records : List DataRecord) : Type 0 where
   pub holds : All (λ r. length (block_of file_start r) ≤ longest) records
   pub least : (n : ℕ) → All (λ r. length (block_of file_start r) ≤ n) records → longest ≤ n
 
--- the records are sound ones of the key with which its recording may begin, and at most so many
+-- the records are sound ones of the key with which its recording may begin, and at most `cap`
 pub record IsSoundRecording (cap : ℕ) (k : Key) (records : List DataRecord) : Type 0 where
   pub key : IsKey k
   pub sound : AreSound k 0 records

@@ -35,7 +35,7 @@ pub record ReadsSignalsFault (left rest : Option (List ℕ)) (n : ℕ) (fault : 
   pub is_fault : IsFirst (SignalsFail bytes n) fault
   pub ended : fault ≡ CutSignals → IsAtEnd rest
 
--- memory ran out before a byte of n signals was read, or behind signals that have no fault
+-- memory ran out before a byte of n signals was read, or after signals that have no fault
 pub record LacksSignalsMemory (left rest : Option (List ℕ)) (n : ℕ) : Type 0 where
   pub bytes : List ℕ
   pub read : Consumes left rest bytes

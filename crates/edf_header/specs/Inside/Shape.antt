@@ -29,7 +29,7 @@ place_of_check Physical = 7
 place_of_check Digital = 8
 place_of_check Samples = 9
 
--- what stands before an identity's signals has no fault
+-- what comes before an identity's signals has no fault
 pub record IsKeyFront (b : List ℕ) : Type 0 where
   pub len : HasLength b
   pub printable : All IsPrintable b

@@ -16,13 +16,13 @@ use Rattle.edf_intake.specs.declared.answer.Refusal.TheVariants.{Form, Read, Mem
 use Rattle.edf_intake.specs.declared.answer.Stop.{Stop}
 use Rattle.edf_intake.specs.declared.answer.Stop.TheVariants.{Input, Store}
 
--- a failed read and want of memory are told as such, and any other fault as one of form
+-- a failed read gives `Read`, no memory gives `Memory`, and any other fault `Form`
 abbrev pub refusal_by : FragmentFault → Refusal
 refusal_by NoRead = Read
 refusal_by NoMemory = Memory
 refusal_by fault = Form fault
 
--- want of memory is told as such, and any other fault of the store as it is
+-- no memory gives `Memory`, and any other fault of the store `Store` with that fault
 abbrev pub refusal_of : StoreFault → Refusal
 refusal_of store.Memory = Memory
 refusal_of fault = Refused fault
@@ -38,7 +38,7 @@ abbrev pub IsToldInside : {S : Type 0} → Ghosts S → Kept S → Stop → Type
 IsToldInside g new (Input refusal) = Unit {0}
 IsToldInside g new (Store fault) = IsRefusedInside g new fault
 
--- the input has a fault, or reading it failed; or the store refused behind some data records
+-- the input has a fault, or reading it failed; or the store refused after some data records
 abbrev pub HaltsThere : Source → Source → Stop → Type 0
 HaltsThere from to (Input refusal) = (fault : FragmentFault) × (refusal ≡ refusal_by fault)
     × IsFragmentFault from.left to.left fault × CountsFault from.failed to.failed fault

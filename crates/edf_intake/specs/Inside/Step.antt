@@ -15,36 +15,37 @@ use Rattle.edf_intake.specs.declared.walk.Step.TheVariants.{Clashes, Known, New}
 use Rattle.edf_intake.specs.declared.walk.Starts.{Starts}
 use Rattle.edf_intake.specs.declared.walk.Tally.{Tally}
 
--- room in a recording that holds so many, never past the cap: all that the cap leaves, or as many as are wanted at least
+-- room in a recording that holds `held`, never past the cap: all that the cap leaves, or at least
+-- `wanted`
 pub record IsRoom (cap held wanted room : ℕ) : Type 0 where
   pub fits : held + room ≤ cap
   pub enough : (held + room ≡ cap) ⊎ (wanted ≤ room)
 
--- what the stored records near one say of it
+-- how the stored records near one classify it
 abbrev pub IsStep : DataRecord → List DataRecord → Step → Type 0
 IsStep r near (Clashes stored) = (s : DataRecord) × (other_of r near ≡ Some s) × (stored ≡ s.start)
 IsStep r near Known = (other_of r near ≡ None) × (holds near r ≡ true)
 IsStep r near New = near ≡ []
 
--- what the key's records that the transaction sees say of it
+-- how those of the key's records that the transaction sees classify it
 abbrev pub IsStepIn : {S : Type 0} → Ghosts S → Kept S → Key → DataRecord → Step → Type 0
 IsStepIn g store key r step = (h : Holdings) → Sees g store h → IsStep r (near_of (duration_of key.duration) r.start (h key)) step
 
--- one record more, where these lie near it: the tally then, and what is held of what was
+-- how one record changes tally and holdings, given its stored neighbours
 abbrev pub Counts : ℕ → Key → DataRecord → List DataRecord → Holdings → Tally → Holdings → Tally → Step → Type 0
 Counts room key r near h from t to (Clashes stored) = (t ≡ h) × (to ≡ record from { clash = Some (record { start = r.start; stored = stored }) })
 Counts room key r near h from t to Known = (t ≡ h) × (to ≡ record from { known = from.known + 1 })
 Counts room key r near h from t to New =
     (from.new < room → t ≡ put key (r ∷ []) h) × (room ≤ from.new → t ≡ h) × (to ≡ record from { new = from.new + 1 })
 
--- behind a clash nothing counts
+-- after a clash nothing counts
 abbrev pub IsNext : ℕ → Key → DataRecord → Holdings → Tally → Holdings → Tally → Type 0
 IsNext room key r h from t to = MatchOption from.clash
     ((step : Step) × IsStep r (near_of (duration_of key.duration) r.start (h key)) step
     × Counts room key r (near_of (duration_of key.duration) r.start (h key)) h from t to step)
     (λ starts. to ≡ from)
 
--- of the records none clashes with one of the key, and so many are new and known
+-- no record clashes with one of the key, and `tally` counts the new and the known
 pub record CountsAll (key : Key) (h : Holdings) (records : List DataRecord) (tally : Tally) : Type 0 where
   pub free : first_clash (duration_of key.duration) (h key) records ≡ None
   pub new_is : tally.new ≡ new_of (h key) records

@@ -14,7 +14,7 @@ Lacks c bytes = AllByRecursion (λ b. b ≢ c) bytes
 abbrev pub AreZeros : List ℕ → Type 0
 AreZeros bytes = AllByRecursion (λ b. b ≡ 0) bytes
 
--- no TAL stands at the front
+-- no TAL is at the front
 abbrev pub NoTal : List ℕ → Type 0
 NoTal bytes = (front rest : List ℕ) (t : Tal) → bytes ≡ front ++ rest → ¬ IsTal front t
 
@@ -54,7 +54,7 @@ IsEnded [] = Unit {0}
 IsEnded (b ∷ []) = b ≡ 20
 IsEnded (b ∷ c ∷ bytes) = IsEnded (c ∷ bytes)
 
--- the TAL at the front, its texts and what is behind it
+-- the TAL at the front, its texts and what is after it
 pub record IsTalAtFront (bytes texts rest : List ℕ) (t : Tal) : Type 0 where
   pub front : List ℕ
   pub parts : bytes ≡ front ++ rest
