@@ -3,6 +3,7 @@ use Rattle.std.specs.Prelude.{◌≡◌, []}
 use Rattle.sqlite.specs.Tree.{Trees}
 use Rattle.sqlite.specs.Schema.{Schema}
 use Rattle.sqlite.specs.Effect.{Database, IsDatabase}
+use Rattle.edf_schema.specs.Columns.{stored_recordings, stored_records}
 use Rattle.edf_tables.specs.Schema.{no_schema, one_schema, both_schema, AreOurs}
 
 -- a file with neither table, with the first or with both, and with nothing else
@@ -11,19 +12,19 @@ IsOurs db = AreOurs db.schema
 
 -- the first table is there, with the rows that it had, and the second where it was
 pub data HasFirst (old new : Database) : Type 0 where
-  made_first : old.schema ≡ no_schema → new.schema ≡ one_schema → new.trees 0 ≡ [] → HasFirst old new
+  made_first : old.schema ≡ no_schema → new.schema ≡ one_schema → stored_recordings new.trees ≡ [] → HasFirst old new
   kept_one : old.schema ≡ one_schema → new ≡ old → HasFirst old new
   kept_both : old.schema ≡ both_schema → new ≡ old → HasFirst old new
 
 -- both tables are there
 pub data HasSecond (old new : Database) : Type 0 where
-  made_second : old.schema ≡ one_schema → new.schema ≡ both_schema → new.trees 0 ≡ old.trees 0 → new.trees 2 ≡ [] → HasSecond old new
+  made_second : old.schema ≡ one_schema → new.schema ≡ both_schema → stored_recordings new.trees ≡ stored_recordings old.trees → stored_records new.trees ≡ [] → HasSecond old new
   kept_second : old.schema ≡ both_schema → new ≡ old → HasSecond old new
 
 -- both tables are there, with the rows that they had
 pub data HasTables (old new : Database) : Type 0 where
-  from_none : old.schema ≡ no_schema → new.schema ≡ both_schema → new.trees 0 ≡ [] → new.trees 2 ≡ [] → HasTables old new
-  from_one : old.schema ≡ one_schema → new.schema ≡ both_schema → new.trees 0 ≡ old.trees 0 → new.trees 2 ≡ [] → HasTables old new
+  from_none : old.schema ≡ no_schema → new.schema ≡ both_schema → stored_recordings new.trees ≡ [] → stored_records new.trees ≡ [] → HasTables old new
+  from_one : old.schema ≡ one_schema → new.schema ≡ both_schema → stored_recordings new.trees ≡ stored_recordings old.trees → stored_records new.trees ≡ [] → HasTables old new
   from_both : old.schema ≡ both_schema → new ≡ old → HasTables old new
 
 -- the trees are those of a file with these tables
@@ -33,6 +34,6 @@ AreOf schema db = IsDatabase (record { schema = schema; trees = db })
 -- what else a crash may leave: the first missing table is made, or both are, and the rows are the
 -- same
 pub data IsMadeOf (old : Database) (db : Trees) : Type 0 where
-  left_first : old.schema ≡ no_schema → AreOf one_schema db → db 0 ≡ [] → IsMadeOf old db
-  left_both : old.schema ≡ no_schema → AreOf both_schema db → db 0 ≡ [] → db 2 ≡ [] → IsMadeOf old db
-  left_second : old.schema ≡ one_schema → AreOf both_schema db → db 0 ≡ old.trees 0 → db 2 ≡ [] → IsMadeOf old db
+  left_first : old.schema ≡ no_schema → AreOf one_schema db → stored_recordings db ≡ [] → IsMadeOf old db
+  left_both : old.schema ≡ no_schema → AreOf both_schema db → stored_recordings db ≡ [] → stored_records db ≡ [] → IsMadeOf old db
+  left_second : old.schema ≡ one_schema → AreOf both_schema db → stored_recordings db ≡ stored_recordings old.trees → stored_records db ≡ [] → IsMadeOf old db

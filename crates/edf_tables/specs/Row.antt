@@ -9,6 +9,7 @@ use Rattle.sqlite_schema.specs.declared.schema.Table.{Table}
 use Rattle.sqlite_trees.specs.Tree.{put_row}
 use Rattle.sqlite_rules.specs.Edit.{next_rowid, is_taken}
 use Rattle.sqlite.specs.State.{State, Shows}
+use Rattle.edf_schema.specs.Columns.{stored_recordings, stored_records}
 use Rattle.edf_tables.specs.Schema.{both_schema}
 
 -- the cells with the rowid that is taken for a new row
@@ -42,15 +43,15 @@ pub record IsInside (s : State) : Type 0 where
 -- in the transaction there is one record more, and all else is as it was
 pub record HasRecord (old new : State) (cells : Row) : Type 0 where
   pub schema : new.now.schema ≡ both_schema
-  pub recordings : new.now.trees 0 ≡ old.now.trees 0
-  pub records : new.now.trees 2 ≡ added (old.now.trees 2) cells
-  pub fresh : is_taken (old.now.trees 2) (new_row (old.now.trees 2) cells) ≡ false
+  pub recordings : stored_recordings new.now.trees ≡ stored_recordings old.now.trees
+  pub records : stored_records new.now.trees ≡ added (stored_records old.now.trees) cells
+  pub fresh : is_taken (stored_records old.now.trees) (new_row (stored_records old.now.trees) cells) ≡ false
   pub shown : Shows old new new.now old.committed true
 
 -- in the transaction there is one recording more, and all else is as it was
 pub record HasRecording (old new : State) (cells : Row) : Type 0 where
   pub schema : new.now.schema ≡ both_schema
-  pub recordings : new.now.trees 0 ≡ added (old.now.trees 0) cells
-  pub fresh : is_taken (old.now.trees 0) (new_row (old.now.trees 0) cells) ≡ false
-  pub records : new.now.trees 2 ≡ old.now.trees 2
+  pub recordings : stored_recordings new.now.trees ≡ added (stored_recordings old.now.trees) cells
+  pub fresh : is_taken (stored_recordings old.now.trees) (new_row (stored_recordings old.now.trees) cells) ≡ false
+  pub records : stored_records new.now.trees ≡ stored_records old.now.trees
   pub shown : Shows old new new.now old.committed true
