@@ -1,10 +1,10 @@
 -- The cells of a data record and of a recording, and where they are in the rows of the two tables.
 use Rattle.std.specs.Prelude.{ℤ, pos, List, [], ◌∷◌, map, filter}
 use Rattle.sqlite_value.specs.declared.value.Value.TheVariants.{Int, Blob}
-use Rattle.sqlite_value.specs.Order.{Row, column}
+use Rattle.sqlite_value.specs.Order.{Row}
 use Rattle.sqlite_trees.specs.Tree.{Trees}
 use Rattle.sqlite_keyed.specs.Lists.{sort_by}
-use Rattle.edf_schema.specs.Columns.{by_column, is_of}
+use Rattle.edf_schema.specs.Columns.{stored_recordings, stored_id, stored_identity, stored_records, stored_start, stored_samples, stored_block, start_order, is_of}
 use Rattle.edf_header.specs.Key.{Key, key_bytes}
 use Rattle.edf_tal.specs.Canonical.{block_text}
 use Rattle.edf_fragment.specs.Fragment.{DataRecord}
@@ -19,8 +19,9 @@ recording_cells id k = Int id ∷ Blob (key_bytes k) ∷ []
 
 -- the ids and identities of all recordings
 abbrev pub recordings_in : Trees → List Row
-recordings_in trees = map (λ row. column row 0 ∷ column row 2 ∷ []) (trees 0)
+recordings_in trees = map (λ row. stored_id row ∷ stored_identity row ∷ []) (stored_recordings trees)
 
 -- starts, samples and blocks of the recording with this id, by rising starts
 abbrev pub records_in : Trees → ℤ → List Row
-records_in trees id = map (λ row. column row 2 ∷ column row 3 ∷ column row 4 ∷ []) (sort_by (by_column 2) (filter (is_of id) (trees 2)))
+records_in trees id =
+    map (λ row. stored_start row ∷ stored_samples row ∷ stored_block row ∷ []) (sort_by start_order (filter (is_of id) (stored_records trees)))

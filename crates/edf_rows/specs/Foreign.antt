@@ -1,7 +1,7 @@
 -- The rows that no submissions leave.
 use Rattle.std.specs.Prelude.{◌≡◌, ℕ, ◌+◌, ◌*◌, ◌≤◌, ◌<◌, ℤ, pos, ◌⊎◌, List, [], ◌∷◌, length, Contains, IsTrue}
 use Rattle.sqlite_value.specs.declared.value.Value.TheVariants.{Int, Blob}
-use Rattle.sqlite_value.specs.Order.{Row, column}
+use Rattle.sqlite_value.specs.Order.{Row}
 use Rattle.sqlite_trees.specs.Tree.{Trees}
 use Rattle.edf_time.specs.Civil.{window}
 use Rattle.edf_field.specs.Number.{duration_of}
@@ -12,26 +12,26 @@ use Rattle.edf_tal.specs.Block.{IsRead}
 use Rattle.edf_tal.specs.declared.place.Place.TheVariants.{Any}
 use Rattle.edf_tal.specs.Canonical.{block_text}
 use Rattle.edf_rows.specs.Cells.{recordings_in, records_in}
-use Rattle.edf_schema.specs.Columns.{is_of}
+use Rattle.edf_schema.specs.Columns.{the_id, the_identity, the_start, the_samples, the_block, stored_records, is_of}
 use Rattle.edf_rows.specs.Rows.{IsThere, IsRecording, AreTwoOf}
 
 -- the cell is an instant of the window
 abbrev pub IsStart : Row → ℕ → Type 0
-IsStart row start = (column row 0 ≡ Int (pos start)) × (start < window)
+IsStart row start = (the_start row ≡ Int (pos start)) × (start < window)
 
 -- the cell is the number of sample bytes that the key says
 abbrev pub AreSamples : Key → Row → Type 0
-AreSamples k row = (samples : List ℕ) × (column row 1 ≡ Blob samples) × (length samples ≡ 2 * samples_in_all k.signals)
+AreSamples k row = (samples : List ℕ) × (the_samples row ≡ Blob samples) × (length samples ≡ 2 * samples_in_all k.signals)
 
 -- the cell is the block that is written for the list that is read from it, and the start that is read is the row's
 pub record IsOwnBlock (row : Row) : Type 0 where
   pub block : List ℕ
   pub start : ℕ
   pub list : List Annotation
-  pub is_block : column row 2 ≡ Blob block
+  pub is_block : the_block row ≡ Blob block
   pub read : IsRead block 0 Any start list
   pub written : block ≡ block_text 0 start list
-  pub starts : column row 0 ≡ Int (pos start)
+  pub starts : the_start row ≡ Int (pos start)
 
 -- why a row is no record of the key: its start, its samples or its block
 pub data IsBadRow (k : Key) (row : Row) : Type 0 where
@@ -46,15 +46,15 @@ pub record AreTooNear (rows : List Row) (duration : ℕ) : Type 0 where
   pub two : AreTwoOf rows a b
   pub first : ℕ
   pub second : ℕ
-  pub a_start : column a 0 ≡ Int (pos first)
-  pub b_start : column b 0 ≡ Int (pos second)
+  pub a_start : the_start a ≡ Int (pos first)
+  pub b_start : the_start b ≡ Int (pos second)
   pub order : first ≤ second
   pub near : second < first + duration
 
 -- of the rows, which come by rising starts, the first starts where the key's recording may not: after 2084 without a date
 abbrev pub BeginsTooLate : Key → List Row → Type 0
 BeginsTooLate k [] = ⊥
-BeginsTooLate k (row ∷ rows) = (start : ℕ) × (column row 0 ≡ Int (pos start)) × ¬ MayStart k start
+BeginsTooLate k (row ∷ rows) = (start : ℕ) × (the_start row ≡ Int (pos start)) × ¬ MayStart k start
 
 -- a recording's records: one is bad, two are too near, they begin too late, there is none, or there are more than the cap
 pub data AreBadRecords (cap : ℕ) (k : Key) (rows : List Row) : Type 0 where
@@ -70,5 +70,5 @@ pub data AreBadRecords (cap : ℕ) (k : Key) (rows : List Row) : Type 0 where
 pub data IsForeign (cap : ℕ) (trees : Trees) : Type 0 where
   bad_recording : (row : Row) → Contains (recordings_in trees) row → ¬ IsRecording row → IsForeign cap trees
   bad_records : (id : ℤ) (k : Key) → IsThere trees id k → AreBadRecords cap k (records_in trees id) → IsForeign cap trees
-  without_recording : (row : Row) → Contains (trees 2) row → ((id : ℤ) (k : Key) → IsThere trees id k → ¬ IsTrue (is_of id row)) → IsForeign cap trees
-  twice : (a b : Row) → AreTwoOf (recordings_in trees) a b → (column a 0 ≡ column b 0) ⊎ (column a 1 ≡ column b 1) → IsForeign cap trees
+  without_recording : (row : Row) → Contains (stored_records trees) row → ((id : ℤ) (k : Key) → IsThere trees id k → ¬ IsTrue (is_of id row)) → IsForeign cap trees
+  twice : (a b : Row) → AreTwoOf (recordings_in trees) a b → (the_id a ≡ the_id b) ⊎ (the_identity a ≡ the_identity b) → IsForeign cap trees

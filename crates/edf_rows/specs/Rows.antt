@@ -1,11 +1,11 @@
 -- Which holdings the rows of the two tables stand for.
 use Rattle.std.specs.Prelude.{◌≡◌, ◌≢◌, ℕ, ℤ, List, [], ◌∷◌, map, All, Contains, IsTrue, IsPermutation}
-use Rattle.sqlite_value.specs.Order.{Row, column}
+use Rattle.sqlite_value.specs.Order.{Row}
 use Rattle.sqlite_trees.specs.Tree.{Trees}
 use Rattle.edf_header.specs.Key.{Key, IsKey}
 use Rattle.edf_holdings.specs.Holdings.{Holdings, IsSound}
 use Rattle.edf_rows.specs.Cells.{record_cells, recording_cells, recordings_in, records_in}
-use Rattle.edf_schema.specs.Columns.{is_of}
+use Rattle.edf_schema.specs.Columns.{the_id, the_identity, stored_records, is_of}
 
 -- the key's recording is there, under this id
 pub record IsThere (trees : Trees) (id : ℤ) (k : Key) : Type 0 where
@@ -32,8 +32,8 @@ AreTwoOf rows a b = (rest : List Row) × IsPermutation rows (a ∷ b ∷ rest)
 
 -- they have neither one id nor one identity
 pub record AreOther (a b : Row) : Type 0 where
-  pub id : column a 0 ≢ column b 0
-  pub identity : column a 1 ≢ column b 1
+  pub id : the_id a ≢ the_id b
+  pub identity : the_identity a ≢ the_identity b
 
 -- the rows stand for these holdings: each row of a recording is an id and the bytes of a key, no id
 -- and no key occurs twice, each record belongs to a recording, and a recording's records by rising
@@ -42,7 +42,7 @@ pub record AreOther (a b : Row) : Type 0 where
 pub record StandFor (trees : Trees) (h : Holdings) : Type 0 where
   pub recordings : All IsRecording (recordings_in trees)
   pub apart : (a b : Row) → AreTwoOf (recordings_in trees) a b → AreOther a b
-  pub owned : All (IsOwned trees) (trees 2)
+  pub owned : All (IsOwned trees) (stored_records trees)
   pub held : (id : ℤ) (k : Key) → IsThere trees id k → records_in trees id ≡ map record_cells (h k)
   pub others : (k : Key) → ((id : ℤ) → ¬ IsThere trees id k) → h k ≡ []
 
