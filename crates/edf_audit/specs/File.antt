@@ -3,6 +3,7 @@ use Rattle.std.specs.Prelude.{◌≡◌, ◌≢◌, ℕ, [], Bool, true, false, 
 use Rattle.sqlite.specs.Effect.{Database}
 use Rattle.sqlite.specs.State.{State}
 use Rattle.edf_holdings.specs.Holdings.{Holdings}
+use Rattle.edf_schema.specs.Columns.{stored_recordings}
 use Rattle.edf_tables.specs.Schema.{one_schema, both_schema}
 use Rattle.edf_tables.specs.Made.{IsOurs, HasTables}
 use Rattle.edf_rows.specs.Rows.{AreKept}
@@ -13,7 +14,7 @@ use Rattle.edf_rows.specs.Foreign.{IsForeign}
 pub data IsForeignFile (cap : ℕ) (db : Database) : Type 0 where
   other_tables : ¬ IsOurs db → IsForeignFile cap db
   foreign_rows : db.schema ≡ both_schema → IsForeign cap db.trees → IsForeignFile cap db
-  only_recordings : db.schema ≡ one_schema → db.trees 0 ≢ [] → IsForeignFile cap db
+  only_recordings : db.schema ≡ one_schema → stored_recordings db.trees ≢ [] → IsForeignFile cap db
 
 -- the file had our tables, or those that are missing are made; the rows that it had are there, and stand for holdings; no
 -- transaction is open

@@ -3,7 +3,7 @@ use Rattle.std.specs.Prelude.{◌≡◌, [], ◌∷◌, ℕ, Option, Some, None,
 use Rattle.sqlite.specs.Order.{Row}
 use Rattle.sqlite.specs.Tree.{Trees}
 use Rattle.sqlite.specs.State.{State, KeepsCommit}
-use Rattle.sqlite_value.specs.Order.{column}
+use Rattle.edf_schema.specs.Columns.{the_id, the_identity}
 use Rattle.edf_rows.specs.Cells.{recordings_in, records_in}
 use Rattle.edf_rows.specs.Foreign.{IsForeign}
 use Rattle.edf_rows.specs.Shape.{HasRecords}
@@ -17,7 +17,7 @@ pub record KeepsRows (old new : State) : Type 0 where
 
 -- what the check reads of a row
 abbrev pub first_two : Row → Row
-first_two row = column row 0 ∷ column row 1 ∷ []
+first_two row = the_id row ∷ the_identity row ∷ []
 
 -- `Some count`: the row is of a recording with `count` records; `None`: the rows are foreign
 abbrev pub Checks : ℕ → Trees → Row → Option ℕ → Type 0

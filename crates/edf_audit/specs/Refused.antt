@@ -4,12 +4,13 @@ use Rattle.sqlite.specs.declared.error.ErrorCode.TheVariants.{IntegerOverflow, T
 use Rattle.sqlite.specs.declared.error.Error.{Error}
 use Rattle.sqlite.specs.declared.error.Error.TheVariants.{SqliteFailure}
 use Rattle.sqlite.specs.State.{State}
+use Rattle.edf_schema.specs.Columns.{stored_records}
 use Rattle.edf_tables.specs.Refused.{IsUnmade, IsUntold}
 
 -- the rows are not checked: a query is refused, or the table of records has 2^63 - 1 rows or more
 pub data IsUnchecked (old new : State) (e : Error) : Type 0 where
   untold : IsUntold old new e → IsUnchecked old new e
-  too_many : e ≡ SqliteFailure IntegerOverflow → 9223372036854775807 ≤ length (old.now.trees 2) → IsUnchecked old new e
+  too_many : e ≡ SqliteFailure IntegerOverflow → 9223372036854775807 ≤ length (stored_records old.now.trees) → IsUnchecked old new e
 
 -- the file is not checked: a table is not made, a transaction is open, or the rows are not checked
 pub data IsUnaudited (old new : State) (e : Error) : Type 0 where

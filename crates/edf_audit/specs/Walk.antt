@@ -5,7 +5,7 @@ use Rattle.sqlite.specs.declared.error.ErrorCode.TheVariants.{OutOfMemory, Datab
 use Rattle.sqlite.specs.declared.error.Error.{Error}
 use Rattle.sqlite.specs.declared.error.Error.TheVariants.{SqliteFailure}
 use Rattle.sqlite.specs.Order.{Row}
-use Rattle.sqlite_value.specs.Order.{column}
+use Rattle.edf_schema.specs.Columns.{the_start}
 use Rattle.edf_field.specs.Number.{duration_of}
 use Rattle.edf_header.specs.Key.{Key, MayStart}
 use Rattle.edf_fragment.specs.Fragment.{DataRecord}
@@ -36,7 +36,7 @@ pub record IsNear (k : Key) (last : Option ℕ) (row : Row) : Type 0 where
   pub first : ℕ
   pub start : ℕ
   pub last_is : last ≡ Some first
-  pub start_is : column row 0 ≡ Int (pos start)
+  pub start_is : the_start row ≡ Int (pos start)
   pub order : first ≤ start
   pub near : start < first + duration_of k.duration
 
@@ -44,7 +44,7 @@ pub record IsNear (k : Key) (last : Option ℕ) (row : Row) : Type 0 where
 pub record IsLateFirst (k : Key) (last : Option ℕ) (row : Row) : Type 0 where
   pub start : ℕ
   pub last_is : last ≡ None
-  pub start_is : column row 0 ≡ Int (pos start)
+  pub start_is : the_start row ≡ Int (pos start)
   pub late : ¬ MayStart k start
 
 -- the row starts before the last
@@ -52,7 +52,7 @@ pub record IsOutOfOrder (last : Option ℕ) (row : Row) : Type 0 where
   pub first : ℕ
   pub start : ℕ
   pub last_is : last ≡ Some first
-  pub start_is : column row 0 ≡ Int (pos start)
+  pub start_is : the_start row ≡ Int (pos start)
   pub before : start < first
 
 -- a row is not told: memory ran out, or it starts before the last
