@@ -5,17 +5,14 @@ use Rattle.sqlite.specs.Order.{Row}
 use Rattle.sqlite.specs.Effect.{Database}
 use Rattle.sqlite.specs.declared.error.Error.{Error}
 use Rattle.sqlite.specs.State.{State, Executes, ExecutesIn, IsNotRun, shows_rows, IsUnchanged, IsRolledBack, KeepsCommit, Shows}
-
--- a call that is refused changes nothing, or the transaction is undone
-abbrev pub IsLeft : State → State → Type 0
-IsLeft old new = IsUnchanged old new ⊎ IsRolledBack old new
+use Rattle.edf_tables.specs.Refused.{IsLeft}
 
 -- Whatever the text is, a write that is refused leaves the transaction or undoes it.
 pub left_keeps : (old new : State) → IsLeft old new → KeepsCommit old new
 left_keeps old new (inl same) = record { was_open = λ _. same.0.was_open; committed = λ _. same.0.committed_is }
 left_keeps old new (inr undone) = record { was_open = undone.was_open; committed = λ h. (undone.undone h).1 }
 
-refused_left : (sql : List ℕ) (params : Row) (old new : State) (r : Result ℕ Error) → Executes sql params old new r → OnErr r (IsLeft old new)
+pub refused_left : (sql : List ℕ) (params : Row) (old new : State) (r : Result ℕ Error) → Executes sql params old new r → OnErr r (IsLeft old new)
 unfolding ExecutesIn IsNotRun
 refused_left sql params old new (Ok count) h = tt
 refused_left sql params old new (Err e) (inl (inl h)) = inl h.1

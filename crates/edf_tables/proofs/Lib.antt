@@ -4,6 +4,7 @@ pub mod ApartLemmas
 pub mod CommitLemmas
 pub mod CreateLemmas
 pub mod EndLemmas
+pub mod FileLemmas
 pub mod HeldLemmas
 pub mod KeepLemmas
 pub mod Queries

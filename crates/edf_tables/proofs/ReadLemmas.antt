@@ -1,5 +1,5 @@
 -- What any query leaves of a connection.
-use Rattle.std.proofs.Common.{inl, inr, List, ℕ, Result, Ok, Err, IfOk, OnOk, IfErr, Vec, Global, subst, arith}
+use Rattle.std.proofs.Common.{inl, inr, List, ℕ, Result, Ok, Err, IfOk, OnOk, OnErr, IfErr, Vec, Global, subst, arith}
 use Rattle.sqlite.specs.Order.{Row}
 use Rattle.sqlite.specs.declared.error.Error.{Error}
 use Rattle.sqlite.specs.Listing.{understood}
@@ -7,7 +7,8 @@ use Rattle.sqlite.specs.State.{State, HasCleanDisk, Survives, Shown, FailsToQuer
 use Rattle.sqlite.specs.Clock.{timed}
 use Rattle.sqlite.proofs.StateLemmas.{survives_weaker}
 use Rattle.sqlite.proofs.Callers.{IsPlain, never_commits}
-use Rattle.edf_tables.proofs.KeepLemmas.{IsLeft, left_keeps}
+use Rattle.edf_tables.specs.Refused.{IsLeft}
+use Rattle.edf_tables.proofs.KeepLemmas.{left_keeps}
 
 module _ (sql : List ℕ) (params : Row) (old new : State) (plain : IsPlain (understood old.now.schema sql)) where
   pub shown_same : (rows : List Row) → Shown sql params old new rows → IsUnchanged old new
@@ -23,6 +24,10 @@ module _ (sql : List ℕ) (params : Row) (old new : State) (plain : IsPlain (und
   query_left e (inr h) =
       let bare = (subst IsPlain h.1.is plain).0 in
       inl (subst (FailsToShow old new sql h.0 (timed params h.0.formats h.1.now) e) bare h.2).3
+
+  pub query_refused : {X : Type 0} (r : Result X Error) → IfErr r (FailsToQuery sql params old new) → OnErr r (IsLeft old new)
+  query_refused (Ok x) h = tt
+  query_refused (Err e) h = query_left e h
 
   pub query_same : (r : Result (Vec Row Global) Error) → IfOk r (λ rows. Shown sql params old new rows.items) → OnOk r (IsUnchanged old new)
   query_same (Ok rows) h = shown_same rows.items h

@@ -1,9 +1,10 @@
 -- What CREATE TABLE IF NOT EXISTS does to the two tables.
-use Rattle.std.specs.Prelude.{◌≡◌, []}
+use Rattle.std.specs.Prelude.{◌≡◌, ◌⊎◌, [], false, IsTrue}
 use Rattle.sqlite.specs.Tree.{Trees}
 use Rattle.sqlite.specs.Schema.{Schema}
 use Rattle.sqlite.specs.Effect.{Database, IsDatabase}
 use Rattle.edf_schema.specs.Columns.{stored_recordings, stored_records}
+use Rattle.sqlite.specs.State.{State}
 use Rattle.edf_tables.specs.Schema.{no_schema, one_schema, both_schema, AreOurs}
 
 -- a file with neither table, with the first or with both, and with nothing else
@@ -26,6 +27,18 @@ pub data HasTables (old new : Database) : Type 0 where
   from_none : old.schema ≡ no_schema → new.schema ≡ both_schema → stored_recordings new.trees ≡ [] → stored_records new.trees ≡ [] → HasTables old new
   from_one : old.schema ≡ one_schema → new.schema ≡ both_schema → stored_recordings new.trees ≡ stored_recordings old.trees → stored_records new.trees ≡ [] → HasTables old new
   from_both : old.schema ≡ both_schema → new ≡ old → HasTables old new
+
+-- the file is as it was, or missing tables are made, the first or both, and its rows are those that it had
+abbrev pub KeepsTables : Database → Database → Type 0
+KeepsTables old new = (new ≡ old) ⊎ (HasFirst old new ⊎ HasTables old new)
+
+-- What stays while the connection is open, whatever was answered. What is committed is as it was, or
+-- outside a transaction missing tables are made in it. What is shown is as it was, missing tables made,
+-- or it is what is committed, as where a transaction was undone.
+pub record KeepsFile (old new : State) : Type 0 where
+  pub was_open : IsTrue new.is_open → IsTrue old.is_open
+  pub committed : IsTrue new.is_open → (new.committed ≡ old.committed) ⊎ ((old.in_transaction ≡ false) × KeepsTables old.now new.committed)
+  pub shown : IsTrue new.is_open → KeepsTables old.now new.now ⊎ (new.now ≡ new.committed)
 
 -- the trees are those of a file with these tables
 abbrev pub AreOf : Schema → Trees → Type 0

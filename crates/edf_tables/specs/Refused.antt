@@ -12,7 +12,7 @@ use Rattle.sqlite_schema.specs.declared.schema.Keys.TheVariants.{Enforced}
 use Rattle.sqlite_rules.specs.declared.error.Refusal.{Refusal}
 use Rattle.sqlite_rules.specs.Edit.{IsRefused}
 use Rattle.sqlite_catalog.specs.declared.error.Refusal as alter
-use Rattle.sqlite.specs.State.{State, is_disk_error}
+use Rattle.sqlite.specs.State.{State, IsUnchanged, IsRolledBack, is_disk_error}
 use Rattle.edf_tables.specs.Schema.{both_schema}
 use Rattle.edf_tables.specs.Row.{new_row, one_row, stored_size}
 
@@ -57,3 +57,7 @@ IsCellRefused e = (at : ℕ) × (value : Value) × IsReadError at value e
 -- a query whose cells are read as values
 abbrev pub IsUntold : State → State → Error → Type 0
 IsUntold old new e = IsUnread old new e ⊎ IsCellRefused e
+
+-- what a refused statement leaves: the connection as it was, or the transaction undone
+abbrev pub IsLeft : State → State → Type 0
+IsLeft old new = IsUnchanged old new ⊎ IsRolledBack old new

@@ -4,7 +4,7 @@ ghost use Rattle.std.specs.Prelude.{◌≡◌, ◌⊎◌, [], IfErr, OnOk, OnErr
 ghost use Rattle.sqlite.specs.Held.{state};
 ghost use Rattle.sqlite.specs.State.{HasCleanDisk, Survives, KeepsCommit};
 ghost use Rattle.edf_tables.specs.Schema.{no_schema, one_schema, both_schema};
-ghost use Rattle.edf_tables.specs.Made.{IsOurs, AreOf, HasFirst, HasSecond, HasTables, IsMadeOf};
+ghost use Rattle.edf_tables.specs.Made.{IsOurs, AreOf, HasFirst, HasSecond, HasTables, KeepsFile, IsMadeOf};
 ghost use Rattle.edf_tables.specs.Refused.{IsUnmade};
 
 use sqlite::{Alter, Connection, Error};
@@ -18,6 +18,8 @@ pub fn create_recording<S: Alter>(conn: &mut Connection<S>) -> Result<usize, Err
     ensures made { HasCleanDisk (state S.Store conn.new) → OnOk result (HasFirst (state S.Store conn.old).now (state S.Store conn.new).now) }
     ensures why { HasCleanDisk (state S.Store conn.new) → IfErr result (IsUnmade (state S.Store conn.old) (state S.Store conn.new)) }
     ensures refused { HasCleanDisk (state S.Store conn.new) → OnErr result (KeepsCommit (state S.Store conn.old) (state S.Store conn.new)) }
+    ensures stays { HasCleanDisk (state S.Store conn.new) → KeepsFile (state S.Store conn.old) (state S.Store conn.new) }
+    ensures mode { HasCleanDisk (state S.Store conn.new) → OnOk result ((state S.Store conn.new).in_transaction ≡ (state S.Store conn.old).in_transaction) }
     ensures survives { Survives (state S.Store conn.old) (state S.Store conn.new) (λ db. ((state S.Store conn.old).now.schema ≡ no_schema) × AreOf one_schema db × (db 0 ≡ [])) }
 {
     conn.execute(
@@ -35,6 +37,8 @@ pub fn create_records<S: Alter>(conn: &mut Connection<S>) -> Result<usize, Error
     ensures made { HasCleanDisk (state S.Store conn.new) → OnOk result (HasSecond (state S.Store conn.old).now (state S.Store conn.new).now) }
     ensures why { HasCleanDisk (state S.Store conn.new) → IfErr result (IsUnmade (state S.Store conn.old) (state S.Store conn.new)) }
     ensures refused { HasCleanDisk (state S.Store conn.new) → OnErr result (KeepsCommit (state S.Store conn.old) (state S.Store conn.new)) }
+    ensures stays { HasCleanDisk (state S.Store conn.new) → KeepsFile (state S.Store conn.old) (state S.Store conn.new) }
+    ensures mode { HasCleanDisk (state S.Store conn.new) → OnOk result ((state S.Store conn.new).in_transaction ≡ (state S.Store conn.old).in_transaction) }
     ensures survives { Survives (state S.Store conn.old) (state S.Store conn.new) (λ db. ((state S.Store conn.old).now.schema ≡ one_schema) × AreOf both_schema db × (db 0 ≡ (state S.Store conn.old).now.trees 0) × (db 2 ≡ [])) }
 {
     conn.execute(
@@ -53,6 +57,8 @@ pub fn create_tables<S: Alter>(conn: &mut Connection<S>) -> Result<(), Error>
     requires { HasCleanDisk (state S.Store conn.old) → IsOurs (state S.Store conn.old).now }
     ensures made { HasCleanDisk (state S.Store conn.new) → OnOk result (HasTables (state S.Store conn.old).now (state S.Store conn.new).now) }
     ensures why { HasCleanDisk (state S.Store conn.new) → IfErr result (IsUnmade (state S.Store conn.old) (state S.Store conn.new)) }
+    ensures stays { HasCleanDisk (state S.Store conn.new) → KeepsFile (state S.Store conn.old) (state S.Store conn.new) }
+    ensures mode { HasCleanDisk (state S.Store conn.new) → OnOk result ((state S.Store conn.new).in_transaction ≡ (state S.Store conn.old).in_transaction) }
     ensures survives { Survives (state S.Store conn.old) (state S.Store conn.new) (IsMadeOf (state S.Store conn.old).now) }
 {
     create_recording(conn)?;

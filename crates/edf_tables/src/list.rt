@@ -1,13 +1,13 @@
 //! All recordings.
 
-ghost use Rattle.std.specs.Prelude.{◌≡◌, OnOk, IfOk, IfErr, IsPermutation, IsSorted, length, map, min};
+ghost use Rattle.std.specs.Prelude.{◌≡◌, OnOk, OnErr, IfOk, IfErr, IsPermutation, IsSorted, length, map, min};
 ghost use Rattle.sqlite.specs.Held.{state};
 ghost use Rattle.sqlite.specs.State.{HasCleanDisk, Survives, KeepsCommit, IsUnchanged};
 ghost use Rattle.sqlite.specs.declared.types.Value.TheVariants.{Blob};
 ghost use Rattle.sqlite_value.specs.Order.{column};
 ghost use Rattle.edf_schema.specs.Columns.{by_column};
 ghost use Rattle.edf_tables.specs.Schema.{both_schema};
-ghost use Rattle.edf_tables.specs.Refused.{IsUnread, IsUntold};
+ghost use Rattle.edf_tables.specs.Refused.{IsUnread, IsUntold, IsLeft};
 ghost use Rattle.edf_tables.specs.Recordings.{AreNamedApart, IsIdIn, by_identity, named, shown_recording};
 
 use crate::row::{first_count, first_number, identities_in, rows_shown};
@@ -69,6 +69,7 @@ pub fn recordings<S: Alter>(conn: &mut Connection<S>) -> Result<Vec<Row>, Error>
     ensures ordered { HasCleanDisk (state S.Store conn.new) → IfOk result (λ rows. IsSorted (by_column 0) rows.items) }
     ensures same { HasCleanDisk (state S.Store conn.new) → OnOk result (IsUnchanged (state S.Store conn.old) (state S.Store conn.new)) }
     ensures kept { HasCleanDisk (state S.Store conn.new) → KeepsCommit (state S.Store conn.old) (state S.Store conn.new) }
+    ensures refused { HasCleanDisk (state S.Store conn.new) → OnErr result (IsLeft (state S.Store conn.old) (state S.Store conn.new)) }
     ensures survives { Survives (state S.Store conn.old) (state S.Store conn.new) (λ _. ⊥) }
 {
     rows_shown(conn, "SELECT id, identity FROM recording ORDER BY id", &[])
@@ -85,6 +86,7 @@ pub fn count_all_rows<S: Alter>(conn: &mut Connection<S>) -> Result<u64, Error>
     ensures count { HasCleanDisk (state S.Store conn.new) → IfOk result (λ count. count ≡ min (length ((state S.Store conn.old).now.trees 2)) 9223372036854775807) }
     ensures same { HasCleanDisk (state S.Store conn.new) → OnOk result (IsUnchanged (state S.Store conn.old) (state S.Store conn.new)) }
     ensures kept { HasCleanDisk (state S.Store conn.new) → KeepsCommit (state S.Store conn.old) (state S.Store conn.new) }
+    ensures refused { HasCleanDisk (state S.Store conn.new) → OnErr result (IsLeft (state S.Store conn.old) (state S.Store conn.new)) }
     ensures survives { Survives (state S.Store conn.old) (state S.Store conn.new) (λ _. ⊥) }
 {
     let rows = rows_shown(conn, "SELECT count(*) FROM record", &[])?;

@@ -4,6 +4,7 @@ use Rattle.sqlite.proofs.StateLemmas.{survives_weaker}
 use Rattle.edf_tables.proofs.CreateLemmas.{first_if, first_crash}
 use Rattle.edf_tables.proofs.KeepLemmas.{write_refused}
 use Rattle.edf_tables.proofs.UnaddedLemmas.{first_unmade}
+use Rattle.edf_tables.proofs.FileLemmas.{first_file, first_mode}
 use Rattle.edf_tables.proofs.create.create_recording.Goals as goal
 
 pub returns-clause-made : goal.returns-clause-made
@@ -18,3 +19,9 @@ returns-clause-survives g c =
 
 pub returns-clause-why : goal.returns-clause-why
 returns-clause-why g c clean = first_unmade (state g.S.Store c.args.conn.now) (state g.S.Store c.execute.new.self) c.execute.result (c.requires (omega (arith, c.execute.ensures.survives.clean))) (c.execute.ensures.runs clean)
+
+pub returns-clause-stays : goal.returns-clause-stays
+returns-clause-stays g c clean = first_file (state g.S.Store c.args.conn.now) (state g.S.Store c.execute.new.self) c.execute.result (c.requires (omega (arith, c.execute.ensures.survives.clean))) (c.execute.ensures.runs clean)
+
+pub returns-clause-mode : goal.returns-clause-mode
+returns-clause-mode g c clean = first_mode (state g.S.Store c.args.conn.now) (state g.S.Store c.execute.new.self) c.execute.result (c.requires (omega (arith, c.execute.ensures.survives.clean))) (c.execute.ensures.runs clean)

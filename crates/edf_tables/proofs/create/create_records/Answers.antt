@@ -4,6 +4,7 @@ use Rattle.sqlite.proofs.StateLemmas.{survives_weaker}
 use Rattle.edf_tables.proofs.CreateLemmas.{second_if, second_crash}
 use Rattle.edf_tables.proofs.KeepLemmas.{write_refused}
 use Rattle.edf_tables.proofs.UnaddedLemmas.{second_unmade}
+use Rattle.edf_tables.proofs.FileLemmas.{second_file, second_mode}
 use Rattle.edf_tables.proofs.create.create_records.Goals as goal
 
 pub returns-clause-made : goal.returns-clause-made
@@ -18,3 +19,9 @@ returns-clause-refused g c clean = write_refused _ _ (state g.S.Store c.args.con
 
 pub returns-clause-why : goal.returns-clause-why
 returns-clause-why g c clean = second_unmade (state g.S.Store c.args.conn.now) (state g.S.Store c.execute.new.self) c.execute.result (c.requires (omega (arith, c.execute.ensures.survives.clean))) (c.execute.ensures.runs clean)
+
+pub returns-clause-stays : goal.returns-clause-stays
+returns-clause-stays g c clean = second_file (state g.S.Store c.args.conn.now) (state g.S.Store c.execute.new.self) c.execute.result (c.requires (omega (arith, c.execute.ensures.survives.clean))) (c.execute.ensures.runs clean)
+
+pub returns-clause-mode : goal.returns-clause-mode
+returns-clause-mode g c clean = second_mode (state g.S.Store c.args.conn.now) (state g.S.Store c.execute.new.self) c.execute.result (c.requires (omega (arith, c.execute.ensures.survives.clean))) (c.execute.ensures.runs clean)

@@ -7,6 +7,9 @@ use Rattle.edf_tables.proofs.AloneTexts.{count_all_alone, count_all_taken}
 use Rattle.edf_tables.proofs.QueryTexts.{count_all_text, count_all_is}
 use Rattle.edf_tables.proofs.RefusedLemmas.{query_unread, untold_if}
 use Rattle.edf_tables.proofs.ShownLemmas.{plain_at, count_all_shown, count_all_some}
+use Rattle.edf_tables.proofs.ReadLemmas.{query_left}
+use Rattle.edf_tables.specs.Refused.{IsLeft}
+use Rattle.edf_tables.proofs.KeepLemmas.{on_err}
 use Rattle.edf_tables.proofs.list.count_all_rows.Goals as goal
 
 pub rows_shown-requires : goal.rows_shown-requires
@@ -28,3 +31,15 @@ returns-clause-why g c clean =
     let old = state g.S.Store c.args.conn.now in
     let new = state g.S.Store c.rows_shown.new.conn in
     untold_if c.first_count.result old new c.in_ok-rows.rows.items (count_all_some old new c.in_ok-rows.rows.items (c.requires.schema (omega (arith, c.rows_shown.ensures.survives.clean))) (c.in_ok-rows.ensures.shown clean)) c.first_count.ensures.why
+
+pub returns-in_err-rows-clause-refused : goal.returns-in_err-rows-clause-refused
+returns-in_err-rows-clause-refused g c clean =
+    let old = state g.S.Store c.args.conn.now in
+    let new = state g.S.Store c.rows_shown.new.conn in
+    let left : IsLeft old new = query_left count_all_text [] old new (plain_at count_all_text _ _ count_all_is old (c.requires.schema (omega (arith, c.rows_shown.ensures.survives.clean)))) _ (c.in_err-rows.ensures.why clean) in
+    on_err _ left
+
+pub returns-clause-refused : goal.returns-clause-refused
+returns-clause-refused g c clean =
+    let left : IsLeft (state g.S.Store c.args.conn.now) (state g.S.Store c.rows_shown.new.conn) = inl (c.in_ok-rows.ensures.same clean) in
+    on_err c.first_count.result left

@@ -5,6 +5,7 @@ use Rattle.edf_tables.proofs.QueryTexts.{recordings_text, recordings_is}
 use Rattle.edf_tables.proofs.AloneTexts.{recordings_alone, recordings_taken}
 use Rattle.edf_tables.proofs.RefusedLemmas.{query_unread, unread_if}
 use Rattle.edf_tables.proofs.ShownLemmas.{plain_at, recordings_shown, recordings_in_order}
+use Rattle.edf_tables.proofs.ReadLemmas.{query_refused}
 use Rattle.edf_tables.proofs.list.recordings.Goals as goal
 
 pub rows_shown-requires : goal.rows_shown-requires
@@ -20,3 +21,8 @@ returns-clause-why g c clean =
 
 pub returns-clause-ordered : goal.returns-clause-ordered
 returns-clause-ordered g c clean = if_ok_then c.rows_shown.result (c.rows_shown.ensures.shown clean) (λ rows h. recordings_in_order (state g.S.Store c.args.conn.now) (state g.S.Store c.rows_shown.new.conn) rows.items (c.requires.schema (omega (arith, c.rows_shown.ensures.survives.clean))) h)
+
+pub returns-clause-refused : goal.returns-clause-refused
+returns-clause-refused g c clean =
+    let old = state g.S.Store c.args.conn.now in
+    query_refused recordings_text [] old (state g.S.Store c.rows_shown.new.conn) (plain_at recordings_text _ _ recordings_is old (c.requires.schema (omega (arith, c.rows_shown.ensures.survives.clean)))) c.rows_shown.result (c.rows_shown.ensures.why clean)
