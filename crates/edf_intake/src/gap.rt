@@ -15,8 +15,8 @@ pub(crate) struct Gap {
     pub(crate) until: Option<Instant>,
 }
 
-/// What is left of a gap after a data record that starts at `start` and lies in it, which has
-/// nothing near it. `None` where it does not lie in it, or where no gap is known.
+/// What is left of a gap after a data record that starts at `start` and lies in it. Nothing is near
+/// such a data record. `None` where it does not lie in the gap, or where no gap is known.
 pub(crate) fn gap_after(gap: Option<Gap>, start: Instant, duration: u64) -> Option<Gap>
     requires duration { duration ≤ 10 ^ 17 }
     ensures from { IfSome result (λ rest. rest.from ≡ start) }
