@@ -5,3 +5,4 @@ pub mod Records
 pub mod Row
 pub mod Refused
 pub mod Schema
+pub mod Statement

@@ -1,14 +1,14 @@
 //! All recordings.
 
-ghost use Rattle.std.specs.Prelude.{◌≡◌, OnOk, OnErr, IfOk, IfErr, IsPermutation, IsSorted, length, map, min};
-ghost use Rattle.sqlite.specs.Held.{state};
-ghost use Rattle.sqlite.specs.State.{HasCleanDisk, Survives, KeepsCommit, IsUnchanged};
+ghost use Rattle.std.specs.Prelude.{◌≡◌, IsPermutation, IsSorted, length, map, min};
 ghost use Rattle.sqlite.specs.declared.types.Value.TheVariants.{Blob};
 ghost use Rattle.sqlite_value.specs.Order.{column};
 ghost use Rattle.edf_schema.specs.Columns.{by_column};
-ghost use Rattle.edf_tables.specs.Schema.{both_schema};
 ghost use Rattle.edf_tables.specs.Refused.{IsUnread, IsUntold, IsLeft};
-ghost use Rattle.edf_tables.specs.Recordings.{AreNamedApart, IsIdIn, by_identity, named, shown_recording};
+ghost use Rattle.edf_tables.specs.Recordings.{AreNamedApart, IsIdIn, by_identity, named};
+ghost use Rattle.edf_tables.specs.Recordings.{shown_recording};
+ghost use Rattle.edf_tables.specs.Statement.{HasBothTables, tables, IfClean, Gives, OnlyReads};
+ghost use Rattle.edf_tables.specs.Statement.{FailsAs, KeepsCommitted, IsCrashSafe, LeavesOnErr};
 
 use crate::row::{first_count, first_number, identities_in, rows_shown};
 use sqlite::{Alter, Connection, Error, Row, params};
@@ -21,12 +21,13 @@ pub fn select_recording<S: Alter>(
     conn: &mut Connection<S>,
     identity: &[u8],
 ) -> Result<Option<i64>, Error>
-    requires schema { HasCleanDisk (state S.Store conn.old) → (state S.Store conn.old).now.schema ≡ both_schema }
-    ensures why { HasCleanDisk (state S.Store conn.new) → IfErr result (IsUntold (state S.Store conn.old) (state S.Store conn.new)) }
-    ensures id { HasCleanDisk (state S.Store conn.new) → IfOk result (IsIdIn (named identity.now ((state S.Store conn.old).now.trees 0))) }
-    ensures same { HasCleanDisk (state S.Store conn.new) → OnOk result (IsUnchanged (state S.Store conn.old) (state S.Store conn.new)) }
-    ensures kept { HasCleanDisk (state S.Store conn.new) → KeepsCommit (state S.Store conn.old) (state S.Store conn.new) }
-    ensures survives { Survives (state S.Store conn.old) (state S.Store conn.new) (λ _. ⊥) }
+    requires schema { IfClean S.Store conn.old HasBothTables }
+    ensures why { FailsAs S.Store conn.old conn.new result IsUntold }
+    ensures id { Gives S.Store conn.new result
+        (IsIdIn (named identity.now (tables S.Store conn.old 0))) }
+    ensures same { OnlyReads S.Store conn.old conn.new result }
+    ensures kept { KeepsCommitted S.Store conn.old conn.new }
+    ensures survives { IsCrashSafe S.Store conn.old conn.new }
 {
     let rows = rows_shown(
         conn,
@@ -41,12 +42,14 @@ pub fn select_recording<S: Alter>(
 /// # Errors
 /// `sqlite`'s, and that of a cell of another type; what is committed stays, and an open transaction may be undone.
 pub fn identities<S: Alter>(conn: &mut Connection<S>) -> Result<Vec<Vec<u8>>, Error>
-    requires apart { HasCleanDisk (state S.Store conn.old) → AreNamedApart (state S.Store conn.old) }
-    ensures why { HasCleanDisk (state S.Store conn.new) → IfErr result (IsUntold (state S.Store conn.old) (state S.Store conn.new)) }
-    ensures identities { HasCleanDisk (state S.Store conn.new) → IfOk result (λ all. map (λ b. Blob b.items) all.items ≡ map (λ row. column row 2) (by_identity ((state S.Store conn.old).now.trees 0))) }
-    ensures same { HasCleanDisk (state S.Store conn.new) → OnOk result (IsUnchanged (state S.Store conn.old) (state S.Store conn.new)) }
-    ensures kept { HasCleanDisk (state S.Store conn.new) → KeepsCommit (state S.Store conn.old) (state S.Store conn.new) }
-    ensures survives { Survives (state S.Store conn.old) (state S.Store conn.new) (λ _. ⊥) }
+    requires apart { IfClean S.Store conn.old AreNamedApart }
+    ensures why { FailsAs S.Store conn.old conn.new result IsUntold }
+    ensures identities { Gives S.Store conn.new result (λ all.
+        map (λ b. Blob b.items) all.items ≡
+        map (λ row. column row 2) (by_identity (tables S.Store conn.old 0))) }
+    ensures same { OnlyReads S.Store conn.old conn.new result }
+    ensures kept { KeepsCommitted S.Store conn.old conn.new }
+    ensures survives { IsCrashSafe S.Store conn.old conn.new }
 {
     let rows = rows_shown(
         conn,
@@ -63,14 +66,15 @@ pub fn identities<S: Alter>(conn: &mut Connection<S>) -> Result<Vec<Vec<u8>>, Er
 /// # Errors
 /// `sqlite`'s; what is committed stays, and an open transaction may be undone.
 pub fn recordings<S: Alter>(conn: &mut Connection<S>) -> Result<Vec<Row>, Error>
-    requires schema { HasCleanDisk (state S.Store conn.old) → (state S.Store conn.old).now.schema ≡ both_schema }
-    ensures why { HasCleanDisk (state S.Store conn.new) → IfErr result (IsUnread (state S.Store conn.old) (state S.Store conn.new)) }
-    ensures listed { HasCleanDisk (state S.Store conn.new) → IfOk result (λ rows. IsPermutation (map shown_recording ((state S.Store conn.old).now.trees 0)) rows.items) }
-    ensures ordered { HasCleanDisk (state S.Store conn.new) → IfOk result (λ rows. IsSorted (by_column 0) rows.items) }
-    ensures same { HasCleanDisk (state S.Store conn.new) → OnOk result (IsUnchanged (state S.Store conn.old) (state S.Store conn.new)) }
-    ensures kept { HasCleanDisk (state S.Store conn.new) → KeepsCommit (state S.Store conn.old) (state S.Store conn.new) }
-    ensures refused { HasCleanDisk (state S.Store conn.new) → OnErr result (IsLeft (state S.Store conn.old) (state S.Store conn.new)) }
-    ensures survives { Survives (state S.Store conn.old) (state S.Store conn.new) (λ _. ⊥) }
+    requires schema { IfClean S.Store conn.old HasBothTables }
+    ensures why { FailsAs S.Store conn.old conn.new result IsUnread }
+    ensures listed { Gives S.Store conn.new result (λ rows.
+        IsPermutation (map shown_recording (tables S.Store conn.old 0)) rows.items) }
+    ensures ordered { Gives S.Store conn.new result (λ rows. IsSorted (by_column 0) rows.items) }
+    ensures same { OnlyReads S.Store conn.old conn.new result }
+    ensures kept { KeepsCommitted S.Store conn.old conn.new }
+    ensures refused { LeavesOnErr S.Store conn.old conn.new result IsLeft }
+    ensures survives { IsCrashSafe S.Store conn.old conn.new }
 {
     rows_shown(conn, "SELECT id, identity FROM recording ORDER BY id", &[])
 }
@@ -81,13 +85,14 @@ pub fn recordings<S: Alter>(conn: &mut Connection<S>) -> Result<Vec<Row>, Error>
 /// # Errors
 /// `sqlite`'s, and that of a cell of another type; what is committed stays, and an open transaction may be undone.
 pub fn count_all_rows<S: Alter>(conn: &mut Connection<S>) -> Result<u64, Error>
-    requires schema { HasCleanDisk (state S.Store conn.old) → (state S.Store conn.old).now.schema ≡ both_schema }
-    ensures why { HasCleanDisk (state S.Store conn.new) → IfErr result (IsUntold (state S.Store conn.old) (state S.Store conn.new)) }
-    ensures count { HasCleanDisk (state S.Store conn.new) → IfOk result (λ count. count ≡ min (length ((state S.Store conn.old).now.trees 2)) 9223372036854775807) }
-    ensures same { HasCleanDisk (state S.Store conn.new) → OnOk result (IsUnchanged (state S.Store conn.old) (state S.Store conn.new)) }
-    ensures kept { HasCleanDisk (state S.Store conn.new) → KeepsCommit (state S.Store conn.old) (state S.Store conn.new) }
-    ensures refused { HasCleanDisk (state S.Store conn.new) → OnErr result (IsLeft (state S.Store conn.old) (state S.Store conn.new)) }
-    ensures survives { Survives (state S.Store conn.old) (state S.Store conn.new) (λ _. ⊥) }
+    requires schema { IfClean S.Store conn.old HasBothTables }
+    ensures why { FailsAs S.Store conn.old conn.new result IsUntold }
+    ensures count { Gives S.Store conn.new result (λ count.
+        count ≡ min (length (tables S.Store conn.old 2)) 9223372036854775807) }
+    ensures same { OnlyReads S.Store conn.old conn.new result }
+    ensures kept { KeepsCommitted S.Store conn.old conn.new }
+    ensures refused { LeavesOnErr S.Store conn.old conn.new result IsLeft }
+    ensures survives { IsCrashSafe S.Store conn.old conn.new }
 {
     let rows = rows_shown(conn, "SELECT count(*) FROM record", &[])?;
     first_count(rows)

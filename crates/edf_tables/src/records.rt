@@ -1,15 +1,15 @@
 //! The records of one recording.
 
-ghost use Rattle.std.specs.Prelude.{◌≡◌, OnOk, IfOk, IfErr, filter, length, map, min, reverse, slice_get, take};
+ghost use Rattle.std.specs.Prelude.{◌≡◌, filter, length, map, min, reverse, slice_get, take};
 ghost use Rattle.std.specs.Option.{option_map};
-ghost use Rattle.sqlite.specs.Held.{state};
-ghost use Rattle.sqlite.specs.State.{HasCleanDisk, Survives, KeepsCommit, IsUnchanged};
 ghost use Rattle.sqlite.specs.declared.types.Value.TheVariants.{Int};
 ghost use Rattle.sqlite_value.specs.Order.{column};
-ghost use Rattle.edf_tables.specs.Schema.{both_schema};
 ghost use Rattle.edf_tables.specs.Cells.{cells_of};
 ghost use Rattle.edf_tables.specs.Refused.{IsUntold};
-ghost use Rattle.edf_tables.specs.Records.{IsReady, records_of, shown_record, starts_after, starts_between, starts_from};
+ghost use Rattle.edf_tables.specs.Records.{IsReady, records_of, shown_record, starts_after};
+ghost use Rattle.edf_tables.specs.Records.{starts_between, starts_from};
+ghost use Rattle.edf_tables.specs.Statement.{HasBothTables, tables, IfClean, Gives, OnlyReads};
+ghost use Rattle.edf_tables.specs.Statement.{FailsAs, KeepsCommitted, IsCrashSafe};
 
 use crate::row::{RecordRow, first_count, first_number, record_rows, rows_shown};
 use sqlite::{Alter, Connection, Error, params};
@@ -24,16 +24,19 @@ pub fn near_rows<S: Alter>(
     after: i64,
     before: i64,
 ) -> Result<Vec<RecordRow>, Error>
-    requires ready { HasCleanDisk (state S.Store conn.old) → IsReady recording (state S.Store conn.old) }
-    ensures why { HasCleanDisk (state S.Store conn.new) → IfErr result (IsUntold (state S.Store conn.old) (state S.Store conn.new)) }
-    ensures near { HasCleanDisk (state S.Store conn.new) → IfOk result (λ rows. map cells_of rows.items ≡ map shown_record (filter (starts_between after before) (records_of recording ((state S.Store conn.old).now.trees 2)))) }
-    ensures same { HasCleanDisk (state S.Store conn.new) → OnOk result (IsUnchanged (state S.Store conn.old) (state S.Store conn.new)) }
-    ensures kept { HasCleanDisk (state S.Store conn.new) → KeepsCommit (state S.Store conn.old) (state S.Store conn.new) }
-    ensures survives { Survives (state S.Store conn.old) (state S.Store conn.new) (λ _. ⊥) }
+    requires ready { IfClean S.Store conn.old (IsReady recording) }
+    ensures why { FailsAs S.Store conn.old conn.new result IsUntold }
+    ensures near { Gives S.Store conn.new result (λ rows.
+        map cells_of rows.items ≡ map shown_record
+        (filter (starts_between after before) (records_of recording (tables S.Store conn.old 2)))) }
+    ensures same { OnlyReads S.Store conn.old conn.new result }
+    ensures kept { KeepsCommitted S.Store conn.old conn.new }
+    ensures survives { IsCrashSafe S.Store conn.old conn.new }
 {
     let rows = rows_shown(
         conn,
-        "SELECT start, samples, block FROM record WHERE recording = ?1 AND start > ?2 AND start < ?3 ORDER BY start",
+        "SELECT start, samples, block FROM record \
+            WHERE recording = ?1 AND start > ?2 AND start < ?3 ORDER BY start",
         params![recording, after, before],
     )?;
     record_rows(rows)
@@ -49,16 +52,20 @@ pub fn page_rows<S: Alter>(
     after: i64,
     limit: u32,
 ) -> Result<Vec<RecordRow>, Error>
-    requires ready { HasCleanDisk (state S.Store conn.old) → IsReady recording (state S.Store conn.old) }
-    ensures why { HasCleanDisk (state S.Store conn.new) → IfErr result (IsUntold (state S.Store conn.old) (state S.Store conn.new)) }
-    ensures page { HasCleanDisk (state S.Store conn.new) → IfOk result (λ rows. map cells_of rows.items ≡ map shown_record (take limit (filter (starts_after after) (records_of recording ((state S.Store conn.old).now.trees 2))))) }
-    ensures same { HasCleanDisk (state S.Store conn.new) → OnOk result (IsUnchanged (state S.Store conn.old) (state S.Store conn.new)) }
-    ensures kept { HasCleanDisk (state S.Store conn.new) → KeepsCommit (state S.Store conn.old) (state S.Store conn.new) }
-    ensures survives { Survives (state S.Store conn.old) (state S.Store conn.new) (λ _. ⊥) }
+    requires ready { IfClean S.Store conn.old (IsReady recording) }
+    ensures why { FailsAs S.Store conn.old conn.new result IsUntold }
+    ensures page { Gives S.Store conn.new result (λ rows.
+        map cells_of rows.items ≡ map shown_record
+        (take limit (filter (starts_after after)
+        (records_of recording (tables S.Store conn.old 2))))) }
+    ensures same { OnlyReads S.Store conn.old conn.new result }
+    ensures kept { KeepsCommitted S.Store conn.old conn.new }
+    ensures survives { IsCrashSafe S.Store conn.old conn.new }
 {
     let rows = rows_shown(
         conn,
-        "SELECT start, samples, block FROM record WHERE recording = ?1 AND start > ?2 ORDER BY start LIMIT ?3",
+        "SELECT start, samples, block FROM record \
+            WHERE recording = ?1 AND start > ?2 ORDER BY start LIMIT ?3",
         params![recording, after, limit],
     )?;
     record_rows(rows)
@@ -69,12 +76,14 @@ pub fn page_rows<S: Alter>(
 /// # Errors
 /// `sqlite`'s, and that of a cell of another type; what is committed stays, and an open transaction may be undone.
 pub fn count_rows<S: Alter>(conn: &mut Connection<S>, recording: i64) -> Result<u64, Error>
-    requires schema { HasCleanDisk (state S.Store conn.old) → (state S.Store conn.old).now.schema ≡ both_schema }
-    ensures why { HasCleanDisk (state S.Store conn.new) → IfErr result (IsUntold (state S.Store conn.old) (state S.Store conn.new)) }
-    ensures count { HasCleanDisk (state S.Store conn.new) → IfOk result (λ count. count ≡ min (length (records_of recording ((state S.Store conn.old).now.trees 2))) 9223372036854775807) }
-    ensures same { HasCleanDisk (state S.Store conn.new) → OnOk result (IsUnchanged (state S.Store conn.old) (state S.Store conn.new)) }
-    ensures kept { HasCleanDisk (state S.Store conn.new) → KeepsCommit (state S.Store conn.old) (state S.Store conn.new) }
-    ensures survives { Survives (state S.Store conn.old) (state S.Store conn.new) (λ _. ⊥) }
+    requires schema { IfClean S.Store conn.old HasBothTables }
+    ensures why { FailsAs S.Store conn.old conn.new result IsUntold }
+    ensures count { Gives S.Store conn.new result (λ count.
+        count ≡ min (length (records_of recording (tables S.Store conn.old 2)))
+        9223372036854775807) }
+    ensures same { OnlyReads S.Store conn.old conn.new result }
+    ensures kept { KeepsCommitted S.Store conn.old conn.new }
+    ensures survives { IsCrashSafe S.Store conn.old conn.new }
 {
     let rows = rows_shown(
         conn,
@@ -89,12 +98,14 @@ pub fn count_rows<S: Alter>(conn: &mut Connection<S>, recording: i64) -> Result<
 /// # Errors
 /// `sqlite`'s, and that of a cell of another type; what is committed stays, and an open transaction may be undone.
 pub fn first_start<S: Alter>(conn: &mut Connection<S>, recording: i64) -> Result<Option<i64>, Error>
-    requires ready { HasCleanDisk (state S.Store conn.old) → IsReady recording (state S.Store conn.old) }
-    ensures why { HasCleanDisk (state S.Store conn.new) → IfErr result (IsUntold (state S.Store conn.old) (state S.Store conn.new)) }
-    ensures first { HasCleanDisk (state S.Store conn.new) → IfOk result (λ start. option_map Int start ≡ option_map (λ row. column row 2) (slice_get (records_of recording ((state S.Store conn.old).now.trees 2)) 0)) }
-    ensures same { HasCleanDisk (state S.Store conn.new) → OnOk result (IsUnchanged (state S.Store conn.old) (state S.Store conn.new)) }
-    ensures kept { HasCleanDisk (state S.Store conn.new) → KeepsCommit (state S.Store conn.old) (state S.Store conn.new) }
-    ensures survives { Survives (state S.Store conn.old) (state S.Store conn.new) (λ _. ⊥) }
+    requires ready { IfClean S.Store conn.old (IsReady recording) }
+    ensures why { FailsAs S.Store conn.old conn.new result IsUntold }
+    ensures first { Gives S.Store conn.new result (λ start.
+        option_map Int start ≡ option_map (λ row. column row 2)
+        (slice_get (records_of recording (tables S.Store conn.old 2)) 0)) }
+    ensures same { OnlyReads S.Store conn.old conn.new result }
+    ensures kept { KeepsCommitted S.Store conn.old conn.new }
+    ensures survives { IsCrashSafe S.Store conn.old conn.new }
 {
     let rows = rows_shown(
         conn,
@@ -113,12 +124,15 @@ pub fn next_start<S: Alter>(
     recording: i64,
     from: i64,
 ) -> Result<Option<i64>, Error>
-    requires ready { HasCleanDisk (state S.Store conn.old) → IsReady recording (state S.Store conn.old) }
-    ensures why { HasCleanDisk (state S.Store conn.new) → IfErr result (IsUntold (state S.Store conn.old) (state S.Store conn.new)) }
-    ensures next { HasCleanDisk (state S.Store conn.new) → IfOk result (λ start. option_map Int start ≡ option_map (λ row. column row 2) (slice_get (filter (starts_from from) (records_of recording ((state S.Store conn.old).now.trees 2))) 0)) }
-    ensures same { HasCleanDisk (state S.Store conn.new) → OnOk result (IsUnchanged (state S.Store conn.old) (state S.Store conn.new)) }
-    ensures kept { HasCleanDisk (state S.Store conn.new) → KeepsCommit (state S.Store conn.old) (state S.Store conn.new) }
-    ensures survives { Survives (state S.Store conn.old) (state S.Store conn.new) (λ _. ⊥) }
+    requires ready { IfClean S.Store conn.old (IsReady recording) }
+    ensures why { FailsAs S.Store conn.old conn.new result IsUntold }
+    ensures next { Gives S.Store conn.new result (λ start.
+        option_map Int start ≡ option_map (λ row. column row 2)
+        (slice_get (filter (starts_from from)
+        (records_of recording (tables S.Store conn.old 2))) 0)) }
+    ensures same { OnlyReads S.Store conn.old conn.new result }
+    ensures kept { KeepsCommitted S.Store conn.old conn.new }
+    ensures survives { IsCrashSafe S.Store conn.old conn.new }
 {
     let rows = rows_shown(
         conn,
@@ -133,12 +147,14 @@ pub fn next_start<S: Alter>(
 /// # Errors
 /// `sqlite`'s, and that of a cell of another type; what is committed stays, and an open transaction may be undone.
 pub fn last_start<S: Alter>(conn: &mut Connection<S>, recording: i64) -> Result<Option<i64>, Error>
-    requires ready { HasCleanDisk (state S.Store conn.old) → IsReady recording (state S.Store conn.old) }
-    ensures why { HasCleanDisk (state S.Store conn.new) → IfErr result (IsUntold (state S.Store conn.old) (state S.Store conn.new)) }
-    ensures last { HasCleanDisk (state S.Store conn.new) → IfOk result (λ start. option_map Int start ≡ option_map (λ row. column row 2) (slice_get (reverse (records_of recording ((state S.Store conn.old).now.trees 2))) 0)) }
-    ensures same { HasCleanDisk (state S.Store conn.new) → OnOk result (IsUnchanged (state S.Store conn.old) (state S.Store conn.new)) }
-    ensures kept { HasCleanDisk (state S.Store conn.new) → KeepsCommit (state S.Store conn.old) (state S.Store conn.new) }
-    ensures survives { Survives (state S.Store conn.old) (state S.Store conn.new) (λ _. ⊥) }
+    requires ready { IfClean S.Store conn.old (IsReady recording) }
+    ensures why { FailsAs S.Store conn.old conn.new result IsUntold }
+    ensures last { Gives S.Store conn.new result (λ start.
+        option_map Int start ≡ option_map (λ row. column row 2)
+        (slice_get (reverse (records_of recording (tables S.Store conn.old 2))) 0)) }
+    ensures same { OnlyReads S.Store conn.old conn.new result }
+    ensures kept { KeepsCommitted S.Store conn.old conn.new }
+    ensures survives { IsCrashSafe S.Store conn.old conn.new }
 {
     let rows = rows_shown(
         conn,

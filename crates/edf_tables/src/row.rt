@@ -1,16 +1,19 @@
 //! Rows of SQL values as typed values.
 
-ghost use Rattle.std.specs.Prelude.{◌≡◌, ◌⊎◌, ◌∷◌, [], pos, ℕ, List, Some, IfOk, IfErr, map, slice_get, OnOk};
+ghost use Rattle.std.specs.Prelude.{◌≡◌, ◌⊎◌, ◌∷◌, [], pos, ℕ, List, Some, IfOk, IfErr, map};
+ghost use Rattle.std.specs.Prelude.{slice_get};
 ghost use Rattle.std.specs.Option.{option_map};
 ghost use Rattle.sqlite.specs.declared.types.Value.TheVariants.{Int, Blob};
 ghost use Rattle.sqlite_value.specs.Order.{column};
 ghost use Rattle.sqlite.specs.Held.{state};
 ghost use Rattle.sqlite.specs.Given.{IsPlain};
 ghost use Rattle.sqlite.specs.Listing.{understood};
-ghost use Rattle.sqlite.specs.State.{HasCleanDisk, Survives, KeepsCommit, IsUnchanged, Shown, FailsToQuery};
+ghost use Rattle.sqlite.specs.State.{Shown, FailsToQuery};
 ghost use Rattle.sqlite.specs.Values.{bound};
 ghost use Rattle.edf_tables.specs.Cells.{cells_of, first_three};
 ghost use Rattle.edf_tables.specs.Refused.{IsCellRefused};
+ghost use Rattle.edf_tables.specs.Statement.{IfClean, Gives, OnlyReads, FailsAs, KeepsCommitted};
+ghost use Rattle.edf_tables.specs.Statement.{IsCrashSafe};
 
 use sqlite::types::ValueRef;
 use sqlite::{Alter, Connection, Error, Row};
@@ -50,7 +53,8 @@ pub(crate) fn record_rows(rows: Vec<Row>) -> Result<Vec<RecordRow>, Error>
 }
 
 pub(crate) fn identities_in(rows: Vec<Row>) -> Result<Vec<Vec<u8>>, Error>
-    ensures told { IfOk result (λ found. map (λ b. Blob b.items) found.items ≡ map (λ row. column row 0) rows.items) }
+    ensures told { IfOk result (λ found.
+        map (λ b. Blob b.items) found.items ≡ map (λ row. column row 0) rows.items) }
     ensures why { IfErr result IsCellRefused }
 {
     let mut found: Vec<Vec<u8>> = Vec::new(*rows.allocator());
@@ -62,7 +66,8 @@ pub(crate) fn identities_in(rows: Vec<Row>) -> Result<Vec<Vec<u8>>, Error>
 
 /// The number in the first column of the first row, if there is a row.
 pub(crate) fn first_number(rows: Vec<Row>) -> Result<Option<i64>, Error>
-    ensures told { IfOk result (λ found. option_map Int found ≡ option_map (λ row. column row 0) (slice_get rows.items 0)) }
+    ensures told { IfOk result (λ found.
+        option_map Int found ≡ option_map (λ row. column row 0) (slice_get rows.items 0)) }
     ensures why { IfErr result IsCellRefused }
 {
     match rows.first() {
@@ -73,7 +78,8 @@ pub(crate) fn first_number(rows: Vec<Row>) -> Result<Option<i64>, Error>
 
 /// The count in the first column of the first row.
 pub(crate) fn first_count(rows: Vec<Row>) -> Result<u64, Error>
-    ensures told { IfOk result (λ found. option_map (λ row. column row 0) (slice_get rows.items 0) ≡ Some (Int (pos found))) }
+    ensures told { IfOk result (λ found.
+        option_map (λ row. column row 0) (slice_get rows.items 0) ≡ Some (Int (pos found))) }
     ensures why { IfErr result (λ e. (rows.items ≡ []) ⊎ IsCellRefused e) }
 {
     match rows.first() {
@@ -88,12 +94,15 @@ pub(crate) fn rows_shown<S: Alter>(
     sql: &str,
     params: &[ValueRef<'_>],
 ) -> Result<Vec<Row>, Error>
-    requires { HasCleanDisk (state S.Store conn.old) → IsPlain (understood (state S.Store conn.old).now.schema sql.now) }
-    ensures why { HasCleanDisk (state S.Store conn.new) → IfErr result (FailsToQuery sql.now (bound params.now) (state S.Store conn.old) (state S.Store conn.new)) }
-    ensures shown { HasCleanDisk (state S.Store conn.new) → IfOk result (λ rows. Shown sql.now (bound params.now) (state S.Store conn.old) (state S.Store conn.new) rows.items) }
-    ensures same { HasCleanDisk (state S.Store conn.new) → OnOk result (IsUnchanged (state S.Store conn.old) (state S.Store conn.new)) }
-    ensures kept { HasCleanDisk (state S.Store conn.new) → KeepsCommit (state S.Store conn.old) (state S.Store conn.new) }
-    ensures survives { Survives (state S.Store conn.old) (state S.Store conn.new) (λ _. ⊥) }
+    requires { IfClean S.Store conn.old (λ s. IsPlain (understood s.now.schema sql.now)) }
+    ensures why { FailsAs S.Store conn.old conn.new result
+        (FailsToQuery sql.now (bound params.now)) }
+    ensures shown { Gives S.Store conn.new result (λ rows.
+        Shown sql.now (bound params.now) (state S.Store conn.old)
+        (state S.Store conn.new) rows.items) }
+    ensures same { OnlyReads S.Store conn.old conn.new result }
+    ensures kept { KeepsCommitted S.Store conn.old conn.new }
+    ensures survives { IsCrashSafe S.Store conn.old conn.new }
 {
     conn.query_all(sql, params)
 }

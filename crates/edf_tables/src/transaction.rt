@@ -1,9 +1,11 @@
 //! A transaction, as the texts that begin and end it.
 
-ghost use Rattle.std.specs.Prelude.{◌≡◌, false, true, IfErr, OnOk, OnErr};
+ghost use Rattle.std.specs.Prelude.{◌≡◌, false, true};
 ghost use Rattle.sqlite.specs.Held.{state};
-ghost use Rattle.sqlite.specs.State.{HasCleanDisk, Shows, Survives, IsRolledBack, KeepsCommit};
+ghost use Rattle.sqlite.specs.State.{Shows, Survives, IsRolledBack};
 ghost use Rattle.edf_tables.specs.Refused.{IsTurnRefused};
+ghost use Rattle.edf_tables.specs.Statement.{tables, IfClean, Leaves, FailsAs, KeepsCommitted};
+ghost use Rattle.edf_tables.specs.Statement.{KeepsCommittedOnErr, IsCrashSafe};
 
 use sqlite::{Alter, Connection, Error};
 
@@ -12,10 +14,11 @@ use sqlite::{Alter, Connection, Error};
 /// # Errors
 /// `sqlite`'s, also where one is open; what is committed stays.
 pub fn begin<S: Alter>(conn: &mut Connection<S>) -> Result<(), Error>
-    ensures why { HasCleanDisk (state S.Store conn.new) → IfErr result (IsTurnRefused true (state S.Store conn.old) (state S.Store conn.new)) }
-    ensures begun { HasCleanDisk (state S.Store conn.new) → OnOk result (Shows (state S.Store conn.old) (state S.Store conn.new) (state S.Store conn.old).now (state S.Store conn.old).committed true) }
-    ensures refused { HasCleanDisk (state S.Store conn.new) → OnErr result (KeepsCommit (state S.Store conn.old) (state S.Store conn.new)) }
-    ensures survives { Survives (state S.Store conn.old) (state S.Store conn.new) (λ _. ⊥) }
+    ensures why { FailsAs S.Store conn.old conn.new result (IsTurnRefused true) }
+    ensures begun { Leaves S.Store conn.old conn.new result (λ old new.
+        Shows old new old.now old.committed true) }
+    ensures refused { KeepsCommittedOnErr S.Store conn.old conn.new result }
+    ensures survives { IsCrashSafe S.Store conn.old conn.new }
 {
     conn.execute("BEGIN", &[])?;
     Ok(())
@@ -27,11 +30,13 @@ pub fn begin<S: Alter>(conn: &mut Connection<S>) -> Result<(), Error>
 /// `sqlite`'s, also where none is open; what was committed before stays, and the transaction is over. A crash leaves that, or all
 /// of the transaction.
 pub fn commit<S: Alter>(conn: &mut Connection<S>) -> Result<(), Error>
-    ensures why { HasCleanDisk (state S.Store conn.new) → IfErr result (IsTurnRefused false (state S.Store conn.old) (state S.Store conn.new)) }
-    ensures committed { HasCleanDisk (state S.Store conn.new) → OnOk result (Shows (state S.Store conn.old) (state S.Store conn.new) (state S.Store conn.old).now (state S.Store conn.old).now false) }
-    ensures refused { HasCleanDisk (state S.Store conn.new) → OnErr result (KeepsCommit (state S.Store conn.old) (state S.Store conn.new)) }
-    ensures ended { HasCleanDisk (state S.Store conn.new) → (state S.Store conn.new).in_transaction ≡ false }
-    ensures survives { Survives (state S.Store conn.old) (state S.Store conn.new) (λ db. db ≡ (state S.Store conn.old).now.trees) }
+    ensures why { FailsAs S.Store conn.old conn.new result (IsTurnRefused false) }
+    ensures committed { Leaves S.Store conn.old conn.new result (λ old new.
+        Shows old new old.now old.now false) }
+    ensures refused { KeepsCommittedOnErr S.Store conn.old conn.new result }
+    ensures ended { IfClean S.Store conn.new (λ s. s.in_transaction ≡ false) }
+    ensures survives { Survives (state S.Store conn.old) (state S.Store conn.new) (λ db.
+        db ≡ tables S.Store conn.old) }
 {
     conn.execute("COMMIT", &[])?;
     Ok(())
@@ -42,10 +47,10 @@ pub fn commit<S: Alter>(conn: &mut Connection<S>) -> Result<(), Error>
 /// # Errors
 /// `sqlite`'s, also where none is open; what is committed stays.
 pub fn roll_back<S: Alter>(conn: &mut Connection<S>) -> Result<(), Error>
-    ensures why { HasCleanDisk (state S.Store conn.new) → IfErr result (IsTurnRefused false (state S.Store conn.old) (state S.Store conn.new)) }
-    ensures undone { HasCleanDisk (state S.Store conn.new) → OnOk result (IsRolledBack (state S.Store conn.old) (state S.Store conn.new)) }
-    ensures kept { HasCleanDisk (state S.Store conn.new) → KeepsCommit (state S.Store conn.old) (state S.Store conn.new) }
-    ensures survives { Survives (state S.Store conn.old) (state S.Store conn.new) (λ _. ⊥) }
+    ensures why { FailsAs S.Store conn.old conn.new result (IsTurnRefused false) }
+    ensures undone { Leaves S.Store conn.old conn.new result IsRolledBack }
+    ensures kept { KeepsCommitted S.Store conn.old conn.new }
+    ensures survives { IsCrashSafe S.Store conn.old conn.new }
 {
     conn.execute("ROLLBACK", &[])?;
     Ok(())

@@ -1,0 +1,52 @@
+-- What a statement does to the connection that it runs on. But for the crash, it is said of disks that return what was written.
+use Rattle.std.specs.Prelude.{◌≡◌, Result, IfOk, IfErr, OnOk, OnErr}
+use Rattle.sqlite_trees.specs.declared.store.Store.{Ghosts}
+use Rattle.sqlite_trees.specs.Tree.{Trees}
+use Rattle.sqlite.specs.Held.{Held, state}
+use Rattle.sqlite.specs.State.{State, HasCleanDisk, Survives, KeepsCommit, IsUnchanged}
+use Rattle.edf_tables.specs.Schema.{both_schema}
+
+-- both tables are there
+abbrev pub HasBothTables : State → Type 0
+HasBothTables s = s.now.schema ≡ both_schema
+
+module _ {S : Type 0} (g : Ghosts S) where
+  -- the rows of each table, as the connection shows them
+  abbrev pub tables : Held S → Trees
+  tables conn = (state g conn).now.trees
+
+  -- this is true of what the connection shows
+  abbrev pub IfClean : Held S → (State → Type 0) → Type 0
+  IfClean conn P = HasCleanDisk (state g conn) → P (state g conn)
+
+  -- a call that is done gives this
+  abbrev pub Gives : {X E : Type 0} → Held S → Result X E → (X → Type 0) → Type 0
+  Gives new result P = HasCleanDisk (state g new) → IfOk result P
+
+  -- a call that is done leaves this of what the connection showed
+  abbrev pub Leaves : {X E : Type 0} → Held S → Held S → Result X E → (State → State → Type 0) → Type 0
+  Leaves old new result P = HasCleanDisk (state g new) → OnOk result (P (state g old) (state g new))
+
+  -- a call that fails leaves this of what the connection showed
+  abbrev pub LeavesOnErr : {X E : Type 0} → Held S → Held S → Result X E → (State → State → Type 0) → Type 0
+  LeavesOnErr old new result P = HasCleanDisk (state g new) → OnErr result (P (state g old) (state g new))
+
+  -- a call that is done changed nothing
+  abbrev pub OnlyReads : {X E : Type 0} → Held S → Held S → Result X E → Type 0
+  OnlyReads old new result = HasCleanDisk (state g new) → OnOk result (IsUnchanged (state g old) (state g new))
+
+  -- a call fails for such a reason alone
+  abbrev pub FailsAs : {X E : Type 0} → Held S → Held S → Result X E → (State → State → E → Type 0) → Type 0
+  FailsAs old new result P = HasCleanDisk (state g new) → IfErr result (P (state g old) (state g new))
+
+  -- what is committed stays
+  abbrev pub KeepsCommitted : Held S → Held S → Type 0
+  KeepsCommitted old new = HasCleanDisk (state g new) → KeepsCommit (state g old) (state g new)
+
+  -- what is committed stays where the call fails
+  abbrev pub KeepsCommittedOnErr : {X E : Type 0} → Held S → Held S → Result X E → Type 0
+  KeepsCommittedOnErr old new result = HasCleanDisk (state g new) → OnErr result (KeepsCommit (state g old) (state g new))
+
+  -- a crash in the call leaves nothing but what a crash before it could leave
+  abbrev pub IsCrashSafe : Held S → Held S → Type 0
+  IsCrashSafe old new = Survives (state g old) (state g new) (λ _. ⊥)
