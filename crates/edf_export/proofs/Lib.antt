@@ -10,3 +10,4 @@ pub mod WalkLemmas
 pub mod Texts
 pub mod Planned
 pub mod Again
+pub mod Headline

@@ -1,4 +1,5 @@
 pub mod File
 pub mod Export
 pub mod Again
+pub mod Headline
 pub mod Inside

@@ -4,10 +4,13 @@ ghost use Rattle.std.specs.Prelude.{◌≡◌, ℕ, ◌≤◌, List, length, Opt
 ghost use Rattle.edf_header.specs.Key.{Key, IsKey};
 ghost use Rattle.edf_fragment.specs.Fragment.{DataRecord, Spells};
 ghost use Rattle.edf_fragment.specs.Sound.{AreSound, MayBegin};
+ghost use Rattle.edf_fragment.specs.Told.{Told};
 ghost use Rattle.edf_holdings.specs.Holdings.{Holdings, IsSound};
+ghost use Rattle.edf_holdings.specs.Laws.{AreSoundTold};
 ghost use Rattle.edf_export.specs.File.{IsCanonicalFile};
 ghost use Rattle.edf_export.specs.Export.{IsExported};
 ghost use Rattle.edf_export.specs.Again.{IsAcceptedAgain, ExportAlike};
+ghost use Rattle.edf_export.specs.Headline.{Headline, TellOneList};
 
 /// Records have one canonical file at most.
 pub fn one_canonical_file()
@@ -47,4 +50,15 @@ pub fn an_export_is_accepted_again()
 /// same bytes: what each leaves has one canonical file, and it is that of the other.
 pub fn the_same_records_export_alike()
     ensures { ExportAlike }
+{}
+
+/// The headline. What every list of submissions leaves of sound holdings has one canonical file for
+/// each key that holds something then, of the records that were held and those of the accepted
+/// members, each once, rising; a refused member leaves the holdings that it met; and lists free of
+/// conflicts with the same records are accepted whole and leave the same files. Each list of byte
+/// strings tells just one list of submissions.
+pub fn headline()
+    ensures law { (cap : ℕ) (h : Holdings) (tolds : List Told) →
+        IsSound cap h → AreSoundTold tolds → Headline cap h tolds }
+    ensures files { (files : List (List ℕ)) → TellOneList files }
 {}

@@ -2,7 +2,8 @@
 //!
 //! - [`export`]: the file of what is held under an identity.
 //! - [`ExportFault`]: why a recording is not exported.
-//! - [`laws`]: sound records have one canonical file, which is read again; functions that do nothing, each with a law for a contract.
+//! - [`laws`]: the headline; sound records have one canonical file, which is read again. Functions
+//!   that do nothing, each with a law for a contract.
 #![tactic(auto)]
 
 mod data_record;

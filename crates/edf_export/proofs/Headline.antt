@@ -1,0 +1,108 @@
+-- The headline, from the laws of lists of submissions and of canonical files.
+use Rattle.std.proofs.Common.{◌≡◌, ◌≢◌, ℕ, ◌≤◌, List, [], ◌∷◌, ◌++◌, length}
+use Rattle.std.proofs.Common.{refl, sym, ap, ◌∙◌, subst, arith}
+use Rattle.std.specs.List.{AllByRecursion, AllZip}
+use Rattle.edf_header.specs.Key.{Key}
+use Rattle.edf_fragment.specs.Fragment.{DataRecord}
+use Rattle.edf_fragment.specs.Told.{Told, Fragment, Tells}
+use Rattle.edf_fragment.proofs.Told.{some-telling, one-telling}
+use Rattle.edf_holdings.specs.Holdings.{Holdings, IsSound}
+use Rattle.edf_holdings.specs.Reply.{IsSoundTold, after_one, after, reply, IsAccepted}
+use Rattle.edf_holdings.specs.Free.{IsFragment, IsFree, SameRecords}
+use Rattle.edf_holdings.specs.Laws.{AreSoundTold}
+use Rattle.edf_holdings.proofs.Accepted.{after_has_accepted, refused_changes_nothing}
+use Rattle.edf_holdings.proofs.Free.{any_order_law, recut_law}
+use Rattle.edf_holdings.proofs.InSets.{held-sound}
+use Rattle.edf_holdings.proofs.Recut.{free_of_same}
+use Rattle.edf_holdings.proofs.Settled.{sound_front, sound_back}
+use Rattle.edf_holdings.proofs.Sound.{stays_sound}
+use Rattle.edf_holdings.proofs.ToldSound.{told_is_sound}
+use Rattle.edf_export.specs.File.{IsCanonicalFile}
+use Rattle.edf_export.specs.Headline.{IsOnlyFile, EndAlike, Headline, TellOneList}
+use Rattle.edf_export.proofs.Files.{one-file}
+use Rattle.edf_export.proofs.SomeFile.{some-file}
+
+some-long : (rs : List DataRecord) → rs ≢ [] → 1 ≤ length rs
+some-long [] some = absurd (some refl)
+some-long (r ∷ rs) some = omega arith
+
+-- what sound holdings hold has a file since it is sound, and is not too long for one by the cap
+only-file : (cap : ℕ) (h : Holdings) (k : Key) → IsSound cap h → cap ≤ 99_999_999 → h k ≢ []
+    → (file : List ℕ) × IsOnlyFile file k (h k)
+only-file cap h k sound low some =
+    let told : IsSoundTold (Fragment k (h k)) = held-sound cap h k sound some in
+    let few : length (h k) ≤ cap = sound.few k in
+    let file = some-file k (h k) told.0 told.1 told.2 (some-long (h k) some) (omega arith) in
+    (file.0, record {
+      canonical = file.1;
+      only = λ other is. one-file other file.0 k (h k) is file.1;
+    })
+
+-- the holdings that a member meets are sound, and so one that is refused leaves them
+refused-leaves : (cap : ℕ) (h : Holdings) (before : List Told) (member : Told) (later : List Told)
+    → IsSound cap h → AreSoundTold (before ++ (member ∷ later))
+    → ¬ IsAccepted (reply cap (after cap h before) member)
+    → after_one cap (after cap h before) member ≡ after cap h before
+refused-leaves cap h before member later sound told refused =
+    let front = sound_front before (member ∷ later) told in
+    let back = sound_back before (member ∷ later) told in
+    let met = stays_sound cap h before sound front in
+    refused_changes_nothing cap (after cap h before) member met back.0 refused
+
+-- since the list is free, so is the other; since they hold the same records, they leave the same
+end-alike : (cap : ℕ) (h : Holdings) (tolds others : List Told)
+    → IsSound cap h → AreSoundTold tolds → AreSoundTold others → IsFree cap h tolds
+    → AllByRecursion IsFragment others → SameRecords tolds others → EndAlike cap h tolds others
+end-alike cap h tolds others sound told other_told free fragments same =
+    let other_free = free_of_same cap h tolds others sound told other_told free fragments same in
+    let left : after cap h tolds ≡ after cap h others =
+    recut_law cap h tolds others sound told other_told free other_free same in
+    record {
+      accepted = (any_order_law cap h tolds sound told free).0;
+      others_accepted = (any_order_law cap h others sound other_told other_free).0;
+      same_file = λ k file. (
+        subst (λ (held : Holdings). IsCanonicalFile file k (held k)) left,
+        subst (λ (held : Holdings). IsCanonicalFile file k (held k)) (sym left),
+      );
+    }
+
+pub headline : (cap : ℕ) (h : Holdings) (tolds : List Told)
+    → IsSound cap h → AreSoundTold tolds → Headline cap h tolds
+headline cap h tolds sound told =
+    let left : IsSound cap (after cap h tolds) = stays_sound cap h tolds sound told in
+    record {
+      one_file = λ low k some. only-file cap (after cap h tolds) k left low some;
+      its_records = λ k. record {
+        those = λ r. after_has_accepted cap h tolds k r sound told;
+        rising = left.rising k;
+      };
+      refused = λ before member later splits refused.
+          refused-leaves cap h before member later sound (subst AreSoundTold splits told) refused;
+      alike = λ others other_told free fragments same.
+          end-alike cap h tolds others sound told other_told free fragments same;
+    }
+
+-- no bytes tell two things, so no files tell two lists
+only-none : (others : List Told) → AllZip Tells [] others → others ≡ []
+only-none [] all = refl
+only-none (other ∷ others) all = absurd all
+
+only-more : (bytes : List ℕ) (files : List (List ℕ)) (told : Told) (tolds : List Told)
+    → Tells bytes told → ((others : List Told) → AllZip Tells files others → others ≡ tolds)
+    → (others : List Told) → AllZip Tells (bytes ∷ files) others → others ≡ told ∷ tolds
+only-more bytes files told tolds tells only [] all = absurd all
+only-more bytes files told tolds tells only (other ∷ others) all =
+    ap (λ (t : Told). t ∷ others) (one-telling bytes other told all.0 tells)
+    ∙ ap (λ (ts : List Told). told ∷ ts) (only others all.1)
+
+pub tells-one : (files : List (List ℕ)) → TellOneList files
+tells-one [] = record { tolds = []; told = tt; sound = tt; only = only-none }
+tells-one (bytes ∷ files) =
+    let here = some-telling bytes in
+    let more = tells-one files in
+    record {
+      tolds = here.0 ∷ more.tolds;
+      told = (here.1, more.told);
+      sound = (told_is_sound bytes here.0 here.1, more.sound);
+      only = only-more bytes files here.0 more.tolds here.1 more.only;
+    }

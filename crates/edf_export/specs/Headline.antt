@@ -1,0 +1,57 @@
+-- The headline: what any list of submissions leaves, and which lists leave the same files.
+use Rattle.std.specs.Prelude.{◌≡◌, ◌≢◌, ◌⊎◌, ◌↔◌, ℕ, ◌≤◌, List, [], ◌∷◌, ◌++◌, All, Contains}
+use Rattle.std.specs.List.{AllByRecursion, AllZip}
+use Rattle.edf_header.specs.Key.{Key}
+use Rattle.edf_fragment.specs.Fragment.{DataRecord}
+use Rattle.edf_fragment.specs.Told.{Told, Tells}
+use Rattle.edf_holdings.specs.Rising.{IsRising}
+use Rattle.edf_holdings.specs.Holdings.{Holdings}
+use Rattle.edf_holdings.specs.Reply.{after_one, after, reply, replies, IsAccepted}
+use Rattle.edf_holdings.specs.Free.{IsFragment, IsFree, SameRecords}
+use Rattle.edf_holdings.specs.Laws.{AreSoundTold}
+use Rattle.edf_holdings.specs.Meaning.{FromAccepted}
+use Rattle.edf_export.specs.File.{IsCanonicalFile}
+
+-- these bytes are the canonical file of the key's records, and no other bytes are
+pub record IsOnlyFile (file : List ℕ) (k : Key) (records : List DataRecord) : Type 0 where
+  pub canonical : IsCanonicalFile file k records
+  pub only : (other : List ℕ) → IsCanonicalFile other k records → other ≡ file
+
+module _ (cap : ℕ) (h : Holdings) where
+  -- the records are those that h held under the key and those of the accepted members, each once,
+  -- by rising starts
+  pub record AreGathered (tolds : List Told) (k : Key) (records : List DataRecord) : Type 0 where
+    pub those : (r : DataRecord) →
+        Contains records r ↔ (Contains (h k) r ⊎ FromAccepted cap h tolds k r)
+    pub rising : IsRising records
+
+  -- each member of both lists is accepted, and each key's file is the same bytes after both
+  pub record EndAlike (tolds others : List Told) : Type 0 where
+    pub accepted : All IsAccepted (replies cap h tolds)
+    pub others_accepted : All IsAccepted (replies cap h others)
+    pub same_file : (k : Key) (file : List ℕ) →
+        IsCanonicalFile file k (after cap h tolds k) ↔ IsCanonicalFile file k (after cap h others k)
+
+  -- of sound holdings h, and of a list of what byte strings tell:
+  pub record Headline (tolds : List Told) : Type 0 where
+    -- each key that holds something after the list has exactly one canonical file, under every cap
+    -- that a store may have
+    pub one_file : cap ≤ 99_999_999 → (k : Key) → after cap h tolds k ≢ [] →
+        (file : List ℕ) × IsOnlyFile file k (after cap h tolds k)
+    -- its records are those that h held and those of the accepted members, each once, rising
+    pub its_records : (k : Key) → AreGathered tolds k (after cap h tolds k)
+    -- a member that is refused leaves the holdings that it met
+    pub refused : (before : List Told) (member : Told) (later : List Told) →
+        tolds ≡ before ++ (member ∷ later) → ¬ IsAccepted (reply cap (after cap h before) member) →
+        after_one cap (after cap h before) member ≡ after cap h before
+    -- where the list is free of conflicts, it and each list of fragments with the same records,
+    -- however cut, ordered or repeated, are accepted whole, and leave the same files
+    pub alike : (others : List Told) → AreSoundTold others → IsFree cap h tolds →
+        AllByRecursion IsFragment others → SameRecords tolds others → EndAlike tolds others
+
+-- a list of byte strings, as files are, tells just one list, and of that list the headline speaks
+pub record TellOneList (files : List (List ℕ)) : Type 0 where
+  pub tolds : List Told
+  pub told : AllZip Tells files tolds
+  pub sound : AreSoundTold tolds
+  pub only : (others : List Told) → AllZip Tells files others → others ≡ tolds
