@@ -13,6 +13,7 @@
 //! - `words`: words, read as an order or told why not.
 //! - `stories`: the lines of orders, and how they end.
 //! - `exports`: exports, byte for byte.
+//! - `headline`: what `docs/HEADLINE.md` says, as one story.
 //! - `answers`: receipts, refusals and what is held after them, by value.
 //! - `uncounted`, `several_signals`: all this of files that do not count their data records, and of
 //!   files of several annotations signals.
@@ -66,6 +67,8 @@ mod files;
 mod flushes;
 #[cfg(test)]
 mod foreign;
+#[cfg(test)]
+mod headline;
 #[cfg(test)]
 mod held;
 #[cfg(test)]
