@@ -3,7 +3,7 @@ use Rattle.std.proofs.Common.{◌≡◌, ◌≢◌, ℕ, zero, suc, ◌+◌, ◌
 use Rattle.std.specs.List.{AllByRecursion}
 use Rattle.std.proofs.Math.Path.{fun_ext}
 use Rattle.std.proofs.lemmas.Bool.Decides.{nat_tests}
-use Rattle.std.proofs.lemmas.List.{length-map, append-nil}
+use Rattle.std.proofs.lemmas.List.{length-map}
 use Rattle.std.proofs.lemmas.List.Elements.{All-contains, recursion_from_All}
 use Rattle.std.proofs.lemmas.List.Sorted.{sum_by-IsPermutation}
 use Rattle.std.proofs.lemmas.List.Sums.{sum_by-cons}
@@ -15,9 +15,7 @@ use Rattle.edf_field.specs.Number.{duration_of}
 use Rattle.edf_header.specs.Key.{Key, IsKey, MayStart, key_bytes, key_at}
 use Rattle.edf_header.proofs.Cited.{key-back}
 use Rattle.edf_tal.specs.Canonical.{block_text}
-use Rattle.edf_tal.specs.Block.{IsRead}
-use Rattle.edf_tal.specs.declared.place.Place.TheVariants.{Any}
-use Rattle.edf_tal.proofs.Cited.{one-writing, read-any}
+use Rattle.edf_tal.proofs.Cited.{one-writing}
 use Rattle.edf_fragment.specs.Fragment.{DataRecord}
 use Rattle.edf_holdings.specs.Same.{same_key}
 use Rattle.edf_fragment.specs.Sound.{IsSoundRecord, MayBegin}
@@ -28,6 +26,7 @@ use Rattle.edf_holdings.proofs.Joining.{IsGood-from_sound}
 use Rattle.edf_rows.specs.Cells.{record_cells, recording_cells, recordings_in}
 use Rattle.edf_rows.specs.Rows.{IsThere, IsRecording, IsOwned, StandFor, AreKept}
 use Rattle.edf_rows.specs.Foreign.{IsBadRow, bad_start, bad_samples, bad_block, AreTooNear, BeginsTooLate, AreBadRecords, bad_row, too_near, too_late, too_few, too_many, IsForeign, bad_recording, bad_records, without_recording, twice}
+use Rattle.edf_rows.proofs.CellLemmas.{own-read}
 
 -- ---- members
 pub here : {X : Type 0} (x : X) (xs : List X) → Contains (x ∷ xs) x
@@ -192,7 +191,7 @@ not-bad k r s (bad_block none) = none (record {
   start = r.start;
   list = r.annotations;
   is_block = refl;
-  read = subst (λ (b : List ℕ). IsRead b 0 Any r.start r.annotations) (append-nil (block_text 0 r.start r.annotations)) (read-any 0 r.start 0 r.annotations (omega arith) s.start s.notes s.limits);
+  read = own-read k r s;
   written = refl;
   starts = refl;
 })

@@ -11,6 +11,10 @@ use Rattle.edf_fragment.specs.Fragment.{DataRecord}
 use Rattle.edf_fragment.specs.Sound.{IsSoundRecord, AreSound, MayBegin}
 use Rattle.edf_rows.specs.Cells.{record_cells, recording_cells, records_in}
 
+-- the block gives nothing
+abbrev pub IsUnread : List ℕ → Type 0
+IsUnread block = (start : ℕ) (list : List Annotation) → ¬ IsRead block 0 Any start list
+
 -- the block gives this start and list, and is the one that is written for them
 pub record OwnBlock (block : List ℕ) (start : ℕ) (list : List Annotation) : Type 0 where
   pub read : IsRead block 0 Any start list

@@ -1,11 +1,13 @@
-ghost use Rattle.std.specs.Prelude.{◌≡◌, ◌∷◌, [], ◌≤◌, pos, length, IfOk, IfSome, MatchOption};
+ghost use Rattle.std.specs.Prelude.{◌≡◌, ◌∷◌, [], ℤ, Some, List, pos, IfOk, MatchOption};
 ghost use Rattle.sqlite_value.specs.declared.value.Value.TheVariants.{Int, Blob};
+ghost use Rattle.edf_header.specs.Key.{Key, IsKey};
+ghost use Rattle.edf_tal.specs.Tal.{Annotation};
+ghost use Rattle.edf_tal.specs.Block.{IsRead};
+ghost use Rattle.edf_tal.specs.declared.place.Place.TheVariants.{Any};
 ghost use Rattle.edf_tal.specs.Canonical.{block_text};
 ghost use Rattle.edf_fragment.specs.Fragment.{DataRecord};
-ghost use Rattle.edf_fragment.specs.Sound.{IsSoundRecord};
-ghost use Rattle.edf_rows.specs.Cells.{record_cells};
 ghost use Rattle.edf_rows.specs.Foreign.{IsBadRow};
-ghost use Rattle.edf_rows.specs.Shape.{OwnBlock, NoOwnBlock, IsRowOf};
+ghost use Rattle.edf_rows.specs.Shape.{IsUnread, OwnBlock, NoOwnBlock, IsRowOf};
 
 use edf_fragment::Record;
 use edf_header::Identity;
@@ -23,19 +25,14 @@ fn base() -> Instant
     }
 }
 
-/// The start and the annotations of a block, if it is the one that is written for them.
-fn read_own_block(alloc: Global, block: &[u8]) -> Result<Option<(Instant, Vec<Note>)>, AllocError>
-    ensures { IfOk result (λ o. MatchOption o (NoOwnBlock block.now) (λ r. OwnBlock block.now r.0 r.1.items)) }
+/// The start and the annotations of a stored block; `None` where it is no block.
+fn read_cell(alloc: Global, block: &[u8]) -> Result<Option<(Instant, Vec<Note>)>, AllocError>
+    ensures { IfOk result (λ o. MatchOption o
+        (IsUnread block.now)
+        (λ r. IsRead block.now 0 Any r.0 r.1.items)) }
 {
     match read_block(alloc, block, base(), Place::Any) {
-        Ok((start, notes)) => {
-            let written = write_block(alloc, start, notes.as_slice(), base())?;
-            if written.as_slice() == block {
-                Ok(Some((start, notes)))
-            } else {
-                Ok(None)
-            }
-        }
+        Ok((start, notes)) => Ok(Some((start, notes))),
         Err(fault) => {
             if fault == TalFault::Memory {
                 Err(AllocError)
@@ -46,37 +43,28 @@ fn read_own_block(alloc: Global, block: &[u8]) -> Result<Option<(Instant, Vec<No
     }
 }
 
+/// The start of a block, if it is the block that is written for what it gives.
+fn own_start(alloc: Global, block: &[u8]) -> Result<Option<Instant>, AllocError>
+    ensures { IfOk result (λ o. MatchOption o
+        (NoOwnBlock block.now)
+        (λ start. (list : List Annotation) × OwnBlock block.now start list)) }
+{
+    let Some((start, notes)) = read_cell(alloc, block)? else {
+        return Ok(None);
+    };
+    let written = write_block(alloc, start, notes.as_slice(), base())?;
+    if written.as_slice() == block {
+        Ok(Some(start))
+    } else {
+        Ok(None)
+    }
+}
+
 /// The cell of a start: nanoseconds from 1985-01-01 00:00:00.
 pub fn start_of(start: Instant) -> i64
     ensures { result ≡ pos start }
 {
     start.nanos() as i64
-}
-
-/// The start and the annotations of a row, if it is a data record of the identity.
-fn read_row(
-    alloc: Global,
-    identity: &Identity,
-    start: i64,
-    samples: &[u8],
-    block: &[u8],
-) -> Result<Option<(Instant, Vec<Note>)>, AllocError>
-    ensures small { IfOk result (λ o. IfSome o (λ _. length samples.now ≤ 4_194_304)) }
-    ensures row { IfOk result (λ o. MatchOption o
-        (IsBadRow identity.now (Int start ∷ Blob samples.now ∷ Blob block.now ∷ []))
-        (λ r. IsRowOf identity.now (record { start = r.0; samples = samples.now; annotations = r.1.items }) (Int start ∷ Blob samples.now ∷ Blob block.now ∷ []))) }
-{
-    if samples.len() != identity.ordinary_bytes() {
-        return Ok(None);
-    }
-    let Some((instant, notes)) = read_own_block(alloc, block)? else {
-        return Ok(None);
-    };
-    if start_of(instant) == start {
-        Ok(Some((instant, notes)))
-    } else {
-        Ok(None)
-    }
 }
 
 /// The start of a row, if its cells are those of a data record of the identity; `None` where the
@@ -96,34 +84,37 @@ pub fn check_row(
         (IsBadRow identity.now (Int start ∷ Blob samples.now ∷ Blob block.now ∷ []))
         (λ s. (r : DataRecord) × (s ≡ r.start) × IsRowOf identity.now r (Int start ∷ Blob samples.now ∷ Blob block.now ∷ []))) }
 {
-    let Some((instant, _notes)) = read_row(alloc, identity, start, samples, block)? else {
+    if samples.len() != identity.ordinary_bytes() {
+        return Ok(None);
+    }
+    let Some(instant) = own_start(alloc, block)? else {
         return Ok(None);
     };
-    Ok(Some(instant))
+    if start_of(instant) == start {
+        Ok(Some(instant))
+    } else {
+        Ok(None)
+    }
 }
 
-/// The data record that the cells of a row stand for, if they are those of one of the identity; `None` as by `check_row`.
+/// The data record of a row that `check_row` accepts, by the samples and the block of the row.
+///
+/// Of another row it gives any data record, or `None`: the block is not written again to compare it.
 ///
 /// # Errors
 /// Where memory runs out, which says nothing of the row.
-pub fn record_of(
+pub fn record_from(
     alloc: Global,
-    identity: &Identity,
-    start: i64,
-    samples: &[u8],
+    samples: Vec<u8>,
     block: &[u8],
 ) -> Result<Option<Record>, AllocError>
-    ensures { IfOk result (λ o. MatchOption o
-        (IsBadRow identity.now (Int start ∷ Blob samples.now ∷ Blob block.now ∷ []))
-        (λ r. IsRowOf identity.now r (Int start ∷ Blob samples.now ∷ Blob block.now ∷ []))) }
+    ensures { IfOk result (λ o. (k : Key) (r : DataRecord) (start : ℤ) → IsKey k →
+        IsRowOf k r (Int start ∷ Blob samples.items ∷ Blob block.now ∷ []) → o ≡ Some r) }
 {
-    let Some((instant, notes)) = read_row(alloc, identity, start, samples, block)? else {
+    let Some((start, notes)) = read_cell(alloc, block)? else {
         return Ok(None);
     };
-    match Record::new(instant, Vec::from_slice(alloc, samples)?, notes) {
-        Some(record) => Ok(Some(record)),
-        None => unreachable!(),
-    }
+    Ok(Record::new(start, samples, notes))
 }
 
 /// The cell of a data record's annotations: the block that is written for them with 1985-01-01 00:00:00 for a base.

@@ -4,7 +4,8 @@
 //! nanoseconds from 1985-01-01 00:00:00, its samples, and its annotations as the block that is written with that moment
 //! for a base, without fill.
 //!
-//! - [`check_row`], [`record_of`]: whether the cells of a row are those of a data record, and which.
+//! - [`check_row`]: whether the cells of a row are those of a data record.
+//! - [`record_from`]: which data record, of a row that was checked.
 //! - [`block_of`], [`start_of`]: the cells of a data record.
 //! - [`laws`]: rows stand for one holdings at most, and are not foreign where they stand for sound ones.
 #![tactic(auto)]
@@ -12,4 +13,4 @@
 mod cells;
 pub mod laws;
 
-pub use cells::{block_of, check_row, record_of, start_of};
+pub use cells::{block_of, check_row, record_from, start_of};

@@ -2,7 +2,7 @@
 
 use edf_fragment::Record;
 use edf_header::Identity;
-use edf_rows::{block_of, check_row, record_of, start_of};
+use edf_rows::{block_of, check_row, record_from, start_of};
 use edf_sample::named;
 use edf_tal::Note;
 use edf_time::Instant;
@@ -25,32 +25,30 @@ fn identity_q(alloc: Global) -> Option<Identity> {
     Identity::from_bytes(alloc, bytes.as_slice()).ok()
 }
 
-/// Whether a row is a data record's that starts there; `None` where the two calls that tell disagree, or tell another start.
-fn is_a_row(alloc: Global, start: i64, samples: &[u8], block: &[u8]) -> Option<bool> {
-    let identity = identity_q(alloc)?;
-    let row = check_row(alloc, &identity, start, samples, block).ok()?;
-    let record = record_of(alloc, &identity, start, samples, block).ok()?;
-    match (&row, &record) {
-        (None, None) => Some(false),
-        (Some(told), Some(record)) => {
-            if start_of(*told) == start && start_of(record.start()) == start {
-                Some(true)
-            } else {
-                None
-            }
-        }
-        _ => None,
-    }
+/// The data record that is read from the samples and the block of a row.
+fn record_read(alloc: Global, samples: &[u8], block: &[u8]) -> Option<Record> {
+    let samples = Vec::from_slice(alloc, samples).ok()?;
+    record_from(alloc, samples, block).ok()?
 }
 
-/// The data record of a row with the samples of Q.
-fn record_with(alloc: Global, block: &[u8]) -> Option<Record> {
-    record_of(alloc, &identity_q(alloc)?, START, FOUR, block).ok()?
+/// Whether a row is a data record's that starts there; `None` where the check tells another start,
+/// or the data record that is read has one.
+fn is_a_row(alloc: Global, start: i64, samples: &[u8], block: &[u8]) -> Option<bool> {
+    let identity = identity_q(alloc)?;
+    let Some(told) = check_row(alloc, &identity, start, samples, block).ok()? else {
+        return Some(false);
+    };
+    let record = record_read(alloc, samples, block)?;
+    if start_of(told) == start && start_of(record.start()) == start {
+        Some(true)
+    } else {
+        None
+    }
 }
 
 #[test]
 fn a_row_is_read_as_it_was_written(rt: HostRuntime) -> Result<(), Fail> {
-    let record = record_with(rt.alloc(), TWO).ok_or("a data record")?;
+    let record = record_read(rt.alloc(), FOUR, TWO).ok_or("a data record")?;
     assert_eq!(rt; start_of(record.start()), START);
     assert_eq!(rt; record.samples(), FOUR);
     assert_eq!(rt; record.notes().len(), 2);
