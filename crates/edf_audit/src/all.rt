@@ -1,14 +1,16 @@
 //! All rows of both tables.
 
-ghost use Rattle.std.specs.Prelude.{◌≡◌, ◌<◌, ◌^◌, ◌-◌, IfOk, IfErr, OnOk, OnErr, IfSome, MatchOption, IsPermutation, IsSorted, IsTrue};
+ghost use Rattle.std.specs.Prelude.{◌<◌, ◌^◌, ◌-◌, IfOk, IfSome, MatchOption, IsPermutation};
+ghost use Rattle.std.specs.Prelude.{IsSorted, IsTrue};
 ghost use Rattle.sqlite.specs.Held.{state};
-ghost use Rattle.sqlite.specs.State.{HasCleanDisk, IsLive, Survives, KeepsCommit};
+ghost use Rattle.sqlite.specs.State.{HasCleanDisk, IsLive};
 ghost use Rattle.edf_schema.specs.Columns.{by_column};
-ghost use Rattle.edf_tables.specs.Schema.{both_schema};
 ghost use Rattle.edf_rows.specs.Cells.{recordings_in};
 ghost use Rattle.edf_audit.specs.Kept.{KeepsRows};
 ghost use Rattle.edf_audit.specs.Refused.{IsUnchecked};
 ghost use Rattle.edf_audit.specs.All.{IsAfter, IsNotAfter, Counts, Answers};
+ghost use Rattle.edf_tables.specs.Statement.{HasBothTables, tables, IfClean, Gives, Leaves};
+ghost use Rattle.edf_tables.specs.Statement.{FailsAs, KeepsCommittedOnErr, IsCrashSafe};
 
 use crate::check::check_row;
 use edf_tables::{count_all_rows, recordings};
@@ -48,15 +50,16 @@ fn count_owned<S: Alter>(
     cap: u32,
 ) -> Result<Option<u64>, Error>
     requires cap { cap < 2 ^ 32 - 1 }
-    requires schema { HasCleanDisk (state S.Store conn.old) → (state S.Store conn.old).now.schema ≡ both_schema }
-    requires listed { HasCleanDisk (state S.Store conn.old) → IsPermutation (recordings_in (state S.Store conn.old).now.trees) rows.now }
+    requires schema { IfClean S.Store conn.old HasBothTables }
+    requires listed { IfClean S.Store conn.old (λ s.
+        IsPermutation (recordings_in s.now.trees) rows.now) }
     requires ordered { HasCleanDisk (state S.Store conn.old) → IsSorted (by_column 0) rows.now }
-    ensures why { HasCleanDisk (state S.Store conn.new) → IfErr result (IsUnchecked (state S.Store conn.old) (state S.Store conn.new)) }
-    ensures counts { HasCleanDisk (state S.Store conn.new) → IfOk result (Counts cap (state S.Store conn.old).now.trees rows.now) }
+    ensures why { FailsAs S.Store conn.old conn.new result IsUnchecked }
+    ensures counts { Gives S.Store conn.new result (Counts cap (tables S.Store conn.old) rows.now) }
     ensures low { IfOk result (λ o. IfSome o (λ sum. sum < 2 ^ 63 - 1)) }
-    ensures same { HasCleanDisk (state S.Store conn.new) → OnOk result (KeepsRows (state S.Store conn.old) (state S.Store conn.new)) }
-    ensures refused { HasCleanDisk (state S.Store conn.new) → OnErr result (KeepsCommit (state S.Store conn.old) (state S.Store conn.new)) }
-    ensures survives { Survives (state S.Store conn.old) (state S.Store conn.new) (λ _. ⊥) }
+    ensures same { Leaves S.Store conn.old conn.new result KeepsRows }
+    ensures refused { KeepsCommittedOnErr S.Store conn.old conn.new result }
+    ensures survives { IsCrashSafe S.Store conn.old conn.new }
 {
     let mut sum: u64 = 0;
     let mut last = None;
@@ -90,13 +93,13 @@ fn obey<S: Alter>(conn: &Connection<S>)
 /// `sqlite`'s; `OutOfMemory` where memory runs out; `IntegerOverflow` where the recordings have 9,223,372,036,854,775,807 records or more.
 pub fn check_all<S: Alter>(alloc: Global, conn: &mut Connection<S>, cap: u32) -> Result<bool, Error>
     requires cap { cap < 2 ^ 32 - 1 }
-    requires schema { HasCleanDisk (state S.Store conn.old) → (state S.Store conn.old).now.schema ≡ both_schema }
-    ensures why { HasCleanDisk (state S.Store conn.new) → IfErr result (IsUnchecked (state S.Store conn.old) (state S.Store conn.new)) }
-    ensures answers { HasCleanDisk (state S.Store conn.new) → IfOk result (Answers cap (state S.Store conn.old).now.trees) }
-    ensures same { HasCleanDisk (state S.Store conn.new) → OnOk result (KeepsRows (state S.Store conn.old) (state S.Store conn.new)) }
-    ensures is_open { HasCleanDisk (state S.Store conn.new) → OnOk result (IsTrue (state S.Store conn.new).is_open) }
-    ensures refused { HasCleanDisk (state S.Store conn.new) → OnErr result (KeepsCommit (state S.Store conn.old) (state S.Store conn.new)) }
-    ensures survives { Survives (state S.Store conn.old) (state S.Store conn.new) (λ _. ⊥) }
+    requires schema { IfClean S.Store conn.old HasBothTables }
+    ensures why { FailsAs S.Store conn.old conn.new result IsUnchecked }
+    ensures answers { Gives S.Store conn.new result (Answers cap (tables S.Store conn.old)) }
+    ensures same { Leaves S.Store conn.old conn.new result KeepsRows }
+    ensures is_open { Leaves S.Store conn.old conn.new result (λ _ new. IsTrue new.is_open) }
+    ensures refused { KeepsCommittedOnErr S.Store conn.old conn.new result }
+    ensures survives { IsCrashSafe S.Store conn.old conn.new }
 {
     let found = recordings(conn)?;
     let Some(sum) = count_owned(alloc, conn, &found, cap)? else {

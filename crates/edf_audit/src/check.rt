@@ -1,12 +1,12 @@
 //! One row of the table of recordings, and its records.
 
-ghost use Rattle.std.specs.Prelude.{◌≡◌, ◌<◌, ◌^◌, ◌-◌, IfOk, IfErr, OnOk, OnErr};
-ghost use Rattle.sqlite.specs.Held.{state};
-ghost use Rattle.sqlite.specs.State.{HasCleanDisk, Survives, KeepsCommit, IsUnchanged};
-ghost use Rattle.edf_tables.specs.Schema.{both_schema};
+ghost use Rattle.std.specs.Prelude.{◌≡◌, ◌<◌, ◌^◌, ◌-◌, IfErr};
+ghost use Rattle.sqlite.specs.State.{IsUnchanged};
 ghost use Rattle.edf_tables.specs.Refused.{IsUnread};
 ghost use Rattle.edf_audit.specs.Kept.{KeepsRows, Checks, first_two};
 ghost use Rattle.edf_rows.specs.Rows.{IsRecording};
+ghost use Rattle.edf_tables.specs.Statement.{HasBothTables, tables, IfClean, Gives, Leaves};
+ghost use Rattle.edf_tables.specs.Statement.{FailsAs, KeepsCommittedOnErr, IsCrashSafe};
 
 use crate::walk::check_recording;
 use edf_header::{Identity, IdentityFault};
@@ -25,13 +25,14 @@ pub fn check_row<S: Alter>(
     cap: u32,
 ) -> Result<Option<u32>, Error>
     requires cap { cap < 2 ^ 32 - 1 }
-    requires schema { HasCleanDisk (state S.Store conn.old) → (state S.Store conn.old).now.schema ≡ both_schema }
-    ensures why { HasCleanDisk (state S.Store conn.new) → IfErr result (IsUnread (state S.Store conn.old) (state S.Store conn.new)) }
-    ensures other { ¬ IsRecording (first_two row.now) → IfErr result (λ e. e ≡ Error.SqliteFailure ErrorCode.OutOfMemory) }
-    ensures told { HasCleanDisk (state S.Store conn.new) → IfOk result (Checks cap (state S.Store conn.old).now.trees row.now) }
-    ensures same { HasCleanDisk (state S.Store conn.new) → OnOk result (KeepsRows (state S.Store conn.old) (state S.Store conn.new)) }
-    ensures refused { HasCleanDisk (state S.Store conn.new) → OnErr result (KeepsCommit (state S.Store conn.old) (state S.Store conn.new)) }
-    ensures survives { Survives (state S.Store conn.old) (state S.Store conn.new) (λ _. ⊥) }
+    requires schema { IfClean S.Store conn.old HasBothTables }
+    ensures why { FailsAs S.Store conn.old conn.new result IsUnread }
+    ensures other { ¬ IsRecording (first_two row.now) →
+        IfErr result (λ e. e ≡ Error.SqliteFailure ErrorCode.OutOfMemory) }
+    ensures told { Gives S.Store conn.new result (Checks cap (tables S.Store conn.old) row.now) }
+    ensures same { Leaves S.Store conn.old conn.new result KeepsRows }
+    ensures refused { KeepsCommittedOnErr S.Store conn.old conn.new result }
+    ensures survives { IsCrashSafe S.Store conn.old conn.new }
 {
     let Ok(ValueRef::Int(id)) = row.get_ref(0) else {
         return Ok(None);

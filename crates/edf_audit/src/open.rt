@@ -1,12 +1,13 @@
 //! The tables of a file, made and checked.
 
-ghost use Rattle.std.specs.Prelude.{◌≡◌, ◌<◌, ◌^◌, ◌-◌, Ok, false, IfOk, IfErr, OnOk, IsTrue};
+ghost use Rattle.std.specs.Prelude.{◌≡◌, ◌<◌, ◌^◌, ◌-◌, Ok, false, IsTrue};
 ghost use Rattle.sqlite.specs.Held.{state};
-ghost use Rattle.sqlite.specs.State.{HasCleanDisk, Survives};
+ghost use Rattle.sqlite.specs.State.{Survives};
 ghost use Rattle.edf_tables.specs.Made.{IsOurs, HasTables, IsMadeOf};
 ghost use Rattle.edf_audit.specs.All.{Answers};
 ghost use Rattle.edf_audit.specs.File.{Audits};
 ghost use Rattle.edf_audit.specs.Refused.{IsUnaudited};
+ghost use Rattle.edf_tables.specs.Statement.{tables, IfClean, Gives, Leaves, FailsAs};
 
 use crate::all::check_all;
 use edf_schema::is_ours;
@@ -21,14 +22,16 @@ use std::alloc::Global;
 /// Those of `audit`.
 fn audit_tables<S: Alter>(alloc: Global, conn: &mut Connection<S>, cap: u32) -> Result<bool, Error>
     requires cap { cap < 2 ^ 32 - 1 }
-    requires ours { HasCleanDisk (state S.Store conn.old) → IsOurs (state S.Store conn.old).now }
-    ensures tables { HasCleanDisk (state S.Store conn.new) → OnOk result (HasTables (state S.Store conn.old).now (state S.Store conn.new).now) }
-    ensures answers { HasCleanDisk (state S.Store conn.new) → IfOk result (Answers cap (state S.Store conn.new).now.trees) }
-    ensures is_open { HasCleanDisk (state S.Store conn.new) → OnOk result (IsTrue (state S.Store conn.new).is_open) }
-    ensures settled { HasCleanDisk (state S.Store conn.new) → OnOk result ((state S.Store conn.new).committed ≡ (state S.Store conn.new).now) }
-    ensures idle { HasCleanDisk (state S.Store conn.new) → OnOk result ((state S.Store conn.new).in_transaction ≡ false) }
-    ensures why { HasCleanDisk (state S.Store conn.new) → IfErr result (IsUnaudited (state S.Store conn.old) (state S.Store conn.new)) }
-    ensures survives { Survives (state S.Store conn.old) (state S.Store conn.new) (IsMadeOf (state S.Store conn.old).now) }
+    requires ours { IfClean S.Store conn.old (λ s. IsOurs s.now) }
+    ensures tables { Leaves S.Store conn.old conn.new result
+        (λ old new. HasTables old.now new.now) }
+    ensures answers { Gives S.Store conn.new result (Answers cap (tables S.Store conn.new)) }
+    ensures is_open { Leaves S.Store conn.old conn.new result (λ _ new. IsTrue new.is_open) }
+    ensures settled { Leaves S.Store conn.old conn.new result (λ _ new. new.committed ≡ new.now) }
+    ensures idle { Leaves S.Store conn.old conn.new result (λ _ new. new.in_transaction ≡ false) }
+    ensures why { FailsAs S.Store conn.old conn.new result IsUnaudited }
+    ensures survives { Survives (state S.Store conn.old) (state S.Store conn.new)
+        (IsMadeOf (state S.Store conn.old).now) }
 {
     create_tables(conn)?;
     if !conn.is_autocommit() {
@@ -47,11 +50,15 @@ fn audit_tables<S: Alter>(alloc: Global, conn: &mut Connection<S>, cap: u32) -> 
 /// recordings have 9,223,372,036,854,775,807 records or more. A crash leaves no table, the first, or both.
 pub fn audit<S: Alter>(alloc: Global, conn: &mut Connection<S>, cap: u32) -> Result<bool, Error>
     requires { cap < 2 ^ 32 - 1 }
-    ensures other { ¬ IsOurs (state S.Store conn.old).now → (result ≡ Ok false) × (conn.new ≡ conn.old) }
-    ensures tables { IsOurs (state S.Store conn.old).now → HasCleanDisk (state S.Store conn.new) → OnOk result (HasTables (state S.Store conn.old).now (state S.Store conn.new).now) }
-    ensures answers { HasCleanDisk (state S.Store conn.new) → IfOk result (Audits cap (state S.Store conn.old) (state S.Store conn.new)) }
-    ensures why { HasCleanDisk (state S.Store conn.new) → IfErr result (IsUnaudited (state S.Store conn.old) (state S.Store conn.new)) }
-    ensures survives { Survives (state S.Store conn.old) (state S.Store conn.new) (IsMadeOf (state S.Store conn.old).now) }
+    ensures other { ¬ IsOurs (state S.Store conn.old).now →
+        (result ≡ Ok false) × (conn.new ≡ conn.old) }
+    ensures tables { IsOurs (state S.Store conn.old).now →
+        Leaves S.Store conn.old conn.new result (λ old new. HasTables old.now new.now) }
+    ensures answers { Gives S.Store conn.new result
+        (Audits cap (state S.Store conn.old) (state S.Store conn.new)) }
+    ensures why { FailsAs S.Store conn.old conn.new result IsUnaudited }
+    ensures survives { Survives (state S.Store conn.old) (state S.Store conn.new)
+        (IsMadeOf (state S.Store conn.old).now) }
 {
     if !is_ours(conn.schema()) {
         return Ok(false);

@@ -1,14 +1,13 @@
 //! The rows of one recording, each read once.
 
-ghost use Rattle.std.specs.Prelude.{◌≡◌, ◌<◌, ◌^◌, ◌-◌, ℕ, IfOk, IfErr, OnOk, OnErr, MatchOption};
-ghost use Rattle.sqlite.specs.Held.{state};
-ghost use Rattle.sqlite.specs.State.{HasCleanDisk, Survives, KeepsCommit, IsUnchanged};
+ghost use Rattle.std.specs.Prelude.{◌<◌, ◌^◌, ◌-◌, ℕ, IfOk, IfErr, MatchOption};
 ghost use Rattle.edf_field.specs.Number.{duration_of};
-ghost use Rattle.edf_tables.specs.Schema.{both_schema};
 ghost use Rattle.edf_tables.specs.Refused.{IsUnread};
 ghost use Rattle.edf_rows.specs.Cells.{records_in};
 ghost use Rattle.edf_rows.specs.Foreign.{IsBadRow};
 ghost use Rattle.edf_audit.specs.Walk.{IsStartOf, IsNext, IsRowRefused, IsWrong, Tells};
+ghost use Rattle.edf_tables.specs.Statement.{HasBothTables, tables, IfClean, Gives, OnlyReads};
+ghost use Rattle.edf_tables.specs.Statement.{FailsAs, KeepsCommittedOnErr, IsCrashSafe};
 
 use edf_header::Identity;
 use edf_rows::check_row;
@@ -19,7 +18,8 @@ use std::alloc::{AllocError, Global};
 
 /// The start of a row that is a data record of the identity.
 fn start_in(alloc: Global, identity: &Identity, row: &Row) -> Result<Option<Instant>, AllocError>
-    ensures { IfOk result (λ o. MatchOption o (IsBadRow identity.now row.now) (IsStartOf identity.now row.now)) }
+    ensures { IfOk result (λ o.
+        MatchOption o (IsBadRow identity.now row.now) (IsStartOf identity.now row.now)) }
 {
     let Ok(ValueRef::Int(start)) = row.get_ref(0) else {
         return Ok(None);
@@ -44,7 +44,8 @@ fn next_start(
     row: &Row,
     last: Option<Instant>,
 ) -> Result<Option<Instant>, Error>
-    ensures told { IfOk result (λ o. MatchOption o (IsWrong identity.now last row.now) (IsNext identity.now last row.now)) }
+    ensures told { IfOk result (λ o.
+        MatchOption o (IsWrong identity.now last row.now) (IsNext identity.now last row.now)) }
     ensures why { IfErr result (IsRowRefused last row.now) }
 {
     let start = match start_in(alloc, identity, row) {
@@ -84,12 +85,13 @@ pub fn check_recording<S: Alter>(
 ) -> Result<Option<u32>, Error>
     requires long { 0 < duration_of identity.now.duration }
     requires cap { cap < 2 ^ 32 - 1 }
-    requires schema { HasCleanDisk (state S.Store conn.old) → (state S.Store conn.old).now.schema ≡ both_schema }
-    ensures why { HasCleanDisk (state S.Store conn.new) → IfErr result (IsUnread (state S.Store conn.old) (state S.Store conn.new)) }
-    ensures told { HasCleanDisk (state S.Store conn.new) → IfOk result (Tells cap identity.now (records_in (state S.Store conn.old).now.trees recording)) }
-    ensures same { HasCleanDisk (state S.Store conn.new) → OnOk result (IsUnchanged (state S.Store conn.old) (state S.Store conn.new)) }
-    ensures refused { HasCleanDisk (state S.Store conn.new) → OnErr result (KeepsCommit (state S.Store conn.old) (state S.Store conn.new)) }
-    ensures survives { Survives (state S.Store conn.old) (state S.Store conn.new) (λ _. ⊥) }
+    requires schema { IfClean S.Store conn.old HasBothTables }
+    ensures why { FailsAs S.Store conn.old conn.new result IsUnread }
+    ensures told { Gives S.Store conn.new result
+        (Tells cap identity.now (records_in (tables S.Store conn.old) recording)) }
+    ensures same { OnlyReads S.Store conn.old conn.new result }
+    ensures refused { KeepsCommittedOnErr S.Store conn.old conn.new result }
+    ensures survives { IsCrashSafe S.Store conn.old conn.new }
 {
     let mut rows = conn.query(
         "SELECT start, samples, block FROM record WHERE recording = ?1 ORDER BY start",
