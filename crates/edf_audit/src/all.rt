@@ -4,7 +4,7 @@ ghost use Rattle.std.specs.Prelude.{◌<◌, ◌^◌, ◌-◌, IfOk, IfSome, Mat
 ghost use Rattle.std.specs.Prelude.{IsSorted, IsTrue};
 ghost use Rattle.sqlite.specs.Held.{state};
 ghost use Rattle.sqlite.specs.State.{HasCleanDisk, IsLive};
-ghost use Rattle.edf_schema.specs.Columns.{by_column};
+ghost use Rattle.edf_schema.specs.Columns.{id_order};
 ghost use Rattle.edf_rows.specs.Cells.{recordings_in};
 ghost use Rattle.edf_audit.specs.Kept.{KeepsRows};
 ghost use Rattle.edf_audit.specs.Refused.{IsUnchecked};
@@ -53,7 +53,7 @@ fn count_owned<S: Alter>(
     requires schema { IfClean S.Store conn.old HasBothTables }
     requires listed { IfClean S.Store conn.old (λ s.
         IsPermutation (recordings_in s.now.trees) rows.now) }
-    requires ordered { HasCleanDisk (state S.Store conn.old) → IsSorted (by_column 0) rows.now }
+    requires ordered { HasCleanDisk (state S.Store conn.old) → IsSorted id_order rows.now }
     ensures why { FailsAs S.Store conn.old conn.new result IsUnchecked }
     ensures counts { Gives S.Store conn.new result (Counts cap (tables S.Store conn.old) rows.now) }
     ensures low { IfOk result (λ o. IfSome o (λ sum. sum < 2 ^ 63 - 1)) }

@@ -3,6 +3,7 @@
 ghost use Rattle.std.specs.Prelude.{◌≡◌, ◌⊎◌, []};
 ghost use Rattle.sqlite.specs.Held.{state};
 ghost use Rattle.sqlite.specs.State.{Survives};
+ghost use Rattle.edf_schema.specs.Columns.{stored_recordings, stored_records};
 ghost use Rattle.edf_tables.specs.Schema.{no_schema, one_schema, both_schema};
 ghost use Rattle.edf_tables.specs.Made.{IsOurs, AreOf, HasFirst, HasSecond, HasTables};
 ghost use Rattle.edf_tables.specs.Made.{KeepsFile, IsMadeOf};
@@ -24,7 +25,8 @@ pub fn create_recording<S: Alter>(conn: &mut Connection<S>) -> Result<usize, Err
     ensures mode { Leaves S.Store conn.old conn.new result (λ old new.
         new.in_transaction ≡ old.in_transaction) }
     ensures survives { Survives (state S.Store conn.old) (state S.Store conn.new) (λ db.
-        ((state S.Store conn.old).now.schema ≡ no_schema) × AreOf one_schema db × (db 0 ≡ [])) }
+        ((state S.Store conn.old).now.schema ≡ no_schema) × AreOf one_schema db
+        × (stored_recordings db ≡ [])) }
 {
     conn.execute(
         "CREATE TABLE IF NOT EXISTS recording (\
@@ -48,7 +50,8 @@ pub fn create_records<S: Alter>(conn: &mut Connection<S>) -> Result<usize, Error
         new.in_transaction ≡ old.in_transaction) }
     ensures survives { Survives (state S.Store conn.old) (state S.Store conn.new) (λ db.
         ((state S.Store conn.old).now.schema ≡ one_schema) × AreOf both_schema db
-        × (db 0 ≡ (state S.Store conn.old).now.trees 0) × (db 2 ≡ [])) }
+        × (stored_recordings db ≡ stored_recordings (state S.Store conn.old).now.trees)
+        × (stored_records db ≡ [])) }
 {
     conn.execute(
         "CREATE TABLE IF NOT EXISTS record (\

@@ -2,8 +2,8 @@
 
 ghost use Rattle.std.specs.Prelude.{◌≡◌, IsPermutation, IsSorted, length, map, min};
 ghost use Rattle.sqlite.specs.declared.types.Value.TheVariants.{Blob};
-ghost use Rattle.sqlite_value.specs.Order.{column};
-ghost use Rattle.edf_schema.specs.Columns.{by_column};
+ghost use Rattle.edf_schema.specs.Columns.{stored_recordings, stored_records};
+ghost use Rattle.edf_schema.specs.Columns.{stored_identity, id_order};
 ghost use Rattle.edf_tables.specs.Refused.{IsUnread, IsUntold, IsLeft};
 ghost use Rattle.edf_tables.specs.Recordings.{AreNamedApart, IsIdIn, by_identity, named};
 ghost use Rattle.edf_tables.specs.Recordings.{shown_recording};
@@ -24,7 +24,7 @@ pub fn select_recording<S: Alter>(
     requires schema { IfClean S.Store conn.old HasBothTables }
     ensures why { FailsAs S.Store conn.old conn.new result IsUntold }
     ensures id { Gives S.Store conn.new result
-        (IsIdIn (named identity.now (tables S.Store conn.old 0))) }
+        (IsIdIn (named identity.now (stored_recordings (tables S.Store conn.old)))) }
     ensures same { OnlyReads S.Store conn.old conn.new result }
     ensures kept { KeepsCommitted S.Store conn.old conn.new }
     ensures survives { IsCrashSafe S.Store conn.old conn.new }
@@ -46,7 +46,8 @@ pub fn identities<S: Alter>(conn: &mut Connection<S>) -> Result<Vec<Vec<u8>>, Er
     ensures why { FailsAs S.Store conn.old conn.new result IsUntold }
     ensures identities { Gives S.Store conn.new result (λ all.
         map (λ b. Blob b.items) all.items ≡
-        map (λ row. column row 2) (by_identity (tables S.Store conn.old 0))) }
+        map (λ row. stored_identity row)
+        (by_identity (stored_recordings (tables S.Store conn.old)))) }
     ensures same { OnlyReads S.Store conn.old conn.new result }
     ensures kept { KeepsCommitted S.Store conn.old conn.new }
     ensures survives { IsCrashSafe S.Store conn.old conn.new }
@@ -69,8 +70,9 @@ pub fn recordings<S: Alter>(conn: &mut Connection<S>) -> Result<Vec<Row>, Error>
     requires schema { IfClean S.Store conn.old HasBothTables }
     ensures why { FailsAs S.Store conn.old conn.new result IsUnread }
     ensures listed { Gives S.Store conn.new result (λ rows.
-        IsPermutation (map shown_recording (tables S.Store conn.old 0)) rows.items) }
-    ensures ordered { Gives S.Store conn.new result (λ rows. IsSorted (by_column 0) rows.items) }
+        IsPermutation (map shown_recording
+        (stored_recordings (tables S.Store conn.old))) rows.items) }
+    ensures ordered { Gives S.Store conn.new result (λ rows. IsSorted id_order rows.items) }
     ensures same { OnlyReads S.Store conn.old conn.new result }
     ensures kept { KeepsCommitted S.Store conn.old conn.new }
     ensures refused { LeavesOnErr S.Store conn.old conn.new result IsLeft }
@@ -88,7 +90,7 @@ pub fn count_all_rows<S: Alter>(conn: &mut Connection<S>) -> Result<u64, Error>
     requires schema { IfClean S.Store conn.old HasBothTables }
     ensures why { FailsAs S.Store conn.old conn.new result IsUntold }
     ensures count { Gives S.Store conn.new result (λ count.
-        count ≡ min (length (tables S.Store conn.old 2)) 9223372036854775807) }
+        count ≡ min (length (stored_records (tables S.Store conn.old))) 9223372036854775807) }
     ensures same { OnlyReads S.Store conn.old conn.new result }
     ensures kept { KeepsCommitted S.Store conn.old conn.new }
     ensures refused { LeavesOnErr S.Store conn.old conn.new result IsLeft }

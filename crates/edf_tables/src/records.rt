@@ -3,7 +3,7 @@
 ghost use Rattle.std.specs.Prelude.{◌≡◌, filter, length, map, min, reverse, slice_get, take};
 ghost use Rattle.std.specs.Option.{option_map};
 ghost use Rattle.sqlite.specs.declared.types.Value.TheVariants.{Int};
-ghost use Rattle.sqlite_value.specs.Order.{column};
+ghost use Rattle.edf_schema.specs.Columns.{stored_records, stored_start};
 ghost use Rattle.edf_tables.specs.Cells.{cells_of};
 ghost use Rattle.edf_tables.specs.Refused.{IsUntold};
 ghost use Rattle.edf_tables.specs.Records.{IsReady, records_of, shown_record, starts_after};
@@ -28,7 +28,8 @@ pub fn near_rows<S: Alter>(
     ensures why { FailsAs S.Store conn.old conn.new result IsUntold }
     ensures near { Gives S.Store conn.new result (λ rows.
         map cells_of rows.items ≡ map shown_record
-        (filter (starts_between after before) (records_of recording (tables S.Store conn.old 2)))) }
+        (filter (starts_between after before)
+        (records_of recording (stored_records (tables S.Store conn.old))))) }
     ensures same { OnlyReads S.Store conn.old conn.new result }
     ensures kept { KeepsCommitted S.Store conn.old conn.new }
     ensures survives { IsCrashSafe S.Store conn.old conn.new }
@@ -57,7 +58,7 @@ pub fn page_rows<S: Alter>(
     ensures page { Gives S.Store conn.new result (λ rows.
         map cells_of rows.items ≡ map shown_record
         (take limit (filter (starts_after after)
-        (records_of recording (tables S.Store conn.old 2))))) }
+        (records_of recording (stored_records (tables S.Store conn.old)))))) }
     ensures same { OnlyReads S.Store conn.old conn.new result }
     ensures kept { KeepsCommitted S.Store conn.old conn.new }
     ensures survives { IsCrashSafe S.Store conn.old conn.new }
@@ -79,7 +80,7 @@ pub fn count_rows<S: Alter>(conn: &mut Connection<S>, recording: i64) -> Result<
     requires schema { IfClean S.Store conn.old HasBothTables }
     ensures why { FailsAs S.Store conn.old conn.new result IsUntold }
     ensures count { Gives S.Store conn.new result (λ count.
-        count ≡ min (length (records_of recording (tables S.Store conn.old 2)))
+        count ≡ min (length (records_of recording (stored_records (tables S.Store conn.old))))
         9223372036854775807) }
     ensures same { OnlyReads S.Store conn.old conn.new result }
     ensures kept { KeepsCommitted S.Store conn.old conn.new }
@@ -101,8 +102,8 @@ pub fn first_start<S: Alter>(conn: &mut Connection<S>, recording: i64) -> Result
     requires ready { IfClean S.Store conn.old (IsReady recording) }
     ensures why { FailsAs S.Store conn.old conn.new result IsUntold }
     ensures first { Gives S.Store conn.new result (λ start.
-        option_map Int start ≡ option_map (λ row. column row 2)
-        (slice_get (records_of recording (tables S.Store conn.old 2)) 0)) }
+        option_map Int start ≡ option_map (λ row. stored_start row)
+        (slice_get (records_of recording (stored_records (tables S.Store conn.old))) 0)) }
     ensures same { OnlyReads S.Store conn.old conn.new result }
     ensures kept { KeepsCommitted S.Store conn.old conn.new }
     ensures survives { IsCrashSafe S.Store conn.old conn.new }
@@ -127,9 +128,9 @@ pub fn next_start<S: Alter>(
     requires ready { IfClean S.Store conn.old (IsReady recording) }
     ensures why { FailsAs S.Store conn.old conn.new result IsUntold }
     ensures next { Gives S.Store conn.new result (λ start.
-        option_map Int start ≡ option_map (λ row. column row 2)
+        option_map Int start ≡ option_map (λ row. stored_start row)
         (slice_get (filter (starts_from from)
-        (records_of recording (tables S.Store conn.old 2))) 0)) }
+        (records_of recording (stored_records (tables S.Store conn.old)))) 0)) }
     ensures same { OnlyReads S.Store conn.old conn.new result }
     ensures kept { KeepsCommitted S.Store conn.old conn.new }
     ensures survives { IsCrashSafe S.Store conn.old conn.new }
@@ -150,8 +151,8 @@ pub fn last_start<S: Alter>(conn: &mut Connection<S>, recording: i64) -> Result<
     requires ready { IfClean S.Store conn.old (IsReady recording) }
     ensures why { FailsAs S.Store conn.old conn.new result IsUntold }
     ensures last { Gives S.Store conn.new result (λ start.
-        option_map Int start ≡ option_map (λ row. column row 2)
-        (slice_get (reverse (records_of recording (tables S.Store conn.old 2))) 0)) }
+        option_map Int start ≡ option_map (λ row. stored_start row)
+        (slice_get (reverse (records_of recording (stored_records (tables S.Store conn.old)))) 0)) }
     ensures same { OnlyReads S.Store conn.old conn.new result }
     ensures kept { KeepsCommitted S.Store conn.old conn.new }
     ensures survives { IsCrashSafe S.Store conn.old conn.new }

@@ -3,6 +3,7 @@
 ghost use Rattle.std.specs.Prelude.{◌≡◌};
 ghost use Rattle.sqlite.specs.Held.{state};
 ghost use Rattle.sqlite_rules.specs.Edit.{next_rowid};
+ghost use Rattle.edf_schema.specs.Columns.{stored_recordings};
 ghost use Rattle.edf_tables.specs.Schema.{recording as recording_table, records};
 ghost use Rattle.edf_tables.specs.Row.{cells, named_cells, HasRecord, HasRecording, IsInside};
 ghost use Rattle.edf_tables.specs.Refused.{IsUnadded};
@@ -19,7 +20,7 @@ pub fn insert_recording<S: Alter>(conn: &mut Connection<S>, identity: &[u8]) -> 
     requires { IfClean S.Store conn.old IsInside }
     ensures added { Gives S.Store conn.new result (λ id.
         HasRecording (state S.Store conn.old) (state S.Store conn.new) (named_cells identity.now)
-        × (id ≡ next_rowid (tables S.Store conn.old 0))) }
+        × (id ≡ next_rowid (stored_recordings (tables S.Store conn.old)))) }
     ensures why { FailsAs S.Store conn.old conn.new result
         (IsUnadded recording_table (named_cells identity.now)) }
     ensures refused { KeepsCommittedOnErr S.Store conn.old conn.new result }
