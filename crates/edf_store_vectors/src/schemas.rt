@@ -8,7 +8,9 @@ const RECORDING: &str =
     "CREATE TABLE recording (id INTEGER PRIMARY KEY, identity BLOB NOT NULL UNIQUE) STRICT";
 
 const BOTH: &str =
-    "CREATE TABLE recording (id INTEGER PRIMARY KEY, identity BLOB NOT NULL UNIQUE) STRICT; CREATE TABLE record (recording INTEGER NOT NULL, start INTEGER NOT NULL, samples BLOB NOT NULL, block BLOB NOT NULL, PRIMARY KEY (recording, start)) STRICT";
+    "CREATE TABLE recording (id INTEGER PRIMARY KEY, identity BLOB NOT NULL UNIQUE) STRICT; \
+    CREATE TABLE record (recording INTEGER NOT NULL, start INTEGER NOT NULL, \
+    samples BLOB NOT NULL, block BLOB NOT NULL, PRIMARY KEY (recording, start)) STRICT";
 
 const SCHEMA: &str =
     "SELECT count(*), coalesce(group_concat(name || ' ' || coalesce(sql, 'none')), 'none') FROM sqlite_schema";
