@@ -21,8 +21,8 @@ fn put_block<W: Output>(
     size: usize,
 ) -> Result<(), OutputFault>
     requires { length (block_of file_start data_record.now) ≤ size }
-    ensures { IsPut (buffered (W.contents out.old) (W.failures out.old) held.old.bytes.items)
-        (buffered (W.contents out.new) (W.failures out.new) held.new.bytes.items)
+    ensures { IsPut (buffered W.Output out.old held.old.bytes.items)
+        (buffered W.Output out.new held.new.bytes.items)
         (filled_block file_start size data_record.now) result }
 {
     let Ok(block) = write_block(alloc, data_record.start(), data_record.notes(), file_start) else {
@@ -42,8 +42,8 @@ pub(crate) fn put_record<W: Output>(
     size: usize,
 ) -> Result<(), OutputFault>
     requires { length (block_of file_start data_record.now) ≤ size }
-    ensures { IsPut (buffered (W.contents out.old) (W.failures out.old) held.old.bytes.items)
-        (buffered (W.contents out.new) (W.failures out.new) held.new.bytes.items)
+    ensures { IsPut (buffered W.Output out.old held.old.bytes.items)
+        (buffered W.Output out.new held.new.bytes.items)
         (record_text file_start size data_record.now) result }
 {
     put(out, held, data_record.samples())?;

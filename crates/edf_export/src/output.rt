@@ -30,8 +30,8 @@ impl Buffer {
 
 /// Writes out what is held.
 pub(crate) fn flush<W: Output>(out: &mut W, held: &mut Buffer) -> Result<(), OutputFault>
-    ensures { IsFlushed (buffered (W.contents out.old) (W.failures out.old) held.old.bytes.items)
-        (buffered (W.contents out.new) (W.failures out.new) held.new.bytes.items) result }
+    ensures { IsFlushed (buffered W.Output out.old held.old.bytes.items)
+        (buffered W.Output out.new held.new.bytes.items) result }
 {
     if !send(out, held.bytes.as_slice()) {
         return Err(OutputFault::Write);
@@ -42,8 +42,8 @@ pub(crate) fn flush<W: Output>(out: &mut W, held: &mut Buffer) -> Result<(), Out
 
 /// Writes the held bytes, and then these.
 fn put_through<W: Output>(out: &mut W, held: &mut Buffer, bytes: &[u8]) -> Result<(), OutputFault>
-    ensures { IsPut (buffered (W.contents out.old) (W.failures out.old) held.old.bytes.items)
-        (buffered (W.contents out.new) (W.failures out.new) held.new.bytes.items) bytes.now result }
+    ensures { IsPut (buffered W.Output out.old held.old.bytes.items)
+        (buffered W.Output out.new held.new.bytes.items) bytes.now result }
 {
     flush(out, held)?;
     if !send(out, bytes) {
@@ -54,8 +54,8 @@ fn put_through<W: Output>(out: &mut W, held: &mut Buffer, bytes: &[u8]) -> Resul
 
 /// Holds these bytes back after those already held.
 fn hold<W: Output>(out: &mut W, held: &mut Vec<u8>, bytes: &[u8]) -> Result<(), OutputFault>
-    ensures put { IsPut (buffered (W.contents out.old) (W.failures out.old) held.old.items)
-        (buffered (W.contents out.new) (W.failures out.new) held.new.items) bytes.now result }
+    ensures put { IsPut (buffered W.Output out.old held.old.items)
+        (buffered W.Output out.new held.new.items) bytes.now result }
     ensures grown { vec_len held.new ≤ vec_len held.old + length bytes.now }
 {
     match held.extend_from_slice(bytes) {
@@ -70,8 +70,8 @@ pub(crate) fn put<W: Output>(
     held: &mut Buffer,
     bytes: &[u8],
 ) -> Result<(), OutputFault>
-    ensures { IsPut (buffered (W.contents out.old) (W.failures out.old) held.old.bytes.items)
-        (buffered (W.contents out.new) (W.failures out.new) held.new.bytes.items) bytes.now result }
+    ensures { IsPut (buffered W.Output out.old held.old.bytes.items)
+        (buffered W.Output out.new held.new.bytes.items) bytes.now result }
 {
     if bytes.len() >= CAPACITY {
         return put_through(out, held, bytes);
@@ -92,8 +92,8 @@ pub(crate) fn put_zeros<W: Output>(
     held: &mut Buffer,
     count: usize,
 ) -> Result<(), OutputFault>
-    ensures { IsPut (buffered (W.contents out.old) (W.failures out.old) held.old.bytes.items)
-        (buffered (W.contents out.new) (W.failures out.new) held.new.bytes.items) (replicate count 0) result }
+    ensures { IsPut (buffered W.Output out.old held.old.bytes.items)
+        (buffered W.Output out.new held.new.bytes.items) (replicate count 0) result }
 {
     let mut left = count;
     while left > 0 {

@@ -34,8 +34,8 @@ fn put_fitting<W: Output>(
     size: usize,
 ) -> Result<(), ExportFault>
     ensures put { length (block_of file_start data_record.now) ≤ size →
-        IsPutOut (buffered (W.contents out.old) (W.failures out.old) held.old.bytes.items)
-        (buffered (W.contents out.new) (W.failures out.new) held.new.bytes.items)
+        IsPutOut (buffered W.Output out.old held.old.bytes.items)
+        (buffered W.Output out.new held.new.bytes.items)
         (record_text file_start size data_record.now) result }
     ensures counted { CountsWriting (W.failures out.old) (W.failures out.new) result }
     ensures unfailed { result ≢ Err (ExportFault.Store StoreFault.Failed) }
@@ -61,10 +61,10 @@ fn put_walk<S: Alter, W: Output>(
     ensures same_reference { walk.new.store.ghost_name ≡ walk.old.store.ghost_name }
     ensures stays { Stays S.Store walk.old.store.now walk.new.store.now }
     ensures put { HasCleanDisk (at S.Store walk.new.store.now) → (h : Holdings) (k : Key) →
-        IsBehind walk.old.store.now.cap (at S.Store walk.old.store.now) walk.old.recording walk.old.after h k 0 →
-        IsPlanOf k (h k) plan →
-        IsPutOut (buffered (W.contents out.old) (W.failures out.old) held.old.bytes.items)
-        (buffered (W.contents out.new) (W.failures out.new) held.new.bytes.items)
+        IsBehind walk.old.store.now.cap
+        (at S.Store walk.old.store.now) walk.old.recording walk.old.after h k 0 →
+        IsPlanOf k (h k) plan → IsPutOut (buffered W.Output out.old held.old.bytes.items)
+        (buffered W.Output out.new held.new.bytes.items)
         (flat_map (record_text (second_of plan.first) (2 * plan.samples)) (h k)) result }
     ensures counted { CountsWriting (W.failures out.old) (W.failures out.new) result }
     ensures unfailed { result ≢ Err (ExportFault.Store StoreFault.Failed) }

@@ -2,6 +2,7 @@
 use Rattle.std.specs.Prelude.{◌≡◌, ℕ, List, [], ◌++◌, Option, Result, MatchResult}
 use Rattle.std.specs.Io.KnownBytes.{Appends}
 use Rattle.edf_fragment.specs.Failures.{one_more}
+use Rattle.edf_fragment.specs.declared.streams.Output.{Ghosts}
 use Rattle.edf_export.specs.declared.fault.OutputFault.{OutputFault}
 use Rattle.edf_export.specs.declared.fault.OutputFault.TheVariants.{Write, Memory}
 
@@ -15,8 +16,8 @@ pub record Buffered : Type 0 where
   pub failures : ℕ
   pub held : List ℕ
 
-abbrev pub buffered : Option (List ℕ) → ℕ → List ℕ → Buffered
-buffered contents failures held = record { contents = contents; failures = failures; held = held }
+abbrev pub buffered : {W : Type 0} → Ghosts W → W → List ℕ → Buffered
+buffered g out held = record { contents = g.contents out; failures = g.failures out; held = held }
 
 -- of what was held back and the bytes after it, a front was written, and the rest is left
 pub record Writes (before after : Buffered) (bytes left : List ℕ) : Type 0 where

@@ -22,8 +22,8 @@ invariant-loop g l = record {
   wrote : HasCleanDisk (at g.S.Store l.walk.store.now) → (h : Holdings) (k : Key) →
       IsBehind l.initial.walk.store.now.cap (at g.S.Store l.initial.walk.store.now) l.initial.walk.recording l.initial.walk.after h k 0 →
       IsPlanOf k (h k) l.fn.plan →
-      Writes (buffered (g.W.Output.contents l.initial.out) (g.W.Output.failures l.initial.out) l.initial.held.bytes.items)
-      (buffered (g.W.Output.contents l.out) (g.W.Output.failures l.out) l.held.bytes.items)
+      Writes (buffered g.W.Output l.initial.out l.initial.held.bytes.items)
+      (buffered g.W.Output l.out l.held.bytes.items)
       (flat_map (record_text (second_of l.fn.plan.first) (2 * l.fn.plan.samples)) (take l.counter (h k))) l.held.bytes.items;
   count_is : g.W.Output.failures l.out ≡ g.W.Output.failures l.initial.out;
 }
