@@ -3,6 +3,7 @@ use Rattle.std.specs.Prelude.{◌≡◌, ◌⊎◌, ℕ, ◌<◌, Bool, List, []
 use Rattle.std.specs.Bool.{MatchBool}
 use Rattle.std.specs.Io.KnownBytes.{Appends}
 use Rattle.edf_fragment.specs.Failures.{one_more}
+use Rattle.edf_fragment.specs.declared.streams.Output.{Ghosts}
 use Rattle.edf_export.specs.Export.{WritesFront}
 use Rattle.edf_command.specs.declared.status.Status.{Status}
 use Rattle.edf_command.specs.declared.status.Status.TheVariants.{Trouble}
@@ -14,9 +15,13 @@ pub record Growth : Type 0 where
   pub after : Option (List ℕ)
   pub failed_after : ℕ
 
-abbrev pub grown : Option (List ℕ) → ℕ → Option (List ℕ) → ℕ → Growth
-grown before failed_before after failed_after =
-    record { before = before; failed_before = failed_before; after = after; failed_after = failed_after }
+abbrev pub growth : {W : Type 0} → Ghosts W → W → W → Growth
+growth g old new = record {
+  before = g.contents old;
+  failed_before = g.failures old;
+  after = g.contents new;
+  failed_after = g.failures new;
+}
 
 -- it got just these bytes, and no write failed
 abbrev pub Gets : Growth → List ℕ → Type 0

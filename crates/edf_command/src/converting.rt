@@ -2,7 +2,7 @@
 
 ghost use Rattle.std.specs.Prelude.{◌≡◌, ◌∷◌, [], ℕ, List};
 ghost use Rattle.edf_command.specs.Lines.{convert_memory_line};
-ghost use Rattle.edf_command.specs.Output.{grown, IsWritten};
+ghost use Rattle.edf_command.specs.Output.{growth, IsWritten};
 ghost use Rattle.edf_command.specs.Run.{IsConverted, HasOpened};
 
 use crate::output::{tell, tell_pair};
@@ -18,7 +18,8 @@ use std::alloc::Global;
 
 /// Prints that there is no memory for the reader. Printing takes none.
 fn tell_memory<F: Output>(err: &mut F, name: &str) -> Status
-    ensures { IsWritten (grown (F.contents err.old) (F.failures err.old) (F.contents err.new) (F.failures err.new)) (convert_memory_line name.now) Status.Trouble result }
+    ensures { IsWritten
+        (growth F.Output err.old err.new) (convert_memory_line name.now) Status.Trouble result }
 {
     let line = b" refused E41 Memory\n";
     tell_pair(err, name.as_bytes(), line, Status::Trouble)
@@ -33,10 +34,8 @@ pub(crate) fn convert<S: Alter, I: Inputs, O: Output, F: Output>(
     out: &mut O,
     err: &mut F,
 ) -> Status
-    ensures converted { IsConverted S.Store store.old store.new
-        (grown (O.contents out.old) (O.failures out.old) (O.contents out.new) (O.failures out.new))
-        (grown (F.contents err.old) (F.failures err.old) (F.contents err.new) (F.failures err.new))
-        (I.bytes inputs.old file.now) file.now result }
+    ensures converted { IsConverted S.Store store.old store.new (growth O.Output out.old out.new)
+        (growth F.Output err.old err.new) (I.bytes inputs.old file.now) file.now result }
     ensures opened { HasOpened (I.opened inputs.old) (I.opened inputs.new) (file.now ∷ []) result }
     ensures cap { store.new.cap ≡ store.old.cap }
     ensures same { (name : List ℕ) → I.bytes inputs.new name ≡ I.bytes inputs.old name }

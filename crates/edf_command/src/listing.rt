@@ -9,7 +9,7 @@ ghost use Rattle.edf_store.specs.Fault.{IsStoreRefusal};
 ghost use Rattle.edf_store.specs.Held.{at, Holds, Stays};
 ghost use Rattle.edf_store.specs.Listed.{IsSummary};
 ghost use Rattle.edf_command.specs.Lines.{list_line, first_list_lines, list_refused_line};
-ghost use Rattle.edf_command.specs.Output.{grown, Gets, IsLinePut, ArePut, IsWritten};
+ghost use Rattle.edf_command.specs.Output.{growth, Gets, IsLinePut, ArePut, IsWritten};
 ghost use Rattle.edf_command.specs.Refusals.{IsSpelling};
 ghost use Rattle.edf_command.specs.Run.{AreHeldBy, IsListed};
 
@@ -70,11 +70,13 @@ fn put_recording<S: Alter, O: Output>(
     identity: &Identity,
 ) -> Result<bool, StoreFault>
     ensures stays { Stays S.Store store.old store.new }
-    ensures put { HasCleanDisk (at S.Store store.new) → IfOk result (λ written. (h : Holdings) (spell : ℕ → List ℕ) → Holds S.Store store.old h →
+    ensures put { HasCleanDisk (at S.Store store.new) →
+        IfOk result (λ written. (h : Holdings) (spell : ℕ → List ℕ) → Holds S.Store store.old h →
         h identity.now ≢ [] → IsSpelling spell →
-        IsLinePut (grown (O.contents out.old) (O.failures out.old) (O.contents out.new) (O.failures out.new)) (list_line spell place identity.now (h identity.now)) written) }
+        IsLinePut (growth O.Output out.old out.new) (list_line spell place identity.now
+        (h identity.now)) written) }
     ensures counted { IfOk result (λ written. written ≡ true → O.failures out.new ≡ O.failures out.old) }
-    ensures nothing { IfErr result (λ _. Gets (grown (O.contents out.old) (O.failures out.old) (O.contents out.new) (O.failures out.new)) []) }
+    ensures nothing { IfErr result (λ _. Gets (growth O.Output out.old out.new) []) }
     ensures refused { HasCleanDisk (at S.Store store.new) → IfErr result (λ fault. (h : Holdings) → Holds S.Store store.old h →
         h identity.now ≢ [] → IsStoreRefusal fault) }
 {
@@ -94,13 +96,14 @@ fn put_recordings<S: Alter, O: Output>(
 ) -> Result<bool, StoreFault>
     ensures stays { Stays S.Store store.old store.new }
     ensures counted { MatchResult result (λ written. written ≡ true → O.failures out.new ≡ O.failures out.old) (λ _. O.failures out.new ≡ O.failures out.old) }
-    ensures put { HasCleanDisk (at S.Store store.new) → IfOk result (λ written. (h : Holdings) (spell : ℕ → List ℕ) → Holds S.Store store.old h →
-        AreHeldBy h recordings.now → IsSpelling spell →
-        ArePut (grown (O.contents out.old) (O.failures out.old) (O.contents out.new) (O.failures out.new))
+    ensures put { HasCleanDisk (at S.Store store.new) →
+        IfOk result (λ written. (h : Holdings) (spell : ℕ → List ℕ) → Holds S.Store store.old h →
+        AreHeldBy h recordings.now → IsSpelling spell → ArePut (growth O.Output out.old out.new)
         (first_list_lines spell h recordings.now) (length recordings.now) written) }
-    ensures refused { HasCleanDisk (at S.Store store.new) → IfErr result (λ fault. (n : ℕ) × ((h : Holdings) → Holds S.Store store.old h →
-        AreHeldBy h recordings.now → IsStoreRefusal fault × ((spell : ℕ → List ℕ) → IsSpelling spell →
-        Gets (grown (O.contents out.old) (O.failures out.old) (O.contents out.new) (O.failures out.new)) (first_list_lines spell h recordings.now n)))) }
+    ensures refused { HasCleanDisk (at S.Store store.new) → IfErr result (λ fault.
+        (n : ℕ) × ((h : Holdings) → Holds S.Store store.old h → AreHeldBy h recordings.now →
+        IsStoreRefusal fault × ((spell : ℕ → List ℕ) → IsSpelling spell →
+        Gets (growth O.Output out.old out.new) (first_list_lines spell h recordings.now n)))) }
 {
     for (at, identity) in recordings.iter().enumerate() {
         if !put_recording(alloc, store, out, at + 1, identity)? {
@@ -125,7 +128,8 @@ fn list_refused_line(fault: &StoreFault) -> &'static str
 
 /// Prints why no more is listed.
 fn tell_refusal<F: Output>(err: &mut F, fault: &StoreFault) -> Status
-    ensures { IsWritten (grown (F.contents err.old) (F.failures err.old) (F.contents err.new) (F.failures err.new)) (list_refused_line fault.now) Status.Trouble result }
+    ensures { IsWritten
+        (growth F.Output err.old err.new) (list_refused_line fault.now) Status.Trouble result }
 {
     tell_bytes(err, list_refused_line(fault).as_bytes(), Status::Trouble)
 }
@@ -137,9 +141,8 @@ pub(crate) fn list<S: Alter, O: Output, F: Output>(
     out: &mut O,
     err: &mut F,
 ) -> Status
-    ensures { IsListed S.Store store.old store.new
-        (grown (O.contents out.old) (O.failures out.old) (O.contents out.new) (O.failures out.new))
-        (grown (F.contents err.old) (F.failures err.old) (F.contents err.new) (F.failures err.new)) result }
+    ensures { IsListed S.Store store.old store.new (growth O.Output out.old out.new)
+        (growth F.Output err.old err.new) result }
 {
     let recordings = match store.identities() {
         Ok(recordings) => recordings,

@@ -1,7 +1,7 @@
 //! Writing lines.
 
 ghost use Rattle.std.specs.Prelude.{◌≡◌, ◌++◌, ℕ, [], List, false, IfOk, MatchResult};
-ghost use Rattle.edf_command.specs.Output.{grown, Gets, IsPut, IsLinePut, IsWritten, IsTold};
+ghost use Rattle.edf_command.specs.Output.{growth, Gets, IsPut, IsLinePut, IsWritten, IsTold};
 
 use crate::status::Status;
 use edf_fragment::{Output, send};
@@ -9,10 +9,10 @@ use std::alloc::AllocError;
 
 /// Writes a line, and answers whether it was written whole. One for whose text memory was refused is not written.
 pub(crate) fn put_line<W: Output>(out: &mut W, line: Result<Vec<u8>, AllocError>) -> bool
-    ensures line { let w = grown (W.contents out.old) (W.failures out.old) (W.contents out.new) (W.failures out.new) in
+    ensures line { let w = growth W.Output out.old out.new in
         MatchResult line (λ l. IsPut w l.items result) (λ _. Gets w [] × (result ≡ false)) }
     ensures put { (text : List ℕ) → IfOk line (λ l. l.items ≡ text) →
-        IsLinePut (grown (W.contents out.old) (W.failures out.old) (W.contents out.new) (W.failures out.new)) text result }
+        IsLinePut (growth W.Output out.old out.new) text result }
 {
     match line {
         Ok(line) => send(out, line.as_slice()),
@@ -22,7 +22,7 @@ pub(crate) fn put_line<W: Output>(out: &mut W, line: Result<Vec<u8>, AllocError>
 
 /// Writes bytes and answers a status; trouble where they are not written whole.
 pub(crate) fn tell_bytes<W: Output>(out: &mut W, bytes: &[u8], status: Status) -> Status
-    ensures { IsWritten (grown (W.contents out.old) (W.failures out.old) (W.contents out.new) (W.failures out.new)) bytes.now status result }
+    ensures { IsWritten (growth W.Output out.old out.new) bytes.now status result }
 {
     if send(out, bytes) {
         status
@@ -38,7 +38,7 @@ pub(crate) fn tell_pair<W: Output>(
     second: &[u8],
     status: Status,
 ) -> Status
-    ensures { IsWritten (grown (W.contents out.old) (W.failures out.old) (W.contents out.new) (W.failures out.new)) (first.now ++ second.now) status result }
+    ensures { IsWritten (growth W.Output out.old out.new) (first.now ++ second.now) status result }
 {
     if send(out, first) {
         tell_bytes(out, second, status)
@@ -53,10 +53,10 @@ pub(crate) fn tell<W: Output>(
     line: Result<Vec<u8>, AllocError>,
     status: Status,
 ) -> Status
-    ensures line { let w = grown (W.contents out.old) (W.failures out.old) (W.contents out.new) (W.failures out.new) in
-        MatchResult line (λ l. IsWritten w l.items status result) (λ _. Gets w [] × (result ≡ Status.Trouble)) }
+    ensures line { let w = growth W.Output out.old out.new in MatchResult line
+        (λ l. IsWritten w l.items status result) (λ _. Gets w [] × (result ≡ Status.Trouble)) }
     ensures told { (text : List ℕ) → IfOk line (λ l. l.items ≡ text) →
-        IsTold (grown (W.contents out.old) (W.failures out.old) (W.contents out.new) (W.failures out.new)) text status result }
+        IsTold (growth W.Output out.old out.new) text status result }
 {
     if put_line(out, line) {
         status

@@ -4,7 +4,7 @@ ghost use Rattle.std.specs.Prelude.{◌≡◌, option_map};
 ghost use Rattle.edf_order.specs.Order.{meaning};
 ghost use Rattle.edf_command.specs.Command.{IsRead, store_path};
 ghost use Rattle.edf_command.specs.Lines.{store_refused_line};
-ghost use Rattle.edf_command.specs.Output.{grown, IsWritten};
+ghost use Rattle.edf_command.specs.Output.{growth, IsWritten};
 
 use crate::output::tell_bytes;
 use crate::status::Status;
@@ -24,9 +24,7 @@ pub fn read_order<O: Output, F: Output>(
     out: &mut O,
     err: &mut F,
 ) -> Result<Order, Status>
-    ensures { IsRead
-        (grown (O.contents out.old) (O.failures out.old) (O.contents out.new) (O.failures out.new))
-        (grown (F.contents err.old) (F.failures err.old) (F.contents err.new) (F.failures err.new))
+    ensures { IsRead (growth O.Output out.old out.new) (growth F.Output err.old err.new)
         words.now result }
 {
     match parse(alloc, words) {
@@ -72,7 +70,8 @@ fn store_refused_line(fault: &StoreFault) -> &'static str
 
 /// Prints that the store of an order can't be opened. The order is not run.
 pub fn refuse_store<F: Output>(fault: &StoreFault, err: &mut F) -> Status
-    ensures { IsWritten (grown (F.contents err.old) (F.failures err.old) (F.contents err.new) (F.failures err.new)) (store_refused_line fault.now) Status.Trouble result }
+    ensures { IsWritten
+        (growth F.Output err.old err.new) (store_refused_line fault.now) Status.Trouble result }
 {
     tell_bytes(err, store_refused_line(fault).as_bytes(), Status::Trouble)
 }

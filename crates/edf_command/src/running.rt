@@ -2,7 +2,7 @@
 
 ghost use Rattle.std.specs.Prelude.{◌≡◌, ◌++◌, ◌∷◌, [], ℕ, List, Option, IfOk, MatchResult};
 ghost use Rattle.edf_order.specs.Order.{meaning};
-ghost use Rattle.edf_command.specs.Output.{grown};
+ghost use Rattle.edf_command.specs.Output.{growth};
 ghost use Rattle.edf_command.specs.Run.{IsDone, HasOpened, files_of};
 
 use crate::converting::convert;
@@ -53,10 +53,8 @@ pub fn run<S: Alter, I: Inputs, O: Output, F: Output>(
     out: &mut O,
     err: &mut F,
 ) -> Status
-    ensures done { IsDone S.Store store.old store.new
-        (grown (O.contents out.old) (O.failures out.old) (O.contents out.new) (O.failures out.new))
-        (grown (F.contents err.old) (F.failures err.old) (F.contents err.new) (F.failures err.new))
-        (I.bytes inputs.old) (meaning order.now) result }
+    ensures done { IsDone S.Store store.old store.new (growth O.Output out.old out.new)
+        (growth F.Output err.old err.new) (I.bytes inputs.old) (meaning order.now) result }
     ensures opened { HasOpened (I.opened inputs.old) (I.opened inputs.new) (files_of (meaning order.now)) result }
     ensures cap { store.new.cap ≡ store.old.cap }
     ensures same { (name : List ℕ) → I.bytes inputs.new name ≡ I.bytes inputs.old name }

@@ -5,7 +5,7 @@ ghost use Rattle.sqlite.specs.State.{HasCleanDisk};
 ghost use Rattle.edf_holdings.specs.Holdings.{Holdings};
 ghost use Rattle.edf_store.specs.Held.{at, Holds, Stays};
 ghost use Rattle.edf_command.specs.Lines.{export_refused_line, export_status, no_recording_line};
-ghost use Rattle.edf_command.specs.Output.{grown, IsWritten};
+ghost use Rattle.edf_command.specs.Output.{growth, IsWritten};
 ghost use Rattle.edf_command.specs.Refusals.{store_text};
 ghost use Rattle.edf_command.specs.Run.{IsSent, TellsWrites, IsPlaceSent, at_place};
 
@@ -46,7 +46,7 @@ fn export_refused_line(fault: &ExportFault) -> &'static str
 
 /// Prints why a recording is not exported.
 fn tell_refusal<F: Output>(err: &mut F, fault: &ExportFault) -> Status
-    ensures { IsWritten (grown (F.contents err.old) (F.failures err.old) (F.contents err.new) (F.failures err.new))
+    ensures { IsWritten (growth F.Output err.old err.new)
         (export_refused_line fault.now) (export_status fault.now) result }
 {
     let status = status_of_number(fault.number());
@@ -55,7 +55,8 @@ fn tell_refusal<F: Output>(err: &mut F, fault: &ExportFault) -> Status
 
 /// Prints that no recording has the place. Printing takes no memory.
 fn tell_no_recording<F: Output>(err: &mut F, place: u32) -> Status
-    ensures { IsWritten (grown (F.contents err.old) (F.failures err.old) (F.contents err.new) (F.failures err.new)) (no_recording_line place) Status.Refused result }
+    ensures { IsWritten
+        (growth F.Output err.old err.new) (no_recording_line place) Status.Refused result }
 {
     let mut buffer = Buffer::new();
     let digits = buffer.format(place);
@@ -75,13 +76,11 @@ pub(crate) fn send_recording<S: Alter, O: Output, F: Output>(
     err: &mut F,
 ) -> Status
     ensures stays { Stays S.Store store.old store.new }
-    ensures told { TellsWrites S.Store store.old store.new
-        (grown (O.contents out.old) (O.failures out.old) (O.contents out.new) (O.failures out.new))
-        (grown (F.contents err.old) (F.failures err.old) (F.contents err.new) (F.failures err.new)) result }
-    ensures sent { HasCleanDisk (at S.Store store.new) → (h : Holdings) → Holds S.Store store.old h →
-        IsSent S.Store store.old store.new
-        (grown (O.contents out.old) (O.failures out.old) (O.contents out.new) (O.failures out.new))
-        (grown (F.contents err.old) (F.failures err.old) (F.contents err.new) (F.failures err.new)) h identity.now result }
+    ensures told { TellsWrites S.Store store.old store.new (growth O.Output out.old out.new)
+        (growth F.Output err.old err.new) result }
+    ensures sent { HasCleanDisk (at S.Store store.new) → (h : Holdings) →
+        Holds S.Store store.old h → IsSent S.Store store.old store.new
+        (growth O.Output out.old out.new) (growth F.Output err.old err.new) h identity.now result }
 {
     match export(alloc, store, identity, out) {
         Ok(_len) => Status::Done,
@@ -107,9 +106,8 @@ pub(crate) fn send_place<S: Alter, O: Output, F: Output>(
     out: &mut O,
     err: &mut F,
 ) -> Status
-    ensures { IsPlaceSent S.Store store.old store.new
-        (grown (O.contents out.old) (O.failures out.old) (O.contents out.new) (O.failures out.new))
-        (grown (F.contents err.old) (F.failures err.old) (F.contents err.new) (F.failures err.new)) place result }
+    ensures { IsPlaceSent S.Store store.old store.new (growth O.Output out.old out.new)
+        (growth F.Output err.old err.new) place result }
 {
     let recordings = match store.identities() {
         Ok(recordings) => recordings,

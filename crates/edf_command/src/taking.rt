@@ -3,7 +3,7 @@
 ghost use Rattle.std.specs.Prelude.{◌≡◌, ◌++◌, ◌∷◌, ℕ, [], List, IfOk, MatchResult, length, map, string_bytes, codes, decimal};
 ghost use Rattle.edf_command.specs.Lines.{answer_status, take_line, first_take_lines, take_status, status_of_number, worse};
 ghost use Rattle.edf_command.specs.Refusals.{IsSpelling, refusal_text};
-ghost use Rattle.edf_command.specs.Output.{grown, ArePut};
+ghost use Rattle.edf_command.specs.Output.{growth, ArePut};
 ghost use Rattle.edf_command.specs.Run.{IsTaken, HasOpened, OpensFront};
 
 use crate::output::{put_line, tell_bytes};
@@ -83,9 +83,9 @@ fn put_answers<O: Output>(
     files: &[String],
     answers: &[Result<Receipt, Refusal>],
 ) -> bool
-    ensures { (spell : ℕ → List ℕ) → IsSpelling spell →
-        ArePut (grown (O.contents out.old) (O.failures out.old) (O.contents out.new) (O.failures out.new))
-        (first_take_lines spell (map string_bytes files.now) answers.now) (length answers.now) result }
+    ensures { (spell : ℕ → List ℕ) → IsSpelling spell → ArePut (growth O.Output out.old out.new)
+        (first_take_lines spell
+        (map string_bytes files.now) answers.now) (length answers.now) result }
 {
     for (file, answer) in files.iter().zip(answers) {
         if !put_line(out, take_line(alloc, file.as_str(), answer)) {
@@ -125,10 +125,8 @@ pub(crate) fn take<S: Alter, I: Inputs, O: Output, F: Output>(
     out: &mut O,
     err: &mut F,
 ) -> Status
-    ensures taken { IsTaken S.Store store.old store.new
-        (grown (O.contents out.old) (O.failures out.old) (O.contents out.new) (O.failures out.new))
-        (grown (F.contents err.old) (F.failures err.old) (F.contents err.new) (F.failures err.new))
-        (I.bytes inputs.old) (map string_bytes files.now) result }
+    ensures taken { IsTaken S.Store store.old store.new (growth O.Output out.old out.new)
+        (growth F.Output err.old err.new) (I.bytes inputs.old) (map string_bytes files.now) result }
     ensures opened { HasOpened (I.opened inputs.old) (I.opened inputs.new) (map string_bytes files.now) result }
     ensures cap { store.new.cap ≡ store.old.cap }
     ensures same { (name : List ℕ) → I.bytes inputs.new name ≡ I.bytes inputs.old name }

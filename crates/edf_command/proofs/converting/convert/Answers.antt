@@ -1,7 +1,7 @@
 use Rattle.std.proofs.Common.{◌∙◌, ap, subst, refl, inl, inr}
 use Rattle.std.proofs.lemmas.Result.{IfOk-weaker}
 use Rattle.edf_command.specs.Lines.{refused_line, status_of_number}
-use Rattle.edf_command.specs.Output.{grown, IsTold}
+use Rattle.edf_command.specs.Output.{growth, IsTold}
 use Rattle.edf_command.specs.declared.status.Status.{Status}
 use Rattle.edf_command.proofs.Puts.{nothing-gets}
 use Rattle.edf_command.proofs.converting.convert.Goals as goal
@@ -33,6 +33,6 @@ returns-clause-converted g c = inr (inl (record {
   said = λ spell is.
       let text = refused_line spell c.args.file.now c.in-Err.refusal in
       let told = c.tell.ensures.told text (IfOk-weaker c.refused_line.result _ _ (λ r line. line spell is) c.refused_line.ensures) in
-      let IsSo : Status → Type 0 = λ wanted. IsTold (grown (g.F.Output.contents c.args.err.now) (g.F.Output.failures c.args.err.now) (g.F.Output.contents c.tell.new.out) (g.F.Output.failures c.tell.new.out)) text wanted c.tell.result in
+      let IsSo : Status → Type 0 = λ wanted. IsTold (growth g.F.Output c.args.err.now c.tell.new.out) text wanted c.tell.result in
       (nothing-gets (g.O.Output.contents c.args.out.now) (g.O.Output.failures c.args.out.now), subst IsSo (c.status_of_number-status.ensures ∙ ap status_of_number c.number.ensures) told);
 }))

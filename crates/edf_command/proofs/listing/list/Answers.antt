@@ -4,7 +4,7 @@ use Rattle.edf_holdings.proofs.KeyLists.{keys_are_one}
 use Rattle.edf_store.proofs.ReadyLemmas.{stays_then}
 use Rattle.edf_command.specs.Run.{AreHeldBy}
 use Rattle.edf_command.specs.Lines.{first_list_lines}
-use Rattle.edf_command.specs.Output.{grown, Gets, ArePut}
+use Rattle.edf_command.specs.Output.{growth, Gets, ArePut}
 use Rattle.edf_command.specs.declared.status.Status.TheVariants.{Done}
 use Rattle.edf_command.proofs.Puts.{nothing-gets, trouble-lines}
 use Rattle.edf_command.proofs.Kept.{was-clean, is-refusal}
@@ -41,7 +41,7 @@ returns-in-Ok-true g c =
             keys = keys;
             are_keys = are;
             said = λ spell is.
-                let w = grown (g.O.Output.contents c.args.out.now) (g.O.Output.failures c.args.out.now) (g.O.Output.contents c.put_recordings.new.out) (g.O.Output.failures c.put_recordings.new.out) in
+                let w = growth g.O.Output c.args.out.now c.put_recordings.new.out in
                 let IsOut : Bool → List Key → Type 0 = λ written ks. ArePut w (first_list_lines spell h ks) (length ks) written in
                 let put = c.in-Ok-true.ensures.put clean h spell (c.identities.ensures.stays.holdings h holds) all is in
                 let done = subst (IsOut true) c.as_slice.ensures.value (subst (λ (b : Bool). IsOut b c.as_slice.result.now) c.in-Ok-true.field-0-test put) in
@@ -67,7 +67,7 @@ returns-in-Ok-false g c =
             keys = keys;
             are_keys = are;
             said = λ spell is.
-                let w = grown (g.O.Output.contents c.args.out.now) (g.O.Output.failures c.args.out.now) (g.O.Output.contents c.put_recordings.new.out) (g.O.Output.failures c.put_recordings.new.out) in
+                let w = growth g.O.Output c.args.out.now c.put_recordings.new.out in
                 let IsOut : Bool → List Key → Type 0 = λ written ks. ArePut w (first_list_lines spell h ks) (length ks) written in
                 let put = c.in-Ok-false.ensures.put clean h spell (c.identities.ensures.stays.holdings h holds) all is in
                 let done = subst (IsOut false) c.as_slice.ensures.value (subst (λ (b : Bool). IsOut b c.as_slice.result.now) c.in-Ok-false.field-0-test put) in
@@ -97,7 +97,7 @@ returns g c =
             told = then.0;
             first = λ others they. (drop stop.0 keys, keys_are_one h others keys they are ∙ sym (take-append-drop stop.0 keys));
             written = λ spell is.
-                let IsOut : List Key → Type 0 = λ ks. Gets (grown (g.O.Output.contents c.args.out.now) (g.O.Output.failures c.args.out.now) (g.O.Output.contents c.put_recordings.new.out) (g.O.Output.failures c.put_recordings.new.out)) (first_list_lines spell h ks stop.0) in
+                let IsOut : List Key → Type 0 = λ ks. Gets (growth g.O.Output c.args.out.now c.put_recordings.new.out) (first_list_lines spell h ks stop.0) in
                 subst IsOut c.as_slice.ensures.value (then.1 spell is);
             said = c.tell_refusal-in-Err-put_recordings.ensures;
           });

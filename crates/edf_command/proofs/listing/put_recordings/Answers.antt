@@ -4,7 +4,7 @@ use Rattle.std.proofs.lemmas.List.{take_all}
 use Rattle.std.proofs.lemmas.Result.{err_from_is_err_and}
 use Rattle.edf_store.proofs.ReadyLemmas.{stays_then}
 use Rattle.edf_command.specs.Lines.{list_line, list_lines, first_list_lines}
-use Rattle.edf_command.specs.Output.{grown, Gets, IsLinePut}
+use Rattle.edf_command.specs.Output.{growth, Gets, IsLinePut}
 use Rattle.edf_command.proofs.Puts.{nothing-gets, gets-behind, gets-no_more, stops-behind}
 use Rattle.edf_command.proofs.Kept.{stays-same, was-clean}
 use Rattle.edf_command.proofs.Written.{listed-next, listed-past}
@@ -29,10 +29,10 @@ loop-at-preserved g c =
       stays = stays_then g.S.Store old mid new c.loop-at.invariant.stays c.in_ok-put_recording.ensures.stays;
       counted = c.in_ok-put_recording.ensures.counted c.if-not-branch.false ∙ c.loop-at.invariant.counted;
       put = λ clean h holds held spell is.
-          let IsOut : List ℕ → Type 0 = λ bytes. Gets (grown (g.O.Output.contents c.args.out.now) (g.O.Output.failures c.args.out.now) (g.O.Output.contents c.put_recording.new.out) (g.O.Output.failures c.put_recording.new.out)) bytes in
+          let IsOut : List ℕ → Type 0 = λ bytes. Gets (growth g.O.Output c.args.out.now c.put_recording.new.out) bytes in
           let some = held key (at, c.loop-at-test.true, sym c.index-recordings-at.is) in
           let first = c.loop-at.invariant.put (was-clean g.S.Store mid new c.in_ok-put_recording.ensures.stays clean) h holds held spell is in
-          let IsOne : Bool → Type 0 = λ written. IsLinePut (grown (g.O.Output.contents c.loop-at.out) (g.O.Output.failures c.loop-at.out) (g.O.Output.contents c.put_recording.new.out) (g.O.Output.failures c.put_recording.new.out)) (list_line spell (at + 1) key (h key)) written in
+          let IsOne : Bool → Type 0 = λ written. IsLinePut (growth g.O.Output c.loop-at.out c.put_recording.new.out) (list_line spell (at + 1) key (h key)) written in
           let one = subst IsOne c.if-not-branch.false (c.in_ok-put_recording.ensures.put clean h spell (c.loop-at.invariant.stays.holdings h holds) some is) in
           subst IsOut (sym (listed-next spell h recordings at key c.loop-at-test.true c.index-recordings-at.is))
           (gets-behind (g.O.Output.contents c.args.out.now) (g.O.Output.failures c.args.out.now) (g.O.Output.contents c.loop-at.out) (g.O.Output.failures c.loop-at.out) (g.O.Output.contents c.put_recording.new.out) (g.O.Output.failures c.put_recording.new.out)
@@ -53,7 +53,7 @@ returns-then-not-branch g c =
       put = λ clean h spell holds held is.
           let some = held key (at, c.loop-at-test.true, sym c.index-recordings-at.is) in
           let first = c.loop-at.invariant.put (was-clean g.S.Store mid new c.in_ok-put_recording.ensures.stays clean) h holds held spell is in
-          let IsOne : Bool → Type 0 = λ written. IsLinePut (grown (g.O.Output.contents c.loop-at.out) (g.O.Output.failures c.loop-at.out) (g.O.Output.contents c.put_recording.new.out) (g.O.Output.failures c.put_recording.new.out)) (list_line spell (at + 1) key (h key)) written in
+          let IsOne : Bool → Type 0 = λ written. IsLinePut (growth g.O.Output c.loop-at.out c.put_recording.new.out) (list_line spell (at + 1) key (h key)) written in
           let one = subst IsOne c.if-not-branch.true (c.in_ok-put_recording.ensures.put clean h spell (c.loop-at.invariant.stays.holdings h holds) some is) in
           let past = listed-past spell h recordings at key c.loop-at-test.true c.index-recordings-at.is in
           stops-behind (g.O.Output.contents c.args.out.now) (g.O.Output.failures c.args.out.now) (g.O.Output.contents c.loop-at.out) (g.O.Output.failures c.loop-at.out) (g.O.Output.contents c.put_recording.new.out) (g.O.Output.failures c.put_recording.new.out)
@@ -95,7 +95,7 @@ returns g c = record {
   counted = λ _. c.loop-at.invariant.counted;
   put = λ clean h spell holds held is.
       let recordings = c.args.recordings.now in
-      let IsOut : List ℕ → Type 0 = λ bytes. Gets (grown (g.O.Output.contents c.args.out.now) (g.O.Output.failures c.args.out.now) (g.O.Output.contents c.loop-at.out) (g.O.Output.failures c.loop-at.out)) bytes in
+      let IsOut : List ℕ → Type 0 = λ bytes. Gets (growth g.O.Output c.args.out.now c.loop-at.out) bytes in
       let all = take_all c.loop-at.at recordings (omega arith) ∙ sym (take_all (length recordings) recordings (omega arith)) in
       subst IsOut (ap (list_lines spell h 1) all) (c.loop-at.invariant.put clean h holds held spell is);
   refused = λ clean. tt;

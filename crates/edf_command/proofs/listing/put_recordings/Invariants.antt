@@ -4,7 +4,7 @@ use Rattle.edf_holdings.specs.Holdings.{Holdings}
 use Rattle.edf_store.specs.Held.{at, Holds, Stays}
 use Rattle.edf_command.specs.Refusals.{IsSpelling}
 use Rattle.edf_command.specs.Lines.{first_list_lines}
-use Rattle.edf_command.specs.Output.{grown, Gets}
+use Rattle.edf_command.specs.Output.{growth, Gets}
 use Rattle.edf_command.specs.Run.{AreHeldBy}
 use Rattle.edf_command.proofs.listing.put_recordings.Given as goal
 
@@ -14,5 +14,5 @@ invariant-loop-at g l = record {
   counted : g.O.Output.failures l.out ≡ g.O.Output.failures l.fn.out;
   put : HasCleanDisk (at g.S.Store l.store) → (h : Holdings) → Holds g.S.Store l.fn.store h → AreHeldBy h l.recordings
       → (spell : ℕ → List ℕ) → IsSpelling spell
-      → Gets (grown (g.O.Output.contents l.fn.out) (g.O.Output.failures l.fn.out) (g.O.Output.contents l.out) (g.O.Output.failures l.out)) (first_list_lines spell h l.recordings l.at);
+      → Gets (growth g.O.Output l.fn.out l.out) (first_list_lines spell h l.recordings l.at);
 }

@@ -1,10 +1,10 @@
 use Rattle.std.proofs.Common.{◌∙◌, List, ℕ, subst}
-use Rattle.edf_command.specs.Output.{grown, IsWritten}
+use Rattle.edf_command.specs.Output.{growth, IsWritten}
 use Rattle.edf_command.specs.declared.status.Status.TheVariants.{Trouble}
 use Rattle.edf_command.proofs.listing.tell_refusal.Goals as goal
 
 pub returns : goal.returns
 returns g c =
-    let w = grown (g.F.Output.contents c.args.err.now) (g.F.Output.failures c.args.err.now) (g.F.Output.contents c.tell_bytes.new.out) (g.F.Output.failures c.tell_bytes.new.out) in
+    let w = growth g.F.Output c.args.err.now c.tell_bytes.new.out in
     let IsSo : List ℕ → Type 0 = λ line. IsWritten w line Trouble c.tell_bytes.result in
     subst IsSo (c.as_bytes.ensures.value ∙ c.list_refused_line.ensures) c.tell_bytes.ensures

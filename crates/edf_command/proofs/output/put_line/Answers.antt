@@ -1,6 +1,6 @@
 use Rattle.std.proofs.Common.{List, ℕ, Vec, Global, false, subst, refl}
-use Rattle.edf_command.specs.Output.{grown, IsPut}
-use Rattle.edf_command.proofs.Puts.{put-sent, nothing-gets, line-put, IsPutBy}
+use Rattle.edf_command.specs.Output.{IsPut}
+use Rattle.edf_command.proofs.Puts.{grown, put-sent, nothing-gets, line-put, IsPutBy}
 use Rattle.edf_command.proofs.output.put_line.Goals as goal
 
 pub returns-in-Ok : goal.returns-in-Ok

@@ -1,12 +1,12 @@
 use Rattle.std.proofs.Common.{ℕ, Vec, Global}
-use Rattle.edf_command.specs.Output.{grown}
+use Rattle.edf_command.specs.Output.{growth}
 use Rattle.edf_command.specs.declared.status.Status.TheVariants.{Trouble}
 use Rattle.edf_command.proofs.Puts.{line-told, told-whole, told-trouble}
 use Rattle.edf_command.proofs.output.tell.Goals as goal
 
 pub returns-then-put_line : goal.returns-then-put_line
 returns-then-put_line g c =
-    let w = grown (g.W.Output.contents c.args.out.now) (g.W.Output.failures c.args.out.now) (g.W.Output.contents c.put_line.new.out) (g.W.Output.failures c.put_line.new.out) in
+    let w = growth g.W.Output c.args.out.now c.put_line.new.out in
     let own = told-whole w (λ (v : Vec ℕ Global). v.items) c.args.line c.put_line.result c.args.status c.put_line.ensures.line c.if-put_line.true in
     record {
       line = own;
@@ -15,7 +15,7 @@ returns-then-put_line g c =
 
 pub returns-else-put_line : goal.returns-else-put_line
 returns-else-put_line g c =
-    let w = grown (g.W.Output.contents c.args.out.now) (g.W.Output.failures c.args.out.now) (g.W.Output.contents c.put_line.new.out) (g.W.Output.failures c.put_line.new.out) in
+    let w = growth g.W.Output c.args.out.now c.put_line.new.out in
     let own = told-trouble w (λ (v : Vec ℕ Global). v.items) c.args.line c.put_line.result c.args.status c.put_line.ensures.line c.if-put_line.false in
     record {
       line = own;

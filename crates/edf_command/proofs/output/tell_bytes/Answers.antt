@@ -1,5 +1,4 @@
-use Rattle.edf_command.specs.Output.{grown}
-use Rattle.edf_command.proofs.Puts.{put-sent, done-put, trouble-put}
+use Rattle.edf_command.proofs.Puts.{grown, put-sent, done-put, trouble-put}
 use Rattle.edf_command.proofs.output.tell_bytes.Goals as goal
 
 pub returns-then-send : goal.returns-then-send

@@ -1,14 +1,14 @@
 use Rattle.std.proofs.Common.{List, ℕ, sym, subst}
 use Rattle.edf_order.specs.Order.{meaning}
 use Rattle.edf_order.specs.declared.order.Order.{Order}
-use Rattle.edf_command.specs.Output.{grown}
+use Rattle.edf_command.specs.Output.{growth}
 use Rattle.edf_command.specs.Run.{IsDone, IsConverted}
 use Rattle.edf_command.proofs.running.run.Goals as goal
 
 pub returns-in-Convert-clause-done : goal.returns-in-Convert-clause-done
 returns-in-Convert-clause-done g c =
-    let out = grown (g.O.Output.contents c.args.out.now) (g.O.Output.failures c.args.out.now) (g.O.Output.contents c.convert.new.out) (g.O.Output.failures c.convert.new.out) in
-    let err = grown (g.F.Output.contents c.args.err.now) (g.F.Output.failures c.args.err.now) (g.F.Output.contents c.convert.new.err) (g.F.Output.failures c.convert.new.err) in
+    let out = growth g.O.Output c.args.out.now c.convert.new.out in
+    let err = growth g.F.Output c.args.err.now c.convert.new.err in
     let bytes = g.I.Inputs.bytes c.args.inputs.now in
     let Does : Order → Type 0 = λ order. IsDone g.S.Store c.args.store.now c.convert.new.store out err bytes (meaning order) c.convert.result in
     let Converts : List ℕ → Type 0 = λ name. IsConverted g.S.Store c.args.store.now c.convert.new.store out err (bytes name) name c.convert.result in

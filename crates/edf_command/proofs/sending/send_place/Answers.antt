@@ -5,7 +5,7 @@ use Rattle.edf_store.proofs.ReadyLemmas.{stays_then}
 use Rattle.edf_command.specs.Run.{at_place}
 use Rattle.edf_export.specs.declared.fault.ExportFault.TheVariants.{Store}
 use Rattle.edf_command.specs.Lines.{no_recording_line}
-use Rattle.edf_command.specs.Output.{grown, Explains}
+use Rattle.edf_command.specs.Output.{growth, Explains}
 use Rattle.edf_command.specs.declared.status.Status.TheVariants.{Refused}
 use Rattle.edf_command.proofs.Kept.{was-clean, is-refusal}
 use Rattle.edf_command.proofs.Puts.{nothing-gets}
@@ -39,7 +39,7 @@ returns-in-Some g c =
 pub returns : goal.returns
 returns g c =
     let at : List Key → Option Key = λ keys. at_place keys c.args.place in
-    let said : Explains (grown (g.O.Output.contents c.args.out.now) (g.O.Output.failures c.args.out.now) (g.O.Output.contents c.args.out.now) (g.O.Output.failures c.args.out.now)) (grown (g.F.Output.contents c.args.err.now) (g.F.Output.failures c.args.err.now) (g.F.Output.contents c.tell_no_recording.new.err) (g.F.Output.failures c.tell_no_recording.new.err)) (no_recording_line c.args.place) Refused c.tell_no_recording.result
+    let said : Explains (growth g.O.Output c.args.out.now c.args.out.now) (growth g.F.Output c.args.err.now c.tell_no_recording.new.err) (no_recording_line c.args.place) Refused c.tell_no_recording.result
     = (nothing-gets (g.O.Output.contents c.args.out.now) (g.O.Output.failures c.args.out.now), c.tell_no_recording.ensures) in
     record {
       stays = c.identities.ensures.stays;

@@ -4,8 +4,8 @@ use Rattle.std.proofs.lemmas.Result.{IfOk-weaker}
 use Rattle.std.proofs.lemmas.Slice.Zip.{zip_turn, zip_end}
 use Rattle.std.specs.List.{flat_map}
 use Rattle.edf_command.specs.Lines.{take_line, first_take_lines}
-use Rattle.edf_command.specs.Output.{grown, Gets}
-use Rattle.edf_command.proofs.Puts.{nothing-gets, gets-behind, stops-behind}
+use Rattle.edf_command.specs.Output.{growth, Gets}
+use Rattle.edf_command.proofs.Puts.{grown, nothing-gets, gets-behind, stops-behind}
 use Rattle.edf_command.proofs.Written.{pairs, pair_line, length-pairs, first-pairs, all-pairs, taken-more, first-split}
 use Rattle.edf_command.proofs.taking.put_answers.Goals as goal
 
@@ -56,5 +56,5 @@ returns g c spell is =
     let answers = c.args.answers.now in
     let n = length c.loop-file.yielded in
     let end = zip_end files answers c.loop-file.yielded c.into_iter-file-iterator.result c.loop-file.file-iterator c.next.new.self c.next.result (cc) (cc) c.loop-file.yielded_by c.in-None.is c.next.ensures.steps in
-    let IsOut : List ℕ → Type 0 = λ bytes. Gets (grown (g.O.Output.contents c.args.out.now) (g.O.Output.failures c.args.out.now) (g.O.Output.contents c.loop-file.out) (g.O.Output.failures c.loop-file.out)) bytes in
+    let IsOut : List ℕ → Type 0 = λ bytes. Gets (growth g.O.Output c.args.out.now c.loop-file.out) bytes in
     subst IsOut (ap (flat_map (pair_line spell files answers)) (take_all n (pairs spell files answers) (length-pairs spell files answers n end)) ∙ sym (all-pairs spell files answers)) (c.loop-file.invariant spell is)

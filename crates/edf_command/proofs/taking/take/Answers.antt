@@ -4,7 +4,7 @@ use Rattle.std.proofs.lemmas.Simd.{map-map}
 use Rattle.edf_intake.specs.Refusal.{Answer}
 use Rattle.edf_intake.specs.Source.{Source}
 use Rattle.edf_command.specs.Lines.{first_take_lines, take_status}
-use Rattle.edf_command.specs.Output.{grown, ArePut}
+use Rattle.edf_command.specs.Output.{growth, ArePut}
 use Rattle.edf_command.proofs.Puts.{nothing-gets, trouble-lines}
 use Rattle.edf_command.proofs.taking.take.Goals as goal
 
@@ -30,7 +30,7 @@ returns-then-put_answers-clause-taken g c =
       answered = c.in-Ok-submit_all.ensures.answered;
       said = λ spell is.
           let names = map string_bytes files in
-          let IsOut : List Answer → Type 0 = λ answers. ArePut (grown (g.O.Output.contents c.args.out.now) (g.O.Output.failures c.args.out.now) (g.O.Output.contents c.put_answers.new.out) (g.O.Output.failures c.put_answers.new.out)) (first_take_lines spell names answers) (length answers) true in
+          let IsOut : List Answer → Type 0 = λ answers. ArePut (growth g.O.Output c.args.out.now c.put_answers.new.out) (first_take_lines spell names answers) (length answers) true in
           inl (inl (subst IsOut c.as_slice.ensures.value (c.if-put_answers.ensures spell is), c.take_status.ensures ∙ ap take_status c.as_slice-then-put_answers.ensures.value));
       silent = nothing-gets (g.F.Output.contents c.args.err.now) (g.F.Output.failures c.args.err.now);
     })
@@ -54,7 +54,7 @@ returns-clause-taken g c =
       said = λ spell is.
           let names = map string_bytes files in
           let answers = c.in-Ok-submit_all.answers.items in
-          let w = grown (g.O.Output.contents c.args.out.now) (g.O.Output.failures c.args.out.now) (g.O.Output.contents c.put_answers.new.out) (g.O.Output.failures c.put_answers.new.out) in
+          let w = growth g.O.Output c.args.out.now c.put_answers.new.out in
           let IsOut : List Answer → Type 0 = λ answers. ArePut w (first_take_lines spell names answers) (length answers) false in
           trouble-lines w (first_take_lines spell names answers) (length answers) (take_status answers) (subst IsOut c.as_slice.ensures.value (c.if-put_answers.ensures spell is));
       silent = nothing-gets (g.F.Output.contents c.args.err.now) (g.F.Output.failures c.args.err.now);
