@@ -1,5 +1,6 @@
 pub mod WalkLemmas
 pub mod RefusedLemmas
+pub mod ShownLemmas
 pub mod StandLemmas
 pub mod CheckLemmas
 pub mod CountLemmas

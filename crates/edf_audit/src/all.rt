@@ -6,11 +6,11 @@ ghost use Rattle.sqlite.specs.Held.{state};
 ghost use Rattle.sqlite.specs.State.{HasCleanDisk, IsLive};
 ghost use Rattle.edf_schema.specs.Columns.{id_order};
 ghost use Rattle.edf_rows.specs.Cells.{recordings_in};
-ghost use Rattle.edf_audit.specs.Kept.{KeepsRows};
+ghost use Rattle.edf_audit.specs.Kept.{KeepsRows, KeepsShown};
 ghost use Rattle.edf_audit.specs.Refused.{IsUnchecked};
 ghost use Rattle.edf_audit.specs.All.{IsAfter, IsNotAfter, Counts, Answers};
 ghost use Rattle.edf_tables.specs.Statement.{HasBothTables, tables, IfClean, Gives, Leaves};
-ghost use Rattle.edf_tables.specs.Statement.{FailsAs, KeepsCommittedOnErr, IsCrashSafe};
+ghost use Rattle.edf_tables.specs.Statement.{FailsAs, LeavesOnErr, IsCrashSafe};
 
 use crate::check::check_row;
 use edf_tables::{count_all_rows, recordings};
@@ -58,7 +58,7 @@ fn count_owned<S: Alter>(
     ensures counts { Gives S.Store conn.new result (Counts cap (tables S.Store conn.old) rows.now) }
     ensures low { IfOk result (λ o. IfSome o (λ sum. sum < 2 ^ 63 - 1)) }
     ensures same { Leaves S.Store conn.old conn.new result KeepsRows }
-    ensures refused { KeepsCommittedOnErr S.Store conn.old conn.new result }
+    ensures refused { LeavesOnErr S.Store conn.old conn.new result KeepsShown }
     ensures survives { IsCrashSafe S.Store conn.old conn.new }
 {
     let mut sum: u64 = 0;
@@ -98,7 +98,7 @@ pub fn check_all<S: Alter>(alloc: Global, conn: &mut Connection<S>, cap: u32) ->
     ensures answers { Gives S.Store conn.new result (Answers cap (tables S.Store conn.old)) }
     ensures same { Leaves S.Store conn.old conn.new result KeepsRows }
     ensures is_open { Leaves S.Store conn.old conn.new result (λ _ new. IsTrue new.is_open) }
-    ensures refused { KeepsCommittedOnErr S.Store conn.old conn.new result }
+    ensures refused { LeavesOnErr S.Store conn.old conn.new result KeepsShown }
     ensures survives { IsCrashSafe S.Store conn.old conn.new }
 {
     let found = recordings(conn)?;

@@ -3,10 +3,10 @@
 ghost use Rattle.std.specs.Prelude.{◌≡◌, ◌<◌, ◌^◌, ◌-◌, IfErr};
 ghost use Rattle.sqlite.specs.State.{IsUnchanged};
 ghost use Rattle.edf_tables.specs.Refused.{IsUnread};
-ghost use Rattle.edf_audit.specs.Kept.{KeepsRows, Checks, first_two};
+ghost use Rattle.edf_audit.specs.Kept.{KeepsRows, KeepsShown, Checks, first_two};
 ghost use Rattle.edf_rows.specs.Rows.{IsRecording};
 ghost use Rattle.edf_tables.specs.Statement.{HasBothTables, tables, IfClean, Gives, Leaves};
-ghost use Rattle.edf_tables.specs.Statement.{FailsAs, KeepsCommittedOnErr, IsCrashSafe};
+ghost use Rattle.edf_tables.specs.Statement.{FailsAs, LeavesOnErr, IsCrashSafe};
 
 use crate::walk::check_recording;
 use edf_header::{Identity, IdentityFault};
@@ -31,7 +31,7 @@ pub fn check_row<S: Alter>(
         IfErr result (λ e. e ≡ Error.SqliteFailure ErrorCode.OutOfMemory) }
     ensures told { Gives S.Store conn.new result (Checks cap (tables S.Store conn.old) row.now) }
     ensures same { Leaves S.Store conn.old conn.new result KeepsRows }
-    ensures refused { KeepsCommittedOnErr S.Store conn.old conn.new result }
+    ensures refused { LeavesOnErr S.Store conn.old conn.new result KeepsShown }
     ensures survives { IsCrashSafe S.Store conn.old conn.new }
 {
     let Ok(ValueRef::Int(id)) = row.get_ref(0) else {

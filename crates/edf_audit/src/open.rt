@@ -3,7 +3,7 @@
 ghost use Rattle.std.specs.Prelude.{◌≡◌, ◌<◌, ◌^◌, ◌-◌, Ok, false, IsTrue};
 ghost use Rattle.sqlite.specs.Held.{state};
 ghost use Rattle.sqlite.specs.State.{Survives};
-ghost use Rattle.edf_tables.specs.Made.{IsOurs, HasTables, IsMadeOf};
+ghost use Rattle.edf_tables.specs.Made.{IsOurs, HasTables, KeepsFile, IsMadeOf};
 ghost use Rattle.edf_audit.specs.All.{Answers};
 ghost use Rattle.edf_audit.specs.File.{Audits};
 ghost use Rattle.edf_audit.specs.Refused.{IsUnaudited};
@@ -30,6 +30,7 @@ fn audit_tables<S: Alter>(alloc: Global, conn: &mut Connection<S>, cap: u32) -> 
     ensures settled { Leaves S.Store conn.old conn.new result (λ _ new. new.committed ≡ new.now) }
     ensures idle { Leaves S.Store conn.old conn.new result (λ _ new. new.in_transaction ≡ false) }
     ensures why { FailsAs S.Store conn.old conn.new result IsUnaudited }
+    ensures stays { IfClean S.Store conn.new (KeepsFile (state S.Store conn.old)) }
     ensures survives { Survives (state S.Store conn.old) (state S.Store conn.new)
         (IsMadeOf (state S.Store conn.old).now) }
 {
@@ -43,6 +44,7 @@ fn audit_tables<S: Alter>(alloc: Global, conn: &mut Connection<S>, cap: u32) -> 
 /// Whether a file is one that submissions under the cap leave; if its tables are ours, those that are missing are made.
 ///
 /// A file with any other table, index or view, or with other columns under our names, is left as it is.
+/// Whatever is answered, the committed rows stay, and what is shown stays or an open transaction is undone: clause `stays`.
 ///
 /// # Errors
 /// `sqlite`'s; the committed rows stay, an open transaction may be undone, and tables may have been made. Of its own, in `sqlite`'s
@@ -57,6 +59,7 @@ pub fn audit<S: Alter>(alloc: Global, conn: &mut Connection<S>, cap: u32) -> Res
     ensures answers { Gives S.Store conn.new result
         (Audits cap (state S.Store conn.old) (state S.Store conn.new)) }
     ensures why { FailsAs S.Store conn.old conn.new result IsUnaudited }
+    ensures stays { IfClean S.Store conn.new (KeepsFile (state S.Store conn.old)) }
     ensures survives { Survives (state S.Store conn.old) (state S.Store conn.new)
         (IsMadeOf (state S.Store conn.old).now) }
 {

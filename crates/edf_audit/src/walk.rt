@@ -5,9 +5,10 @@ ghost use Rattle.edf_field.specs.Number.{duration_of};
 ghost use Rattle.edf_tables.specs.Refused.{IsUnread};
 ghost use Rattle.edf_rows.specs.Cells.{records_in};
 ghost use Rattle.edf_rows.specs.Foreign.{IsBadRow};
+ghost use Rattle.edf_audit.specs.Kept.{KeepsShown};
 ghost use Rattle.edf_audit.specs.Walk.{IsStartOf, IsNext, IsRowRefused, IsWrong, Tells};
 ghost use Rattle.edf_tables.specs.Statement.{HasBothTables, tables, IfClean, Gives, OnlyReads};
-ghost use Rattle.edf_tables.specs.Statement.{FailsAs, KeepsCommittedOnErr, IsCrashSafe};
+ghost use Rattle.edf_tables.specs.Statement.{FailsAs, LeavesOnErr, IsCrashSafe};
 
 use edf_header::Identity;
 use edf_rows::check_row;
@@ -90,7 +91,7 @@ pub fn check_recording<S: Alter>(
     ensures told { Gives S.Store conn.new result
         (Tells cap identity.now (records_in (tables S.Store conn.old) recording)) }
     ensures same { OnlyReads S.Store conn.old conn.new result }
-    ensures refused { KeepsCommittedOnErr S.Store conn.old conn.new result }
+    ensures refused { LeavesOnErr S.Store conn.old conn.new result KeepsShown }
     ensures survives { IsCrashSafe S.Store conn.old conn.new }
 {
     let mut rows = conn.query(

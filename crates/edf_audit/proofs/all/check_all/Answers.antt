@@ -11,6 +11,10 @@ use Rattle.edf_audit.specs.Refused.{IsUnchecked}
 use Rattle.edf_audit.specs.Refused.IsUnchecked.{untold}
 use Rattle.edf_audit.proofs.RefusedLemmas.{unchecked_since, untold_unchecked}
 use Rattle.edf_audit.proofs.AllLemmas.{told_all}
+use Rattle.edf_tables.proofs.KeepLemmas.{on_err}
+use Rattle.edf_audit.specs.Kept.{KeepsRows, KeepsShown}
+use Rattle.edf_audit.proofs.AllLemmas.{rows_left, rows_then}
+use Rattle.edf_audit.proofs.ShownLemmas.{shown_left, shown_then}
 use Rattle.edf_audit.proofs.all.check_all.Goals as goal
 
 pub returns-in_default-clause-answers : goal.returns-in_default-clause-answers
@@ -60,3 +64,27 @@ returns-in_err-all-clause-why g c clean =
     let why = untold_unchecked (state g.S.Store c.args.conn.now) was (state g.S.Store c.count_all_rows.new.conn) _ _ _ before c.count_all_rows.ensures.survives clean (c.in_err-all.ensures.why clean) in
     let told = err_from_is_err_and c.from_residual-in_err-all.result c.from_residual-in_err-all.ensures.1 in
     rw (told.1, told.2) why
+
+pub returns-in_err-found-clause-refused : goal.returns-in_err-found-clause-refused
+returns-in_err-found-clause-refused g c clean =
+    let kept : KeepsShown (state g.S.Store c.args.conn.now) (state g.S.Store c.recordings.new.conn) = shown_left _ _ (c.in_err-found.ensures.refused clean) in
+    on_err _ kept
+
+pub returns-in_err-sum-clause-refused : goal.returns-in_err-sum-clause-refused
+returns-in_err-sum-clause-refused g c clean =
+    let old = state g.S.Store c.args.conn.now in
+    let mid = state g.S.Store c.recordings.new.conn in
+    let early : HasCleanDisk mid = omega (arith, c.count_owned.ensures.survives.clean) in
+    let kept : KeepsShown old (state g.S.Store c.count_owned.new.conn) = shown_then old mid _ (rows_left old mid (c.in_ok-found.ensures.same early)) (c.in_err-sum.ensures.refused clean) in
+    on_err _ kept
+
+pub returns-in_err-all-clause-refused : goal.returns-in_err-all-clause-refused
+returns-in_err-all-clause-refused g c clean =
+    let old = state g.S.Store c.args.conn.now in
+    let mid = state g.S.Store c.recordings.new.conn in
+    let was = state g.S.Store c.count_owned.new.conn in
+    let late : HasCleanDisk was = omega (arith, c.count_all_rows.ensures.survives.clean) in
+    let early : HasCleanDisk mid = omega (arith, c.count_owned.ensures.survives.clean, late) in
+    let before : KeepsRows old was = rows_then old mid was (rows_left old mid (c.in_ok-found.ensures.same early)) (c.in_ok-sum.ensures.same late) in
+    let kept : KeepsShown old (state g.S.Store c.count_all_rows.new.conn) = shown_then old was _ before (shown_left _ _ (c.in_err-all.ensures.refused clean)) in
+    on_err _ kept

@@ -11,10 +11,12 @@ use Rattle.sqlite.specs.State.{HasCleanDisk}
 use Rattle.edf_tables.proofs.CommitLemmas.{quiet_then, survives_same}
 use Rattle.edf_rows.specs.Cells.{recordings_in}
 use Rattle.edf_audit.specs.All.{IsAfter, AreCounted, owns}
-use Rattle.edf_audit.specs.Kept.{Checks}
+use Rattle.edf_audit.specs.Kept.{KeepsShown, Checks}
 use Rattle.edf_audit.proofs.RefusedLemmas.{unread_unchecked}
 use Rattle.edf_audit.proofs.CountLemmas.{counted_none}
 use Rattle.edf_audit.proofs.AllLemmas.{rows_same, rows_then, row_in, up_more, last_more, id_twice, counted_more, shorter}
+use Rattle.edf_tables.proofs.KeepLemmas.{on_err}
+use Rattle.edf_audit.proofs.ShownLemmas.{shown_rows, shown_then}
 use Rattle.edf_audit.proofs.all.count_owned.Goals as goal
 
 pub loop-row-init : goal.loop-row-init
@@ -88,3 +90,19 @@ returns-in_default-next_id-clause-counts g c clean =
     let here = row_in (recordings_in old.now.trees) c.args.rows.now c.loop-row.row-index c.row-item.result (c.requires.listed early) (search rules) (search rules) in
     let has = (subst (λ (d : Database). Checks c.args.cap d.trees c.row-item.result (Some c.in-Some.count)) (inv.same late).now_is told here).0 in
     id_twice c.args.cap old.now.trees c.args.rows.now c.loop-row.row-index c.row-item.result c.loop-row.last has.id (c.requires.listed early) (c.requires.ordered early) (search rules) (search rules) inv.met (ap (λ (r : Row). column r 0) has.cells) c.in_default-next_id.ensures
+
+pub returns-in_err-count-clause-refused : goal.returns-in_err-count-clause-refused
+returns-in_err-count-clause-refused g c clean =
+    let old = state g.S.Store c.args.conn.now in
+    let was = state g.S.Store c.loop-row.conn in
+    let late : HasCleanDisk was = omega (arith, c.check_row.ensures.survives.clean) in
+    let kept : KeepsShown old (state g.S.Store c.check_row.new.conn) = shown_then old was _ (c.loop-row.invariant.same late) (c.in_err-count.ensures.refused clean) in
+    on_err _ kept
+
+pub returns-then-more-ge-MOST_COUNTED-clause-refused : goal.returns-then-more-ge-MOST_COUNTED-clause-refused
+returns-then-more-ge-MOST_COUNTED-clause-refused g c clean =
+    let old = state g.S.Store c.args.conn.now in
+    let was = state g.S.Store c.loop-row.conn in
+    let now = state g.S.Store c.check_row.new.conn in
+    let late : HasCleanDisk was = omega (arith, c.check_row.ensures.survives.clean) in
+    shown_rows old now (rows_then old was now (c.loop-row.invariant.same late) (c.in_ok-count.ensures.same clean))

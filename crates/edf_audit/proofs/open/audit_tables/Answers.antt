@@ -1,7 +1,10 @@
+use Rattle.std.proofs.Common.{arith}
 use Rattle.std.proofs.lemmas.Result.{err_from_is_err_and}
 use Rattle.sqlite.specs.Held.{state}
+use Rattle.sqlite.specs.State.{HasCleanDisk}
 use Rattle.edf_audit.specs.Refused.{IsUnaudited}
 use Rattle.edf_audit.specs.Refused.IsUnaudited.{unmade}
+use Rattle.edf_audit.proofs.ShownLemmas.{file_checked}
 use Rattle.edf_audit.proofs.open.audit_tables.Goals as goal
 
 pub returns-in_err-create_tables-clause-why : goal.returns-in_err-create_tables-clause-why
@@ -9,3 +12,9 @@ returns-in_err-create_tables-clause-why g c clean =
     let why : IsUnaudited (state g.S.Store c.args.conn.now) (state g.S.Store c.create_tables.new.conn) _ = unmade (c.in_err-create_tables.ensures.why clean) in
     let told = err_from_is_err_and c.from_residual.result c.from_residual.ensures.1 in
     rw (told.1, told.2) why
+
+pub returns-clause-stays : goal.returns-clause-stays
+returns-clause-stays g c clean =
+    let mid = state g.S.Store c.create_tables.new.conn in
+    let early : HasCleanDisk mid = omega (arith, c.check_all.ensures.survives.clean) in
+    file_checked (state g.S.Store c.args.conn.now) mid (state g.S.Store c.check_all.new.conn) c.check_all.result (c.create_tables.ensures.stays early) (c.in_ok-create_tables.ensures.made early) (c.in_ok-create_tables.ensures.mode early) (c.check_all.ensures.same clean) (c.check_all.ensures.refused clean)

@@ -1,11 +1,11 @@
-use Rattle.std.proofs.Common.{rules, map, [], ◌∷◌, ◌≡◌, refl, ap, subst, ◌∙◌, arith, w64}
+use Rattle.std.proofs.Common.{rules, inl, inr, map, [], ◌∷◌, ◌≡◌, refl, ap, subst, ◌∙◌, arith, w64}
 use Rattle.std.proofs.lemmas.Int.{to_z-of_z}
 use Rattle.std.proofs.lemmas.Result.{err_from_is_err_and}
 use Rattle.sqlite.specs.Effect.{Database}
 use Rattle.edf_rows.specs.Cells.{record_cells}
 use Rattle.sqlite.specs.declared.types.Value.TheVariants.{Int}
 use Rattle.sqlite.specs.Held.{Held, state}
-use Rattle.sqlite.specs.State.{HasCleanDisk, Survives, KeepsCommit, IsUnchanged}
+use Rattle.sqlite.specs.State.{HasCleanDisk, Survives, IsUnchanged}
 use Rattle.sqlite.proofs.Callers.{begun_plain, unchanged_then}
 use Rattle.edf_tables.proofs.AloneTexts.{walk_alone, walk_taken}
 use Rattle.edf_tables.proofs.RefusedLemmas.{query_unread, unread_since}
@@ -13,7 +13,10 @@ use Rattle.edf_tables.specs.Refused.{IsUnread}
 use Rattle.edf_tables.proofs.QueryTexts.{walk_text, walk_is}
 use Rattle.edf_tables.proofs.ShownLemmas.{plain_at}
 use Rattle.edf_tables.proofs.ReadLemmas.{query_quiet, query_left}
-use Rattle.edf_tables.proofs.KeepLemmas.{left_keeps}
+use Rattle.edf_tables.proofs.KeepLemmas.{on_err}
+use Rattle.edf_tables.specs.Refused.{IsLeft}
+use Rattle.edf_audit.specs.Kept.{KeepsShown}
+use Rattle.edf_audit.proofs.ShownLemmas.{shown_left, unchanged_left}
 use Rattle.edf_tables.proofs.CommitLemmas.{quiet_then}
 use Rattle.edf_audit.proofs.StandLemmas.{starts, moves, stops, refused_row, past_cap, ends, ends_empty}
 use Rattle.edf_audit.proofs.walk.check_recording.Goals.{then-count-eq0, else-count-eq0}
@@ -27,8 +30,8 @@ returns-in_err-rows-clause-refused g c clean =
     let early : HasCleanDisk old = omega (arith, held.survives.clean) in
     let plain = plain_at walk_text _ _ walk_is old (c.requires.schema early) in
     let failed = held.err clean in
-    let kept : KeepsCommit old new = left_keeps old new (query_left walk_text _ old new plain _ failed) in
-    search rules
+    let kept : KeepsShown old new = shown_left old new (query_left walk_text _ old new plain _ failed) in
+    on_err _ kept
 
 pub returns-in_err-rows-clause-survives : goal.returns-in_err-rows-clause-survives
 returns-in_err-rows-clause-survives g c =
@@ -206,3 +209,29 @@ returns-in_err-start-clause-why g c clean =
     let why = refused_row g.S.Store c.args.recording c.args.identity.now c.requires.long old (c.requires.schema (omega (arith, inv.crash.clean, early))) c.walk.count c.walk.last _ was now _ _ same (rw (to_z-of_z w64 c.args.recording c.ranges.recording) at (inv.stands early)) (rw (c.in_ok-row.was, c.in-Some.is) at (moved.ok late)) c.in_err-start.ensures.why in
     let told = err_from_is_err_and c.from_residual-in_err-start.result c.from_residual-in_err-start.ensures.1 in
     rw (told.1, told.2) why
+
+pub returns-in_err-row-clause-refused : goal.returns-in_err-row-clause-refused
+returns-in_err-row-clause-refused g c clean =
+    let old = state g.S.Store c.args.conn.now in
+    let moved = c.next.follows.holds-at-none in
+    let was = c.walk.rows.conn.now in
+    let now = c.next.follows.lender-at-none.conn.now in
+    let end : now ≡ c.conn-in_err-row-1.given.0 = search rules in
+    let late : HasCleanDisk (state g.S.Store now) = search rules in
+    let early : HasCleanDisk (state g.S.Store was) = omega (arith, moved.survives.clean, late) in
+    let left : IsLeft (state g.S.Store was) (state g.S.Store now) = elim (rw c.in_err-row.was at (moved.kept late)) [ inl fails ↦ inr fails.3 | inr same ↦ inl same ] in
+    let kept : KeepsShown old (state g.S.Store now) = unchanged_left old (state g.S.Store was) (state g.S.Store now) (c.walk.invariant.same early) left in
+    on_err _ (subst (λ (h : Held _). KeepsShown old (state g.S.Store h)) end kept)
+
+pub returns-in_err-start-clause-refused : goal.returns-in_err-start-clause-refused
+returns-in_err-start-clause-refused g c clean =
+    let old = state g.S.Store c.args.conn.now in
+    let moved = c.next.follows.holds-at-none in
+    let was = c.walk.rows.conn.now in
+    let now = c.next.follows.lender-at-none.conn.now in
+    let end : now ≡ c.conn-in_err-start-1.given.0 = search rules in
+    let late : HasCleanDisk (state g.S.Store now) = search rules in
+    let early : HasCleanDisk (state g.S.Store was) = omega (arith, moved.survives.clean, late) in
+    let left : IsLeft (state g.S.Store was) (state g.S.Store now) = inl (rw c.in_ok-row.was at (moved.same late)) in
+    let kept : KeepsShown old (state g.S.Store now) = unchanged_left old (state g.S.Store was) (state g.S.Store now) (c.walk.invariant.same early) left in
+    on_err _ (subst (λ (h : Held _). KeepsShown old (state g.S.Store h)) end kept)
