@@ -1,5 +1,6 @@
 pub mod Fault
 pub mod Held
+pub mod Call
 pub mod Transaction
 pub mod Listed
 pub mod Walk

@@ -1,6 +1,7 @@
 -- How far a walk over the records of a recording has come.
 use Rattle.std.specs.Prelude.{◌≡◌, ℕ, ◌+◌, ◌≤◌, ℤ, pos, Bool, false, List, length, map, take, drop, filter, slice_get, Option, Some, None, IsTrue, MatchOption}
 use Rattle.std.specs.Ordering.{int_cmp, is_gt}
+use Rattle.sqlite_trees.specs.declared.store.Store.{Ghosts}
 use Rattle.sqlite.specs.State.{State, HasCleanDisk}
 use Rattle.edf_header.specs.Key.{Key, IsKey}
 use Rattle.edf_fragment.specs.Fragment.{DataRecord}
@@ -9,6 +10,7 @@ use Rattle.edf_tables.specs.Schema.{both_schema}
 use Rattle.edf_tables.specs.Cells.{cells_of}
 use Rattle.edf_rows.specs.Cells.{record_cells}
 use Rattle.edf_rows.specs.Rows.{IsThere, AreKept}
+use Rattle.edf_store.specs.Held.{Kept, at}
 use Rattle.edf_store.specs.declared.progress.Progress.{Progress}
 
 abbrev pub starts_behind : ℤ → DataRecord → Bool
@@ -36,6 +38,15 @@ IsBehind cap s recording after h k n = HasCleanDisk s → StandsBehind cap s rec
 -- the walk is after the first records of some list that is held
 abbrev pub StandsSomewhere : ℕ → State → Option ℤ → Progress → Type 0
 StandsSomewhere cap s recording after = HasCleanDisk s → (h : Holdings) × (k : Key) × (n : ℕ) × StandsBehind cap s recording after h k n
+
+module _ {S : Type 0} (g : Ghosts S) where
+  -- the walk gave the first n records of the key, and the others come next
+  abbrev pub HasWalked : Kept S → Option ℤ → Progress → Holdings → Key → ℕ → Type 0
+  HasWalked store = IsBehind store.cap (at g store)
+
+  -- it gave the first records of some list that is held
+  abbrev pub IsWalking : Kept S → Option ℤ → Progress → Type 0
+  IsWalking store = StandsSomewhere store.cap (at g store)
 
 -- the answer of one step: the record at this place of the list, or that there is no more
 abbrev pub IsStep : List DataRecord → ℕ → Option DataRecord → Type 0

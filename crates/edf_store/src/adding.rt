@@ -3,7 +3,8 @@
 ghost use Rattle.std.specs.Prelude.{◌≡◌, ◌≢◌, None, IfOk, IfErr};
 ghost use Rattle.edf_store.specs.Fault.{IsStoreRefusal};
 ghost use Rattle.edf_store.specs.Held.{Stays};
-ghost use Rattle.edf_store.specs.Transaction.{IsRunning, IsOf, SeesAsBefore, HasNoMore, HasAtMost, MayTake, IsAdded};
+ghost use Rattle.edf_store.specs.Transaction.{IsRunning, IsOf, SeesAsBefore, HasNoMore, HasAtMost};
+ghost use Rattle.edf_store.specs.Transaction.{MayTake, IsAdded};
 
 use crate::fault::StoreFault;
 use crate::store::Store;

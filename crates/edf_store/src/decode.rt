@@ -31,9 +31,13 @@ fn base() -> Instant
 /// # Errors
 /// `Memory`, or `Foreign` where the block is none or the parts are past the limits of a data record.
 fn record_from(alloc: Global, samples: Vec<u8>, block: &[u8]) -> Result<Record, StoreFault>
-    ensures read { IfOk result (λ r. (k : Key) (d : DataRecord) → IsKey k → IsSoundRecord k d → samples.items ≡ d.samples → block.now ≡ block_text 0 d.start d.annotations → r ≡ d) }
+    ensures read { IfOk result (λ r.
+        (k : Key) (d : DataRecord) → IsKey k → IsSoundRecord k d → samples.items ≡ d.samples →
+        block.now ≡ block_text 0 d.start d.annotations → r ≡ d) }
     ensures told { IfErr result (λ e. (e ≡ StoreFault.Memory) ⊎ (e ≡ StoreFault.Foreign)) }
-    ensures own { IfErr result (λ e. (k : Key) (d : DataRecord) → IsKey k → IsSoundRecord k d → samples.items ≡ d.samples → block.now ≡ block_text 0 d.start d.annotations → e ≢ StoreFault.Foreign) }
+    ensures own { IfErr result (λ e.
+        (k : Key) (d : DataRecord) → IsKey k → IsSoundRecord k d → samples.items ≡ d.samples →
+        block.now ≡ block_text 0 d.start d.annotations → e ≢ StoreFault.Foreign) }
 {
     match read_block(alloc, block, base(), Place::Any) {
         Ok((start, notes)) => match Record::new(start, samples, notes) {
@@ -55,9 +59,13 @@ fn record_from(alloc: Global, samples: Vec<u8>, block: &[u8]) -> Result<Record, 
 /// # Errors
 /// `Memory`, or `Foreign` where the row is no data record's.
 pub(crate) fn record_in(alloc: Global, row: RecordRow) -> Result<Record, StoreFault>
-    ensures read { IfOk result (λ r. (k : Key) (d : DataRecord) → IsKey k → IsSoundRecord k d → cells_of row ≡ record_cells d → r ≡ d) }
+    ensures read { IfOk result (λ r.
+        (k : Key) (d : DataRecord) → IsKey k → IsSoundRecord k d →
+        cells_of row ≡ record_cells d → r ≡ d) }
     ensures told { IfErr result (λ e. (e ≡ StoreFault.Memory) ⊎ (e ≡ StoreFault.Foreign)) }
-    ensures own { IfErr result (λ e. (k : Key) (d : DataRecord) → IsKey k → IsSoundRecord k d → cells_of row ≡ record_cells d → e ≢ StoreFault.Foreign) }
+    ensures own { IfErr result (λ e.
+        (k : Key) (d : DataRecord) → IsKey k → IsSoundRecord k d → cells_of row ≡ record_cells d →
+        e ≢ StoreFault.Foreign) }
 {
     let RecordRow {
         start: _,
@@ -69,9 +77,13 @@ pub(crate) fn record_in(alloc: Global, row: RecordRow) -> Result<Record, StoreFa
 
 /// The data records that rows stand for, in their order.
 pub(crate) fn records_in(alloc: Global, rows: Vec<RecordRow>) -> Result<Vec<Record>, StoreFault>
-    ensures read { IfOk result (λ rs. (k : Key) (ds : List DataRecord) → IsKey k → AllByRecursion (IsSoundRecord k) ds → map cells_of rows.items ≡ map record_cells ds → rs.items ≡ ds) }
+    ensures read { IfOk result (λ rs.
+        (k : Key) (ds : List DataRecord) → IsKey k → AllByRecursion (IsSoundRecord k) ds →
+        map cells_of rows.items ≡ map record_cells ds → rs.items ≡ ds) }
     ensures told { IfErr result (λ e. (e ≡ StoreFault.Memory) ⊎ (e ≡ StoreFault.Foreign)) }
-    ensures own { IfErr result (λ e. (k : Key) (ds : List DataRecord) → IsKey k → AllByRecursion (IsSoundRecord k) ds → map cells_of rows.items ≡ map record_cells ds → e ≢ StoreFault.Foreign) }
+    ensures own { IfErr result (λ e.
+        (k : Key) (ds : List DataRecord) → IsKey k → AllByRecursion (IsSoundRecord k) ds →
+        map cells_of rows.items ≡ map record_cells ds → e ≢ StoreFault.Foreign) }
 {
     let mut records = Vec::new(alloc);
     for row in &rows {

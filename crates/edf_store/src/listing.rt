@@ -1,6 +1,7 @@
 //! What is held, at a glance.
 
-ghost use Rattle.std.specs.Prelude.{◌≡◌, ◌≢◌, ◌≤◌, ◌<◌, ℕ, pos, false, Some, None, Err, IsTrue, OnOk, IfOk, IfErr, MatchOption, map};
+ghost use Rattle.std.specs.Prelude.{◌≡◌, ◌≢◌, ◌≤◌, ◌<◌, ℕ, pos, Some, None, Err, IfOk, IfErr};
+ghost use Rattle.std.specs.Prelude.{MatchOption, map};
 ghost use Rattle.std.specs.List.{AllByRecursion};
 ghost use Rattle.sqlite.specs.State.{HasCleanDisk};
 ghost use Rattle.edf_time.specs.Civil.{window};
@@ -9,7 +10,8 @@ ghost use Rattle.edf_holdings.specs.Holdings.{Holdings};
 ghost use Rattle.edf_rows.specs.Rows.{IsThere};
 ghost use Rattle.edf_store.specs.Held.{at, Holds, Stays};
 ghost use Rattle.edf_store.specs.Listed.{AreKeysHeld, IsSummary, IsSummaryOf};
-ghost use Rattle.edf_store.specs.Shape.{IsSettled};
+ghost use Rattle.edf_store.specs.Shape.{IsAtRest};
+ghost use Rattle.edf_store.specs.Call.{Gives, RefusesAs, EndsIdle, IsBusy};
 
 use crate::fault::StoreFault;
 use crate::ready::{find, ready};
@@ -39,12 +41,13 @@ impl<S: Alter> Store<S> {
     /// where the disk returned what was not written.
     pub fn identities(&mut self) -> Result<Vec<Identity>, StoreFault>
         ensures stays { Stays S.Store self.old self.new }
-        ensures keys { HasCleanDisk (at S.Store self.new) → IfOk result (λ all. AreKeysHeld S.Store self.old all.items) }
-        ensures own { HasCleanDisk (at S.Store self.new) → IfErr result (λ e. e ≢ StoreFault.Foreign) }
+        ensures keys { Gives S.Store self.new result (λ all.
+            AreKeysHeld S.Store self.old all.items) }
+        ensures own { RefusesAs S.Store self.new result (λ e. e ≢ StoreFault.Foreign) }
         ensures unfailed { IfErr result (λ e. e ≢ StoreFault.Failed) }
-        ensures busy { IsTrue (at S.Store self.old).in_transaction → result ≡ Err (StoreFault.Store None) }
-        ensures caused { IfErr result (λ e. e ≡ StoreFault.Store None → IsTrue (at S.Store self.old).in_transaction) }
-        ensures idle { HasCleanDisk (at S.Store self.new) → OnOk result ((at S.Store self.new).in_transaction ≡ false) }
+        ensures busy { IsBusy S.Store self.old → result ≡ Err (StoreFault.Store None) }
+        ensures caused { IfErr result (λ e. e ≡ StoreFault.Store None → IsBusy S.Store self.old) }
+        ensures idle { EndsIdle S.Store self.new result }
     {
         ready(self)?;
         list(self)
@@ -57,12 +60,13 @@ impl<S: Alter> Store<S> {
     /// where the disk returned what was not written.
     pub fn summary(&mut self, identity: &Identity) -> Result<Option<Summary>, StoreFault>
         ensures stays { Stays S.Store self.old self.new }
-        ensures summary { HasCleanDisk (at S.Store self.new) → IfOk result (IsSummaryOf S.Store self.old identity.now) }
-        ensures own { HasCleanDisk (at S.Store self.new) → IfErr result (λ e. e ≢ StoreFault.Foreign) }
+        ensures summary { Gives S.Store self.new result
+            (IsSummaryOf S.Store self.old identity.now) }
+        ensures own { RefusesAs S.Store self.new result (λ e. e ≢ StoreFault.Foreign) }
         ensures unfailed { IfErr result (λ e. e ≢ StoreFault.Failed) }
-        ensures busy { IsTrue (at S.Store self.old).in_transaction → result ≡ Err (StoreFault.Store None) }
-        ensures caused { IfErr result (λ e. e ≡ StoreFault.Store None → IsTrue (at S.Store self.old).in_transaction) }
-        ensures idle { HasCleanDisk (at S.Store self.new) → OnOk result ((at S.Store self.new).in_transaction ≡ false) }
+        ensures busy { IsBusy S.Store self.old → result ≡ Err (StoreFault.Store None) }
+        ensures caused { IfErr result (λ e. e ≡ StoreFault.Store None → IsBusy S.Store self.old) }
+        ensures idle { EndsIdle S.Store self.new result }
     {
         ready(self)?;
         let Some(id) = find(self, identity)? else {
@@ -75,13 +79,13 @@ impl<S: Alter> Store<S> {
 
 /// The identities that the tables have.
 fn list<S: Alter>(store: &mut Store<S>) -> Result<Vec<Identity>, StoreFault>
-    requires settled { HasCleanDisk (at S.Store store.old) → IsSettled store.old.cap (at S.Store store.old) }
+    requires settled { IsAtRest S.Store store.old }
     ensures stays { Stays S.Store store.old store.new }
-    ensures keys { HasCleanDisk (at S.Store store.new) → IfOk result (λ all. AreKeysHeld S.Store store.old all.items) }
-    ensures own { HasCleanDisk (at S.Store store.new) → IfErr result (λ e. e ≢ StoreFault.Foreign) }
+    ensures keys { Gives S.Store store.new result (λ all. AreKeysHeld S.Store store.old all.items) }
+    ensures own { RefusesAs S.Store store.new result (λ e. e ≢ StoreFault.Foreign) }
     ensures unfailed { IfErr result (λ e. e ≢ StoreFault.Failed) }
     ensures caused { IfErr result (λ e. e ≢ StoreFault.Store None) }
-    ensures idle { HasCleanDisk (at S.Store store.new) → OnOk result ((at S.Store store.new).in_transaction ≡ false) }
+    ensures idle { EndsIdle S.Store store.new result }
 {
     let all = edf_tables::identities(&mut store.conn)?;
     identities_in(store.alloc, all)
@@ -93,7 +97,9 @@ fn identities_in(alloc: Global, all: Vec<Vec<u8>>) -> Result<Vec<Identity>, Stor
     ensures keys { IfOk result (λ found. AllByRecursion IsKey found.items) }
     ensures unfailed { IfErr result (λ e. e ≢ StoreFault.Failed) }
     ensures caused { IfErr result (λ e. e ≢ StoreFault.Store None) }
-    ensures foreign { IfErr result (λ e. AllByRecursion (λ b. (k : Key) × IsKey k × (b.items ≡ key_bytes k)) all.items → e ≢ StoreFault.Foreign) }
+    ensures foreign { IfErr result (λ e.
+        AllByRecursion (λ b. (k : Key) × IsKey k × (b.items ≡ key_bytes k)) all.items →
+        e ≢ StoreFault.Foreign) }
 {
     let mut found = Vec::new(alloc);
     for bytes in &all {
@@ -123,14 +129,17 @@ fn refusal_of(fault: IdentityFault) -> StoreFault
 
 /// The summary of a recording that is there.
 fn summary_of<S: Alter>(store: &mut Store<S>, id: i64) -> Result<Summary, StoreFault>
-    requires settled { HasCleanDisk (at S.Store store.old) → IsSettled store.old.cap (at S.Store store.old) }
-    requires there { HasCleanDisk (at S.Store store.old) → (k : Key) × IsThere (at S.Store store.old).now.trees id k }
+    requires settled { IsAtRest S.Store store.old }
+    requires there { HasCleanDisk (at S.Store store.old) →
+        (k : Key) × IsThere (at S.Store store.old).now.trees id k }
     ensures stays { Stays S.Store store.old store.new }
-    ensures summary { HasCleanDisk (at S.Store store.new) → IfOk result (λ summary. (h : Holdings) (k : Key) → Holds S.Store store.old h → IsThere (at S.Store store.old).now.trees id k → IsSummary (h k) (Some summary)) }
-    ensures own { HasCleanDisk (at S.Store store.new) → IfErr result (λ e. e ≢ StoreFault.Foreign) }
+    ensures summary { Gives S.Store store.new result (λ summary.
+        (h : Holdings) (k : Key) → Holds S.Store store.old h →
+        IsThere (at S.Store store.old).now.trees id k → IsSummary (h k) (Some summary)) }
+    ensures own { RefusesAs S.Store store.new result (λ e. e ≢ StoreFault.Foreign) }
     ensures unfailed { IfErr result (λ e. e ≢ StoreFault.Failed) }
     ensures caused { IfErr result (λ e. e ≢ StoreFault.Store None) }
-    ensures idle { HasCleanDisk (at S.Store store.new) → OnOk result ((at S.Store store.new).in_transaction ≡ false) }
+    ensures idle { EndsIdle S.Store store.new result }
 {
     let count = count_rows(&mut store.conn, id)?;
     let first = first_start(&mut store.conn, id)?;
@@ -139,10 +148,13 @@ fn summary_of<S: Alter>(store: &mut Store<S>, id: i64) -> Result<Summary, StoreF
 }
 
 fn summary_from(count: u64, first: Option<i64>, last: Option<i64>) -> Result<Summary, StoreFault>
-    ensures summary { IfOk result (λ s. (s.records ≡ count) × (first ≡ Some (pos s.first)) × (last ≡ Some (pos s.last))) }
+    ensures summary { IfOk result (λ s.
+        (s.records ≡ count) × (first ≡ Some (pos s.first)) × (last ≡ Some (pos s.last))) }
     ensures unfailed { IfErr result (λ e. e ≢ StoreFault.Failed) }
     ensures caused { IfErr result (λ e. e ≢ StoreFault.Store None) }
-    ensures own { IfErr result (λ e. (a b : ℕ) → count ≤ 99_999_999 → a < window → b < window → first ≡ Some (pos a) → last ≡ Some (pos b) → e ≢ StoreFault.Foreign) }
+    ensures own { IfErr result (λ e.
+        (a b : ℕ) → count ≤ 99_999_999 → a < window → b < window → first ≡ Some (pos a) →
+        last ≡ Some (pos b) → e ≢ StoreFault.Foreign) }
 {
     let Ok(records) = u32::try_from(count) else {
         return Err(StoreFault::Foreign);
@@ -159,7 +171,8 @@ fn summary_from(count: u64, first: Option<i64>, last: Option<i64>) -> Result<Sum
 
 /// The instant of a cell, if it is one.
 pub(crate) fn instant_in(cell: Option<i64>) -> Option<Instant>
-    ensures { MatchOption result ((n : ℕ) → n < window → cell ≢ Some (pos n)) (λ i. cell ≡ Some (pos i)) }
+    ensures { MatchOption result ((n : ℕ) → n < window → cell ≢ Some (pos n))
+        (λ i. cell ≡ Some (pos i)) }
 {
     match cell {
         Some(nanos) => match u64::try_from(nanos) {

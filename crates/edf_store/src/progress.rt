@@ -35,7 +35,8 @@ pub(crate) fn progress_at_first(alloc: Global, identity: &Identity) -> Progress
 /// How many rows a page has at most: as many as have 256 KiB of ordinary samples, but at least one
 /// and at most 64.
 fn page_limit(identity: &Identity) -> u32
-    ensures value { result ≡ max 1 (min (262_144 / max 1 (2 * samples_in_all identity.now.signals)) 64) }
+    ensures value { result ≡
+        max 1 (min (262_144 / max 1 (2 * samples_in_all identity.now.signals)) 64) }
     ensures from { 1 ≤ result }
     ensures to { result ≤ 64 }
 {

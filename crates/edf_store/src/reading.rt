@@ -1,15 +1,17 @@
 //! What a transaction reads of a recording.
 
-ghost use Rattle.std.specs.Prelude.{◌≡◌, ◌≢◌, ◌*◌, ◌<◌, ◌≤◌, ℕ, ℤ, pos, ◌-ℤ◌, unsigned_abs, Some, None, length, IsTrue, IfOk, IfErr};
+ghost use Rattle.std.specs.Prelude.{◌≡◌, ◌≢◌, ◌*◌, ◌<◌, ◌≤◌, ℕ, ℤ, pos, ◌-ℤ◌, unsigned_abs, Some};
+ghost use Rattle.std.specs.Prelude.{None, length, IsTrue, IfOk, IfErr};
 ghost use Rattle.std.specs.Option.{option_map};
-ghost use Rattle.sqlite.specs.State.{HasCleanDisk};
 ghost use Rattle.edf_time.specs.Civil.{window};
 ghost use Rattle.edf_field.specs.Number.{duration_of};
 ghost use Rattle.edf_header.specs.Key.{Key};
 ghost use Rattle.edf_holdings.specs.Holdings.{Holdings};
 ghost use Rattle.edf_store.specs.Fault.{IsStoreRefusal};
-ghost use Rattle.edf_store.specs.Held.{at, Stays};
-ghost use Rattle.edf_store.specs.Transaction.{Sees, IsRunning, IsOf, SeesAsBefore, HasNoMore, AreNear, IsNextStartOf, IsCountOf, TellsRoom};
+ghost use Rattle.edf_store.specs.Held.{Stays};
+ghost use Rattle.edf_store.specs.Transaction.{Sees, IsRunning, IsOf, SeesAsBefore, HasNoMore};
+ghost use Rattle.edf_store.specs.Transaction.{AreNear, IsNextStartOf, IsCountOf, TellsRoom};
+ghost use Rattle.edf_store.specs.Call.{Gives, RefusesAs};
 
 use crate::decode::records_in;
 use crate::fault::StoreFault;
@@ -27,13 +29,15 @@ pub(crate) fn records_near<S: Alter>(
     duration: u64,
 ) -> Result<Vec<Record>, StoreFault>
     requires running { IsRunning S.Store store.old }
-    requires recording { (k : Key) × IsOf S.Store store.old id k × (duration ≡ duration_of k.duration) }
+    requires recording { (k : Key) × IsOf S.Store store.old id k
+        × (duration ≡ duration_of k.duration) }
     ensures stays { Stays S.Store store.old store.new }
-    ensures near { HasCleanDisk (at S.Store store.new) → IfOk result (λ records. AreNear S.Store store.old id start records.items) }
-    ensures two { HasCleanDisk (at S.Store store.new) → IfOk result (λ records. length records.items ≤ 2) }
+    ensures near { Gives S.Store store.new result (λ records.
+        AreNear S.Store store.old id start records.items) }
+    ensures two { Gives S.Store store.new result (λ records. length records.items ≤ 2) }
     ensures same { IfOk result (λ _. SeesAsBefore S.Store store.old store.new) }
     ensures only { IfOk result (λ _. HasNoMore S.Store store.old store.new) }
-    ensures told { HasCleanDisk (at S.Store store.new) → IfErr result IsStoreRefusal }
+    ensures told { RefusesAs S.Store store.new result IsStoreRefusal }
     ensures unfailed { IfErr result (λ e. e ≢ StoreFault.Failed) }
     ensures caused { IfErr result (λ e. e ≢ StoreFault.Store None) }
 {
@@ -52,10 +56,10 @@ pub(crate) fn next_start<S: Alter>(
     requires running { IsRunning S.Store store.old }
     requires recording { (k : Key) × IsOf S.Store store.old id k }
     ensures stays { Stays S.Store store.old store.new }
-    ensures next { HasCleanDisk (at S.Store store.new) → IfOk result (IsNextStartOf S.Store store.old id from) }
+    ensures next { Gives S.Store store.new result (IsNextStartOf S.Store store.old id from) }
     ensures same { IfOk result (λ _. SeesAsBefore S.Store store.old store.new) }
     ensures only { IfOk result (λ _. HasNoMore S.Store store.old store.new) }
-    ensures told { HasCleanDisk (at S.Store store.new) → IfErr result IsStoreRefusal }
+    ensures told { RefusesAs S.Store store.new result IsStoreRefusal }
     ensures unfailed { IfErr result (λ e. e ≢ StoreFault.Failed) }
     ensures caused { IfErr result (λ e. e ≢ StoreFault.Store None) }
 {
@@ -83,7 +87,7 @@ pub(crate) fn count_records<S: Alter>(store: &mut Store<S>, id: i64) -> Result<u
     requires running { IsRunning S.Store store.old }
     requires recording { (k : Key) × IsOf S.Store store.old id k }
     ensures stays { Stays S.Store store.old store.new }
-    ensures count { HasCleanDisk (at S.Store store.new) → IfOk result (IsCountOf S.Store store.old id) }
+    ensures count { Gives S.Store store.new result (IsCountOf S.Store store.old id) }
     ensures same { IfOk result (λ _. SeesAsBefore S.Store store.old store.new) }
     ensures only { IfOk result (λ _. HasNoMore S.Store store.old store.new) }
     ensures told { IfErr result IsStoreRefusal }
@@ -104,9 +108,10 @@ pub(crate) fn has_room<S: Alter>(
     more: u32,
 ) -> Result<bool, StoreFault>
     requires running { IsRunning S.Store store.old }
-    requires recording { (k : Key) × IsOf S.Store store.old id k × (duration ≡ duration_of k.duration) }
+    requires recording { (k : Key) × IsOf S.Store store.old id k
+        × (duration ≡ duration_of k.duration) }
     ensures stays { Stays S.Store store.old store.new }
-    ensures room { HasCleanDisk (at S.Store store.new) → IfOk result (TellsRoom S.Store store.old id more) }
+    ensures room { Gives S.Store store.new result (TellsRoom S.Store store.old id more) }
     ensures same { IfOk result (λ _. SeesAsBefore S.Store store.old store.new) }
     ensures only { IfOk result (λ _. HasNoMore S.Store store.old store.new) }
     ensures told { IfErr result IsStoreRefusal }
@@ -129,9 +134,12 @@ fn is_short<S: Alter>(
     most: u32,
 ) -> Result<bool, StoreFault>
     requires running { IsRunning S.Store store.old }
-    requires recording { (k : Key) × IsOf S.Store store.old id k × (duration ≡ duration_of k.duration) }
+    requires recording { (k : Key) × IsOf S.Store store.old id k
+        × (duration ≡ duration_of k.duration) }
     ensures stays { Stays S.Store store.old store.new }
-    ensures short { HasCleanDisk (at S.Store store.new) → IfOk result (λ short. IsTrue short → (h : Holdings) (k : Key) → Sees S.Store store.old h → IsOf S.Store store.old id k → (0 < length (h k)) × (length (h k) ≤ most)) }
+    ensures short { Gives S.Store store.new result (λ short.
+        IsTrue short → (h : Holdings) (k : Key) → Sees S.Store store.old h →
+        IsOf S.Store store.old id k → (0 < length (h k)) × (length (h k) ≤ most)) }
     ensures same { IfOk result (λ _. SeesAsBefore S.Store store.old store.new) }
     ensures only { IfOk result (λ _. HasNoMore S.Store store.old store.new) }
     ensures told { IfErr result IsStoreRefusal }
@@ -144,7 +152,8 @@ fn is_short<S: Alter>(
 
 /// Whether two starts are there, and fewer than `most` durations lie between them.
 fn lie_within(first: Option<i64>, last: Option<i64>, duration: u64, most: u32) -> bool
-    ensures { IsTrue result → (a b : ℤ) × (first ≡ Some a) × (last ≡ Some b) × (unsigned_abs (b -ℤ a) < most * duration) }
+    ensures { IsTrue result →
+        (a b : ℤ) × (first ≡ Some a) × (last ≡ Some b) × (unsigned_abs (b -ℤ a) < most * duration) }
 {
     match (first, last) {
         (Some(first), Some(last)) => {

@@ -1,13 +1,14 @@
 //! What is true before a read outside a transaction.
 
-ghost use Rattle.std.specs.Prelude.{◌≡◌, ◌≢◌, None, Err, IsTrue, OnOk, IfOk, IfErr};
-ghost use Rattle.sqlite.specs.Held.{state};
-ghost use Rattle.sqlite.specs.State.{HasCleanDisk, Survives, KeepsCommit, IsUnchanged};
+ghost use Rattle.std.specs.Prelude.{◌≡◌, ◌≢◌, None, Err, OnOk, IfErr};
+ghost use Rattle.sqlite.specs.State.{HasCleanDisk};
 ghost use Rattle.edf_header.specs.Key.{IsKey};
 ghost use Rattle.edf_holdings.specs.Holdings.{Holdings};
 ghost use Rattle.edf_rows.specs.Rows.{AreKept};
 ghost use Rattle.edf_store.specs.Held.{at, Stays};
-ghost use Rattle.edf_store.specs.Shape.{IsSettled, IsFoundIn};
+ghost use Rattle.edf_store.specs.Shape.{IsSettled, IsFoundIn, IsAtRest};
+ghost use Rattle.edf_store.specs.Call.{Gives, IsBusy};
+ghost use Rattle.edf_tables.specs.Statement.{OnlyReads, KeepsCommitted, IsCrashSafe};
 
 use crate::fault::StoreFault;
 use crate::store::Store;
@@ -17,9 +18,9 @@ use sqlite::{Alter, Connection, Error};
 
 /// Runs no statement, which an open connection alone can do.
 fn run_nothing<S: Alter>(conn: &mut Connection<S>) -> Result<(), Error>
-    ensures same { HasCleanDisk (state S.Store conn.new) → OnOk result (IsUnchanged (state S.Store conn.old) (state S.Store conn.new)) }
-    ensures kept { HasCleanDisk (state S.Store conn.new) → KeepsCommit (state S.Store conn.old) (state S.Store conn.new) }
-    ensures survives { Survives (state S.Store conn.old) (state S.Store conn.new) (λ _. ⊥) }
+    ensures same { OnlyReads S.Store conn.old conn.new result }
+    ensures kept { KeepsCommitted S.Store conn.old conn.new }
+    ensures survives { IsCrashSafe S.Store conn.old conn.new }
 {
     conn.execute("", &[])?;
     Ok(())
@@ -30,9 +31,10 @@ pub(crate) fn ready<S: Alter>(store: &mut Store<S>) -> Result<(), StoreFault>
     ensures stays { Stays S.Store store.old store.new }
     ensures own { IfErr result (λ e. e ≢ StoreFault.Foreign) }
     ensures unfailed { IfErr result (λ e. e ≢ StoreFault.Failed) }
-    ensures settled { HasCleanDisk (at S.Store store.new) → OnOk result (IsSettled store.new.cap (at S.Store store.new)) }
-    ensures busy { IsTrue (at S.Store store.old).in_transaction → result ≡ Err (StoreFault.Store None) }
-    ensures caused { IfErr result (λ e. e ≡ StoreFault.Store None → IsTrue (at S.Store store.old).in_transaction) }
+    ensures settled { HasCleanDisk (at S.Store store.new) →
+        OnOk result (IsSettled store.new.cap (at S.Store store.new)) }
+    ensures busy { IsBusy S.Store store.old → result ≡ Err (StoreFault.Store None) }
+    ensures caused { IfErr result (λ e. e ≡ StoreFault.Store None → IsBusy S.Store store.old) }
 {
     if !store.conn.is_autocommit() {
         return Err(StoreFault::Store(None));
@@ -46,14 +48,17 @@ pub(crate) fn find<S: Alter>(
     store: &mut Store<S>,
     identity: &Identity,
 ) -> Result<Option<i64>, StoreFault>
-    requires settled { HasCleanDisk (at S.Store store.old) → IsSettled store.old.cap (at S.Store store.old) }
+    requires settled { IsAtRest S.Store store.old }
     ensures stays { Stays S.Store store.old store.new }
     ensures own { IfErr result (λ e. e ≢ StoreFault.Foreign) }
     ensures unfailed { IfErr result (λ e. e ≢ StoreFault.Failed) }
     ensures caused { IfErr result (λ e. e ≢ StoreFault.Store None) }
     ensures key { IsKey identity.now }
-    ensures settled { HasCleanDisk (at S.Store store.new) → OnOk result (IsSettled store.new.cap (at S.Store store.new)) }
-    ensures found { HasCleanDisk (at S.Store store.new) → IfOk result (λ id. (h : Holdings) → AreKept store.new.cap (at S.Store store.new).now.trees h → IsFoundIn (at S.Store store.new) identity.now h id) }
+    ensures settled { HasCleanDisk (at S.Store store.new) →
+        OnOk result (IsSettled store.new.cap (at S.Store store.new)) }
+    ensures found { Gives S.Store store.new result (λ id.
+        (h : Holdings) → AreKept store.new.cap (at S.Store store.new).now.trees h →
+        IsFoundIn (at S.Store store.new) identity.now h id) }
 {
     // contracts learn from this call what bounds the identity keeps
     let _ = identity.signals();

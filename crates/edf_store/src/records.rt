@@ -1,12 +1,14 @@
 //! The data records of one recording, one at a time.
 
-ghost use Rattle.std.specs.Prelude.{◌≡◌, ◌≢◌, ℕ, false, true, None, Ok, Err, IsTrue, OnOk, IfOk, IfErr, ◌+◌, Some, [], length, MatchOption};
+ghost use Rattle.std.specs.Prelude.{◌≡◌, ◌≢◌, ℕ, false, true, None, Ok, Err, OnOk, IfOk, IfErr};
+ghost use Rattle.std.specs.Prelude.{◌+◌, Some, [], length, MatchOption};
 ghost use Rattle.std.specs.Borrow.{sem, RestsIfErr};
 ghost use Rattle.sqlite.specs.State.{HasCleanDisk};
 ghost use Rattle.edf_header.specs.Key.{Key};
 ghost use Rattle.edf_holdings.specs.Holdings.{Holdings};
 ghost use Rattle.edf_store.specs.Held.{at, Holds, Stays};
-ghost use Rattle.edf_store.specs.Walk.{IsBehind, StandsSomewhere, IsStep, moved};
+ghost use Rattle.edf_store.specs.Walk.{IsStep, moved, IsWalking, HasWalked};
+ghost use Rattle.edf_store.specs.Call.{Gives, RefusesAs, IsBusy};
 
 use crate::decode::record_in;
 use crate::fault::StoreFault;
@@ -26,17 +28,19 @@ fn read_ahead<S: Alter>(
     recording: i64,
     after: &mut Progress,
 ) -> Result<(), StoreFault>
-    requires ready { StandsSomewhere store.old.cap (at S.Store store.old) (Some recording) after.old }
+    requires ready { IsWalking S.Store store.old (Some recording) after.old }
     ensures stays { Stays S.Store store.old store.new }
     ensures own { IfErr result (λ e. e ≢ StoreFault.Foreign) }
     ensures unfailed { IfErr result (λ e. e ≢ StoreFault.Failed) }
     ensures caused { IfErr result (λ e. e ≢ StoreFault.Store None) }
-    ensures ahead { OnOk result ((h : Holdings) (k : Key) (n : ℕ) →
-        IsBehind store.old.cap (at S.Store store.old) (Some recording) after.old h k n →
-        IsBehind store.new.cap (at S.Store store.new) (Some recording) after.new h k n) }
-    ensures last { HasCleanDisk (at S.Store store.new) → OnOk result ((h : Holdings) (k : Key) (n : ℕ) →
-        IsBehind store.old.cap (at S.Store store.old) (Some recording) after.old h k n →
-        after.new.rows.items ≡ [] → n ≡ length (h k)) }
+    ensures ahead { OnOk result
+        ((h : Holdings) (k : Key) (n : ℕ) →
+        HasWalked S.Store store.old (Some recording) after.old h k n →
+        HasWalked S.Store store.new (Some recording) after.new h k n) }
+    ensures last { HasCleanDisk (at S.Store store.new) →
+        OnOk result ((h : Holdings) (k : Key) (n : ℕ) →
+        HasWalked S.Store store.old (Some recording) after.old h k n → after.new.rows.items ≡ [] →
+        n ≡ length (h k)) }
 {
     if !after.rows.is_empty() {
         return Ok(());
@@ -52,17 +56,19 @@ pub(crate) fn next_record<S: Alter>(
     recording: i64,
     after: &mut Progress,
 ) -> Result<Option<Record>, StoreFault>
-    requires ready { StandsSomewhere store.old.cap (at S.Store store.old) (Some recording) after.old }
+    requires ready { IsWalking S.Store store.old (Some recording) after.old }
     ensures stays { Stays S.Store store.old store.new }
-    ensures own { HasCleanDisk (at S.Store store.new) → IfErr result (λ e. e ≢ StoreFault.Foreign) }
+    ensures own { RefusesAs S.Store store.new result (λ e. e ≢ StoreFault.Foreign) }
     ensures unfailed { IfErr result (λ e. e ≢ StoreFault.Failed) }
     ensures caused { IfErr result (λ e. e ≢ StoreFault.Store None) }
-    ensures step { HasCleanDisk (at S.Store store.new) → IfOk result (λ o. (h : Holdings) (k : Key) (n : ℕ) →
-        IsBehind store.old.cap (at S.Store store.old) (Some recording) after.old h k n → IsStep (h k) n o) }
-    ensures moved { IfOk result (λ o. (h : Holdings) (k : Key) (n : ℕ) →
-        IsBehind store.old.cap (at S.Store store.old) (Some recording) after.old h k n →
-        MatchOption o (IsBehind store.new.cap (at S.Store store.new) None after.new h k n)
-        (λ _. IsBehind store.new.cap (at S.Store store.new) (Some recording) after.new h k (n + 1))) }
+    ensures step { Gives S.Store store.new result (λ o.
+        (h : Holdings) (k : Key) (n : ℕ) →
+        HasWalked S.Store store.old (Some recording) after.old h k n → IsStep (h k) n o) }
+    ensures moved { IfOk result (λ o.
+        (h : Holdings) (k : Key) (n : ℕ) →
+        HasWalked S.Store store.old (Some recording) after.old h k n →
+        MatchOption o (HasWalked S.Store store.new None after.new h k n)
+        (λ _. HasWalked S.Store store.new (Some recording) after.new h k (n + 1))) }
 {
     read_ahead(store, recording, after)?;
     let Some(row) = after.rows.pop_front() else {
@@ -110,15 +116,20 @@ impl<S: Alter> Store<S> {
     /// # Errors
     /// `Memory` (E41) or `Store` (E42), without a cause where the connection was left in a transaction.
     pub fn records(&mut self, identity: &Identity) -> Result<Records<'_, S>, StoreFault>
-        ensures* refused { sem 𝓛 (RestsIfErr (the_row S.row S.Store) self.entry (λ it. it.store.ghost_name) result (Stays S.Store self.old)) }
+        ensures* refused { sem 𝓛
+            (RestsIfErr (the_row S.row S.Store) self.entry (λ it. it.store.ghost_name) result
+            (Stays S.Store self.old)) }
         ensures same_reference { IfOk result (λ it. it.store.ghost_name ≡ self.entry.ghost_name) }
         ensures stays { IfOk result (λ it. Stays S.Store self.old it.store.now) }
         ensures own { IfErr result (λ e. e ≢ StoreFault.Foreign) }
         ensures unfailed { IfErr result (λ e. e ≢ StoreFault.Failed) }
-        ensures busy { IsTrue (at S.Store self.old).in_transaction → result ≡ Err (StoreFault.Store None) }
-        ensures caused { IfErr result (λ e. e ≡ StoreFault.Store None → IsTrue (at S.Store self.old).in_transaction) }
-        ensures ready { IfOk result (λ it. (it.failed ≡ false) × StandsSomewhere it.store.now.cap (at S.Store it.store.now) it.recording it.after) }
-        ensures at_first { IfOk result (λ it. (h : Holdings) → Holds S.Store self.old h → IsBehind it.store.now.cap (at S.Store it.store.now) it.recording it.after h identity.now 0) }
+        ensures busy { IsBusy S.Store self.old → result ≡ Err (StoreFault.Store None) }
+        ensures caused { IfErr result (λ e. e ≡ StoreFault.Store None → IsBusy S.Store self.old) }
+        ensures ready { IfOk result (λ it.
+            (it.failed ≡ false) × IsWalking S.Store it.store.now it.recording it.after) }
+        ensures at_first { IfOk result (λ it.
+            (h : Holdings) → Holds S.Store self.old h →
+            HasWalked S.Store it.store.now it.recording it.after h identity.now 0) }
     {
         ready(self)?;
         let recording = find(self, identity)?;
@@ -139,19 +150,30 @@ impl<S: Alter> Records<'_, S> {
     /// `Memory` (E41), `Store` (E42), or `Foreign` (E45) where the disk returned what was not written; and `Failed` at every
     /// later call.
     pub fn next(&mut self) -> Result<Option<Record>, StoreFault>
-        requires ready { self.old.failed ≡ false → StandsSomewhere self.old.store.now.cap (at S.Store self.old.store.now) self.old.recording self.old.after }
+        requires ready { self.old.failed ≡ false →
+            IsWalking S.Store self.old.store.now self.old.recording self.old.after }
         ensures same_reference { self.new.store.ghost_name ≡ self.old.store.ghost_name }
         ensures stays { Stays S.Store self.old.store.now self.new.store.now }
-        ensures own { HasCleanDisk (at S.Store self.new.store.now) → IfErr result (λ e. e ≢ StoreFault.Foreign) }
+        ensures own { RefusesAs S.Store self.new.store.now result (λ e. e ≢ StoreFault.Foreign) }
         ensures unfailed { self.old.failed ≡ false → IfErr result (λ e. e ≢ StoreFault.Failed) }
         ensures caused { IfErr result (λ e. e ≢ StoreFault.Store None) }
         ensures ends { IfOk result (λ o. o ≡ None → self.new.recording ≡ None) }
-        ensures ended { self.old.failed ≡ false → self.old.recording ≡ None → (result ≡ Ok None) × (self.new.recording ≡ None) }
+        ensures ended { self.old.failed ≡ false → self.old.recording ≡ None →
+            (result ≡ Ok None) × (self.new.recording ≡ None) }
         ensures failed { self.old.failed ≡ true → result ≡ Err StoreFault.Failed }
         ensures fails { IfErr result (λ _. self.new.failed ≡ true) }
-        ensures ready { IfOk result (λ _. (self.new.failed ≡ false) × StandsSomewhere self.new.store.now.cap (at S.Store self.new.store.now) self.new.recording self.new.after) }
-        ensures step { HasCleanDisk (at S.Store self.new.store.now) → IfOk result (λ o. (h : Holdings) (k : Key) (n : ℕ) → IsBehind self.old.store.now.cap (at S.Store self.old.store.now) self.old.recording self.old.after h k n → IsStep (h k) n o) }
-        ensures moved { IfOk result (λ o. (h : Holdings) (k : Key) (n : ℕ) → IsBehind self.old.store.now.cap (at S.Store self.old.store.now) self.old.recording self.old.after h k n → IsBehind self.new.store.now.cap (at S.Store self.new.store.now) self.new.recording self.new.after h k (moved n o)) }
+        ensures ready { IfOk result (λ _.
+            (self.new.failed ≡ false)
+            × IsWalking S.Store self.new.store.now self.new.recording self.new.after) }
+        ensures step { Gives S.Store self.new.store.now result (λ o.
+            (h : Holdings) (k : Key) (n : ℕ) →
+            HasWalked S.Store self.old.store.now self.old.recording self.old.after h k n →
+            IsStep (h k) n o) }
+        ensures moved { IfOk result (λ o.
+            (h : Holdings) (k : Key) (n : ℕ) →
+            HasWalked S.Store self.old.store.now self.old.recording self.old.after h k n →
+            HasWalked S.Store self.new.store.now self.new.recording self.new.after h k
+            (moved n o)) }
     {
         if self.failed {
             return Err(StoreFault::Failed);

@@ -1,15 +1,16 @@
 //! A store, and how a transaction of it begins.
 
-ghost use Rattle.std.specs.Prelude.{◌≡◌, ◌≤◌, false, None, Err, IsTrue, IfOk, IfErr};
+ghost use Rattle.std.specs.Prelude.{◌≡◌, ◌≤◌, false, None, Err, IfOk, IfErr};
 ghost use Rattle.std.specs.Borrow.{sem, RestsIfErr};
 ghost use Rattle.sqlite.specs.Held.{state};
 ghost use Rattle.edf_holdings.specs.Holdings.{Holdings};
 ghost use Rattle.edf_tables.specs.Made.{IsOurs};
 ghost use Rattle.edf_audit.specs.File.{IsForeignFile};
 ghost use Rattle.edf_store.specs.Fault.{IsStoreRefusal};
-ghost use Rattle.edf_store.specs.Held.{at, Holds, Stays};
+ghost use Rattle.edf_store.specs.Held.{Holds, Stays};
 ghost use Rattle.edf_store.specs.Transaction.{Sees, IsRunning, IsWhole};
 ghost use Rattle.edf_store.specs.Open.{IsOpened, IsGivenUp, StaysClean};
+ghost use Rattle.edf_store.specs.Call.{IsBusy};
 
 use crate::ending::begin_all;
 use crate::fault::StoreFault;
@@ -72,15 +73,19 @@ impl<S: Alter> Store<S> {
     /// # Errors
     /// `Memory` (E41) or `Store` (E42), without a cause where the connection was left in a transaction; what is held stays.
     pub fn transaction(&mut self) -> Result<StoreTx<'_, S>, StoreFault>
-        ensures* refused { sem 𝓛 (RestsIfErr (the_row S.row S.Store) self.entry (λ tx. tx.store.ghost_name) result (Stays S.Store self.old)) }
+        ensures* refused { sem 𝓛
+            (RestsIfErr (the_row S.row S.Store) self.entry (λ tx. tx.store.ghost_name) result
+            (Stays S.Store self.old)) }
         ensures same_reference { IfOk result (λ tx. tx.store.ghost_name ≡ self.entry.ghost_name) }
         ensures stays { IfOk result (λ tx. Stays S.Store self.old tx.store.now) }
-        ensures running { IfOk result (λ tx. (tx.refused ≡ false) × IsRunning S.Store tx.store.now) }
+        ensures running { IfOk result
+            (λ tx. (tx.refused ≡ false) × IsRunning S.Store tx.store.now) }
         ensures told { IfErr result IsStoreRefusal }
         ensures whole { IfOk result (λ tx. IsWhole S.Store tx.store.now) }
-        ensures busy { IsTrue (at S.Store self.old).in_transaction → result ≡ Err (StoreFault.Store None) }
-        ensures caused { IfErr result (λ e. e ≡ StoreFault.Store None → IsTrue (at S.Store self.old).in_transaction) }
-        ensures sees { IfOk result (λ tx. (h : Holdings) → Holds S.Store self.old h → Sees S.Store tx.store.now h) }
+        ensures busy { IsBusy S.Store self.old → result ≡ Err (StoreFault.Store None) }
+        ensures caused { IfErr result (λ e. e ≡ StoreFault.Store None → IsBusy S.Store self.old) }
+        ensures sees { IfOk result (λ tx.
+            (h : Holdings) → Holds S.Store self.old h → Sees S.Store tx.store.now h) }
     {
         begin_all(self)?;
         Ok(StoreTx {
@@ -110,7 +115,8 @@ impl<S: Alter + Drop> Store<S> {
         ensures opened { IfOk result (IsOpened S.Store conn) }
         ensures given_up { IfErr result (IsGivenUp S.Store conn cap) }
         ensures other { ¬ IsOurs (state S.Store conn).now → result ≡ Err StoreFault.Foreign }
-        ensures foreign { StaysClean S.Store conn → result ≡ Err StoreFault.Foreign → IsForeignFile cap (state S.Store conn).now }
+        ensures foreign { StaysClean S.Store conn → result ≡ Err StoreFault.Foreign →
+            IsForeignFile cap (state S.Store conn).now }
     {
         let kept = audit(alloc, &mut conn, cap)?;
         if kept {

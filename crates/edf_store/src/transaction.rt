@@ -1,13 +1,17 @@
 //! What a transaction does.
 
-ghost use Rattle.std.specs.Prelude.{◌≡◌, ◌≢◌, ◌≤◌, false, true, None, IsTrue, length, OnOk, IfOk, IfErr};
+ghost use Rattle.std.specs.Prelude.{◌≡◌, ◌≢◌, ◌≤◌, false, true, None, IsTrue, length, OnOk, IfOk};
+ghost use Rattle.std.specs.Prelude.{IfErr};
 ghost use Rattle.sqlite.specs.State.{HasCleanDisk, Survives};
 ghost use Rattle.edf_field.specs.Number.{duration_of};
 ghost use Rattle.edf_header.specs.Key.{Key};
 ghost use Rattle.edf_holdings.specs.Holdings.{Holdings};
 ghost use Rattle.edf_store.specs.Fault.{IsStoreRefusal};
 ghost use Rattle.edf_store.specs.Held.{at, Holds, Stays};
-ghost use Rattle.edf_store.specs.Transaction.{Sees, IsRunning, IsOf, SeesAsBefore, HasNoMore, HasAtMost, AreNear, IsNextStartOf, IsCountOf, TellsRoom, MayTake, IsAdded, IsWhole, IsSeen};
+ghost use Rattle.edf_store.specs.Transaction.{Sees, IsRunning, IsOf, SeesAsBefore, HasNoMore};
+ghost use Rattle.edf_store.specs.Transaction.{HasAtMost, AreNear, IsNextStartOf, IsCountOf};
+ghost use Rattle.edf_store.specs.Transaction.{TellsRoom, MayTake, IsAdded, IsWhole, IsSeen};
+ghost use Rattle.edf_store.specs.Call.{Gives, RefusesAs, EndsIdle};
 
 use crate::adding::{add_record, find_or_make};
 use crate::ending::{commit_all, undo};
@@ -46,8 +50,10 @@ impl<S: Alter> StoreTx<'_, S> {
         ensures refused { IfErr result (λ _. self.new.refused ≡ true) }
         ensures spared { IfOk result (λ _. self.new.refused ≡ false) }
         ensures found { IfOk result (λ id. IsOf S.Store self.new.store.now id.row identity.now) }
-        ensures same { IfOk result (λ _. SeesAsBefore S.Store self.old.store.now self.new.store.now) }
-        ensures only { IfOk result (λ _. HasAtMost S.Store identity.now self.old.store.now self.new.store.now) }
+        ensures same { IfOk result (λ _.
+            SeesAsBefore S.Store self.old.store.now self.new.store.now) }
+        ensures only { IfOk result (λ _.
+            HasAtMost S.Store identity.now self.old.store.now self.new.store.now) }
         ensures told { IfErr result IsStoreRefusal }
         ensures caused { IfErr result (λ e. e ≢ StoreFault.Store None) }
     {
@@ -74,16 +80,20 @@ impl<S: Alter> StoreTx<'_, S> {
     ) -> Result<Vec<Record>, StoreFault>
         requires spared { self.old.refused ≡ false }
         requires running { IsRunning S.Store self.old.store.now }
-        requires recording { (k : Key) × IsOf S.Store self.old.store.now id.row k × (duration ≡ duration_of k.duration) }
+        requires recording { (k : Key) × IsOf S.Store self.old.store.now id.row k
+            × (duration ≡ duration_of k.duration) }
         ensures same_reference { self.new.store.ghost_name ≡ self.old.store.ghost_name }
         ensures stays { Stays S.Store self.old.store.now self.new.store.now }
         ensures refused { IfErr result (λ _. self.new.refused ≡ true) }
         ensures spared { IfOk result (λ _. self.new.refused ≡ false) }
-        ensures near { HasCleanDisk (at S.Store self.new.store.now) → IfOk result (λ records. AreNear S.Store self.old.store.now id.row start records.items) }
-        ensures two { HasCleanDisk (at S.Store self.new.store.now) → IfOk result (λ records. length records.items ≤ 2) }
-        ensures same { IfOk result (λ _. SeesAsBefore S.Store self.old.store.now self.new.store.now) }
+        ensures near { Gives S.Store self.new.store.now result (λ records.
+            AreNear S.Store self.old.store.now id.row start records.items) }
+        ensures two { Gives S.Store self.new.store.now result
+            (λ records. length records.items ≤ 2) }
+        ensures same { IfOk result (λ _.
+            SeesAsBefore S.Store self.old.store.now self.new.store.now) }
         ensures only { IfOk result (λ _. HasNoMore S.Store self.old.store.now self.new.store.now) }
-        ensures told { HasCleanDisk (at S.Store self.new.store.now) → IfErr result IsStoreRefusal }
+        ensures told { RefusesAs S.Store self.new.store.now result IsStoreRefusal }
         ensures unfailed { IfErr result (λ e. e ≢ StoreFault.Failed) }
         ensures caused { IfErr result (λ e. e ≢ StoreFault.Store None) }
     {
@@ -113,10 +123,12 @@ impl<S: Alter> StoreTx<'_, S> {
         ensures stays { Stays S.Store self.old.store.now self.new.store.now }
         ensures refused { IfErr result (λ _. self.new.refused ≡ true) }
         ensures spared { IfOk result (λ _. self.new.refused ≡ false) }
-        ensures next { HasCleanDisk (at S.Store self.new.store.now) → IfOk result (IsNextStartOf S.Store self.old.store.now id.row from) }
-        ensures same { IfOk result (λ _. SeesAsBefore S.Store self.old.store.now self.new.store.now) }
+        ensures next { Gives S.Store self.new.store.now result
+            (IsNextStartOf S.Store self.old.store.now id.row from) }
+        ensures same { IfOk result (λ _.
+            SeesAsBefore S.Store self.old.store.now self.new.store.now) }
         ensures only { IfOk result (λ _. HasNoMore S.Store self.old.store.now self.new.store.now) }
-        ensures told { HasCleanDisk (at S.Store self.new.store.now) → IfErr result IsStoreRefusal }
+        ensures told { RefusesAs S.Store self.new.store.now result IsStoreRefusal }
         ensures unfailed { IfErr result (λ e. e ≢ StoreFault.Failed) }
         ensures caused { IfErr result (λ e. e ≢ StoreFault.Store None) }
     {
@@ -141,8 +153,10 @@ impl<S: Alter> StoreTx<'_, S> {
         ensures stays { Stays S.Store self.old.store.now self.new.store.now }
         ensures refused { IfErr result (λ _. self.new.refused ≡ true) }
         ensures spared { IfOk result (λ _. self.new.refused ≡ false) }
-        ensures count { HasCleanDisk (at S.Store self.new.store.now) → IfOk result (IsCountOf S.Store self.old.store.now id.row) }
-        ensures same { IfOk result (λ _. SeesAsBefore S.Store self.old.store.now self.new.store.now) }
+        ensures count { Gives S.Store self.new.store.now result
+            (IsCountOf S.Store self.old.store.now id.row) }
+        ensures same { IfOk result (λ _.
+            SeesAsBefore S.Store self.old.store.now self.new.store.now) }
         ensures only { IfOk result (λ _. HasNoMore S.Store self.old.store.now self.new.store.now) }
         ensures told { IfErr result IsStoreRefusal }
         ensures caused { IfErr result (λ e. e ≢ StoreFault.Store None) }
@@ -171,13 +185,16 @@ impl<S: Alter> StoreTx<'_, S> {
     ) -> Result<bool, StoreFault>
         requires spared { self.old.refused ≡ false }
         requires running { IsRunning S.Store self.old.store.now }
-        requires recording { (k : Key) × IsOf S.Store self.old.store.now id.row k × (duration ≡ duration_of k.duration) }
+        requires recording { (k : Key) × IsOf S.Store self.old.store.now id.row k
+            × (duration ≡ duration_of k.duration) }
         ensures same_reference { self.new.store.ghost_name ≡ self.old.store.ghost_name }
         ensures stays { Stays S.Store self.old.store.now self.new.store.now }
         ensures refused { IfErr result (λ _. self.new.refused ≡ true) }
         ensures spared { IfOk result (λ _. self.new.refused ≡ false) }
-        ensures room { HasCleanDisk (at S.Store self.new.store.now) → IfOk result (TellsRoom S.Store self.old.store.now id.row more) }
-        ensures same { IfOk result (λ _. SeesAsBefore S.Store self.old.store.now self.new.store.now) }
+        ensures room { Gives S.Store self.new.store.now result
+            (TellsRoom S.Store self.old.store.now id.row more) }
+        ensures same { IfOk result (λ _.
+            SeesAsBefore S.Store self.old.store.now self.new.store.now) }
         ensures only { IfOk result (λ _. HasNoMore S.Store self.old.store.now self.new.store.now) }
         ensures told { IfErr result IsStoreRefusal }
         ensures caused { IfErr result (λ e. e ≢ StoreFault.Store None) }
@@ -204,7 +221,8 @@ impl<S: Alter> StoreTx<'_, S> {
         ensures stays { Stays S.Store self.old.store.now self.new.store.now }
         ensures refused { IfErr result (λ _. self.new.refused ≡ true) }
         ensures spared { IfOk result (λ _. self.new.refused ≡ false) }
-        ensures added { IfOk result (λ _. IsAdded S.Store self.old.store.now self.new.store.now id.row data_record.now) }
+        ensures added { IfOk result (λ _.
+            IsAdded S.Store self.old.store.now self.new.store.now id.row data_record.now) }
         ensures only { IfOk result (λ _. HasNoMore S.Store self.old.store.now self.new.store.now) }
         ensures told { IfErr result IsStoreRefusal }
         ensures caused { IfErr result (λ e. e ≢ StoreFault.Store None) }
@@ -228,11 +246,18 @@ impl<S: Alter> StoreTx<'_, S> {
         requires running { IsRunning S.Store self.store.now }
         requires whole { IsWhole S.Store self.store.now }
         ensures cap { self.exit.0.now.cap ≡ self.entry.store.now.cap }
-        ensures committed { IfOk result (λ _. (h : Holdings) → Sees S.Store self.entry.store.now h → Holds S.Store self.exit.0.now h) }
-        ensures refused { IfErr result (λ _. (h : Holdings) → Holds S.Store self.entry.store.now h → Holds S.Store self.exit.0.now h) }
-        ensures survives { Survives (at S.Store self.entry.store.now) (at S.Store self.exit.0.now) (IsSeen S.Store self.entry.store.now) }
-        ensures ended { HasCleanDisk (at S.Store self.exit.0.now) → (at S.Store self.exit.0.now).in_transaction ≡ false }
-        ensures is_open { HasCleanDisk (at S.Store self.exit.0.now) → OnOk result (IsTrue (at S.Store self.exit.0.now).is_open) }
+        ensures committed { IfOk result (λ _.
+            (h : Holdings) → Sees S.Store self.entry.store.now h →
+            Holds S.Store self.exit.0.now h) }
+        ensures refused { IfErr result (λ _.
+            (h : Holdings) → Holds S.Store self.entry.store.now h →
+            Holds S.Store self.exit.0.now h) }
+        ensures survives { Survives (at S.Store self.entry.store.now) (at S.Store self.exit.0.now)
+            (IsSeen S.Store self.entry.store.now) }
+        ensures ended { HasCleanDisk (at S.Store self.exit.0.now) →
+            (at S.Store self.exit.0.now).in_transaction ≡ false }
+        ensures is_open { HasCleanDisk (at S.Store self.exit.0.now) →
+            OnOk result (IsTrue (at S.Store self.exit.0.now).is_open) }
         ensures told { IfErr result IsStoreRefusal }
         ensures caused { IfErr result (λ e. e ≢ StoreFault.Store None) }
     {
@@ -246,7 +271,7 @@ impl<S: Alter> StoreTx<'_, S> {
     /// `Memory` (E41) or `Store` (E42).
     pub fn give_up(self) -> Result<(), StoreFault>
         ensures stays { Stays S.Store self.entry.store.now self.exit.0.now }
-        ensures ended { HasCleanDisk (at S.Store self.exit.0.now) → OnOk result ((at S.Store self.exit.0.now).in_transaction ≡ false) }
+        ensures ended { EndsIdle S.Store self.exit.0.now result }
         ensures told { IfErr result IsStoreRefusal }
         ensures caused { IfErr result (λ e. e ≢ StoreFault.Store None) }
     {
