@@ -1,6 +1,7 @@
 //! A whole fragment inside a transaction.
 
-ghost use Rattle.std.specs.Prelude.{◌≡◌, ◌≢◌, ◌+◌, ◌≤◌, ℕ, List, Some, None, Err, true, false, length, IfOk, IfErr, IfSome};
+ghost use Rattle.std.specs.Prelude.{◌≡◌, ◌≢◌, ◌+◌, ◌≤◌, ℕ, List, Some, None, Err, true, false};
+ghost use Rattle.std.specs.Prelude.{length, IfOk, IfErr, IfSome};
 ghost use Rattle.sqlite.specs.State.{HasCleanDisk};
 ghost use Rattle.edf_field.specs.Number.{duration_of};
 ghost use Rattle.edf_header.specs.Key.{Key};
@@ -11,7 +12,8 @@ ghost use Rattle.edf_holdings.specs.Holdings.{Holdings};
 ghost use Rattle.edf_holdings.specs.Reply.{reply};
 ghost use Rattle.edf_store.specs.Fault.{IsStoreRefusal};
 ghost use Rattle.edf_store.specs.Held.{at, Stays};
-ghost use Rattle.edf_store.specs.Transaction.{Sees, IsRunning, IsOf, SeesAsBefore, HasNoMore, HasAtMost, IsWhole, TellsRoom};
+ghost use Rattle.edf_store.specs.Transaction.{Sees, IsRunning, IsOf, SeesAsBefore, HasNoMore};
+ghost use Rattle.edf_store.specs.Transaction.{HasAtMost, IsWhole, TellsRoom};
 ghost use Rattle.edf_intake.specs.Refusal.{reply_told};
 ghost use Rattle.edf_intake.specs.Inside.Step.{IsRoom, IsTally};
 ghost use Rattle.edf_intake.specs.Inside.Taken.{IsConflict, IsTaken, IsStop};
@@ -33,15 +35,19 @@ fn known_room<S: Alter>(
 ) -> Result<Option<u32>, StoreFault>
     requires spared { transaction.old.refused ≡ false }
     requires running { IsRunning S.Store transaction.old.store.now }
-    requires recording { (k : Key) × IsOf S.Store transaction.old.store.now id.row k × (duration ≡ duration_of k.duration) }
+    requires recording { (k : Key) × IsOf S.Store transaction.old.store.now id.row k
+        × (duration ≡ duration_of k.duration) }
     ensures same_reference { transaction.new.store.ghost_name ≡ transaction.old.store.ghost_name }
     ensures stays { Stays S.Store transaction.old.store.now transaction.new.store.now }
     ensures spared { IfOk result (λ _. transaction.new.refused ≡ false) }
     ensures count { IfOk result (λ found. IfSome found (λ room. count ≡ Some room)) }
     ensures room { HasCleanDisk (at S.Store transaction.new.store.now) →
-        IfOk result (λ found. IfSome found (λ room. TellsRoom S.Store transaction.old.store.now id.row room true)) }
-    ensures same { IfOk result (λ _. SeesAsBefore S.Store transaction.old.store.now transaction.new.store.now) }
-    ensures only { IfOk result (λ _. HasNoMore S.Store transaction.old.store.now transaction.new.store.now) }
+        IfOk result (λ found. IfSome found (λ room.
+        TellsRoom S.Store transaction.old.store.now id.row room true)) }
+    ensures same { IfOk result (λ _.
+        SeesAsBefore S.Store transaction.old.store.now transaction.new.store.now) }
+    ensures only { IfOk result (λ _.
+        HasNoMore S.Store transaction.old.store.now transaction.new.store.now) }
     ensures told { IfErr result IsStoreRefusal }
     ensures caused { IfErr result (λ e. e ≢ StoreFault.Store None) }
 {
@@ -67,10 +73,16 @@ fn find_recording<S: Alter>(
     ensures stays { Stays S.Store transaction.old.store.now transaction.new.store.now }
     ensures spared { IfOk result (λ _. transaction.new.refused ≡ false) }
     ensures running { IfOk result (λ _. IsRunning S.Store transaction.new.store.now) }
-    ensures recording { IfOk result (λ found. IsOf S.Store transaction.new.store.now found.id.row identity.now) }
-    ensures same { IfOk result (λ _. (h : Holdings) → Sees S.Store transaction.old.store.now h → Sees S.Store transaction.new.store.now h) }
-    ensures only { IfOk result (λ _. HasAtMost S.Store identity.now transaction.old.store.now transaction.new.store.now) }
-    ensures room { IfOk result (λ found. HasCleanDisk (at S.Store transaction.new.store.now) → (h : Holdings) → Sees S.Store transaction.new.store.now h →
+    ensures recording { IfOk result (λ found.
+        IsOf S.Store transaction.new.store.now found.id.row identity.now) }
+    ensures same { IfOk result (λ _.
+        (h : Holdings) → Sees S.Store transaction.old.store.now h →
+        Sees S.Store transaction.new.store.now h) }
+    ensures only { IfOk result (λ _.
+        HasAtMost S.Store identity.now transaction.old.store.now transaction.new.store.now) }
+    ensures room { IfOk result (λ found.
+        HasCleanDisk (at S.Store transaction.new.store.now) → (h : Holdings) →
+        Sees S.Store transaction.new.store.now h →
         IsRoom cap (length (h identity.now)) (most_records count) found.room) }
     ensures told { IfErr result IsStoreRefusal }
     ensures caused { IfErr result (λ e. e ≢ StoreFault.Store None) }
@@ -87,7 +99,8 @@ fn find_recording<S: Alter>(
 /// The refusal for a clash.
 fn clash_refusal(starts: Starts) -> Refusal
     ensures differs { starts.start ≡ starts.stored → result ≡ Refusal.Differs starts.start }
-    ensures overlaps { starts.start ≢ starts.stored → result ≡ Refusal.Overlap starts.start starts.stored }
+    ensures overlaps { starts.start ≢ starts.stored →
+        result ≡ Refusal.Overlap starts.start starts.stored }
 {
     let start = starts.start;
     let stored = starts.stored;
@@ -102,7 +115,8 @@ fn clash_refusal(starts: Starts) -> Refusal
 fn conflict(recording: Recording, cap: u32, tally: Tally) -> Option<Refusal>
     ensures accepted { result ≡ None → (tally.clash ≡ None) × (tally.new ≤ recording.room) }
     ensures refused { IfSome result IsConflict }
-    ensures answer { IfSome result (λ refusal. (key : Key) (h : Holdings) (records : List DataRecord) →
+    ensures answer { IfSome result (λ refusal.
+        (key : Key) (h : Holdings) (records : List DataRecord) →
         IsRoom cap (length (h key)) (length records) recording.room → IsTally key h records tally →
         reply_told (Err refusal) ≡ Some (reply cap h (Fragment key records))) }
 {
@@ -129,11 +143,14 @@ fn answer_of(
     tally: Tally,
     identity: Identity,
 ) -> Result<Receipt, Refusal>
-    ensures accepted { IfOk result (λ receipt. (receipt ≡ record { identity = identity; new = tally.new; known = tally.known })
+    ensures accepted { IfOk result (λ receipt.
+        (receipt ≡ record { identity = identity; new = tally.new; known = tally.known })
         × (tally.clash ≡ None) × (tally.new ≤ recording.room)) }
     ensures refused { IfErr result IsConflict }
-    ensures answer { IfErr result (λ refusal. (h : Holdings) (records : List DataRecord) →
-        IsRoom cap (length (h identity)) (length records) recording.room → IsTally identity h records tally →
+    ensures answer { IfErr result (λ refusal.
+        (h : Holdings) (records : List DataRecord) →
+        IsRoom cap (length (h identity)) (length records) recording.room →
+        IsTally identity h records tally →
         reply_told (Err refusal) ≡ Some (reply cap h (Fragment identity records))) }
 {
     let new = tally.new;
@@ -167,7 +184,8 @@ pub(crate) fn take_fragment<S: Alter, R: Input>(
     ensures taken { IfOk result (IsTaken S.Store transaction.old.store.now transaction.new.store.now
         (record { left = R.remaining input.old; failed = R.failures input.old })
         (record { left = R.remaining input.new; failed = R.failures input.new })) }
-    ensures stopped { IfErr result (IsStop S.Store transaction.old.store.now transaction.new.store.now
+    ensures stopped { IfErr result
+        (IsStop S.Store transaction.old.store.now transaction.new.store.now
         (record { left = R.remaining input.old; failed = R.failures input.old })
         (record { left = R.remaining input.new; failed = R.failures input.new })) }
 {

@@ -1,6 +1,8 @@
 //! Laws of lists of submissions: each function has laws for a contract, and does nothing.
 
-ghost use Rattle.edf_holdings.specs.Laws.{HeldIsKnown, AcceptedAgain, RefusedAgain, RepeatTakenOut, FromTheFront, AnyOrder, Reordered, AloneIsFree, Recut, FreeOfSame};
+ghost use Rattle.edf_holdings.specs.Laws.{HeldIsKnown, AcceptedAgain, RefusedAgain, RepeatTakenOut};
+ghost use Rattle.edf_holdings.specs.Laws.{FromTheFront, AnyOrder, Reordered, AloneIsFree, Recut};
+ghost use Rattle.edf_holdings.specs.Laws.{FreeOfSame};
 ghost use Rattle.edf_holdings.specs.Meaning.{OwnList};
 
 /// A list acts once: a fragment that is held is accepted with nothing new; a later repeat of a member that was accepted is

@@ -1,10 +1,10 @@
 //! One submission, and a list of them.
 
-ghost use Rattle.std.specs.Prelude.{◌≡◌, IsTrue, map, IfOk, IfErr};
-ghost use Rattle.edf_store.specs.Held.{at};
+ghost use Rattle.std.specs.Prelude.{◌≡◌, map, IfOk, IfErr};
 ghost use Rattle.edf_intake.specs.Submitted.{IsSubmitted, IsEnded, found_busy};
 ghost use Rattle.edf_intake.specs.Source.{Source};
 ghost use Rattle.edf_intake.specs.Batch.{AreSubmitted, AnswersAll, AreEnded};
+ghost use Rattle.edf_store.specs.Call.{IsBusy};
 
 use crate::answer::{Receipt, Refusal, Stop};
 use crate::fragment::take_fragment;
@@ -40,8 +40,8 @@ pub fn submit<S: Alter, R: Input>(
         (record { left = R.remaining input.old; failed = R.failures input.old })
         (record { left = R.remaining input.new; failed = R.failures input.new }) result }
     ensures ended { IsEnded S.Store store.new result }
-    ensures caused { result ≡ found_busy → IsTrue (at S.Store store.old).in_transaction }
-    ensures busy { IsTrue (at S.Store store.old).in_transaction → (input.new ≡ input.old) × (result ≡ found_busy) }
+    ensures caused { result ≡ found_busy → IsBusy S.Store store.old }
+    ensures busy { IsBusy S.Store store.old → (input.new ≡ input.old) × (result ≡ found_busy) }
 {
     let cap = store.cap();
     let mut transaction = store.transaction()?;
@@ -73,12 +73,16 @@ pub fn submit_all<S: Alter, R: Input>(
 ) -> Result<Vec<Result<Receipt, Refusal>>, AllocError>
     ensures cap { store.new.cap ≡ store.old.cap }
     ensures nothing { IfErr result (λ _. (store.new ≡ store.old) × (inputs.new ≡ inputs.old)) }
-    ensures submitted { IfOk result (λ answers. AreSubmitted S.Store store.old store.new
+    ensures submitted { IfOk result (λ answers.
+        AreSubmitted S.Store store.old store.new
         (map (λ i. record { left = R.remaining i; failed = R.failures i }) inputs.old)
-        (map (λ i. record { left = R.remaining i; failed = R.failures i }) inputs.new) answers.items) }
+        (map (λ i. record { left = R.remaining i; failed = R.failures i }) inputs.new)
+        answers.items) }
     ensures ended { IfOk result (λ answers. AreEnded S.Store store.old store.new answers.items) }
-    ensures answered { IfOk result (λ answers. AnswersAll S.Store store.old store.new
-        (map (λ i. record { left = R.remaining i; failed = R.failures i }) inputs.old) answers.items) }
+    ensures answered { IfOk result (λ answers.
+        AnswersAll S.Store store.old store.new
+        (map (λ i. record { left = R.remaining i; failed = R.failures i }) inputs.old)
+        answers.items) }
 {
     let mut answers = Vec::with_capacity(alloc, inputs.len())?;
     for input in inputs.iter_mut() {

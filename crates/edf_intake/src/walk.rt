@@ -1,6 +1,7 @@
 //! The data records of a fragment, one after another, inside a transaction.
 
-ghost use Rattle.std.specs.Prelude.{◌≡◌, ℕ, ◌+◌, ◌-◌, ◌^◌, ◌<◌, ◌≤◌, List, [], Option, None, false, length, IfSome, IfOk, IfErr};
+ghost use Rattle.std.specs.Prelude.{◌≡◌, ℕ, ◌+◌, ◌-◌, ◌^◌, ◌<◌, ◌≤◌, List, [], Option, None, false};
+ghost use Rattle.std.specs.Prelude.{length, IfSome, IfOk, IfErr};
 ghost use Rattle.sqlite.specs.State.{HasCleanDisk};
 ghost use Rattle.edf_header.specs.Key.{MayStart};
 ghost use Rattle.edf_header.specs.Header.{most_records};
