@@ -104,9 +104,9 @@ impl<S: Alter + Drop> Store<S> {
     /// `Foreign` (E45) where the file's schema is not one that this call leaves or completes (it
     /// has any other table, index or view, other columns under our names, or our tables in another
     /// order), or where it has rows that submissions do not leave under this cap; else `Memory`
-    /// (E41) or `Store` (E42). The connection is given up. Its rows are as they were, by what
-    /// `edf_audit::audit` says, and where no other table was there, a missing one may have been
-    /// made.
+    /// (E41) or `Store` (E42). The connection is given up. Its rows are as they were, by clause
+    /// `stays` of `edf_audit::audit`, and where no other table was there, a missing one may have
+    /// been made.
     pub fn open(alloc: Global, mut conn: Connection<S>, cap: u32) -> Result<Store<S>, StoreFault>
         requires cap_from { 1 ≤ cap }
         requires cap_to { cap ≤ 99_999_999 }
