@@ -4,7 +4,7 @@ use Rattle.sqlite_trees.specs.declared.store.Store.{Ghosts}
 use Rattle.sqlite.specs.Held.{Held, state}
 use Rattle.sqlite.specs.State.{HasCleanDisk, Survives}
 use Rattle.edf_holdings.specs.Holdings.{Holdings}
-use Rattle.edf_tables.specs.Made.{IsOurs, HasTables, IsMadeOf}
+use Rattle.edf_tables.specs.Made.{IsOurs, HasTables, KeepsFile, IsMadeOf}
 use Rattle.edf_rows.specs.Rows.{AreKept}
 use Rattle.edf_audit.specs.File.{IsForeignFile}
 use Rattle.edf_store.specs.Held.{Kept, at}
@@ -22,13 +22,15 @@ pub record IsOpened {S : Type 0} (g : Ghosts S) (conn : Held S) (store : Kept S)
   pub own : HasCleanDisk (at g store) → ¬ IsForeignFile store.cap (state g conn).now
   pub crash : Survives (state g conn) (at g store) (IsMadeOf (state g conn).now)
 
--- the connection is given up somewhere. Where its disk is clean there, E45 tells that the file was foreign, and tables of ours
--- have the rows that they had; a crash leaves the same as above
+-- the connection is given up somewhere. Where its disk is clean there, its rows are as they were,
+-- whatever the refusal is; E45 tells that the file was foreign, and tables of ours are made where they
+-- were missing; a crash leaves the same as above
 pub record IsGivenUp {S : Type 0} (g : Ghosts S) (conn : Held S) (cap : ℕ) (fault : StoreFault) : Type 0 where
   pub end : Held S
   pub told : (fault ≡ Foreign) ⊎ IsStoreRefusal fault
   pub foreign : fault ≡ Foreign → HasCleanDisk (state g end) → IsForeignFile cap (state g conn).now
   pub tables : fault ≡ Foreign → IsOurs (state g conn).now → HasCleanDisk (state g end) → HasTables (state g conn).now (state g end).now
+  pub stays : HasCleanDisk (state g end) → KeepsFile (state g conn) (state g end)
   pub crash : Survives (state g conn) (state g end) (IsMadeOf (state g conn).now)
 
 -- the disk is clean wherever the opening may come from here, as that of a store in memory always is

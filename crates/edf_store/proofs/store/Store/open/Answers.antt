@@ -12,6 +12,7 @@ returns-in_err-kept-clause-given_up g c =
       told = inr told.2.told;
       foreign = λ is clean. absurd (told.2.own is);
       tables = λ is ours clean. absurd (told.2.own is);
+      stays = c.audit.ensures.stays;
       crash = c.audit.ensures.survives;
     })
 
@@ -35,6 +36,7 @@ returns-else-kept-clause-given_up g c = record {
   told = inl refl;
   foreign = λ is clean. rw c.if-kept.false at (c.in_ok-kept.ensures.answers clean);
   tables = λ is ours clean. c.in_ok-kept.ensures.tables ours clean;
+  stays = c.audit.ensures.stays;
   crash = c.audit.ensures.survives;
 }
 
