@@ -3,7 +3,6 @@
 ghost use Rattle.std.specs.Prelude.{◌≡◌, ◌≢◌, ◌⊎◌, List, map, IfOk, IfErr};
 ghost use Rattle.std.specs.List.{AllByRecursion};
 ghost use Rattle.edf_header.specs.Key.{Key, IsKey};
-ghost use Rattle.edf_tal.specs.Canonical.{block_text};
 ghost use Rattle.edf_fragment.specs.Fragment.{DataRecord};
 ghost use Rattle.edf_fragment.specs.Sound.{IsSoundRecord};
 ghost use Rattle.edf_tables.specs.Cells.{cells_of};
@@ -11,48 +10,9 @@ ghost use Rattle.edf_rows.specs.Cells.{record_cells};
 
 use crate::fault::StoreFault;
 use edf_fragment::Record;
+use edf_rows::record_from;
 use edf_tables::RecordRow;
-use edf_tal::{Place, TalFault, read_block};
-use edf_time::Instant;
 use std::alloc::Global;
-
-/// 1985-01-01 00:00:00, from which a stored block's onsets count.
-fn base() -> Instant
-    ensures { result ≡ 0 }
-{
-    match Instant::at(0) {
-        Some(base) => base,
-        None => unreachable!(),
-    }
-}
-
-/// The data record of these samples, with the start and the annotations that its block gives.
-///
-/// # Errors
-/// `Memory`, or `Foreign` where the block is none or the parts are past the limits of a data record.
-fn record_from(alloc: Global, samples: Vec<u8>, block: &[u8]) -> Result<Record, StoreFault>
-    ensures read { IfOk result (λ r.
-        (k : Key) (d : DataRecord) → IsKey k → IsSoundRecord k d → samples.items ≡ d.samples →
-        block.now ≡ block_text 0 d.start d.annotations → r ≡ d) }
-    ensures told { IfErr result (λ e. (e ≡ StoreFault.Memory) ⊎ (e ≡ StoreFault.Foreign)) }
-    ensures own { IfErr result (λ e.
-        (k : Key) (d : DataRecord) → IsKey k → IsSoundRecord k d → samples.items ≡ d.samples →
-        block.now ≡ block_text 0 d.start d.annotations → e ≢ StoreFault.Foreign) }
-{
-    match read_block(alloc, block, base(), Place::Any) {
-        Ok((start, notes)) => match Record::new(start, samples, notes) {
-            Some(data_record) => Ok(data_record),
-            None => Err(StoreFault::Foreign),
-        },
-        Err(fault) => {
-            if fault == TalFault::Memory {
-                Err(StoreFault::Memory)
-            } else {
-                Err(StoreFault::Foreign)
-            }
-        }
-    }
-}
 
 /// The data record that a row stands for.
 ///
@@ -72,7 +32,11 @@ pub(crate) fn record_in(alloc: Global, row: RecordRow) -> Result<Record, StoreFa
         samples,
         block,
     } = row;
-    record_from(alloc, samples, block.as_slice())
+    match record_from(alloc, samples, block.as_slice()) {
+        Ok(Some(data_record)) => Ok(data_record),
+        Ok(None) => Err(StoreFault::Foreign),
+        Err(_) => Err(StoreFault::Memory),
+    }
 }
 
 /// The data records that rows stand for, in their order.
@@ -86,11 +50,8 @@ pub(crate) fn records_in(alloc: Global, rows: Vec<RecordRow>) -> Result<Vec<Reco
         map cells_of rows.items ≡ map record_cells ds → e ≢ StoreFault.Foreign) }
 {
     let mut records = Vec::new(alloc);
-    for row in &rows {
-        let Ok(samples) = Vec::from_slice(alloc, row.samples.as_slice()) else {
-            return Err(StoreFault::Memory);
-        };
-        let data_record = record_from(alloc, samples, row.block.as_slice())?;
+    for row in rows {
+        let data_record = record_in(alloc, row)?;
         if records.push(data_record).is_err() {
             return Err(StoreFault::Memory);
         }

@@ -1,28 +1,46 @@
-use Rattle.std.proofs.Common.{rules, arith, ◌∙◌}
-use Rattle.std.proofs.lemmas.List.{take_all}
+use Rattle.std.proofs.Common.{◌≡◌, ◌∷◌, map, length, rules, arith, sym, ap, ◌∙◌}
 use Rattle.std.proofs.lemmas.Result.{err_from_is_err_and}
+use Rattle.std.specs.Vec.Iter.{into_iter_items}
 use Rattle.edf_fragment.specs.Sound.{IsSoundRecord}
-use Rattle.edf_store.proofs.DecodeLemmas.{at_place, pushed, samples_of, block_is, all_rows}
+use Rattle.edf_tables.specs.Cells.{cells_of}
+use Rattle.edf_store.proofs.DecodeLemmas.{next_read, pushed, all_read, none_read}
+use Rattle.edf_store.proofs.WalkLemmas.{no_items}
 use Rattle.edf_store.proofs.decode.records_in.Goals as goal
 
+pub loop-row-init : goal.loop-row-init
+loop-row-init c = (
+  search rules,
+  λ k ds key sound same.
+      let all = ap (map cells_of) c.into_iter-row-iterator.ensures.into_iter_gives.0 ∙ same in
+      none_read (IsSoundRecord k) ds _ _ (search rules) all sound,
+)
+
 pub loop-row-preserved : goal.loop-row-preserved
-loop-row-preserved c k ds key sound same =
-    let rows = c.deref-row-items.result.now in
-    let at = at_place (IsSoundRecord k) rows ds c.loop-row.row-index c.row-item.result (omega arith) (search rules) same sound in
-    pushed (IsSoundRecord k) ds c.loop-row.row-index c.row-item.result c.loop-row.records.items c.push.new.self.items c.in_ok-data_record.data_record at
-    (c.loop-row.invariant k ds key sound same)
-    (c.in_ok-data_record.ensures.read k at.data_record key at.has (search (rules, samples_of)) (search (rules, block_is)))
-    (search rules)
+loop-row-preserved c =
+    let at = c.loop-row in
+    let row = c.in-Some.row in
+    let steps : into_iter_items at.row-iterator ≡ row ∷ into_iter_items c.next.new.self = c.in-Some.ensures.steps.0 in (
+      let was = at.invariant.0 in
+          let gone = c.in-Some.ensures.steps.1 in
+          let short = ap length steps in
+          omega arith,
+      λ k ds key sound same.
+          let next = next_read (IsSoundRecord k) ds at.records.items row _ _ (at.invariant.1 k ds key sound same) steps in
+          pushed (IsSoundRecord k) ds at.records.items row _ c.in_ok-data_record.data_record c.push.new.self.items next
+          (c.in_ok-data_record.ensures.read k next.data_record key next.has next.cells)
+          (search rules),
+    )
 
 pub returns-clause-read : goal.returns-clause-read
 returns-clause-read c k ds key sound same =
-    let n = all_rows c.args.rows.items ds same in
-    c.loop-row.invariant k ds key sound (search rules) ∙ take_all c.loop-row.row-index ds (omega (arith, n))
+    let at = c.loop-row in
+    all_read (IsSoundRecord k) ds at.records.items _ (at.invariant.1 k ds key sound same) (no_items _ (sym at.invariant.0 ∙ c.in-None.ensures.steps.0))
 
 pub returns-in_err-data_record-clause-own : goal.returns-in_err-data_record-clause-own
 returns-in_err-data_record-clause-own c =
     let told = err_from_is_err_and c.from_residual.result c.from_residual.ensures.1 in
     rw (told.1, told.2)
     (λ k ds key sound same.
-    let at = at_place (IsSoundRecord k) c.deref-row-items.result.now ds c.loop-row.row-index c.row-item.result (omega arith) (search rules) (search rules) sound in
-    c.in_err-data_record.ensures.own k at.data_record key at.has (search (rules, samples_of)) (search (rules, block_is)))
+    let at = c.loop-row in
+    let next = next_read (IsSoundRecord k) ds at.records.items c.in-Some.row _ _ (at.invariant.1 k ds key sound same) c.in-Some.ensures.steps.0 in
+    c.in_err-data_record.ensures.own k next.data_record key next.has next.cells)
