@@ -1,4 +1,4 @@
--- When a header is refused: the condition of each fault, and the first in the order of their numbers.
+-- When a header is refused: each fault with its number and its condition, and the first in the order of the numbers.
 use Rattle.std.specs.Prelude.{◌≡◌, ◌≢◌, ℕ, ◌+◌, ◌*◌, ◌≤◌, ◌<◌, ◌⊎◌, List, length, codes, take, All, ℤ, Option, Some, None}
 use Rattle.edf_time.specs.Civil.{IsDateText, IsYearlessText, AreStartdates, HasDateForm, IsTimeText}
 use Rattle.edf_field.specs.Number.{field, IsDuration, IsNumber}
@@ -17,6 +17,23 @@ HasCount b = (count : Option ℕ) × IsCount (count_field b) count
 abbrev pub HasSignals : List ℕ → ℕ → Type 0
 HasSignals b n = IsNumber (signals_field b) n × (2 ≤ n) × (n ≤ 640)
 
+abbrev pub HasNoSignals : List ℕ → Type 0
+HasNoSignals b = (n : ℕ) → ¬ HasSignals b n
+
+-- there are n signals, and the number of header bytes is not 256 and 256 for each
+abbrev pub HasOtherHeaderBytes : List ℕ → Type 0
+HasOtherHeaderBytes b = (n : ℕ) × HasSignals b n × ¬ IsNumber (header_bytes_field b) (256 + 256 * n)
+
+-- the text is no recording identification, no time, no duration
+abbrev pub IsNoRecording : List ℕ → Type 0
+IsNoRecording text = (startdate : Option ℤ) (after : List ℕ) → ¬ IsRecording text startdate after
+
+abbrev pub IsNoTime : List ℕ → Type 0
+IsNoTime text = (seconds : ℕ) → ¬ IsTimeText text seconds
+
+abbrev pub IsNoDuration : List ℕ → Type 0
+IsNoDuration text = (nanos : ℕ) → ¬ IsDuration text nanos
+
 -- the startdate is neither dd.mm.yy with two digits for the year nor one with the letters yy there
 abbrev pub IsNoStartdate : List ℕ → Type 0
 IsNoStartdate date = ((days : ℕ) → ¬ IsDateText date days) × ¬ IsYearlessText date
@@ -34,23 +51,6 @@ pub record DatesAreOther (b : List ℕ) : Type 0 where
   pub form : HasDateForm (startdate_field b) (Some day)
   pub other : (days : ℕ) → ¬ AreStartdates (startdate_field b) (Some day) days
 
--- the fault is true of the fixed part's bytes, at its place
-abbrev pub FixedPartFails : List ℕ → HeaderFault → Type 0
-FixedPartFails b Cut = length b < 256
-FixedPartFails b (Unprintable offset) = IsFirstBad IsPrintable b offset
-FixedPartFails b Version = version_field b ≢ codes "0       "
-FixedPartFails b Patient = ¬ IsPatient (patient_field b)
-FixedPartFails b Recording = (startdate : Option ℤ) (after : List ℕ) → ¬ IsRecording (recording_field b) startdate after
-FixedPartFails b Startdate = IsNoStartdate (startdate_field b) ⊎ HasNoYear b
-FixedPartFails b Starttime = (seconds : ℕ) → ¬ IsTimeText (starttime_field b) seconds
-FixedPartFails b DatesDiffer = DatesAreOther b
-FixedPartFails b NotPlus = ¬ IsPlus (reserved_field b)
-FixedPartFails b Count = ¬ HasCount b
-FixedPartFails b Duration = (nanos : ℕ) → ¬ IsDuration (duration_field b) nanos
-FixedPartFails b Signals = (n : ℕ) → ¬ HasSignals b n
-FixedPartFails b HeaderBytes = (n : ℕ) × HasSignals b n × ¬ IsNumber (header_bytes_field b) (256 + 256 * n)
-FixedPartFails b _ = ⊥
-
 -- at least one signal has the label of annotations signals, each of these has what an annotations signal must have, and at least
 -- one signal has not the label
 pub record HasAnnotations (signals : List (List ℕ)) : Type 0 where
@@ -67,17 +67,39 @@ abbrev pub IsTooLarge : List (List ℕ) → Type 0
 IsTooLarge signals =
     (4_194_304 < 2 * samples_in_all (ordinary signals)) ⊎ (4_194_304 < 2 * samples_in_all (labelled signals))
 
--- the fault is true of the signal part's bytes, of n signals
+-- the first byte of the signal part that is not printable; its offset counts from the file's first byte
+abbrev pub HasBadByteAt : List ℕ → ℕ → Type 0
+HasBadByteAt s offset = (at : ℕ) × IsFirstBad IsPrintable s at × (offset ≡ 256 + at)
+
+-- E1 to E13: the fault is true of b, the fixed part's bytes
+abbrev pub FixedPartFails : List ℕ → HeaderFault → Type 0
+FixedPartFails b Cut = length b < 256                                          -- E1
+FixedPartFails b (Unprintable offset) = IsFirstBad IsPrintable b offset        -- E2
+FixedPartFails b Version = version_field b ≢ codes "0       "                  -- E3
+FixedPartFails b Patient = ¬ IsPatient (patient_field b)                       -- E4
+FixedPartFails b Recording = IsNoRecording (recording_field b)                 -- E5
+FixedPartFails b Startdate = IsNoStartdate (startdate_field b) ⊎ HasNoYear b   -- E6
+FixedPartFails b Starttime = IsNoTime (starttime_field b)                      -- E7
+FixedPartFails b DatesDiffer = DatesAreOther b                                 -- E8
+FixedPartFails b NotPlus = ¬ IsPlus (reserved_field b)                         -- E9
+FixedPartFails b Count = ¬ HasCount b                                          -- E10
+FixedPartFails b Duration = IsNoDuration (duration_field b)                    -- E11
+FixedPartFails b Signals = HasNoSignals b                                      -- E12
+FixedPartFails b HeaderBytes = HasOtherHeaderBytes b                           -- E13
+FixedPartFails b _ = ⊥
+
+-- E14 to E20: the fault is true of s, the signal part's bytes, of n signals
 abbrev pub SignalsFail : List ℕ → ℕ → HeaderFault → Type 0
-SignalsFail s n CutSignals = length s < 256 * n
-SignalsFail s n (UnprintableSignals offset) = (at : ℕ) × IsFirstBad IsPrintable s at × (offset ≡ 256 + at)
-SignalsFail s n Annotations = ¬ HasAnnotations (signals_of s n)
-SignalsFail s n (Physical signal) = IsBadSignal checks.Physical (signals_of s n) signal
-SignalsFail s n (Digital signal) = IsBadSignal checks.Digital (signals_of s n) signal
-SignalsFail s n (Samples signal) = IsBadSignal checks.Samples (signals_of s n) signal
-SignalsFail s n Size = IsTooLarge (signals_of s n)
+SignalsFail s n CutSignals = length s < 256 * n                                         -- E14
+SignalsFail s n (UnprintableSignals offset) = HasBadByteAt s offset                     -- E15
+SignalsFail s n Annotations = ¬ HasAnnotations (signals_of s n)                         -- E16
+SignalsFail s n (Physical signal) = IsBadSignal checks.Physical (signals_of s n) signal -- E17
+SignalsFail s n (Digital signal) = IsBadSignal checks.Digital (signals_of s n) signal   -- E18
+SignalsFail s n (Samples signal) = IsBadSignal checks.Samples (signals_of s n) signal   -- E19
+SignalsFail s n Size = IsTooLarge (signals_of s n)                                      -- E20
 SignalsFail s n _ = ⊥
 
+-- the numbers, by which the faults are ordered
 abbrev pub header_fault_number : HeaderFault → ℕ
 header_fault_number Cut = 1
 header_fault_number (Unprintable offset) = 2
