@@ -1,4 +1,4 @@
--- What was read of a fragment so far, and of the whole of it: its end, or where reading stopped.
+-- What was read of a whole fragment; of one so far; and where reading stopped at a fault.
 use Rattle.std.specs.Prelude.{◌≡◌, ℕ, ◌≤◌, ◌⊎◌, List, [], length, Option, IfSome}
 use Rattle.std.specs.Io.KnownBytes.{Consumes, IsAtEnd}
 use Rattle.edf_header.specs.Header.{Layout, layout_of, most_records}
@@ -10,7 +10,15 @@ use Rattle.edf_fragment.specs.declared.advance.Progress.{Progress}
 use Rattle.edf_fragment.specs.declared.fault.FragmentFault.{FragmentFault}
 use Rattle.edf_fragment.specs.declared.fault.FragmentFault.TheVariants.{Read, Memory, Failed}
 
--- these data records were read, and this progress says where the next would be
+-- the whole input was read, and spells these records under a header that says this
+pub record ReadsFragment (left rest : Option (List ℕ)) (layout : Layout) (records : List DataRecord) : Type 0 where
+  pub bytes : List ℕ
+  pub read : Consumes left rest bytes
+  pub end : IsAtEnd rest
+  pub spells : Spells bytes layout.key records
+  pub layout_is : layout ≡ layout_of spells.header
+
+-- these data records were read, and the next one's place is that of this progress
 pub record HasRead (l : Layout) (left rest : Option (List ℕ)) (records : List DataRecord) (p : Progress) : Type 0 where
   pub bytes : List ℕ
   pub read : Consumes left rest bytes
@@ -26,31 +34,22 @@ pub record FailsBehind (l : Layout) (left rest : Option (List ℕ)) (fault : Fra
   pub before : HasRead l left mid records progress
   pub is_fault : IsNextFault l progress mid rest fault
 
--- a header was read and some data records, and then came the fault
+-- a header and some data records were read, and then came the fault
 pub record FailsBehindHeader (left rest : Option (List ℕ)) (fault : FragmentFault) : Type 0 where
   pub layout : Layout
   pub mid : Option (List ℕ)
   pub header : ReadsHeader left mid layout
   pub behind : FailsBehind layout mid rest fault
 
--- the whole input spells these records under a header that says this
-pub record ReadsFragment (left rest : Option (List ℕ)) (layout : Layout) (records : List DataRecord) : Type 0 where
-  pub bytes : List ℕ
-  pub read : Consumes left rest bytes
-  pub end : IsAtEnd rest
-  pub spells : Spells bytes layout.key records
-  pub layout_is : layout ≡ layout_of spells.header
-
--- the fault is the first of all the bytes, where these are known; a failed read and memory that ran
--- out say nothing of them
+-- where the bytes are known, a fault of theirs is the first of all of them; a failed read tells nothing of them, nor does out of memory
 abbrev pub IsFirstWhereKnown : Option (List ℕ) → FragmentFault → Type 0
 IsFirstWhereKnown left Read = Unit {0}
 IsFirstWhereKnown left Memory = Unit {0}
 IsFirstWhereKnown left Failed = ⊥
 IsFirstWhereKnown left fault = IfSome left (λ all. IsFirstFault all fault)
 
--- why an input gives no fragment: the fault came in the header, or after it and some data records;
--- and nothing more was read than the bytes of these and those of the fault
+-- why an input gives no fragment: the fault came in the header, or after it and some data records; no more was read than the bytes
+-- of these and those of the fault
 pub record IsFragmentFault (left rest : Option (List ℕ)) (fault : FragmentFault) : Type 0 where
   pub place : IsOpenFault left rest fault ⊎ FailsBehindHeader left rest fault
   pub first : IsFirstWhereKnown left fault
