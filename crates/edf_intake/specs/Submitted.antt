@@ -1,4 +1,5 @@
--- What a submission answers, and what it leaves.
+-- What a submission answers, and what it leaves. Each case says what the input told and what is answered, then what is held after
+-- the call, and last what a crash in it may leave.
 use Rattle.std.specs.Prelude.{◌≡◌, ◌≢◌, ◌⊎◌, false, List, None, Ok, Err, IsTrue}
 use Rattle.sqlite_trees.specs.declared.store.Store.{Ghosts}
 use Rattle.sqlite_trees.specs.Tree.{Trees}
@@ -18,52 +19,44 @@ use Rattle.edf_intake.specs.Source.{Source, Hears, ReadsWhole, FailsToRead, Read
 use Rattle.edf_intake.specs.declared.answer.Receipt.{Receipt}
 use Rattle.edf_intake.specs.declared.answer.Refusal.TheVariants as refusal
 
--- the answer of a store whose connection was found in a transaction: E42 without a cause
-abbrev pub found_busy : Answer
-found_busy = Err (refusal.Store (store.Store None))
-
--- what the store refused, E42 or E45: out of memory has a refusal of its own, and a clean disk
--- gives back what was written
+-- the store refused, E42 or E45: out of memory is a refusal of its own, E41, and on a clean disk it is not E45
 pub record IsRefusal {S : Type 0} (g : Ghosts S) (new : Kept S) (fault : StoreFault) : Type 0 where
   pub other : fault ≢ store.Memory
   pub told : (fault ≡ store.Foreign) ⊎ IsStoreRefusal fault
   pub own : HasCleanDisk (at g new) → IsStoreRefusal fault
 
--- the transaction was ended, but where memory ran out or the store refused
-abbrev pub IsEnded : {S : Type 0} → Ghosts S → Kept S → Answer → Type 0
-IsEnded g new answer = HasCleanDisk (at g new) → IsStopped answer ⊎ ((at g new).in_transaction ≡ false)
-
 module _ {S : Type 0} (g : Ghosts S) (old new : Kept S) where
-  -- whatever the store held, this is the reply to what is told
+  -- the answer: whatever was held, this is the reply to what is told
   abbrev pub RepliesWith : Told → Reply → Type 0
   RepliesWith told answer = HasCleanDisk (at g new) → (h : Holdings) → Holds g old h → reply old.cap h told ≡ answer
 
-  -- rows that stand for what is told being submitted to what the store held
+  -- what a crash may leave: rows that stand for what was held, with what is told submitted to it
   abbrev pub AreLeft : Told → Trees → Type 0
   AreLeft told rows = (h : Holdings) → Holds g old h → AreKept old.cap rows (after_one old.cap h told)
 
-  -- what is told was submitted, and the store is open; a crash leaves what it could leave before, or that
+  -- what is told was submitted: the store holds what that leaves, and is open; a crash leaves what it could leave before, or that
   pub record Leaves (told : Told) : Type 0 where
     pub cap : new.cap ≡ old.cap
     pub holdings : (h : Holdings) → Holds g old h → Holds g new (after_one old.cap h told)
     pub is_open : HasCleanDisk (at g new) → IsTrue (at g new).is_open
     pub crash : Survives (at g old) (at g new) (AreLeft told)
 
-  -- what is held stays; but a crash leaves what it could leave before, or that what is told was submitted
+  -- what is held stays; yet a crash leaves what it could leave before, or that what is told was submitted
   pub record MayLeave (told : Told) : Type 0 where
     pub cap : new.cap ≡ old.cap
     pub holdings : (h : Holdings) → Holds g old h → Holds g new h
     pub crash : Survives (at g old) (at g new) (AreLeft told)
 
   module _ (from to : Source) where
-    -- the input tells a fragment, which is accepted so
+    -- the whole input tells a fragment, and this is how it is accepted
     pub record Accepts (receipt : Receipt) : Type 0 where
       pub records : List DataRecord
       pub read : ReadsWhole from to receipt.identity records
       pub reply_is : RepliesWith (Fragment receipt.identity records) (Accepted receipt.identity receipt.new receipt.known)
       pub leaves : Leaves (Fragment receipt.identity records)
 
-    -- the input tells this, which is refused so; what is held stays
+    -- the input tells this, and this is how it is refused; what is held stays, and a crash leaves what it
+    -- could leave before
     pub record Refuses (told : Told) (answer : Reply) : Type 0 where
       pub read : Hears from to told
       pub reply_is : RepliesWith told answer
@@ -72,13 +65,13 @@ module _ {S : Type 0} (g : Ghosts S) (old new : Kept S) where
     abbrev pub RefusesFragment : Reply → Type 0
     RefusesFragment answer = (key : Key) × (records : List DataRecord) × Refuses (Fragment key records) answer
 
-    -- a read failed; what is held stays
+    -- a read failed; what is held stays, and a crash leaves what it could leave before
     pub record FailsThere : Type 0 where
       pub read : FailsToRead from to
       pub stays : Stays g old new
 
-    -- memory ran out or the store refused; what is held stays. Only after E41 and E42, and where
-    -- the whole input was read and told a fragment, may a crash leave that it was submitted
+    -- memory ran out or the store refused; what is held stays. Only after E41 and E42, and where the whole input was read and
+    -- told a fragment, may a crash leave that it was submitted
     abbrev pub StopsThere : Answer → Type 0
     StopsThere answer = (Stays g old new × ReadsFront from to)
         ⊎ (IsInDoubt answer × ((key : Key) × (records : List DataRecord) × ReadsWhole from to key records × MayLeave (Fragment key records)))
@@ -86,10 +79,18 @@ module _ {S : Type 0} (g : Ghosts S) (old new : Kept S) where
     -- each answer, what it says of the input and what it leaves
     abbrev pub IsSubmitted : Answer → Type 0
     IsSubmitted (Ok receipt) = Accepts receipt
-    IsSubmitted (Err (refusal.Form fault)) = Refuses (Fault fault) (Form fault)
-    IsSubmitted (Err (refusal.Overlap start stored)) = RefusesFragment (Overlap start stored)
-    IsSubmitted (Err (refusal.Differs start)) = RefusesFragment (Differs start)
-    IsSubmitted (Err (refusal.Full held new cap)) = RefusesFragment (Full held new cap)
-    IsSubmitted (Err refusal.Read) = FailsThere
-    IsSubmitted (Err refusal.Memory) = StopsThere (Err refusal.Memory)
-    IsSubmitted (Err (refusal.Store fault)) = StopsThere (Err (refusal.Store fault)) × IsRefusal g new fault
+    IsSubmitted (Err (refusal.Form fault)) = Refuses (Fault fault) (Form fault)                        -- E1 to E29
+    IsSubmitted (Err (refusal.Overlap start stored)) = RefusesFragment (Overlap start stored)          -- E30
+    IsSubmitted (Err (refusal.Differs start)) = RefusesFragment (Differs start)                        -- E31
+    IsSubmitted (Err (refusal.Full held new cap)) = RefusesFragment (Full held new cap)                -- E32
+    IsSubmitted (Err refusal.Read) = FailsThere                                                        -- E40
+    IsSubmitted (Err refusal.Memory) = StopsThere (Err refusal.Memory)                                 -- E41
+    IsSubmitted (Err (refusal.Store fault)) = StopsThere (Err (refusal.Store fault)) × IsRefusal g new fault -- E42, E45
+
+-- no transaction is open then, but where memory ran out or the store refused
+abbrev pub IsEnded : {S : Type 0} → Ghosts S → Kept S → Answer → Type 0
+IsEnded g new answer = HasCleanDisk (at g new) → IsStopped answer ⊎ ((at g new).in_transaction ≡ false)
+
+-- the answer of a store whose connection was found in a transaction: E42 without a cause
+abbrev pub found_busy : Answer
+found_busy = Err (refusal.Store (store.Store None))
