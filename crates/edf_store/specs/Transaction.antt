@@ -49,11 +49,12 @@ MakesOnly made old new = HasCleanDisk new → (id : ℤ) (k : Key) → IsThere n
 abbrev pub AreNearIn : ℕ → State → ℤ → ℕ → List DataRecord → Type 0
 AreNearIn cap s id start records = (h : Holdings) (k : Key) → AreSeen cap s h → IsUnder s id k → records ≡ near_of (duration_of k.duration) start (h k)
 
--- the first start that is `from` or later, of those of the records; or none is
+-- of the records' starts, the earliest that is `from` or later; none where there is no such start
 abbrev pub IsNextStart : ℕ → List DataRecord → Option ℕ → Type 0
 IsNextStart from records None = All (λ r. r.start < from) records
 IsNextStart from records (Some start) = (from ≤ start) × Contains (map (λ r. r.start) records) start × All (λ r. r.start < from ⊎ start ≤ r.start) records
 
+-- the same, of the recording's records
 abbrev pub IsNextStartIn : ℕ → State → ℤ → ℕ → Option ℕ → Type 0
 IsNextStartIn cap s id from answer = (h : Holdings) (k : Key) → AreSeen cap s h → IsUnder s id k → IsNextStart from (h k) answer
 

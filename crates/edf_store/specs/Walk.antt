@@ -16,9 +16,9 @@ use Rattle.edf_store.specs.declared.progress.Progress.{Progress}
 abbrev pub starts_behind : ℤ → DataRecord → Bool
 starts_behind after r = is_gt (int_cmp (pos r.start) after)
 
--- no transaction is open, and the recording is the key's in these holdings; of its records those
--- that start after `after` are all but the first n, and the rows that were read ahead show the
--- records that come next. Without a recording all its records are given
+-- no transaction is open, and the recording is the key's in these holdings. The first n of its records are given; those that
+-- start after `after.start`, which is -1 before the first, come next, and the rows that were read ahead show the first of them.
+-- Without a recording none is left
 pub record StandsBehind (cap : ℕ) (s : State) (recording : Option ℤ) (after : Progress) (h : Holdings) (k : Key) (n : ℕ) : Type 0 where
   pub is_open : IsTrue s.is_open
   pub idle : s.in_transaction ≡ false
@@ -35,7 +35,7 @@ pub record StandsBehind (cap : ℕ) (s : State) (recording : Option ℤ) (after 
 abbrev pub IsBehind : ℕ → State → Option ℤ → Progress → Holdings → Key → ℕ → Type 0
 IsBehind cap s recording after h k n = HasCleanDisk s → StandsBehind cap s recording after h k n
 
--- the walk is after the first records of some list that is held
+-- the walk has given the first records of some key
 abbrev pub StandsSomewhere : ℕ → State → Option ℤ → Progress → Type 0
 StandsSomewhere cap s recording after = HasCleanDisk s → (h : Holdings) × (k : Key) × (n : ℕ) × StandsBehind cap s recording after h k n
 
@@ -53,6 +53,7 @@ abbrev pub IsStep : List DataRecord → ℕ → Option DataRecord → Type 0
 IsStep records n (Some r) = slice_get records n ≡ Some r
 IsStep records n None = n ≡ length records
 
+-- how many records are given after that answer
 abbrev pub moved : {X : Type 0} → ℕ → Option X → ℕ
 moved n (Some x) = n + 1
 moved n None = n

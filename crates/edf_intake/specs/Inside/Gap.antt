@@ -1,4 +1,4 @@
--- What is known of where a recording's data records start.
+-- A stretch of time in which none of a recording's stored data records starts.
 use Rattle.std.specs.Prelude.{◌⊎◌, ℕ, ◌≤◌, List, All, Option, IfSome, IsSomeAnd}
 use Rattle.sqlite_trees.specs.declared.store.Store.{Ghosts}
 use Rattle.edf_header.specs.Key.{Key}
@@ -8,7 +8,7 @@ use Rattle.edf_store.specs.Held.{Kept}
 use Rattle.edf_store.specs.Transaction.{Sees}
 use Rattle.edf_intake.specs.declared.gap.Gap.{Gap}
 
--- the start is not in the gap
+-- the start is not between the gap's ends: it is the first or earlier, or the second or later. Without a second the gap does not end
 abbrev pub IsOutside : Gap → ℕ → Type 0
 IsOutside gap start = (start ≤ gap.from) ⊎ IsSomeAnd gap.until (λ until. until ≤ start)
 
@@ -16,6 +16,6 @@ IsOutside gap start = (start ≤ gap.from) ⊎ IsSomeAnd gap.until (λ until. un
 abbrev pub IsGap : List DataRecord → Gap → Type 0
 IsGap records gap = All (λ r. IsOutside gap r.start) records
 
--- the gap, where one is known, is one of the key's records that the transaction sees
+-- where a gap is known, none of the key's records that the transaction sees starts in it
 abbrev pub IsGapIn : {S : Type 0} → Ghosts S → Kept S → Key → Option Gap → Type 0
 IsGapIn g store key gap = (h : Holdings) → Sees g store h → IfSome gap (IsGap (h key))
