@@ -10,7 +10,7 @@ is above `take` of it into a store in memory: the export from memory. It needs /
 import sys
 from pathlib import Path
 
-sys.path.insert(0, str(Path(__file__).resolve().parent.parent / "lib"))
+sys.path.insert(0, str(Path(__file__).resolve().parent.parent.parent / "checks" / "lib"))
 import measure  # noqa: E402
 import night  # noqa: E402
 

@@ -26,11 +26,12 @@ use Rattle.edf_tal.proofs.Cited.{some-answer}
 use Rattle.edf_fragment.specs.Fragment.{DataRecord}
 use Rattle.edf_tables.specs.Cells.{first_three}
 use Rattle.edf_rows.specs.Cells.{recordings_in}
-use Rattle.edf_rows.specs.Rows.{IsRecording}
+use Rattle.edf_rows.specs.Rows.{IsRecordingRow}
 use Rattle.edf_rows.specs.Foreign.{IsBadRow, bad_start, bad_samples, bad_block}
-use Rattle.edf_rows.specs.Shape.{IsRowOf, OwnBlock}
-use Rattle.edf_rows.proofs.CellLemmas.{other-block, refused-block, row-of, bad-len, bad-own, bad-starts}
-use Rattle.edf_audit.proofs.CheckLemmas.{is_two}
+use Rattle.edf_rows.specs.Rows.{IsRowOf}
+use Rattle.edf_rows.specs.Inside.Shape.{OwnBlock}
+use Rattle.edf_rows.proofs.RowCells.{other-block, refused-block, row-of, bad-len, bad-own, bad-starts}
+use Rattle.edf_audit.proofs.Checks.{is_two}
 
 -- ---- keys
 abbrev IsAKey : List ℕ → Type 0
@@ -106,7 +107,7 @@ blob-bytes : (a b : List ℕ) → ◌≡◌ {A = Value} (Blob a) (Blob b) → a 
 blob-bytes a b h = cc
 
 -- ---- a row of the table of recordings
-pub recording_or : (trees : Trees) (row : Row) → Contains (recordings_in trees) row → Decided (IsRecording row)
+pub recording_or : (trees : Trees) (row : Row) → Contains (recordings_in trees) row → Decided (IsRecordingRow row)
 recording_or trees row c =
     elim (int_or (column row 0)) [
       | inr none ↦ inr (λ is. none is.id (ap (λ (r : Row). column r 0) is.cells))
@@ -120,7 +121,7 @@ recording_or trees row c =
     ]
 
 -- ---- a row of the table of records
-own_block_or : (block : List ℕ) → ((start : ℕ) × (list : _) × OwnBlock block start list) ⊎ Rattle.edf_rows.specs.Shape.NoOwnBlock block
+own_block_or : (block : List ℕ) → ((start : ℕ) × (list : _) × OwnBlock block start list) ⊎ Rattle.edf_rows.specs.Inside.Shape.NoOwnBlock block
 own_block_or block =
     elim (some-answer block 0 Any) [
       | inr refused ↦ inr (refused-block block refused.0 refused.1)

@@ -27,14 +27,14 @@ use Rattle.edf_rows.specs.Cells.{record_cells, recording_cells, recordings_in, r
 use Rattle.edf_schema.specs.Columns.{by_column}
 use Rattle.edf_rows.specs.Rows.{IsOwned, AreTwoOf, AreOther, AreKept}
 use Rattle.edf_rows.specs.Foreign.{IsBadRow, AreTooNear, BeginsTooLate, AreBadRecords, bad_row, too_near, too_late, too_few, too_many, IsForeign, bad_recording, bad_records, without_recording, twice}
-use Rattle.edf_rows.specs.Shape.{HasRecords}
-use Rattle.edf_rows.proofs.RowsLemmas.{here, there}
-use Rattle.edf_rows.proofs.KeptLemmas.{two_later, first_two, held_of, are-kept}
-use Rattle.edf_audit.specs.All.{owns}
+use Rattle.edf_rows.specs.Inside.Shape.{HasRecords}
+use Rattle.edf_rows.proofs.Rows.{here, there}
+use Rattle.edf_rows.proofs.Kept.{two_later, first_two, held_of, are-kept}
+use Rattle.edf_audit.specs.Inside.All.{owns}
 use Rattle.edf_audit.proofs.DecidedCells.{recording_or, row_or}
-use Rattle.edf_audit.proofs.WalkLemmas.{is_three, by_start}
-use Rattle.edf_audit.proofs.ApartLemmas.{all_at}
-use Rattle.edf_audit.proofs.AllLemmas.{any_here, owned_by_one}
+use Rattle.edf_audit.proofs.Walks.{is_three, by_start}
+use Rattle.edf_audit.proofs.Apart.{all_at}
+use Rattle.edf_audit.proofs.AllRows.{any_here, owned_by_one}
 
 -- ---- one recording's records
 abbrev Have : Key → List Row → Type 0

@@ -18,7 +18,7 @@ pub data IsForeignFile (cap : ℕ) (db : Database) : Type 0 where
 
 -- the file had our tables, or those that are missing are made; the rows that it had are there, and stand for holdings; no
 -- transaction is open
-pub record HasKept (cap : ℕ) (old new : State) : Type 0 where
+pub record PassesAudit (cap : ℕ) (old new : State) : Type 0 where
   pub is_open : IsTrue new.is_open
   pub tables : HasTables old.now new.now
   pub settled : new.committed ≡ new.now
@@ -28,5 +28,5 @@ pub record HasKept (cap : ℕ) (old new : State) : Type 0 where
 
 -- the answer of the check
 abbrev pub Audits : ℕ → State → State → Bool → Type 0
-Audits cap old new true = HasKept cap old new
+Audits cap old new true = PassesAudit cap old new
 Audits cap old new false = IsForeignFile cap old.now

@@ -1,5 +1,3 @@
-pub mod All
 pub mod File
-pub mod Kept
 pub mod Refused
-pub mod Walk
+pub mod Inside

@@ -6,13 +6,13 @@ ghost use Rattle.sqlite.specs.Held.{state};
 ghost use Rattle.sqlite.specs.State.{HasCleanDisk, IsLive};
 ghost use Rattle.edf_schema.specs.Columns.{id_order};
 ghost use Rattle.edf_rows.specs.Cells.{recordings_in};
-ghost use Rattle.edf_audit.specs.Kept.{KeepsRows, KeepsShown};
+ghost use Rattle.edf_audit.specs.Inside.Checked.{KeepsRows, KeepsShown};
 ghost use Rattle.edf_audit.specs.Refused.{IsUnchecked};
-ghost use Rattle.edf_audit.specs.All.{IsAfter, IsNotAfter, Counts, Answers};
+ghost use Rattle.edf_audit.specs.Inside.All.{IsAfter, IsNotAfter, Counts, Answers};
 ghost use Rattle.edf_tables.specs.Statement.{HasBothTables, tables, IfClean, Gives, Leaves};
 ghost use Rattle.edf_tables.specs.Statement.{FailsAs, LeavesOnErr, IsCrashSafe};
 
-use crate::check::check_row;
+use crate::check::check_recording_row;
 use edf_tables::{count_all_rows, recordings};
 use sqlite::types::ValueRef;
 use sqlite::{Alter, Connection, Error, ErrorCode, Row};
@@ -42,7 +42,8 @@ fn next_id(row: &Row, last: Option<i64>) -> Option<i64>
 /// occurs twice.
 ///
 /// # Errors
-/// `sqlite`'s; `OutOfMemory` where memory runs out; `IntegerOverflow` where the recordings have `MOST_COUNTED` records or more.
+/// `sqlite`'s; `OutOfMemory` where memory runs out; `IntegerOverflow` where the recordings have
+/// `MOST_COUNTED` records or more.
 fn count_owned<S: Alter>(
     alloc: Global,
     conn: &mut Connection<S>,
@@ -64,7 +65,7 @@ fn count_owned<S: Alter>(
     let mut sum: u64 = 0;
     let mut last = None;
     for row in rows {
-        let Some(count) = check_row(alloc, conn, row, cap)? else {
+        let Some(count) = check_recording_row(alloc, conn, row, cap)? else {
             return Ok(None);
         };
         let Some(id) = next_id(row, last) else {
@@ -90,7 +91,8 @@ fn obey<S: Alter>(conn: &Connection<S>)
 /// Whether the rows are those of submissions under the cap.
 ///
 /// # Errors
-/// `sqlite`'s; `OutOfMemory` where memory runs out; `IntegerOverflow` where the recordings have 9,223,372,036,854,775,807 records or more.
+/// `sqlite`'s; `OutOfMemory` where memory runs out; `IntegerOverflow` where the recordings have
+/// 9,223,372,036,854,775,807 records or more.
 pub fn check_all<S: Alter>(alloc: Global, conn: &mut Connection<S>, cap: u32) -> Result<bool, Error>
     requires cap { cap < 2 ^ 32 - 1 }
     requires schema { IfClean S.Store conn.old HasBothTables }

@@ -3,8 +3,8 @@
 ghost use Rattle.std.specs.Prelude.{◌≡◌, ◌<◌, ◌^◌, ◌-◌, IfErr};
 ghost use Rattle.sqlite.specs.State.{IsUnchanged};
 ghost use Rattle.edf_tables.specs.Refused.{IsUnread};
-ghost use Rattle.edf_audit.specs.Kept.{KeepsRows, KeepsShown, Checks, first_two};
-ghost use Rattle.edf_rows.specs.Rows.{IsRecording};
+ghost use Rattle.edf_audit.specs.Inside.Checked.{KeepsRows, KeepsShown, Checks, first_two};
+ghost use Rattle.edf_rows.specs.Rows.{IsRecordingRow};
 ghost use Rattle.edf_tables.specs.Statement.{HasBothTables, tables, IfClean, Gives, Leaves};
 ghost use Rattle.edf_tables.specs.Statement.{FailsAs, LeavesOnErr, IsCrashSafe};
 
@@ -14,11 +14,12 @@ use sqlite::types::ValueRef;
 use sqlite::{Alter, Connection, Error, ErrorCode, Row};
 use std::alloc::Global;
 
-/// How many records a recording has, or `None` where the row is no recording, or its records are bad.
+/// How many records a recording has, or `None` where the row is no recording, or its records are
+/// bad.
 ///
 /// # Errors
 /// `sqlite`'s; `OutOfMemory` where memory runs out, and no other where the row is no recording.
-pub fn check_row<S: Alter>(
+pub fn check_recording_row<S: Alter>(
     alloc: Global,
     conn: &mut Connection<S>,
     row: &Row,
@@ -27,7 +28,7 @@ pub fn check_row<S: Alter>(
     requires cap { cap < 2 ^ 32 - 1 }
     requires schema { IfClean S.Store conn.old HasBothTables }
     ensures why { FailsAs S.Store conn.old conn.new result IsUnread }
-    ensures other { ¬ IsRecording (first_two row.now) →
+    ensures other { ¬ IsRecordingRow (first_two row.now) →
         IfErr result (λ e. e ≡ Error.SqliteFailure ErrorCode.OutOfMemory) }
     ensures told { Gives S.Store conn.new result (Checks cap (tables S.Store conn.old) row.now) }
     ensures same { Leaves S.Store conn.old conn.new result KeepsRows }

@@ -6,8 +6,8 @@ ghost use Rattle.edf_holdings.specs.Holdings.{Holdings};
 ghost use Rattle.edf_rows.specs.Rows.{AreKept};
 ghost use Rattle.edf_rows.specs.Foreign.{IsForeign};
 
-/// Any rows stand for sound holdings under the cap, each recording with a record, or they are foreign. That they are never
-/// both is the law `kept_is_not_foreign` of `edf_rows`.
+/// Any rows stand for sound holdings under the cap, each recording with a record, or they are
+/// foreign. That they are never both is the law `kept_is_not_foreign` of `edf_rows`.
 pub fn kept_or_foreign()
     ensures { (cap : ℕ) (trees : Trees) →
         ((h : Holdings) × AreKept cap trees h) ⊎ IsForeign cap trees }

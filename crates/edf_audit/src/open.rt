@@ -4,7 +4,7 @@ ghost use Rattle.std.specs.Prelude.{◌≡◌, ◌<◌, ◌^◌, ◌-◌, Ok, fa
 ghost use Rattle.sqlite.specs.Held.{state};
 ghost use Rattle.sqlite.specs.State.{Survives};
 ghost use Rattle.edf_tables.specs.Made.{IsOurs, HasTables, KeepsFile, IsMadeOf};
-ghost use Rattle.edf_audit.specs.All.{Answers};
+ghost use Rattle.edf_audit.specs.Inside.All.{Answers};
 ghost use Rattle.edf_audit.specs.File.{Audits};
 ghost use Rattle.edf_audit.specs.Refused.{IsUnaudited};
 ghost use Rattle.edf_tables.specs.Statement.{tables, IfClean, Gives, Leaves, FailsAs};
@@ -15,8 +15,8 @@ use edf_tables::create_tables;
 use sqlite::{Alter, Connection, Error, ErrorCode};
 use std::alloc::Global;
 
-/// Makes the tables where they are missing in a file that has no other, and tells whether their rows are those of
-/// submissions under the cap.
+/// Makes the tables where they are missing in a file that has no other, and tells whether their
+/// rows are those of submissions under the cap.
 ///
 /// # Errors
 /// Those of `audit`.
@@ -41,15 +41,18 @@ fn audit_tables<S: Alter>(alloc: Global, conn: &mut Connection<S>, cap: u32) -> 
     check_all(alloc, conn, cap)
 }
 
-/// Whether a file is one that submissions under the cap leave; if its tables are ours, those that are missing are made.
+/// Whether a file is one that submissions under the cap leave; if its tables are ours, those that
+/// are missing are made.
 ///
-/// A file with any other table, index or view, or with other columns under our names, is left as it is.
-/// Whatever is answered, the committed rows stay, and what is shown stays or an open transaction is undone: clause `stays`.
+/// A file with any other table, index or view, or with other columns under our names, is left as it
+/// is. Whatever is answered, the committed rows stay, and what is shown stays or an open
+/// transaction is undone: clause `stays`.
 ///
 /// # Errors
-/// `sqlite`'s; the committed rows stay, an open transaction may be undone, and tables may have been made. Of its own, in `sqlite`'s
-/// words: `OutOfMemory` where memory runs out; `TransactionState` where a transaction is open; `IntegerOverflow` where the
-/// recordings have 9,223,372,036,854,775,807 records or more. A crash leaves no table, the first, or both.
+/// `sqlite`'s; the committed rows stay, an open transaction may be undone, and tables may have been
+/// made. Of its own, in `sqlite`'s words: `OutOfMemory` where memory runs out; `TransactionState`
+/// where a transaction is open; `IntegerOverflow` where the recordings have
+/// 9,223,372,036,854,775,807 records or more. A crash leaves no table, the first, or both.
 pub fn audit<S: Alter>(alloc: Global, conn: &mut Connection<S>, cap: u32) -> Result<bool, Error>
     requires { cap < 2 ^ 32 - 1 }
     ensures other { ¬ IsOurs (state S.Store conn.old).now →

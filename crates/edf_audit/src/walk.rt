@@ -5,8 +5,9 @@ ghost use Rattle.edf_field.specs.Number.{duration_of};
 ghost use Rattle.edf_tables.specs.Refused.{IsUnread};
 ghost use Rattle.edf_rows.specs.Cells.{records_in};
 ghost use Rattle.edf_rows.specs.Foreign.{IsBadRow};
-ghost use Rattle.edf_audit.specs.Kept.{KeepsShown};
-ghost use Rattle.edf_audit.specs.Walk.{IsStartOf, IsNext, IsRowRefused, IsWrong, Tells};
+ghost use Rattle.edf_audit.specs.Inside.Checked.{KeepsShown};
+ghost use Rattle.edf_audit.specs.Inside.Walk.{IsStartOf, IsNextRow, IsRowRefused, IsWrong};
+ghost use Rattle.edf_audit.specs.Inside.Walk.{ChecksRecords};
 ghost use Rattle.edf_tables.specs.Statement.{HasBothTables, tables, IfClean, Gives, OnlyReads};
 ghost use Rattle.edf_tables.specs.Statement.{FailsAs, LeavesOnErr, IsCrashSafe};
 
@@ -37,8 +38,8 @@ fn start_in(alloc: Global, identity: &Identity, row: &Row) -> Result<Option<Inst
 /// The start of a row, if it may come after the last, or first.
 ///
 /// # Errors
-/// `OutOfMemory` where memory runs out; `DatabaseCorrupt` where the row comes before the last, as rows are asked for by their
-/// starts.
+/// `OutOfMemory` where memory runs out; `DatabaseCorrupt` where the row comes before the last, as
+/// rows are asked for by their starts.
 fn next_start(
     alloc: Global,
     identity: &Identity,
@@ -46,7 +47,7 @@ fn next_start(
     last: Option<Instant>,
 ) -> Result<Option<Instant>, Error>
     ensures told { IfOk result (λ o.
-        MatchOption o (IsWrong identity.now last row.now) (IsNext identity.now last row.now)) }
+        MatchOption o (IsWrong identity.now last row.now) (IsNextRow identity.now last row.now)) }
     ensures why { IfErr result (IsRowRefused last row.now) }
 {
     let start = match start_in(alloc, identity, row) {
@@ -71,9 +72,9 @@ fn next_start(
     }
 }
 
-/// How many records a recording has, or `None` where they are not those of submissions: a row is no record of the
-/// identity, two lie less than a duration apart, the first starts after 2084 and the identity has no date, there is none, or
-/// there are more than `cap`.
+/// How many records a recording has, or `None` where they are not those of submissions: a row is no
+/// record of the identity, two lie less than a duration apart, the first starts after 2084 and the
+/// identity has no date, there is none, or there are more than `cap`.
 ///
 /// # Errors
 /// `sqlite`'s; `OutOfMemory` where memory runs out.
@@ -89,7 +90,7 @@ pub fn check_recording<S: Alter>(
     requires schema { IfClean S.Store conn.old HasBothTables }
     ensures why { FailsAs S.Store conn.old conn.new result IsUnread }
     ensures told { Gives S.Store conn.new result
-        (Tells cap identity.now (records_in (tables S.Store conn.old) recording)) }
+        (ChecksRecords cap identity.now (records_in (tables S.Store conn.old) recording)) }
     ensures same { OnlyReads S.Store conn.old conn.new result }
     ensures refused { LeavesOnErr S.Store conn.old conn.new result KeepsShown }
     ensures survives { IsCrashSafe S.Store conn.old conn.new }

@@ -1,5 +1,5 @@
 pub mod Puts
 pub mod Texts
 pub mod Written
-pub mod Kept
+pub mod Staying
 pub mod Opened

@@ -1,10 +1,10 @@
--- What the program does with its words, before an order is run.
+-- What the program does with its words, before a command is run.
 use Rattle.std.specs.Prelude.{◌⊎◌, String, List, ℕ, [], Option, Some, None, Result, Ok, Err, codes, if◌then◌else◌}
 use Rattle.std.specs.Global.{Global}
 use Rattle.std.specs.Str.{bytes_eq}
-use Rattle.edf_order.specs.Order.{Asked, Text, AreValues, AskFor, AskForNothing}
-use Rattle.edf_order.specs.Order.Asked.{take, list, export, convert}
-use Rattle.edf_order.specs.declared.order.Order.{Order}
+use Rattle.edf_arguments.specs.Arguments.{Asked, Text, AreValues, AskFor, AskForNothing}
+use Rattle.edf_arguments.specs.Arguments.Asked.{take, list, export, convert}
+use Rattle.edf_arguments.specs.declared.parsed_command.ParsedCommand.{ParsedCommand}
 use Rattle.edf_command.specs.Lines.{command_memory_line}
 use Rattle.edf_command.specs.Output.{Growth, Gets, IsWritten}
 use Rattle.edf_command.specs.declared.status.Status.{Status}
@@ -27,11 +27,11 @@ module _ (out err : Growth) where
     pub text : List ℕ
     pub said : (IsWritten out text Done status × Gets err []) ⊎ (Gets out [] × IsWritten err text Usage status)
 
-  abbrev pub LacksMemory : Status → Type 0
-  LacksMemory status = Gets out [] × IsWritten err command_memory_line Trouble status
+  abbrev pub LacksCommandMemory : Status → Type 0
+  LacksCommandMemory status = Gets out [] × IsWritten err command_memory_line Trouble status
 
-  -- the order that the words ask for, where no word begins with `-`, and nothing is written; or they ask for nothing; or there is no
+  -- the command that the words ask for, where no word begins with `-`, and nothing is written; or they ask for nothing; or there is no
   -- memory for them
-  abbrev pub IsRead : List (String Global) → Result Order Status → Type 0
-  IsRead words (Ok order) = (AreValues words → AskFor words order) × Gets out [] × Gets err []
-  IsRead words (Err status) = ((AreValues words → AskForNothing words) × IsExplained status) ⊎ LacksMemory status
+  abbrev pub IsCommandRead : List (String Global) → Result ParsedCommand Status → Type 0
+  IsCommandRead words (Ok command) = (AreValues words → AskFor words command) × Gets out [] × Gets err []
+  IsCommandRead words (Err status) = ((AreValues words → AskForNothing words) × IsExplained status) ⊎ LacksCommandMemory status

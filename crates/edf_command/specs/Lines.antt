@@ -106,7 +106,7 @@ refused_line spell name refusal = take_line spell name (Err refusal)
 abbrev pub convert_memory_line : List ℕ → List ℕ
 convert_memory_line name = name ++ (codes " refused E41 Memory" ++ (10 ∷ []))
 
--- ---- before an order is run
+-- ---- before a command is run
 
 -- the store can't be opened
 abbrev pub store_refused_line : StoreFault → List ℕ

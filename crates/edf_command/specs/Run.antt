@@ -1,4 +1,4 @@
--- What an order does: what it writes, the status that it answers, and what it leaves in the store.
+-- What a command does: what it writes, the status that it answers, and what it leaves in the store.
 use Rattle.std.specs.Prelude.{◌≡◌, ◌≢◌, ◌⊎◌, Contains, ℕ, zero, suc, List, [], ◌∷◌, ◌++◌, length, map, slice_get, Option, Some, None, Ok, Err}
 use Rattle.sqlite_trees.specs.declared.store.Store.{Ghosts}
 use Rattle.sqlite.specs.State.{HasCleanDisk}
@@ -6,7 +6,7 @@ use Rattle.edf_header.specs.Key.{Key}
 use Rattle.edf_holdings.specs.Holdings.{Holdings}
 use Rattle.edf_holdings.specs.Keys.{AreKeysOf}
 use Rattle.edf_store.specs.Fault.{IsStoreRefusal}
-use Rattle.edf_store.specs.Held.{Kept, at, Holds, Stays}
+use Rattle.edf_store.specs.Held.{StoreModel, at, Holds, Stays}
 use Rattle.edf_store.specs.declared.fault.StoreFault.{StoreFault}
 use Rattle.edf_intake.specs.Refusal.{Answer, refusal_number}
 use Rattle.edf_intake.specs.Source.{Source}
@@ -17,8 +17,8 @@ use Rattle.edf_intake.specs.declared.answer.Refusal.{Refusal}
 use Rattle.edf_export.specs.Export.{IsExported, IsNotExported, CountsExportFault}
 use Rattle.edf_export.specs.declared.fault.ExportFault.{ExportFault}
 use Rattle.edf_export.specs.declared.fault.ExportFault.TheVariants.{Store}
-use Rattle.edf_order.specs.Order.{Asked}
-use Rattle.edf_order.specs.Order.Asked.{take, list, export, convert}
+use Rattle.edf_arguments.specs.Arguments.{Asked}
+use Rattle.edf_arguments.specs.Arguments.Asked.{take, list, export, convert}
 use Rattle.edf_command.specs.Refusals.{IsSpelling}
 use Rattle.edf_command.specs.Lines.{first_take_lines, take_status, take_memory_line, list_lines, first_list_lines, list_refused_line, no_recording_line, export_refused_line, export_status, refused_line, status_of_number, convert_memory_line}
 use Rattle.edf_command.specs.Output.{Growth, Gets, IsWritten, IsTold, AreTold, Explains}
@@ -34,7 +34,7 @@ abbrev pub at_place : List Key → ℕ → Option Key
 at_place keys zero = None
 at_place keys (suc n) = slice_get keys n
 
--- the files that an order names, in the order of the words
+-- the files that a command names, in the order of the words
 abbrev pub files_of : Asked → List (List ℕ)
 files_of (take store files) = files
 files_of (list store) = []
@@ -52,7 +52,7 @@ pub record OpensFront (before after names : List (List ℕ)) : Type 0 where
 abbrev pub HasOpened : List (List ℕ) → List (List ℕ) → List (List ℕ) → Status → Type 0
 HasOpened before after names status = (after ≡ before ++ names) ⊎ (OpensFront before after names × (status ≡ Trouble))
 
-module _ {S : Type 0} (g : Ghosts S) (old new : Kept S) (out err : Growth) where
+module _ {S : Type 0} (g : Ghosts S) (old new : StoreModel S) (out err : Growth) where
   -- ---- take
 
   -- the files' bytes were submitted in turn, and each has its line
@@ -161,7 +161,7 @@ module _ {S : Type 0} (g : Ghosts S) (old new : Kept S) (out err : Growth) where
     pub from : Source
     pub to : Source
     pub receipt : Receipt
-    pub mid : Kept S
+    pub mid : StoreModel S
     pub opened : from.left ≡ bytes
     pub submitted : IsSubmitted g old mid from to (Ok receipt)
     pub stays : Stays g mid new

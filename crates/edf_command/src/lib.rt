@@ -1,9 +1,11 @@
-//! The orders of `edfstore`, over any store, files and writers.
+//! The commands of `edfstore`, over any store, files and writers.
 //!
-//! - [`read_order`]: the words after the program's name, as an order; help and usage are written.
-//! - [`store_path`], [`refuse_store`]: the store that an order names, and the line where it can't be opened.
-//! - [`run`]: one order over its store and over what opens files ([`Inputs`]).
-//! - [`parse`], [`Order`], [`CommandFault`]: the words, read, and nothing else.
+//! - [`read_command`]: the words after the program's name, as a command; help and usage are
+//!   written.
+//! - [`store_path`], [`refuse_store`]: the store that a command names, and the line where it can't
+//!   be opened.
+//! - [`run`]: one command over its store and over what opens files ([`Inputs`]).
+//! - [`parse`], [`ParsedCommand`], [`CommandFault`]: the words, read, and nothing else.
 //! - [`Status`]: how it went, and the number that the program ends with.
 //! - [`refusal_text`]: a refusal, as a line has it.
 #![tactic(auto)]
@@ -18,8 +20,8 @@ mod sending;
 mod status;
 mod taking;
 
-pub use edf_order::{CommandFault, Order, parse};
-pub use program::{read_order, refuse_store, store_path};
+pub use edf_arguments::{CommandFault, ParsedCommand, parse};
+pub use program::{read_command, refuse_store, store_path};
 pub use refusal::refusal_text;
 pub use running::{Inputs, run};
 pub use status::Status;

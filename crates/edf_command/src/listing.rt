@@ -1,6 +1,7 @@
 //! `list`: a line for each recording.
 
-ghost use Rattle.std.specs.Prelude.{◌≡◌, ◌≢◌, ◌++◌, ◌∷◌, [], ℕ, Some, List, true, IfOk, IfErr, MatchResult, codes, length};
+ghost use Rattle.std.specs.Prelude.{◌≡◌, ◌≢◌, ◌++◌, ◌∷◌, [], ℕ, Some, List, true, IfOk, IfErr};
+ghost use Rattle.std.specs.Prelude.{MatchResult, codes, length};
 ghost use Rattle.edf_header.specs.Key.{patient_code, investigation_code};
 ghost use Rattle.sqlite.specs.State.{HasCleanDisk};
 ghost use Rattle.edf_fragment.specs.Fragment.{DataRecord};
@@ -49,8 +50,9 @@ fn list_line(
     identity: &Identity,
     summary: &Summary,
 ) -> Result<Vec<u8>, AllocError>
-    ensures { IfOk result (λ r. (spell : ℕ → List ℕ) (records : List DataRecord) → IsSpelling spell →
-        IsSummary records (Some summary.now) → r.items ≡ list_line spell place identity.now records) }
+    ensures { IfOk result (λ r. (spell : ℕ → List ℕ) (records : List DataRecord) →
+        IsSpelling spell → IsSummary records (Some summary.now) →
+        r.items ≡ list_line spell place identity.now records) }
 {
     let records = summary.records;
     let counts = format!(in alloc; "{place} records={records}")?;
@@ -75,10 +77,11 @@ fn put_recording<S: Alter, O: Output>(
         h identity.now ≢ [] → IsSpelling spell →
         IsLinePut (growth O.Output out.old out.new) (list_line spell place identity.now
         (h identity.now)) written) }
-    ensures counted { IfOk result (λ written. written ≡ true → O.failures out.new ≡ O.failures out.old) }
+    ensures counted { IfOk result
+        (λ written. written ≡ true → O.failures out.new ≡ O.failures out.old) }
     ensures nothing { IfErr result (λ _. Gets (growth O.Output out.old out.new) []) }
-    ensures refused { HasCleanDisk (at S.Store store.new) → IfErr result (λ fault. (h : Holdings) → Holds S.Store store.old h →
-        h identity.now ≢ [] → IsStoreRefusal fault) }
+    ensures refused { HasCleanDisk (at S.Store store.new) → IfErr result (λ fault. (h : Holdings) →
+        Holds S.Store store.old h → h identity.now ≢ [] → IsStoreRefusal fault) }
 {
     match store.summary(identity)? {
         Some(summary) => Ok(put_line(out, list_line(alloc, place, identity, &summary))),
@@ -95,7 +98,8 @@ fn put_recordings<S: Alter, O: Output>(
     recordings: &[Identity],
 ) -> Result<bool, StoreFault>
     ensures stays { Stays S.Store store.old store.new }
-    ensures counted { MatchResult result (λ written. written ≡ true → O.failures out.new ≡ O.failures out.old) (λ _. O.failures out.new ≡ O.failures out.old) }
+    ensures counted { MatchResult result (λ written. written ≡ true →
+        O.failures out.new ≡ O.failures out.old) (λ _. O.failures out.new ≡ O.failures out.old) }
     ensures put { HasCleanDisk (at S.Store store.new) →
         IfOk result (λ written. (h : Holdings) (spell : ℕ → List ℕ) → Holds S.Store store.old h →
         AreHeldBy h recordings.now → IsSpelling spell → ArePut (growth O.Output out.old out.new)

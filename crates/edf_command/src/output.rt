@@ -7,7 +7,8 @@ use crate::status::Status;
 use edf_fragment::{Output, send};
 use std::alloc::AllocError;
 
-/// Writes a line, and answers whether it was written whole. One for whose text memory was refused is not written.
+/// Writes a line, and answers whether it was written whole. One for whose text memory was refused
+/// is not written.
 pub(crate) fn put_line<W: Output>(out: &mut W, line: Result<Vec<u8>, AllocError>) -> bool
     ensures line { let w = growth W.Output out.old out.new in
         MatchResult line (λ l. IsPut w l.items result) (λ _. Gets w [] × (result ≡ false)) }

@@ -1,34 +1,34 @@
-//! What the program does with its words, before an order is run and where it can't be.
+//! What the program does with its words, before a command is run and where it can't be.
 
 ghost use Rattle.std.specs.Prelude.{◌≡◌, option_map};
-ghost use Rattle.edf_order.specs.Order.{meaning};
-ghost use Rattle.edf_command.specs.Command.{IsRead, store_path};
+ghost use Rattle.edf_arguments.specs.Arguments.{meaning};
+ghost use Rattle.edf_command.specs.Command.{IsCommandRead, store_path};
 ghost use Rattle.edf_command.specs.Lines.{store_refused_line};
 ghost use Rattle.edf_command.specs.Output.{growth, IsWritten};
 
 use crate::output::tell_bytes;
 use crate::status::Status;
+use edf_arguments::{CommandFault, ParsedCommand, parse};
 use edf_fragment::Output;
-use edf_order::{CommandFault, Order, parse};
 use edf_store::StoreFault;
 use std::alloc::Global;
 
-/// The order that the words after the program's name ask for.
+/// The command that the words after the program's name ask for.
 ///
 /// # Errors
-/// The status that the program ends with, where there is no order to run: help went to `out`, or why the words ask for nothing
-/// to `err`, or that there is no memory for the words.
-pub fn read_order<O: Output, F: Output>(
+/// The status that the program ends with, where there is no command to run: help went to `out`, or
+/// why the words ask for nothing to `err`, or that there is no memory for the words.
+pub fn read_command<O: Output, F: Output>(
     alloc: Global,
     words: &[String],
     out: &mut O,
     err: &mut F,
-) -> Result<Order, Status>
-    ensures { IsRead (growth O.Output out.old out.new) (growth F.Output err.old err.new)
+) -> Result<ParsedCommand, Status>
+    ensures { IsCommandRead (growth O.Output out.old out.new) (growth F.Output err.old err.new)
         words.now result }
 {
     match parse(alloc, words) {
-        Ok(order) => Ok(order),
+        Ok(command) => Ok(command),
         Err(CommandFault::Help(text)) => Err(tell_bytes(out, text.as_bytes(), Status::Done)),
         Err(CommandFault::Usage(text)) => Err(tell_bytes(err, text.as_bytes(), Status::Usage)),
         Err(CommandFault::Memory) => {
@@ -38,15 +38,16 @@ pub fn read_order<O: Output, F: Output>(
     }
 }
 
-/// The path of the store that an order names. There is none for `:memory:` and for `Convert`, which has an empty store in memory.
-pub fn store_path(order: &Order) -> Option<&str>
-    ensures { option_map (λ path. path.now) result ≡ store_path (meaning order.now) }
+/// The path of the store that a command names. There is none for `:memory:` and for `Convert`,
+/// which has an empty store in memory.
+pub fn store_path(command: &ParsedCommand) -> Option<&str>
+    ensures { option_map (λ path. path.now) result ≡ store_path (meaning command.now) }
 {
-    let store = match order {
-        Order::Take { store, files: _ } => store,
-        Order::List { store } => store,
-        Order::Export { store, place: _ } => store,
-        Order::Convert { file: _ } => return None,
+    let store = match command {
+        ParsedCommand::Take { store, files: _ } => store,
+        ParsedCommand::List { store } => store,
+        ParsedCommand::Export { store, place: _ } => store,
+        ParsedCommand::Convert { file: _ } => return None,
     };
     if store.as_str() == ":memory:" {
         None
@@ -68,7 +69,7 @@ fn store_refused_line(fault: &StoreFault) -> &'static str
     }
 }
 
-/// Prints that the store of an order can't be opened. The order is not run.
+/// Prints that the store of a command can't be opened. The command is not run.
 pub fn refuse_store<F: Output>(fault: &StoreFault, err: &mut F) -> Status
     ensures { IsWritten
         (growth F.Output err.old err.new) (store_refused_line fault.now) Status.Trouble result }

@@ -1,10 +1,13 @@
 //! The texts of refusals.
 
-ghost use Rattle.std.specs.Prelude.{◌≡◌, ℕ, ◌++◌, ◌∷◌, [], List, IfOk, codes, decimal, string_bytes};
+ghost use Rattle.std.specs.Prelude.{◌≡◌, ℕ, ◌++◌, ◌∷◌, [], List, IfOk, codes, decimal};
+ghost use Rattle.std.specs.Prelude.{string_bytes};
 ghost use Rattle.edf_fragment.specs.Fault.{fragment_fault_number};
 ghost use Rattle.edf_header.specs.Fault.{header_fault_number};
 ghost use Rattle.edf_tal.specs.Block.{tal_fault_number};
-ghost use Rattle.edf_command.specs.Refusals.{IsSpelling, header_words, header_place, tal_details, fragment_details, store_text, refusal_text, place_text};
+ghost use Rattle.edf_command.specs.Refusals.{IsSpelling, header_words, header_place, tal_details};
+ghost use Rattle.edf_command.specs.Refusals.{fragment_details, store_text, refusal_text};
+ghost use Rattle.edf_command.specs.Refusals.{place_text};
 
 use edf_fragment::FragmentFault;
 use edf_header::HeaderFault;
@@ -58,7 +61,8 @@ fn header_place(fault: &HeaderFault) -> Option<usize>
 }
 
 fn header_text(alloc: Global, fault: &HeaderFault) -> Result<String, AllocError>
-    ensures { IfOk result (λ r. string_bytes r ≡ codes "E" ++ (decimal (header_fault_number fault.now)
+    ensures { IfOk result
+        (λ r. string_bytes r ≡ codes "E" ++ (decimal (header_fault_number fault.now)
         ++ (codes " " ++ (header_words fault.now ++ place_text (header_place fault.now))))) }
 {
     let number = fault.number();
@@ -70,7 +74,8 @@ fn header_text(alloc: Global, fault: &HeaderFault) -> Result<String, AllocError>
 }
 
 fn tal_text(alloc: Global, nth: u32, fault: &TalFault) -> Result<String, AllocError>
-    ensures { IfOk result (λ r. string_bytes r ≡ codes "E" ++ (decimal (tal_fault_number fault.now) ++ tal_details nth fault.now)) }
+    ensures { IfOk result (λ r. string_bytes r
+        ≡ codes "E" ++ (decimal (tal_fault_number fault.now) ++ tal_details nth fault.now)) }
 {
     let number = fault.number();
     match fault {
@@ -90,7 +95,8 @@ fn tal_text(alloc: Global, nth: u32, fault: &TalFault) -> Result<String, AllocEr
 }
 
 fn fragment_text(alloc: Global, fault: &FragmentFault) -> Result<String, AllocError>
-    ensures { IfOk result (λ r. string_bytes r ≡ codes "E" ++ (decimal (fragment_fault_number fault.now) ++ fragment_details fault.now)) }
+    ensures { IfOk result (λ r. string_bytes r
+        ≡ codes "E" ++ (decimal (fragment_fault_number fault.now) ++ fragment_details fault.now)) }
 {
     let number = fault.number();
     match fault {
@@ -149,7 +155,8 @@ fn overlap_text(
     start: Instant,
     stored: Instant,
 ) -> Result<Vec<u8>, AllocError>
-    ensures { IfOk result (λ r. (spell : ℕ → List ℕ) → IsSpelling spell → r.items ≡ codes "E" ++ (decimal number
+    ensures { IfOk result
+        (λ r. (spell : ℕ → List ℕ) → IsSpelling spell → r.items ≡ codes "E" ++ (decimal number
         ++ (codes " Overlap start=" ++ (spell start ++ (codes " stored=" ++ spell stored))))) }
 {
     let digits = format!(in alloc; "E{number}")?;
@@ -167,7 +174,8 @@ fn overlap_text(
 
 /// The text of two records that differ, which start there.
 fn differs_text(alloc: Global, number: u8, start: Instant) -> Result<Vec<u8>, AllocError>
-    ensures { IfOk result (λ r. (spell : ℕ → List ℕ) → IsSpelling spell → r.items ≡ codes "E" ++ (decimal number ++ (codes " Differs start=" ++ spell start))) }
+    ensures { IfOk result (λ r. (spell : ℕ → List ℕ) → IsSpelling spell →
+        r.items ≡ codes "E" ++ (decimal number ++ (codes " Differs start=" ++ spell start))) }
 {
     let digits = format!(in alloc; "E{number}")?;
     let first = spelled(alloc, start)?;
@@ -187,7 +195,8 @@ fn differs_text(alloc: Global, number: u8, start: Instant) -> Result<Vec<u8>, Al
 /// # Errors
 /// Where memory runs out.
 pub fn refusal_text(alloc: Global, refusal: &Refusal) -> Result<Vec<u8>, AllocError>
-    ensures { IfOk result (λ r. (spell : ℕ → List ℕ) → IsSpelling spell → r.items ≡ refusal_text spell refusal.now) }
+    ensures { IfOk result
+        (λ r. (spell : ℕ → List ℕ) → IsSpelling spell → r.items ≡ refusal_text spell refusal.now) }
 {
     let number = refusal.number();
     match refusal {

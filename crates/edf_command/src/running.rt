@@ -1,7 +1,7 @@
-//! An order, run.
+//! A command, run.
 
 ghost use Rattle.std.specs.Prelude.{◌≡◌, ◌++◌, ◌∷◌, [], ℕ, List, Option, IfOk, MatchResult};
-ghost use Rattle.edf_order.specs.Order.{meaning};
+ghost use Rattle.edf_arguments.specs.Arguments.{meaning};
 ghost use Rattle.edf_command.specs.Output.{growth};
 ghost use Rattle.edf_command.specs.Run.{IsDone, HasOpened, files_of};
 
@@ -10,15 +10,16 @@ use crate::listing::list;
 use crate::sending::send_place;
 use crate::status::Status;
 use crate::taking::take;
+use edf_arguments::ParsedCommand;
 use edf_fragment::{Input, Output};
-use edf_order::Order;
 use edf_store::Store;
 use sqlite::Alter;
 use std::alloc::{AllocError, Global};
 
 /// What gives each name its reader.
 ///
-/// Contracts speak of the bytes that a name stands for, where they are known: those of a file are not.
+/// Contracts speak of the bytes that a name stands for, where they are known: those of a file are
+/// not.
 pub trait Inputs {
     /// The readers.
     type Reader: Input + Drop;
@@ -29,17 +30,21 @@ pub trait Inputs {
     // The names whose readers it gave, in turn.
     ghost opened: { Self → List (List ℕ) };
 
-    /// A reader of just the bytes that the name stands for. A name that stands for nothing gives a reader whose first read fails.
+    /// A reader of just the bytes that the name stands for. A name that stands for nothing gives a
+    /// reader whose first read fails.
     ///
     /// # Errors
     /// Where memory ran out. The name is then not among those opened.
     fn open(&mut self, alloc: Global, name: &str) -> Result<Self::Reader, AllocError>
         ensures reader { IfOk result (λ r. Self.Reader.remaining r ≡ bytes self.old name.now) }
         ensures same { (other : List ℕ) → bytes self.new other ≡ bytes self.old other }
-        ensures names { MatchResult result (λ _. opened self.new ≡ opened self.old ++ (name.now ∷ [])) (λ _. opened self.new ≡ opened self.old) };
+        ensures names { MatchResult result
+            (λ _. opened self.new ≡ opened self.old ++ (name.now ∷ []))
+            (λ _. opened self.new ≡ opened self.old) };
 }
 
-/// Runs an order over a store, which is the one that the order names; for `Convert` it is an empty one.
+/// Runs a command over a store, which is the one that the command names; for `Convert` it is an
+/// empty one.
 ///
 /// Files and lists go to `out`, and why something is not done to `err`, but for the files of
 /// `take`: their lines all go to `out`. `take` submits every file before it writes a line. A line
@@ -47,24 +52,25 @@ pub trait Inputs {
 /// follows it; a part of a line goes out only where a write failed.
 pub fn run<S: Alter, I: Inputs, O: Output, F: Output>(
     alloc: Global,
-    order: &Order,
+    command: &ParsedCommand,
     store: &mut Store<S>,
     inputs: &mut I,
     out: &mut O,
     err: &mut F,
 ) -> Status
     ensures done { IsDone S.Store store.old store.new (growth O.Output out.old out.new)
-        (growth F.Output err.old err.new) (I.bytes inputs.old) (meaning order.now) result }
-    ensures opened { HasOpened (I.opened inputs.old) (I.opened inputs.new) (files_of (meaning order.now)) result }
+        (growth F.Output err.old err.new) (I.bytes inputs.old) (meaning command.now) result }
+    ensures opened { HasOpened
+        (I.opened inputs.old) (I.opened inputs.new) (files_of (meaning command.now)) result }
     ensures cap { store.new.cap ≡ store.old.cap }
     ensures same { (name : List ℕ) → I.bytes inputs.new name ≡ I.bytes inputs.old name }
 {
-    match order {
-        Order::Take { store: _, files } => {
+    match command {
+        ParsedCommand::Take { store: _, files } => {
             take(alloc, files.as_slice(), store, inputs, out, err)
         }
-        Order::List { store: _ } => list(alloc, store, out, err),
-        Order::Export { store: _, place } => send_place(alloc, *place, store, out, err),
-        Order::Convert { file } => convert(alloc, file.as_str(), store, inputs, out, err),
+        ParsedCommand::List { store: _ } => list(alloc, store, out, err),
+        ParsedCommand::Export { store: _, place } => send_place(alloc, *place, store, out, err),
+        ParsedCommand::Convert { file } => convert(alloc, file.as_str(), store, inputs, out, err),
     }
 }

@@ -1,9 +1,9 @@
-//! How an order ends.
+//! How a command ends.
 
 ghost use Rattle.std.specs.Prelude.{◌≡◌};
 ghost use Rattle.edf_command.specs.Lines.{exit_code, status_of_number, worse};
 
-/// How an order ends.
+/// How a command ends.
 #[derive(Clone, Copy, Debug, PartialEq, Eq, Drop)]
 pub enum Status {
     /// All was done.

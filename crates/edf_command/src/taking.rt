@@ -1,7 +1,9 @@
 //! `take`: files into the store.
 
-ghost use Rattle.std.specs.Prelude.{◌≡◌, ◌++◌, ◌∷◌, ℕ, [], List, IfOk, MatchResult, length, map, string_bytes, codes, decimal};
-ghost use Rattle.edf_command.specs.Lines.{answer_status, take_line, first_take_lines, take_status, status_of_number, worse};
+ghost use Rattle.std.specs.Prelude.{◌≡◌, ◌++◌, ◌∷◌, ℕ, [], List, IfOk, MatchResult, length, map};
+ghost use Rattle.std.specs.Prelude.{string_bytes, codes, decimal};
+ghost use Rattle.edf_command.specs.Lines.{answer_status, take_line, first_take_lines, take_status};
+ghost use Rattle.edf_command.specs.Lines.{status_of_number, worse};
 ghost use Rattle.edf_command.specs.Refusals.{IsSpelling, refusal_text};
 ghost use Rattle.edf_command.specs.Output.{growth, ArePut};
 ghost use Rattle.edf_command.specs.Run.{IsTaken, HasOpened, OpensFront};
@@ -24,7 +26,8 @@ fn open_all<I: Inputs>(
 ) -> Result<Vec<I::Reader>, AllocError>
     ensures opened { IfOk result (λ readers. map (λ r. I.Reader.remaining r) readers.items
         ≡ map (λ file. I.bytes inputs.old (string_bytes file)) files.now) }
-    ensures names { MatchResult result (λ _. I.opened inputs.new ≡ I.opened inputs.old ++ map string_bytes files.now)
+    ensures names { MatchResult result
+        (λ _. I.opened inputs.new ≡ I.opened inputs.old ++ map string_bytes files.now)
         (λ _. OpensFront (I.opened inputs.old) (I.opened inputs.new) (map string_bytes files.now)) }
     ensures same { (name : List ℕ) → I.bytes inputs.new name ≡ I.bytes inputs.old name }
 {
@@ -43,7 +46,8 @@ pub(crate) fn refused_line(
     refusal: &Refusal,
 ) -> Result<Vec<u8>, AllocError>
     ensures { IfOk result (λ r. (spell : ℕ → List ℕ) → IsSpelling spell →
-        r.items ≡ name.now ++ (codes " refused " ++ (refusal_text spell refusal.now ++ (10 ∷ [])))) }
+        r.items ≡ name.now
+        ++ (codes " refused " ++ (refusal_text spell refusal.now ++ (10 ∷ [])))) }
 {
     let mut text = refusal_text(alloc, refusal)?;
     text.push(b'\n')?;
@@ -53,7 +57,8 @@ pub(crate) fn refused_line(
 
 /// The line of an accepted file.
 fn accepted_line(alloc: Global, name: &str, new: u32, known: u32) -> Result<Vec<u8>, AllocError>
-    ensures { IfOk result (λ r. r.items ≡ name.now ++ (codes " accepted new=" ++ (decimal new ++ (codes " known=" ++ (decimal known ++ (10 ∷ [])))))) }
+    ensures { IfOk result (λ r. r.items ≡ name.now ++ (codes " accepted new="
+        ++ (decimal new ++ (codes " known=" ++ (decimal known ++ (10 ∷ [])))))) }
 {
     let line = format!(in alloc; "{name} accepted new={new} known={known}\n")?;
     Ok(line.into_bytes())
@@ -65,7 +70,8 @@ fn take_line(
     name: &str,
     answer: &Result<Receipt, Refusal>,
 ) -> Result<Vec<u8>, AllocError>
-    ensures { IfOk result (λ r. (spell : ℕ → List ℕ) → IsSpelling spell → r.items ≡ take_line spell name.now answer.now) }
+    ensures { IfOk result (λ r. (spell : ℕ → List ℕ) → IsSpelling spell →
+        r.items ≡ take_line spell name.now answer.now) }
 {
     match answer {
         Ok(receipt) => {
@@ -127,7 +133,8 @@ pub(crate) fn take<S: Alter, I: Inputs, O: Output, F: Output>(
 ) -> Status
     ensures taken { IsTaken S.Store store.old store.new (growth O.Output out.old out.new)
         (growth F.Output err.old err.new) (I.bytes inputs.old) (map string_bytes files.now) result }
-    ensures opened { HasOpened (I.opened inputs.old) (I.opened inputs.new) (map string_bytes files.now) result }
+    ensures opened { HasOpened
+        (I.opened inputs.old) (I.opened inputs.new) (map string_bytes files.now) result }
     ensures cap { store.new.cap ≡ store.old.cap }
     ensures same { (name : List ℕ) → I.bytes inputs.new name ≡ I.bytes inputs.old name }
 {

@@ -13,7 +13,7 @@ use Rattle.edf_tal.specs.Block.{IsRead, IsWithinLimits}
 use Rattle.edf_tal.specs.Canonical.{block_text}
 use Rattle.edf_tal.specs.declared.place.Place.{Place}
 use Rattle.edf_tal.specs.declared.place.Place.TheVariants.{First, After, Any}
-use Rattle.edf_fragment.specs.Fragment.{DataRecord, IsDataRecord, place_behind}
+use Rattle.edf_fragment.specs.Fragment.{DataRecord, IsDataRecord, place_after}
 use Rattle.edf_export.specs.File.{block_of, record_text}
 use Rattle.edf_fragment.specs.Sound.{IsSoundRecord, AreSound}
 use Rattle.edf_export.proofs.Records.{AreReadable, one_block, record-read}
@@ -46,10 +46,10 @@ readable l place base size r is e stands fits =
     (again place base r.start (size - length (block_of base r)) r.annotations stands e.start is.in_window e.limits e.notes))
 
 readable-behind : (l : Layout) (before base size : ℕ) (rs : List DataRecord) → IsCanonicalLayout l base size
-    → AreSound l.key (before + duration_of l.key.duration) rs → All (λ r. length (block_of base r) ≤ size) rs → AreReadable l (place_behind l before) base size rs
+    → AreSound l.key (before + duration_of l.key.duration) rs → All (λ r. length (block_of base r) ≤ size) rs → AreReadable l (place_after l before) base size rs
 readable-behind l before base size [] is are fit = tt
 readable-behind l before base size (r ∷ rs) is (e, low, more) fit = (
-  readable l (place_behind l before) base size r is e low (All-head (λ x. length (block_of base x) ≤ size) r rs fit),
+  readable l (place_after l before) base size r is e low (All-head (λ x. length (block_of base x) ≤ size) r rs fit),
   readable-behind l r.start base size rs is more (All-tail (λ x. length (block_of base x) ≤ size) r rs fit),
 )
 

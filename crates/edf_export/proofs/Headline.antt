@@ -32,11 +32,13 @@ only-file : (cap : ℕ) (h : Holdings) (k : Key) → IsSound cap h → cap ≤ 9
 only-file cap h k sound low some =
     let told : IsSoundTold (Fragment k (h k)) = held-sound cap h k sound some in
     let few : length (h k) ≤ cap = sound.few k in
-    let file = some-file k (h k) told.0 told.1 told.2 (some-long (h k) some) (omega arith) in
-    (file.0, record {
-      canonical = file.1;
-      only = λ other is. one-file other file.0 k (h k) is file.1;
-    })
+    let file = some-file k (h k) told.0 told.1 told.2 (some-long (h k) some) (omega arith) in (
+      file.0,
+      record {
+        canonical = file.1;
+        only = λ other is. one-file other file.0 k (h k) is file.1;
+      },
+    )
 
 -- the holdings that a member meets are sound, and so one that is refused leaves them
 refused-leaves : (cap : ℕ) (h : Holdings) (before : List Told) (member : Told) (later : List Told)

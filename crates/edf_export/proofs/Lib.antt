@@ -6,7 +6,7 @@ pub mod Puts
 pub mod Written
 pub mod SomeFile
 pub mod Exports
-pub mod WalkLemmas
+pub mod Walks
 pub mod Texts
 pub mod Planned
 pub mod Again

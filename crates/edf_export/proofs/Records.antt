@@ -7,7 +7,7 @@ use Rattle.edf_header.specs.Header.{Layout}
 use Rattle.edf_header.specs.declared.header.Block.{Block}
 use Rattle.edf_tal.specs.Block.{AreRead, IsRead}
 use Rattle.edf_tal.specs.declared.place.Place.{Place}
-use Rattle.edf_fragment.specs.Fragment.{DataRecord, IsDataRecord, AreDataRecords, blocks, outside, ordinary_bytes, place_behind}
+use Rattle.edf_fragment.specs.Fragment.{DataRecord, IsDataRecord, AreDataRecords, blocks, outside, ordinary_bytes, place_after}
 use Rattle.edf_export.specs.File.{block_of, record_text}
 
 -- the one block, of `size` bytes, that comes after `at` bytes
@@ -48,13 +48,13 @@ record-read l place base at size r before one whole fits read =
 -- each record, at its place, is read from its text
 abbrev pub AreReadable : Layout → Place → ℕ → ℕ → List DataRecord → Type 0
 AreReadable l place base size [] = Unit {0}
-AreReadable l place base size (r ∷ rs) = IsDataRecord l place (record_text base size r) r × AreReadable l (place_behind l r.start) base size rs
+AreReadable l place base size (r ∷ rs) = IsDataRecord l place (record_text base size r) r × AreReadable l (place_after l r.start) base size rs
 
 pub records-read : (l : Layout) (place : Place) (base size : ℕ) (rs : List DataRecord) → AreReadable l place base size rs
     → (last : Place) × AreDataRecords l place (flat_map (record_text base size) rs) rs last []
 records-read l place base size [] each = (place, (refl, refl))
 records-read l place base size (r ∷ rs) each =
-    let rest = records-read l (place_behind l r.start) base size rs each.1 in
+    let rest = records-read l (place_after l r.start) base size rs each.1 in
     (rest.0, (record_text base size r, flat_map (record_text base size) rs, refl, each.0, rest.1))
 
 -- the texts of the records so far, and of one more

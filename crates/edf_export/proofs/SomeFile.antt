@@ -9,14 +9,14 @@ use Rattle.edf_header.specs.Canonical.{IsCanonicalHeader}
 use Rattle.edf_fragment.specs.Fragment.{DataRecord, Spells}
 use Rattle.edf_fragment.specs.Sound.{AreSound, MayBegin}
 use Rattle.edf_fragment.proofs.Sound.{spelled-key, spelled-sound, spelled-begins, spelled-some, spelled-few}
-use Rattle.edf_export.specs.File.{second_of, block_of, record_text, Hold, IsLaidOut, IsCanonicalFile}
+use Rattle.edf_export.specs.File.{second_of, block_of, record_text, BlocksFit, IsLaidOut, IsCanonicalFile}
 use Rattle.edf_export.proofs.Files.{canonical}
 
 -- the least number of samples that holds each block
 record HasLeast (base : ℕ) (rs : List DataRecord) : Type 0 where
   samples : ℕ
-  holds : Hold base samples rs
-  least : (fewer : ℕ) → Hold base fewer rs → samples ≤ fewer
+  holds : BlocksFit base samples rs
+  least : (fewer : ℕ) → BlocksFit base fewer rs → samples ≤ fewer
 
 fits : (base : ℕ) (r : DataRecord) (more : ℕ) → length (block_of base r) ≤ 2 * max more ((length (block_of base r) + 1) / 2)
 fits base r more = omega arith

@@ -6,34 +6,34 @@ use Rattle.std.proofs.lemmas.Grind.{flat_map-append}
 use Rattle.std.proofs.lemmas.Option.{slice_get_within, get_or_from_slice_get}
 use Rattle.std.proofs.lemmas.List.Elements.{All-get_or}
 use Rattle.edf_fragment.specs.Fragment.{DataRecord}
-use Rattle.edf_export.specs.File.{block_of, record_text, Hold}
+use Rattle.edf_export.specs.File.{block_of, record_text, BlocksFit}
 use Rattle.edf_export.specs.Export.{WritesFront}
-use Rattle.edf_export.specs.Inside.Output.{Buffered, Writes, CountsOutputFault, IsPut}
-use Rattle.edf_export.specs.Inside.Walks.{refusal_of, IsWritingFault, CountsWritingFault, IsPutOut}
+use Rattle.edf_export.specs.Inside.Output.{Buffered, Writes, CountsOutputFault, IsPutThrough}
+use Rattle.edf_export.specs.Inside.Walks.{export_fault_of, IsWritingFault, CountsWritingFault, IsPutOut}
 use Rattle.edf_export.specs.declared.fault.OutputFault.{OutputFault}
 use Rattle.edf_export.specs.declared.fault.OutputFault.TheVariants.{Write, Memory}
 use Rattle.edf_export.specs.declared.fault.ExportFault.{ExportFault}
 use Rattle.edf_export.proofs.Records.{one-more-text}
 use Rattle.edf_export.proofs.Puts.{writes-then, writes-no-more, writes-same, front-written, all-written}
 
-pub told_writing : (fault : OutputFault) → IsWritingFault (refusal_of fault)
+pub told_writing : (fault : OutputFault) → IsWritingFault (export_fault_of fault)
 told_writing Write = tt
 told_writing Memory = tt
 
-pub told_counts : (old new : ℕ) (fault : OutputFault) → CountsOutputFault old new fault → CountsWritingFault old new (refusal_of fault)
+pub told_counts : (old new : ℕ) (fault : OutputFault) → CountsOutputFault old new fault → CountsWritingFault old new (export_fault_of fault)
 told_counts old new Write counts = counts
 told_counts old new Memory counts = counts
 
 -- what was put is put out
-pub put_out : (a b : Buffered) (bytes : List ℕ) (fault : OutputFault) (told : ExportFault) → told ≡ refusal_of fault → IsPut a b bytes (Err fault) → IsPutOut a b bytes (Err told)
+pub put_out : (a b : Buffered) (bytes : List ℕ) (fault : OutputFault) (told : ExportFault) → told ≡ export_fault_of fault → IsPutThrough a b bytes (Err fault) → IsPutOut a b bytes (Err told)
 put_out a b bytes fault told is p = (p.0, subst IsWritingFault (sym is) (told_writing fault))
 
-pub counts_out : (old new : ℕ) (fault : OutputFault) (told : ExportFault) → told ≡ refusal_of fault → CountsOutputFault old new fault → CountsWritingFault old new told
+pub counts_out : (old new : ℕ) (fault : OutputFault) (told : ExportFault) → told ≡ export_fault_of fault → CountsOutputFault old new fault → CountsWritingFault old new told
 counts_out old new fault told is counts = subst (CountsWritingFault old new) (sym is) (told_counts old new fault counts)
 
 -- the records so far, the next of which is r
 module _ (base samples fs size i : ℕ) (rs : List DataRecord) (r : DataRecord) (fs-is : fs ≡ base) (size-is : size ≡ 2 * samples)
-    (place : slice_get rs i ≡ Some r) (hold : Hold base samples rs) where
+    (place : slice_get rs i ≡ Some r) (hold : BlocksFit base samples rs) where
   abbrev texts : List DataRecord → List ℕ
   texts = λ l. flat_map (record_text base (2 * samples)) l
 

@@ -6,7 +6,7 @@ use Rattle.edf_header.specs.Key.{Key}
 use Rattle.edf_header.proofs.Strides.{length-parts}
 use Rattle.edf_fragment.specs.Fragment.{DataRecord}
 use Rattle.edf_header.specs.Canonical.{IsCanonicalHeader}
-use Rattle.edf_export.specs.File.{second_of, block_of, record_text, Hold, IsLaidOut}
+use Rattle.edf_export.specs.File.{second_of, block_of, record_text, BlocksFit, IsLaidOut}
 use Rattle.edf_export.proofs.Records.{length-filled}
 
 -- every record's text has the samples' bytes and the block's
@@ -27,13 +27,13 @@ file-length header base size bytes rs lens fit =
 
 -- what is put out is laid out as the records' file
 pub laid-out : (k : Key) (records : List DataRecord) (first : DataRecord) (base start samples : ℕ) (header : List ℕ) → start ≡ first.start → base ≡ second_of first.start
-    → IsCanonicalHeader header k start (length records) samples → Hold base samples records → ((fewer : ℕ) → Hold base fewer records → samples ≤ fewer)
+    → IsCanonicalHeader header k start (length records) samples → BlocksFit base samples records → ((fewer : ℕ) → BlocksFit base fewer records → samples ≤ fewer)
     → IsLaidOut (header ++ flat_map (record_text base (2 * samples)) records) k first records
 laid-out k records first base start samples header start-is base-is is-header holds least = record {
   samples = samples;
   header = header;
   is_header = subst (λ (n : ℕ). IsCanonicalHeader header k n (length records) samples) start-is is-header;
-  holds = subst (λ (n : ℕ). Hold n samples records) base-is holds;
-  least = subst (λ (n : ℕ). (fewer : ℕ) → Hold n fewer records → samples ≤ fewer) base-is least;
+  holds = subst (λ (n : ℕ). BlocksFit n samples records) base-is holds;
+  least = subst (λ (n : ℕ). (fewer : ℕ) → BlocksFit n fewer records → samples ≤ fewer) base-is least;
   parts = ap (λ (n : ℕ). header ++ flat_map (record_text n (2 * samples)) records) base-is;
 }

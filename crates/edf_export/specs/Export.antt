@@ -56,14 +56,14 @@ abbrev pub CountsExport : ℕ → ℕ → Result ℕ ExportFault → Type 0
 CountsExport old new result = MatchResult result (λ len. new ≡ old) (CountsExportFault old new)
 
 -- after a file no transaction is open, nor after a refusal that is not the store's
-abbrev pub IsIdleBehind : State → ExportFault → Type 0
-IsIdleBehind s NoRecording = s.in_transaction ≡ false
-IsIdleBehind s (Store fault) = Unit {0}
-IsIdleBehind s Memory = s.in_transaction ≡ false
-IsIdleBehind s Write = s.in_transaction ≡ false
+abbrev pub IsIdleAfter : State → ExportFault → Type 0
+IsIdleAfter s NoRecording = s.in_transaction ≡ false
+IsIdleAfter s (Store fault) = Unit {0}
+IsIdleAfter s Memory = s.in_transaction ≡ false
+IsIdleAfter s Write = s.in_transaction ≡ false
 
 abbrev pub LeavesIdle : {A : Type 0} → State → Result A ExportFault → Type 0
-LeavesIdle s result = MatchResult result (λ _. s.in_transaction ≡ false) (IsIdleBehind s)
+LeavesIdle s result = MatchResult result (λ _. s.in_transaction ≡ false) (IsIdleAfter s)
 
 -- the number of a fault, by which the program names it
 abbrev pub export_fault_number : ExportFault → ℕ

@@ -23,16 +23,16 @@ abbrev pub record_text : ℕ → ℕ → DataRecord → List ℕ
 record_text file_start size r = r.samples ++ filled_block file_start size r
 
 -- `samples` samples, two bytes each, hold the block of every record
-abbrev pub Hold : ℕ → ℕ → List DataRecord → Type 0
-Hold file_start samples records = All (λ r. length (block_of file_start r) ≤ 2 * samples) records
+abbrev pub BlocksFit : ℕ → ℕ → List DataRecord → Type 0
+BlocksFit file_start samples records = All (λ r. length (block_of file_start r) ≤ 2 * samples) records
 
 -- the bytes are laid out as the file of the records, which rise in time and of which `first` is the earliest
 pub record IsLaidOut (bytes : List ℕ) (k : Key) (first : DataRecord) (records : List DataRecord) : Type 0 where
   pub samples : ℕ
   pub header : List ℕ
   pub is_header : IsCanonicalHeader header k first.start (length records) samples
-  pub holds : Hold (second_of first.start) samples records
-  pub least : (fewer : ℕ) → Hold (second_of first.start) fewer records → samples ≤ fewer
+  pub holds : BlocksFit (second_of first.start) samples records
+  pub least : (fewer : ℕ) → BlocksFit (second_of first.start) fewer records → samples ≤ fewer
   pub parts : bytes ≡ header ++ flat_map (record_text (second_of first.start) (2 * samples)) records
 
 -- the canonical file of one record or more: it spells them, and it is laid out so

@@ -2,7 +2,7 @@
 
 ghost use Rattle.std.specs.Prelude.{◌≤◌, length};
 ghost use Rattle.edf_export.specs.File.{block_of, filled_block, record_text};
-ghost use Rattle.edf_export.specs.Inside.Output.{buffered, IsPut};
+ghost use Rattle.edf_export.specs.Inside.Output.{buffered, IsPutThrough};
 
 use crate::fault::OutputFault;
 use crate::output::{Buffer, put, put_zeros};
@@ -21,7 +21,7 @@ fn put_block<W: Output>(
     size: usize,
 ) -> Result<(), OutputFault>
     requires { length (block_of file_start data_record.now) ≤ size }
-    ensures { IsPut (buffered W.Output out.old held.old.bytes.items)
+    ensures { IsPutThrough (buffered W.Output out.old held.old.bytes.items)
         (buffered W.Output out.new held.new.bytes.items)
         (filled_block file_start size data_record.now) result }
 {
@@ -42,7 +42,7 @@ pub(crate) fn put_record<W: Output>(
     size: usize,
 ) -> Result<(), OutputFault>
     requires { length (block_of file_start data_record.now) ≤ size }
-    ensures { IsPut (buffered W.Output out.old held.old.bytes.items)
+    ensures { IsPutThrough (buffered W.Output out.old held.old.bytes.items)
         (buffered W.Output out.new held.new.bytes.items)
         (record_text file_start size data_record.now) result }
 {

@@ -50,9 +50,9 @@ impl From<StoreFault> for ExportFault {
 
 impl From<OutputFault> for ExportFault {
     ghost use Rattle.std.specs.Prelude.{◌≡◌};
-    ghost use Rattle.edf_export.specs.Inside.Walks.{refusal_of};
+    ghost use Rattle.edf_export.specs.Inside.Walks.{export_fault_of};
 
-    ghost from_gives = { λ refused fault. fault ≡ refusal_of refused };
+    ghost from_gives = { λ refused fault. fault ≡ export_fault_of refused };
 
     fn from(refused: OutputFault) -> ExportFault {
         match refused {

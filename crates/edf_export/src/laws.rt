@@ -18,19 +18,20 @@ pub fn one_canonical_file()
         IsCanonicalFile file key records → IsCanonicalFile other key records → file ≡ other }
 {}
 
-/// Sound records of a key with which its recording may begin have a canonical file, where they are 1 to 99,999,999; and so have
-/// those of each fragment.
+/// Sound records of a key with which its recording may begin have a canonical file, where they are
+/// 1 to 99,999,999; and so have those of each fragment.
 pub fn some_canonical_file()
     ensures sound { (key : Key) (records : List DataRecord) →
-        IsKey key → AreSound key 0 records → MayBegin key records → 1 ≤ length records → length records ≤ 99_999_999 →
-        (file : List ℕ) × IsCanonicalFile file key records }
+        IsKey key → AreSound key 0 records → MayBegin key records → 1 ≤ length records →
+        length records ≤ 99_999_999 → (file : List ℕ) × IsCanonicalFile file key records }
     ensures spelled { (bytes : List ℕ) (key : Key) (records : List DataRecord) →
         Spells bytes key records → (file : List ℕ) × IsCanonicalFile file key records }
 {}
 
 /// A canonical file is a fragment of just its key and records; so it is its own canonical file.
 pub fn a_canonical_file_is_read_again()
-    ensures { (file : List ℕ) (key : Key) (records : List DataRecord) → IsCanonicalFile file key records → Spells file key records }
+    ensures { (file : List ℕ) (key : Key) (records : List DataRecord) →
+        IsCanonicalFile file key records → Spells file key records }
 {}
 
 /// An export is a fragment of just the key and the data records that were exported.
@@ -39,15 +40,16 @@ pub fn an_export_is_a_fragment()
         (export : IsExported before after key records len) → Spells export.file key records }
 {}
 
-/// What is exported of sound holdings is accepted again: by themselves with nothing new, and where nothing is held with every
-/// data record new; then it is exported as it was.
+/// What is exported of sound holdings is accepted again: by themselves with nothing new, and where
+/// nothing is held with every data record new; then it is exported as it was.
 pub fn an_export_is_accepted_again()
     ensures { (cap : ℕ) (h : Holdings) (key : Key) (file : List ℕ) →
         IsSound cap h → IsCanonicalFile file key (h key) → IsAcceptedAgain cap h key file }
 {}
 
-/// Lists of submissions that are free of conflicts and hold the same data records, however cut, ordered or repeated, export the
-/// same bytes: what each leaves has one canonical file, and it is that of the other.
+/// Lists of submissions that are free of conflicts and hold the same data records, however cut,
+/// ordered or repeated, export the same bytes: what each leaves has one canonical file, and it is
+/// that of the other.
 pub fn the_same_records_export_alike()
     ensures { ExportAlike }
 {}

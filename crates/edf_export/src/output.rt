@@ -1,7 +1,8 @@
 //! Writing through a buffer of 64 KiB, which the caller keeps beside its writer.
 
-ghost use Rattle.std.specs.Prelude.{◌≡◌, ℕ, ◌+◌, ◌-◌, ◌≤◌, ◌++◌, [], List, Option, length, vec_len, replicate};
-ghost use Rattle.edf_export.specs.Inside.Output.{buffered, most_held, IsPut, IsFlushed};
+ghost use Rattle.std.specs.Prelude.{◌≡◌, ℕ, ◌+◌, ◌-◌, ◌≤◌, ◌++◌, [], List, Option, length, vec_len};
+ghost use Rattle.std.specs.Prelude.{replicate};
+ghost use Rattle.edf_export.specs.Inside.Output.{buffered, most_held, IsPutThrough, IsFlushed};
 
 use crate::fault::OutputFault;
 use edf_fragment::{Output, send};
@@ -42,7 +43,7 @@ pub(crate) fn flush<W: Output>(out: &mut W, held: &mut Buffer) -> Result<(), Out
 
 /// Writes the held bytes, and then these.
 fn put_through<W: Output>(out: &mut W, held: &mut Buffer, bytes: &[u8]) -> Result<(), OutputFault>
-    ensures { IsPut (buffered W.Output out.old held.old.bytes.items)
+    ensures { IsPutThrough (buffered W.Output out.old held.old.bytes.items)
         (buffered W.Output out.new held.new.bytes.items) bytes.now result }
 {
     flush(out, held)?;
@@ -54,7 +55,7 @@ fn put_through<W: Output>(out: &mut W, held: &mut Buffer, bytes: &[u8]) -> Resul
 
 /// Holds these bytes back after those already held.
 fn hold<W: Output>(out: &mut W, held: &mut Vec<u8>, bytes: &[u8]) -> Result<(), OutputFault>
-    ensures put { IsPut (buffered W.Output out.old held.old.items)
+    ensures put { IsPutThrough (buffered W.Output out.old held.old.items)
         (buffered W.Output out.new held.new.items) bytes.now result }
     ensures grown { vec_len held.new ≤ vec_len held.old + length bytes.now }
 {
@@ -70,7 +71,7 @@ pub(crate) fn put<W: Output>(
     held: &mut Buffer,
     bytes: &[u8],
 ) -> Result<(), OutputFault>
-    ensures { IsPut (buffered W.Output out.old held.old.bytes.items)
+    ensures { IsPutThrough (buffered W.Output out.old held.old.bytes.items)
         (buffered W.Output out.new held.new.bytes.items) bytes.now result }
 {
     if bytes.len() >= CAPACITY {
@@ -92,7 +93,7 @@ pub(crate) fn put_zeros<W: Output>(
     held: &mut Buffer,
     count: usize,
 ) -> Result<(), OutputFault>
-    ensures { IsPut (buffered W.Output out.old held.old.bytes.items)
+    ensures { IsPutThrough (buffered W.Output out.old held.old.bytes.items)
         (buffered W.Output out.new held.new.bytes.items) (replicate count 0) result }
 {
     let mut left = count;

@@ -16,17 +16,19 @@ use edf_store::{Store, StoreFault};
 use sqlite::Alter;
 use std::alloc::Global;
 
-/// Writes the canonical EDF+D file of what is held under an identity, and tells its length in bytes.
+/// Writes the canonical EDF+D file of what is held under an identity, and tells its length in
+/// bytes.
 ///
 /// The data records are in it by rising starts, with onsets that count from the second in which the
 /// first begins. One of them is in memory at a time, beside a buffer of 64 KiB. The store stays as
 /// it is. The writer is not flushed.
 ///
 /// # Errors
-/// `NoRecording` (E44) where nothing is held under the identity; then nothing was written. `Store` where the store refuses a read:
-/// E41, E42, without a cause where the connection was left in a transaction, or E45 where the disk returned what was not written.
-/// `Memory` (E41) where memory runs out here, `Write` (E43) where a write fails or takes none of some bytes. Then a front of the file
-/// may have been written.
+/// `NoRecording` (E44) where nothing is held under the identity; then nothing was written. `Store`
+/// where the store refuses a read: E41, E42, without a cause where the connection was left in a
+/// transaction, or E45 where the disk returned what was not written. `Memory` (E41) where memory
+/// runs out here, `Write` (E43) where a write fails or takes none of some bytes. Then a front of
+/// the file may have been written.
 pub fn export<S: Alter, W: Output>(
     alloc: Global,
     store: &mut Store<S>,
@@ -34,15 +36,20 @@ pub fn export<S: Alter, W: Output>(
     out: &mut W,
 ) -> Result<u64, ExportFault>
     ensures stays { Stays S.Store store.old store.new }
-    ensures exported { HasCleanDisk (at S.Store store.new) → IfOk result (λ len. (h : Holdings) → Holds S.Store store.old h →
+    ensures exported { HasCleanDisk (at S.Store store.new) →
+        IfOk result (λ len. (h : Holdings) → Holds S.Store store.old h →
         IsExported (W.contents out.old) (W.contents out.new) identity.now (h identity.now) len) }
-    ensures refused { HasCleanDisk (at S.Store store.new) → IfErr result (λ fault. (h : Holdings) → Holds S.Store store.old h →
-        IsNotExported (W.contents out.old) (W.contents out.new) identity.now (h identity.now) fault) }
-    ensures nothing { result ≡ Err ExportFault.NoRecording → Keeps (W.contents out.old) (W.contents out.new) }
+    ensures refused { HasCleanDisk (at S.Store store.new) →
+        IfErr result (λ fault. (h : Holdings) → Holds S.Store store.old h → IsNotExported
+        (W.contents out.old) (W.contents out.new) identity.now (h identity.now) fault) }
+    ensures nothing { result ≡ Err ExportFault.NoRecording →
+        Keeps (W.contents out.old) (W.contents out.new) }
     ensures counted { CountsExport (W.failures out.old) (W.failures out.new) result }
     ensures unfailed { result ≢ Err (ExportFault.Store StoreFault.Failed) }
-    ensures busy { IsTrue (at S.Store store.old).in_transaction → result ≡ Err (ExportFault.Store (StoreFault.Store None)) }
-    ensures caused { HasCleanDisk (at S.Store store.new) → result ≡ Err (ExportFault.Store (StoreFault.Store None)) →
+    ensures busy { IsTrue (at S.Store store.old).in_transaction →
+        result ≡ Err (ExportFault.Store (StoreFault.Store None)) }
+    ensures caused { HasCleanDisk (at S.Store store.new) →
+        result ≡ Err (ExportFault.Store (StoreFault.Store None)) →
         IsTrue (at S.Store store.old).in_transaction }
     ensures idle { HasCleanDisk (at S.Store store.new) → LeavesIdle (at S.Store store.new) result }
 {

@@ -1,12 +1,13 @@
 //! A file written data record by data record, in a second walk.
 
-ghost use Rattle.std.specs.Prelude.{◌≡◌, ◌≢◌, ℕ, ◌*◌, ◌≤◌, ◌++◌, false, length, None, Err, IsTrue, IfOk, IfErr};
+ghost use Rattle.std.specs.Prelude.{◌≡◌, ◌≢◌, ℕ, ◌*◌, ◌≤◌, ◌++◌, false, length, None, Err, IsTrue};
+ghost use Rattle.std.specs.Prelude.{IfOk, IfErr};
 ghost use Rattle.std.specs.List.{flat_map};
 ghost use Rattle.sqlite.specs.State.{HasCleanDisk};
 ghost use Rattle.edf_header.specs.Key.{Key, MayStart};
 ghost use Rattle.edf_holdings.specs.Holdings.{Holdings};
 ghost use Rattle.edf_store.specs.Held.{at, Holds, Stays};
-ghost use Rattle.edf_store.specs.Walk.{IsBehind, StandsSomewhere};
+ghost use Rattle.edf_store.specs.Walk.{HasGivenFirst, IsSomeWalk};
 ghost use Rattle.edf_export.specs.File.{second_of, block_of, record_text};
 ghost use Rattle.edf_export.specs.Export.{IsExported, IsNotExported, LeavesIdle};
 ghost use Rattle.edf_export.specs.Inside.Output.{buffered};
@@ -57,11 +58,12 @@ fn put_walk<S: Alter, W: Output>(
     plan: Plan,
 ) -> Result<(), ExportFault>
     requires going { walk.old.failed ≡ false }
-    requires ready { StandsSomewhere walk.old.store.now.cap (at S.Store walk.old.store.now) walk.old.recording walk.old.after }
+    requires ready { IsSomeWalk walk.old.store.now.cap
+        (at S.Store walk.old.store.now) walk.old.recording walk.old.after }
     ensures same_reference { walk.new.store.ghost_name ≡ walk.old.store.ghost_name }
     ensures stays { Stays S.Store walk.old.store.now walk.new.store.now }
     ensures put { HasCleanDisk (at S.Store walk.new.store.now) → (h : Holdings) (k : Key) →
-        IsBehind walk.old.store.now.cap
+        HasGivenFirst walk.old.store.now.cap
         (at S.Store walk.old.store.now) walk.old.recording walk.old.after h k 0 →
         IsPlanOf k (h k) plan → IsPutOut (buffered W.Output out.old held.old.bytes.items)
         (buffered W.Output out.new held.new.bytes.items)
@@ -69,7 +71,8 @@ fn put_walk<S: Alter, W: Output>(
     ensures counted { CountsWriting (W.failures out.old) (W.failures out.new) result }
     ensures unfailed { result ≢ Err (ExportFault.Store StoreFault.Failed) }
     ensures caused { result ≢ Err (ExportFault.Store (StoreFault.Store None)) }
-    ensures idle { HasCleanDisk (at S.Store walk.new.store.now) → LeavesIdle (at S.Store walk.new.store.now) result }
+    ensures idle { HasCleanDisk (at S.Store walk.new.store.now) →
+        LeavesIdle (at S.Store walk.new.store.now) result }
 {
     let file_start = plan.first.second();
     let size = 2 * plan.samples as usize;
@@ -91,18 +94,22 @@ fn send_file<S: Alter, W: Output>(
     plan: Plan,
 ) -> Result<(), ExportFault>
     requires going { walk.old.failed ≡ false }
-    requires ready { StandsSomewhere walk.old.store.now.cap (at S.Store walk.old.store.now) walk.old.recording walk.old.after }
+    requires ready { IsSomeWalk walk.old.store.now.cap
+        (at S.Store walk.old.store.now) walk.old.recording walk.old.after }
     ensures same_reference { walk.new.store.ghost_name ≡ walk.old.store.ghost_name }
     ensures stays { Stays S.Store walk.old.store.now walk.new.store.now }
     ensures sent { HasCleanDisk (at S.Store walk.new.store.now) → (h : Holdings) (k : Key) →
-        IsBehind walk.old.store.now.cap (at S.Store walk.old.store.now) walk.old.recording walk.old.after h k 0 →
+        HasGivenFirst walk.old.store.now.cap
+        (at S.Store walk.old.store.now) walk.old.recording walk.old.after h k 0 →
         IsPlanOf k (h k) plan →
         IsSentOut (W.contents out.old) (W.contents out.new)
-        (header.now ++ flat_map (record_text (second_of plan.first) (2 * plan.samples)) (h k)) result }
+        (header.now
+        ++ flat_map (record_text (second_of plan.first) (2 * plan.samples)) (h k)) result }
     ensures counted { CountsWriting (W.failures out.old) (W.failures out.new) result }
     ensures unfailed { result ≢ Err (ExportFault.Store StoreFault.Failed) }
     ensures caused { result ≢ Err (ExportFault.Store (StoreFault.Store None)) }
-    ensures idle { HasCleanDisk (at S.Store walk.new.store.now) → LeavesIdle (at S.Store walk.new.store.now) result }
+    ensures idle { HasCleanDisk (at S.Store walk.new.store.now) →
+        LeavesIdle (at S.Store walk.new.store.now) result }
 {
     let mut held = Buffer::new(alloc);
     put(out, &mut held, header)?;
@@ -121,13 +128,15 @@ fn send_recording<S: Alter, W: Output>(
     plan: Plan,
 ) -> Result<(), ExportFault>
     ensures stays { Stays S.Store store.old store.new }
-    ensures sent { HasCleanDisk (at S.Store store.new) → (h : Holdings) → Holds S.Store store.old h →
-        IsPlanOf identity.now (h identity.now) plan →
+    ensures sent { HasCleanDisk (at S.Store store.new) → (h : Holdings) →
+        Holds S.Store store.old h → IsPlanOf identity.now (h identity.now) plan →
         IsSentOut (W.contents out.old) (W.contents out.new)
-        (header.now ++ flat_map (record_text (second_of plan.first) (2 * plan.samples)) (h identity.now)) result }
+        (header.now ++ flat_map
+        (record_text (second_of plan.first) (2 * plan.samples)) (h identity.now)) result }
     ensures counted { CountsWriting (W.failures out.old) (W.failures out.new) result }
     ensures unfailed { result ≢ Err (ExportFault.Store StoreFault.Failed) }
-    ensures caused { result ≡ Err (ExportFault.Store (StoreFault.Store None)) → IsTrue (at S.Store store.old).in_transaction }
+    ensures caused { result ≡ Err (ExportFault.Store (StoreFault.Store None)) →
+        IsTrue (at S.Store store.old).in_transaction }
     ensures idle { HasCleanDisk (at S.Store store.new) → LeavesIdle (at S.Store store.new) result }
 {
     let mut walk = store.records(identity)?;
@@ -146,17 +155,19 @@ pub(crate) fn write_planned<S: Alter, W: Output>(
     requires samples { (1 ≤ plan.samples) × (plan.samples ≤ 725_023) }
     requires may_start { MayStart identity.now plan.first }
     ensures stays { Stays S.Store store.old store.new }
-    ensures exported { HasCleanDisk (at S.Store store.new) → IfOk result (λ len. (h : Holdings) → Holds S.Store store.old h →
-        IsPlanOf identity.now (h identity.now) plan →
+    ensures exported { HasCleanDisk (at S.Store store.new) → IfOk result (λ len. (h : Holdings) →
+        Holds S.Store store.old h → IsPlanOf identity.now (h identity.now) plan →
         IsExported (W.contents out.old) (W.contents out.new) identity.now (h identity.now) len) }
-    ensures refused { HasCleanDisk (at S.Store store.new) → IfErr result (λ fault. (h : Holdings) → Holds S.Store store.old h →
-        IsPlanOf identity.now (h identity.now) plan →
-        IsNotExported (W.contents out.old) (W.contents out.new) identity.now (h identity.now) fault) }
+    ensures refused { HasCleanDisk (at S.Store store.new) → IfErr result (λ fault. (h : Holdings) →
+        Holds S.Store store.old h → IsPlanOf identity.now (h identity.now) plan →
+        IsNotExported (W.contents out.old) (W.contents out.new) identity.now
+        (h identity.now) fault) }
     ensures counted { CountsWriting (W.failures out.old) (W.failures out.new) result }
     ensures unfailed { result ≢ Err (ExportFault.Store StoreFault.Failed) }
-    ensures caused { result ≡ Err (ExportFault.Store (StoreFault.Store None)) → IsTrue (at S.Store store.old).in_transaction }
-    ensures idle { HasCleanDisk (at S.Store store.new) → (at S.Store store.old).in_transaction ≡ false →
-        LeavesIdle (at S.Store store.new) result }
+    ensures caused { result ≡ Err (ExportFault.Store (StoreFault.Store None)) →
+        IsTrue (at S.Store store.old).in_transaction }
+    ensures idle { HasCleanDisk (at S.Store store.new) →
+        (at S.Store store.old).in_transaction ≡ false → LeavesIdle (at S.Store store.new) result }
 {
     let Plan {
         records,

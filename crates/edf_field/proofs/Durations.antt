@@ -12,7 +12,7 @@ use Rattle.std.specs.Str.Parse.{AllDigits, digits_value}
 use Rattle.edf_time.specs.Decimal.{IsDecimal, IsFine, IsSeconds, IsDecimalFault, fraction_value as places}
 use Rattle.edf_time.specs.declared.decimal.DecimalFault.{DecimalFault}
 use Rattle.edf_time.specs.declared.decimal.DecimalFault.TheVariants.{Syntax, TooFine, TooLarge}
-use Rattle.edf_field.specs.Number.{AreSpaces, digits, behind_digits, fraction, front_len, IsDuration, duration_of}
+use Rattle.edf_field.specs.Number.{AreSpaces, digits, after_digits, fraction, front_len, IsDuration, duration_of}
 use Rattle.edf_field.specs.Grammar.{AreDigits, point_text}
 use Rattle.edf_field.proofs.Grammar.{front, after, tail-off, fraction-is, spaces-are}
 
@@ -51,18 +51,18 @@ whole-of t w f rest d s =
     ap (λ (l : List ℕ). l ++ rest) (shape t w f d) ∙ append_assoc w (point_text (point f)) rest ∙ ap (λ (l : List ℕ). w ++ (point_text (point f) ++ l)) (spaces-are rest n refl s) in
     ap digits e ∙ front w (point_text (point f) ++ replicate n 32) (digits-are w (whole-digits t w f d)) (tail-off (point f) n)
 
-fraction-of : (t w f rest : List ℕ) → IsDecimal t w f → AreSpaces rest → fraction (behind_digits (t ++ rest)) ≡ f
+fraction-of : (t w f rest : List ℕ) → IsDecimal t w f → AreSpaces rest → fraction (after_digits (t ++ rest)) ≡ f
 fraction-of t w f rest d s =
     let n = length rest in
     let e : t ++ rest ≡ w ++ (point_text (point f) ++ replicate n 32) =
     ap (λ (l : List ℕ). l ++ rest) (shape t w f d) ∙ append_assoc w (point_text (point f)) rest ∙ ap (λ (l : List ℕ). w ++ (point_text (point f) ++ l)) (spaces-are rest n refl s) in
-    ap (λ (l : List ℕ). fraction (behind_digits l)) e
+    ap (λ (l : List ℕ). fraction (after_digits l)) e
     ∙ ap fraction (after w (point_text (point f) ++ replicate n 32) (digits-are w (whole-digits t w f d)) (tail-off (point f) n))
     ∙ fraction-is (point f) n (subst AreDigits (sym (unpoint f)) (digits-are f (fraction-digits t w f d))) ∙ unpoint f
 
 seconds-value : (t rest : List ℕ) (n : ℕ) → IsSeconds t n → AreSpaces rest → n ≡ duration_of (t ++ rest)
 seconds-value t rest n s r =
-    s.value ∙ sym (ap (λ x. digits_value 10 x * 10 ^ 9 + places (10 ^ 8) (fraction (behind_digits (t ++ rest)))) (whole-of t s.whole s.fraction rest s.parts r)
+    s.value ∙ sym (ap (λ x. digits_value 10 x * 10 ^ 9 + places (10 ^ 8) (fraction (after_digits (t ++ rest)))) (whole-of t s.whole s.fraction rest s.parts r)
     ∙ ap (λ x. digits_value 10 s.whole * 10 ^ 9 + places (10 ^ 8) x) (fraction-of t s.whole s.fraction rest s.parts r))
 
 -- a field is the text before its first space, and the rest

@@ -7,7 +7,7 @@ use Rattle.std.specs.Prelude.{All, IsTrue, replicate, ◌||◌}
 use Rattle.std.specs.Option.{unwrap_or}
 use Rattle.std.specs.Char.{is_ascii_digit}
 use Rattle.std.specs.Str.Parse.{digits_value}
-use Rattle.edf_field.specs.Number.{behind_digits, behind_fraction, digits, digits_len, fraction, unsigned}
+use Rattle.edf_field.specs.Number.{after_digits, after_fraction, digits, digits_len, fraction, unsigned}
 use Rattle.edf_field.specs.Grammar.{AreDigits, IsSpelledAs, point_text, sign_text, spelled}
 
 len-at : (ds rest : List ℕ) → AreDigits ds → is_ascii_digit (get_or rest 0 0) ≡ false → digits_len (ds ++ rest) ≡ length ds
@@ -19,7 +19,7 @@ len-at (d ∷ ds) rest all off = rw all.0 (omega (arith, len-at ds rest all.1 of
 pub front : (ds rest : List ℕ) → AreDigits ds → is_ascii_digit (get_or rest 0 0) ≡ false → digits (ds ++ rest) ≡ ds
 front ds rest all off = rw (len-at ds rest all off) (take_at ds rest (length ds) refl)
 
-pub after : (ds rest : List ℕ) → AreDigits ds → is_ascii_digit (get_or rest 0 0) ≡ false → behind_digits (ds ++ rest) ≡ rest
+pub after : (ds rest : List ℕ) → AreDigits ds → is_ascii_digit (get_or rest 0 0) ≡ false → after_digits (ds ++ rest) ≡ rest
 after ds rest all off = rw (len-at ds rest all off) (drop_at ds rest (length ds) refl)
 
 no-sign : (d : ℕ) → IsTrue (is_ascii_digit d) → ((d == 43) || (d == 45)) ≡ false
@@ -47,7 +47,7 @@ pub fraction-is : (point : Option (List ℕ)) (n : ℕ) → AreDigits (unwrap_or
 fraction-is None n all = rw (padding n).1 refl
 fraction-is (Some ds) n all = front ds (replicate n 32) all (padding n).0
 
-pub rest-is : (point : Option (List ℕ)) (n : ℕ) → AreDigits (unwrap_or point []) → behind_fraction (point_text point ++ replicate n 32) ≡ replicate n 32
+pub rest-is : (point : Option (List ℕ)) (n : ℕ) → AreDigits (unwrap_or point []) → after_fraction (point_text point ++ replicate n 32) ≡ replicate n 32
 rest-is None n all = rw (padding n).1 refl
 rest-is (Some ds) n all = after ds (replicate n 32) all (padding n).0
 
@@ -57,13 +57,13 @@ read-as sign d ds point n all more =
     let u : unsigned (spelled sign (d ∷ ds) point n) ≡ d ∷ ds ++ rest = unsigned-is sign d ds rest all.0 in
     let off = tail-off point n in
     let l : digits_len (d ∷ ds ++ rest) ≡ length (d ∷ ds) = len-at (d ∷ ds) rest all off in
-    let b : behind_digits (d ∷ ds ++ rest) ≡ rest = after (d ∷ ds) rest all off in
+    let b : after_digits (d ∷ ds ++ rest) ≡ rest = after (d ∷ ds) rest all off in
     let w : digits (d ∷ ds ++ rest) ≡ d ∷ ds = front (d ∷ ds) rest all off in
-    let f : fraction (behind_digits (unsigned (spelled sign (d ∷ ds) point n))) ≡ unwrap_or point [] = ap (λ x. fraction (behind_digits x)) u ∙ ap fraction b ∙ fraction-is point n more in
-    let r : behind_fraction (behind_digits (unsigned (spelled sign (d ∷ ds) point n))) ≡ replicate n 32 = ap (λ x. behind_fraction (behind_digits x)) u ∙ ap behind_fraction b ∙ rest-is point n more in
+    let f : fraction (after_digits (unsigned (spelled sign (d ∷ ds) point n))) ≡ unwrap_or point [] = ap (λ x. fraction (after_digits x)) u ∙ ap fraction b ∙ fraction-is point n more in
+    let r : after_fraction (after_digits (unsigned (spelled sign (d ∷ ds) point n))) ≡ replicate n 32 = ap (λ x. after_fraction (after_digits x)) u ∙ ap after_fraction b ∙ rest-is point n more in
     record {
       is_physical = (omega (arith, ap digits_len u ∙ l), subst (All (λ x. x ≡ 32)) (sym r) (All-replicate (λ (x : ℕ). x ≡ 32) n 32 refl));
       places_are = ap length f;
-      size_is = ap (λ x. digits_value 10 x * 10 ^ length (fraction (behind_digits (unsigned (spelled sign (d ∷ ds) point n)))) + digits_value 10 (fraction (behind_digits (unsigned (spelled sign (d ∷ ds) point n))))) (ap digits u ∙ w)
+      size_is = ap (λ x. digits_value 10 x * 10 ^ length (fraction (after_digits (unsigned (spelled sign (d ∷ ds) point n)))) + digits_value 10 (fraction (after_digits (unsigned (spelled sign (d ∷ ds) point n))))) (ap digits u ∙ w)
           ∙ ap (λ x. digits_value 10 (d ∷ ds) * 10 ^ length x + digits_value 10 x) f;
     }

@@ -9,7 +9,7 @@ use Rattle.std.specs.Prelude.{IsTrue, replicate, ℤ}
 use Rattle.std.specs.Option.{unwrap_or}
 use Rattle.std.specs.Char.{is_ascii_digit}
 use Rattle.std.specs.Str.Parse.{digits_value}
-use Rattle.edf_field.specs.Number.{AreSpaces, behind_digits, behind_fraction, digits, digits_len, fraction, unsigned, signed, IsWhole, whole_value, IsSigned, signed_value, IsPhysical, fraction_len, unscaled, scaled}
+use Rattle.edf_field.specs.Number.{AreSpaces, after_digits, after_fraction, digits, digits_len, fraction, unsigned, signed, IsWhole, whole_value, IsSigned, signed_value, IsPhysical, fraction_len, unscaled, scaled}
 use Rattle.edf_field.specs.Grammar.{AreDigits, point_text, sign_text, filled, with_sign, IsNumberText, IsWholeText, IsSignedText, IsPhysicalText}
 use Rattle.edf_field.proofs.Grammar.{front, after, unsigned-is, spaces-are, tail-off, read-as}
 use Rattle.edf_field.proofs.Numbers.{front-digits}
@@ -23,7 +23,7 @@ by-index (d ∷ ds) at = (at 0 (omega arith), by-index ds (λ k lt. at (suc k) (
 front-are : (text : List ℕ) → AreDigits (digits text)
 front-are text = by-index (digits text) (front-digits text)
 
-split : (text : List ℕ) → text ≡ digits text ++ behind_digits text
+split : (text : List ℕ) → text ≡ digits text ++ after_digits text
 split text = sym (take-append-drop (digits_len text) text)
 
 front-len : (text : List ℕ) → length (digits text) ≡ digits_len text
@@ -47,7 +47,7 @@ sign-of (b ∷ bs) = sign-by b bs (b == 43) (b == 45) refl refl
 -- its dot with the digits after it, and what follows them
 record PointOf (text : List ℕ) : Type 0 where
   point : Option (List ℕ)
-  parts : text ≡ point_text point ++ behind_fraction text
+  parts : text ≡ point_text point ++ after_fraction text
   part : fraction text ≡ unwrap_or point []
   digits_in : AreDigits (unwrap_or point [])
 
@@ -68,11 +68,11 @@ whole-read : (text ds : List ℕ) (n : ℕ) → text ≡ ds ++ replicate n 32 �
 whole-read text ds n e some all =
     let off = tail-off None n in
     let w : digits text ≡ ds = ap digits e ∙ front ds (replicate n 32) all off in
-    let b : behind_digits text ≡ replicate n 32 = ap behind_digits e ∙ after ds (replicate n 32) all off in
+    let b : after_digits text ≡ replicate n 32 = ap after_digits e ∙ after ds (replicate n 32) all off in
     ((omega (arith, front-len text, ap length w), subst AreSpaces (sym b) (are-spaces n)), ap (digits_value 10) w)
 
-whole-spelled : (text : List ℕ) → IsWhole text → text ≡ digits text ++ replicate (length (behind_digits text)) 32
-whole-spelled text w = split text ∙ ap (λ (x : List ℕ). digits text ++ x) (spaces-are (behind_digits text) (length (behind_digits text)) refl w.1)
+whole-spelled : (text : List ℕ) → IsWhole text → text ≡ digits text ++ replicate (length (after_digits text)) 32
+whole-spelled text w = split text ∙ ap (λ (x : List ℕ). digits text ++ x) (spaces-are (after_digits text) (length (after_digits text)) refl w.1)
 
 pub whole-texts : (text : List ℕ) (n : ℕ) → (IsWhole text × (n ≡ whole_value text) → IsWholeText text n) × (IsWholeText text n → IsWhole text × (n ≡ whole_value text))
 whole-texts text n = (
@@ -82,7 +82,7 @@ whole-texts text n = (
       some = omega (arith, front-len text, w.0);
       whole_digits = front-are text;
       part_digits = tt;
-      spaces = length (behind_digits text);
+      spaces = length (after_digits text);
       spelling = whole-spelled text w;
     },
     v,
@@ -105,7 +105,7 @@ signed-to text z (w, v) =
         some = omega (arith, front-len u, w.0);
         whole_digits = front-are u;
         part_digits = tt;
-        spaces = length (behind_digits u);
+        spaces = length (after_digits u);
         spelling = s.parts ∙ ap (λ (x : List ℕ). sign_text s.sign ++ x) (whole-spelled u w);
       },
       v ∙ ap (λ (b : Bool). signed b (whole_value u)) s.minus,
@@ -135,7 +135,7 @@ physical-to : (text : List ℕ) (at : ℕ) (z : ℤ) → IsPhysical text × (fra
 physical-to text at z (p, le, v) =
     let s = sign-of text in
     let u : List ℕ = unsigned text in
-    let f = point-of (behind_digits u) in
+    let f = point-of (after_digits u) in
     let few : fraction_len text ≡ length (unwrap_or f.point []) = ap length f.part in
     record {
       sign = s.sign;
@@ -145,9 +145,9 @@ physical-to text at z (p, le, v) =
         some = omega (arith, front-len u, p.0);
         whole_digits = front-are u;
         part_digits = f.digits_in;
-        spaces = length (behind_fraction (behind_digits u));
+        spaces = length (after_fraction (after_digits u));
         spelling = s.parts ∙ ap (λ (x : List ℕ). sign_text s.sign ++ x) (split u ∙ ap (λ (x : List ℕ). digits u ++ x)
-            (f.parts ∙ ap (λ (x : List ℕ). point_text f.point ++ x) (spaces-are (behind_fraction (behind_digits u)) (length (behind_fraction (behind_digits u))) refl p.1)));
+            (f.parts ∙ ap (λ (x : List ℕ). point_text f.point ++ x) (spaces-are (after_fraction (after_digits u)) (length (after_fraction (after_digits u))) refl p.1)));
       };
       places_in = omega (arith, few, le);
       value = v ∙ scaled-is text (digits u) (unwrap_or f.point []) s.sign at s.minus few (ap (λ (x : List ℕ). digits_value 10 (digits u) * 10 ^ length x + digits_value 10 x) f.part);

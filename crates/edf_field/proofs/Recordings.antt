@@ -4,7 +4,7 @@ use Rattle.std.specs.Prelude.{codes}
 use Rattle.std.proofs.lemmas.List.{get_or-take, take-take, get_or-drop}
 use Rattle.edf_time.proofs.Cited.{in-bounds, one-id_day}
 use Rattle.edf_field.specs.Number.{field}
-use Rattle.edf_field.specs.Text.{IsStartdate, IsRecording, IsBehindStartdate}
+use Rattle.edf_field.specs.Text.{IsStartdate, IsRecording, FollowsStartdate}
 use Rattle.edf_time.specs.Civil.{IsIdDate}
 
 -- X is no date
@@ -32,5 +32,5 @@ no-day f other none None after p = other (sym (get_or-take 11 f 10 0 (omega arit
 no-day f other none (Some day) after p = none day p.1
 
 -- what follows the Startdate subfield is as it must be, or the field is no recording identification
-pub not-behind : (f : List ℕ) (s : Option ℤ) (after : List ℕ) → IsStartdate f s after → ¬ IsBehindStartdate after → (r : Option ℤ) (rest : List ℕ) → ¬ IsRecording f r rest
-not-behind f s after front none r rest p = none (subst IsBehindStartdate (one-after f r s rest after p.front front).1 p.behind)
+pub not-behind : (f : List ℕ) (s : Option ℤ) (after : List ℕ) → IsStartdate f s after → ¬ FollowsStartdate after → (r : Option ℤ) (rest : List ℕ) → ¬ IsRecording f r rest
+not-behind f s after front none r rest p = none (subst FollowsStartdate (one-after f r s rest after p.front front).1 p.behind)

@@ -6,7 +6,7 @@ use Rattle.std.proofs.lemmas.Bool.Decides.{nat_tests}
 use Rattle.std.proofs.lemmas.List.{take_at, drop_at}
 use Rattle.std.proofs.lemmas.List.Elements.{All-replicate}
 use Rattle.edf_time.proofs.Cited.{digit_only}
-use Rattle.edf_field.specs.Number.{AreSpaces, digits_len, digits, behind_digits, IsNumber}
+use Rattle.edf_field.specs.Number.{AreSpaces, digits_len, digits, after_digits, IsNumber}
 use Rattle.edf_field.specs.Text.{spaces}
 
 digit-passes : (b : ℕ) → 48 ≤ b → b ≤ 57 → is_ascii_digit b ≡ true
@@ -28,7 +28,7 @@ numeral-number ds m n (some, all) value =
     let t : List ℕ = ds ++ spaces m in
     let end : digits_len t ≡ length ds = digits-end ds m all in
     let front : digits t ≡ ds = ap (λ (k : ℕ). take k t) end ∙ take_at ds (spaces m) (length ds) refl in
-    let rest : behind_digits t ≡ spaces m = ap (λ (k : ℕ). drop k t) end ∙ drop_at ds (spaces m) (length ds) refl in
+    let rest : after_digits t ≡ spaces m = ap (λ (k : ℕ). drop k t) end ∙ drop_at ds (spaces m) (length ds) refl in
     record {
       whole = (omega arith, subst AreSpaces (sym rest) (All-replicate (λ (b : ℕ). b ≡ 32) m 32 refl));
       value = sym value ∙ ap (digits_value 10) (sym front);

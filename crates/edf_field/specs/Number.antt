@@ -21,12 +21,12 @@ abbrev pub digits : List ℕ → List ℕ
 digits text = take (digits_len text) text
 
 -- what follows them
-abbrev pub behind_digits : List ℕ → List ℕ
-behind_digits text = drop (digits_len text) text
+abbrev pub after_digits : List ℕ → List ℕ
+after_digits text = drop (digits_len text) text
 
 -- a whole number: one digit or more, leading zeros allowed
 abbrev pub IsWhole : List ℕ → Type 0
-IsWhole text = (0 < digits_len text) × AreSpaces (behind_digits text)
+IsWhole text = (0 < digits_len text) × AreSpaces (after_digits text)
 
 abbrev pub whole_value : List ℕ → ℕ
 whole_value text = digits_value 10 (digits text)
@@ -54,19 +54,19 @@ signed_value text = signed (slice_index text 0 == 45) (whole_value (unsigned tex
 abbrev pub fraction : List ℕ → List ℕ
 fraction text = if slice_index text 0 == 46 then digits (drop 1 text) else []
 
-abbrev pub behind_fraction : List ℕ → List ℕ
-behind_fraction text = if slice_index text 0 == 46 then behind_digits (drop 1 text) else text
+abbrev pub after_fraction : List ℕ → List ℕ
+after_fraction text = if slice_index text 0 == 46 then after_digits (drop 1 text) else text
 
 -- a physical value: a sign or none, one digit or more, then maybe a dot and zero or more digits
 abbrev pub IsPhysical : List ℕ → Type 0
-IsPhysical text = (0 < digits_len (unsigned text)) × AreSpaces (behind_fraction (behind_digits (unsigned text)))
+IsPhysical text = (0 < digits_len (unsigned text)) × AreSpaces (after_fraction (after_digits (unsigned text)))
 
 -- how many digits are after its dot, and the number that all its digits write
 abbrev pub fraction_len : List ℕ → ℕ
-fraction_len text = length (fraction (behind_digits (unsigned text)))
+fraction_len text = length (fraction (after_digits (unsigned text)))
 
 abbrev pub unscaled : List ℕ → ℕ
-unscaled text = digits_value 10 (digits (unsigned text)) * 10 ^ fraction_len text + digits_value 10 (fraction (behind_digits (unsigned text)))
+unscaled text = digits_value 10 (digits (unsigned text)) * 10 ^ fraction_len text + digits_value 10 (fraction (after_digits (unsigned text)))
 
 -- its value, `more` decimal places further on
 abbrev pub scaled : List ℕ → ℕ → ℤ
@@ -88,4 +88,4 @@ pub record IsDuration (text : List ℕ) (nanos : ℕ) : Type 0 where
 
 -- the nanoseconds that the digits of a duration write; a law says that no duration has another value
 abbrev pub duration_of : List ℕ → ℕ
-duration_of text = digits_value 10 (digits text) * 10 ^ 9 + decimal_places (10 ^ 8) (fraction (behind_digits text))
+duration_of text = digits_value 10 (digits text) * 10 ^ 9 + decimal_places (10 ^ 8) (fraction (after_digits text))

@@ -38,7 +38,7 @@ pub record IsPatient (text : List ℕ) : Type 0 where
   pub is_birthdate : IsBirthdate birthdate
 
 -- what follows the Startdate subfield: a space, and at least investigation, technician and equipment code
-pub record IsBehindStartdate (after : List ℕ) : Type 0 where
+pub record FollowsStartdate (after : List ℕ) : Type 0 where
   pub space : take 1 after ≡ codes " "
   pub codes_in : 3 ≤ length (subfields after)
 
@@ -56,4 +56,4 @@ after_of (Some day) recording = drop 21 recording
 -- the recording identification
 pub record IsRecording (text : List ℕ) (startdate : Option ℤ) (after : List ℕ) : Type 0 where
   pub front : IsStartdate text startdate after
-  pub behind : IsBehindStartdate after
+  pub behind : FollowsStartdate after

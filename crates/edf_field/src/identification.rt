@@ -1,9 +1,12 @@
-//! The patient and the recording identification, and their subfields: the parts between runs of spaces.
+//! The patient and the recording identification, and their subfields: the parts between runs of
+//! spaces.
 
-ghost use Rattle.std.specs.Prelude.{◌≡◌, ◌∷◌, ◌==◌, [], not, MatchOption, ◌↔◌, IsTrue, ◌≤◌, List, ℕ, ℤ, Option, length};
+ghost use Rattle.std.specs.Prelude.{◌≡◌, ◌∷◌, ◌==◌, [], not, MatchOption, ◌↔◌, IsTrue, ◌≤◌, List};
+ghost use Rattle.std.specs.Prelude.{ℕ, ℤ, Option, length};
 ghost use Rattle.std.specs.List.{prefix_len};
 ghost use Rattle.edf_field.specs.Number.{front_len};
-ghost use Rattle.edf_field.specs.Text.{subfields, IsPatient, IsSex, IsBirthdate, IsStartdate, IsRecording, IsBehindStartdate};
+ghost use Rattle.edf_field.specs.Text.{subfields, IsPatient, IsSex, IsBirthdate, IsStartdate};
+ghost use Rattle.edf_field.specs.Text.{IsRecording, FollowsStartdate};
 
 use edf_time::{Day, id_date};
 
@@ -31,10 +34,11 @@ pub(crate) fn front_len(text: &[u8]) -> usize
     text.len()
 }
 
-/// The first subfield of a text, and what follows it; `None` where the text has only spaces, or nothing.
+/// The first subfield of a text, and what follows it; `None` where the text has only spaces, or
+/// nothing.
 ///
-/// Subfields are the parts between runs of spaces, in the patient and the recording identification (EDF+, additional
-/// specifications).
+/// Subfields are the parts between runs of spaces, in the patient and the recording identification
+/// (EDF+, additional specifications).
 pub fn next_subfield(text: &[u8]) -> Option<(&[u8], &[u8])>
     ensures { MatchOption result
         (subfields text.now ≡ [])
@@ -61,10 +65,11 @@ fn is_birthdate(text: &[u8]) -> bool
     text == b"X".as_slice() || id_date(text).is_some()
 }
 
-/// Whether a text is a patient identification: code, sex `F`, `M` or `X`, birthdate `dd-MMM-yyyy` or `X`, and name, and maybe
-/// more subfields.
+/// Whether a text is a patient identification: code, sex `F`, `M` or `X`, birthdate `dd-MMM-yyyy`
+/// or `X`, and name, and maybe more subfields.
 ///
-/// In a header it has 80 bytes, 8 to 87, filled with spaces (EDF, header record; EDF+, additional specifications).
+/// In a header it has 80 bytes, 8 to 87, filled with spaces (EDF, header record; EDF+, additional
+/// specifications).
 pub fn is_patient(text: &[u8]) -> bool
     ensures { IsTrue result ↔ IsPatient text.now }
 {
@@ -93,12 +98,12 @@ fn has_three(text: &[u8]) -> bool
     next_subfield(rest).is_some()
 }
 
-/// Whether what follows a Startdate subfield is a space, and has an investigation code, a technician and an equipment code, and
-/// maybe more subfields (EDF+, additional specifications).
+/// Whether what follows a Startdate subfield is a space, and has an investigation code, a
+/// technician and an equipment code, and maybe more subfields (EDF+, additional specifications).
 ///
 /// In a recording field it is the 59 bytes after a date, or the 69 after `X`.
 pub fn is_behind_startdate(after: &[u8]) -> bool
-    ensures { IsTrue result ↔ IsBehindStartdate after.now }
+    ensures { IsTrue result ↔ FollowsStartdate after.now }
 {
     match after {
         [b' ', ..] => has_three(after),
@@ -126,11 +131,13 @@ fn read_startdate(text: &[u8]) -> Option<(Option<Day>, &[u8])>
     Some((Some(day), &text[21..]))
 }
 
-/// Reads a recording field, 80 bytes, 88 to 167 of a header: the day of its Startdate subfield, or none where that is `X`; and
-/// what follows it, 59 or 69 bytes (EDF, header record; EDF+, additional specifications).
+/// Reads a recording field, 80 bytes, 88 to 167 of a header: the day of its Startdate subfield, or
+/// none where that is `X`; and what follows it, 59 or 69 bytes (EDF, header record; EDF+,
+/// additional specifications).
 ///
-/// `None` where the field does not begin with `Startdate` and one space, where neither a date `dd-MMM-yyyy` nor `X` follows, or
-/// where what follows that is not as `is_behind_startdate` has it.
+/// `None` where the field does not begin with `Startdate` and one space, where neither a date
+/// `dd-MMM-yyyy` nor `X` follows, or where what follows that is not as `is_behind_startdate` has
+/// it.
 pub fn read_recording(text: &[u8]) -> Option<(Option<Day>, &[u8])>
     requires { length text.now ≡ 80 }
     ensures { MatchOption result

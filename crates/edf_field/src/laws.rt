@@ -6,12 +6,16 @@ ghost use Rattle.edf_field.specs.Grammar.{AreDigits, IsSpelledAs, spelled};
 
 /// A physical value spelled out is read as its digits.
 pub fn physical_read()
-    ensures { (sign : Option Bool) (d : ℕ) (ds : List ℕ) (point : Option (List ℕ)) (n : ℕ) → AreDigits (d ∷ ds) → AreDigits (unwrap_or point [])
-        → IsSpelledAs (spelled sign (d ∷ ds) point n) (d ∷ ds) (unwrap_or point []) }
+    ensures { (sign : Option Bool) (d : ℕ) (ds : List ℕ) (point : Option (List ℕ)) (n : ℕ) →
+        AreDigits (d ∷ ds) → AreDigits (unwrap_or point []) →
+        IsSpelledAs (spelled sign (d ∷ ds) point n) (d ∷ ds) (unwrap_or point []) }
 {}
 
-/// A duration field has one value, that of its digits, and one of eight bytes at most 100,000,000 seconds.
+/// A duration field has one value, that of its digits, and one of eight bytes at most 100,000,000
+/// seconds.
 pub fn duration_value()
-    ensures value { (field : List ℕ) (nanos : ℕ) → IsDuration field nanos → nanos ≡ duration_of field }
-    ensures bound { (field : List ℕ) (nanos : ℕ) → length field ≤ 8 → IsDuration field nanos → nanos ≤ 10 ^ 17 }
+    ensures value { (field : List ℕ) (nanos : ℕ) → IsDuration field nanos →
+        nanos ≡ duration_of field }
+    ensures bound { (field : List ℕ) (nanos : ℕ) → length field ≤ 8 → IsDuration field nanos →
+        nanos ≤ 10 ^ 17 }
 {}

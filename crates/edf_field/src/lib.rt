@@ -4,9 +4,11 @@
 //!   which only spaces follow.
 //! - [`read_duration`]: the duration of a data record.
 //! - [`next_subfield`]: the subfields of an identification, one after the other.
-//! - [`is_patient`], [`read_recording`], [`is_behind_startdate`]: the patient and the recording identification.
+//! - [`is_patient`], [`read_recording`], [`is_behind_startdate`]: the patient and the recording
+//!   identification.
 //! - [`laws_grammar`]: number texts are read exactly where the grammar has them.
-//! - [`laws`]: what the definitions of these texts come to; functions that do nothing, each with a law for a contract.
+//! - [`laws`]: what the definitions of these texts come to; functions that do nothing, each with a
+//!   law for a contract.
 #![tactic(auto)]
 
 mod identification;

@@ -1,7 +1,9 @@
-ghost use Rattle.std.specs.Prelude.{◌≡◌, ℕ, ◌+◌, ◌^◌, ◌≤◌, ◌<◌, ◌↔◌, length, slice_index, MatchOption, IsTrue};
+ghost use Rattle.std.specs.Prelude.{◌≡◌, ℕ, ◌+◌, ◌^◌, ◌≤◌, ◌<◌, ◌↔◌, length, slice_index};
+ghost use Rattle.std.specs.Prelude.{MatchOption, IsTrue};
 ghost use Rattle.std.specs.Char.{is_ascii_digit};
 ghost use Rattle.std.specs.Str.Parse.{digits_value};
-ghost use Rattle.edf_field.specs.Number.{AreSpaces, digits_len, digits, behind_digits, IsWhole, whole_value, unsigned, IsSigned, signed_value, IsDuration};
+ghost use Rattle.edf_field.specs.Number.{AreSpaces, digits_len, digits, after_digits, IsWhole};
+ghost use Rattle.edf_field.specs.Number.{whole_value, unsigned, IsSigned, signed_value, IsDuration};
 
 use crate::identification::front_len;
 use edf_time::read_seconds;
@@ -20,7 +22,8 @@ fn digits_end(text: &[u8]) -> usize
 
 /// The number that at most eight digits write.
 pub(crate) fn read_digits(text: &[u8]) -> u32
-    requires digits { (k : ℕ) → k < length text.now → IsTrue (is_ascii_digit (slice_index text.now k)) }
+    requires digits { (k : ℕ) → k < length text.now →
+        IsTrue (is_ascii_digit (slice_index text.now k)) }
     requires short { length text.now ≤ 8 }
     ensures value { result ≡ digits_value 10 text.now }
     ensures bound { result < 10 ^ length text.now }
@@ -54,8 +57,9 @@ pub(crate) fn without_sign(text: &[u8]) -> &[u8]
 /// The digits at the front, and what follows them.
 pub(crate) fn split_digits(text: &[u8]) -> (&[u8], &[u8])
     ensures digits { result.0.now ≡ digits text.now }
-    ensures rest { result.1.now ≡ behind_digits text.now }
-    ensures each { (k : ℕ) → k < length result.0.now → IsTrue (is_ascii_digit (slice_index result.0.now k)) }
+    ensures rest { result.1.now ≡ after_digits text.now }
+    ensures each { (k : ℕ) → k < length result.0.now →
+        IsTrue (is_ascii_digit (slice_index result.0.now k)) }
     ensures len { length result.0.now + length result.1.now ≡ length text.now }
 {
     text.split_at(digits_end(text))
@@ -64,11 +68,13 @@ pub(crate) fn split_digits(text: &[u8]) -> (&[u8], &[u8])
 /// Reads a field of at most eight bytes as a whole number, at most 99,999,999: one digit or more,
 /// leading zeros allowed, and then only spaces. `None` for any other text.
 ///
-/// In a header: the bytes in it, 184 to 191; the data records, 236 to 243; the signals, 252 to 255; and each signal's samples per
-/// data record, 8 bytes at 216 of its row of 256 (EDF, header record).
+/// In a header: the bytes in it, 184 to 191; the data records, 236 to 243; the signals, 252 to 255;
+/// and each signal's samples per data record, 8 bytes at 216 of its row of 256 (EDF, header
+/// record).
 pub fn read_whole(field: &[u8]) -> Option<u32>
     requires { length field.now ≤ 8 }
-    ensures { MatchOption result (¬ IsWhole field.now) (λ n. IsWhole field.now × (n ≡ whole_value field.now) × (n < 100_000_000)) }
+    ensures { MatchOption result (¬ IsWhole field.now)
+        (λ n. IsWhole field.now × (n ≡ whole_value field.now) × (n < 100_000_000)) }
 {
     let (digits, rest) = split_digits(field);
     if digits.is_empty() || !are_spaces(rest) {
@@ -80,10 +86,12 @@ pub fn read_whole(field: &[u8]) -> Option<u32>
 /// Reads a field of at most eight bytes as a whole number after a sign or none, and then only
 /// spaces. `None` for any other text.
 ///
-/// In a header: each signal's digital minimum and maximum, 8 bytes at 120 and 8 at 128 of its row of 256 (EDF, header record).
+/// In a header: each signal's digital minimum and maximum, 8 bytes at 120 and 8 at 128 of its row
+/// of 256 (EDF, header record).
 pub fn read_signed(field: &[u8]) -> Option<i32>
     requires { length field.now ≤ 8 }
-    ensures { MatchOption result (¬ IsSigned field.now) (λ z. IsSigned field.now × (z ≡ signed_value field.now)) }
+    ensures { MatchOption result (¬ IsSigned field.now)
+        (λ z. IsSigned field.now × (z ≡ signed_value field.now)) }
 {
     let size = read_whole(without_sign(field))? as i32;
     if let [b'-', ..] = field {

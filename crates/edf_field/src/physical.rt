@@ -1,6 +1,8 @@
-ghost use Rattle.std.specs.Prelude.{◌≡◌, ◌≢◌, ℕ, ◌-◌, ◌*◌, ◌^◌, ◌≤◌, ◌<◌, ◌↔◌, ◌==◌, length, slice_index, MatchOption, IsTrue};
+ghost use Rattle.std.specs.Prelude.{◌≡◌, ◌≢◌, ℕ, ◌-◌, ◌*◌, ◌^◌, ◌≤◌, ◌<◌, ◌↔◌, ◌==◌, length};
+ghost use Rattle.std.specs.Prelude.{slice_index, MatchOption, IsTrue};
 ghost use Rattle.std.specs.Char.{is_ascii_digit};
-ghost use Rattle.edf_field.specs.Number.{fraction, behind_fraction, IsPhysical, fraction_len, unscaled, signed, Differ};
+ghost use Rattle.edf_field.specs.Number.{fraction, after_fraction, IsPhysical, fraction_len};
+ghost use Rattle.edf_field.specs.Number.{unscaled, signed, Differ};
 
 use crate::number::{are_spaces, read_digits, split_digits, without_sign};
 
@@ -17,8 +19,9 @@ struct Physical {
 /// The digits after a dot, where one is at the front, and what follows.
 fn split_fraction(text: &[u8]) -> (&[u8], &[u8])
     ensures digits { result.0.now ≡ fraction text.now }
-    ensures rest { result.1.now ≡ behind_fraction text.now }
-    ensures each { (k : ℕ) → k < length result.0.now → IsTrue (is_ascii_digit (slice_index result.0.now k)) }
+    ensures rest { result.1.now ≡ after_fraction text.now }
+    ensures each { (k : ℕ) → k < length result.0.now →
+        IsTrue (is_ascii_digit (slice_index result.0.now k)) }
     ensures len { length result.0.now ≤ length text.now - 1 }
 {
     match text {
@@ -32,7 +35,8 @@ fn read_physical(field: &[u8]) -> Option<Physical>
     requires { length field.now ≤ 8 }
     ensures { MatchOption result
         (¬ IsPhysical field.now)
-        (λ p. IsPhysical field.now × (p.negative ≡ (slice_index field.now 0 == 45)) × (p.unscaled ≡ unscaled field.now) × (p.fraction_len ≡ fraction_len field.now)) }
+        (λ p. IsPhysical field.now × (p.negative ≡ (slice_index field.now 0 == 45))
+        × (p.unscaled ≡ unscaled field.now) × (p.fraction_len ≡ fraction_len field.now)) }
 {
     let (whole, rest) = split_digits(without_sign(field));
     let (fraction, rest) = split_fraction(rest);
@@ -49,21 +53,25 @@ fn read_physical(field: &[u8]) -> Option<Physical>
 
 /// Whether two values differ, a zero having no sign.
 fn differ(a: Physical, b: Physical) -> bool
-    ensures { IsTrue result ↔ (signed a.negative (a.unscaled * 10 ^ b.fraction_len) ≢ signed b.negative (b.unscaled * 10 ^ a.fraction_len)) }
+    ensures { IsTrue result ↔ (signed a.negative (a.unscaled * 10 ^ b.fraction_len)
+        ≢ signed b.negative (b.unscaled * 10 ^ a.fraction_len)) }
 {
     let a_unscaled = u64::from(a.unscaled) * 10u64.pow(b.fraction_len);
     let b_unscaled = u64::from(b.unscaled) * 10u64.pow(a.fraction_len);
     a_unscaled != b_unscaled || (a.negative != b.negative && a_unscaled != 0)
 }
 
-/// Whether two texts of at most eight bytes are physical values that differ as numbers: a sign or none, one digit or more, maybe a
-/// dot and zero or more digits, and then only spaces. Also false where one of them is no such text.
+/// Whether two texts of at most eight bytes are physical values that differ as numbers: a sign or
+/// none, one digit or more, maybe a dot and zero or more digits, and then only spaces. Also false
+/// where one of them is no such text.
 ///
-/// In a header: each signal's physical minimum and maximum, 8 bytes at 104 and 8 at 112 of its row of 256 (EDF, header record).
+/// In a header: each signal's physical minimum and maximum, 8 bytes at 104 and 8 at 112 of its row
+/// of 256 (EDF, header record).
 pub fn physical_values_differ(minimum: &[u8], maximum: &[u8]) -> bool
     requires minimum { length minimum.now ≤ 8 }
     requires maximum { length maximum.now ≤ 8 }
-    ensures { IsTrue result ↔ IsPhysical minimum.now × IsPhysical maximum.now × Differ minimum.now maximum.now }
+    ensures { IsTrue result
+        ↔ IsPhysical minimum.now × IsPhysical maximum.now × Differ minimum.now maximum.now }
 {
     match (read_physical(minimum), read_physical(maximum)) {
         (Some(low), Some(high)) => differ(low, high),

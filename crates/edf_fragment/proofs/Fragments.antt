@@ -12,7 +12,7 @@ use Rattle.edf_tal.specs.Block.{IsBlocksFault}
 use Rattle.edf_fragment.specs.Fragment.{DataRecord, AreDataRecords, blocks, Spells}
 use Rattle.edf_fragment.specs.Fault.{ReadsUpTo, IsCutRecord, IsRefusedBlock, IsTrailing, IsFirstFault}
 use Rattle.edf_fragment.specs.Reading.{ReadsHeader, ReadsHeaderFault, IsOpenFault, EndsThere, EndsInRecord, RefusesBlock, FindsMore, IsNextFault, IsNext, at_first, progress_after, AnswersIn, IsAnswer}
-use Rattle.edf_fragment.specs.Whole.{HasRead, FailsBehind, ReadsFragment, IsFirstWhereKnown, IsFragmentFault}
+use Rattle.edf_fragment.specs.Whole.{HasRead, FailsAfterRecords, ReadsFragment, IsFirstWhereKnown, IsFragmentFault}
 use Rattle.edf_fragment.specs.Inside.Steps.{ReadsRecords}
 use Rattle.edf_fragment.specs.declared.advance.Progress.{Progress}
 use Rattle.edf_fragment.specs.declared.advance.Status.{Status}
@@ -135,7 +135,7 @@ behind_header left mid two rest a b h rs p Read x y is are given f = tt
 behind_header left mid two rest a b h rs p Memory x y is are given f = tt
 behind_header left mid two rest a b h rs p e x y is are given f = absurd f
 
-pub records_refused : (left mid rest : Option (List ℕ)) (l : Layout) (e : FragmentFault) → ReadsHeader left mid l → FailsBehind l mid rest e → IsFragmentFault left rest e
+pub records_refused : (left mid rest : Option (List ℕ)) (l : Layout) (e : FragmentFault) → ReadsHeader left mid l → FailsAfterRecords l mid rest e → IsFragmentFault left rest e
 records_refused left mid rest l e a b =
     let are = subst (λ (x : Layout). AreDataRecords x First b.before.bytes b.records b.progress.place []) a.layout_is b.before.are_records in
     let fault = subst (λ (x : Layout). IsNextFault x b.progress b.mid rest e) a.layout_is b.is_fault in

@@ -8,7 +8,7 @@ use Rattle.edf_tal.specs.declared.place.Place.{Place}
 use Rattle.edf_tal.specs.declared.place.Place.TheVariants.{First}
 use Rattle.edf_tal.specs.declared.place.TalFault.{TalFault}
 use Rattle.edf_tal.proofs.Cited.{blocks-one-read, blocks-read-no-fault, blocks-one-fault}
-use Rattle.edf_fragment.specs.Fragment.{DataRecord, IsDataRecord, AreDataRecords, place_behind, blocks, Spells}
+use Rattle.edf_fragment.specs.Fragment.{DataRecord, IsDataRecord, AreDataRecords, place_after, blocks, Spells}
 use Rattle.edf_fragment.specs.Fault.{ReadsUpTo, IsCutRecord, IsRefusedBlock, IsTrailing, IsFirstFault}
 use Rattle.edf_fragment.specs.declared.fault.FragmentFault.{FragmentFault}
 use Rattle.edf_fragment.specs.declared.fault.FragmentFault.TheVariants.{Header as BadHeader, CutRecord, Tal, Trailing}
@@ -42,9 +42,9 @@ goes_on l f p q b x y (r ∷ rs) [] few are more = absurd (omega arith)
 goes_on l f p q b x y (r ∷ rs) (s ∷ ss) few (front, back, parts, one, are) (front2, back2, parts2, one2, are2) =
     let same = same_front b front back front2 back2 parts parts2 (one.len ∙ sym one2.len) in
     let first : r ≡ s = one-record l f front2 r s (subst (λ (z : List ℕ). IsDataRecord l f z r) same.front one) one2 in
-    let here = subst (λ (z : DataRecord). AreDataRecords l (place_behind l z.start) back rs p x) first are in
-    let there = subst (λ (z : List ℕ). AreDataRecords l (place_behind l s.start) z rs p x) same.back here in
-    let rest = goes_on l (place_behind l s.start) p q back2 x y rs ss (omega arith) there are2 in
+    let here = subst (λ (z : DataRecord). AreDataRecords l (place_after l z.start) back rs p x) first are in
+    let there = subst (λ (z : List ℕ). AreDataRecords l (place_after l s.start) z rs p x) same.back here in
+    let rest = goes_on l (place_after l s.start) p q back2 x y rs ss (omega arith) there are2 in
     let all : s ∷ ss ≡ (r ∷ rs) ++ rest.others = ap (λ (z : List DataRecord). s ∷ z) rest.all ∙ ap (λ (z : DataRecord). z ∷ (rs ++ rest.others)) (sym first) in
     record { others = rest.others; all = all; are_records = rest.are_records }
 

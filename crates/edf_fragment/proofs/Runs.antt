@@ -10,7 +10,7 @@ use Rattle.edf_header.specs.declared.fault.HeaderFault.{HeaderFault}
 use Rattle.edf_header.specs.declared.fault.HeaderFault.TheVariants.{Cut, Unprintable, Version, Patient, Recording, Startdate, Starttime, DatesDiffer, NotPlus, Count, Duration, Signals, HeaderBytes, CutSignals, UnprintableSignals, Annotations, Physical, Digital, Samples, Size, Memory}
 use Rattle.edf_tal.specs.declared.place.Place.{Place}
 use Rattle.edf_tal.specs.declared.place.Place.TheVariants.{First}
-use Rattle.edf_fragment.specs.Fragment.{DataRecord, IsDataRecord, AreDataRecords, place_behind}
+use Rattle.edf_fragment.specs.Fragment.{DataRecord, IsDataRecord, AreDataRecords, place_after}
 use Rattle.edf_fragment.specs.Reading.{GivesRecord, AnswersIn, IsAnswer, progress_after}
 use Rattle.edf_fragment.specs.Whole.{HasRead}
 use Rattle.edf_fragment.specs.declared.advance.Progress.{Progress}
@@ -22,7 +22,7 @@ use Rattle.edf_fragment.proofs.HeaderParts.{field_front}
 
 -- one more record at the end
 pub AreDataRecords-snoc : (l : Layout) (p q : Place) (b front : List ℕ) (rs : List DataRecord) (r : DataRecord)
-    → AreDataRecords l p b rs q [] → IsDataRecord l q front r → AreDataRecords l p (b ++ front) (rs ++ r ∷ []) (place_behind l r.start) []
+    → AreDataRecords l p b rs q [] → IsDataRecord l q front r → AreDataRecords l p (b ++ front) (rs ++ r ∷ []) (place_after l r.start) []
 AreDataRecords-snoc l p q b front [] r (place, rest) is =
     let all : b ++ front ≡ front ++ [] = ap (λ (x : List ℕ). x ++ front) (sym rest) ∙ sym (append-nil front) in
     (front, [], all, subst (λ (x : Place). IsDataRecord l x front r) place is, (refl, refl))
@@ -31,7 +31,7 @@ AreDataRecords-snoc l p q b front (x ∷ rs) r (first, back, parts, one, more) i
   back ++ front,
   ap (λ (y : List ℕ). y ++ front) parts ∙ append_assoc first back front,
   one,
-  AreDataRecords-snoc l (place_behind l x.start) q back front rs r more is,
+  AreDataRecords-snoc l (place_after l x.start) q back front rs r more is,
 )
 
 -- more bytes that are left
@@ -43,7 +43,7 @@ AreDataRecords-more l p q b rest more (x ∷ rs) (first, back, parts, one, other
   back ++ more,
   ap (λ (y : List ℕ). y ++ more) parts ∙ append_assoc first back more,
   one,
-  AreDataRecords-more l (place_behind l x.start) q back rest more rs others,
+  AreDataRecords-more l (place_after l x.start) q back rest more rs others,
 )
 
 -- ---- headers
@@ -143,7 +143,7 @@ next_of l p q mid rest o r going answer is =
 pub reads_more : (l : Layout) (left mid rest : Option (List ℕ)) (rs : List DataRecord) (p q : Progress) (r : DataRecord) → HasRead l left mid rs p
     → q ≡ progress_after l p (Ok (Some r)) → GivesRecord l p mid rest r → HasRead l left rest (rs ++ r ∷ []) q
 reads_more l left mid rest rs p q r before is gives =
-    let place : q.place ≡ place_behind l r.start = ap (λ (x : Progress). x.place) is in
+    let place : q.place ≡ place_after l r.start = ap (λ (x : Progress). x.place) is in
     let given : q.given ≡ p.given + 1 = ap (λ (x : Progress). x.given) is in
     let more = AreDataRecords-snoc l First p.place before.bytes gives.bytes rs r before.are_records gives.is_record in
     record {

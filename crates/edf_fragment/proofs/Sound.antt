@@ -16,8 +16,8 @@ use Rattle.edf_tal.specs.Block.{AreRead, KeepsPlace}
 use Rattle.edf_tal.specs.declared.place.Place.{Place}
 use Rattle.edf_tal.specs.declared.place.Place.TheVariants.{First, After, Any}
 use Rattle.edf_tal.proofs.Cited.{blocks-read-start, blocks-read-annotations}
-use Rattle.edf_fragment.specs.Fragment.{DataRecord, IsDataRecord, AreDataRecords, place_behind, ordinary_bytes, Spells}
-use Rattle.edf_fragment.specs.Sound.{IsKept, IsSoundRecord, AreSound, MayBegin}
+use Rattle.edf_fragment.specs.Fragment.{DataRecord, IsDataRecord, AreDataRecords, place_after, ordinary_bytes, Spells}
+use Rattle.edf_fragment.specs.Sound.{IsValidRecord, IsSoundRecord, AreSound, MayBegin}
 use Rattle.edf_fragment.specs.Reading.{ReadsHeader, IsNext}
 use Rattle.edf_fragment.specs.Whole.{HasRead}
 use Rattle.edf_fragment.specs.declared.advance.Progress.{Progress}
@@ -54,7 +54,7 @@ sound-record l place bytes r in_layout is = record {
 
 -- such a record may be kept in memory
 pub read-kept : (bs : List (List ℕ)) (file_start : ℕ) (place : Place) (start : ℕ) (samples : List ℕ) (list : List Annotation) → length samples ≤ 4_194_304
-    → AreRead bs file_start place start list → IsKept (record { start = start; samples = samples; annotations = list })
+    → AreRead bs file_start place start list → IsValidRecord (record { start = start; samples = samples; annotations = list })
 read-kept bs file_start place start samples list few read = record {
   size = record { samples = few; annotations = read.limits };
   start = blocks-read-start _ _ _ _ _ read;
@@ -76,7 +76,7 @@ are-sound l place bytes [] last rest in_layout are = tt
 are-sound l place bytes (r ∷ rs) last rest in_layout (front, back, parts, is, more) = (
   sound-record l place front r in_layout is,
   low-start _ _ _ _ _ is.read,
-  are-sound l (place_behind l r.start) back rs last rest in_layout more,
+  are-sound l (place_after l r.start) back rs last rest in_layout more,
 )
 
 -- ---- the first of them

@@ -10,7 +10,7 @@ use Rattle.edf_tal.specs.Block.{AreRead}
 use Rattle.edf_tal.specs.declared.place.Place.{Place}
 use Rattle.edf_tal.specs.declared.place.Place.TheVariants.{First}
 use Rattle.edf_tal.proofs.Cited.{blocks-some-answer}
-use Rattle.edf_fragment.specs.Fragment.{DataRecord, IsDataRecord, AreDataRecords, place_behind, blocks, ordinary_bytes, Spells}
+use Rattle.edf_fragment.specs.Fragment.{DataRecord, IsDataRecord, AreDataRecords, place_after, blocks, ordinary_bytes, Spells}
 use Rattle.edf_fragment.specs.Fault.{ReadsUpTo, IsFirstFault}
 use Rattle.edf_fragment.specs.declared.fault.FragmentFault.{FragmentFault}
 use Rattle.edf_fragment.specs.declared.fault.FragmentFault.TheVariants.{Header as BadHeader, CutRecord, Tal, Trailing}
@@ -20,11 +20,11 @@ use Rattle.edf_fragment.proofs.OneFragment.{one-fragment, spelled-no-fault, one-
 
 -- one more data record, at the front of what is left
 AreDataRecords-next : (l : Layout) (p q : Place) (b left front back : List ℕ) (rs : List DataRecord) (r : DataRecord)
-    → AreDataRecords l p b rs q left → left ≡ front ++ back → IsDataRecord l q front r → AreDataRecords l p b (rs ++ r ∷ []) (place_behind l r.start) back
+    → AreDataRecords l p b rs q left → left ≡ front ++ back → IsDataRecord l q front r → AreDataRecords l p b (rs ++ r ∷ []) (place_after l r.start) back
 AreDataRecords-next l p q b left front back [] r (place, rest) parts is =
     (front, back, sym rest ∙ parts, subst (λ (x : Place). IsDataRecord l x front r) place is, (refl, refl))
 AreDataRecords-next l p q b left front back (x ∷ rs) r (first, others, halves, one, more) parts is =
-    (first, others, halves, one, AreDataRecords-next l (place_behind l x.start) q others left front back rs r more parts is)
+    (first, others, halves, one, AreDataRecords-next l (place_after l x.start) q others left front back rs r more parts is)
 
 -- a key and data records, or a fault
 abbrev pub HasAnswer : List ℕ → Type 0
@@ -87,7 +87,7 @@ module _ (b : List ℕ) (h : HeaderRecord) (rest : List ℕ) (is : IsHeader b h 
               let size = (layout_of h).record_bytes in
               let one = next-record last left r.0 r.1 whole r.2 in
               let new : DataRecord = record { start = r.0; samples = ordinary_bytes (layout_of h) (take size left); annotations = r.1 } in
-              walk n (rs ++ new ∷ []) (place_behind (layout_of h) r.0) (drop size left)
+              walk n (rs ++ new ∷ []) (place_after (layout_of h) r.0) (drop size left)
               (AreDataRecords-next (layout_of h) First last rest left (take size left) (drop size left) rs new are (sym (take-append-drop size left)) one)
               (omega (arith, all, length-append rs (new ∷ [])))
           | inr f ↦ inr (Tal (length rs + 1) f.0, record { up_to = up-to rs last left are; is_nth = refl; may_come = omega (arith, all); whole = whole; refused = f.1 })

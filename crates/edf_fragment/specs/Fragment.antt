@@ -40,8 +40,8 @@ pub record IsDataRecord (l : Layout) (place : Place) (bytes : List ℕ) (r : Dat
   pub samples_are : r.samples ≡ ordinary_bytes l bytes
 
 -- the place of the record after one that starts there
-abbrev pub place_behind : Layout → ℕ → Place
-place_behind l start = After start (duration_of l.key.duration)
+abbrev pub place_after : Layout → ℕ → Place
+place_after l start = After start (duration_of l.key.duration)
 
 -- the bytes begin with these data records, the first at `place`; the next would be at `last`, and
 -- the rest is left
@@ -49,7 +49,7 @@ abbrev pub AreDataRecords : Layout → Place → List ℕ → List DataRecord �
 AreDataRecords l place bytes [] last rest = (last ≡ place) × (rest ≡ bytes)
 AreDataRecords l place bytes (r ∷ rs) last rest =
     (front : List ℕ) × (back : List ℕ) × (bytes ≡ front ++ back) × IsDataRecord l place front r
-    × AreDataRecords l (place_behind l r.start) back rs last rest
+    × AreDataRecords l (place_after l r.start) back rs last rest
 
 -- the bytes spell a key and a list of data records, as many as the header says, or, where its count is -1, 1 to 99,999,999;
 -- and nothing follows them

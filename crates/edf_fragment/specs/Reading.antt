@@ -10,7 +10,7 @@ use Rattle.edf_tal.specs.Block.{IsBlocksFault}
 use Rattle.edf_tal.specs.declared.place.Place.TheVariants.{First}
 use Rattle.edf_tal.specs.declared.place.TalFault.{TalFault}
 use Rattle.edf_fragment.specs.Failures.{one_more}
-use Rattle.edf_fragment.specs.Fragment.{DataRecord, IsDataRecord, blocks, place_behind}
+use Rattle.edf_fragment.specs.Fragment.{DataRecord, IsDataRecord, blocks, place_after}
 use Rattle.edf_fragment.specs.declared.advance.Progress.{Progress}
 use Rattle.edf_fragment.specs.declared.advance.Status.{Status}
 use Rattle.edf_fragment.specs.declared.advance.Status.TheVariants.{Reading, Ended, Stopped}
@@ -47,7 +47,7 @@ pub record EndsThere (l : Layout) (from : Progress) (left rest : Option (List �
 
 -- how far it is after an answer: after one more record, after the end, after a fault
 abbrev pub progress_after : Layout → Progress → Result (Option DataRecord) FragmentFault → Progress
-progress_after l from (Ok (Some r)) = record { given = from.given + 1; place = place_behind l r.start; status = Reading }
+progress_after l from (Ok (Some r)) = record { given = from.given + 1; place = place_after l r.start; status = Reading }
 progress_after l from (Ok None) = record from { status = Ended }
 progress_after l from (Err fault) = record from { status = Stopped }
 
@@ -106,8 +106,8 @@ pub record ReadsInSignals (left rest : Option (List ℕ)) : Type 0 where
   pub fewer : length second < 256 * fixed.signal_count
 
 -- a read failed before the last byte of the next record; or, where no more may come, before any byte
-abbrev pub FailsThere : Layout → Progress → Option (List ℕ) → Option (List ℕ) → Type 0
-FailsThere l from left rest =
+abbrev pub FailsToReadRecord : Layout → Progress → Option (List ℕ) → Option (List ℕ) → Type 0
+FailsToReadRecord l from left rest =
     ((from.given < most_records l.count) × ReadsFewer l.record_bytes left rest)
     ⊎ ((from.given ≡ most_records l.count) × Consumes left rest [])
 
@@ -148,7 +148,7 @@ abbrev pub IsNextFault : Layout → Progress → Option (List ℕ) → Option (L
 IsNextFault l from left rest (CutRecord nth) = EndsInRecord l from left rest nth
 IsNextFault l from left rest (Tal nth fault) = RefusesBlock l from left rest nth fault
 IsNextFault l from left rest Trailing = FindsMore l from left rest
-IsNextFault l from left rest Read = FailsThere l from left rest
+IsNextFault l from left rest Read = FailsToReadRecord l from left rest
 IsNextFault l from left rest Memory = LacksRecordMemory l from left rest
 IsNextFault l from left rest fault = ⊥
 

@@ -11,7 +11,7 @@ use Rattle.edf_fragment.specs.Fragment.{DataRecord, IsWithinSize}
 
 -- a data record in memory: within the limits, with a start in the window, and annotations that each have an onset and a
 -- duration in the window and a text of UTF-8 that a TAL can hold
-pub record IsKept (r : DataRecord) : Type 0 where
+pub record IsValidRecord (r : DataRecord) : Type 0 where
   pub size : IsWithinSize r
   pub start : r.start < window
   pub notes : AllByRecursion IsAnnotation r.annotations

@@ -27,7 +27,7 @@ pub record HasRead (l : Layout) (left rest : Option (List ℕ)) (records : List 
   pub within : p.given ≤ most_records l.count
 
 -- some data records were read, and then came the fault
-pub record FailsBehind (l : Layout) (left rest : Option (List ℕ)) (fault : FragmentFault) : Type 0 where
+pub record FailsAfterRecords (l : Layout) (left rest : Option (List ℕ)) (fault : FragmentFault) : Type 0 where
   pub mid : Option (List ℕ)
   pub records : List DataRecord
   pub progress : Progress
@@ -35,11 +35,11 @@ pub record FailsBehind (l : Layout) (left rest : Option (List ℕ)) (fault : Fra
   pub is_fault : IsNextFault l progress mid rest fault
 
 -- a header and some data records were read, and then came the fault
-pub record FailsBehindHeader (left rest : Option (List ℕ)) (fault : FragmentFault) : Type 0 where
+pub record FailsAfterHeader (left rest : Option (List ℕ)) (fault : FragmentFault) : Type 0 where
   pub layout : Layout
   pub mid : Option (List ℕ)
   pub header : ReadsHeader left mid layout
-  pub behind : FailsBehind layout mid rest fault
+  pub behind : FailsAfterRecords layout mid rest fault
 
 -- where the bytes are known, a fault of theirs is the first of all of them; a failed read tells nothing of them, nor does out of memory
 abbrev pub IsFirstWhereKnown : Option (List ℕ) → FragmentFault → Type 0
@@ -51,5 +51,5 @@ IsFirstWhereKnown left fault = IfSome left (λ all. IsFirstFault all fault)
 -- why an input gives no fragment: the fault came in the header, or after it and some data records; no more was read than the bytes
 -- of these and those of the fault
 pub record IsFragmentFault (left rest : Option (List ℕ)) (fault : FragmentFault) : Type 0 where
-  pub place : IsOpenFault left rest fault ⊎ FailsBehindHeader left rest fault
+  pub place : IsOpenFault left rest fault ⊎ FailsAfterHeader left rest fault
   pub first : IsFirstWhereKnown left fault

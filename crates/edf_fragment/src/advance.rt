@@ -5,7 +5,8 @@ ghost use Rattle.std.specs.Prelude.{IfOk, IfSome, MatchResult};
 ghost use Rattle.std.specs.Bool.{MatchBool};
 ghost use Rattle.std.specs.Io.KnownBytes.{Consumes};
 ghost use Rattle.edf_header.specs.Header.{IsLayout, least_records, most_records, block_bytes};
-ghost use Rattle.edf_fragment.specs.Reading.{EndsThere, IsNextFault, IsNext, CountsAnswer, progress_after};
+ghost use Rattle.edf_fragment.specs.Reading.{EndsThere, IsNextFault, IsNext, CountsAnswer};
+ghost use Rattle.edf_fragment.specs.Reading.{progress_after};
 ghost use Rattle.edf_fragment.specs.Inside.Buffers.{HaveRoom};
 ghost use Rattle.edf_fragment.specs.Inside.Steps.{ReadsEnd, IsEndFault};
 
@@ -174,7 +175,8 @@ fn read_record<R: Input>(
 
 /// Tells whether nothing follows the last data record.
 fn find_end<R: Input>(input: &mut R) -> Result<(), FragmentFault>
-    ensures step { MatchResult result (λ _. ReadsEnd (R.remaining input.old) (R.remaining input.new))
+    ensures step { MatchResult result
+        (λ _. ReadsEnd (R.remaining input.old) (R.remaining input.new))
         (IsEndFault (R.remaining input.old) (R.remaining input.new)) }
     ensures counted { CountsAnswer (R.failures input.old) (R.failures input.new) result }
 {
@@ -197,7 +199,8 @@ pub(crate) fn record_or_end<R: Input>(
     requires within { progress.given ≤ most_records header.now.count }
     requires room { HaveRoom header.now buffers.old }
     ensures room { HaveRoom header.now buffers.new }
-    ensures step { IsNext header.now progress (R.remaining input.old) (R.remaining input.new) result }
+    ensures step { IsNext header.now progress
+        (R.remaining input.old) (R.remaining input.new) result }
     ensures counted { CountsAnswer (R.failures input.old) (R.failures input.new) result }
 {
     if progress.given < most_given(header) {

@@ -1,5 +1,6 @@
 //! Laws of fragments: each function has a law for a contract, and does nothing.
-ghost use Rattle.std.specs.Prelude.{◌≡◌, ℕ, ◌++◌, ◌∷◌, [], ◌⊎◌, ◌≤◌, ◌<◌, List, length, Option, Some, None, Ok, Err};
+ghost use Rattle.std.specs.Prelude.{◌≡◌, ℕ, ◌++◌, ◌∷◌, [], ◌⊎◌, ◌≤◌, ◌<◌, List, length, Option};
+ghost use Rattle.std.specs.Prelude.{Some, None, Ok, Err};
 ghost use Rattle.edf_field.specs.Number.{duration_of};
 ghost use Rattle.edf_header.specs.Key.{Key, IsKey};
 ghost use Rattle.edf_header.specs.Header.{HeaderRecord, Layout, layout_of};
@@ -15,8 +16,9 @@ ghost use Rattle.edf_fragment.specs.declared.advance.Status.TheVariants.{Reading
 ghost use Rattle.edf_fragment.specs.declared.fault.FragmentFault.{FragmentFault};
 ghost use Rattle.edf_fragment.specs.declared.fault.FragmentFault.TheVariants.{Read, Memory};
 
-/// A data record holds the bytes of each signal in turn, two for each of its samples (EDF, data records): its annotations
-/// blocks are those of the annotations signals, and its ordinary bytes those of the others, joined.
+/// A data record holds the bytes of each signal in turn, two for each of its samples (EDF, data
+/// records): its annotations blocks are those of the annotations signals, and its ordinary bytes
+/// those of the others, joined.
 pub fn signals_in_turn()
     ensures blocks { (header : HeaderRecord) (bytes : List ℕ) →
         blocks (layout_of header) bytes ≡ annotations_blocks header.signals bytes }
@@ -46,17 +48,20 @@ pub fn one_fault()
 /// Each list of bytes tells one thing: a key with its data records, or a first fault.
 pub fn each_tells_one()
     ensures some { (bytes : List ℕ) → (told : Told) × Tells bytes told }
-    ensures one { (bytes : List ℕ) (told other : Told) → Tells bytes told → Tells bytes other → told ≡ other }
+    ensures one { (bytes : List ℕ) (told other : Told) → Tells bytes told →
+        Tells bytes other → told ≡ other }
 {}
 
 /// What bytes that spell a fragment give it: a key that headers name, with a duration above 0; and
 /// 1 to 99,999,999 data records, where the header's count is unknown too, that lie in the window,
 /// at least a duration apart, and keep the limits; the first before 2085 where the key has no date.
 pub fn records_are_sound()
-    ensures key { (bytes : List ℕ) (key : Key) (records : List DataRecord) → Spells bytes key records → IsKey key }
+    ensures key { (bytes : List ℕ) (key : Key) (records : List DataRecord) →
+        Spells bytes key records → IsKey key }
     ensures lasting { (bytes : List ℕ) (key : Key) (records : List DataRecord) →
         Spells bytes key records → 0 < duration_of key.duration }
-    ensures some { (bytes : List ℕ) (key : Key) (records : List DataRecord) → Spells bytes key records → 1 ≤ length records }
+    ensures some { (bytes : List ℕ) (key : Key) (records : List DataRecord) →
+        Spells bytes key records → 1 ≤ length records }
     ensures few { (bytes : List ℕ) (key : Key) (records : List DataRecord) →
         Spells bytes key records → length records ≤ 99_999_999 }
     ensures sound { (bytes : List ℕ) (key : Key) (records : List DataRecord) →
@@ -65,15 +70,20 @@ pub fn records_are_sound()
         Spells bytes key records → MayBegin key records }
 {}
 
-/// The data records that were read so far are sound under a key that headers name, whose recording may begin with the first;
-/// and they are the first of those that all the bytes spell, where these are known and spell a fragment.
+/// The data records that were read so far are sound under a key that headers name, whose recording
+/// may begin with the first; and they are the first of those that all the bytes spell, where these
+/// are known and spell a fragment.
 pub fn records_so_far()
-    ensures key { (left rest : Option (List ℕ)) (l : Layout) → ReadsHeader left rest l → IsKey l.key }
-    ensures sound { (left one two : Option (List ℕ)) (l : Layout) (records : List DataRecord) (p : Progress) →
-        ReadsHeader left one l → HasRead l one two records p → AreSound l.key 0 records }
-    ensures begins { (left one two : Option (List ℕ)) (l : Layout) (records : List DataRecord) (p : Progress) →
-        ReadsHeader left one l → HasRead l one two records p → MayBegin l.key records }
-    ensures front { (bytes : List ℕ) (one two : Option (List ℕ)) (l : Layout) (records : List DataRecord) (p : Progress)
+    ensures key { (left rest : Option (List ℕ)) (l : Layout) →
+        ReadsHeader left rest l → IsKey l.key }
+    ensures sound { (left one two : Option (List ℕ)) (l : Layout) (records : List DataRecord)
+        (p : Progress) → ReadsHeader left one l → HasRead l one two records p →
+        AreSound l.key 0 records }
+    ensures begins { (left one two : Option (List ℕ)) (l : Layout) (records : List DataRecord)
+        (p : Progress) → ReadsHeader left one l → HasRead l one two records p →
+        MayBegin l.key records }
+    ensures front { (bytes : List ℕ) (one two : Option (List ℕ)) (l : Layout)
+        (records : List DataRecord) (p : Progress)
         (key : Key) (spelled : List DataRecord) →
         ReadsHeader (Some bytes) one l → HasRead l one two records p → Spells bytes key spelled →
         (key ≡ l.key) × ((later : List DataRecord) × (spelled ≡ records ++ later)) }
@@ -84,14 +94,16 @@ pub fn records_so_far()
 /// them what they mean for the whole input.
 pub fn answers_join()
     ensures none { (l : Layout) (left : Option (List ℕ)) → HasRead l left left [] at_first }
-    ensures more { (l : Layout) (left mid rest : Option (List ℕ)) (records : List DataRecord) (p q : Progress) (r : DataRecord) →
-        HasRead l left mid records p → p.status ≡ Reading → IsAnswer l p q mid rest (Ok (Some r)) →
+    ensures more { (l : Layout) (left mid rest : Option (List ℕ)) (records : List DataRecord)
+        (p q : Progress) (r : DataRecord) → HasRead l left mid records p → p.status ≡ Reading →
+        IsAnswer l p q mid rest (Ok (Some r)) →
         HasRead l left rest (records ++ r ∷ []) q × (q.status ≡ Reading) }
-    ensures end { (l : Layout) (left one two rest : Option (List ℕ)) (records : List DataRecord) (p q : Progress) →
-        ReadsHeader left one l → HasRead l one two records p → p.status ≡ Reading → IsAnswer l p q two rest (Ok None) →
-        ReadsFragment left rest l records }
-    ensures fault { (l : Layout) (left one two rest : Option (List ℕ)) (records : List DataRecord) (p q : Progress) (fault : FragmentFault) →
-        ReadsHeader left one l → HasRead l one two records p → p.status ≡ Reading → IsAnswer l p q two rest (Err fault) →
+    ensures end { (l : Layout) (left one two rest : Option (List ℕ)) (records : List DataRecord)
+        (p q : Progress) → ReadsHeader left one l → HasRead l one two records p →
+        p.status ≡ Reading → IsAnswer l p q two rest (Ok None) → ReadsFragment left rest l records }
+    ensures fault { (l : Layout) (left one two rest : Option (List ℕ)) (records : List DataRecord)
+        (p q : Progress) (fault : FragmentFault) → ReadsHeader left one l →
+        HasRead l one two records p → p.status ≡ Reading → IsAnswer l p q two rest (Err fault) →
         IsFragmentFault left rest fault }
     ensures refused { (left rest : Option (List ℕ)) (fault : FragmentFault) →
         IsOpenFault left rest fault → IsFragmentFault left rest fault }
@@ -99,8 +111,10 @@ pub fn answers_join()
 
 /// What was read is what all the bytes spell, or have for their first fault, where these are known.
 pub fn known_bytes()
-    ensures fragment { (bytes : List ℕ) (rest : Option (List ℕ)) (l : Layout) (records : List DataRecord) →
-        ReadsFragment (Some bytes) rest l records → Spells bytes l.key records }
+    ensures fragment { (bytes : List ℕ) (rest : Option (List ℕ)) (l : Layout)
+        (records : List DataRecord) → ReadsFragment (Some bytes) rest l records →
+        Spells bytes l.key records }
     ensures fault { (bytes : List ℕ) (rest : Option (List ℕ)) (fault : FragmentFault) →
-        IsFragmentFault (Some bytes) rest fault → (fault ≡ Read) ⊎ ((fault ≡ Memory) ⊎ IsFirstFault bytes fault) }
+        IsFragmentFault (Some bytes) rest fault →
+        (fault ≡ Read) ⊎ ((fault ≡ Memory) ⊎ IsFirstFault bytes fault) }
 {}

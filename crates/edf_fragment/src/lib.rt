@@ -1,23 +1,29 @@
-//! Fragments: EDF+ files, read data record by data record from any reader, in whatever pieces it gives them.
+//! Fragments: EDF+ files, read data record by data record from any reader, in whatever pieces it
+//! gives them.
 //!
-//! No byte is read before it is asked for, and the first fault of the bytes is told by its number and place.
+//! No byte is read before it is asked for, and the first fault of the bytes is told by its number
+//! and place.
 //!
 //! A header counts the data records, or says by -1 that their number is unknown. Then there are
 //! as many as follow, at least one and at most 99,999,999, and the fragment ends where the input
 //! ends after a whole data record. A data record has a block for each annotations signal: the
 //! first keeps time, and the annotations of all of them are joined in file order.
 //!
-//! - [`FragmentReader`]: a header, and then one data record at a time. [`OpenFragment`]: the same, where the input stays with
-//!   the caller. [`Progress`], [`Status`]: how far a reader is.
+//! - [`FragmentReader`]: a header, and then one data record at a time. [`OpenFragment`]: the same,
+//!   where the input stays with the caller. [`Progress`], [`Status`]: how far a reader is.
 //! - [`read_fragment`]: the header and all data records, read into memory.
-//! - [`Record`]: a data record. [`FragmentFault`]: why a fragment is refused, E1 to E29, or can't be read, E40 and E41.
-//! - [`Input`], [`Output`]: readers and writers whose contracts also count the calls that failed, so that a refusal for a failed
-//!   read or write is told only where one failed. [`Counted`]: one of any reader or writer of std.
-//! - [`fill`], [`Filled`]: a buffer filled from an input, in whatever pieces it comes. [`send`]: all of some bytes, to an output.
-//! - [`each_tells_one`], [`one_fragment`], [`one_fault`], [`no_fault_where_spelled`]: each list of bytes spells one fragment or
-//!   has one first fault, and never both. [`records_are_sound`], [`records_so_far`]: what holds of the data records of a
-//!   fragment, and of those that were read so far. [`answers_join`], [`known_bytes`]: what is read record by record is what
-//!   they say of the whole. These functions do nothing, each with a law for a contract.
+//! - [`Record`]: a data record. [`FragmentFault`]: why a fragment is refused, E1 to E29, or can't
+//!   be read, E40 and E41.
+//! - [`Input`], [`Output`]: readers and writers whose contracts also count the calls that failed,
+//!   so that a refusal for a failed read or write is told only where one failed. [`Counted`]: one
+//!   of any reader or writer of std.
+//! - [`fill`], [`Filled`]: a buffer filled from an input, in whatever pieces it comes. [`send`]:
+//!   all of some bytes, to an output.
+//! - [`each_tells_one`], [`one_fragment`], [`one_fault`], [`no_fault_where_spelled`]: each list of
+//!   bytes spells one fragment or has one first fault, and never both. [`records_are_sound`],
+//!   [`records_so_far`]: what holds of the data records of a fragment, and of those that were read
+//!   so far. [`answers_join`], [`known_bytes`]: what is read record by record is what they say of
+//!   the whole. These functions do nothing, each with a law for a contract.
 #![tactic(auto)]
 
 mod advance;

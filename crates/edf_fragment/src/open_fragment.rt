@@ -2,7 +2,8 @@ ghost use Rattle.std.specs.Prelude.{◌≡◌, ℕ, ◌≤◌, MatchResult, IfOk
 ghost use Rattle.edf_header.specs.Header.{most_records};
 ghost use Rattle.edf_fragment.specs.Inside.Buffers.{HaveRoom};
 ghost use Rattle.edf_fragment.specs.Sound.{IsSoundRecord};
-ghost use Rattle.edf_fragment.specs.Reading.{ReadsHeader, IsOpenFault, IsAnswer, IsNext, CountsAnswer, at_first, progress_after};
+ghost use Rattle.edf_fragment.specs.Reading.{ReadsHeader, IsOpenFault, IsAnswer, IsNext};
+ghost use Rattle.edf_fragment.specs.Reading.{CountsAnswer, at_first, progress_after};
 
 use crate::advance::{Progress, Status, progress_behind, record_or_end};
 use crate::buffers::Buffers;
@@ -36,7 +37,8 @@ impl OpenFragment {
     /// out. The input then is where reading stopped.
     pub fn read<R: Input>(alloc: Global, input: &mut R) -> Result<OpenFragment, FragmentFault>
         ensures step { MatchResult result
-            (λ o. ReadsHeader (R.remaining input.old) (R.remaining input.new) o.header × (o.progress ≡ at_first))
+            (λ o. ReadsHeader (R.remaining input.old) (R.remaining input.new) o.header
+            × (o.progress ≡ at_first))
             (IsOpenFault (R.remaining input.old) (R.remaining input.new)) }
         ensures counted { CountsAnswer (R.failures input.old) (R.failures input.new) result }
     {
@@ -84,7 +86,8 @@ impl OpenFragment {
         ensures header { self.new.header ≡ self.old.header }
         ensures answer { IsAnswer self.old.header self.old.progress self.new.progress
             (R.remaining input.old) (R.remaining input.new) result }
-        ensures sound { IfOk result (λ next. IfSome next (λ r. IsSoundRecord self.old.header.key r)) }
+        ensures sound { IfOk result
+            (λ next. IfSome next (λ r. IsSoundRecord self.old.header.key r)) }
         ensures counted { CountsAnswer (R.failures input.old) (R.failures input.new) result }
     {
         match self.progress.status {
@@ -97,10 +100,12 @@ impl OpenFragment {
     /// Reads on, where neither the end nor a fault was met.
     fn advance<R: Input>(&mut self, input: &mut R) -> Result<Option<Record>, FragmentFault>
         ensures header { self.new.header ≡ self.old.header }
-        ensures progress { self.new.progress ≡ progress_after self.old.header self.old.progress result }
+        ensures progress { self.new.progress
+            ≡ progress_after self.old.header self.old.progress result }
         ensures step { IsNext self.old.header self.old.progress
             (R.remaining input.old) (R.remaining input.new) result }
-        ensures sound { IfOk result (λ next. IfSome next (λ r. IsSoundRecord self.old.header.key r)) }
+        ensures sound { IfOk result
+            (λ next. IfSome next (λ r. IsSoundRecord self.old.header.key r)) }
         ensures counted { CountsAnswer (R.failures input.old) (R.failures input.new) result }
     {
         // contracts learn from this call what bounds the header keeps

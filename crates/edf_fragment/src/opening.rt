@@ -42,7 +42,8 @@ fn read_signal_headers<R: Input>(
     input: &mut R,
     fixed: Fixed,
 ) -> Result<Header, FragmentFault>
-    ensures step { MatchResult result (ReadsSignals (R.remaining input.old) (R.remaining input.new) fixed)
+    ensures step { MatchResult result
+        (ReadsSignals (R.remaining input.old) (R.remaining input.new) fixed)
         (IsSignalsFault (R.remaining input.old) (R.remaining input.new) fixed.signal_count) }
     ensures counted { CountsAnswer (R.failures input.old) (R.failures input.new) result }
 {

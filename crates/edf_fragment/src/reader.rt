@@ -1,6 +1,7 @@
 ghost use Rattle.std.specs.Prelude.{◌≡◌, ℕ, List, Option, IfOk, IfErr, IfSome};
 ghost use Rattle.edf_fragment.specs.Sound.{IsSoundRecord};
-ghost use Rattle.edf_fragment.specs.Reading.{ReadsHeader, IsOpenFault, IsAnswer, CountsAnswer, at_first};
+ghost use Rattle.edf_fragment.specs.Reading.{ReadsHeader, IsOpenFault, IsAnswer, CountsAnswer};
+ghost use Rattle.edf_fragment.specs.Reading.{at_first};
 
 use crate::fault::FragmentFault;
 use crate::open_fragment::OpenFragment;
@@ -88,9 +89,11 @@ impl<'a, R: Input> FragmentReader<'a, R> {
     pub fn next(&mut self) -> Result<Option<Record>, FragmentFault>
         ensures same_reference { self.new.input.ghost_name ≡ self.old.input.ghost_name }
         ensures header { self.new.fragment.header ≡ self.old.fragment.header }
-        ensures answer { IsAnswer self.old.fragment.header self.old.fragment.progress self.new.fragment.progress
+        ensures answer { IsAnswer self.old.fragment.header self.old.fragment.progress
+            self.new.fragment.progress
             (R.remaining self.old.input.now) (R.remaining self.new.input.now) result }
-        ensures sound { IfOk result (λ next. IfSome next (λ r. IsSoundRecord self.old.fragment.header.key r)) }
+        ensures sound { IfOk result
+            (λ next. IfSome next (λ r. IsSoundRecord self.old.fragment.header.key r)) }
         ensures counted { CountsAnswer (R.failures self.old.input.now)
             (R.failures self.new.input.now) result }
     {

@@ -1,6 +1,6 @@
 ghost use Rattle.std.specs.Prelude.{◌≡◌, ℕ, MatchResult};
 ghost use Rattle.edf_fragment.specs.Reading.{CountsAnswer, at_first};
-ghost use Rattle.edf_fragment.specs.Whole.{ReadsFragment, FailsBehind, IsFragmentFault};
+ghost use Rattle.edf_fragment.specs.Whole.{ReadsFragment, FailsAfterRecords, IsFragmentFault};
 ghost use Rattle.edf_fragment.specs.Inside.Steps.{ReadsRecords};
 
 use crate::fault::FragmentFault;
@@ -19,8 +19,9 @@ fn read_records<R: Input>(
     requires { fragment.old.progress ≡ at_first }
     ensures header { fragment.new.header ≡ fragment.old.header }
     ensures answer { MatchResult result
-        (λ records. ReadsRecords fragment.old.header (R.remaining input.old) (R.remaining input.new) records.items)
-        (FailsBehind fragment.old.header (R.remaining input.old) (R.remaining input.new)) }
+        (λ records. ReadsRecords fragment.old.header
+        (R.remaining input.old) (R.remaining input.new) records.items)
+        (FailsAfterRecords fragment.old.header (R.remaining input.old) (R.remaining input.new)) }
     ensures counted { CountsAnswer (R.failures input.old) (R.failures input.new) result }
 {
     let mut records = Vec::new(alloc);
@@ -39,8 +40,9 @@ fn read_records<R: Input>(
 /// Reads a whole fragment into memory: its header and its data records in order.
 ///
 /// # Errors
-/// The first fault of the bytes by the order of the header, the data records and the end; `Read` where a read failed,
-/// `Memory` where memory ran out, each in place of whatever would have been found later.
+/// The first fault of the bytes by the order of the header, the data records and the end; `Read`
+/// where a read failed, `Memory` where memory ran out, each in place of whatever would have been
+/// found later.
 pub fn read_fragment<R: Input>(
     alloc: Global,
     input: &mut R,

@@ -1,8 +1,8 @@
 -- Whether a field's text is what it must be.
 use Rattle.std.proofs.Common.{◌≡◌, ℕ, ◌≤◌, List, length, take, arith, refl, inl, inr, Option, Some, None}
 use Rattle.std.specs.Prelude.{codes, ◌⊎◌}
-use Rattle.edf_field.specs.Number.{field, AreSpaces, IsWhole, IsSigned, IsPhysical, Differ, whole_value, behind_digits, behind_fraction, digits_len, unsigned, IsNumber}
-use Rattle.edf_field.specs.Text.{IsPrintable, IsBehindStartdate, subfields}
+use Rattle.edf_field.specs.Number.{field, AreSpaces, IsWhole, IsSigned, IsPhysical, Differ, whole_value, after_digits, after_fraction, digits_len, unsigned, IsNumber}
+use Rattle.edf_field.specs.Text.{IsPrintable, FollowsStartdate, subfields}
 use Rattle.edf_header.specs.Header.{IsCount, IsPlus}
 use Rattle.edf_header.specs.Fault.{HasCount, HasSignals}
 use Rattle.edf_header.proofs.Decided.{Decided, like, both, either, negated, less, at-most, same, same-bytes, same-int, every}
@@ -14,13 +14,13 @@ pub spaces : (text : List ℕ) → Decided (AreSpaces text)
 spaces text = every (λ b. b ≡ 32) 0 (λ b. same b 32) text
 
 pub whole : (text : List ℕ) → Decided (IsWhole text)
-whole text = both (less 0 (digits_len text)) (spaces (behind_digits text))
+whole text = both (less 0 (digits_len text)) (spaces (after_digits text))
 
 pub signed : (text : List ℕ) → Decided (IsSigned text)
 signed text = whole (unsigned text)
 
 pub physical : (text : List ℕ) → Decided (IsPhysical text)
-physical text = both (less 0 (digits_len (unsigned text))) (spaces (behind_fraction (behind_digits (unsigned text))))
+physical text = both (less 0 (digits_len (unsigned text))) (spaces (after_fraction (after_digits (unsigned text))))
 
 pub differ : (a b : List ℕ) → Decided (Differ a b)
 differ a b = negated (same-int _ _)
@@ -31,7 +31,7 @@ number text n = like (both (whole text) (same n (whole_value text))) (λ p. reco
 pub plus : (text : List ℕ) → Decided (IsPlus text)
 plus text = either (same-bytes (take 5 text) (codes "EDF+C")) (same-bytes (take 5 text) (codes "EDF+D"))
 
-pub behind-startdate : (after : List ℕ) → Decided (IsBehindStartdate after)
+pub behind-startdate : (after : List ℕ) → Decided (FollowsStartdate after)
 behind-startdate after =
     like (both (same-bytes (take 1 after) (codes " ")) (at-most 3 (length (subfields after)))) (λ p. record { space = p.0; codes_in = p.1 }) (λ p. (p.space, p.codes_in))
 

@@ -7,7 +7,7 @@ use Rattle.std.proofs.lemmas.List.{take_at, take_all, drop_all}
 use Rattle.edf_time.specs.Civil.{HasDateForm, IsIdDate}
 use Rattle.edf_time.specs.Decimal.{IsDecimal, IsFine, fraction_value as places}
 use Rattle.edf_field.specs.Number.{field, AreSpaces, IsDuration, front_len}
-use Rattle.edf_field.specs.Text.{IsBehindStartdate, IsBirthdate, IsPatient, IsRecording, IsSex, subfields}
+use Rattle.edf_field.specs.Text.{FollowsStartdate, IsBirthdate, IsPatient, IsRecording, IsSex, subfields}
 use Rattle.edf_header.proofs.Decided.{Decided, like, both, either, less, same, same-bytes, every, some-below}
 use Rattle.edf_header.proofs.DecidedFields.{spaces, behind-startdate}
 use Rattle.edf_time.proofs.Cited.{some-date, some-yearless, some-id_date}
@@ -98,10 +98,10 @@ patient text = patient-by text (subfields text) refl
 
 -- the recording field
 abbrev IsUndated : List ℕ → Type 0
-IsUndated text = (take 11 text ≡ codes "Startdate X") × IsBehindStartdate (drop 11 text)
+IsUndated text = (take 11 text ≡ codes "Startdate X") × FollowsStartdate (drop 11 text)
 
 abbrev IsDated : List ℕ → Type 0
-IsDated text = ((take 10 text ≡ codes "Startdate ") × ((day : ℤ) × IsIdDate (field text 10 11) day)) × IsBehindStartdate (drop 21 text)
+IsDated text = ((take 10 text ≡ codes "Startdate ") × ((day : ℤ) × IsIdDate (field text 10 11) day)) × FollowsStartdate (drop 21 text)
 
 abbrev pub HasRecording : List ℕ → Type 0
 HasRecording text = (startdate : Option ℤ) × (after : List ℕ) × IsRecording text startdate after
@@ -114,8 +114,8 @@ from-dated text p =
     ]
 
 to-dated : (text : List ℕ) (s : Option ℤ) (after : List ℕ) → IsRecording text s after → IsUndated text ⊎ IsDated text
-to-dated text None after r = inl (r.front.0, subst IsBehindStartdate r.front.1 r.behind)
-to-dated text (Some day) after r = inr ((r.front.0, (day, r.front.1)), subst IsBehindStartdate r.front.2 r.behind)
+to-dated text None after r = inl (r.front.0, subst FollowsStartdate r.front.1 r.behind)
+to-dated text (Some day) after r = inr ((r.front.0, (day, r.front.1)), subst FollowsStartdate r.front.2 r.behind)
 
 pub recording : (text : List ℕ) → Decided (HasRecording text)
 recording text =
@@ -128,7 +128,7 @@ pub undated : (text : List ℕ) → Decided ((after : List ℕ) × IsRecording t
 undated text =
     like (both (same-bytes (take 11 text) (codes "Startdate X")) (behind-startdate (drop 11 text)))
     (λ p. (drop 11 text, record { front = (p.0, refl); behind = p.1 }))
-    (λ r. (r.1.front.0, subst IsBehindStartdate r.1.front.1 r.1.behind))
+    (λ r. (r.1.front.0, subst FollowsStartdate r.1.front.1 r.1.behind))
 
 -- the startdate
 pub date-form : (text : List ℕ) (id : Option ℤ) → Decided (HasDateForm text id)

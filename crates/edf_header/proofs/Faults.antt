@@ -6,7 +6,7 @@ use Rattle.edf_header.specs.Key.{IsKey, Key, key_at, key_bytes}
 use Rattle.edf_field.specs.Number.{field, IsDuration}
 use Rattle.edf_header.specs.Inside.Shape.{IsKeyFront, place_of_check}
 use Rattle.edf_header.specs.Signal.{IsFirstBad, Passes, rows_of, samples_in_all}
-use Rattle.edf_field.specs.Text.{IsPrintable, IsPatient, IsBehindStartdate}
+use Rattle.edf_field.specs.Text.{IsPrintable, IsPatient, FollowsStartdate}
 use Rattle.std.specs.Prelude.{All}
 use Rattle.std.specs.List.{flat_map}
 use Rattle.edf_header.specs.declared.signal_checks.Check.{Check}
@@ -30,7 +30,7 @@ clean-4 b len printable patient Length lt bad = bad len
 clean-4 b len printable patient (Unprintable offset) lt bad = not-bad IsPrintable 0 b offset printable bad
 clean-4 b len printable patient e lt bad = absurd (omega arith)
 
-pub clean-5 : (b : List ℕ) → HasLength b → All IsPrintable b → IsPatient (field b 0 80) → HasMark b × IsBehindStartdate (key_at b).after → IsCleanKey b 5
+pub clean-5 : (b : List ℕ) → HasLength b → All IsPrintable b → IsPatient (field b 0 80) → HasMark b × FollowsStartdate (key_at b).after → IsCleanKey b 5
 clean-5 b len printable patient recording Recording lt bad = bad recording
 clean-5 b len printable patient recording Patient lt bad = bad patient
 clean-5 b len printable patient recording Length lt bad = bad len
@@ -108,7 +108,7 @@ front-of k i =
       printable = i.printable;
       patient = subst (λ (k : Key). IsPatient k.patient) (sym back) i.patient;
       mark = key-mark k.dated k.patient k.after (k.duration ++ flat_map (λ (s : List ℕ). s) k.signals) i.sized.patient i.sized.after;
-      behind = subst (λ (k : Key). IsBehindStartdate k.after) (sym back) i.behind;
+      behind = subst (λ (k : Key). FollowsStartdate k.after) (sym back) i.behind;
       duration = (i.duration.0, subst (λ (k : Key). IsDuration k.duration i.duration.0) (sym back) i.duration.1);
     }
 

@@ -4,7 +4,7 @@ use Rattle.std.proofs.lemmas.Bool.{cases_lt, false≢true}
 use Rattle.std.specs.Prelude.{◌⊎◌, ◌↔◌, All, IsTrue, MatchOption, is_some}
 use Rattle.edf_field.specs.Text.{IsPrintable}
 use Rattle.edf_header.specs.Signal.{IsFirstBad, Passes, labelled, ordinary, samples_in_all, signals_of}
-use Rattle.edf_header.specs.Inside.Rows.{RowsFail, IsSound}
+use Rattle.edf_header.specs.Inside.Rows.{RowsFail, AreSoundRows}
 use Rattle.edf_header.specs.Fault.{HasAnnotations, IsBadSignal, IsTooLarge, SignalsFail, IsClean, IsFirst, header_fault_number}
 use Rattle.edf_header.specs.declared.signal_checks.Check.{Check}
 use Rattle.edf_header.specs.declared.signal_checks.Check.TheVariants as checks
@@ -64,18 +64,18 @@ clean-19 ss h p d = more (RowsFail ss) 18 (clean-18 ss h p) (at-18 ss d)
 pub clean-20 : (ss : List (List ℕ)) → HasAnnotations ss → All (Passes checks.Physical) ss → All (Passes checks.Digital) ss → All (Passes checks.Samples) ss → IsClean (RowsFail ss) 20
 clean-20 ss h p d n = more (RowsFail ss) 19 (clean-19 ss h p d) (at-19 ss n)
 
-not-large : (ss : List (List ℕ)) → IsSound ss → ¬ IsTooLarge ss
+not-large : (ss : List (List ℕ)) → AreSoundRows ss → ¬ IsTooLarge ss
 not-large ss s large =
     elim large [
       | inl ordinary ↦ omega (arith, s.ordinary_size)
       | inr annotations ↦ omega (arith, s.block_size)
     ]
 
-pub clean-21 : (ss : List (List ℕ)) → IsSound ss → IsClean (RowsFail ss) 21
+pub clean-21 : (ss : List (List ℕ)) → AreSoundRows ss → IsClean (RowsFail ss) 21
 clean-21 ss s = more (RowsFail ss) 20 (clean-20 ss s.annotations s.physical s.digital s.each_samples) (at-20 ss (not-large ss s))
 
 -- sizes that are not too large
-pub sound-is : (ss : List (List ℕ)) → HasAnnotations ss → All (Passes checks.Physical) ss → All (Passes checks.Digital) ss → All (Passes checks.Samples) ss → ¬ IsTooLarge ss → IsSound ss
+pub sound-is : (ss : List (List ℕ)) → HasAnnotations ss → All (Passes checks.Physical) ss → All (Passes checks.Digital) ss → All (Passes checks.Samples) ss → ¬ IsTooLarge ss → AreSoundRows ss
 sound-is ss h p d n small = record {
   annotations = h;
   physical = p;

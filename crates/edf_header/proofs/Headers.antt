@@ -10,7 +10,7 @@ use Rattle.edf_header.specs.Fields.{fields}
 use Rattle.edf_header.specs.Signal.{HasSamples, has_label, ordinary, row_at, row_by, samples_in_all, signals_of}
 use Rattle.edf_header.specs.Key.{IsKey, Key, dated_bytes, key_bytes}
 use Rattle.edf_header.specs.Header.{AreApart, AreSignals, FixedPart, HeaderRecord, IsFixed, block_bytes, blocks_from, key_of, layout_of, IsLayout}
-use Rattle.edf_header.specs.Inside.Rows.{ArePartBytes, IsSound, header_of}
+use Rattle.edf_header.specs.Inside.Rows.{ArePartBytes, AreSoundRows, header_of}
 use Rattle.edf_header.specs.declared.header.Block.{Block}
 use Rattle.edf_header.specs.declared.header_signals.PartBytes.{PartBytes}
 use Rattle.edf_header.proofs.Blocks.{blocks-apart, blocks-bytes, each-block, length-blocks}
@@ -96,7 +96,7 @@ header-layout b h f s =
       record_size = omega (arith, kinds-samples h.signals, s.ordinary_size, s.block_size);
     }
 
-pub are-signals : (b : List ℕ) (f : FixedPart) → length b ≡ 256 * f.signal_count → All IsPrintable b → IsSound (signals_of b f.signal_count) → AreSignals b (header_of f (signals_of b f.signal_count))
+pub are-signals : (b : List ℕ) (f : FixedPart) → length b ≡ 256 * f.signal_count → All IsPrintable b → AreSoundRows (signals_of b f.signal_count) → AreSignals b (header_of f (signals_of b f.signal_count))
 are-signals b f len printable s = record {
   len = len;
   printable = printable;
@@ -110,8 +110,8 @@ are-signals b f len printable s = record {
   block_size = s.block_size;
 }
 
-pub checked : (b : List ℕ) (f : FixedPart) (n : ℕ) → n ≡ f.signal_count → length b ≡ 256 * f.signal_count → All IsPrintable b → IsSound (signals_of b n) → AreSignals b (header_of f (signals_of b f.signal_count))
-checked b f n is len printable sound = are-signals b f len printable (subst (λ (k : ℕ). IsSound (signals_of b k)) is sound)
+pub checked : (b : List ℕ) (f : FixedPart) (n : ℕ) → n ≡ f.signal_count → length b ≡ 256 * f.signal_count → All IsPrintable b → AreSoundRows (signals_of b n) → AreSignals b (header_of f (signals_of b f.signal_count))
+checked b f n is len printable sound = are-signals b f len printable (subst (λ (k : ℕ). AreSoundRows (signals_of b k)) is sound)
 
 -- the layout that is read
 pub layout-made : (f : FixedPart) (ss : List (List ℕ)) (k : Key) (start : ℕ) (count : Option ℕ) (blocks : List Block) (parts : PartBytes) → k ≡ key_of (header_of f ss) → start ≡ f.start → count ≡ f.count

@@ -7,7 +7,7 @@ use Rattle.std.proofs.lemmas.List.Elements.{All-nil, All-cons, All-append, All-p
 use Rattle.std.proofs.lemmas.List.Sums.{sum_by_push, sum_by-cons}
 use Rattle.edf_time.specs.Civil.{AreStartdates, IsTimeText, IsIdDate}
 use Rattle.edf_field.specs.Number.{field, IsNumber}
-use Rattle.edf_field.specs.Text.{IsPrintable, IsRecording, IsBehindStartdate, spaces}
+use Rattle.edf_field.specs.Text.{IsPrintable, IsRecording, FollowsStartdate, spaces}
 use Rattle.edf_header.specs.Signal.{columns, labelled, ordinary, samples, samples_in_all, signals_of, IsAnnotationsSignal, IsLabelled, IsOrdinary, HasSamples, Passes}
 use Rattle.edf_header.specs.Key.{Key, IsSized, IsKey, key_bytes, dated_bytes}
 use Rattle.edf_header.specs.Header.{HeaderRecord, FixedPart, IsFixedHeader, AreSignals, IsPlus, blocks_from, is_dated, layout_of}
@@ -50,7 +50,7 @@ length-recording : (dated : Bool) (id_date after : List ℕ) → length id_date 
 length-recording true id_date after li la = omega (arith, length-append id_date after)
 length-recording false id_date after li la = omega arith
 
-is-recording : (dated : Bool) (id_date after : List ℕ) (days : ℕ) → length id_date ≡ 11 → IsIdDate id_date (pos days) → IsBehindStartdate after
+is-recording : (dated : Bool) (id_date after : List ℕ) (days : ℕ) → length id_date ≡ 11 → IsIdDate id_date (pos days) → FollowsStartdate after
     → IsRecording (recording dated id_date after) (startdate_day dated days) after
 is-recording true id_date after days li is behind = record {
   front = (refl, subst (λ (t : List ℕ). IsIdDate t (pos days)) (sym (take_at id_date after 11 li)) is, sym (drop_at id_date after 11 li));

@@ -73,30 +73,30 @@ HasBadByteAt s offset = (at : ℕ) × IsFirstBad IsPrintable s at × (offset ≡
 
 -- E1 to E13: the fault is true of b, the fixed part's bytes
 abbrev pub FixedPartFails : List ℕ → HeaderFault → Type 0
-FixedPartFails b Cut = length b < 256                                          -- E1
-FixedPartFails b (Unprintable offset) = IsFirstBad IsPrintable b offset        -- E2
-FixedPartFails b Version = version_field b ≢ codes "0       "                  -- E3
-FixedPartFails b Patient = ¬ IsPatient (patient_field b)                       -- E4
-FixedPartFails b Recording = IsNoRecording (recording_field b)                 -- E5
-FixedPartFails b Startdate = IsNoStartdate (startdate_field b) ⊎ HasNoYear b   -- E6
-FixedPartFails b Starttime = IsNoTime (starttime_field b)                      -- E7
-FixedPartFails b DatesDiffer = DatesAreOther b                                 -- E8
-FixedPartFails b NotPlus = ¬ IsPlus (reserved_field b)                         -- E9
-FixedPartFails b Count = ¬ HasCount b                                          -- E10
-FixedPartFails b Duration = IsNoDuration (duration_field b)                    -- E11
-FixedPartFails b Signals = HasNoSignals b                                      -- E12
-FixedPartFails b HeaderBytes = HasOtherHeaderBytes b                           -- E13
+FixedPartFails b Cut = length b < 256  -- E1
+FixedPartFails b (Unprintable offset) = IsFirstBad IsPrintable b offset  -- E2
+FixedPartFails b Version = version_field b ≢ codes "0       "  -- E3
+FixedPartFails b Patient = ¬ IsPatient (patient_field b)  -- E4
+FixedPartFails b Recording = IsNoRecording (recording_field b)  -- E5
+FixedPartFails b Startdate = IsNoStartdate (startdate_field b) ⊎ HasNoYear b  -- E6
+FixedPartFails b Starttime = IsNoTime (starttime_field b)  -- E7
+FixedPartFails b DatesDiffer = DatesAreOther b  -- E8
+FixedPartFails b NotPlus = ¬ IsPlus (reserved_field b)  -- E9
+FixedPartFails b Count = ¬ HasCount b  -- E10
+FixedPartFails b Duration = IsNoDuration (duration_field b)  -- E11
+FixedPartFails b Signals = HasNoSignals b  -- E12
+FixedPartFails b HeaderBytes = HasOtherHeaderBytes b  -- E13
 FixedPartFails b _ = ⊥
 
 -- E14 to E20: the fault is true of s, the signal part's bytes, of n signals
 abbrev pub SignalsFail : List ℕ → ℕ → HeaderFault → Type 0
-SignalsFail s n CutSignals = length s < 256 * n                                         -- E14
-SignalsFail s n (UnprintableSignals offset) = HasBadByteAt s offset                     -- E15
-SignalsFail s n Annotations = ¬ HasAnnotations (signals_of s n)                         -- E16
-SignalsFail s n (Physical signal) = IsBadSignal checks.Physical (signals_of s n) signal -- E17
-SignalsFail s n (Digital signal) = IsBadSignal checks.Digital (signals_of s n) signal   -- E18
-SignalsFail s n (Samples signal) = IsBadSignal checks.Samples (signals_of s n) signal   -- E19
-SignalsFail s n Size = IsTooLarge (signals_of s n)                                      -- E20
+SignalsFail s n CutSignals = length s < 256 * n  -- E14
+SignalsFail s n (UnprintableSignals offset) = HasBadByteAt s offset  -- E15
+SignalsFail s n Annotations = ¬ HasAnnotations (signals_of s n)  -- E16
+SignalsFail s n (Physical signal) = IsBadSignal checks.Physical (signals_of s n) signal  -- E17
+SignalsFail s n (Digital signal) = IsBadSignal checks.Digital (signals_of s n) signal  -- E18
+SignalsFail s n (Samples signal) = IsBadSignal checks.Samples (signals_of s n) signal  -- E19
+SignalsFail s n Size = IsTooLarge (signals_of s n)  -- E20
 SignalsFail s n _ = ⊥
 
 -- the numbers, by which the faults are ordered

@@ -2,7 +2,7 @@
 use Rattle.std.specs.Prelude.{◌≡◌, ℕ, ◌+◌, ◌*◌, ◌%◌, ◌^◌, ◌≤◌, ◌<◌, ◌⊎◌, Bool, true, false, List, [], ◌∷◌, ◌++◌, length, take, sum_by, All, codes, ℤ, Option, Some, None, if◌then◌else◌}
 use Rattle.edf_time.specs.Civil.{IsCivil, window}
 use Rattle.edf_field.specs.Number.{IsNumber, IsDuration}
-use Rattle.edf_field.specs.Text.{IsPrintable, IsPatient, IsBehindStartdate, IsRecording, after_of}
+use Rattle.edf_field.specs.Text.{IsPrintable, IsPatient, FollowsStartdate, IsRecording, after_of}
 use Rattle.edf_header.specs.Fields.{version_field, patient_field, recording_field, startdate_field, starttime_field, header_bytes_field, reserved_field, count_field, duration_field, signals_field}
 use Rattle.edf_header.specs.Signal.{signals_of, has_label, labelled, ordinary, IsOrdinary, HasSamples, IsAnnotationsSignal, samples, samples_in_all}
 use Rattle.edf_header.specs.Key.{Key, IsKey, MayStart, MayStartBy}
@@ -64,7 +64,7 @@ pub record IsFixed (f : FixedPart) : Type 0 where
   pub is_patient : IsPatient f.patient
   pub after_len : length f.after ≡ (if is_dated f.startdate then 59 else 69)
   pub after_printable : All IsPrintable f.after
-  pub is_behind : IsBehindStartdate f.after
+  pub is_behind : FollowsStartdate f.after
   pub in_window : f.start < window
   pub may_start : MayStartBy (is_dated f.startdate) f.start
   pub whole_second : f.start % 10 ^ 9 ≡ 0

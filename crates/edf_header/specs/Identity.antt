@@ -1,7 +1,7 @@
 -- When bytes are no identity: the condition of each fault, and the first in their order.
 use Rattle.std.specs.Prelude.{◌≡◌, ℕ, ◌+◌, ◌*◌, ◌≤◌, ◌<◌, ◌⊎◌, List, length}
 use Rattle.edf_field.specs.Number.{IsDuration, AreSpaces}
-use Rattle.edf_field.specs.Text.{IsPrintable, IsPatient, IsBehindStartdate, spaces}
+use Rattle.edf_field.specs.Text.{IsPrintable, IsPatient, FollowsStartdate, spaces}
 use Rattle.edf_header.specs.Fields.{key_patient_field, key_mark, key_fill_field, key_duration_field, key_size_before_signals, key_signals_count, key_signals_part}
 use Rattle.edf_header.specs.Signal.{rows, samples_in_all, IsFirstBad}
 use Rattle.edf_header.specs.Key.{key_at}
@@ -33,7 +33,7 @@ abbrev pub KeyFails : List ℕ → IdentityFault → Type 0
 KeyFails b Length = ¬ HasLength b
 KeyFails b (Unprintable offset) = IsFirstBad IsPrintable b offset
 KeyFails b Patient = ¬ IsPatient (key_patient_field b)
-KeyFails b Recording = ¬ (HasMark b × IsBehindStartdate (key_at b).after)
+KeyFails b Recording = ¬ (HasMark b × FollowsStartdate (key_at b).after)
 KeyFails b Duration = (nanos : ℕ) → ¬ IsDuration (key_duration_field b) nanos
 KeyFails b (Label signal) = IsBadSignal checks.Label (signals_at b) signal
 KeyFails b (Physical signal) = IsBadSignal checks.Physical (signals_at b) signal

@@ -3,7 +3,7 @@ use Rattle.std.specs.Prelude.{◌≡◌, ℕ, ◌*◌, ◌≤◌, ◌<◌, ◌==
 use Rattle.std.specs.List.{flat_map}
 use Rattle.edf_time.specs.Civil.{two_digit_window}
 use Rattle.edf_field.specs.Number.{IsDuration}
-use Rattle.edf_field.specs.Text.{IsPrintable, IsPatient, IsBehindStartdate, spaces, subfields}
+use Rattle.edf_field.specs.Text.{IsPrintable, IsPatient, FollowsStartdate, spaces, subfields}
 use Rattle.edf_header.specs.Fields.{key_patient_field, key_mark, key_after_field, key_duration_field, key_signals_count, key_signals_part}
 use Rattle.edf_header.specs.Signal.{rows, IsOrdinary, HasSamples, samples_in_all}
 
@@ -46,7 +46,7 @@ pub record IsKey (k : Key) : Type 0 where
   pub sized : IsSized k
   pub printable : All IsPrintable (key_bytes k)
   pub patient : IsPatient k.patient
-  pub behind : IsBehindStartdate k.after
+  pub behind : FollowsStartdate k.after
   pub duration : (nanos : ℕ) × IsDuration k.duration nanos
   pub signals_from : 1 ≤ length k.signals
   pub signals_to : length k.signals ≤ 639

@@ -63,14 +63,17 @@ fn annotations_row(alloc: Global, samples: u32) -> Result<Vec<u8>, AllocError>
     Ok(row)
 }
 
-/// Writes the version and the two identifications, `id_date` being the start's day as the Startdate subfield has it.
+/// Writes the version and the two identifications, `id_date` being the start's day as the Startdate
+/// subfield has it.
 fn push_identifications(
     out: &mut Vec<u8>,
     identity: &Identity,
     id_date: &[u8; 11],
 ) -> Result<(), AllocError>
-    ensures { OnOk result (out.new.items ≡ out.old.items ++ (codes "0       " ++ (identity.now.patient
-        ++ (codes "Startdate " ++ (startdate_text identity.now.dated id_date.now ++ identity.now.after))))) }
+    ensures { OnOk result
+        (out.new.items ≡ out.old.items ++ (codes "0       " ++ (identity.now.patient
+        ++ (codes "Startdate "
+        ++ (startdate_text identity.now.dated id_date.now ++ identity.now.after))))) }
 {
     out.extend_from_slice(b"0       ".as_slice())?;
     out.extend_from_slice(identity.patient_field())?;
@@ -93,8 +96,10 @@ fn push_numbers(
     signals: u32,
 ) -> Result<(), AllocError>
     requires { signals ≤ 640 }
-    ensures { OnOk result (out.new.items ≡ out.old.items ++ (padded_to 8 (decimal (256 + 256 * signals)) ++ (padded_to 44 (codes "EDF+D")
-        ++ (padded_to 8 (decimal count) ++ (identity.now.duration ++ padded_to 4 (decimal signals)))))) }
+    ensures { OnOk result (out.new.items ≡ out.old.items
+        ++ (padded_to 8 (decimal (256 + 256 * signals)) ++ (padded_to 44 (codes "EDF+D")
+        ++ (padded_to 8 (decimal count)
+        ++ (identity.now.duration ++ padded_to 4 (decimal signals)))))) }
 {
     push_number(alloc, out, 256 + 256 * signals, 8)?;
     push_padded(out, b"EDF+D".as_slice(), 44)?;
@@ -112,15 +117,17 @@ fn push_signals(
     samples: u32,
 ) -> Result<(), AllocError>
     requires { (1 ≤ samples) × (samples ≤ 2_097_152) }
-    ensures { OnOk result (out.new.items ≡ out.old.items ++ columns (rows_of rows.now ++ annotations_signal samples ∷ [])) }
+    ensures { OnOk result (out.new.items
+        ≡ out.old.items ++ columns (rows_of rows.now ++ annotations_signal samples ∷ [])) }
 {
     let row = annotations_row(alloc, samples)?;
     push_columns(out, rows, row.as_slice().as_array().unwrap())?;
     Ok(())
 }
 
-/// The canonical header of `count` data records of a recording, the first of which starts in the second of `start` (EDF, header
-/// record; EDF+, additional specifications and the annotations signal).
+/// The canonical header of `count` data records of a recording, the first of which starts in the
+/// second of `start` (EDF, header record; EDF+, additional specifications and the annotations
+/// signal).
 ///
 /// It is EDF+D: 256 bytes, then 256 for each ordinary signal and for the annotations signal, which
 /// is last and has `block_samples` samples per data record, two bytes each. `count` is 1 to

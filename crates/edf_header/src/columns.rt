@@ -1,4 +1,5 @@
-ghost use Rattle.std.specs.Prelude.{◌≡◌, ℕ, ◌+◌, ◌*◌, ◌/◌, ◌%◌, ◌≤◌, ◌<◌, List, [], ◌∷◌, ◌++◌, length, OnOk};
+ghost use Rattle.std.specs.Prelude.{◌≡◌, ℕ, ◌+◌, ◌*◌, ◌/◌, ◌%◌, ◌≤◌, ◌<◌, List, [], ◌∷◌, ◌++◌};
+ghost use Rattle.std.specs.Prelude.{length, OnOk};
 ghost use Rattle.edf_field.specs.Number.{field};
 ghost use Rattle.edf_header.specs.Fields.{fields};
 ghost use Rattle.edf_header.specs.Signal.{column_of, columns, row_at, rows_of};
@@ -15,7 +16,8 @@ fn push_column(
     width: usize,
 ) -> Result<(), AllocError>
     requires { at + width ≤ 256 }
-    ensures { OnOk result (out.new.items ≡ out.old.items ++ column_of (at, width) (rows_of rows.now ++ last.now ∷ [])) }
+    ensures { OnOk result (out.new.items
+        ≡ out.old.items ++ column_of (at, width) (rows_of rows.now ++ last.now ∷ [])) }
 {
     for i in 0..rows.len() / 256 {
         let row = &rows[256 * i..256 * i + 256];
@@ -31,7 +33,8 @@ pub(crate) fn push_columns(
     rows: &[u8],
     last: &[u8; 256],
 ) -> Result<(), AllocError>
-    ensures { OnOk result (out.new.items ≡ out.old.items ++ columns (rows_of rows.now ++ last.now ∷ [])) }
+    ensures { OnOk result
+        (out.new.items ≡ out.old.items ++ columns (rows_of rows.now ++ last.now ∷ [])) }
 {
     for (at, width) in &ROW {
         push_column(out, rows, last, *at, *width)?;

@@ -3,8 +3,9 @@ ghost use Rattle.edf_header.specs.Fault.{header_fault_number};
 
 use thiserror::Error;
 
-/// Why a header is refused, the first condition by number (EDF, header record; EDF+, additional specifications and the annotations
-/// signal). Signals count from 1, offsets in bytes from the file's first, which is 0.
+/// Why a header is refused, the first condition by number (EDF, header record; EDF+, additional
+/// specifications and the annotations signal). Signals count from 1, offsets in bytes from the
+/// file's first, which is 0.
 #[derive(Clone, Copy, Debug, PartialEq, Eq, Drop, Error)]
 pub enum HeaderFault {
     /// E1: the file has fewer than 256 bytes.
@@ -22,8 +23,8 @@ pub enum HeaderFault {
     /// E5: the recording field is no recording identification of EDF+.
     #[error("the recording identification is not that of EDF+")]
     Recording,
-    /// E6: the startdate is not `dd.mm.yy` of a day of 1985 to 2084, nor such a text with the letters `yy` and a date in the
-    /// Startdate subfield.
+    /// E6: the startdate is not `dd.mm.yy` of a day of 1985 to 2084, nor such a text with the
+    /// letters `yy` and a date in the Startdate subfield.
     #[error("the startdate is no date")]
     Startdate,
     /// E7: the starttime is not `hh.mm.ss` of a second of a day.
@@ -53,22 +54,23 @@ pub enum HeaderFault {
     /// E15: a byte of the signal part is not 32 to 126.
     #[error("byte {offset} is not printable")]
     UnprintableSignals { offset: usize },
-    /// E16: no signal is labelled `EDF Annotations` and a space, or every signal; or of one so labelled
-    /// the digital minimum is not -32,768, the maximum not 32,767, or the physical ones are no numbers,
-    /// or equal.
+    /// E16: no signal is labelled `EDF Annotations` and a space, or every signal; or of one so
+    /// labelled the digital minimum is not -32,768, the maximum not 32,767, or the physical ones
+    /// are no numbers, or equal.
     #[error("no annotations signal, no ordinary one, or an annotations signal is not well-formed")]
     Annotations,
     /// E17: an ordinary signal's physical minimum and maximum are no numbers, or equal.
     #[error("signal {signal} has no two different physical values")]
     Physical { signal: u32 },
-    /// E18: an ordinary signal's digital minimum and maximum are no whole numbers of -32,768 to 32,767, or do not rise.
+    /// E18: an ordinary signal's digital minimum and maximum are no whole numbers of -32,768 to
+    /// 32,767, or do not rise.
     #[error("signal {signal} has no two rising digital values of 16 bits")]
     Digital { signal: u32 },
     /// E19: a signal's samples per data record are no whole number from 1 on.
     #[error("signal {signal} has no samples per data record")]
     Samples { signal: u32 },
-    /// E20: the ordinary samples of a data record, or its annotations blocks together, have more than
-    /// 4,194,304 bytes.
+    /// E20: the ordinary samples of a data record, or its annotations blocks together, have more
+    /// than 4,194,304 bytes.
     #[error("a data record is too large")]
     Size,
     /// E41: memory ran out.

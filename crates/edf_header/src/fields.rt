@@ -1,4 +1,5 @@
-//! Where the fields of a header begin, in bytes (EDF, header record). Each ends where the next begins.
+//! Where the fields of a header begin, in bytes (EDF, header record). Each ends where the next
+//! begins.
 
 // In the fixed part.
 pub(crate) const VERSION: usize = 0;
@@ -46,8 +47,9 @@ pub(crate) const SIGNAL_RESERVED: usize = 224;
 
 pub(crate) const ROW_END: usize = 256;
 
-// In the bytes of an identity: the patient field, the mark of the Startdate subfield, what follows that subfield, the spaces
-// that follow where it is a date, the duration field, the rows of the signals.
+// In the bytes of an identity: the patient field, the mark of the Startdate subfield, what follows
+// that subfield, the spaces that follow where it is a date, the duration field, the rows of the
+// signals.
 pub(crate) const KEY_PATIENT: usize = 0;
 
 pub(crate) const KEY_MARK: usize = 80;

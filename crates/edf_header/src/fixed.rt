@@ -13,11 +13,12 @@ use crate::fixed_fields::{
 use edf_time::{Day, Instant};
 use std::marker::Model;
 
-/// What the fixed part of a header says, its first 256 bytes (EDF, header record): whose recording the file belongs to, when it
-/// starts, how many data records and signals it has.
+/// What the fixed part of a header says, its first 256 bytes (EDF, header record): whose recording
+/// the file belongs to, when it starts, how many data records and signals it has.
 ///
-/// Of the startdate, the starttime and the recording field only their meaning is kept: the instant at which the file starts,
-/// the day of the Startdate subfield or none where that is `X`, and what follows that subfield.
+/// Of the startdate, the starttime and the recording field only their meaning is kept: the instant
+/// at which the file starts, the day of the Startdate subfield or none where that is `X`, and what
+/// follows that subfield.
 #[derive(Drop)]
 pub struct Fixed {
     patient: [u8; 80],
@@ -37,9 +38,11 @@ impl Model for Fixed {
 
     ghost Value = { FixedPart };
 
-    ghost view = { λ f. fixed_from f.patient f.recording f.startdate f.start f.count f.duration f.signals };
+    ghost view = { λ f.
+        fixed_from f.patient f.recording f.startdate f.start f.count f.duration f.signals };
 
-    ghost invariant = { λ f. IsFixed (fixed_from f.patient f.recording f.startdate f.start f.count f.duration f.signals)
+    ghost invariant = { λ f.
+        IsFixed (fixed_from f.patient f.recording f.startdate f.start f.count f.duration f.signals)
         × (f.nanos ≡ duration_of f.duration) };
 }
 
@@ -137,17 +140,20 @@ fn fixed_of(
     }
 }
 
-/// Reads the fixed part of a header, its first 256 bytes (EDF, header record; EDF+, additional specifications).
+/// Reads the fixed part of a header, its first 256 bytes (EDF, header record; EDF+, additional
+/// specifications).
 ///
-/// The fields are those of EDF with the identification fields of EDF+: version, bytes 0 to 7; patient, 8 to 87; recording, 88 to
-/// 167; startdate, 168 to 175; starttime, 176 to 183; number of header bytes, 184 to 191; reserved, 192 to 235, which begins with
-/// `EDF+C` or `EDF+D`; number of data records, 236 to 243, `-1` while the recording goes on;
-/// duration of a data record, 244 to 251; number of signals, 252 to 255.
+/// The fields are those of EDF with the identification fields of EDF+: version, bytes 0 to 7;
+/// patient, 8 to 87; recording, 88 to 167; startdate, 168 to 175; starttime, 176 to 183; number of
+/// header bytes, 184 to 191; reserved, 192 to 235, which begins with `EDF+C` or `EDF+D`; number of
+/// data records, 236 to 243, `-1` while the recording goes on; duration of a data record, 244 to
+/// 251; number of signals, 252 to 255.
 ///
 /// # Errors
-/// The first fault of E2 to E13 in the order of their numbers: `Unprintable` with the offset of the first such byte, `Version`,
-/// `Patient`, `Recording`, `Startdate`, `Starttime`, `DatesDiffer` where the Startdate subfield is a date and not the startdate,
-/// `NotPlus`, `Count`, `Duration`, `Signals`, `HeaderBytes`.
+/// The first fault of E2 to E13 in the order of their numbers: `Unprintable` with the offset of the
+/// first such byte, `Version`, `Patient`, `Recording`, `Startdate`, `Starttime`, `DatesDiffer`
+/// where the Startdate subfield is a date and not the startdate, `NotPlus`, `Count`, `Duration`,
+/// `Signals`, `HeaderBytes`.
 pub fn read_fixed(bytes: &[u8; 256]) -> Result<Fixed, HeaderFault>
     ensures { MatchResult result (IsFixedHeader bytes.now) (IsFirst (FixedPartFails bytes.now)) }
 {

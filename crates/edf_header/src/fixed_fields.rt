@@ -1,10 +1,13 @@
-//! The fields of a header's fixed part, in the order of their faults: each reader relies on what those before it found, and
-//! tells its own fault alone.
-ghost use Rattle.std.specs.Prelude.{◌≡◌, ℕ, ◌+◌, ◌*◌, ◌≤◌, ◌↔◌, All, IsTrue, codes, length, MatchResult};
+//! The fields of a header's fixed part, in the order of their faults: each reader relies on what
+//! those before it found, and tells its own fault alone.
+ghost use Rattle.std.specs.Prelude.{◌≡◌, ℕ, ◌+◌, ◌*◌, ◌≤◌, ◌↔◌, All, IsTrue, codes, length};
+ghost use Rattle.std.specs.Prelude.{MatchResult};
 ghost use Rattle.edf_time.specs.Civil.{IsCivil};
 ghost use Rattle.edf_field.specs.Number.{field, IsDuration, IsNumber};
 ghost use Rattle.edf_field.specs.Text.{IsPrintable, IsPatient, IsRecording, after_of};
-ghost use Rattle.edf_header.specs.Fields.{version_field, patient_field, recording_field, startdate_field, starttime_field, header_bytes_field, reserved_field, count_field, duration_field};
+ghost use Rattle.edf_header.specs.Fields.{version_field, patient_field, recording_field};
+ghost use Rattle.edf_header.specs.Fields.{startdate_field, starttime_field, header_bytes_field};
+ghost use Rattle.edf_header.specs.Fields.{reserved_field, count_field, duration_field};
 ghost use Rattle.edf_header.specs.Header.{IsCount, IsPlus};
 ghost use Rattle.edf_header.specs.Fault.{FixedPartFails, IsClean, IsFirst, HasSignals};
 
@@ -65,12 +68,13 @@ pub(crate) fn check_patient(bytes: &[u8; 256]) -> Result<(), HeaderFault>
     Ok(())
 }
 
-/// The day of the Startdate subfield in the recording field, bytes 88 to 167, or none where that subfield is `X`; or E5 is the
-/// first fault.
+/// The day of the Startdate subfield in the recording field, bytes 88 to 167, or none where that
+/// subfield is `X`; or E5 is the first fault.
 pub(crate) fn read_startdate(bytes: &[u8; 256]) -> Result<Option<Day>, HeaderFault>
     requires { IsClean (FixedPartFails bytes.now) 5 }
     ensures { MatchResult result
-        (λ startdate. IsRecording (recording_field bytes.now) startdate (after_of startdate (recording_field bytes.now))
+        (λ startdate. IsRecording (recording_field bytes.now) startdate
+        (after_of startdate (recording_field bytes.now))
         × IsClean (FixedPartFails bytes.now) 6)
         (IsFirst (FixedPartFails bytes.now)) }
 {
@@ -80,13 +84,15 @@ pub(crate) fn read_startdate(bytes: &[u8; 256]) -> Result<Option<Day>, HeaderFau
     }
 }
 
-/// The start, by the startdate, bytes 168 to 175, the starttime, bytes 176 to 183, and the day of the Startdate subfield; or E6,
-/// E7 or E8 is the first fault.
+/// The start, by the startdate, bytes 168 to 175, the starttime, bytes 176 to 183, and the day of
+/// the Startdate subfield; or E6, E7 or E8 is the first fault.
 pub(crate) fn read_start(bytes: &[u8; 256], startdate: &Option<Day>) -> Result<Instant, HeaderFault>
-    requires recording { IsRecording (recording_field bytes.now) startdate.now (after_of startdate.now (recording_field bytes.now)) }
+    requires recording { IsRecording (recording_field bytes.now) startdate.now
+        (after_of startdate.now (recording_field bytes.now)) }
     requires clean { IsClean (FixedPartFails bytes.now) 6 }
     ensures { MatchResult result
-        (λ start. IsCivil (startdate_field bytes.now) (starttime_field bytes.now) startdate.now start
+        (λ start.
+        IsCivil (startdate_field bytes.now) (starttime_field bytes.now) startdate.now start
         × IsClean (FixedPartFails bytes.now) 9)
         (IsFirst (FixedPartFails bytes.now)) }
 {
@@ -144,7 +150,9 @@ pub(crate) fn read_count(bytes: &[u8; 256]) -> Result<Option<u32>, HeaderFault>
 pub(crate) fn read_nanos(bytes: &[u8; 256]) -> Result<u64, HeaderFault>
     requires { IsClean (FixedPartFails bytes.now) 11 }
     ensures { MatchResult result
-        (λ nanos. IsDuration (duration_field bytes.now) nanos × ((n : ℕ) × IsDuration (duration_field bytes.now) n) × IsClean (FixedPartFails bytes.now) 12)
+        (λ nanos. IsDuration (duration_field bytes.now) nanos
+        × ((n : ℕ) × IsDuration (duration_field bytes.now) n)
+        × IsClean (FixedPartFails bytes.now) 12)
         (IsFirst (FixedPartFails bytes.now)) }
 {
     match read_duration(&bytes[DURATION..SIGNALS]) {

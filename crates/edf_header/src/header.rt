@@ -9,8 +9,8 @@ use std::marker::Model;
 /// (EDF+, the annotations signal).
 #[derive(Clone, Copy, Debug, PartialEq, Eq)]
 pub struct Block {
-    /// At which byte of the data record it begins, from 0: two for each sample of the signals before
-    /// it.
+    /// At which byte of the data record it begins, from 0: two for each sample of the signals
+    /// before it.
     pub at: usize,
     /// How many bytes it has, two for each sample.
     pub bytes: usize,
@@ -67,7 +67,8 @@ impl Header {
         self.identity
     }
 
-    /// The startdate and starttime, bytes 168 to 183 of the header: a whole second, from where the onsets of annotations count.
+    /// The startdate and starttime, bytes 168 to 183 of the header: a whole second, from where the
+    /// onsets of annotations count.
     pub fn start(&self) -> Instant
         ensures { result ≡ self.now.start }
     {

@@ -98,7 +98,8 @@ pub(crate) fn blocks_of(alloc: Global, bytes: &[u8], n: usize) -> Result<Vec<Blo
 pub(crate) fn push_ordinary(out: &mut Vec<u8>, bytes: &[u8], n: usize) -> Result<(), AllocError>
     requires size { length bytes.now ≡ 256 * n }
     requires few { n ≤ 640 }
-    ensures { OnOk result (out.new.items ≡ out.old.items ++ flat_map (λ s. s) (ordinary (signals_of bytes.now n))) }
+    ensures { OnOk result
+        (out.new.items ≡ out.old.items ++ flat_map (λ s. s) (ordinary (signals_of bytes.now n))) }
 {
     for i in 0..n {
         let row = row_from(bytes, n, i);

@@ -1,9 +1,13 @@
-ghost use Rattle.std.specs.Prelude.{◌≡◌, ◌≤◌, ◌<◌, ◌+◌, ◌*◌, ◌^◌, ◌↔◌, ◌∷◌, ◌++◌, List, ℕ, IfOk, OnOk, IsTrue, MatchResult, All, length, take, if◌then◌else◌};
+ghost use Rattle.std.specs.Prelude.{◌≡◌, ◌≤◌, ◌<◌, ◌+◌, ◌*◌, ◌^◌, ◌↔◌, ◌∷◌, ◌++◌, List, ℕ, IfOk};
+ghost use Rattle.std.specs.Prelude.{OnOk, IsTrue, MatchResult, All, length, take, if◌then◌else◌};
 ghost use Rattle.edf_field.specs.Number.{duration_of};
-ghost use Rattle.edf_field.specs.Text.{IsBehindStartdate, subfields};
-ghost use Rattle.edf_header.specs.Signal.{rows_of, signals_of, ordinary, samples_in_all, HasSamples, Passes};
-ghost use Rattle.edf_header.specs.Key.{Key, IsKey, MayStart, dated_bytes, key_bytes, key_at, patient_code, investigation_code};
-ghost use Rattle.edf_header.specs.Identity.{HasLength, HasMark, signals_at, IsCleanKey, IsFirstKeyFault};
+ghost use Rattle.edf_field.specs.Text.{FollowsStartdate, subfields};
+ghost use Rattle.edf_header.specs.Signal.{rows_of, signals_of, ordinary, samples_in_all};
+ghost use Rattle.edf_header.specs.Signal.{HasSamples, Passes};
+ghost use Rattle.edf_header.specs.Key.{Key, IsKey, MayStart, dated_bytes, key_bytes, key_at};
+ghost use Rattle.edf_header.specs.Key.{patient_code, investigation_code};
+ghost use Rattle.edf_header.specs.Identity.{HasLength, HasMark, signals_at, IsCleanKey};
+ghost use Rattle.edf_header.specs.Identity.{IsFirstKeyFault};
 ghost use Rattle.edf_header.specs.Inside.Shape.{key_from, place_of_check};
 
 use crate::fields::{KEY_DURATION, KEY_MARK, KEY_PATIENT, KEY_SIGNALS};
@@ -16,7 +20,8 @@ use std::alloc::{AllocError, Global};
 use std::marker::Model;
 use thiserror::Error;
 
-/// Why bytes are no identity, the first condition in this order. Signals count from 1, offsets from 0.
+/// Why bytes are no identity, the first condition in this order. Signals count from 1, offsets
+/// from 0.
 #[derive(Clone, Copy, Debug, PartialEq, Eq, Drop, Error)]
 pub enum IdentityFault {
     /// Not 158 bytes and 256 for each of 1 to 639 signals.
@@ -54,9 +59,10 @@ pub enum IdentityFault {
     Memory,
 }
 
-/// To which recording a fragment belongs: the patient identification, the recording identification without its date, the
-/// duration of a data record, and the headers of the ordinary signals (EDF, header record; EDF+, additional specifications).
-/// Two fragments are of one recording where all these bytes are the same.
+/// To which recording a fragment belongs: the patient identification, the recording identification
+/// without its date, the duration of a data record, and the headers of the ordinary signals (EDF,
+/// header record; EDF+, additional specifications). Two fragments are of one recording where all
+/// these bytes are the same.
 ///
 /// Its bytes: 0 to 79 the patient field; 80 `D` where the Startdate subfield is a date, else `X`;
 /// 81 to 149 what follows that subfield, filled with spaces; 150 to 157 the duration field; then
@@ -98,7 +104,8 @@ fn push_mark(out: &mut Vec<u8>, dated: bool, after: &[u8]) -> Result<(), AllocEr
 /// The bytes of an identity, from a header's fixed part and the columns of all its signals.
 fn bytes_from(alloc: Global, fixed: &Fixed, signals: &[u8]) -> Result<Vec<u8>, AllocError>
     requires { length signals.now ≡ 256 * fixed.now.signal_count }
-    ensures { IfOk result (λ v. v.items ≡ key_bytes (key_from fixed.now (ordinary (signals_of signals.now fixed.now.signal_count)))) }
+    ensures { IfOk result (λ v. v.items ≡ key_bytes
+        (key_from fixed.now (ordinary (signals_of signals.now fixed.now.signal_count)))) }
 {
     let mut bytes = Vec::with_capacity(alloc, KEY_SIGNALS)?;
     bytes.extend_from_slice(fixed.patient())?;
@@ -112,10 +119,11 @@ impl Identity {
     /// The identity that the bytes stand for.
     ///
     /// # Errors
-    /// The first condition that is true of the bytes, in the order of `IdentityFault`; `Memory` where memory runs out and none
-    /// is true.
+    /// The first condition that is true of the bytes, in the order of `IdentityFault`; `Memory`
+    /// where memory runs out and none is true.
     pub fn from_bytes(alloc: Global, bytes: &[u8]) -> Result<Identity, IdentityFault>
-        ensures { MatchResult result (λ i. (key_bytes i ≡ bytes.now) × IsKey i) (IsFirstKeyFault bytes.now) }
+        ensures { MatchResult result
+            (λ i. (key_bytes i ≡ bytes.now) × IsKey i) (IsFirstKeyFault bytes.now) }
     {
         let KeyNumbers {
             duration,
@@ -131,8 +139,8 @@ impl Identity {
         })
     }
 
-    /// The identity of a header, from its fixed part, the columns of all its signals, and the bytes of a data record's
-    /// ordinary samples.
+    /// The identity of a header, from its fixed part, the columns of all its signals, and the bytes
+    /// of a data record's ordinary samples.
     pub(crate) fn from_header(
         alloc: Global,
         fixed: &Fixed,
@@ -140,9 +148,12 @@ impl Identity {
         ordinary_bytes: usize,
     ) -> Result<Identity, AllocError>
         requires size { length signals.now ≡ 256 * fixed.now.signal_count }
-        requires key { IsKey (key_from fixed.now (ordinary (signals_of signals.now fixed.now.signal_count))) }
-        requires ordinary { ordinary_bytes ≡ 2 * samples_in_all (ordinary (signals_of signals.now fixed.now.signal_count)) }
-        ensures { IfOk result (λ i. i ≡ key_from fixed.now (ordinary (signals_of signals.now fixed.now.signal_count))) }
+        requires key { IsKey
+            (key_from fixed.now (ordinary (signals_of signals.now fixed.now.signal_count))) }
+        requires ordinary { ordinary_bytes
+            ≡ 2 * samples_in_all (ordinary (signals_of signals.now fixed.now.signal_count)) }
+        ensures { IfOk result (λ i. i
+            ≡ key_from fixed.now (ordinary (signals_of signals.now fixed.now.signal_count))) }
     {
         let bytes = bytes_from(alloc, fixed, signals)?;
         let duration = fixed.nanos();
@@ -164,7 +175,8 @@ impl Identity {
         Vec::from_slice(alloc, self.bytes.as_slice())
     }
 
-    /// Whether two identities are the same, byte for byte: two spellings of one value are two identities.
+    /// Whether two identities are the same, byte for byte: two spellings of one value are two
+    /// identities.
     pub fn same(&self, other: &Identity) -> bool
         ensures same { IsTrue result ↔ (self.now ≡ other.now) }
         ensures key { IsKey self.now × IsKey other.now }
@@ -179,8 +191,8 @@ impl Identity {
         self.bytes[KEY_MARK] == b'D'
     }
 
-    /// Whether its recording may start there: where it has no date, before 2085, since then only the two digits of the startdate
-    /// name the year (EDF+, the clipping date).
+    /// Whether its recording may start there: where it has no date, before 2085, since then only
+    /// the two digits of the startdate name the year (EDF+, the clipping date).
     pub fn may_start(&self, start: Instant) -> bool
         ensures { IsTrue result ↔ MayStart self.now start }
     {
@@ -241,7 +253,8 @@ impl Identity {
         &self.bytes[KEY_PATIENT..KEY_MARK]
     }
 
-    /// What follows the Startdate subfield in the recording field: 59 bytes where the subfield is a date, else 69.
+    /// What follows the Startdate subfield in the recording field: 59 bytes where the subfield is a
+    /// date, else 69.
     pub(crate) fn behind_startdate(&self) -> &[u8]
         ensures { result.now ≡ self.now.after }
     {

@@ -2,10 +2,11 @@
 
 ghost use Rattle.std.specs.Prelude.{◌≡◌, ◌≢◌, ◌≤◌, ◌+◌, ◌*◌, ◌↔◌, IsTrue, MatchResult, All, length};
 ghost use Rattle.edf_field.specs.Number.{duration_of};
-ghost use Rattle.edf_field.specs.Text.{IsBehindStartdate};
+ghost use Rattle.edf_field.specs.Text.{FollowsStartdate};
 ghost use Rattle.edf_header.specs.Signal.{samples_in_all, Passes, rows_of, ordinary, HasSamples};
 ghost use Rattle.edf_header.specs.Key.{key_at};
-ghost use Rattle.edf_header.specs.Identity.{HasLength, HasMark, signals_at, IsCleanKey, IsFirstKeyFault};
+ghost use Rattle.edf_header.specs.Identity.{HasLength, HasMark, signals_at, IsCleanKey};
+ghost use Rattle.edf_header.specs.Identity.{IsFirstKeyFault};
 ghost use Rattle.edf_header.specs.Inside.Shape.{IsIdentity, IsKeyFront, place_of_check};
 
 use crate::fields::{
@@ -51,12 +52,13 @@ pub(crate) fn after(bytes: &[u8]) -> &[u8]
 /// Whether the recording identification is there, its date left out.
 fn has_recording(bytes: &[u8]) -> bool
     requires { 158 ≤ length bytes.now }
-    ensures { IsTrue result ↔ HasMark bytes.now × IsBehindStartdate (key_at bytes.now).after }
+    ensures { IsTrue result ↔ HasMark bytes.now × FollowsStartdate (key_at bytes.now).after }
 {
     has_mark(bytes) && is_behind_startdate(after(bytes))
 }
 
-/// What is read of an identity's bytes: the duration of a data record in nanoseconds, and the bytes of its ordinary samples.
+/// What is read of an identity's bytes: the duration of a data record in nanoseconds, and the bytes
+/// of its ordinary samples.
 #[derive(Clone, Copy)]
 pub(crate) struct KeyNumbers {
     pub(crate) duration: u64,
@@ -93,7 +95,8 @@ fn check_signals(check: Check, bytes: &[u8]) -> Result<(), IdentityFault>
     requires ordinary { check ≢ Check.Annotations }
     requires clean { IsCleanKey bytes.now (place_of_check check) }
     ensures { MatchResult result
-        (λ _. All (Passes check) (signals_at bytes.now) × IsCleanKey bytes.now (place_of_check check + 1))
+        (λ _. All (Passes check) (signals_at bytes.now)
+        × IsCleanKey bytes.now (place_of_check check + 1))
         (IsFirstKeyFault bytes.now) }
 {
     let Some(at) = first_bad(check, &bytes[KEY_SIGNALS..]) else {
@@ -116,7 +119,8 @@ fn check_size(bytes: &[u8]) -> Result<usize, IdentityFault>
     requires samples { All (Passes Check.Samples) (signals_at bytes.now) }
     requires clean { IsCleanKey bytes.now 10 }
     ensures { MatchResult result
-        (λ size. (size ≡ 2 * samples_in_all (signals_at bytes.now)) × (size ≤ 4_194_304) × IsCleanKey bytes.now 11)
+        (λ size. (size ≡ 2 * samples_in_all (signals_at bytes.now)) × (size ≤ 4_194_304)
+        × IsCleanKey bytes.now 11)
         (IsFirstKeyFault bytes.now) }
 {
     let size = 2 * ordinary_samples(&bytes[KEY_SIGNALS..]);

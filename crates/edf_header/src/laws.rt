@@ -4,7 +4,8 @@ ghost use Rattle.std.specs.Prelude.{◌≡◌, ◌<◌, ◌≤◌, ◌^◌, ℕ,
 ghost use Rattle.edf_field.specs.Number.{duration_of};
 ghost use Rattle.edf_header.specs.Signal.{columns, signals_of};
 ghost use Rattle.edf_header.specs.Key.{Key, IsKey, IsSized, key_bytes, key_at};
-ghost use Rattle.edf_header.specs.Header.{HeaderRecord, AreSignals, IsHeader, key_of, layout_of, IsLayout, FixedPart, IsFixed, IsFixedHeader};
+ghost use Rattle.edf_header.specs.Header.{HeaderRecord, AreSignals, IsHeader, key_of, layout_of};
+ghost use Rattle.edf_header.specs.Header.{IsLayout, FixedPart, IsFixed, IsFixedHeader};
 ghost use Rattle.edf_header.specs.Fault.{SignalsFail, IsClean, FixedPartFails, IsFirst};
 ghost use Rattle.edf_header.specs.Identity.{IsCleanKey, IsFirstKeyFault, IsShaped};
 ghost use Rattle.edf_header.specs.declared.identity.IdentityFault.{IdentityFault};
@@ -12,19 +13,20 @@ ghost use Rattle.edf_header.specs.declared.fault.HeaderFault.{HeaderFault};
 
 /// Bytes that spell a fixed part have none of the faults E1 to E13.
 pub fn fixed_has_no_fault()
-    ensures { (bytes : List ℕ) (fixed : FixedPart) → IsFixedHeader bytes fixed → IsClean (FixedPartFails bytes) 14 }
+    ensures { (bytes : List ℕ) (fixed : FixedPart) → IsFixedHeader bytes fixed →
+        IsClean (FixedPartFails bytes) 14 }
 {}
 
 /// Bytes spell one fixed part at most.
 pub fn one_fixed()
-    ensures { (bytes : List ℕ) (fixed other : FixedPart) → IsFixedHeader bytes fixed → IsFixedHeader bytes other
-        → fixed ≡ other }
+    ensures { (bytes : List ℕ) (fixed other : FixedPart) → IsFixedHeader bytes fixed →
+        IsFixedHeader bytes other → fixed ≡ other }
 {}
 
 /// Bytes have one first fault of the fixed part at most.
 pub fn one_fixed_fault()
-    ensures { (bytes : List ℕ) (fault other : HeaderFault) → IsFirst (FixedPartFails bytes) fault → IsFirst (FixedPartFails bytes) other
-        → fault ≡ other }
+    ensures { (bytes : List ℕ) (fault other : HeaderFault) → IsFirst (FixedPartFails bytes) fault →
+        IsFirst (FixedPartFails bytes) other → fault ≡ other }
 {}
 
 /// What bytes spell is a fixed part within its bounds.
@@ -34,7 +36,8 @@ pub fn spelled_is_fixed()
 
 /// A law: signals written in columns read back.
 pub fn columns_back()
-    ensures { (ss : List (List ℕ)) → All (λ s. length s ≡ 256) ss → signals_of (columns ss) (length ss) ≡ ss }
+    ensures { (ss : List (List ℕ)) → All (λ s. length s ≡ 256) ss →
+        signals_of (columns ss) (length ss) ≡ ss }
 {}
 
 /// A law: a key reads back from its bytes.
@@ -65,21 +68,26 @@ pub fn key_accepted()
 
 /// A law: bytes have one first fault of an identity at most.
 pub fn one_key_fault()
-    ensures { (bytes : List ℕ) (fault other : IdentityFault) → IsFirstKeyFault bytes fault → IsFirstKeyFault bytes other → fault ≡ other }
+    ensures { (bytes : List ℕ) (fault other : IdentityFault) → IsFirstKeyFault bytes fault →
+        IsFirstKeyFault bytes other → fault ≡ other }
 {}
 
 /// A law: after one fixed part, bytes spell the signals of one header at most.
 pub fn one_signals()
-    ensures { (bytes : List ℕ) (header other : HeaderRecord) → AreSignals bytes header → AreSignals bytes other → header.fixed ≡ other.fixed → header ≡ other }
+    ensures { (bytes : List ℕ) (header other : HeaderRecord) → AreSignals bytes header →
+        AreSignals bytes other → header.fixed ≡ other.fixed → header ≡ other }
 {}
 
 /// A law: bytes that spell a header's signals have none of the faults E14 to E20.
 pub fn signals_have_no_fault()
-    ensures { (bytes : List ℕ) (header : HeaderRecord) → AreSignals bytes header → IsClean (SignalsFail bytes header.fixed.signal_count) 21 }
+    ensures { (bytes : List ℕ) (header : HeaderRecord) → AreSignals bytes header →
+        IsClean (SignalsFail bytes header.fixed.signal_count) 21 }
 {}
 
 /// A law: what a header names is a key, and its layout keeps the bounds.
 pub fn header_key()
-    ensures key { (bytes : List ℕ) (header : HeaderRecord) (rest : List ℕ) → IsHeader bytes header rest → IsKey (key_of header) }
-    ensures layout { (bytes : List ℕ) (header : HeaderRecord) (rest : List ℕ) → IsHeader bytes header rest → IsLayout (layout_of header) }
+    ensures key { (bytes : List ℕ) (header : HeaderRecord) (rest : List ℕ) →
+        IsHeader bytes header rest → IsKey (key_of header) }
+    ensures layout { (bytes : List ℕ) (header : HeaderRecord) (rest : List ℕ) →
+        IsHeader bytes header rest → IsLayout (layout_of header) }
 {}

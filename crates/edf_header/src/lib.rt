@@ -1,13 +1,13 @@
 //! The headers of EDF+ files, and the identity of a recording.
 //!
 //! - [`read_fixed`], [`Fixed`]: the fixed part, 256 bytes, or the first of E2 to E13.
-//! - [`read_signals`], [`Header`]: the signal part, 256 bytes a signal, or the first of E14 to E20; what a header says of its
-//!   data records.
+//! - [`read_signals`], [`Header`]: the signal part, 256 bytes a signal, or the first of E14 to E20;
+//!   what a header says of its data records.
 //! - [`HeaderFault`]: why a header is refused, E1 to E20.
 //! - [`Identity`], [`IdentityFault`]: to which recording a file belongs, as bytes and back.
 //! - [`write_header`]: the one header that a canonical file has.
-//! - [`laws`], [`laws_canonical`]: a header says one thing, and what is written is read again; functions that do nothing, each
-//!   with a law for a contract.
+//! - [`laws`], [`laws_canonical`]: a header says one thing, and what is written is read again;
+//!   functions that do nothing, each with a law for a contract.
 #![tactic(auto)]
 
 mod canonical;

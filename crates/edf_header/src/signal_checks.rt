@@ -1,6 +1,7 @@
 ghost use Rattle.std.specs.Prelude.{◌≡◌, ◌<◌, ℕ, List, length, MatchOption, IsTrue, ◌↔◌, All};
 ghost use Rattle.edf_field.specs.Text.{IsPrintable};
-ghost use Rattle.edf_header.specs.Signal.{rows_of, has_label, samples, IsLabelled, IsFirstBad, Passes};
+ghost use Rattle.edf_header.specs.Signal.{rows_of, has_label, samples, IsLabelled, IsFirstBad};
+ghost use Rattle.edf_header.specs.Signal.{Passes};
 ghost use Rattle.edf_header.specs.Signal.{HasPhysical, HasDigital, HasSamples, IsAnnotationsSignal};
 
 use crate::fields::{
@@ -114,7 +115,8 @@ pub(crate) fn passes(check: Check, row: &[u8]) -> bool
 
 /// The place of the first signal that fails a check.
 pub(crate) fn first_bad(check: Check, rows: &[u8]) -> Option<usize>
-    ensures { MatchOption result (All (Passes check) (rows_of rows.now)) (IsFirstBad (Passes check) (rows_of rows.now)) }
+    ensures { MatchOption result
+        (All (Passes check) (rows_of rows.now)) (IsFirstBad (Passes check) (rows_of rows.now)) }
 {
     for i in 0..rows.len() / 256 {
         if !passes(check, &rows[256 * i..256 * i + 256]) {

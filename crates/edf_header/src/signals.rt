@@ -3,7 +3,7 @@ ghost use Rattle.std.specs.Prelude.{IfOk, IsTrue, MatchOption, MatchResult, All}
 ghost use Rattle.edf_header.specs.Signal.{signals_of, Passes};
 ghost use Rattle.edf_header.specs.Header.{HeaderRecord, IsFixed, AreSignals, layout_of};
 ghost use Rattle.edf_header.specs.Fault.{HasAnnotations, IsBadSignal, IsFirst, IsSignalsRefusal};
-ghost use Rattle.edf_header.specs.Inside.Rows.{RowsFail, IsSound, ArePartBytes, header_of};
+ghost use Rattle.edf_header.specs.Inside.Rows.{RowsFail, AreSoundRows, ArePartBytes, header_of};
 
 use crate::fault::HeaderFault;
 use crate::fields::MOST_PART_BYTES;
@@ -31,7 +31,8 @@ fn has_annotations(bytes: &[u8], n: usize) -> bool
 fn bad_signal(check: Check, bytes: &[u8], n: usize) -> Option<u32>
     requires size { length bytes.now ≡ 256 * n }
     requires few { n ≤ 640 }
-    ensures { MatchOption result (All (Passes check) (signals_of bytes.now n)) (IsBadSignal check (signals_of bytes.now n)) }
+    ensures { MatchOption result
+        (All (Passes check) (signals_of bytes.now n)) (IsBadSignal check (signals_of bytes.now n)) }
 {
     match first_bad_signal(check, bytes, n) {
         Some(at) => Some(at as u32 + 1),
@@ -44,7 +45,8 @@ fn check_signals(bytes: &[u8], n: usize) -> Result<PartBytes, HeaderFault>
     requires size { length bytes.now ≡ 256 * n }
     requires few { n ≤ 640 }
     ensures { MatchResult result
-        (λ parts. IsSound (signals_of bytes.now n) × ArePartBytes (signals_of bytes.now n) parts)
+        (λ parts. AreSoundRows (signals_of bytes.now n)
+        × ArePartBytes (signals_of bytes.now n) parts)
         (IsFirst (RowsFail (signals_of bytes.now n))) }
 {
     if !has_annotations(bytes, n) {
@@ -103,9 +105,9 @@ fn header_from(
 /// file.
 ///
 /// # Errors
-/// The first of E14 to E20 that is true of the bytes: `CutSignals`, `UnprintableSignals` with the offset in the file of the first
-/// such byte, `Annotations`, `Physical`, `Digital`, `Samples`, `Size`, as `HeaderFault` tells them; `Memory` where memory runs out
-/// and none of them is true.
+/// The first of E14 to E20 that is true of the bytes: `CutSignals`, `UnprintableSignals` with the
+/// offset in the file of the first such byte, `Annotations`, `Physical`, `Digital`, `Samples`,
+/// `Size`, as `HeaderFault` tells them; `Memory` where memory runs out and none of them is true.
 pub fn read_signals(alloc: Global, fixed: Fixed, bytes: &[u8]) -> Result<Header, HeaderFault>
     requires { length bytes.now ≤ 256 * fixed.signal_count }
     ensures { MatchResult result

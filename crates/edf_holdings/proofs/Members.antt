@@ -4,7 +4,7 @@ use Rattle.std.proofs.lemmas.Bool.{cond_both, cond-true, cond-false, both_ways, 
 use Rattle.edf_fragment.specs.Fragment.{DataRecord}
 use Rattle.edf_holdings.specs.Same.{same_record}
 use Rattle.edf_holdings.specs.Clash.{clashes}
-use Rattle.edf_holdings.specs.Rising.{holds, inserted, joined, new_of, IsApart}
+use Rattle.edf_holdings.specs.Rising.{contains_record, inserted, joined, new_of, IsApart}
 use Rattle.edf_holdings.proofs.Same.{same_record-true, same_record-refl, same_record-false, same_record_no, clashes-false, clashes-true}
 
 -- membership by recursion
@@ -16,11 +16,11 @@ In r (x ∷ xs) = (x ≡ r) ⊎ In r xs
 abbrev pub Within : List DataRecord → List DataRecord → Type 0
 Within xs ys = (y : DataRecord) → In y xs → In y ys
 
-pub In-from_holds : (xs : List DataRecord) (r : DataRecord) → holds xs r ≡ true → In r xs
+pub In-from_holds : (xs : List DataRecord) (r : DataRecord) → contains_record xs r ≡ true → In r xs
 In-from_holds [] r e = cc
 In-from_holds (x ∷ xs) r e = elim (or_cases _ _ e) [ inl a ↦ inl (same_record-true x r a) | inr b ↦ inr (In-from_holds xs r b) ]
 
-pub holds_from_In : (xs : List DataRecord) (r : DataRecord) → In r xs → holds xs r ≡ true
+pub holds_from_In : (xs : List DataRecord) (r : DataRecord) → In r xs → contains_record xs r ≡ true
 holds_from_In [] r h = absurd h
 holds_from_In (x ∷ xs) r (inl p) = or_left _ _ (subst (λ (t : DataRecord). same_record x t ≡ true) p (same_record-refl x))
 holds_from_In (x ∷ xs) r (inr h) = or_right _ _ (holds_from_In xs r h)
@@ -59,7 +59,7 @@ inserted_keeps r (x ∷ xs) y h =
     (λ _. inr h)
     (λ _. elim h [ inl p ↦ inl p | inr m ↦ inr (inserted_keeps r xs y m) ]))
 
-pub length_inserted_new : (r : DataRecord) (xs : List DataRecord) → holds xs r ≡ false → length (inserted r xs) ≡ length xs + 1
+pub length_inserted_new : (r : DataRecord) (xs : List DataRecord) → contains_record xs r ≡ false → length (inserted r xs) ≡ length xs + 1
 length_inserted_new r [] e = refl
 length_inserted_new r (x ∷ xs) e =
     let p = or_parts _ _ e in
@@ -207,7 +207,7 @@ pub new_same : (xs ys rs : List DataRecord) → ((y : DataRecord) → In y rs �
 new_same xs ys [] w = refl
 new_same xs ys (s ∷ rs) w =
     cc (
-      same_Bool (holds ys s) (holds xs s)
+      same_Bool (contains_record ys s) (contains_record xs s)
           (λ e. holds_from_In xs s ((w s (inl refl)).0 (In-from_holds ys s e)))
           (λ e. holds_from_In ys s ((w s (inl refl)).1 (In-from_holds xs s e))),
       new_same xs ys rs (λ y m. w y (inr m)),
@@ -224,20 +224,20 @@ new_tail d low r xs rs z a = new_same xs (inserted r xs) rs (λ y m. (λ n. old 
 pub length_joined : (d low low' : ℕ) (xs rs : List DataRecord) → 0 < d → IsApart d low rs → IsApart d low' xs → AreFree d xs rs → length (joined xs rs) ≡ length xs + new_of xs rs
 length_joined d low low' xs [] z a b f = omega arith
 length_joined d low low' xs (r ∷ rs) z a b f =
-    cond_both (holds xs r) (new_of xs rs) (1 + new_of xs rs) (λ n. length (joined (inserted r xs) rs) ≡ length xs + n)
+    cond_both (contains_record xs r) (new_of xs rs) (1 + new_of xs rs) (λ n. length (joined (inserted r xs) rs) ≡ length xs + n)
     (λ e. ap (λ l. length (joined l rs)) (same e) ∙ length_joined d (r.start + d) low' xs rs z a.1 b (λ s x m n. f s x (inr m) n))
     (λ e. omega (arith, length_joined d (r.start + d) 0 (inserted r xs) rs z a.1 (apart_inserted d 0 r xs (apart_weaker d low' 0 xs (omega arith) b) (omega arith) (λ y m. f r y (inl refl) m)) (free_tail d low r xs rs a f), new_tail d low r xs rs z a, length_inserted_new r xs e))
   where
-    same : holds xs r ≡ true → inserted r xs ≡ xs
+    same : contains_record xs r ≡ true → inserted r xs ≡ xs
     same e = inserted_held d low' r xs z b (In-from_holds xs r e)
 
 -- nothing is new exactly where all is held
 pub within_from_none_new : (xs rs : List DataRecord) → new_of xs rs ≡ 0 → Within rs xs
 within_from_none_new xs [] e y h = absurd h
 within_from_none_new xs (r ∷ rs) e y h =
-    elim (cases_Bool (holds xs r)) [
+    elim (cases_Bool (contains_record xs r)) [
       | inl t ↦ elim h [ inl p ↦ subst (λ (u : DataRecord). In u xs) p (In-from_holds xs r t) | inr m ↦ within_from_none_new xs rs (sym (cond-true _ _ _ t) ∙ e) y m ]
-      | inr t ↦ absurd (omega (arith, sym (cond-false (holds xs r) (new_of xs rs) (1 + new_of xs rs) t) ∙ e))
+      | inr t ↦ absurd (omega (arith, sym (cond-false (contains_record xs r) (new_of xs rs) (1 + new_of xs rs) t) ∙ e))
     ]
 
 pub none_new : (xs rs : List DataRecord) → Within rs xs → new_of xs rs ≡ 0

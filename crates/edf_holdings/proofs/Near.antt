@@ -5,7 +5,7 @@ use Rattle.std.specs.Option.{option_or}
 use Rattle.edf_fragment.specs.Fragment.{DataRecord}
 use Rattle.edf_holdings.specs.Same.{same_record}
 use Rattle.edf_holdings.specs.Clash.{clashes, meets, near_of, other_of}
-use Rattle.edf_holdings.specs.Rising.{holds, inserted, joined, new_of, IsApart}
+use Rattle.edf_holdings.specs.Rising.{contains_record, inserted, joined, new_of, IsApart}
 use Rattle.edf_holdings.specs.Reply.{clash_or, first_clash}
 use Rattle.edf_holdings.proofs.Same.{same_record-true, same_record-refl, same_record_no}
 use Rattle.edf_holdings.proofs.Members.{In, In-from_holds, holds_from_In, in_joined, joined_keeps, same_Bool}
@@ -56,12 +56,12 @@ earliest_near d r xs = find_both (λ s. not (same_record r s)) (meets d r.start)
 
 -- a record is held where it is near
 
-pub held_near : (d : ℕ) (r : DataRecord) (xs : List DataRecord) → 0 < d → holds (near_of d r.start xs) r ≡ holds xs r
+pub held_near : (d : ℕ) (r : DataRecord) (xs : List DataRecord) → 0 < d → contains_record (near_of d r.start xs) r ≡ contains_record xs r
 held_near d r [] z = refl
 held_near d r (x ∷ xs) z =
     elim (cases_Bool (meets d r.start x)) [
-      | inl e ↦ ap (λ (l : List DataRecord). holds l r) (cond-true (meets d r.start x) (x ∷ near_of d r.start xs) (near_of d r.start xs) e) ∙ ap (λ b. same_record x r || b) (held_near d r xs z)
-      | inr e ↦ ap (λ (l : List DataRecord). holds l r) (cond-false (meets d r.start x) (x ∷ near_of d r.start xs) (near_of d r.start xs) e) ∙ (held_near d r xs z ∙ ap (λ b. b || holds xs r) (sym (same_record_no x r (apart e))))
+      | inl e ↦ ap (λ (l : List DataRecord). contains_record l r) (cond-true (meets d r.start x) (x ∷ near_of d r.start xs) (near_of d r.start xs) e) ∙ ap (λ b. same_record x r || b) (held_near d r xs z)
+      | inr e ↦ ap (λ (l : List DataRecord). contains_record l r) (cond-false (meets d r.start x) (x ∷ near_of d r.start xs) (near_of d r.start xs) e) ∙ (held_near d r xs z ∙ ap (λ b. b || contains_record xs r) (sym (same_record_no x r (apart e))))
     ]
   where
     apart : meets d r.start x ≡ false → x ≢ r
@@ -69,18 +69,18 @@ held_near d r (x ∷ xs) z =
         both_ways _ e (and_from (nat_lt r.start (x.start + d)) (nat_lt x.start (r.start + d)) (lt-ltb _ _ (omega (arith, q))) (lt-ltb _ _ (omega (arith, q))))
 
 -- where nothing near is another record, the record is new exactly where nothing is near
-pub new_where_none_near : (r : DataRecord) (ns : List DataRecord) → other_of r ns ≡ None → holds ns r ≡ false → ns ≡ []
+pub new_where_none_near : (r : DataRecord) (ns : List DataRecord) → other_of r ns ≡ None → contains_record ns r ≡ false → ns ≡ []
 new_where_none_near r [] o e = refl
 new_where_none_near r (n ∷ ns) o e =
     elim (cases_Bool (same_record r n)) [
-      | inl t ↦ absurd (both_ways _ e (or_left (same_record n r) (holds ns r) (subst (λ (u : DataRecord). same_record n u ≡ true) (sym (same_record-true r n t)) (same_record-refl n))))
+      | inl t ↦ absurd (both_ways _ e (or_left (same_record n r) (contains_record ns r) (subst (λ (u : DataRecord). same_record n u ≡ true) (sym (same_record-true r n t)) (same_record-refl n))))
       | inr t ↦ cc (sym (cond-true (not (same_record r n)) (Some n) (other_of r ns) (ap not t)) ∙ o)
     ]
 
-pub held_where_near : (r n : DataRecord) (ns : List DataRecord) → other_of r (n ∷ ns) ≡ None → holds (n ∷ ns) r ≡ true
+pub held_where_near : (r n : DataRecord) (ns : List DataRecord) → other_of r (n ∷ ns) ≡ None → contains_record (n ∷ ns) r ≡ true
 held_where_near r n ns o =
     elim (cases_Bool (same_record r n)) [
-      | inl t ↦ or_left (same_record n r) (holds ns r) (subst (λ (u : DataRecord). same_record n u ≡ true) (sym (same_record-true r n t)) (same_record-refl n))
+      | inl t ↦ or_left (same_record n r) (contains_record ns r) (subst (λ (u : DataRecord). same_record n u ≡ true) (sym (same_record-true r n t)) (same_record-refl n))
       | inr t ↦ cc (sym (cond-true (not (same_record r n)) (Some n) (other_of r ns) (ap not t)) ∙ o)
     ]
 
@@ -101,8 +101,8 @@ pub earliest_joined : (d : ℕ) (r : DataRecord) (xs qs : List DataRecord) → (
 earliest_joined d r xs [] w = refl
 earliest_joined d r xs (q ∷ qs) w = earliest_joined d r (inserted q xs) qs (λ p m. w p (inr m)) ∙ earliest_inserted d r q xs (w q (inl refl))
 
-pub held_joined : (r : DataRecord) (xs qs : List DataRecord) → (In r qs → ⊥) → holds (joined xs qs) r ≡ holds xs r
-held_joined r xs qs n = same_Bool (holds (joined xs qs) r) (holds xs r)
+pub held_joined : (r : DataRecord) (xs qs : List DataRecord) → (In r qs → ⊥) → contains_record (joined xs qs) r ≡ contains_record xs r
+held_joined r xs qs n = same_Bool (contains_record (joined xs qs) r) (contains_record xs r)
     (λ e. elim (in_joined r xs qs (In-from_holds (joined xs qs) r e)) [ inl m ↦ holds_from_In xs r m | inr m ↦ absurd (n m) ])
     (λ e. holds_from_In (joined xs qs) r (joined_keeps xs qs r (In-from_holds xs r e)))
 
@@ -112,22 +112,22 @@ pub joined-append : (xs rs : List DataRecord) (r : DataRecord) → joined xs (rs
 joined-append xs [] r = refl
 joined-append xs (q ∷ qs) r = joined-append (inserted q xs) qs r
 
-pub new_of-append : (xs rs : List DataRecord) (r : DataRecord) → new_of xs (rs ++ r ∷ []) ≡ cond (holds xs r) (new_of xs rs) (new_of xs rs + 1)
+pub new_of-append : (xs rs : List DataRecord) (r : DataRecord) → new_of xs (rs ++ r ∷ []) ≡ cond (contains_record xs r) (new_of xs rs) (new_of xs rs + 1)
 new_of-append xs [] r = refl
 new_of-append xs (q ∷ qs) r =
-    elim (cases_Bool (holds xs r)) [
-      | inl e ↦ both true (new_of-append xs qs r ∙ cond-true _ _ _ e) ∙ sym (cond-true (holds xs r) (new_of xs (q ∷ qs)) (new_of xs (q ∷ qs) + 1) e)
-      | inr e ↦ more (new_of-append xs qs r ∙ cond-false _ _ _ e) ∙ sym (cond-false (holds xs r) (new_of xs (q ∷ qs)) (new_of xs (q ∷ qs) + 1) e)
+    elim (cases_Bool (contains_record xs r)) [
+      | inl e ↦ both true (new_of-append xs qs r ∙ cond-true _ _ _ e) ∙ sym (cond-true (contains_record xs r) (new_of xs (q ∷ qs)) (new_of xs (q ∷ qs) + 1) e)
+      | inr e ↦ more (new_of-append xs qs r ∙ cond-false _ _ _ e) ∙ sym (cond-false (contains_record xs r) (new_of xs (q ∷ qs)) (new_of xs (q ∷ qs) + 1) e)
     ]
   where
     both : Bool → new_of xs (qs ++ r ∷ []) ≡ new_of xs qs → new_of xs (q ∷ (qs ++ r ∷ [])) ≡ new_of xs (q ∷ qs)
-    both b e = ap (λ n. cond (holds xs q) n (1 + n)) e
+    both b e = ap (λ n. cond (contains_record xs q) n (1 + n)) e
 
     more : new_of xs (qs ++ r ∷ []) ≡ new_of xs qs + 1 → new_of xs (q ∷ (qs ++ r ∷ [])) ≡ new_of xs (q ∷ qs) + 1
-    more e = ap (λ n. cond (holds xs q) n (1 + n)) e ∙
-        cond_both (holds xs q) (new_of xs qs) (1 + new_of xs qs) (λ n. cond (holds xs q) (new_of xs qs + 1) (1 + (new_of xs qs + 1)) ≡ n + 1)
+    more e = ap (λ n. cond (contains_record xs q) n (1 + n)) e ∙
+        cond_both (contains_record xs q) (new_of xs qs) (1 + new_of xs qs) (λ n. cond (contains_record xs q) (new_of xs qs + 1) (1 + (new_of xs qs + 1)) ≡ n + 1)
         (λ t. cond-true _ _ _ t)
-        (λ t. cond-false (holds xs q) (new_of xs qs + 1) (1 + (new_of xs qs + 1)) t ∙ omega arith)
+        (λ t. cond-false (contains_record xs q) (new_of xs qs + 1) (1 + (new_of xs qs + 1)) t ∙ omega arith)
 
 clash_or-or : (r : DataRecord) (o : Option DataRecord) (a b : Option (DataRecord × DataRecord)) → clash_or r o (option_or a b) ≡ option_or (clash_or r o a) b
 clash_or-or r None a b = refl

@@ -7,7 +7,7 @@ use Rattle.edf_fragment.specs.Fragment.{DataRecord}
 use Rattle.edf_fragment.specs.declared.fault.FragmentFault.{FragmentFault}
 use Rattle.edf_fragment.specs.Told.{Told, Fragment, Fault}
 use Rattle.edf_holdings.specs.Clash.{clashes}
-use Rattle.edf_holdings.specs.Rising.{holds, joined, new_of}
+use Rattle.edf_holdings.specs.Rising.{contains_record, joined, new_of}
 use Rattle.edf_holdings.specs.Holdings.{Holdings, put}
 use Rattle.edf_holdings.specs.Reply.{IsSoundTold, fits, after_one, after, Reply, Form, Overlap, Differs, Full, Accepted, IsAccepted, clash_or, first_clash, is_past, reply_to_clash, reply, replies}
 use Rattle.edf_holdings.proofs.Members.{In, Within, AreFree, joined_has, length_joined, none_new, within_from_none_new}
@@ -91,7 +91,7 @@ MayJoin-from_accepted cap h key records w g i = MayJoin-from_clash cap h key rec
 
 new_of-le : (xs rs : List DataRecord) → new_of xs rs ≤ length rs
 new_of-le xs [] = omega arith
-new_of-le xs (r ∷ rs) = cond_both (holds xs r) (new_of xs rs) (1 + new_of xs rs) (λ n. n ≤ length (r ∷ rs)) (λ _. omega (arith, new_of-le xs rs)) (λ _. omega (arith, new_of-le xs rs))
+new_of-le xs (r ∷ rs) = cond_both (contains_record xs r) (new_of xs rs) (1 + new_of xs rs) (λ n. n ≤ length (r ∷ rs)) (λ _. omega (arith, new_of-le xs rs)) (λ _. omega (arith, new_of-le xs rs))
 
 -- a fragment whose records are all held is accepted with nothing new
 pub held_reply : (cap : ℕ) (h : Holdings) (key : Key) (records : List DataRecord) → IsSoundTold (Fragment key records) → IsGood cap h → Within records (h key) → reply cap h (Fragment key records) ≡ Accepted key 0 (length records)

@@ -9,7 +9,7 @@ use Rattle.edf_fragment.specs.Fragment.{DataRecord}
 use Rattle.edf_fragment.specs.Told.{Fragment}
 use Rattle.edf_holdings.specs.Same.{same_key}
 use Rattle.edf_holdings.specs.Clash.{clashes, near_of, other_of}
-use Rattle.edf_holdings.specs.Rising.{holds, inserted, joined, new_of, IsApart}
+use Rattle.edf_holdings.specs.Rising.{contains_record, inserted, joined, new_of, IsApart}
 use Rattle.edf_holdings.specs.Holdings.{Holdings, put}
 use Rattle.edf_holdings.specs.Reply.{IsSoundTold, after_one, Overlap, Differs, Full, Accepted, clash_or, first_clash, is_past, reply_to_clash, reply, fits}
 use Rattle.edf_holdings.proofs.Same.{same_key-true, clashes-true}
@@ -135,8 +135,8 @@ module _ (cap : ℕ) (key : Key) (h : Holdings) (is_key : IsKey key) (held : IsA
   pub near_other : other_of r (near_of (duration_of key.duration) r.start (t key)) ≡ find (clashes (duration_of key.duration) r) (h key)
   near_other = sym (earliest_near (duration_of key.duration) r (t key)) ∙ (ap (find (clashes (duration_of key.duration) r)) here ∙ earliest_joined (duration_of key.duration) r (h key) k.put_in no_clash_with)
 
-  pub near_holds : holds (near_of (duration_of key.duration) r.start (t key)) r ≡ holds (h key) r
-  near_holds = held_near (duration_of key.duration) r (t key) (lasting key is_key) ∙ (ap (λ (l : List DataRecord). holds l r) here ∙ held_joined r (h key) k.put_in not_in)
+  pub near_holds : contains_record (near_of (duration_of key.duration) r.start (t key)) r ≡ contains_record (h key) r
+  near_holds = held_near (duration_of key.duration) r (t key) (lasting key is_key) ∙ (ap (λ (l : List DataRecord). contains_record l r) here ∙ held_joined r (h key) k.put_in not_in)
 
   first_next : first_clash (duration_of key.duration) (h key) (rs ++ r ∷ []) ≡ clash_or r (find (clashes (duration_of key.duration) r) (h key)) None
   first_next = first_clash-append (duration_of key.duration) (h key) rs (r ∷ []) ∙ ap (λ (o : Option (DataRecord × DataRecord)). option_or o (first_clash (duration_of key.duration) (h key) (r ∷ []))) k.free
@@ -154,10 +154,10 @@ module _ (cap : ℕ) (key : Key) (h : Holdings) (is_key : IsKey key) (held : IsA
   }
 
   -- it is there itself
-  pub after_known : other_of r (near_of (duration_of key.duration) r.start (t key)) ≡ None → holds (near_of (duration_of key.duration) r.start (t key)) r ≡ true → Taken cap key h (rs ++ r ∷ []) t new (known + 1)
+  pub after_known : other_of r (near_of (duration_of key.duration) r.start (t key)) ≡ None → contains_record (near_of (duration_of key.duration) r.start (t key)) r ≡ true → Taken cap key h (rs ++ r ∷ []) t new (known + 1)
   after_known e there_near = record {
     free = none_next e;
-    new_is = k.new_is ∙ sym (new_of-append (h key) rs r ∙ cond-true (holds (h key) r) (new_of (h key) rs) (new_of (h key) rs + 1) there);
+    new_is = k.new_is ∙ sym (new_of-append (h key) rs r ∙ cond-true (contains_record (h key) r) (new_of (h key) rs) (new_of (h key) rs + 1) there);
     all = omega (arith, k.all, length-append rs (r ∷ []));
     put_in = k.put_in;
     part = λ y m. in_left y rs (r ∷ []) (k.part y m);
@@ -165,7 +165,7 @@ module _ (cap : ℕ) (key : Key) (h : Holdings) (is_key : IsKey key) (held : IsA
     whole = λ l. k.whole l ∙ same;
   }
     where
-      there : holds (h key) r ≡ true
+      there : contains_record (h key) r ≡ true
       there = sym near_holds ∙ there_near
 
       all_apart : IsApart (duration_of key.duration) 0 (joined (h key) rs)
@@ -174,11 +174,11 @@ module _ (cap : ℕ) (key : Key) (h : Holdings) (is_key : IsKey key) (held : IsA
       same : put key rs h ≡ put key (rs ++ r ∷ []) h
       same = put_same key rs (rs ++ r ∷ []) h (sym (joined-append (h key) rs r ∙ inserted_held (duration_of key.duration) 0 r (joined (h key) rs) (lasting key is_key) all_apart (joined_keeps (h key) rs r (In-from_holds (h key) r there))))
 
-  is_new : near_of (duration_of key.duration) r.start (t key) ≡ [] → holds (h key) r ≡ false
-  is_new e = sym near_holds ∙ ap (λ (l : List DataRecord). holds l r) e
+  is_new : near_of (duration_of key.duration) r.start (t key) ≡ [] → contains_record (h key) r ≡ false
+  is_new e = sym near_holds ∙ ap (λ (l : List DataRecord). contains_record l r) e
 
   new_next : near_of (duration_of key.duration) r.start (t key) ≡ [] → new + 1 ≡ new_of (h key) (rs ++ r ∷ [])
-  new_next e = ap (λ n. n + 1) k.new_is ∙ sym (new_of-append (h key) rs r ∙ cond-false (holds (h key) r) (new_of (h key) rs) (new_of (h key) rs + 1) (is_new e))
+  new_next e = ap (λ n. n + 1) k.new_is ∙ sym (new_of-append (h key) rs r ∙ cond-false (contains_record (h key) r) (new_of (h key) rs) (new_of (h key) rs + 1) (is_new e))
 
   -- nothing is near it, and it is put in
   pub after_added : (t' : Holdings) → near_of (duration_of key.duration) r.start (t key) ≡ [] → length (h key) + new < cap → t' ≡ put key (r ∷ []) t → Taken cap key h (rs ++ r ∷ []) t' (new + 1) known

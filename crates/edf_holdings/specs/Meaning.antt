@@ -6,7 +6,7 @@ use Rattle.edf_fragment.specs.Fragment.{DataRecord}
 use Rattle.edf_fragment.specs.Told.{Told, Fragment}
 use Rattle.edf_holdings.specs.Same.{same_key, same_record}
 use Rattle.edf_holdings.specs.Clash.{Clash, clashes, near_of}
-use Rattle.edf_holdings.specs.Rising.{IsRising, holds, joined, new_of}
+use Rattle.edf_holdings.specs.Rising.{IsRising, contains_record, joined, new_of}
 use Rattle.edf_holdings.specs.Holdings.{Holdings, IsSound, nothing_held}
 use Rattle.edf_holdings.specs.Reply.{IsSoundTold, fits, after_one, after, Overlap, Differs, Full, Accepted, reply, IsAccepted}
 use Rattle.edf_holdings.specs.Free.{with_all, Has}
@@ -23,7 +23,7 @@ abbrev pub TestIsClash : Type 0
 TestIsClash = (d : ℕ) (r s : DataRecord) → IsTrue (clashes d r s) ↔ Clash d r s
 
 abbrev pub HoldsIsContains : Type 0
-HoldsIsContains = (xs : List DataRecord) (r : DataRecord) → IsTrue (holds xs r) ↔ Contains xs r
+HoldsIsContains = (xs : List DataRecord) (r : DataRecord) → IsTrue (contains_record xs r) ↔ Contains xs r
 
 -- the same records, in whatever order
 abbrev pub SameMembers : List DataRecord → List DataRecord → Type 0

@@ -13,9 +13,9 @@ abbrev pub IsRising : List DataRecord → Type 0
 IsRising xs = IsApart 1 0 xs
 
 -- whether the record is one of the list
-abbrev pub holds : List DataRecord → DataRecord → Bool
-holds [] r = false
-holds (x ∷ xs) r = same_record x r || holds xs r
+abbrev pub contains_record : List DataRecord → DataRecord → Bool
+contains_record [] r = false
+contains_record (x ∷ xs) r = same_record x r || contains_record xs r
 
 -- the list with one record more, which comes before the first that starts later; one that is there
 -- is not put in again
@@ -31,4 +31,4 @@ joined xs (r ∷ rs) = joined (inserted r xs) rs
 -- how many records of the second list are not in the first
 abbrev pub new_of : List DataRecord → List DataRecord → ℕ
 new_of xs [] = 0
-new_of xs (r ∷ rs) = cond (holds xs r) (new_of xs rs) (1 + new_of xs rs)
+new_of xs (r ∷ rs) = cond (contains_record xs r) (new_of xs rs) (1 + new_of xs rs)

@@ -1,9 +1,12 @@
 //! Laws of lists of submissions: each function has laws for a contract, and does nothing.
 
-ghost use Rattle.edf_holdings.specs.Laws.{ToldIsSound, NothingIsSound, StaysSound, AddStaysSound, HeldIsKnown, AcceptedAgain, RefusedAgain, RepeatTakenOut, FromTheFront, AnyOrder, Reordered, AloneIsFree, Recut, FreeOfSame};
+ghost use Rattle.edf_holdings.specs.Laws.{ToldIsSound, NothingIsSound, StaysSound, AddStaysSound};
+ghost use Rattle.edf_holdings.specs.Laws.{HeldIsKnown, AcceptedAgain, RefusedAgain, RepeatTakenOut};
+ghost use Rattle.edf_holdings.specs.Laws.{FromTheFront, AnyOrder, Reordered, AloneIsFree, Recut};
+ghost use Rattle.edf_holdings.specs.Laws.{FreeOfSame};
 
-/// What bytes tell is sound, and nothing held; what any list of submissions leaves of sound holdings is sound, and so is one
-/// record more.
+/// What bytes tell is sound, and nothing held; what any list of submissions leaves of sound
+/// holdings is sound, and so is one record more.
 pub fn stays_sound()
     ensures told { ToldIsSound }
     ensures none { NothingIsSound }
@@ -20,14 +23,16 @@ pub fn once()
     ensures front { FromTheFront }
 {}
 
-/// A list that is free of conflicts is accepted whole; reordered, or with repeats, it is as free and ends alike.
+/// A list that is free of conflicts is accepted whole; reordered, or with repeats, it is as free
+/// and ends alike.
 pub fn any_order()
     ensures accepted { AnyOrder }
     ensures reordered { Reordered }
     ensures alone { AloneIsFree }
 {}
 
-/// Lists that are free of conflicts and hold the same records end alike; and if one is free, so is the other.
+/// Lists that are free of conflicts and hold the same records end alike; and if one is free, so is
+/// the other.
 pub fn recut()
     ensures same { Recut }
     ensures free { FreeOfSame }

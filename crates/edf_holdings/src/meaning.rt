@@ -1,6 +1,13 @@
-//! What the definitions say in the words of sets: each function has laws for a contract, and does nothing.
+//! What the definitions say in the words of sets: each function has laws for a contract, and does
+//! nothing.
 
-ghost use Rattle.edf_holdings.specs.Meaning.{SameKeyIsEqual, SameRecordIsEqual, TestIsClash, HoldsIsContains, ListIsSet, HoldingsAreSets, JoinedHasBoth, AllHasBoth, FitsIsTold, AcceptedWhereFits, ClashIsNamed, ClashIsThere, CountsAreNamed, NewIsCounted, AfterHasAccepted, RefusedChangesNothing, OwnList, NearTwo, NearIsSelected};
+ghost use Rattle.edf_holdings.specs.Meaning.{SameKeyIsEqual, SameRecordIsEqual, TestIsClash};
+ghost use Rattle.edf_holdings.specs.Meaning.{HoldsIsContains, ListIsSet, HoldingsAreSets};
+ghost use Rattle.edf_holdings.specs.Meaning.{JoinedHasBoth, AllHasBoth, FitsIsTold};
+ghost use Rattle.edf_holdings.specs.Meaning.{AcceptedWhereFits, ClashIsNamed, ClashIsThere};
+ghost use Rattle.edf_holdings.specs.Meaning.{CountsAreNamed, NewIsCounted, AfterHasAccepted};
+ghost use Rattle.edf_holdings.specs.Meaning.{RefusedChangesNothing, OwnList, NearTwo};
+ghost use Rattle.edf_holdings.specs.Meaning.{NearIsSelected};
 ghost use Rattle.edf_holdings.specs.Keys.{KeysAreOne};
 
 /// The tests are what they are named for.
@@ -11,7 +18,8 @@ pub fn tests()
     ensures holds { HoldsIsContains }
 {}
 
-/// Rising lists and sound holdings are sets of data records, and the lists of keys that hold any are one.
+/// Rising lists and sound holdings are sets of data records, and the lists of keys that hold any
+/// are one.
 pub fn sets()
     ensures list { ListIsSet }
     ensures holdings { HoldingsAreSets }

@@ -71,7 +71,8 @@ fn disk_failure(tally: Tally) -> Option<Error> {
 /// Closes the store of a file. What it holds was committed, and is in the log where it can't be
 /// copied into the file.
 ///
-/// The answer is what failed of the disk while the store was open, or as it was closed, if that can be told.
+/// The answer is what failed of the disk while the store was open, or as it was closed, if that can
+/// be told.
 pub(crate) fn close_file(store: Store<FileStore<File>>) -> Option<Error> {
     match store.into_connection().close_files() {
         Ok(files) => disk_failure(files.tally()),

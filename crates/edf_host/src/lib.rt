@@ -1,6 +1,7 @@
 //! The program over the system: its words, files, stores, standard streams and status.
 //!
-//! - [`run_program`]: what the program does. What is read, written and answered is `edf_command`'s; here the system is handed to it.
+//! - [`run_program`]: what the program does. What is read, written and answered is `edf_command`'s;
+//!   here the system is handed to it.
 //! - [`run_words`]: the same by words that the caller has.
 #![tactic(auto)]
 
@@ -11,7 +12,7 @@ mod terminal;
 
 use cause::{tell_error, tell_refused};
 use disk::{close_file, is_missing, open_file, open_memory};
-use edf_command::{Order, Status, read_order, refuse_store, run, store_path};
+use edf_command::{ParsedCommand, Status, read_command, refuse_store, run, store_path};
 use edf_fragment::Counted;
 use edf_store::Store;
 use files::Files;
@@ -47,32 +48,32 @@ fn refuse_words(rt: &HostRuntime, error: &io::Error) -> Status {
     }
 }
 
-/// The order that words ask for, or the status where there is none.
-fn order_of(rt: &HostRuntime, words: &[String]) -> Result<Order, Status> {
+/// The command that words ask for, or the status where there is none.
+fn command_of(rt: &HostRuntime, words: &[String]) -> Result<ParsedCommand, Status> {
     let mut out = Counted::new(rt.stdout());
     let mut err = Counted::new(rt.stderr());
-    read_order(rt.alloc(), words, &mut out, &mut err)
+    read_command(rt.alloc(), words, &mut out, &mut err)
 }
 
-/// The terminal of an order, which shows a person how far `take` is.
-fn terminal_of<'rt>(rt: &'rt HostRuntime, order: &Order) -> Terminal<'rt> {
-    match order {
-        Order::Take { store: _, files } => Terminal::new(rt, files.len()),
+/// The terminal of a command, which shows a person how far `take` is.
+fn terminal_of<'rt>(rt: &'rt HostRuntime, command: &ParsedCommand) -> Terminal<'rt> {
+    match command {
+        ParsedCommand::Take { store: _, files } => Terminal::new(rt, files.len()),
         _ => Terminal::new(rt, 0),
     }
 }
 
-/// Runs an order over an open store.
+/// Runs a command over an open store.
 fn run_over<S: Alter>(
     rt: &HostRuntime,
-    order: &Order,
+    command: &ParsedCommand,
     store: &mut Store<S>,
     inputs: &mut Files<'_>,
     streams: &mut Streams<'_>,
 ) -> Status {
     run(
         rt.alloc(),
-        order,
+        command,
         store,
         inputs,
         &mut streams.out,
@@ -80,13 +81,13 @@ fn run_over<S: Alter>(
     )
 }
 
-/// Runs an order over the file of the store that it names. For a person it prints where that is
+/// Runs a command over the file of the store that it names. For a person it prints where that is
 /// made, and why it is refused.
 fn run_on_file(
     rt: &HostRuntime,
     terminal: &Terminal<'_>,
     path: &str,
-    order: &Order,
+    command: &ParsedCommand,
     inputs: &mut Files<'_>,
     streams: &mut Streams<'_>,
 ) -> Status {
@@ -102,7 +103,7 @@ fn run_on_file(
     if is_new {
         terminal.say(path, "no such file; made a new, empty store");
     }
-    let status = run_over(rt, order, &mut store, inputs, streams);
+    let status = run_over(rt, command, &mut store, inputs, streams);
     if let Some(failure) = close_file(store)
         && status == Status::Trouble
         && terminal.is_there()
@@ -112,16 +113,16 @@ fn run_on_file(
     status
 }
 
-/// Runs an order over an empty store in memory.
+/// Runs a command over an empty store in memory.
 fn run_in_memory(
     rt: &HostRuntime,
-    order: &Order,
+    command: &ParsedCommand,
     inputs: &mut Files<'_>,
     streams: &mut Streams<'_>,
 ) -> Status {
     match open_memory(rt.alloc()) {
         Ok(mut store) => {
-            let status = run_over(rt, order, &mut store, inputs, streams);
+            let status = run_over(rt, command, &mut store, inputs, streams);
             drop(store.into_connection());
             status
         }
@@ -129,17 +130,17 @@ fn run_in_memory(
     }
 }
 
-/// What the order asks for, done over the system's files and streams.
-fn run_order(rt: &HostRuntime, order: &Order) -> Status {
-    let terminal = terminal_of(rt, order);
+/// What the command asks for, done over the system's files and streams.
+fn run_command(rt: &HostRuntime, command: &ParsedCommand) -> Status {
+    let terminal = terminal_of(rt, command);
     let mut streams = Streams {
         out: Counted::new(Clearing::new(&terminal, rt.stdout())),
         err: Counted::new(Clearing::new(&terminal, rt.stderr())),
     };
     let mut inputs = Files::new(rt, &terminal);
-    let status = match store_path(order) {
-        Some(path) => run_on_file(rt, &terminal, path, order, &mut inputs, &mut streams),
-        None => run_in_memory(rt, order, &mut inputs, &mut streams),
+    let status = match store_path(command) {
+        Some(path) => run_on_file(rt, &terminal, path, command, &mut inputs, &mut streams),
+        None => run_in_memory(rt, command, &mut inputs, &mut streams),
     };
     terminal.wipe_progress();
     status
@@ -148,8 +149,8 @@ fn run_order(rt: &HostRuntime, order: &Order) -> Status {
 /// Does what the words after the program's name ask for, and answers the status that the program
 /// ends with: 0 to 3.
 pub fn run_words(rt: &HostRuntime, words: &[String]) -> Status {
-    match order_of(rt, words) {
-        Ok(order) => run_order(rt, &order),
+    match command_of(rt, words) {
+        Ok(command) => run_command(rt, &command),
         Err(status) => status,
     }
 }

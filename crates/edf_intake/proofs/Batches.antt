@@ -18,7 +18,7 @@ use Rattle.edf_holdings.specs.Reply.{Reply, replies, after}
 use Rattle.edf_holdings.proofs.Replies.{replies-append}
 use Rattle.edf_holdings.proofs.Settled.{after-append}
 use Rattle.edf_rows.specs.Rows.{AreKept}
-use Rattle.edf_store.specs.Held.{Kept, at, Holds, Stays}
+use Rattle.edf_store.specs.Held.{StoreModel, at, Holds, Stays}
 use Rattle.edf_intake.specs.Refusal.{Answer, reply_told}
 use Rattle.edf_intake.specs.Source.{Source, IsOfForm, Hears}
 use Rattle.edf_intake.specs.Submitted.{IsSubmitted, IsEnded}
@@ -27,7 +27,7 @@ use Rattle.edf_intake.specs.declared.answer.Refusal.TheVariants as refusal
 use Rattle.edf_intake.proofs.Turns.{IsMade, told-next, replies-next, map-next, all-next, turn_of}
 
 -- what was no refusal of a clean disk is none later
-own-one : {S : Type 0} (g : Ghosts S) (mid new : Kept S) → (HasCleanDisk (at g new) → HasCleanDisk (at g mid)) → (answer : Answer) → IsOwnRefusal g mid answer → IsOwnRefusal g new answer
+own-one : {S : Type 0} (g : Ghosts S) (mid new : StoreModel S) → (HasCleanDisk (at g new) → HasCleanDisk (at g mid)) → (answer : Answer) → IsOwnRefusal g mid answer → IsOwnRefusal g new answer
 own-one g mid new was (Ok receipt) own = tt
 own-one g mid new was (Err (refusal.Form fault)) own = tt
 own-one g mid new was (Err (refusal.Overlap start stored)) own = tt
@@ -37,7 +37,7 @@ own-one g mid new was (Err refusal.Read) own = tt
 own-one g mid new was (Err refusal.Memory) own = tt
 own-one g mid new was (Err (refusal.Store fault)) own = record { other = own.other; told = own.told; own = λ clean. own.own (was clean) }
 
-own-later : {S : Type 0} (g : Ghosts S) (mid new : Kept S) → (HasCleanDisk (at g new) → HasCleanDisk (at g mid)) → (answers : List Answer) → AllByRecursion (IsOwnRefusal g mid) answers → AllByRecursion (IsOwnRefusal g new) answers
+own-later : {S : Type 0} (g : Ghosts S) (mid new : StoreModel S) → (HasCleanDisk (at g new) → HasCleanDisk (at g mid)) → (answers : List Answer) → AllByRecursion (IsOwnRefusal g mid) answers → AllByRecursion (IsOwnRefusal g new) answers
 own-later g mid new was [] all = tt
 own-later g mid new was (a ∷ rest) all = (own-one g mid new was a all.0, own-later g mid new was rest all.1)
 
@@ -68,13 +68,13 @@ left-last cap h turns t rows (inl kept) = record {
 left-last cap h turns t rows (inr unended) = record { before = turns; behind = t ∷ []; splits = refl; stand = inr unended }
 
 -- the last of the list is the one that was added
-pub ended-next : {S : Type 0} (g : Ghosts S) (old new : Kept S) (answers : List Answer) (last : Answer) → IsEnded g new last → AreEnded g old new (answers ++ last ∷ [])
+pub ended-next : {S : Type 0} (g : Ghosts S) (old new : StoreModel S) (answers : List Answer) (last : Answer) → IsEnded g new last → AreEnded g old new (answers ++ last ∷ [])
 ended-next g old new [] last ended = ended
 ended-next g old new (a ∷ []) last ended = ended
 ended-next g old new (a ∷ b ∷ more) last ended = ended-next g old new (b ∷ more) last ended
 
 module _ {S : Type 0} (g : Ghosts S) where
-  pub none_submitted : (old : Kept S) → Stays g old old → AreSubmitted g old old [] [] []
+  pub none_submitted : (old : StoreModel S) → Stays g old old → AreSubmitted g old old [] [] []
   none_submitted old stays = record {
     turns = [];
     froms_are = refl;
@@ -87,7 +87,7 @@ module _ {S : Type 0} (g : Ghosts S) where
     crash = survives_weaker (at g old) (at g old) (λ _. ⊥) _ (λ clean rows none. absurd none) stays.crash;
   }
 
-  module _ (old mid new : Kept S) (froms tos : List Source) (answers : List Answer) (capped : mid.cap ≡ old.cap) (all : AreSubmitted g old mid froms tos answers) where
+  module _ (old mid new : StoreModel S) (froms tos : List Source) (answers : List Answer) (capped : mid.cap ≡ old.cap) (all : AreSubmitted g old mid froms tos answers) where
     next_turn : (t : Turn) → IsMade g mid new t → AreSubmitted g old new (froms ++ t.from ∷ []) (tos ++ t.to ∷ []) (answers ++ t.answer ∷ [])
     next_turn t m = record {
       turns = all.turns ++ t ∷ [];
@@ -170,7 +170,7 @@ all_told (t ∷ ts) (x ∷ xs) (y ∷ ys) each known e =
       ap (λ (o : Option Reply). somes (o ∷ map (λ (u : Turn). reply_told u.answer) ts)) first ∙ ap (λ (l : List Reply). y ∷ l) more.1,
     )
 
-pub answers_all : {S : Type 0} (g : Ghosts S) (old new : Kept S) (froms tos : List Source) (answers : List Answer) → AreSubmitted g old new froms tos answers → AnswersAll g old new froms answers
+pub answers_all : {S : Type 0} (g : Ghosts S) (old new : StoreModel S) (froms tos : List Source) (answers : List Answer) → AreSubmitted g old new froms tos answers → AnswersAll g old new froms answers
 answers_all g old new froms tos answers all tolds given known e h held =
     let said = all_told all.turns tolds given all.each
     (subst (λ (l : List Source). AllZip IsKnown l tolds) (sym all.froms_are) known)

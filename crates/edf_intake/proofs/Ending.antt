@@ -10,25 +10,25 @@ use Rattle.edf_fragment.specs.declared.fault.FragmentFault.{FragmentFault}
 use Rattle.edf_holdings.specs.Holdings.{Holdings}
 use Rattle.edf_holdings.specs.Reply.{Reply, Form, reply, after_one}
 use Rattle.edf_rows.specs.Rows.{AreKept}
-use Rattle.edf_tables.proofs.CommitLemmas.{quiet_then}
-use Rattle.edf_store.specs.Held.{Kept, at, Holds, Stays}
+use Rattle.edf_tables.proofs.Commits.{quiet_then}
+use Rattle.edf_store.specs.Held.{StoreModel, at, Holds, Stays}
 use Rattle.edf_store.specs.Fault.{IsStoreRefusal}
 use Rattle.edf_store.specs.Transaction.{Sees, IsSeen}
 use Rattle.edf_store.specs.declared.fault.StoreFault.{StoreFault}
 use Rattle.edf_store.specs.declared.fault.StoreFault.TheVariants.{Memory, Store, Foreign, Failed}
-use Rattle.edf_store.proofs.ReadyLemmas.{stays_then}
+use Rattle.edf_store.proofs.Readiness.{stays_then}
 use Rattle.edf_intake.specs.Refusal.{IsStopped, IsInDoubt}
 use Rattle.edf_intake.specs.Source.{Source, ReadsFront}
 use Rattle.edf_intake.specs.Submitted.{AreLeft, Accepts, Refuses, StopsThere, IsSubmitted}
 use Rattle.edf_intake.specs.Inside.Halt.{refusal_of}
-use Rattle.edf_intake.specs.Inside.Taken.{IsTaken, IsStop, IsRefused}
+use Rattle.edf_intake.specs.Inside.Taken.{IsAcceptedInside, IsStop, IsRefused}
 use Rattle.edf_intake.specs.declared.answer.Receipt.{Receipt}
 use Rattle.edf_intake.specs.declared.answer.Refusal.{Refusal}
 use Rattle.edf_intake.specs.declared.answer.Refusal.TheVariants as refusal
 use Rattle.edf_intake.specs.declared.answer.Stop.TheVariants.{Input}
 
 -- a fault of the store, told as a refusal
-pub refused_by : {S : Type 0} (g : Ghosts S) (old new : Kept S) (from to : Source) (fault : StoreFault) (told : Refusal)
+pub refused_by : {S : Type 0} (g : Ghosts S) (old new : StoreModel S) (from to : Source) (fault : StoreFault) (told : Refusal)
     → told ≡ refusal_of fault → StopsThere g old new from to (Err (refusal_of fault)) → (fault ≡ Foreign) ⊎ IsStoreRefusal fault → (HasCleanDisk (at g new) → IsStoreRefusal fault)
     → IsSubmitted g old new from to (Err told)
 refused_by g old new from to fault told is stops which own = subst (λ (r : Refusal). IsSubmitted g old new from to (Err r)) (sym is) (by fault stops which own)
@@ -64,7 +64,7 @@ unfolding reply
 reply_to_fault cap h fault = refl
 
 -- old was held, a transaction saw it as first, and last as it was to end, and new is held then
-module _ {S : Type 0} (g : Ghosts S) (old first last : Kept S) (from to : Source) (begun : Stays g old first) (sees : (h : Holdings) → Holds g old h → Sees g first h)
+module _ {S : Type 0} (g : Ghosts S) (old first last : StoreModel S) (from to : Source) (begun : Stays g old first) (sees : (h : Holdings) → Holds g old h → Sees g first h)
     (taken : Stays g first last) where
   capped : first.cap ≡ old.cap
   capped = begun.cap
@@ -79,7 +79,7 @@ module _ {S : Type 0} (g : Ghosts S) (old first last : Kept S) (from to : Source
   left : (told : Told) → ((h : Holdings) → Sees g first h → Sees g last (after_one first.cap h told)) → (h : Holdings) → Holds g old h → Sees g last (after_one old.cap h told)
   left told is h held = subst (λ (n : ℕ). Sees g last (after_one n h told)) capped (is h (sees h held))
 
-  module _ (new : Kept S) where
+  module _ (new : StoreModel S) where
     -- what a commit may leave
     crash_left : (told : Told) → ((h : Holdings) → Sees g first h → Sees g last (after_one first.cap h told)) → Survives (at g last) (at g new) (IsSeen g last) → Survives (at g old) (at g new) (AreLeft g old new told)
     crash_left told is survives =
@@ -87,7 +87,7 @@ module _ {S : Type 0} (g : Ghosts S) (old first last : Kept S) (from to : Source
         (survives_weaker (at g last) (at g new) (IsSeen g last) (AreLeft g old new told)
         (λ clean rows seen h held. subst (λ (n : ℕ). AreKept n rows (after_one old.cap h told)) stays.cap (seen (after_one old.cap h told) (left told is h held))) survives)
 
-    pub accepts : (receipt : Receipt) → IsTaken g first last from to receipt → new.cap ≡ last.cap → ((h : Holdings) → Sees g last h → Holds g new h)
+    pub accepts : (receipt : Receipt) → IsAcceptedInside g first last from to receipt → new.cap ≡ last.cap → ((h : Holdings) → Sees g last h → Holds g new h)
         → (HasCleanDisk (at g new) → IsTrue (at g new).is_open) → Survives (at g last) (at g new) (IsSeen g last) → Accepts g old new from to receipt
     accepts receipt t same committed is_open survives = record {
       records = t.records;
@@ -102,7 +102,7 @@ module _ {S : Type 0} (g : Ghosts S) (old first last : Kept S) (from to : Source
     }
 
     -- the commit was refused
-    pub stops_at_commit : (receipt : Receipt) → IsTaken g first last from to receipt → new.cap ≡ last.cap → ((h : Holdings) → Holds g last h → Holds g new h)
+    pub stops_at_commit : (receipt : Receipt) → IsAcceptedInside g first last from to receipt → new.cap ≡ last.cap → ((h : Holdings) → Holds g last h → Holds g new h)
         → Survives (at g last) (at g new) (IsSeen g last) → (fault : StoreFault) → IsStoreRefusal fault → StopsThere g old new from to (Err (refusal_of fault))
     stops_at_commit receipt t same refused survives fault told = inr (
       in_doubt fault told,

@@ -4,16 +4,16 @@ use Rattle.sqlite_trees.specs.declared.store.Store.{Ghosts}
 use Rattle.sqlite.specs.State.{HasCleanDisk}
 use Rattle.edf_header.specs.Key.{Key}
 use Rattle.edf_holdings.specs.Holdings.{Holdings}
-use Rattle.edf_store.specs.Held.{Kept, at}
+use Rattle.edf_store.specs.Held.{StoreModel, at}
 use Rattle.edf_store.specs.Transaction.{Sees, IsRunning, IsOf, SeesAsBefore, HasNoMore, HasAtMost, IsCountOf, TellsRoom}
 use Rattle.edf_intake.specs.Inside.Step.{IsRoom}
 use Rattle.edf_intake.proofs.Steps.{seen_is_one}
 use Rattle.edf_intake.proofs.Taking.{sees_as}
 
-pub at_most : {S : Type 0} (g : Ghosts S) (key : Key) (a b c : Kept S) → (HasCleanDisk (at g c) → HasCleanDisk (at g b)) → HasAtMost g key a b → HasNoMore g b c → HasAtMost g key a c
+pub at_most : {S : Type 0} (g : Ghosts S) (key : Key) (a b c : StoreModel S) → (HasCleanDisk (at g c) → HasCleanDisk (at g b)) → HasAtMost g key a b → HasNoMore g b c → HasAtMost g key a c
 at_most g key a b c was most none clean id k there = most (was clean) id k (none clean id k there)
 
-pub held_now : {S : Type 0} (g : Ghosts S) (old new : Kept S) (id : ℤ) (key : Key) (count : ℕ) → new.cap ≡ old.cap → IsRunning g old → SeesAsBefore g old new → IsOf g old id key
+pub held_now : {S : Type 0} (g : Ghosts S) (old new : StoreModel S) (id : ℤ) (key : Key) (count : ℕ) → new.cap ≡ old.cap → IsRunning g old → SeesAsBefore g old new → IsOf g old id key
     → (HasCleanDisk (at g new) → HasCleanDisk (at g old)) → (HasCleanDisk (at g new) → IsCountOf g old id count)
     → HasCleanDisk (at g new) → (h : Holdings) → Sees g new h → (length (h key) ≡ count) × (length (h key) ≤ new.cap)
 held_now g old new id key count cap running same under was is clean h seen =
@@ -25,7 +25,7 @@ held_now g old new id key count cap running same under was is clean h seen =
     )
 
 -- room for the number that was asked for
-pub room_now : {S : Type 0} (g : Ghosts S) (old new : Kept S) (id : ℤ) (key : Key) (more : ℕ) → new.cap ≡ old.cap → IsRunning g old → SeesAsBefore g old new → IsOf g old id key
+pub room_now : {S : Type 0} (g : Ghosts S) (old new : StoreModel S) (id : ℤ) (key : Key) (more : ℕ) → new.cap ≡ old.cap → IsRunning g old → SeesAsBefore g old new → IsOf g old id key
     → (HasCleanDisk (at g new) → HasCleanDisk (at g old)) → (HasCleanDisk (at g new) → TellsRoom g old id more true)
     → HasCleanDisk (at g new) → (h : Holdings) → Sees g new h → IsRoom old.cap (length (h key)) more more
 room_now g old new id key more cap running same under was tells clean h seen =

@@ -10,7 +10,7 @@ use Rattle.edf_fragment.specs.declared.fault.FragmentFault.TheVariants.{Header, 
 use Rattle.edf_fragment.proofs.Fragments.{reads_none}
 use Rattle.edf_fragment.proofs.OneFragment.{spelled-no-fault}
 use Rattle.sqlite_trees.specs.declared.store.Store.{Ghosts}
-use Rattle.edf_store.specs.Held.{Kept}
+use Rattle.edf_store.specs.Held.{StoreModel}
 use Rattle.edf_intake.specs.Source.{Source, SpellsNothing, ReadsWhole, ReadsSome}
 use Rattle.edf_intake.specs.Inside.Halt.{refusal_by, HaltsThere, IsToldInside}
 use Rattle.edf_intake.specs.Inside.Taken.{IsStop}
@@ -23,7 +23,7 @@ spells_none None fault first = tt
 spells_none (Some all) fault first = λ k rs s. spelled-no-fault all k rs fault s first
 
 -- a fault of the fragment, told as a refusal
-pub stopped_by : {S : Type 0} (g : Ghosts S) (old new : Kept S) (from to : Source) (fault : FragmentFault) → IsFragmentFault from.left to.left fault → CountsFault from.failed to.failed fault
+pub stopped_by : {S : Type 0} (g : Ghosts S) (old new : StoreModel S) (from to : Source) (fault : FragmentFault) → IsFragmentFault from.left to.left fault → CountsFault from.failed to.failed fault
     → IsStop g old new from to (Input (refusal_by fault))
 stopped_by g old new from to (Header e) is n = record { of_form = tt; is_fault = is; none = spells_none from.left (Header e) is.first; counted = n }
 stopped_by g old new from to (CutRecord nth) is n = record { of_form = tt; is_fault = is; none = spells_none from.left (CutRecord nth) is.first; counted = n }
@@ -41,7 +41,7 @@ pub reads_whole : (from to : Source) (l : Layout) (records : List DataRecord) �
 reads_whole from to l records r n = record { bytes = r.bytes; read = r.read; end = r.end; spells = r.spells; counted = n }
 
 -- why the data records stopped, said of the whole submission
-pub halted : {S : Type 0} (g : Ghosts S) (old new : Kept S) (from to : Source) (stop : Stop) → HaltsThere from to stop
+pub halted : {S : Type 0} (g : Ghosts S) (old new : StoreModel S) (from to : Source) (stop : Stop) → HaltsThere from to stop
     → IsToldInside g new stop → IsStop g old new from to stop
 halted g old new from to (Input told) (fault, is, reads, n) refused = subst (λ (r : Refusal). IsStop g old new from to (Input r)) (sym is) (stopped_by g old new from to fault reads n)
 halted g old new from to (Store fault) reads refused = (reads, refused)

@@ -4,7 +4,7 @@ use Rattle.std.proofs.lemmas.Bool.{cond-true, cond-false, not_from_false, not_fr
 use Rattle.edf_fragment.specs.Fragment.{DataRecord}
 use Rattle.edf_holdings.specs.Same.{same_record}
 use Rattle.edf_holdings.specs.Clash.{other_of}
-use Rattle.edf_holdings.specs.Rising.{holds}
+use Rattle.edf_holdings.specs.Rising.{contains_record}
 use Rattle.edf_holdings.proofs.Same.{same_record-refl, same_record_no}
 use Rattle.edf_holdings.proofs.Near.{held_where_near}
 
@@ -20,6 +20,6 @@ none_left r [] (suc i) l = refl
 none_left r (n ∷ ns) zero l = absurd (omega arith)
 none_left r (n ∷ ns) (suc i) l = none_left r ns i (omega arith)
 
-pub held_of_near : (r : DataRecord) (ns : List DataRecord) → 0 < length ns → other_of r ns ≡ None → holds ns r ≡ true
+pub held_of_near : (r : DataRecord) (ns : List DataRecord) → 0 < length ns → other_of r ns ≡ None → contains_record ns r ≡ true
 held_of_near r [] l o = absurd (omega arith)
 held_of_near r (n ∷ ns) l o = held_where_near r n ns o

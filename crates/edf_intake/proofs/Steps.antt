@@ -18,16 +18,16 @@ use Rattle.edf_holdings.specs.Holdings.{Holdings, put}
 use Rattle.edf_holdings.proofs.Members.{In, Within, joined_has}
 use Rattle.edf_holdings.proofs.Joining.{IsGood-from_sound, apart-sound, put_here}
 use Rattle.edf_holdings.proofs.Walked.{Taken, Walked, nothing_read, taken_room}
-use Rattle.edf_rows.proofs.RowsLemmas.{one-holdings}
-use Rattle.edf_store.specs.Held.{Kept, at}
+use Rattle.edf_rows.proofs.Rows.{one-holdings}
+use Rattle.edf_store.specs.Held.{StoreModel, at}
 use Rattle.edf_store.specs.Transaction.{Sees, IsRunning}
-use Rattle.edf_intake.specs.Inside.Step.{IsNext, IsRoom, IsTally}
+use Rattle.edf_intake.specs.Inside.Step.{CountsNext, IsRoom, IsTally}
 use Rattle.edf_intake.specs.declared.walk.Starts.{Starts}
 use Rattle.edf_intake.specs.declared.walk.Tally.{Tally}
 use Rattle.edf_intake.proofs.Walking.{Walking, starts_of, next_in_all, met_next}
 
 -- what a transaction sees is one
-pub seen_is_one : {S : Type 0} (g : Ghosts S) (now : Kept S) (h t : Holdings) → HasCleanDisk (at g now) → Sees g now h → Sees g now t → h ≡ t
+pub seen_is_one : {S : Type 0} (g : Ghosts S) (now : StoreModel S) (h t : Holdings) → HasCleanDisk (at g now) → Sees g now h → Sees g now t → h ≡ t
 seen_is_one g now h t clean a b =
     let p = a clean in
     let q = b clean in
@@ -37,7 +37,7 @@ pub empty_within : (xs ys : List DataRecord) → Within xs ys → ys ≡ [] → 
 empty_within [] ys w e = refl
 empty_within (x ∷ xs) ys w e = absurd (subst (λ (l : List DataRecord). In x l) e (w x (inl refl)))
 
-module _ {S : Type 0} (g : Ghosts S) (first : Kept S) (l : Layout) (before left : Option (List ℕ)) (header : ReadsHeader before left l) (room : ℕ)
+module _ {S : Type 0} (g : Ghosts S) (first : StoreModel S) (l : Layout) (before left : Option (List ℕ)) (header : ReadsHeader before left l) (room : ℕ)
     (space : HasCleanDisk (at g first) → (h : Holdings) → Sees g first h → IsRoom first.cap (length (h l.key)) (most_records l.count) room) where
   held_apart : HasCleanDisk (at g first) → (h : Holdings) → Sees g first h → IsApart (duration_of l.key.duration) 0 (h l.key)
   held_apart clean h seen = (IsGood-from_sound first.cap h (seen clean).sound).apart l.key
@@ -54,7 +54,7 @@ module _ {S : Type 0} (g : Ghosts S) (first : Kept S) (l : Layout) (before left 
   }
 
   -- while no clash was met and there is room, the recording has fewer than the cap
-  pub few_seen : (now : Kept S) (rest : Option (List ℕ)) (p : Progress) (tally : Tally) → Walking g first now l left rest p tally → IsRunning g first
+  pub few_seen : (now : StoreModel S) (rest : Option (List ℕ)) (p : Progress) (tally : Tally) → Walking g first now l left rest p tally → IsRunning g first
       → (HasCleanDisk (at g now) → HasCleanDisk (at g first)) → now.cap ≡ first.cap → HasCleanDisk (at g now) → tally.clash ≡ None → tally.new < room
       → (h : Holdings) → Sees g now h → length (h l.key) < now.cap
   few_seen now rest p tally w running was same clean none low h seen =
@@ -69,7 +69,7 @@ module _ {S : Type 0} (g : Ghosts S) (first : Kept S) (l : Layout) (before left 
       subst (λ (n : ℕ). length (h l.key) < n) (sym same) said
 
   -- and where it holds none then, the next record is the first, with which it may start: each one before it was put in
-  pub first_seen : (now : Kept S) (mid rest : Option (List ℕ)) (p q : Progress) (tally : Tally) (r : DataRecord) → Walking g first now l left mid p tally → p.status ≡ Reading
+  pub first_seen : (now : StoreModel S) (mid rest : Option (List ℕ)) (p q : Progress) (tally : Tally) (r : DataRecord) → Walking g first now l left mid p tally → p.status ≡ Reading
       → IsAnswer l p q mid rest (Ok (Some r)) → IsRunning g first → (HasCleanDisk (at g now) → HasCleanDisk (at g first)) → HasCleanDisk (at g now) → tally.clash ≡ None → tally.new < room
       → (h : Holdings) → Sees g now h → h l.key ≡ [] → MayStart l.key r.start
   first_seen now mid rest p q tally r w going answer running was clean none low h seen empty =
@@ -84,10 +84,10 @@ module _ {S : Type 0} (g : Ghosts S) (first : Kept S) (l : Layout) (before left 
       subst (λ (rs : List DataRecord). MayBegin l.key (rs ++ r ∷ [])) before_it (read-begins before left rest l (w.records ++ r ∷ []) q header read)
 
   -- one record more
-  pub one_turn : (now next : Kept S) (mid rest : Option (List ℕ)) (p q : Progress) (from to : Tally) (r : DataRecord) → Walking g first now l left mid p from
+  pub one_turn : (now next : StoreModel S) (mid rest : Option (List ℕ)) (p q : Progress) (from to : Tally) (r : DataRecord) → Walking g first now l left mid p from
       → p.status ≡ Reading → IsAnswer l p q mid rest (Ok (Some r)) → q.given ≡ p.given + 1 → p.given < most_records l.count
       → (HasCleanDisk (at g next) → HasCleanDisk (at g now)) → (HasCleanDisk (at g now) → HasCleanDisk (at g first))
-      → (HasCleanDisk (at g next) → (h : Holdings) → Sees g now h → (t : Holdings) × Sees g next t × IsNext room l.key r h from t to)
+      → (HasCleanDisk (at g next) → (h : Holdings) → Sees g now h → (t : Holdings) × Sees g next t × CountsNext room l.key r h from t to)
       → to.new + to.known ≤ from.new + from.known + 1
       → Walking g first next l left rest q to
   one_turn now next mid rest p q from to r w going answer given wanted was first_was step counted =
@@ -114,7 +114,7 @@ module _ {S : Type 0} (g : Ghosts S) (first : Kept S) (l : Layout) (before left 
   tally_of h t records new known (Some s) k = record { pair = k.pair; first = k.first; start = k.start; stored = k.stored }
 
   -- the end
-  pub at_end : (now : Kept S) (mid rest : Option (List ℕ)) (p q : Progress) (tally : Tally) → Walking g first now l left mid p tally → p.status ≡ Reading
+  pub at_end : (now : StoreModel S) (mid rest : Option (List ℕ)) (p q : Progress) (tally : Tally) → Walking g first now l left mid p tally → p.status ≡ Reading
       → IsAnswer l p q mid rest (Ok None) → (HasCleanDisk (at g now) → HasCleanDisk (at g first))
       → (records : List DataRecord)
       × ((other : Option (List ℕ)) → ReadsHeader other left l → ReadsFragment other rest l records)

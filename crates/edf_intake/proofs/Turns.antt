@@ -10,7 +10,7 @@ use Rattle.edf_holdings.specs.Holdings.{Holdings, IsSound}
 use Rattle.edf_holdings.specs.Reply.{IsSoundTold, Reply, Form, Overlap, Differs, Full, Accepted, IsAccepted, reply, replies, after}
 use Rattle.edf_holdings.proofs.Accepted.{refused_changes_nothing}
 use Rattle.edf_rows.specs.Rows.{AreKept}
-use Rattle.edf_store.specs.Held.{Kept, at, Holds, Stays}
+use Rattle.edf_store.specs.Held.{StoreModel, at, Holds, Stays}
 use Rattle.edf_intake.specs.Refusal.{Answer, reply_told, IsStopped, IsInDoubt}
 use Rattle.edf_intake.specs.Source.{Source, Hears, FailsToRead, ReadsFront}
 use Rattle.edf_intake.specs.Submitted.{AreLeft, Leaves, MayLeave, Refuses, StopsThere, IsSubmitted}
@@ -41,7 +41,7 @@ replies-next turns t = ap somes (map-next (λ (u : Turn). reply_told u.answer) t
 -- ---- one turn
 
 -- one submission, as the turn of a list
-pub record IsMade {S : Type 0} (g : Ghosts S) (old new : Kept S) (t : Turn) : Type 0 where
+pub record IsMade {S : Type 0} (g : Ghosts S) (old new : StoreModel S) (t : Turn) : Type 0 where
   pub is_turn : IsTurn t
   pub own : IsOwnRefusal g new t.answer
   pub cap : new.cap ≡ old.cap
@@ -57,7 +57,7 @@ sound_told from to (Fragment key records) r = (
 )
 sound_told from to (Fault fault) r = tt
 
-module _ {S : Type 0} (g : Ghosts S) (old new : Kept S) (from to : Source) where
+module _ {S : Type 0} (g : Ghosts S) (old new : StoreModel S) (from to : Source) where
   accepted_turn : (answer : Answer) (told : Told) (given : Reply) → IsOwnRefusal g new answer → reply_told answer ≡ Some given → MayBeAnswered told given → Hears from to told
       → (HasCleanDisk (at g new) → (h : Holdings) → Holds g old h → reply old.cap h told ≡ given) → Leaves g old new told
       → IsMade g old new (record { from = from; to = to; answer = answer; told = Some told })

@@ -11,12 +11,12 @@ use Rattle.edf_holdings.specs.Holdings.{Holdings, put}
 use Rattle.edf_holdings.specs.Reply.{IsSoundTold, reply}
 use Rattle.edf_holdings.proofs.Members.{joined_has}
 use Rattle.edf_holdings.proofs.Joining.{IsGood-from_sound, put_here, put_grows}
-use Rattle.edf_store.specs.Held.{Kept, at}
-use Rattle.edf_store.specs.Transaction.{Sees, IsRunning, HasAtMost, HasNoMore, IsWhole}
+use Rattle.edf_store.specs.Held.{StoreModel, at}
+use Rattle.edf_store.specs.Transaction.{Sees, IsRunning, HasAtMost, HasNoMore, EachHasRecord}
 use Rattle.edf_intake.specs.Refusal.{reply_told}
 use Rattle.edf_intake.specs.Source.{Source, ReadsWhole}
 use Rattle.edf_intake.specs.Inside.Step.{IsRoom, IsTally}
-use Rattle.edf_intake.specs.Inside.Taken.{IsConflict, IsTaken, IsStop}
+use Rattle.edf_intake.specs.Inside.Taken.{IsConflict, IsAcceptedInside, IsStop}
 use Rattle.edf_intake.specs.declared.walk.Tally.{Tally}
 use Rattle.edf_intake.specs.declared.answer.Refusal.{Refusal}
 use Rattle.edf_intake.specs.declared.answer.Refusal.TheVariants as refusal
@@ -28,10 +28,10 @@ none_there : (xs : List DataRecord) → 1 ≤ length xs → xs ≢ []
 none_there xs some e = absurd (omega (arith, some, ap (λ (l : List DataRecord). length l) e))
 
 -- each recording holds a record, if each did and the one that was made takes some
-pub still_whole : {S : Type 0} (g : Ghosts S) (first made last : Kept S) (key : Key) (records : List DataRecord) → 1 ≤ length records
-    → IsWhole g first → IsRunning g first → HasAtMost g key first made → HasNoMore g made last
+pub still_whole : {S : Type 0} (g : Ghosts S) (first made last : StoreModel S) (key : Key) (records : List DataRecord) → 1 ≤ length records
+    → EachHasRecord g first → IsRunning g first → HasAtMost g key first made → HasNoMore g made last
     → (HasCleanDisk (at g last) → HasCleanDisk (at g made)) → (HasCleanDisk (at g made) → HasCleanDisk (at g first))
-    → (HasCleanDisk (at g last) → (h : Holdings) → Sees g first h → Sees g last (put key records h)) → IsWhole g last
+    → (HasCleanDisk (at g last) → (h : Holdings) → Sees g first h → Sees g last (put key records h)) → EachHasRecord g last
 still_whole g first made last key records some whole running most none was_made was_first then clean h id k seen under =
     let start = running (was_first (was_made clean)) in
     let begun : Sees g first start.0 = λ _. start.1 in
@@ -44,7 +44,7 @@ still_whole g first made last key records some whole running most none was_made 
           (λ e. none_there records some (empty_within records (joined (start.0 key) records) (joined_has (start.0 key) records) (sym (put_here key records start.0) ∙ e)))
     ])
 
-module _ {S : Type 0} (g : Ghosts S) (first made last : Kept S) (from to : Source) (key : Key) (records : List DataRecord) (read : ReadsWhole from to key records)
+module _ {S : Type 0} (g : Ghosts S) (first made last : StoreModel S) (from to : Source) (key : Key) (records : List DataRecord) (read : ReadsWhole from to key records)
     (room : ℕ) (tally : Tally)
     (was_made : HasCleanDisk (at g last) → HasCleanDisk (at g made)) (was_first : HasCleanDisk (at g made) → HasCleanDisk (at g first))
     (same : (h : Holdings) → Sees g first h → Sees g made h)
@@ -63,7 +63,7 @@ module _ {S : Type 0} (g : Ghosts S) (first made last : Kept S) (from to : Sourc
   pub put_seen : tally.clash ≡ None → tally.new ≤ room → HasCleanDisk (at g last) → (h : Holdings) → Sees g first h → Sees g last (put key records h)
   put_seen none low clean h seen = (met clean h (same h seen)).1 none low
 
-  pub is_taken : tally.clash ≡ None → tally.new ≤ room → IsTaken g first last from to (record { identity = key; new = tally.new; known = tally.known })
+  pub is_taken : tally.clash ≡ None → tally.new ≤ room → IsAcceptedInside g first last from to (record { identity = key; new = tally.new; known = tally.known })
   is_taken none low = record {
     records = records;
     read = read;

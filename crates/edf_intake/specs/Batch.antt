@@ -9,7 +9,7 @@ use Rattle.edf_fragment.specs.Told.{Told, Fragment, Fault, Tells}
 use Rattle.edf_holdings.specs.Holdings.{Holdings}
 use Rattle.edf_holdings.specs.Reply.{Reply, Form, Accepted, after_one, after, replies}
 use Rattle.edf_rows.specs.Rows.{AreKept}
-use Rattle.edf_store.specs.Held.{Kept, at, Holds}
+use Rattle.edf_store.specs.Held.{StoreModel, at, Holds}
 use Rattle.edf_intake.specs.Refusal.{Answer, reply_told, IsStopped, IsInDoubt}
 use Rattle.edf_intake.specs.Submitted.{IsRefusal, IsEnded}
 use Rattle.edf_intake.specs.declared.answer.Refusal.TheVariants as refusal
@@ -19,7 +19,7 @@ use Rattle.edf_intake.specs.Source.{Source, Hears, FailsToRead, ReadsFront}
 abbrev pub WillTell : Source → Told → Type 0
 WillTell from told = (bytes : List ℕ) × (from.left ≡ Some bytes) × Tells bytes told
 
-module _ {S : Type 0} (g : Ghosts S) (old new : Kept S) where
+module _ {S : Type 0} (g : Ghosts S) (old new : StoreModel S) where
   -- the plain case: where the inputs tell these and each answer tells a reply, the answers are the replies to the list, and what is
   -- held then is what the list leaves
   abbrev pub AnswersAll : List Source → List Answer → Type 0
@@ -65,7 +65,7 @@ abbrev pub IsTurn : Turn → Type 0
 IsTurn t = GoesWith t t.told (reply_told t.answer)
 
 -- where the store refused, the answer says what that of one submission says
-abbrev pub IsOwnRefusal : {S : Type 0} → Ghosts S → Kept S → Answer → Type 0
+abbrev pub IsOwnRefusal : {S : Type 0} → Ghosts S → StoreModel S → Answer → Type 0
 IsOwnRefusal g new (Err (refusal.Store fault)) = IsRefusal g new fault
 IsOwnRefusal g new answer = Unit {0}
 
@@ -81,7 +81,7 @@ pub record AreLeftBy (cap : ℕ) (h : Holdings) (turns : List Turn) (rows : Tree
   pub splits : turns ≡ before ++ behind
   pub stand : AreKept cap rows (after cap h (told_in before)) ⊎ AreUnended cap (after cap h (told_in before)) behind rows
 
-module _ {S : Type 0} (g : Ghosts S) (old new : Kept S) where
+module _ {S : Type 0} (g : Ghosts S) (old new : StoreModel S) where
   -- every case: the inputs were submitted in turn. Those answered E40 to E42 or E45 add nothing; the others are answered and leave
   -- what they would without those; a crash leaves what it could leave before, or what some first inputs leave
   pub record AreSubmitted (froms tos : List Source) (answers : List Answer) : Type 0 where
@@ -96,7 +96,7 @@ module _ {S : Type 0} (g : Ghosts S) (old new : Kept S) where
     pub crash : Survives (at g old) (at g new) (λ rows. (h : Holdings) → Holds g old h → AreLeftBy old.cap h turns rows)
 
 -- after the last input no transaction is open, as its answer says; without inputs the store is as it was
-abbrev pub AreEnded : {S : Type 0} → Ghosts S → Kept S → Kept S → List Answer → Type 0
+abbrev pub AreEnded : {S : Type 0} → Ghosts S → StoreModel S → StoreModel S → List Answer → Type 0
 AreEnded g old new [] = new ≡ old
 AreEnded g old new (answer ∷ []) = IsEnded g new answer
 AreEnded g old new (answer ∷ next ∷ more) = AreEnded g old new (next ∷ more)

@@ -10,7 +10,7 @@ use Rattle.edf_fragment.specs.Told.{Told, Fragment, Fault}
 use Rattle.edf_holdings.specs.Holdings.{Holdings}
 use Rattle.edf_holdings.specs.Reply.{Reply, Form, Overlap, Differs, Full, Accepted, reply, after_one}
 use Rattle.edf_rows.specs.Rows.{AreKept}
-use Rattle.edf_store.specs.Held.{Kept, at, Holds, Stays}
+use Rattle.edf_store.specs.Held.{StoreModel, at, Holds, Stays}
 use Rattle.edf_store.specs.Fault.{IsStoreRefusal}
 use Rattle.edf_store.specs.declared.fault.StoreFault.{StoreFault}
 use Rattle.edf_store.specs.declared.fault.StoreFault.TheVariants as store
@@ -20,12 +20,12 @@ use Rattle.edf_intake.specs.declared.answer.Receipt.{Receipt}
 use Rattle.edf_intake.specs.declared.answer.Refusal.TheVariants as refusal
 
 -- the store refused, E42 or E45: out of memory is a refusal of its own, E41, and on a clean disk it is not E45
-pub record IsRefusal {S : Type 0} (g : Ghosts S) (new : Kept S) (fault : StoreFault) : Type 0 where
+pub record IsRefusal {S : Type 0} (g : Ghosts S) (new : StoreModel S) (fault : StoreFault) : Type 0 where
   pub other : fault ≢ store.Memory
   pub told : (fault ≡ store.Foreign) ⊎ IsStoreRefusal fault
   pub own : HasCleanDisk (at g new) → IsStoreRefusal fault
 
-module _ {S : Type 0} (g : Ghosts S) (old new : Kept S) where
+module _ {S : Type 0} (g : Ghosts S) (old new : StoreModel S) where
   -- the answer: whatever was held, this is the reply to what is told
   abbrev pub RepliesWith : Told → Reply → Type 0
   RepliesWith told answer = HasCleanDisk (at g new) → (h : Holdings) → Holds g old h → reply old.cap h told ≡ answer
@@ -79,16 +79,16 @@ module _ {S : Type 0} (g : Ghosts S) (old new : Kept S) where
     -- each answer, what it says of the input and what it leaves
     abbrev pub IsSubmitted : Answer → Type 0
     IsSubmitted (Ok receipt) = Accepts receipt
-    IsSubmitted (Err (refusal.Form fault)) = Refuses (Fault fault) (Form fault)                        -- E1 to E29
-    IsSubmitted (Err (refusal.Overlap start stored)) = RefusesFragment (Overlap start stored)          -- E30
-    IsSubmitted (Err (refusal.Differs start)) = RefusesFragment (Differs start)                        -- E31
-    IsSubmitted (Err (refusal.Full held new cap)) = RefusesFragment (Full held new cap)                -- E32
-    IsSubmitted (Err refusal.Read) = FailsThere                                                        -- E40
-    IsSubmitted (Err refusal.Memory) = StopsThere (Err refusal.Memory)                                 -- E41
-    IsSubmitted (Err (refusal.Store fault)) = StopsThere (Err (refusal.Store fault)) × IsRefusal g new fault -- E42, E45
+    IsSubmitted (Err (refusal.Form fault)) = Refuses (Fault fault) (Form fault)  -- E1 to E29
+    IsSubmitted (Err (refusal.Overlap start stored)) = RefusesFragment (Overlap start stored)  -- E30
+    IsSubmitted (Err (refusal.Differs start)) = RefusesFragment (Differs start)  -- E31
+    IsSubmitted (Err (refusal.Full held new cap)) = RefusesFragment (Full held new cap)  -- E32
+    IsSubmitted (Err refusal.Read) = FailsThere  -- E40
+    IsSubmitted (Err refusal.Memory) = StopsThere (Err refusal.Memory)  -- E41
+    IsSubmitted (Err (refusal.Store fault)) = StopsThere (Err (refusal.Store fault)) × IsRefusal g new fault  -- E42, E45
 
 -- no transaction is open then, but where memory ran out or the store refused
-abbrev pub IsEnded : {S : Type 0} → Ghosts S → Kept S → Answer → Type 0
+abbrev pub IsEnded : {S : Type 0} → Ghosts S → StoreModel S → Answer → Type 0
 IsEnded g new answer = HasCleanDisk (at g new) → IsStopped answer ⊎ ((at g new).in_transaction ≡ false)
 
 -- the answer of a store whose connection was found in a transaction: E42 without a cause

@@ -10,7 +10,8 @@ use edf_store::StoreFault;
 use edf_time::Instant;
 use thiserror::Error;
 
-/// The answer to an accepted fragment: whose it is, and how many of its data records were added and were there.
+/// The answer to an accepted fragment: whose it is, and how many of its data records were added and
+/// were there.
 #[derive(Drop)]
 pub struct Receipt {
     /// The identity of the recording.
@@ -27,14 +28,15 @@ pub enum Refusal {
     /// E1 to E29: the input is no fragment. The fault is neither a failed read nor out of memory.
     #[error("{0}")]
     Form(FragmentFault),
-    /// E30: a data record overlaps a stored one that starts at another instant. It is the first of the fragment that clashes,
-    /// and the stored one is the earliest that it clashes with.
+    /// E30: a data record overlaps a stored one that starts at another instant. It is the first of
+    /// the fragment that clashes, and the stored one is the earliest that it clashes with.
     #[error("a data record overlaps a stored one")]
     Overlap { start: Instant, stored: Instant },
     /// E31: another data record is stored at this start.
     #[error("another data record is stored at the same start")]
     Differs { start: Instant },
-    /// E32: the recording would have more data records than the cap: those held, and the fragment's that are not stored.
+    /// E32: the recording would have more data records than the cap: those held, and the fragment's
+    /// that are not stored.
     #[error("the recording has {held} data records, and {new} more are past the cap of {cap}")]
     Full { held: u32, new: u32, cap: u32 },
     /// E40: a read failed.

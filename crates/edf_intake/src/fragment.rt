@@ -13,10 +13,10 @@ ghost use Rattle.edf_holdings.specs.Reply.{reply};
 ghost use Rattle.edf_store.specs.Fault.{IsStoreRefusal};
 ghost use Rattle.edf_store.specs.Held.{at, Stays};
 ghost use Rattle.edf_store.specs.Transaction.{Sees, IsRunning, IsOf, SeesAsBefore, HasNoMore};
-ghost use Rattle.edf_store.specs.Transaction.{HasAtMost, IsWhole, TellsRoom};
+ghost use Rattle.edf_store.specs.Transaction.{HasAtMost, EachHasRecord, TellsRoom};
 ghost use Rattle.edf_intake.specs.Refusal.{reply_told};
 ghost use Rattle.edf_intake.specs.Inside.Step.{IsRoom, IsTally};
-ghost use Rattle.edf_intake.specs.Inside.Taken.{IsConflict, IsTaken, IsStop};
+ghost use Rattle.edf_intake.specs.Inside.Taken.{IsConflict, IsAcceptedInside, IsStop};
 
 use crate::answer::{Receipt, Refusal, Stop};
 use crate::walk::{Recording, Starts, Tally, take_records};
@@ -26,7 +26,8 @@ use edf_store::{RecordingId, StoreFault, StoreTx};
 use sqlite::Alter;
 use std::alloc::Global;
 
-/// The room for the data records of a fragment, where their number is known and the recording has it.
+/// The room for the data records of a fragment, where their number is known and the recording has
+/// it.
 fn known_room<S: Alter>(
     transaction: &mut StoreTx<'_, S>,
     id: RecordingId,
@@ -165,7 +166,8 @@ fn answer_of(
     }
 }
 
-/// Reads a fragment to its end and adds what is new of it, as long as nothing clashes and there is room.
+/// Reads a fragment to its end and adds what is new of it, as long as nothing clashes and there is
+/// room.
 pub(crate) fn take_fragment<S: Alter, R: Input>(
     alloc: Global,
     transaction: &mut StoreTx<'_, S>,
@@ -174,14 +176,15 @@ pub(crate) fn take_fragment<S: Alter, R: Input>(
 ) -> Result<Receipt, Stop>
     requires spared { transaction.old.refused ≡ false }
     requires running { IsRunning S.Store transaction.old.store.now }
-    requires whole { IsWhole S.Store transaction.old.store.now }
+    requires whole { EachHasRecord S.Store transaction.old.store.now }
     requires cap { cap ≡ transaction.old.store.now.cap }
     ensures same_reference { transaction.new.store.ghost_name ≡ transaction.old.store.ghost_name }
     ensures stays { Stays S.Store transaction.old.store.now transaction.new.store.now }
     ensures spared { IfOk result (λ _. transaction.new.refused ≡ false) }
     ensures running { IfOk result (λ _. IsRunning S.Store transaction.new.store.now) }
-    ensures whole { IfOk result (λ _. IsWhole S.Store transaction.new.store.now) }
-    ensures taken { IfOk result (IsTaken S.Store transaction.old.store.now transaction.new.store.now
+    ensures whole { IfOk result (λ _. EachHasRecord S.Store transaction.new.store.now) }
+    ensures taken { IfOk result
+        (IsAcceptedInside S.Store transaction.old.store.now transaction.new.store.now
         (record { left = R.remaining input.old; failed = R.failures input.old })
         (record { left = R.remaining input.new; failed = R.failures input.new })) }
     ensures stopped { IfErr result

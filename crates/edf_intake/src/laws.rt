@@ -5,9 +5,10 @@ ghost use Rattle.edf_holdings.specs.Laws.{FromTheFront, AnyOrder, Reordered, Alo
 ghost use Rattle.edf_holdings.specs.Laws.{FreeOfSame};
 ghost use Rattle.edf_holdings.specs.Meaning.{OwnList};
 
-/// A list acts once: a fragment that is held is accepted with nothing new; a later repeat of a member that was accepted is
-/// accepted with nothing new, and one of a refused member is refused again; without the repeat all else is the same; and a list
-/// broken off and sent again from its front ends alike.
+/// A list acts once: a fragment that is held is accepted with nothing new; a later repeat of a
+/// member that was accepted is accepted with nothing new, and one of a refused member is refused
+/// again; without the repeat all else is the same; and a list broken off and sent again from its
+/// front ends alike.
 pub fn once()
     ensures held { HeldIsKnown }
     ensures accepted { AcceptedAgain }
@@ -18,7 +19,8 @@ pub fn once()
     edf_holdings::laws::once();
 }
 
-/// A list that is free of conflicts is accepted whole; reordered, or with repeats, it is as free and ends alike.
+/// A list that is free of conflicts is accepted whole; reordered, or with repeats, it is as free
+/// and ends alike.
 pub fn any_order()
     ensures accepted { AnyOrder }
     ensures reordered { Reordered }
@@ -27,9 +29,9 @@ pub fn any_order()
     edf_holdings::laws::any_order();
 }
 
-/// Lists that are free of conflicts and hold the same records end alike, however they are cut; and if one is free, so is the
-/// other. A recording's own list of data records is accepted with nothing new where it is held, and where nothing is held it
-/// leaves just that recording.
+/// Lists that are free of conflicts and hold the same records end alike, however they are cut; and
+/// if one is free, so is the other. A recording's own list of data records is accepted with nothing
+/// new where it is held, and where nothing is held it leaves just that recording.
 pub fn recut()
     ensures same { Recut }
     ensures free { FreeOfSame }

@@ -13,7 +13,7 @@ ghost use Rattle.edf_holdings.specs.Holdings.{Holdings, put};
 ghost use Rattle.edf_store.specs.Held.{at, Stays};
 ghost use Rattle.edf_store.specs.Transaction.{Sees, IsRunning, IsOf, SeesAsBefore, HasNoMore};
 ghost use Rattle.edf_intake.specs.Inside.Gap.{IsGapIn};
-ghost use Rattle.edf_intake.specs.Inside.Step.{IsNext, IsRoom, IsTally, IsStep, IsStepIn};
+ghost use Rattle.edf_intake.specs.Inside.Step.{CountsNext, IsRoom, IsTally, IsStep, IsStepIn};
 ghost use Rattle.edf_intake.specs.Inside.Halt.{HaltsThere, IsRefusedInside, IsToldInside};
 
 use crate::answer::{Stop, refusal_by};
@@ -176,7 +176,7 @@ fn take_record<S: Alter>(
     ensures next { IfOk result (λ next. HasCleanDisk (at S.Store transaction.new.store.now) →
         (h : Holdings) → Sees S.Store transaction.old.store.now h →
         (t : Holdings) × Sees S.Store transaction.new.store.now t ×
-        IsNext recording.room identity.now data_record.now h course.tally t next.tally) }
+        CountsNext recording.room identity.now data_record.now h course.tally t next.tally) }
     ensures gap { IfOk result (λ next. HasCleanDisk (at S.Store transaction.new.store.now) →
         IsGapIn S.Store transaction.new.store.now identity.now next.gap) }
     ensures counted { IfOk result (λ next.

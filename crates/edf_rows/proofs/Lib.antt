@@ -1,3 +1,3 @@
-pub mod CellLemmas
-pub mod RowsLemmas
-pub mod KeptLemmas
+pub mod RowCells
+pub mod Rows
+pub mod Kept

@@ -13,7 +13,7 @@ use Rattle.edf_tal.specs.declared.place.Place.TheVariants.{Any}
 use Rattle.edf_tal.specs.Canonical.{block_text}
 use Rattle.edf_rows.specs.Cells.{recordings_in, records_in}
 use Rattle.edf_schema.specs.Columns.{the_id, the_identity, the_start, the_samples, the_block, stored_records, is_of}
-use Rattle.edf_rows.specs.Rows.{IsThere, IsRecording, AreTwoOf}
+use Rattle.edf_rows.specs.Rows.{IsThere, IsRecordingRow, AreTwoOf}
 
 -- the cell is an instant of the window
 abbrev pub IsStart : Row → ℕ → Type 0
@@ -68,7 +68,7 @@ pub data AreBadRecords (cap : ℕ) (k : Key) (rows : List Row) : Type 0 where
 -- recording's records are bad; a record's recording is not there; or, which the tables themselves
 -- exclude, an id or an identity occurs twice
 pub data IsForeign (cap : ℕ) (trees : Trees) : Type 0 where
-  bad_recording : (row : Row) → Contains (recordings_in trees) row → ¬ IsRecording row → IsForeign cap trees
+  bad_recording : (row : Row) → Contains (recordings_in trees) row → ¬ IsRecordingRow row → IsForeign cap trees
   bad_records : (id : ℤ) (k : Key) → IsThere trees id k → AreBadRecords cap k (records_in trees id) → IsForeign cap trees
   without_recording : (row : Row) → Contains (stored_records trees) row → ((id : ℤ) (k : Key) → IsThere trees id k → ¬ IsTrue (is_of id row)) → IsForeign cap trees
   twice : (a b : Row) → AreTwoOf (recordings_in trees) a b → (the_id a ≡ the_id b) ⊎ (the_identity a ≡ the_identity b) → IsForeign cap trees

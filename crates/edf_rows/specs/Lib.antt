@@ -1,4 +1,4 @@
 pub mod Cells
 pub mod Rows
 pub mod Foreign
-pub mod Shape
+pub mod Inside

@@ -6,6 +6,8 @@ use Rattle.edf_header.specs.Key.{Key, IsKey}
 use Rattle.edf_holdings.specs.Holdings.{Holdings, IsSound}
 use Rattle.edf_rows.specs.Cells.{record_cells, recording_cells, recordings_in, records_in}
 use Rattle.edf_schema.specs.Columns.{the_id, the_identity, stored_records, is_of}
+use Rattle.edf_fragment.specs.Fragment.{DataRecord}
+use Rattle.edf_fragment.specs.Sound.{IsSoundRecord}
 
 -- the key's recording is there, under this id
 pub record IsThere (trees : Trees) (id : ℤ) (k : Key) : Type 0 where
@@ -13,7 +15,7 @@ pub record IsThere (trees : Trees) (id : ℤ) (k : Key) : Type 0 where
   pub key : IsKey k
 
 -- the row is a recording's: an id and the bytes of a key
-pub record IsRecording (row : Row) : Type 0 where
+pub record IsRecordingRow (row : Row) : Type 0 where
   pub id : ℤ
   pub key : Key
   pub cells : row ≡ recording_cells id key
@@ -40,7 +42,7 @@ pub record AreOther (a b : Row) : Type 0 where
 -- starts are what its key holds. A key without a recording holds nothing; a recording without a
 -- record is possible inside a transaction
 pub record StandFor (trees : Trees) (h : Holdings) : Type 0 where
-  pub recordings : All IsRecording (recordings_in trees)
+  pub recordings : All IsRecordingRow (recordings_in trees)
   pub apart : (a b : Row) → AreTwoOf (recordings_in trees) a b → AreOther a b
   pub owned : All (IsOwned trees) (stored_records trees)
   pub held : (id : ℤ) (k : Key) → IsThere trees id k → records_in trees id ≡ map record_cells (h k)
@@ -51,3 +53,8 @@ pub record AreKept (cap : ℕ) (trees : Trees) (h : Holdings) : Type 0 where
   pub stand : StandFor trees h
   pub sound : IsSound cap h
   pub each : (id : ℤ) (k : Key) → IsThere trees id k → records_in trees id ≢ []
+
+-- the row is this data record's, which is a sound one of the key
+pub record IsRowOf (k : Key) (r : DataRecord) (row : Row) : Type 0 where
+  pub cells : row ≡ record_cells r
+  pub sound : IsSoundRecord k r

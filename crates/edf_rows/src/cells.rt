@@ -7,7 +7,8 @@ ghost use Rattle.edf_tal.specs.declared.place.Place.TheVariants.{Any};
 ghost use Rattle.edf_tal.specs.Canonical.{block_text};
 ghost use Rattle.edf_fragment.specs.Fragment.{DataRecord};
 ghost use Rattle.edf_rows.specs.Foreign.{IsBadRow};
-ghost use Rattle.edf_rows.specs.Shape.{IsUnread, OwnBlock, NoOwnBlock, IsRowOf};
+ghost use Rattle.edf_rows.specs.Rows.{IsRowOf};
+ghost use Rattle.edf_rows.specs.Inside.Shape.{IsUnread, OwnBlock, NoOwnBlock};
 
 use edf_fragment::Record;
 use edf_header::Identity;
@@ -82,7 +83,8 @@ pub fn check_row(
 ) -> Result<Option<Instant>, AllocError>
     ensures { IfOk result (λ o. MatchOption o
         (IsBadRow identity.now (Int start ∷ Blob samples.now ∷ Blob block.now ∷ []))
-        (λ s. (r : DataRecord) × (s ≡ r.start) × IsRowOf identity.now r (Int start ∷ Blob samples.now ∷ Blob block.now ∷ []))) }
+        (λ s. (r : DataRecord) × (s ≡ r.start)
+        × IsRowOf identity.now r (Int start ∷ Blob samples.now ∷ Blob block.now ∷ []))) }
 {
     if samples.len() != identity.ordinary_bytes() {
         return Ok(None);
@@ -99,7 +101,8 @@ pub fn check_row(
 
 /// The data record of a row that `check_row` accepts, by the samples and the block of the row.
 ///
-/// Of another row it gives any data record, or `None`: the block is not written again to compare it.
+/// Of another row it gives any data record, or `None`: the block is not written again to compare
+/// it.
 ///
 /// # Errors
 /// Where memory runs out, which says nothing of the row.
@@ -117,12 +120,14 @@ pub fn record_from(
     Ok(Record::new(start, samples, notes))
 }
 
-/// The cell of a data record's annotations: the block that is written for them with 1985-01-01 00:00:00 for a base.
+/// The cell of a data record's annotations: the block that is written for them with 1985-01-01
+/// 00:00:00 for a base.
 ///
 /// # Errors
 /// Where memory runs out.
 pub fn block_of(alloc: Global, data_record: &Record) -> Result<Vec<u8>, AllocError>
-    ensures { IfOk result (λ v. v.items ≡ block_text 0 data_record.now.start data_record.now.annotations) }
+    ensures { IfOk result
+        (λ v. v.items ≡ block_text 0 data_record.now.start data_record.now.annotations) }
 {
     write_block(alloc, data_record.start(), data_record.notes(), base())
 }

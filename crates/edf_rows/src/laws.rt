@@ -13,16 +13,19 @@ ghost use Rattle.edf_rows.specs.Foreign.{IsBadRow, IsForeign};
 
 /// Rows stand for one sound holdings at most.
 pub fn one_holdings()
-    ensures { (trees : Trees) (h i : Holdings) (c d : ℕ) → StandFor trees h → IsSound c h → StandFor trees i → IsSound d i → h ≡ i }
+    ensures { (trees : Trees) (h i : Holdings) (c d : ℕ) → StandFor trees h → IsSound c h →
+        StandFor trees i → IsSound d i → h ≡ i }
 {}
 
 /// The cells of a sound data record are of no other, and are no bad row.
 pub fn one_record()
-    ensures one { (k : Key) (r s : DataRecord) → IsSoundRecord k r → IsSoundRecord k s → record_cells r ≡ record_cells s → r ≡ s }
+    ensures one { (k : Key) (r s : DataRecord) → IsSoundRecord k r → IsSoundRecord k s →
+        record_cells r ≡ record_cells s → r ≡ s }
     ensures good { (k : Key) (r : DataRecord) → IsSoundRecord k r → ¬ IsBadRow k (record_cells r) }
 {}
 
 /// Rows that stand for sound holdings, each recording with a record, are not foreign.
 pub fn kept_is_not_foreign()
-    ensures { (cap : ℕ) (trees : Trees) (h : Holdings) → AreKept cap trees h → ¬ IsForeign cap trees }
+    ensures { (cap : ℕ) (trees : Trees) (h : Holdings) → AreKept cap trees h →
+        ¬ IsForeign cap trees }
 {}

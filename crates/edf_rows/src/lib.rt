@@ -1,13 +1,14 @@
 //! What the rows of the store's two tables stand for.
 //!
-//! A row of `recording` is an id and the bytes of an identity; a row of `record` is the id of its recording, its start in
-//! nanoseconds from 1985-01-01 00:00:00, its samples, and its annotations as the block that is written with that moment
-//! for a base, without fill.
+//! A row of `recording` is an id and the bytes of an identity; a row of `record` is the id of its
+//! recording, its start in nanoseconds from 1985-01-01 00:00:00, its samples, and its annotations
+//! as the block that is written with that moment for a base, without fill.
 //!
 //! - [`check_row`]: whether the cells of a row are those of a data record.
 //! - [`record_from`]: which data record, of a row that was checked.
 //! - [`block_of`], [`start_of`]: the cells of a data record.
-//! - [`laws`]: rows stand for one holdings at most, and are not foreign where they stand for sound ones.
+//! - [`laws`]: rows stand for one holdings at most, and are not foreign where they stand for sound
+//!   ones.
 #![tactic(auto)]
 
 mod cells;

@@ -2,7 +2,8 @@
 
 use std::alloc::{AllocError, Global};
 
-/// The header of one signal, as the texts of its fields. Each method gives the same signal with one field changed.
+/// The header of one signal, as the texts of its fields. Each method gives the same signal with one
+/// field changed.
 #[derive(Clone, Copy)]
 pub struct Signal<'a> {
     label: &'a str,
@@ -91,7 +92,8 @@ impl<'a> Signal<'a> {
     }
 }
 
-/// The header of a file, as the texts of its fields. Each method gives the same header with one field changed.
+/// The header of a file, as the texts of its fields. Each method gives the same header with one
+/// field changed.
 #[derive(Clone, Copy)]
 pub struct Header<'a> {
     version: &'a str,
@@ -109,7 +111,8 @@ pub struct Header<'a> {
     listed: Option<&'a [Signal<'a>]>,
 }
 
-/// The header of file Q: one data record of one second from 2002-03-02 23:59:50, with two EEG samples and three for annotations.
+/// The header of file Q: one data record of one second from 2002-03-02 23:59:50, with two EEG
+/// samples and three for annotations.
 pub fn q() -> Header<'static> {
     Header {
         version: "0",

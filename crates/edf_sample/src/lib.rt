@@ -1,9 +1,11 @@
-//! Small EDF+ files, built field by field in the standard's words, and streams that come in pieces and fail: for tests.
+//! Small EDF+ files, built field by field in the standard's words, and streams that come in pieces
+//! and fail: for tests.
 //!
-//! - [`Header`], [`Signal`], [`q`], [`file`]: the header of a file, of one EEG signal and one annotations signal or of a list of
-//!   signals, and the file's bytes.
+//! - [`Header`], [`Signal`], [`q`], [`file`]: the header of a file, of one EEG signal and one
+//!   annotations signal or of a list of signals, and the file's bytes.
 //! - [`named`]: small named files.
-//! - [`Source`], [`StopsOnce`], [`Sink`]: readers that give their bytes in pieces and fail, a writer that takes them so.
+//! - [`Source`], [`StopsOnce`], [`Sink`]: readers that give their bytes in pieces and fail, a
+//!   writer that takes them so.
 //! - [`Scarce`]: a machine whose memory runs out.
 //!
 //! Nothing of it is promised but that it is safe: what a test wants is spelled in the test.

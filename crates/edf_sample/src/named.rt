@@ -8,7 +8,8 @@ const ZEROS: &[u8] = &[0; 128];
 /// The data record of file Q.
 const Q_RECORD: &[u8] = b"\x01\x00\xff\xff+0\x14\x14\0\0";
 
-/// One data record of Q's recording from 2002-03-02 23:59:50, no annotation: 778 bytes. It is its own canonical file.
+/// One data record of Q's recording from 2002-03-02 23:59:50, no annotation: 778 bytes. It is its
+/// own canonical file.
 pub fn file_q(alloc: Global) -> Result<Vec<u8>, AllocError> {
     file(alloc, &q(), &[Q_RECORD])
 }
@@ -43,15 +44,16 @@ fn third_of_march(time: &'static str) -> Header<'static> {
         .start("03.03.02", time)
 }
 
-/// One data record of Q's recording from 2002-03-03 00:00:05, with two annotations of one instant: 802 bytes.
+/// One data record of Q's recording from 2002-03-03 00:00:05, with two annotations of one instant:
+/// 802 bytes.
 pub fn file_p5(alloc: Global) -> Result<Vec<u8>, AllocError> {
     let header = third_of_march("00.00.05").annotations_samples("15");
     let record = b"\x02\x00\xfe\xff+0\x14\x14\0+0.50\x14Snore\x14\0+0.5\x14Turn\x14\0\0";
     file(alloc, &header, &[record])
 }
 
-/// Two data records of Q's recording from 2002-03-03 00:00:00, five seconds apart, the annotations signal first, the second
-/// record that of P5: 824 bytes.
+/// Two data records of Q's recording from 2002-03-03 00:00:00, five seconds apart, the annotations
+/// signal first, the second record that of P5: 824 bytes.
 pub fn file_r9(alloc: Global) -> Result<Vec<u8>, AllocError> {
     let header = third_of_march("00.00.00")
         .count("2")
@@ -138,7 +140,8 @@ fn u() -> Header<'static> {
         .annotations_samples("57")
 }
 
-/// Two data records of one second with spare annotation samples and an onset spelled longer than it needs: 1,004 bytes.
+/// Two data records of one second with spare annotation samples and an onset spelled longer than it
+/// needs: 1,004 bytes.
 pub fn file_u(alloc: Global) -> Result<Vec<u8>, AllocError> {
     let first = b"\x01\0\x02\0+0\x14\x14\0+0.5000000\x14Lights off\x14\0";
     let second = b"\x03\0\x04\0+1\x14\x14\0";

@@ -35,7 +35,8 @@ impl Scarce {
         }
     }
 
-    /// Takes blocks of a size until one is refused, then of half the size, and so on down to the least.
+    /// Takes blocks of a size until one is refused, then of half the size, and so on down to the
+    /// least.
     fn hoard(&mut self, alloc: Global, most: usize, least: usize) {
         let mut size = most;
         for _ in 0..40u8 {
@@ -49,8 +50,8 @@ impl Scarce {
 
     /// Leaves one block of `bytes` bytes free, and no other, and tells whether there was one.
     ///
-    /// The C library keeps freed blocks up to 1,032 bytes in bins by their sizes, which are emptied too: a block that small would
-    /// serve its own size alone. With 0 nothing is free.
+    /// The C library keeps freed blocks up to 1,032 bytes in bins by their sizes, which are emptied
+    /// too: a block that small would serve its own size alone. With 0 nothing is free.
     pub fn leave(&mut self, alloc: Global, bytes: usize) -> bool {
         let Ok(block) = Vec::<u8>::with_capacity(alloc, bytes) else {
             return false;

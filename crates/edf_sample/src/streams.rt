@@ -57,7 +57,8 @@ impl<'a> Read for Source<'a> {
     }
 }
 
-/// Gives its bytes one a read. At `stop` it gives none or fails, once, and then goes on. It counts its reads.
+/// Gives its bytes one a read. At `stop` it gives none or fails, once, and then goes on. It counts
+/// its reads.
 #[derive(Drop)]
 pub struct StopsOnce<'a> {
     bytes: &'a [u8],

@@ -79,7 +79,8 @@ fn is_start_index(index: &Index) -> bool
     is_index(index, b"sqlite_autoindex_record_1", 3, 2, &[1, 2])
 }
 
-/// Whether the schema has neither table, the first alone or both, as the texts of CREATE make them, and nothing else.
+/// Whether the schema has neither table, the first alone or both, as the texts of CREATE make them,
+/// and nothing else.
 pub fn is_ours(schema: &Schema) -> bool
     ensures { IsTrue result ↔ AreOurs schema.now }
 {

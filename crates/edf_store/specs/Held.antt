@@ -9,23 +9,23 @@ use Rattle.edf_holdings.specs.Holdings.{Holdings}
 use Rattle.edf_rows.specs.Rows.{AreKept}
 
 -- a store: its connection, and how many records a recording may have
-pub record Kept (S : Type 0) : Type 0 where
-  pub held : Held S
+pub record StoreModel (S : Type 0) : Type 0 where
+  pub connection : Held S
   pub cap : ℕ
 
-abbrev pub kept_code : {S : Type 0} → Coded S → Coded (Kept S)
-kept_code {S} store = code_by (Held S × ℕ) (coded× (held_code store) coded_ℕ) (λ k. (k.held, k.cap)) (λ p. record { held = p.0; cap = p.1 }) (λ _. refl)
+abbrev pub store_model_code : {S : Type 0} → Coded S → Coded (StoreModel S)
+store_model_code {S} store = code_by (Held S × ℕ) (coded× (held_code store) coded_ℕ) (λ k. (k.connection, k.cap)) (λ p. record { connection = p.0; cap = p.1 }) (λ _. refl)
 
 -- what the connection shows
-abbrev pub at : {S : Type 0} → Ghosts S → Kept S → State
-at g store = state g store.held
+abbrev pub at : {S : Type 0} → Ghosts S → StoreModel S → State
+at g store = state g store.connection
 
 -- what is committed stands for these holdings
 abbrev pub AreHeld : ℕ → State → Holdings → Type 0
 AreHeld cap s h = HasCleanDisk s → IsTrue s.is_open → AreKept cap s.committed.trees h
 
 -- these are the store's holdings
-abbrev pub Holds : {S : Type 0} → Ghosts S → Kept S → Holdings → Type 0
+abbrev pub Holds : {S : Type 0} → Ghosts S → StoreModel S → Holdings → Type 0
 Holds g store h = AreHeld store.cap (at g store) h
 
 -- what is true of every store: the tables are there, and it holds something
@@ -36,7 +36,7 @@ pub record IsSoundStore (cap : ℕ) (s : State) : Type 0 where
   pub holdings : HasCleanDisk s → IsTrue s.is_open → (h : Holdings) × AreKept cap s.committed.trees h
 
 -- a call leaves the holdings as they are, and a crash in it leaves nothing but what it could leave before
-pub record Stays {S : Type 0} (g : Ghosts S) (old new : Kept S) : Type 0 where
+pub record Stays {S : Type 0} (g : Ghosts S) (old new : StoreModel S) : Type 0 where
   pub cap : new.cap ≡ old.cap
   pub holdings : (h : Holdings) → Holds g old h → Holds g new h
   pub crash : Survives (at g old) (at g new) (λ _. ⊥)

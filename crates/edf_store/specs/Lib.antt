@@ -4,5 +4,5 @@ pub mod Call
 pub mod Transaction
 pub mod Listed
 pub mod Walk
-pub mod Shape
 pub mod Open
+pub mod Inside

@@ -6,11 +6,11 @@ use Rattle.edf_header.specs.Key.{Key}
 use Rattle.edf_fragment.specs.Fragment.{DataRecord}
 use Rattle.edf_holdings.specs.Holdings.{Holdings}
 use Rattle.edf_holdings.specs.Keys.{AreKeysOf}
-use Rattle.edf_store.specs.Held.{Kept, Holds}
+use Rattle.edf_store.specs.Held.{StoreModel, Holds}
 use Rattle.edf_store.specs.declared.listing.Summary.{Summary}
 
 -- these are the keys that hold records
-abbrev pub AreKeysHeld : {S : Type 0} → Ghosts S → Kept S → List Key → Type 0
+abbrev pub AreKeysHeld : {S : Type 0} → Ghosts S → StoreModel S → List Key → Type 0
 AreKeysHeld g store keys = (h : Holdings) → Holds g store h → AreKeysOf h keys
 
 abbrev pub start_at : List DataRecord → ℕ → Option ℕ
@@ -22,5 +22,5 @@ IsSummary records None = records ≡ []
 IsSummary records (Some summary) =
     (summary.records ≡ length records) × (start_at records 0 ≡ Some summary.first) × (start_at (reverse records) 0 ≡ Some summary.last)
 
-abbrev pub IsSummaryOf : {S : Type 0} → Ghosts S → Kept S → Key → Option Summary → Type 0
+abbrev pub IsSummaryOf : {S : Type 0} → Ghosts S → StoreModel S → Key → Option Summary → Type 0
 IsSummaryOf g store k summary = (h : Holdings) → Holds g store h → IsSummary (h k) summary

@@ -7,14 +7,14 @@ use Rattle.edf_holdings.specs.Holdings.{Holdings}
 use Rattle.edf_tables.specs.Made.{IsOurs, HasTables, KeepsFile, IsMadeOf}
 use Rattle.edf_rows.specs.Rows.{AreKept}
 use Rattle.edf_audit.specs.File.{IsForeignFile}
-use Rattle.edf_store.specs.Held.{Kept, at}
+use Rattle.edf_store.specs.Held.{StoreModel, at}
 use Rattle.edf_store.specs.Fault.{IsStoreRefusal}
 use Rattle.edf_store.specs.declared.fault.StoreFault.{StoreFault}
 use Rattle.edf_store.specs.declared.fault.StoreFault.TheVariants.{Foreign}
 
 -- the store has the rows that were there, which stand for holdings, and no transaction is open; a crash leaves missing tables
 -- made, and the rows as they were
-pub record IsOpened {S : Type 0} (g : Ghosts S) (conn : Held S) (store : Kept S) : Type 0 where
+pub record IsOpened {S : Type 0} (g : Ghosts S) (conn : Held S) (store : StoreModel S) : Type 0 where
   pub is_open : HasCleanDisk (at g store) → IsTrue (at g store).is_open
   pub idle : HasCleanDisk (at g store) → (at g store).in_transaction ≡ false
   pub tables : HasCleanDisk (at g store) → HasTables (state g conn).now (at g store).committed

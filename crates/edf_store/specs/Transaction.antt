@@ -11,20 +11,20 @@ use Rattle.edf_fragment.specs.Sound.{IsSoundRecord}
 use Rattle.edf_holdings.specs.Holdings.{Holdings, IsSound, put}
 use Rattle.edf_tables.specs.Row.{IsInside}
 use Rattle.edf_rows.specs.Rows.{IsThere, StandFor, AreKept}
-use Rattle.edf_store.specs.Held.{Kept, at}
+use Rattle.edf_store.specs.Held.{StoreModel, at}
 
 -- a transaction is open, and its rows stand for these sound holdings
-pub record StandsInside (cap : ℕ) (s : State) (h : Holdings) : Type 0 where
+pub record IsTransactionOf (cap : ℕ) (s : State) (h : Holdings) : Type 0 where
   pub is_open : IsTrue s.is_open
   pub inside : IsInside s
   pub stand : StandFor s.now.trees h
   pub sound : IsSound cap h
 
 abbrev pub AreSeen : ℕ → State → Holdings → Type 0
-AreSeen cap s h = HasCleanDisk s → StandsInside cap s h
+AreSeen cap s h = HasCleanDisk s → IsTransactionOf cap s h
 
 abbrev pub SeesSome : ℕ → State → Type 0
-SeesSome cap s = HasCleanDisk s → (h : Holdings) × StandsInside cap s h
+SeesSome cap s = HasCleanDisk s → (h : Holdings) × IsTransactionOf cap s h
 
 -- the key's recording is there under this id
 pub record IsUnder (s : State) (id : ℤ) (k : Key) : Type 0 where
@@ -87,8 +87,8 @@ pub record IsAddedIn (cap : ℕ) (old new : State) (id : ℤ) (r : DataRecord) :
   pub ids : (id : ℤ) (k : Key) → IsUnder old id k → IsUnder new id k
 
 -- each recording holds a record
-abbrev pub IsWholeIn : ℕ → State → Type 0
-IsWholeIn cap s = HasCleanDisk s → (h : Holdings) (id : ℤ) (k : Key) → AreSeen cap s h → IsUnder s id k → h k ≢ []
+abbrev pub EachHasRecordIn : ℕ → State → Type 0
+EachHasRecordIn cap s = HasCleanDisk s → (h : Holdings) (id : ℤ) (k : Key) → AreSeen cap s h → IsUnder s id k → h k ≢ []
 
 -- these rows are what a commit would leave
 abbrev pub AreSeenRows : ℕ → State → Trees → Type 0
@@ -96,46 +96,46 @@ AreSeenRows cap s db = (h : Holdings) → AreSeen cap s h → AreKept cap db h
 
 module _ {S : Type 0} (g : Ghosts S) where
   -- the transaction sees these holdings
-  abbrev pub Sees : Kept S → Holdings → Type 0
+  abbrev pub Sees : StoreModel S → Holdings → Type 0
   Sees store h = AreSeen store.cap (at g store) h
 
   -- it sees some, as it does from its begin on until a call is refused
-  abbrev pub IsRunning : Kept S → Type 0
+  abbrev pub IsRunning : StoreModel S → Type 0
   IsRunning store = SeesSome store.cap (at g store)
 
   -- it has the key's recording under this id
-  abbrev pub IsOf : Kept S → ℤ → Key → Type 0
+  abbrev pub IsOf : StoreModel S → ℤ → Key → Type 0
   IsOf store id k = IsUnder (at g store) id k
 
-  abbrev pub SeesAsBefore : Kept S → Kept S → Type 0
+  abbrev pub SeesAsBefore : StoreModel S → StoreModel S → Type 0
   SeesAsBefore old new = SeesOn new.cap (at g old) (at g new)
 
-  abbrev pub HasNoMore : Kept S → Kept S → Type 0
+  abbrev pub HasNoMore : StoreModel S → StoreModel S → Type 0
   HasNoMore old new = MakesNone (at g old) (at g new)
 
-  abbrev pub HasAtMost : Key → Kept S → Kept S → Type 0
+  abbrev pub HasAtMost : Key → StoreModel S → StoreModel S → Type 0
   HasAtMost made old new = MakesOnly made (at g old) (at g new)
 
-  abbrev pub AreNear : Kept S → ℤ → ℕ → List DataRecord → Type 0
+  abbrev pub AreNear : StoreModel S → ℤ → ℕ → List DataRecord → Type 0
   AreNear store = AreNearIn store.cap (at g store)
 
-  abbrev pub IsNextStartOf : Kept S → ℤ → ℕ → Option ℕ → Type 0
+  abbrev pub IsNextStartOf : StoreModel S → ℤ → ℕ → Option ℕ → Type 0
   IsNextStartOf store = IsNextStartIn store.cap (at g store)
 
-  abbrev pub IsCountOf : Kept S → ℤ → ℕ → Type 0
+  abbrev pub IsCountOf : StoreModel S → ℤ → ℕ → Type 0
   IsCountOf store = IsCountIn store.cap (at g store)
 
-  abbrev pub TellsRoom : Kept S → ℤ → ℕ → Bool → Type 0
+  abbrev pub TellsRoom : StoreModel S → ℤ → ℕ → Bool → Type 0
   TellsRoom store = TellsRoomIn store.cap (at g store)
 
-  abbrev pub MayTake : Kept S → ℤ → DataRecord → Type 0
+  abbrev pub MayTake : StoreModel S → ℤ → DataRecord → Type 0
   MayTake store = MayTakeIn store.cap (at g store)
 
-  abbrev pub IsAdded : Kept S → Kept S → ℤ → DataRecord → Type 0
+  abbrev pub IsAdded : StoreModel S → StoreModel S → ℤ → DataRecord → Type 0
   IsAdded old new = IsAddedIn new.cap (at g old) (at g new)
 
-  abbrev pub IsWhole : Kept S → Type 0
-  IsWhole store = IsWholeIn store.cap (at g store)
+  abbrev pub EachHasRecord : StoreModel S → Type 0
+  EachHasRecord store = EachHasRecordIn store.cap (at g store)
 
-  abbrev pub IsSeen : Kept S → Trees → Type 0
+  abbrev pub IsSeen : StoreModel S → Trees → Type 0
   IsSeen store = AreSeenRows store.cap (at g store)

@@ -5,7 +5,7 @@ ghost use Rattle.sqlite.specs.State.{HasCleanDisk, Survives};
 ghost use Rattle.edf_holdings.specs.Holdings.{Holdings};
 ghost use Rattle.edf_store.specs.Fault.{IsStoreRefusal};
 ghost use Rattle.edf_store.specs.Held.{at, Holds, Stays};
-ghost use Rattle.edf_store.specs.Transaction.{Sees, IsRunning, IsWhole, IsSeen};
+ghost use Rattle.edf_store.specs.Transaction.{Sees, IsRunning, EachHasRecord, IsSeen};
 ghost use Rattle.edf_store.specs.Call.{EndsIdle, IsBusy};
 
 use crate::fault::StoreFault;
@@ -18,7 +18,7 @@ pub(crate) fn begin_all<S: Alter>(store: &mut Store<S>) -> Result<(), StoreFault
     ensures running { IfOk result (λ _. IsRunning S.Store store.new) }
     ensures sees { IfOk result (λ _.
         (h : Holdings) → Holds S.Store store.old h → Sees S.Store store.new h) }
-    ensures whole { IfOk result (λ _. IsWhole S.Store store.new) }
+    ensures whole { IfOk result (λ _. EachHasRecord S.Store store.new) }
     ensures told { IfErr result IsStoreRefusal }
     ensures busy { IsBusy S.Store store.old → result ≡ Err (StoreFault.Store None) }
     ensures caused { IfErr result (λ e. e ≡ StoreFault.Store None → IsBusy S.Store store.old) }
@@ -32,7 +32,7 @@ pub(crate) fn begin_all<S: Alter>(store: &mut Store<S>) -> Result<(), StoreFault
 
 pub(crate) fn commit_all<S: Alter>(store: &mut Store<S>) -> Result<(), StoreFault>
     requires running { IsRunning S.Store store.old }
-    requires whole { IsWhole S.Store store.old }
+    requires whole { EachHasRecord S.Store store.old }
     ensures cap { store.new.cap ≡ store.old.cap }
     ensures committed { IfOk result (λ _.
         (h : Holdings) → Sees S.Store store.old h → Holds S.Store store.new h) }

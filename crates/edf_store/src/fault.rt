@@ -9,8 +9,8 @@ pub enum StoreFault {
     /// E41: memory ran out.
     #[error("out of memory")]
     Memory,
-    /// E42: `sqlite` refused, with its error; or, with none, the connection was found in a transaction that an earlier
-    /// refusal left.
+    /// E42: `sqlite` refused, with its error; or, with none, the connection was found in a
+    /// transaction that an earlier refusal left.
     #[error("the store failed")]
     Store(Option<Error>),
     /// E45: the tables hold what no submissions leave.
@@ -35,7 +35,8 @@ impl StoreFault {
     }
 }
 
-/// The refusal that one of `sqlite`'s is: `Memory` where memory ran out, else `Store` with the error.
+/// The refusal that one of `sqlite`'s is: `Memory` where memory ran out, else `Store` with the
+/// error.
 impl From<Error> for StoreFault {
     ghost use Rattle.edf_store.specs.Fault.{IsRefusalOf};
 

@@ -1,7 +1,7 @@
 //! Recordings in a store over SQL: what is held of them, read and added to in transactions.
 //!
-//! - [`Store`]: over a connection of any store that `sqlite` takes. `transaction` begins to add; `identities`, `summary` and
-//!   `records` read what is held.
+//! - [`Store`]: over a connection of any store that `sqlite` takes. `transaction` begins to add;
+//!   `identities`, `summary` and `records` read what is held.
 //! - [`StoreTx`]: `recording`, `near`, `has_room`, `count` and `add`, until `commit` or `give_up`.
 //! - [`Records`]: the data records of one recording, one at a time.
 //! - [`StoreFault`]: why a call was refused.

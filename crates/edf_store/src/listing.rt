@@ -10,7 +10,7 @@ ghost use Rattle.edf_holdings.specs.Holdings.{Holdings};
 ghost use Rattle.edf_rows.specs.Rows.{IsThere};
 ghost use Rattle.edf_store.specs.Held.{at, Holds, Stays};
 ghost use Rattle.edf_store.specs.Listed.{AreKeysHeld, IsSummary, IsSummaryOf};
-ghost use Rattle.edf_store.specs.Shape.{IsAtRest};
+ghost use Rattle.edf_store.specs.Inside.Settled.{IsAtRest};
 ghost use Rattle.edf_store.specs.Call.{Gives, RefusesAs, EndsIdle, IsBusy};
 
 use crate::fault::StoreFault;
@@ -37,8 +37,8 @@ impl<S: Alter> Store<S> {
     /// The identities that hold data records, in the order of their bytes.
     ///
     /// # Errors
-    /// `Memory` (E41) or `Store` (E42), without a cause where the connection was left in a transaction; or `Foreign` (E45)
-    /// where the disk returned what was not written.
+    /// `Memory` (E41) or `Store` (E42), without a cause where the connection was left in a
+    /// transaction; or `Foreign` (E45) where the disk returned what was not written.
     pub fn identities(&mut self) -> Result<Vec<Identity>, StoreFault>
         ensures stays { Stays S.Store self.old self.new }
         ensures keys { Gives S.Store self.new result (λ all.
@@ -53,11 +53,12 @@ impl<S: Alter> Store<S> {
         list(self)
     }
 
-    /// How many data records an identity holds, and their first and last start; `None` where it holds nothing.
+    /// How many data records an identity holds, and their first and last start; `None` where it
+    /// holds nothing.
     ///
     /// # Errors
-    /// `Memory` (E41) or `Store` (E42), without a cause where the connection was left in a transaction; or `Foreign` (E45)
-    /// where the disk returned what was not written.
+    /// `Memory` (E41) or `Store` (E42), without a cause where the connection was left in a
+    /// transaction; or `Foreign` (E45) where the disk returned what was not written.
     pub fn summary(&mut self, identity: &Identity) -> Result<Option<Summary>, StoreFault>
         ensures stays { Stays S.Store self.old self.new }
         ensures summary { Gives S.Store self.new result

@@ -82,7 +82,7 @@ fn start_in(next: Option<i64>) -> Result<Option<Instant>, StoreFault>
     }
 }
 
-#[tactic(auto, using(crate::proofs::StepLemmas::none_made))]
+#[tactic(auto, using(crate::proofs::Steps::none_made))]
 pub(crate) fn count_records<S: Alter>(store: &mut Store<S>, id: i64) -> Result<u32, StoreFault>
     requires running { IsRunning S.Store store.old }
     requires recording { (k : Key) × IsOf S.Store store.old id k }
@@ -100,7 +100,8 @@ pub(crate) fn count_records<S: Alter>(store: &mut Store<S>, id: i64) -> Result<u
     Ok(count)
 }
 
-/// Whether a recording has room for `more` data records: where its first start and its last do not tell, they are counted.
+/// Whether a recording has room for `more` data records: where its first start and its last do not
+/// tell, they are counted.
 pub(crate) fn has_room<S: Alter>(
     store: &mut Store<S>,
     id: i64,

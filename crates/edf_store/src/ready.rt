@@ -6,7 +6,7 @@ ghost use Rattle.edf_header.specs.Key.{IsKey};
 ghost use Rattle.edf_holdings.specs.Holdings.{Holdings};
 ghost use Rattle.edf_rows.specs.Rows.{AreKept};
 ghost use Rattle.edf_store.specs.Held.{at, Stays};
-ghost use Rattle.edf_store.specs.Shape.{IsSettled, IsFoundIn, IsAtRest};
+ghost use Rattle.edf_store.specs.Inside.Settled.{IsSettled, IsFoundIn, IsAtRest};
 ghost use Rattle.edf_store.specs.Call.{Gives, IsBusy};
 ghost use Rattle.edf_tables.specs.Statement.{OnlyReads, KeepsCommitted, IsCrashSafe};
 
@@ -26,7 +26,8 @@ fn run_nothing<S: Alter>(conn: &mut Connection<S>) -> Result<(), Error>
     Ok(())
 }
 
-/// Sees to it that the connection is open and in no transaction, so that its tables are what is held.
+/// Sees to it that the connection is open and in no transaction, so that its tables are what is
+/// held.
 pub(crate) fn ready<S: Alter>(store: &mut Store<S>) -> Result<(), StoreFault>
     ensures stays { Stays S.Store store.old store.new }
     ensures own { IfErr result (λ e. e ≢ StoreFault.Foreign) }

@@ -7,7 +7,7 @@ ghost use Rattle.sqlite.specs.State.{HasCleanDisk};
 ghost use Rattle.edf_header.specs.Key.{Key};
 ghost use Rattle.edf_holdings.specs.Holdings.{Holdings};
 ghost use Rattle.edf_store.specs.Held.{at, Holds, Stays};
-ghost use Rattle.edf_store.specs.Walk.{IsStep, moved, IsWalking, HasWalked};
+ghost use Rattle.edf_store.specs.Walk.{GivesNext, moved, IsWalking, HasWalked};
 ghost use Rattle.edf_store.specs.Call.{Gives, RefusesAs, IsBusy};
 
 use crate::decode::record_in;
@@ -63,7 +63,7 @@ pub(crate) fn next_record<S: Alter>(
     ensures caused { IfErr result (λ e. e ≢ StoreFault.Store None) }
     ensures step { Gives S.Store store.new result (λ o.
         (h : Holdings) (k : Key) (n : ℕ) →
-        HasWalked S.Store store.old (Some recording) after.old h k n → IsStep (h k) n o) }
+        HasWalked S.Store store.old (Some recording) after.old h k n → GivesNext (h k) n o) }
     ensures moved { IfOk result (λ o.
         (h : Holdings) (k : Key) (n : ℕ) →
         HasWalked S.Store store.old (Some recording) after.old h k n →
@@ -79,8 +79,8 @@ pub(crate) fn next_record<S: Alter>(
     Ok(Some(data_record))
 }
 
-/// A walk over the data records of one recording, by their starts. It may be dropped at any of them, and the store is then as
-/// the walk left it.
+/// A walk over the data records of one recording, by their starts. It may be dropped at any of
+/// them, and the store is then as the walk left it.
 ///
 /// It reads ahead, by pages of rows. Beside the data record that it gave last, it has at most 64
 /// rows in memory, with at most 256 KiB of samples, or one row where a data record has more; and
@@ -114,7 +114,8 @@ impl<S: Alter> Store<S> {
     /// Begins a walk over the data records that an identity holds.
     ///
     /// # Errors
-    /// `Memory` (E41) or `Store` (E42), without a cause where the connection was left in a transaction.
+    /// `Memory` (E41) or `Store` (E42), without a cause where the connection was left in a
+    /// transaction.
     pub fn records(&mut self, identity: &Identity) -> Result<Records<'_, S>, StoreFault>
         ensures* refused { sem 𝓛
             (RestsIfErr (the_row S.row S.Store) self.entry (λ it. it.store.ghost_name) result
@@ -147,8 +148,8 @@ impl<S: Alter> Records<'_, S> {
     /// The next data record; `None` where all were given, and at every later call.
     ///
     /// # Errors
-    /// `Memory` (E41), `Store` (E42), or `Foreign` (E45) where the disk returned what was not written; and `Failed` at every
-    /// later call.
+    /// `Memory` (E41), `Store` (E42), or `Foreign` (E45) where the disk returned what was not
+    /// written; and `Failed` at every later call.
     pub fn next(&mut self) -> Result<Option<Record>, StoreFault>
         requires ready { self.old.failed ≡ false →
             IsWalking S.Store self.old.store.now self.old.recording self.old.after }
@@ -168,7 +169,7 @@ impl<S: Alter> Records<'_, S> {
         ensures step { Gives S.Store self.new.store.now result (λ o.
             (h : Holdings) (k : Key) (n : ℕ) →
             HasWalked S.Store self.old.store.now self.old.recording self.old.after h k n →
-            IsStep (h k) n o) }
+            GivesNext (h k) n o) }
         ensures moved { IfOk result (λ o.
             (h : Holdings) (k : Key) (n : ℕ) →
             HasWalked S.Store self.old.store.now self.old.recording self.old.after h k n →

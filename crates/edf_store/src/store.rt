@@ -8,7 +8,7 @@ ghost use Rattle.edf_tables.specs.Made.{IsOurs};
 ghost use Rattle.edf_audit.specs.File.{IsForeignFile};
 ghost use Rattle.edf_store.specs.Fault.{IsStoreRefusal};
 ghost use Rattle.edf_store.specs.Held.{Holds, Stays};
-ghost use Rattle.edf_store.specs.Transaction.{Sees, IsRunning, IsWhole};
+ghost use Rattle.edf_store.specs.Transaction.{Sees, IsRunning, EachHasRecord};
 ghost use Rattle.edf_store.specs.Open.{IsOpened, IsGivenUp, StaysClean};
 ghost use Rattle.edf_store.specs.Call.{IsBusy};
 
@@ -22,9 +22,9 @@ use std::marker::Model;
 
 /// Recordings in the two tables of a connection, each with at most `cap` data records.
 ///
-/// What is held of a recording are its data records, by rising starts. A call that reads or adds them is refused by
-/// `Store` (E42) without a cause where an earlier refusal left the connection in a transaction; then the file is to be opened
-/// again.
+/// What is held of a recording are its data records, by rising starts. A call that reads or adds
+/// them is refused by `Store` (E42) without a cause where an earlier refusal left the connection in
+/// a transaction; then the file is to be opened again.
 #[derive(Drop)]
 pub struct Store<S: Alter> {
     pub(crate) alloc: Global,
@@ -33,14 +33,14 @@ pub struct Store<S: Alter> {
 }
 
 impl<S: Alter> Model for Store<S> {
-    ghost use Rattle.edf_store.specs.Held.{Kept, kept_code, IsSoundStore};
+    ghost use Rattle.edf_store.specs.Held.{StoreModel, store_model_code, IsSoundStore};
     ghost use Rattle.sqlite.specs.Held.{state};
 
-    ghost Value = { Kept S };
+    ghost Value = { StoreModel S };
 
-    ghost coded = { kept_code S.code };
+    ghost coded = { store_model_code S.code };
 
-    ghost view = { λ s. record { held = s.conn; cap = s.cap } };
+    ghost view = { λ s. record { connection = s.conn; cap = s.cap } };
 
     ghost invariant = { λ s. IsSoundStore s.cap (state S.Store s.conn) };
 }
@@ -58,7 +58,7 @@ impl<S: Alter> Store<S> {
 
     /// The connection, as it is.
     pub fn into_connection(self) -> Connection<S>
-        ensures { result ≡ self.held }
+        ensures { result ≡ self.connection }
     {
         let Store {
             alloc: _,
@@ -71,7 +71,8 @@ impl<S: Alter> Store<S> {
     /// Begins a transaction, which sees what is held.
     ///
     /// # Errors
-    /// `Memory` (E41) or `Store` (E42), without a cause where the connection was left in a transaction; what is held stays.
+    /// `Memory` (E41) or `Store` (E42), without a cause where the connection was left in a
+    /// transaction; what is held stays.
     pub fn transaction(&mut self) -> Result<StoreTx<'_, S>, StoreFault>
         ensures* refused { sem 𝓛
             (RestsIfErr (the_row S.row S.Store) self.entry (λ tx. tx.store.ghost_name) result
@@ -81,7 +82,7 @@ impl<S: Alter> Store<S> {
         ensures running { IfOk result
             (λ tx. (tx.refused ≡ false) × IsRunning S.Store tx.store.now) }
         ensures told { IfErr result IsStoreRefusal }
-        ensures whole { IfOk result (λ tx. IsWhole S.Store tx.store.now) }
+        ensures whole { IfOk result (λ tx. EachHasRecord S.Store tx.store.now) }
         ensures busy { IsBusy S.Store self.old → result ≡ Err (StoreFault.Store None) }
         ensures caused { IfErr result (λ e. e ≡ StoreFault.Store None → IsBusy S.Store self.old) }
         ensures sees { IfOk result (λ tx.
@@ -96,7 +97,8 @@ impl<S: Alter> Store<S> {
 }
 
 impl<S: Alter + Drop> Store<S> {
-    /// The store of a connection that is in no transaction, whose tables are made where they are missing. Every row is read once.
+    /// The store of a connection that is in no transaction, whose tables are made where they are
+    /// missing. Every row is read once.
     ///
     /// No recording has, or will have, more than `cap` data records; `cap` is 1 to 99,999,999.
     ///

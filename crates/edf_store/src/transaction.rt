@@ -10,7 +10,7 @@ ghost use Rattle.edf_store.specs.Fault.{IsStoreRefusal};
 ghost use Rattle.edf_store.specs.Held.{at, Holds, Stays};
 ghost use Rattle.edf_store.specs.Transaction.{Sees, IsRunning, IsOf, SeesAsBefore, HasNoMore};
 ghost use Rattle.edf_store.specs.Transaction.{HasAtMost, AreNear, IsNextStartOf, IsCountOf};
-ghost use Rattle.edf_store.specs.Transaction.{TellsRoom, MayTake, IsAdded, IsWhole, IsSeen};
+ghost use Rattle.edf_store.specs.Transaction.{TellsRoom, MayTake, IsAdded, EachHasRecord, IsSeen};
 ghost use Rattle.edf_store.specs.Call.{Gives, RefusesAs, EndsIdle};
 
 use crate::adding::{add_record, find_or_make};
@@ -29,7 +29,8 @@ pub struct RecordingId {
     pub(crate) row: i64,
 }
 
-/// A transaction, to be spent by `commit` or `give_up`; where a call of it was refused, by `give_up`.
+/// A transaction, to be spent by `commit` or `give_up`; where a call of it was refused, by
+/// `give_up`.
 ///
 /// Until then what is held stays, and a crash leaves that.
 pub struct StoreTx<'store, S: Alter> {
@@ -66,12 +67,12 @@ impl<S: Alter> StoreTx<'_, S> {
         }
     }
 
-    /// The data records of a recording whose intervals of this duration meet the one that begins at `start`, by their starts:
-    /// two at most. `duration` is the recording's, in nanoseconds.
+    /// The data records of a recording whose intervals of this duration meet the one that begins at
+    /// `start`, by their starts: two at most. `duration` is the recording's, in nanoseconds.
     ///
     /// # Errors
-    /// `Memory` (E41), `Store` (E42), or `Foreign` (E45) where the disk returned what was not written, and the transaction is
-    /// to be given up.
+    /// `Memory` (E41), `Store` (E42), or `Foreign` (E45) where the disk returned what was not
+    /// written, and the transaction is to be given up.
     pub fn near(
         &mut self,
         id: RecordingId,
@@ -106,11 +107,12 @@ impl<S: Alter> StoreTx<'_, S> {
         }
     }
 
-    /// The first start of a recording's data records that is `from` or later; `None` where none is. It reads no data record.
+    /// The first start of a recording's data records that is `from` or later; `None` where none is.
+    /// It reads no data record.
     ///
     /// # Errors
-    /// `Memory` (E41), `Store` (E42), or `Foreign` (E45) where the disk returned what was not written, and the transaction is
-    /// to be given up.
+    /// `Memory` (E41), `Store` (E42), or `Foreign` (E45) where the disk returned what was not
+    /// written, and the transaction is to be given up.
     pub fn next_start(
         &mut self,
         id: RecordingId,
@@ -170,10 +172,12 @@ impl<S: Alter> StoreTx<'_, S> {
         }
     }
 
-    /// Whether a recording with `more` data records more has at most the cap. `duration` is the recording's, in nanoseconds.
+    /// Whether a recording with `more` data records more has at most the cap. `duration` is the
+    /// recording's, in nanoseconds.
     ///
-    /// Data records do not overlap, so where a recording reaches over less time than those take that the cap leaves, there is
-    /// room; only where that does not tell are they counted, each of them.
+    /// Data records do not overlap, so where a recording reaches over less time than those take
+    /// that the cap leaves, there is room; only where that does not tell are they counted, each of
+    /// them.
     ///
     /// # Errors
     /// `Memory` (E41) or `Store` (E42), and the transaction is to be given up.
@@ -208,8 +212,8 @@ impl<S: Alter> StoreTx<'_, S> {
         }
     }
 
-    /// Adds a data record to a recording, which has none near it and fewer than the cap. The first of a recording is one with which
-    /// it may start: before 2085 where its identity has no date.
+    /// Adds a data record to a recording, which has none near it and fewer than the cap. The first
+    /// of a recording is one with which it may start: before 2085 where its identity has no date.
     ///
     /// # Errors
     /// `Memory` (E41) or `Store` (E42), and the transaction is to be given up.
@@ -239,12 +243,12 @@ impl<S: Alter> StoreTx<'_, S> {
     /// Makes what the transaction sees what is held.
     ///
     /// # Errors
-    /// `Memory` (E41) or `Store` (E42): what was held before stays, and the transaction is over. A crash leaves that, or all
-    /// that the transaction saw, refused or not.
+    /// `Memory` (E41) or `Store` (E42): what was held before stays, and the transaction is over. A
+    /// crash leaves that, or all that the transaction saw, refused or not.
     pub fn commit(self) -> Result<(), StoreFault>
         requires spared { self.refused ≡ false }
         requires running { IsRunning S.Store self.store.now }
-        requires whole { IsWhole S.Store self.store.now }
+        requires whole { EachHasRecord S.Store self.store.now }
         ensures cap { self.exit.0.now.cap ≡ self.entry.store.now.cap }
         ensures committed { IfOk result (λ _.
             (h : Holdings) → Sees S.Store self.entry.store.now h →

@@ -7,7 +7,7 @@ use Rattle.sqlite.specs.Listing.{understood}
 use Rattle.edf_tables.specs.Schema.{both_schema}
 use Rattle.edf_tables.proofs.Queries.{plain_query, ordered_query, paged_query, last_query, of_recording, start_samples_block, near_terms, after_terms, from_terms, count_query, identity_terms}
 use Rattle.edf_tables.proofs.QueryTexts.{near_text, page_text, walk_text, count_text, first_text, next_text, last_text, id_text, identities_text, recordings_text, count_all_text}
-use Rattle.edf_tables.proofs.RefusedLemmas.{IsAlone, IsTaken, ungrouped, counted_small}
+use Rattle.edf_tables.proofs.Refusals.{IsAlone, IsTaken, ungrouped, counted_small}
 
 pub near_alone : IsAlone both_schema near_text 3
 unfolding understood everything

@@ -16,8 +16,8 @@ abbrev pub records_of : ℤ → List Row → List Row
 records_of n rows = sort_by start_order (filter (is_of n) rows)
 
 -- each starts after the one before it
-abbrev pub IsRising : List Row → Type 0
-IsRising = IsAscending (λ a b. start_order a b ≡ Less)
+abbrev pub HaveRisingStarts : List Row → Type 0
+HaveRisingStarts = IsAscending (λ a b. start_order a b ≡ Less)
 
 abbrev pub starts_after : ℤ → Row → Bool
 starts_after after row = is_gt (value_cmp (stored_start row) (Int after))
@@ -35,4 +35,4 @@ shown_record row = stored_start row ∷ stored_samples row ∷ stored_block row 
 -- the tables are there, and no two records of this recording start together
 pub record IsReady (recording : ℤ) (s : State) : Type 0 where
   pub schema : s.now.schema ≡ both_schema
-  pub rising : IsRising (records_of recording (stored_records s.now.trees))
+  pub rising : HaveRisingStarts (records_of recording (stored_records s.now.trees))

@@ -21,33 +21,33 @@ abbrev pub HasFailed : State → State → Type 0
 HasFailed old new = min (old.faults + 1) (2 ^ 64 - 1) ≤ new.faults
 
 -- memory ran out; the disk failed; or the connection was shut, before the call or since by a failure of the disk
-pub data IsStopped (old new : State) (e : Error) : Type 0 where
-  no_memory : e ≡ SqliteFailure OutOfMemory → IsStopped old new e
-  disk_failed : IsTrue (is_disk_error e) → HasFailed old new → IsStopped old new e
-  was_shut : e ≡ SqliteFailure Closed → (old.is_open ≡ false) ⊎ HasFailed old new → IsStopped old new e
+pub data IsSystemFailure (old new : State) (e : Error) : Type 0 where
+  no_memory : e ≡ SqliteFailure OutOfMemory → IsSystemFailure old new e
+  disk_failed : IsTrue (is_disk_error e) → HasFailed old new → IsSystemFailure old new e
+  was_shut : e ≡ SqliteFailure Closed → (old.is_open ≡ false) ⊎ HasFailed old new → IsSystemFailure old new e
 
 -- a query is refused for these, or since the steps that it may take ran out
 pub data IsUnread (old new : State) (e : Error) : Type 0 where
-  stopped : IsStopped old new e → IsUnread old new e
+  stopped : IsSystemFailure old new e → IsUnread old new e
   limited : e ≡ SqliteFailure OperationInterrupted → IsSome old.step_limit → IsUnread old new e
 
 -- BEGIN, COMMIT or ROLLBACK is refused for these, or since a transaction is open where none may be,
 -- or none is where one must be
 pub data IsTurnRefused (is_inside : Bool) (old new : State) (e : Error) : Type 0 where
-  stopped : IsStopped old new e → IsTurnRefused is_inside old new e
+  stopped : IsSystemFailure old new e → IsTurnRefused is_inside old new e
   out_of_turn : e ≡ SqliteFailure TransactionState → old.in_transaction ≡ is_inside → IsTurnRefused is_inside old new e
 
 -- these cells in a table are refused for these, or since the row is larger than the 10^9 bytes that
 -- `sqlite` stores, the steps that it may take ran out, or the row breaks this rule of the table
 pub data IsUnadded (table : Table) (cells : Row) (old new : State) (e : Error) : Type 0 where
-  stopped : IsStopped old new e → IsUnadded table cells old new e
+  stopped : IsSystemFailure old new e → IsUnadded table cells old new e
   too_big : e ≡ SqliteFailure TooBig → 10 ^ 9 < stored_size (new_row (old.now.trees table.tree) cells) → IsUnadded table cells old new e
   limited : e ≡ SqliteFailure OperationInterrupted → IsSome old.step_limit → IsUnadded table cells old new e
   against_rule : (rule : Refusal) → e ≡ edit_error rule → IsRefused both_schema Enforced old.now.trees (one_row old.now.trees table cells) rule → IsUnadded table cells old new e
 
 -- a table is refused for these, or since a rule of the schema refuses it
 pub data IsUnmade (old new : State) (e : Error) : Type 0 where
-  stopped : IsStopped old new e → IsUnmade old new e
+  stopped : IsSystemFailure old new e → IsUnmade old new e
   against_rule : (rule : alter.Refusal) → e ≡ alter_error rule → IsUnmade old new e
 
 -- a cell cannot be read as the value that is asked for, or memory ran out

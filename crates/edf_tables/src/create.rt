@@ -12,7 +12,8 @@ ghost use Rattle.edf_tables.specs.Statement.{IfClean, Leaves, FailsAs, KeepsComm
 
 use sqlite::{Alter, Connection, Error};
 
-/// Makes the table `recording` where it is missing. The number is `sqlite`'s count of changed rows, and nothing is promised of it.
+/// Makes the table `recording` where it is missing. The number is `sqlite`'s count of changed rows,
+/// and nothing is promised of it.
 ///
 /// # Errors
 /// `sqlite`'s; nothing is committed then. A crash leaves the table as it was, or made.
@@ -35,7 +36,8 @@ pub fn create_recording<S: Alter>(conn: &mut Connection<S>) -> Result<usize, Err
     )
 }
 
-/// Makes the table `record` where it is missing and `recording` is there. Of the number nothing is promised, as above.
+/// Makes the table `record` where it is missing and `recording` is there. Of the number nothing is
+/// promised, as above.
 ///
 /// # Errors
 /// `sqlite`'s; nothing is committed then. A crash leaves the table as it was, or made.
@@ -64,9 +66,9 @@ pub fn create_records<S: Alter>(conn: &mut Connection<S>) -> Result<usize, Error
 /// Makes both tables where they are missing.
 ///
 /// # Errors
-/// `sqlite`'s; the committed rows stay, an open transaction may be undone, and the first table may have been made. A crash leaves no
-/// table, the first, or both.
-#[tactic(auto, using(crate::proofs::TablesLemmas::after_first, crate::proofs::TablesLemmas::both_made, crate::proofs::TablesLemmas::first_survives, crate::proofs::TablesLemmas::second_survives))]
+/// `sqlite`'s; the committed rows stay, an open transaction may be undone, and the first table may
+/// have been made. A crash leaves no table, the first, or both.
+#[tactic(auto, using(crate::proofs::Tables::after_first, crate::proofs::Tables::both_made, crate::proofs::Tables::first_survives, crate::proofs::Tables::second_survives))]
 pub fn create_tables<S: Alter>(conn: &mut Connection<S>) -> Result<(), Error>
     requires { IfClean S.Store conn.old (λ s. IsOurs s.now) }
     ensures made { Leaves S.Store conn.old conn.new result (λ old new. HasTables old.now new.now) }

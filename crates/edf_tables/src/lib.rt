@@ -1,17 +1,19 @@
 //! The statements of a store of recordings, over rows of SQL values.
 //!
-//! One SQL text is one function, over any store that `sqlite` takes; what the cells mean is known above. Two tables are kept: `recording`
-//! has an id and the bytes of an identity, `record` the id of its recording, a start, samples and a block.
+//! One SQL text is one function, over any store that `sqlite` takes; what the cells mean is known
+//! above. Two tables are kept: `recording` has an id and the bytes of an identity, `record` the id
+//! of its recording, a start, samples and a block.
 //!
 //! `sqlite` refuses where memory ran out, for a failure of the disk, a connection that is shut, or,
 //! by the statement, a limit of steps, a transaction that is open or is not, a rule, or a size:
 //! clause `why` of each.
 //!
-//! - [`create_tables`], [`create_recording`], [`create_records`]: the tables, made where they are missing.
+//! - [`create_tables`], [`create_recording`], [`create_records`]: the tables, made where they are
+//!   missing.
 //! - [`begin`], [`commit`], [`roll_back`]: a transaction.
 //! - [`insert_recording`], [`insert_record`]: one row more.
-//! - [`near_rows`], [`page_rows`], [`count_rows`], [`first_start`], [`next_start`], [`last_start`]: the records of one
-//!   recording, as [`RecordRow`].
+//! - [`near_rows`], [`page_rows`], [`count_rows`], [`first_start`], [`next_start`], [`last_start`]:
+//!   the records of one recording, as [`RecordRow`].
 //! - [`select_recording`], [`identities`], [`recordings`], [`count_all_rows`]: all recordings.
 #![tactic(auto)]
 

@@ -16,7 +16,8 @@ use sqlite::{Alter, Connection, Error, Row, params};
 /// The id of a recording with this identity.
 ///
 /// # Errors
-/// `sqlite`'s, and that of a cell of another type; what is committed stays, and an open transaction may be undone.
+/// `sqlite`'s, and that of a cell of another type; what is committed stays, and an open transaction
+/// may be undone.
 pub fn select_recording<S: Alter>(
     conn: &mut Connection<S>,
     identity: &[u8],
@@ -40,7 +41,8 @@ pub fn select_recording<S: Alter>(
 /// The identities of all recordings, by their bytes.
 ///
 /// # Errors
-/// `sqlite`'s, and that of a cell of another type; what is committed stays, and an open transaction may be undone.
+/// `sqlite`'s, and that of a cell of another type; what is committed stays, and an open transaction
+/// may be undone.
 pub fn identities<S: Alter>(conn: &mut Connection<S>) -> Result<Vec<Vec<u8>>, Error>
     requires apart { IfClean S.Store conn.old AreNamedApart }
     ensures why { FailsAs S.Store conn.old conn.new result IsUntold }
@@ -62,7 +64,8 @@ pub fn identities<S: Alter>(conn: &mut Connection<S>) -> Result<Vec<Vec<u8>>, Er
 
 /// The id and the identity of all recordings, as they are, also where a cell has another type.
 ///
-/// They come by their ids; without ORDER BY they would come in the order of the index of identities.
+/// They come by their ids; without ORDER BY they would come in the order of the index of
+/// identities.
 ///
 /// # Errors
 /// `sqlite`'s; what is committed stays, and an open transaction may be undone.
@@ -85,7 +88,8 @@ pub fn recordings<S: Alter>(conn: &mut Connection<S>) -> Result<Vec<Row>, Error>
 /// more.
 ///
 /// # Errors
-/// `sqlite`'s, and that of a cell of another type; what is committed stays, and an open transaction may be undone.
+/// `sqlite`'s, and that of a cell of another type; what is committed stays, and an open transaction
+/// may be undone.
 pub fn count_all_rows<S: Alter>(conn: &mut Connection<S>) -> Result<u64, Error>
     requires schema { IfClean S.Store conn.old HasBothTables }
     ensures why { FailsAs S.Store conn.old conn.new result IsUntold }

@@ -17,7 +17,8 @@ use sqlite::{Alter, Connection, Error, params};
 /// The records of a recording that start after one instant and before another, by their starts.
 ///
 /// # Errors
-/// `sqlite`'s, and that of a cell of another type; what is committed stays, and an open transaction may be undone.
+/// `sqlite`'s, and that of a cell of another type; what is committed stays, and an open transaction
+/// may be undone.
 pub fn near_rows<S: Alter>(
     conn: &mut Connection<S>,
     recording: i64,
@@ -46,7 +47,8 @@ pub fn near_rows<S: Alter>(
 /// The first `limit` records of a recording that start after an instant, by their starts.
 ///
 /// # Errors
-/// `sqlite`'s, and that of a cell of another type; what is committed stays, and an open transaction may be undone.
+/// `sqlite`'s, and that of a cell of another type; what is committed stays, and an open transaction
+/// may be undone.
 pub fn page_rows<S: Alter>(
     conn: &mut Connection<S>,
     recording: i64,
@@ -75,7 +77,8 @@ pub fn page_rows<S: Alter>(
 /// The number of records of a recording, 2^63 - 1 where there are more.
 ///
 /// # Errors
-/// `sqlite`'s, and that of a cell of another type; what is committed stays, and an open transaction may be undone.
+/// `sqlite`'s, and that of a cell of another type; what is committed stays, and an open transaction
+/// may be undone.
 pub fn count_rows<S: Alter>(conn: &mut Connection<S>, recording: i64) -> Result<u64, Error>
     requires schema { IfClean S.Store conn.old HasBothTables }
     ensures why { FailsAs S.Store conn.old conn.new result IsUntold }
@@ -97,7 +100,8 @@ pub fn count_rows<S: Alter>(conn: &mut Connection<S>, recording: i64) -> Result<
 /// The first start of a recording's records.
 ///
 /// # Errors
-/// `sqlite`'s, and that of a cell of another type; what is committed stays, and an open transaction may be undone.
+/// `sqlite`'s, and that of a cell of another type; what is committed stays, and an open transaction
+/// may be undone.
 pub fn first_start<S: Alter>(conn: &mut Connection<S>, recording: i64) -> Result<Option<i64>, Error>
     requires ready { IfClean S.Store conn.old (IsReady recording) }
     ensures why { FailsAs S.Store conn.old conn.new result IsUntold }
@@ -119,7 +123,8 @@ pub fn first_start<S: Alter>(conn: &mut Connection<S>, recording: i64) -> Result
 /// The first start of a recording's records that is `from` or later.
 ///
 /// # Errors
-/// `sqlite`'s, and that of a cell of another type; what is committed stays, and an open transaction may be undone.
+/// `sqlite`'s, and that of a cell of another type; what is committed stays, and an open transaction
+/// may be undone.
 pub fn next_start<S: Alter>(
     conn: &mut Connection<S>,
     recording: i64,
@@ -146,7 +151,8 @@ pub fn next_start<S: Alter>(
 /// The last start of a recording's records.
 ///
 /// # Errors
-/// `sqlite`'s, and that of a cell of another type; what is committed stays, and an open transaction may be undone.
+/// `sqlite`'s, and that of a cell of another type; what is committed stays, and an open transaction
+/// may be undone.
 pub fn last_start<S: Alter>(conn: &mut Connection<S>, recording: i64) -> Result<Option<i64>, Error>
     requires ready { IfClean S.Store conn.old (IsReady recording) }
     ensures why { FailsAs S.Store conn.old conn.new result IsUntold }

@@ -27,8 +27,8 @@ pub fn begin<S: Alter>(conn: &mut Connection<S>) -> Result<(), Error>
 /// Commits the transaction: what it shows is what is held.
 ///
 /// # Errors
-/// `sqlite`'s, also where none is open; what was committed before stays, and the transaction is over. A crash leaves that, or all
-/// of the transaction.
+/// `sqlite`'s, also where none is open; what was committed before stays, and the transaction is
+/// over. A crash leaves that, or all of the transaction.
 pub fn commit<S: Alter>(conn: &mut Connection<S>) -> Result<(), Error>
     ensures why { FailsAs S.Store conn.old conn.new result (IsTurnRefused false) }
     ensures committed { Leaves S.Store conn.old conn.new result (λ old new.

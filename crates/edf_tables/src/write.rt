@@ -15,7 +15,8 @@ use sqlite::{Alter, Connection, Error, params};
 /// Adds a row to `recording`, and answers its id.
 ///
 /// # Errors
-/// `sqlite`'s, also where the identity is there, and `TooBig` above 10^9 bytes; what is committed stays, and the transaction may be undone.
+/// `sqlite`'s, also where the identity is there, and `TooBig` above 10^9 bytes; what is committed
+/// stays, and the transaction may be undone.
 pub fn insert_recording<S: Alter>(conn: &mut Connection<S>, identity: &[u8]) -> Result<i64, Error>
     requires { IfClean S.Store conn.old IsInside }
     ensures added { Gives S.Store conn.new result (λ id.
@@ -33,11 +34,12 @@ pub fn insert_recording<S: Alter>(conn: &mut Connection<S>, identity: &[u8]) -> 
     Ok(conn.last_insert_rowid())
 }
 
-/// Adds a row to `record`. The number is `sqlite`'s count of changed rows, and nothing is promised of it.
+/// Adds a row to `record`. The number is `sqlite`'s count of changed rows, and nothing is promised
+/// of it.
 ///
 /// # Errors
-/// `sqlite`'s, also where the recording has a record of this start, and `TooBig` above 10^9 bytes; what is committed stays, and
-/// the transaction may be undone.
+/// `sqlite`'s, also where the recording has a record of this start, and `TooBig` above 10^9 bytes;
+/// what is committed stays, and the transaction may be undone.
 pub fn insert_record<S: Alter>(
     conn: &mut Connection<S>,
     recording: i64,

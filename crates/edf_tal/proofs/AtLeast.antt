@@ -9,7 +9,7 @@ use Rattle.std.proofs.lemmas.Str.{IsUtf8-from_is_utf8, is_utf8-from_IsUtf8}
 use Rattle.edf_time.specs.Civil.{window}
 use Rattle.edf_tal.specs.Tal.{Tal, Annotation, IsText, ended, IsTalInWindow, instant}
 use Rattle.edf_tal.specs.Block.{AreRead, IsRead, IsBadText, IsBroken, IsBlocksFault, IsBlockFault}
-use Rattle.edf_tal.specs.Inside.Scan.{Lacks, NoTal, AreZeros, IsTalAtFront, IsBadAmong, AreGoodTexts, IsBehind, IsSurvey, KeepsSecond, KeepsOrder}
+use Rattle.edf_tal.specs.Inside.Scan.{Lacks, NoTal, AreZeros, IsTalAtFront, IsBadAmong, AreGoodTexts, FollowsTals, IsSurvey, KeepsSecond, KeepsOrder}
 use Rattle.edf_tal.specs.Inside.Blocks.{AreSurveyed, HasForm}
 use Rattle.edf_tal.specs.declared.blocks.Sums.{Sums}
 use Rattle.edf_tal.specs.declared.blocks.Form.{Form}
@@ -107,7 +107,7 @@ front-texts bytes texts rest t f =
 -- ---- the walk over the TALs
 
 -- what comes after the TALs
-behind : (fuel : ℕ) (bytes : List ℕ) → length bytes < fuel → (rest : List ℕ) × IsBehind bytes rest × NoTal rest
+behind : (fuel : ℕ) (bytes : List ℕ) → length bytes < fuel → (rest : List ℕ) × FollowsTals bytes rest × NoTal rest
 behind zero bytes short = absurd (omega arith)
 behind (suc fuel) bytes short =
     elim (front bytes) [
@@ -130,7 +130,7 @@ pub record Surveyed (block : List ℕ) (s : ℕ) : Type 0 where
 pub record IsBadSurvey (block : List ℕ) : Type 0 where
   pub rest : List ℕ
   pub at : ℕ
-  pub is_behind : IsBehind block rest
+  pub is_behind : FollowsTals block rest
   pub last : NoTal rest
   pub bad : IsBadText block at
 

@@ -3,7 +3,7 @@ use Rattle.std.proofs.Common.{◌≡◌, ℕ, ◌⊎◌, inl, inr, List, [], ◌
 use Rattle.std.proofs.lemmas.Bool.{cases_eq}
 use Rattle.edf_time.proofs.Cited.{some-value}
 use Rattle.edf_tal.specs.Tal.{Tal}
-use Rattle.edf_tal.specs.Inside.Scan.{Lacks, NoTal, IsTimes, IsHead, IsEnded, IsTalAtFront}
+use Rattle.edf_tal.specs.Inside.Scan.{Lacks, NoTal, IsTimes, IsHead, EndsWith20, IsTalAtFront}
 use Rattle.edf_tal.proofs.Heads.{alone, from-alone, both, from-both, no-head, head-signed, head-plus, head-minus, neither, IsEnded-ended, no-zero-byte, no-twenty, front-sides, front-made}
 
 -- the two sides of the first such byte
@@ -61,7 +61,7 @@ head (b ∷ bytes) =
       | inr never ↦ inr (λ z d h. let s = head-signed b bytes z d h in never s.n d s.times)
     ]
 
-ends : (bytes : List ℕ) → IsEnded bytes ⊎ (¬ IsEnded bytes)
+ends : (bytes : List ℕ) → EndsWith20 bytes ⊎ (¬ EndsWith20 bytes)
 ends [] = inl tt
 ends (b ∷ []) = cases_eq b 20
 ends (b ∷ c ∷ bytes) = ends (c ∷ bytes)
@@ -87,7 +87,7 @@ module _ (bytes body rest head-bytes texts : List ℕ) (no-zeros : Lacks 0 body)
         ]
         | inr never ↦ inr (λ front behind t f s.
             let at = front-sides bytes body rest head-bytes texts front behind t no-zeros parts no-twenties sides f s in
-            never (subst IsEnded (sym at.texts) (IsEnded-ended t.texts)))
+            never (subst EndsWith20 (sym at.texts) (IsEnded-ended t.texts)))
       ]
 
 pub front : (bytes : List ℕ) → Front bytes ⊎ NoTal bytes

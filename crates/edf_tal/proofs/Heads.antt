@@ -6,7 +6,7 @@ use Rattle.std.proofs.lemmas.Bool.{cases_eq}
 use Rattle.std.proofs.lemmas.List.{append-nil, length-append, take_all}
 use Rattle.edf_time.specs.Decimal.{IsDecimal, IsFine, IsSeconds}
 use Rattle.edf_tal.specs.Tal.{Tal, IsTal, IsOnset, IsDurationPart, IsText, ended}
-use Rattle.edf_tal.specs.Inside.Scan.{Lacks, NoTal, IsTimes, IsHead, IsEnded, IsTalAtFront, capped}
+use Rattle.edf_tal.specs.Inside.Scan.{Lacks, NoTal, IsTimes, IsHead, EndsWith20, IsTalAtFront, capped}
 use Rattle.edf_time.proofs.Cited.{same-parts}
 use Rattle.edf_tal.proofs.Unique.{same-sides, not-both, Lacks-append, Lacks-onset, Lacks-duration, Lacks-seconds}
 use Rattle.edf_tal.proofs.Fronts.{NoZero-tal}
@@ -92,27 +92,27 @@ pub neither : (b : ℕ) (bytes : List ℕ) (z : ℤ) (d : Option ℕ) → b ≢ 
 neither b bytes z d p q h = elim (head-signed b bytes z d h).sign [ inl e ↦ p e | inr e ↦ q e ]
 
 -- the last byte
-IsEnded-last : (b : ℕ) (bytes : List ℕ) → IsEnded (b ∷ bytes) → get_or (b ∷ bytes) (length bytes) 0 ≡ 20
+IsEnded-last : (b : ℕ) (bytes : List ℕ) → EndsWith20 (b ∷ bytes) → get_or (b ∷ bytes) (length bytes) 0 ≡ 20
 IsEnded-last b [] e = e
 IsEnded-last b (c ∷ bytes) e = IsEnded-last c bytes e
 
-last-IsEnded : (b : ℕ) (bytes : List ℕ) → get_or (b ∷ bytes) (length bytes) 0 ≡ 20 → IsEnded (b ∷ bytes)
+last-IsEnded : (b : ℕ) (bytes : List ℕ) → get_or (b ∷ bytes) (length bytes) 0 ≡ 20 → EndsWith20 (b ∷ bytes)
 last-IsEnded b [] e = e
 last-IsEnded b (c ∷ bytes) e = last-IsEnded c bytes e
 
-IsEnded-append : (a b : List ℕ) → 0 < length b → IsEnded b → IsEnded (a ++ b)
+IsEnded-append : (a b : List ℕ) → 0 < length b → EndsWith20 b → EndsWith20 (a ++ b)
 IsEnded-append [] b some e = e
 IsEnded-append (x ∷ []) [] some e = absurd (omega arith)
 IsEnded-append (x ∷ []) (y ∷ b) some e = e
 IsEnded-append (x ∷ c ∷ a) b some e = IsEnded-append (c ∷ a) b some e
 
-pub IsEnded-ended : (texts : List (List ℕ)) → IsEnded (ended texts)
+pub IsEnded-ended : (texts : List (List ℕ)) → EndsWith20 (ended texts)
 IsEnded-ended [] = tt
 IsEnded-ended (x ∷ []) = rw (append-nil (x ++ 20 ∷ [])) (IsEnded-append x (20 ∷ []) (omega arith) refl)
 IsEnded-ended (x ∷ y ∷ texts) = IsEnded-append (x ++ 20 ∷ []) (ended (y ∷ texts)) (omega (arith, length-append (y ++ 20 ∷ []) (ended texts), length-append y (20 ∷ []))) (IsEnded-ended (y ∷ texts))
 
 -- the test of the last byte
-pub ended-tests : (bytes : List ℕ) → 0 < length bytes → (IsTrue (nat_eq (get_or bytes (length bytes - 1) 0) 20) → IsEnded bytes) × (IsEnded bytes → IsTrue (nat_eq (get_or bytes (length bytes - 1) 0) 20))
+pub ended-tests : (bytes : List ℕ) → 0 < length bytes → (IsTrue (nat_eq (get_or bytes (length bytes - 1) 0) 20) → EndsWith20 bytes) × (EndsWith20 bytes → IsTrue (nat_eq (get_or bytes (length bytes - 1) 0) 20))
 ended-tests [] some = absurd (omega arith)
 ended-tests (b ∷ bytes) some =
     let at : suc (length bytes) - 1 ≡ length bytes = omega arith in (
@@ -133,7 +133,7 @@ onto b tail nz nt some t = go t.texts t.parts t.are_texts
     go [] e a = absurd (omega (arith, ap length e))
     go (x ∷ xs) e a = record { texts = (b ∷ x) ∷ xs; parts = ap (λ (w : List ℕ). b ∷ w) e; are_texts = (((nz, nt), a.0), a.1) }
 
-pub texts-of : (tail : List ℕ) → Lacks 0 tail → IsEnded tail → Texts tail
+pub texts-of : (tail : List ℕ) → Lacks 0 tail → EndsWith20 tail → Texts tail
 texts-of [] nz e = record { texts = []; parts = refl; are_texts = tt }
 texts-of (b ∷ []) nz e = record { texts = [] ∷ []; parts = rw e refl; are_texts = (tt, tt) }
 texts-of (b ∷ c ∷ tail) nz e =
@@ -183,7 +183,7 @@ Lacks-back : (c : ℕ) (a b : List ℕ) → Lacks c (a ++ b) → Lacks c b
 Lacks-back c [] b p = p
 Lacks-back c (x ∷ a) b p = Lacks-back c a b p.1
 
-pub front-made : (bytes body rest head texts : List ℕ) (z : ℤ) (d : Option ℕ) → Lacks 0 body → bytes ≡ body ++ 0 ∷ rest → body ≡ head ++ 20 ∷ texts → IsHead head z d → IsEnded texts
+pub front-made : (bytes body rest head texts : List ℕ) (z : ℤ) (d : Option ℕ) → Lacks 0 body → bytes ≡ body ++ 0 ∷ rest → body ≡ head ++ 20 ∷ texts → IsHead head z d → EndsWith20 texts
     → (x : Texts texts) × IsTalAtFront bytes texts rest (record { onset = z; duration = d; texts = x.texts })
 front-made bytes body rest head texts z d lacks e f h ends =
     let none : Lacks 0 texts = (Lacks-back 0 head (20 ∷ texts) (subst (λ (w : List ℕ). Lacks 0 w) f lacks)).1 in

@@ -7,7 +7,7 @@ use Rattle.std.proofs.lemmas.List.{append-nil, length-append, length-take, take-
 use Rattle.std.proofs.lemmas.List.Sums.{sum_by-append, sum_by-cons}
 use Rattle.edf_tal.specs.Tal.{Tal, Annotation, AreTalsAndZeros, AreBlocks, all_tals, HaveUtf8Texts, IsTalInWindow, tal_annotations}
 use Rattle.edf_tal.specs.Block.{IsBadText, IsLongestFront, IsBroken, HasBadText}
-use Rattle.edf_tal.specs.Inside.Scan.{NoTal, AreZeros, IsBehind, IsSurvey}
+use Rattle.edf_tal.specs.Inside.Scan.{NoTal, AreZeros, FollowsTals, IsSurvey}
 use Rattle.edf_tal.specs.Inside.Blocks.{AreSurveyed, HasForm}
 use Rattle.edf_tal.specs.declared.blocks.Sums.{Sums}
 use Rattle.edf_tal.specs.declared.blocks.Form.{Form}
@@ -226,11 +226,11 @@ form-append bs cs s (BadText at) g p q = (BadText at, (lists-both bs cs p.0 (for
 -- ---- one block
 
 -- the front of TALs is the longest, and what is after it would be the zeros
-not-block : (block rest : List ℕ) → IsBehind block rest → NoTal rest → ¬ AreZeros rest → (ts : List Tal) → ¬ AreTalsAndZeros block ts
+not-block : (block rest : List ℕ) → FollowsTals block rest → NoTal rest → ¬ AreZeros rest → (ts : List Tal) → ¬ AreTalsAndZeros block ts
 not-block block rest b last not-zeros ts (front, zeros, parts, tals, are) =
     not-zeros (rw (same-tals b.tals ts b.front rest front zeros b.whole tals last (zeros-no-tal zeros are) (sym b.parts ∙ parts)).rest are)
 
-longest-front : (block rest : List ℕ) → IsBehind block rest → NoTal rest → IsLongestFront block (length block - length rest)
+longest-front : (block rest : List ℕ) → FollowsTals block rest → NoTal rest → IsLongestFront block (length block - length rest)
 longest-front block rest b last =
     let len : length block - length rest ≡ length b.front = omega (arith, ap length b.parts, length-append b.front rest) in
     rw len (record {
@@ -242,7 +242,7 @@ longest-front block rest b last =
           omega (arith, s, length-take m block);
     })
 
-pub broken-one : (block rest : List ℕ) → IsBehind block rest → NoTal rest → ¬ AreZeros rest → IsBroken (block ∷ []) (length block - length rest)
+pub broken-one : (block rest : List ℕ) → FollowsTals block rest → NoTal rest → ¬ AreZeros rest → IsBroken (block ∷ []) (length block - length rest)
 broken-one block rest b last not-zeros = record {
   front = [];
   block = block;
@@ -255,7 +255,7 @@ broken-one block rest b last not-zeros = record {
   place = omega arith;
 }
 
-pub form-bad : (block rest : List ℕ) (s at : ℕ) → IsBehind block rest → AreZeros rest → IsBadText block at → HasForm (block ∷ []) s (BadText at)
+pub form-bad : (block rest : List ℕ) (s at : ℕ) → FollowsTals block rest → AreZeros rest → IsBadText block at → HasForm (block ∷ []) s (BadText at)
 form-bad block rest s at b zeros bad = (
   (b.tals ∷ [], ((b.front, rest, b.parts, b.whole, zeros), tt)),
   record { front = []; block = block; back = []; offset = at; parts = refl; good = ([], tt, tt); bad = bad; place = omega arith },

@@ -8,7 +8,7 @@ use Rattle.std.proofs.lemmas.Int.{ints}
 use Rattle.edf_time.specs.Civil.{window, IsInWindow}
 use Rattle.edf_tal.specs.Tal.{Tal, Annotation, IsText, ended, AreTals, IsTalInWindow, instant, tal_annotations}
 use Rattle.edf_tal.specs.Block.{IsBadText}
-use Rattle.edf_tal.specs.Inside.Scan.{Lacks, capped, TellsDuration, IsTalAtFront, IsBadAmong, AreGoodTexts, IsBehind, IsSurvey}
+use Rattle.edf_tal.specs.Inside.Scan.{Lacks, capped, TellsDuration, IsTalAtFront, IsBadAmong, AreGoodTexts, FollowsTals, IsSurvey}
 use Rattle.edf_tal.proofs.Unique.{same-sides, not-both, Lacks-text}
 use Rattle.edf_tal.proofs.Fronts.{AreTals-more, NoZero-ended}
 use Rattle.edf_tal.proofs.OneBlock.{tal-sides}
@@ -44,10 +44,10 @@ duration-told None (Some m) t h = absurd t
 duration-told (Some n) None t h = absurd t
 
 -- one TAL more
-pub behind-none : (bytes : List ℕ) → IsBehind bytes bytes
+pub behind-none : (bytes : List ℕ) → FollowsTals bytes bytes
 behind-none bytes = record { front = []; tals = []; parts = refl; whole = refl }
 
-pub behind-more : (bytes rest texts more : List ℕ) (t : Tal) → IsBehind bytes rest → IsTalAtFront rest texts more t → IsBehind bytes more
+pub behind-more : (bytes rest texts more : List ℕ) (t : Tal) → FollowsTals bytes rest → IsTalAtFront rest texts more t → FollowsTals bytes more
 behind-more bytes rest texts more t b f = record {
   front = b.front ++ f.front;
   tals = b.tals ++ t ∷ [];
@@ -60,7 +60,7 @@ AreTals-append a b [] us p q = rw p q
 AreTals-append a b (t ∷ ts) us (f, r, parts, is, more) q =
     (f, r ++ b, ap (λ (x : List ℕ). x ++ b) parts ∙ append_assoc f r b, is, AreTals-append r b ts us more q)
 
-pub behind-behind : (bytes rest more : List ℕ) → IsBehind bytes rest → IsBehind rest more → IsBehind bytes more
+pub behind-behind : (bytes rest more : List ℕ) → FollowsTals bytes rest → FollowsTals rest more → FollowsTals bytes more
 behind-behind bytes rest more b c = record {
   front = b.front ++ c.front;
   tals = b.tals ++ c.tals;
@@ -266,7 +266,7 @@ survey-bad block rest texts more s t in_window count bytes at v f b =
       length-append f.tal.onset f.tal.duration,
     ))
 
-pub survey-behind : (block rest : List ℕ) (s : ℕ) (in_window : Bool) (count bytes : ℕ) → IsSurvey block s rest in_window count bytes → IsBehind block rest
+pub survey-behind : (block rest : List ℕ) (s : ℕ) (in_window : Bool) (count bytes : ℕ) → IsSurvey block s rest in_window count bytes → FollowsTals block rest
 survey-behind block rest s in_window count bytes v = record { front = v.front; tals = v.tals; parts = v.parts; whole = v.whole }
 
 pub both-true : (a b : Bool) → IsTrue (a && b) ↔ (IsTrue a × IsTrue b)

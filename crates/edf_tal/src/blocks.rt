@@ -40,7 +40,8 @@ fn are_zeros(bytes: &[u8]) -> bool
     bytes.iter().all(|b| *b == 0)
 }
 
-/// What a block is that is TALs and zeros; of any other, where its longest front of whole TALs ends.
+/// What a block is that is TALs and zeros; of any other, where its longest front of whole TALs
+/// ends.
 fn form_of(block: &[u8], file_start: Instant) -> Result<Form, usize>
     ensures { MatchResult result (HasForm (block.now ∷ []) file_start) (IsBroken (block.now ∷ [])) }
 {

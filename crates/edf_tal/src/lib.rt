@@ -1,11 +1,12 @@
-//! Annotations of a data record: the blocks of time-stamped annotations lists, TALs for short, that EDF+ keeps in the
-//! annotations signals.
+//! Annotations of a data record: the blocks of time-stamped annotations lists, TALs for short, that
+//! EDF+ keeps in the annotations signals.
 //!
 //! - [`read_blocks`]: the start and the annotations of a data record, or the first rule that its
 //!   blocks break. [`read_block`]: the same of a data record with one block.
 //! - [`Note`]: an annotation. [`Place`]: where the data record is. [`TalFault`]: why its blocks
 //!   are refused, E22 to E28.
-//! - [`write_block`], [`block_len`]: the one block that a data record of a canonical file has, and its length.
+//! - [`write_block`], [`block_len`]: the one block that a data record of a canonical file has, and
+//!   its length.
 //! - [`same_notes`]: whether two lists have the same annotations.
 //! - [`laws`]: the blocks of a data record have one answer at each place, and a written block is
 //!   read again; functions that do nothing, each with a law for a contract.

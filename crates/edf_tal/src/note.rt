@@ -1,4 +1,5 @@
-ghost use Rattle.std.specs.Prelude.{◌≡◌, ◌≢◌, ℕ, ◌*◌, ◌^◌, ◌<◌, ◌↔◌, IsSome, IfSome, string_bytes, IsTrue};
+ghost use Rattle.std.specs.Prelude.{◌≡◌, ◌≢◌, ℕ, ◌*◌, ◌^◌, ◌<◌, ◌↔◌, IsSome, IfSome, string_bytes};
+ghost use Rattle.std.specs.Prelude.{IsTrue};
 ghost use Rattle.std.specs.Option.{ForSome};
 ghost use Rattle.std.specs.List.{AllByRecursion};
 ghost use Rattle.edf_tal.specs.Tal.{Annotation, IsText};
@@ -9,8 +10,8 @@ use crate::scan::{TAL_END, TEXT_END};
 use edf_time::Instant;
 use std::marker::Model;
 
-/// An annotation of a data record: an instant, a duration in nanoseconds or none, and a text (EDF+, time-stamped annotations
-/// lists).
+/// An annotation of a data record: an instant, a duration in nanoseconds or none, and a text (EDF+,
+/// time-stamped annotations lists).
 ///
 /// A duration of 0 is not the same as none. The text is UTF-8 without byte 20, which ends a text,
 /// and byte 0, which ends a TAL; byte 21, which comes before a duration, may be in it.
@@ -56,8 +57,8 @@ pub(crate) fn is_duration(duration: Option<u64>) -> bool
 impl Note {
     /// The annotation, or `None` where no TAL can hold it.
     ///
-    /// `duration` counts nanoseconds and is to be below 6,311,433,600,000,000,000, the length of the years 1985 to 2184;
-    /// `text` is to have no byte 0 or 20.
+    /// `duration` counts nanoseconds and is to be below 6,311,433,600,000,000,000, the length of
+    /// the years 1985 to 2184; `text` is to have no byte 0 or 20.
     pub fn new(onset: Instant, duration: Option<u64>, text: String) -> Option<Note>
         ensures found { IsSome result
             ↔ (ForSome duration (λ d. d < window) × IsText (string_bytes text)) }

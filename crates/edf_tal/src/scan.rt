@@ -1,7 +1,10 @@
-ghost use Rattle.std.specs.Prelude.{◌≡◌, ◌≢◌, ℕ, ◌+◌, ◌^◌, ◌≤◌, ◌<◌, ◌↔◌, ◌∷◌, ◌++◌, ℤ, List, Option, length, MatchOption, MatchResult, IsTrue, IsUtf8};
+ghost use Rattle.std.specs.Prelude.{◌≡◌, ◌≢◌, ℕ, ◌+◌, ◌^◌, ◌≤◌, ◌<◌, ◌↔◌, ◌∷◌, ◌++◌, ℤ, List};
+ghost use Rattle.std.specs.Prelude.{Option, length, MatchOption, MatchResult, IsTrue, IsUtf8};
 ghost use Rattle.edf_time.specs.Decimal.{IsSeconds};
 ghost use Rattle.edf_tal.specs.Tal.{Tal, IsTal};
-ghost use Rattle.edf_tal.specs.Inside.Scan.{Lacks, NoTal, capped, IsTimes, IsHead, TellsOnset, TellsDuration, IsEnded, IsTalAtFront, IsBadAmong, AreGoodTexts};
+ghost use Rattle.edf_tal.specs.Inside.Scan.{Lacks, NoTal, capped, IsTimes, IsHead, TellsOnset};
+ghost use Rattle.edf_tal.specs.Inside.Scan.{TellsDuration, EndsWith20, IsTalAtFront, IsBadAmong};
+ghost use Rattle.edf_tal.specs.Inside.Scan.{AreGoodTexts};
 
 use edf_time::{DecimalFault, read_seconds};
 
@@ -110,7 +113,7 @@ fn head_times(head: &[u8]) -> Option<Times>
 
 /// Whether the last byte, if there is one, ends a text.
 fn is_ended(bytes: &[u8]) -> bool
-    ensures { IsTrue result ↔ IsEnded bytes.now }
+    ensures { IsTrue result ↔ EndsWith20 bytes.now }
 {
     bytes.is_empty() || bytes[bytes.len() - 1] == TEXT_END
 }

@@ -1,8 +1,10 @@
-ghost use Rattle.std.specs.Prelude.{◌≡◌, ℕ, ◌+◌, ◌^◌, ◌≤◌, ◌<◌, ◌↔◌, ℤ, pos, ◌+ℤ◌, MatchOption, MatchResult, IsTrue};
+ghost use Rattle.std.specs.Prelude.{◌≡◌, ℕ, ◌+◌, ◌^◌, ◌≤◌, ◌<◌, ◌↔◌, ℤ, pos, ◌+ℤ◌, MatchOption};
+ghost use Rattle.std.specs.Prelude.{MatchResult, IsTrue};
 ghost use Rattle.edf_time.specs.Civil.{window, IsInWindow};
 ghost use Rattle.edf_tal.specs.Tal.{Tal, IsTalInWindow, instant};
 ghost use Rattle.edf_tal.specs.Block.{IsBadText};
-ghost use Rattle.edf_tal.specs.Inside.Scan.{NoTal, TellsOnset, TellsDuration, IsBehind, IsSurvey};
+ghost use Rattle.edf_tal.specs.Inside.Scan.{NoTal, TellsOnset, TellsDuration, FollowsTals};
+ghost use Rattle.edf_tal.specs.Inside.Scan.{IsSurvey};
 
 use crate::note::is_duration;
 use crate::scan::{Times, check_texts, first_tal};
@@ -59,7 +61,7 @@ pub(crate) fn is_in_window(times: Times, file_start: Instant) -> bool
 
 /// What follows the TALs at the front.
 pub(crate) fn behind_tals(bytes: &[u8]) -> &[u8]
-    ensures whole { IsBehind bytes.now result.now }
+    ensures whole { FollowsTals bytes.now result.now }
     ensures last { NoTal result.now }
 {
     let mut rest = bytes;
@@ -74,7 +76,7 @@ pub(crate) fn survey(block: &[u8], file_start: Instant) -> Result<Totals<'_>, Ba
     ensures { MatchResult result
         (λ s. IsSurvey block.now file_start s.rest.now s.in_window s.count s.text_bytes
         × NoTal s.rest.now)
-        (λ b. IsBehind block.now b.rest.now × NoTal b.rest.now × IsBadText block.now b.offset) }
+        (λ b. FollowsTals block.now b.rest.now × NoTal b.rest.now × IsBadText block.now b.offset) }
 {
     let mut rest = block;
     let mut in_window = true;

@@ -1,4 +1,5 @@
-ghost use Rattle.std.specs.Prelude.{◌≡◌, ℕ, ◌+◌, ◌-◌, ◌≤◌, ◌<◌, ◌↔◌, ◌++◌, ℤ, pos, ◌-ℤ◌, unsigned_abs, List, length, IfOk, IfSome, OnOk, IsTrue};
+ghost use Rattle.std.specs.Prelude.{◌≡◌, ℕ, ◌+◌, ◌-◌, ◌≤◌, ◌<◌, ◌↔◌, ◌++◌, ℤ, pos, ◌-ℤ◌};
+ghost use Rattle.std.specs.Prelude.{unsigned_abs, List, length, IfOk, IfSome, OnOk, IsTrue};
 ghost use Rattle.edf_time.specs.Decimal.{short};
 ghost use Rattle.edf_time.specs.Civil.{window};
 ghost use Rattle.std.specs.List.{AllByRecursion};
@@ -114,8 +115,9 @@ fn annotation_len(base: Instant, onset: Instant, duration: Option<u64>, text: &[
     1 + short_len(distance(base, onset)) + duration_len(duration) + 3 + text.len()
 }
 
-/// The length in bytes of the block that `write_block` writes (EDF+, time-stamped annotations lists): at most 1,450,045, of 10,000
-/// annotations at most, with texts of 1,000,000 bytes in all. Contracts also learn what each annotation of the list is.
+/// The length in bytes of the block that `write_block` writes (EDF+, time-stamped annotations
+/// lists): at most 1,450,045, of 10,000 annotations at most, with texts of 1,000,000 bytes in all.
+/// Contracts also learn what each annotation of the list is.
 pub fn block_len(start: Instant, notes: &[Note], base: Instant) -> usize
     requires { IsWithinLimits notes.now }
     ensures value { result ≡ length (block_text base start notes.now) }
@@ -129,8 +131,8 @@ pub fn block_len(start: Instant, notes: &[Note], base: Instant) -> usize
     len
 }
 
-/// The canonical annotations block of a data record, without the bytes 0 that fill its signal (EDF+, time-stamped annotations
-/// lists).
+/// The canonical annotations block of a data record, without the bytes 0 that fill its signal
+/// (EDF+, time-stamped annotations lists).
 ///
 /// The time-keeping annotation is alone in the first TAL, then each annotation in a TAL of its own,
 /// in order. Onsets count from `base`, with `+` where they do not lie before it; every decimal is
@@ -170,7 +172,8 @@ fn is_same(a: &Note, b: &Note) -> bool
     a.onset() == b.onset() && a.duration() == b.duration() && a.text() == b.text()
 }
 
-/// Whether two lists have the same annotations in the same order. A duration of 0 is not the same as none.
+/// Whether two lists have the same annotations in the same order. A duration of 0 is not the same
+/// as none.
 pub fn same_notes(a: &[Note], b: &[Note]) -> bool
     ensures { IsTrue result ↔ (a.now ≡ b.now) }
 {

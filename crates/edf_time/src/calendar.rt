@@ -8,7 +8,8 @@ use jiff_core::civil;
 /// The days from the first date of the calendar to 1985-01-01.
 const FIRST_DAY: u32 = 4_371_587 + 5_479;
 
-/// The days from 1985-01-01 to this day, negative for one before it, where the calendar has the day.
+/// The days from 1985-01-01 to this day, negative for one before it, where the calendar has the
+/// day.
 pub(crate) fn day_number(year: u16, month: u8, day: u8) -> Option<i32>
     requires year { year ≤ 9999 }
     requires month { month < 100 }

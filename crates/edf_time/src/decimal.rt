@@ -1,6 +1,8 @@
-ghost use Rattle.std.specs.Prelude.{◌≡◌, ℕ, ◌+◌, ◌-◌, ◌*◌, ◌/◌, ◌^◌, ◌≤◌, ◌<◌, ◌↔◌, List, length, min, slice_index, ◌≢◌, IsTrue, MatchResult, MatchOption};
+ghost use Rattle.std.specs.Prelude.{◌≡◌, ℕ, ◌+◌, ◌-◌, ◌*◌, ◌/◌, ◌^◌, ◌≤◌, ◌<◌, ◌↔◌, List, length};
+ghost use Rattle.std.specs.Prelude.{min, slice_index, ◌≢◌, IsTrue, MatchResult, MatchOption};
 ghost use Rattle.std.specs.Str.Parse.{IsNumeral, AllDigits, digits_value};
-ghost use Rattle.edf_time.specs.Decimal.{IsDecimal, IsFine, IsSeconds, IsDecimalFault, fraction_value};
+ghost use Rattle.edf_time.specs.Decimal.{IsDecimal, IsFine, IsSeconds, IsDecimalFault};
+ghost use Rattle.edf_time.specs.Decimal.{fraction_value};
 
 use thiserror::Error;
 
@@ -102,15 +104,16 @@ fn parts(text: &[u8]) -> Option<(&[u8], &[u8])>
     }
 }
 
-/// The nanoseconds that a decimal of seconds is worth, as the duration of a data record is written (EDF, header record), and the
-/// onsets and durations of annotations (EDF+, time-stamped annotations lists).
+/// The nanoseconds that a decimal of seconds is worth, as the duration of a data record is written
+/// (EDF, header record), and the onsets and durations of annotations (EDF+, time-stamped
+/// annotations lists).
 ///
-/// A decimal is one or more digits, or such digits, a dot and one or more digits. Zeros may lead, and zeros may follow the
-/// ninth digit after the dot.
+/// A decimal is one or more digits, or such digits, a dot and one or more digits. Zeros may lead,
+/// and zeros may follow the ninth digit after the dot.
 ///
 /// # Errors
-/// `Syntax` where the text is no decimal, else `TooFine` where a digit past the ninth after the dot is not 0, else `TooLarge`
-/// where it is worth more than 9,223,372,036,854,775,807 nanoseconds.
+/// `Syntax` where the text is no decimal, else `TooFine` where a digit past the ninth after the dot
+/// is not 0, else `TooLarge` where it is worth more than 9,223,372,036,854,775,807 nanoseconds.
 pub fn read_seconds(text: &[u8]) -> Result<u64, DecimalFault>
     ensures { MatchResult result
         (λ nanos. IsSeconds text.now nanos × (nanos < 2 ^ 63))

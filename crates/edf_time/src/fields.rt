@@ -1,5 +1,7 @@
-ghost use Rattle.std.specs.Prelude.{◌≡◌, ℕ, ◌∷◌, ◌+◌, ◌-◌, ◌*◌, ◌/◌, ◌%◌, ◌^◌, ◌≤◌, ◌<◌, ◌++◌, ℤ, pos, MatchOption, IfOk};
-ghost use Rattle.edf_time.specs.Civil.{day_of, second_of_day, IsClock, IsDateField, IsTimeText, IsIdDate, IsInstantText, two_digits};
+ghost use Rattle.std.specs.Prelude.{◌≡◌, ℕ, ◌∷◌, ◌+◌, ◌-◌, ◌*◌, ◌/◌, ◌%◌, ◌^◌, ◌≤◌, ◌<◌, ◌++◌, ℤ};
+ghost use Rattle.std.specs.Prelude.{pos, MatchOption, IfOk};
+ghost use Rattle.edf_time.specs.Civil.{day_of, second_of_day, IsClock, IsDateField, IsTimeText};
+ghost use Rattle.edf_time.specs.Civil.{IsIdDate, IsInstantText, two_digits};
 ghost use Rattle.edf_time.specs.Decimal.{fraction_text};
 
 use crate::calendar::{date_of, day_number};
@@ -61,8 +63,8 @@ pub fn date_field(instant: Instant) -> [u8; 8]
     }
 }
 
-/// The starttime of a header, `hh.mm.ss`: 8 bytes, at 176 to 183 of the file (EDF, header record). A fraction of a second is
-/// left out.
+/// The starttime of a header, `hh.mm.ss`: 8 bytes, at 176 to 183 of the file (EDF, header record).
+/// A fraction of a second is left out.
 pub fn time_field(instant: Instant) -> [u8; 8]
     ensures { IsTimeText result (second_of_day instant) }
 {
@@ -99,11 +101,12 @@ pub fn id_date_text(instant: Instant) -> [u8; 11]
     ]
 }
 
-/// The day that a text `dd-MMM-yyyy` of 11 bytes names, as the identification fields write one (EDF+, additional
-/// specifications).
+/// The day that a text `dd-MMM-yyyy` of 11 bytes names, as the identification fields write one
+/// (EDF+, additional specifications).
 ///
-/// The months are JAN to DEC, in capitals; the years 0000 to 9999 are those of the Gregorian calendar, carried backwards. `None`
-/// where the text has another length or form, or names no day of the calendar.
+/// The months are JAN to DEC, in capitals; the years 0000 to 9999 are those of the Gregorian
+/// calendar, carried backwards. `None` where the text has another length or form, or names no day
+/// of the calendar.
 pub fn id_date(text: &[u8]) -> Option<Day>
     ensures { MatchOption result ((days : ℤ) → ¬ IsIdDate text.now days) (IsIdDate text.now) }
 {
@@ -118,8 +121,9 @@ pub fn id_date(text: &[u8]) -> Option<Day>
     Some(Day::from_days(days))
 }
 
-/// An instant as `yyyy-mm-ddThh:mm:ss`, 19 bytes; then, where its second has a fraction, a dot and the decimals without
-/// trailing zeros, at most nine. For a reader's eyes: no field of EDF has this form.
+/// An instant as `yyyy-mm-ddThh:mm:ss`, 19 bytes; then, where its second has a fraction, a dot and
+/// the decimals without trailing zeros, at most nine. For a reader's eyes: no field of EDF has this
+/// form.
 ///
 /// # Errors
 /// Where memory runs out.

@@ -1,15 +1,22 @@
 //! Laws of the texts: each function has a law for a contract, and does nothing.
-ghost use Rattle.std.specs.Prelude.{◌≡◌, ◌⊎◌, ℕ, ℤ, pos, ◌+◌, ◌-◌, ◌*◌, ◌/◌, ◌%◌, ◌^◌, ◌≤◌, ◌<◌, List, Option, Some, None, length, All};
+ghost use Rattle.std.specs.Prelude.{◌≡◌, ◌⊎◌, ℕ, ℤ, pos, ◌+◌, ◌-◌, ◌*◌, ◌/◌, ◌%◌, ◌^◌, ◌≤◌, ◌<◌};
+ghost use Rattle.std.specs.Prelude.{List, Option, Some, None, length, All};
 ghost use Rattle.std.specs.Char.{digit_value};
 ghost use Rattle.std.specs.Ordering.{nat_cmp, int_cmp};
-ghost use Rattle.edf_time.specs.Civil.{window, window_days, two_digit_days, two_digit_window, day_of, second_of_day, IsDay, IsCivil, IsStartFault, IsDateText, IsYearlessText, IsLateDateText, IsDateField, AreStartdates, HasDateForm, IsTimeText, IsIdDate, IsInstantText, IsVisible};
-ghost use Rattle.edf_time.specs.Decimal.{IsDecimal, IsSeconds, IsDecimalFault, IsShortest, IsDecimalByte, short, fraction_text};
+ghost use Rattle.edf_time.specs.Civil.{window, window_days, two_digit_days, two_digit_window};
+ghost use Rattle.edf_time.specs.Civil.{day_of, second_of_day, IsDay, IsCivil, IsStartFault};
+ghost use Rattle.edf_time.specs.Civil.{IsDateText, IsYearlessText, IsLateDateText, IsDateField};
+ghost use Rattle.edf_time.specs.Civil.{AreStartdates, HasDateForm, IsTimeText, IsIdDate};
+ghost use Rattle.edf_time.specs.Civil.{IsInstantText, IsVisible};
+ghost use Rattle.edf_time.specs.Decimal.{IsDecimal, IsSeconds, IsDecimalFault, IsShortest};
+ghost use Rattle.edf_time.specs.Decimal.{IsDecimalByte, short, fraction_text};
 ghost use Rattle.edf_time.specs.declared.civil.StartFault.{StartFault};
 ghost use Rattle.edf_time.specs.declared.decimal.DecimalFault.{DecimalFault};
 
 use crate::civil::{Day, Instant};
 
-/// Instants and days are ordered as their numbers are: `<`, `cmp` and their like tell the earlier from the later.
+/// Instants and days are ordered as their numbers are: `<`, `cmp` and their like tell the earlier
+/// from the later.
 pub fn in_order()
     ensures instants { (a b : ℕ) → ⟦<Instant as Ord>⟧.cmp a b ≡ nat_cmp a b }
     ensures instants_partly { (a b : ℕ) →
@@ -74,24 +81,28 @@ pub fn day_bounds()
         IsDay year month day days → (1 ≤ day) × (day ≤ 31) }
 {}
 
-/// A text `dd.mm.yy` and its day are one to one, where two digits name the year. A day has one startdate: digits before 2085, the
-/// letters `yy` from then on; a startdate beside one Startdate subfield names one day at most.
+/// A text `dd.mm.yy` and its day are one to one, where two digits name the year. A day has one
+/// startdate: digits before 2085, the letters `yy` from then on; a startdate beside one Startdate
+/// subfield names one day at most.
 pub fn one_date()
     ensures day { (text : List ℕ) (a b : ℕ) → IsDateText text a → IsDateText text b → a ≡ b }
     ensures text { (s t : List ℕ) (days : ℕ) → IsDateField s days → IsDateField t days → s ≡ t }
     ensures startdates { (text : List ℕ) (id : Option ℤ) (a b : ℕ) →
         AreStartdates text id a → AreStartdates text id b → a ≡ b }
     ensures bound { (text : List ℕ) (days : ℕ) → IsDateText text days → days < two_digit_days }
-    ensures late_bound { (text : List ℕ) (days : ℕ) → IsLateDateText text days → two_digit_days ≤ days }
+    ensures late_bound { (text : List ℕ) (days : ℕ) → IsLateDateText text days →
+        two_digit_days ≤ days }
     ensures field_bound { (text : List ℕ) (days : ℕ) → IsDateField text days → days < window_days }
 {}
 
-/// The letters `yy` are no digits; two digits name one day, whatever the Startdate subfield says; what names a day has one of
-/// the forms.
+/// The letters `yy` are no digits; two digits name one day, whatever the Startdate subfield says;
+/// what names a day has one of the forms.
 pub fn digits_or_letters()
-    ensures digits { (text : List ℕ) (id : Option ℤ) (a b : ℕ) → IsDateText text a → AreStartdates text id b → a ≡ b }
+    ensures digits { (text : List ℕ) (id : Option ℤ) (a b : ℕ) → IsDateText text a →
+        AreStartdates text id b → a ≡ b }
     ensures yearless { (text : List ℕ) (days : ℕ) → IsDateText text days → ¬ IsYearlessText text }
-    ensures form { (text : List ℕ) (id : Option ℤ) (days : ℕ) → AreStartdates text id days → HasDateForm text id }
+    ensures form { (text : List ℕ) (id : Option ℤ) (days : ℕ) → AreStartdates text id days →
+        HasDateForm text id }
 {}
 
 /// A text `hh.mm.ss` and its second of the day are one to one.
@@ -129,32 +140,36 @@ pub fn some_date()
         ((days : ℤ) × IsIdDate text days) ⊎ (¬ ((days : ℤ) × IsIdDate text days)) }
 {}
 
-/// Each day of the window has a startdate and a text `dd-MMM-yyyy`, each second of a day a text `hh.mm.ss`, and each instant of the
-/// window a text `yyyy-mm-ddThh:mm:ss` with its decimals.
+/// Each day of the window has a startdate and a text `dd-MMM-yyyy`, each second of a day a text
+/// `hh.mm.ss`, and each instant of the window a text `yyyy-mm-ddThh:mm:ss` with its decimals.
 pub fn each_has_a_text()
     ensures digits { (days : ℕ) → days < two_digit_days → (text : List ℕ) × IsDateText text days }
-    ensures letters { (days : ℕ) → two_digit_days ≤ days → days < window_days → (text : List ℕ) × IsLateDateText text days }
+    ensures letters { (days : ℕ) → two_digit_days ≤ days → days < window_days →
+        (text : List ℕ) × IsLateDateText text days }
     ensures date { (days : ℕ) → days < window_days → (text : List ℕ) × IsDateField text days }
     ensures id_date { (days : ℕ) → days < window_days → (text : List ℕ) × IsIdDate text (pos days) }
     ensures time { (seconds : ℕ) → seconds < 86_400 → (text : List ℕ) × IsTimeText text seconds }
-    ensures instant { (instant : ℕ) → instant < window → (text : List ℕ) × IsInstantText text instant }
+    ensures instant { (instant : ℕ) → instant < window →
+        (text : List ℕ) × IsInstantText text instant }
 {}
 
-/// The texts of a start name its day and the second of its day; it lies in the window and begins a second. Without a date in
-/// the Startdate subfield it lies before 2085.
+/// The texts of a start name its day and the second of its day; it lies in the window and begins a
+/// second. Without a date in the Startdate subfield it lies before 2085.
 pub fn start_parts()
     ensures date { (date time : List ℕ) (id : Option ℤ) (start : ℕ) →
         IsCivil date time id start → AreStartdates date id (day_of start) }
     ensures time { (date time : List ℕ) (id : Option ℤ) (start : ℕ) →
         IsCivil date time id start → IsTimeText time (second_of_day start) }
-    ensures bound { (date time : List ℕ) (id : Option ℤ) (start : ℕ) → IsCivil date time id start → start < window }
-    ensures two_digits { (date time : List ℕ) (start : ℕ) → IsCivil date time None start → start < two_digit_window }
+    ensures bound { (date time : List ℕ) (id : Option ℤ) (start : ℕ) → IsCivil date time id start →
+        start < window }
+    ensures two_digits { (date time : List ℕ) (start : ℕ) → IsCivil date time None start →
+        start < two_digit_window }
     ensures second { (date time : List ℕ) (id : Option ℤ) (start : ℕ) →
         IsCivil date time id start → start / 10 ^ 9 * 10 ^ 9 ≡ start }
 {}
 
-/// The texts of an instant's day and second name the start of its second: beside the day in the Startdate subfield, and
-/// without it before 2085.
+/// The texts of an instant's day and second name the start of its second: beside the day in the
+/// Startdate subfield, and without it before 2085.
 pub fn start_of_parts()
     ensures dated { (date time : List ℕ) (instant : ℕ) →
         IsDateField date (day_of instant) → IsTimeText time (second_of_day instant) →
@@ -164,7 +179,8 @@ pub fn start_of_parts()
         IsCivil date time None (instant / 10 ^ 9 * 10 ^ 9) }
 {}
 
-/// A startdate, a starttime and a Startdate subfield name one instant or have one fault, and not both.
+/// A startdate, a starttime and a Startdate subfield name one instant or have one fault, and not
+/// both.
 pub fn one_start()
     ensures start { (date time : List ℕ) (id : Option ℤ) (a b : ℕ) →
         IsCivil date time id a → IsCivil date time id b → a ≡ b }

@@ -1,5 +1,7 @@
-//! The pieces of dates and times as texts: numbers below 100 in two digits, and the months' letters.
-ghost use Rattle.std.specs.Prelude.{◌≡◌, ◌≢◌, ℕ, ◌+◌, ◌-◌, ◌*◌, ◌/◌, ◌%◌, ◌≤◌, ◌<◌, [], ◌∷◌, MatchOption};
+//! The pieces of dates and times as texts: numbers below 100 in two digits, and the months'
+//! letters.
+ghost use Rattle.std.specs.Prelude.{◌≡◌, ◌≢◌, ℕ, ◌+◌, ◌-◌, ◌*◌, ◌/◌, ◌%◌, ◌≤◌, ◌<◌, [], ◌∷◌};
+ghost use Rattle.std.specs.Prelude.{MatchOption};
 ghost use Rattle.edf_time.specs.Civil.{two_digits, month_name};
 
 /// The number that two digits write.

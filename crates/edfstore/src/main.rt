@@ -1,4 +1,5 @@
-//! The program `edfstore`: takes, lists, exports and converts sleep recordings. What it does is `edf_host`'s.
+//! The program `edfstore`: takes, lists, exports and converts sleep recordings. What it does is
+//! `edf_host`'s.
 #![tactic(auto)]
 
 use edf_host::run_program;

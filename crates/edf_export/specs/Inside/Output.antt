@@ -31,8 +31,8 @@ CountsOutputFault old new Write = new ≡ one_more old
 CountsOutputFault old new Memory = new ≡ old
 
 -- the bytes were put: written, or held back; or a front was written before the fault
-abbrev pub IsPut : Buffered → Buffered → List ℕ → Result Unit OutputFault → Type 0
-IsPut before after bytes result =
+abbrev pub IsPutThrough : Buffered → Buffered → List ℕ → Result Unit OutputFault → Type 0
+IsPutThrough before after bytes result =
     MatchResult result
     (λ _. Writes before after bytes after.held × (after.failures ≡ before.failures))
     (λ fault. ((left : List ℕ) × Writes before after bytes left) × CountsOutputFault before.failures after.failures fault)

@@ -7,7 +7,7 @@ use Rattle.edf_fragment.specs.Fragment.{DataRecord}
 use Rattle.edf_fragment.specs.Sound.{AreSound, MayBegin}
 use Rattle.edf_store.specs.Fault.{IsStoreRefusal}
 use Rattle.edf_store.specs.Listed.{start_at}
-use Rattle.edf_export.specs.File.{second_of, block_of, Hold}
+use Rattle.edf_export.specs.File.{second_of, block_of, BlocksFit}
 use Rattle.edf_export.specs.Export.{WritesFront}
 use Rattle.edf_export.specs.Inside.Output.{Buffered, Writes}
 use Rattle.edf_export.specs.declared.plan.Plan.{Plan}
@@ -33,8 +33,8 @@ pub record IsPlanOf (k : Key) (records : List DataRecord) (plan : Plan) : Type 0
   pub recording : IsSoundRecording 99_999_999 k records
   pub count : plan.records ≡ length records
   pub first : start_at records 0 ≡ Some plan.first
-  pub holds : Hold (second_of plan.first) plan.samples records
-  pub least : (fewer : ℕ) → Hold (second_of plan.first) fewer records → plan.samples ≤ fewer
+  pub holds : BlocksFit (second_of plan.first) plan.samples records
+  pub least : (fewer : ℕ) → BlocksFit (second_of plan.first) fewer records → plan.samples ≤ fewer
 
 -- there is a plan where there are records
 abbrev pub IsPlanned : Key → List DataRecord → Option Plan → Type 0
@@ -42,9 +42,9 @@ IsPlanned k records None = records ≡ []
 IsPlanned k records (Some plan) = IsPlanOf k records plan
 
 -- a fault of the output, told as one of the export
-abbrev pub refusal_of : OutputFault → ExportFault
-refusal_of Failed = Write
-refusal_of NoRoom = Memory
+abbrev pub export_fault_of : OutputFault → ExportFault
+export_fault_of Failed = Write
+export_fault_of NoRoom = Memory
 
 -- a write failed where that is told, and none did before another refusal; something is held
 abbrev pub CountsWritingFault : ℕ → ℕ → ExportFault → Type 0

@@ -18,7 +18,7 @@ RowsFail ss Size = IsTooLarge ss
 RowsFail ss _ = ⊥
 
 -- the rows have none of the faults
-pub record IsSound (ss : List (List ℕ)) : Type 0 where
+pub record AreSoundRows (ss : List (List ℕ)) : Type 0 where
   pub annotations : HasAnnotations ss
   pub physical : All (Passes checks.Physical) ss
   pub digital : All (Passes checks.Digital) ss

@@ -1,7 +1,7 @@
 -- Words for single steps: a key from its parts, the bytes that stand for a key, and where a check comes in the order of faults.
 use Rattle.std.specs.Prelude.{◌≡◌, ℕ, ◌*◌, List, All}
 use Rattle.edf_field.specs.Number.{IsDuration, duration_of}
-use Rattle.edf_field.specs.Text.{IsPrintable, IsPatient, IsBehindStartdate}
+use Rattle.edf_field.specs.Text.{IsPrintable, IsPatient, FollowsStartdate}
 use Rattle.edf_header.specs.Fields.{key_patient_field, key_duration_field}
 use Rattle.edf_header.specs.Key.{Key, IsKey, key_at, key_bytes}
 use Rattle.edf_header.specs.Signal.{samples_in_all}
@@ -35,5 +35,5 @@ pub record IsKeyFront (b : List ℕ) : Type 0 where
   pub printable : All IsPrintable b
   pub patient : IsPatient (key_patient_field b)
   pub mark : HasMark b
-  pub behind : IsBehindStartdate (key_at b).after
+  pub behind : FollowsStartdate (key_at b).after
   pub duration : (nanos : ℕ) × IsDuration (key_duration_field b) nanos

@@ -4,7 +4,7 @@ use Rattle.sqlite_trees.specs.declared.store.Store.{Ghosts}
 use Rattle.edf_header.specs.Key.{Key}
 use Rattle.edf_fragment.specs.Fragment.{DataRecord}
 use Rattle.edf_holdings.specs.Holdings.{Holdings}
-use Rattle.edf_store.specs.Held.{Kept}
+use Rattle.edf_store.specs.Held.{StoreModel}
 use Rattle.edf_store.specs.Transaction.{Sees}
 use Rattle.edf_intake.specs.declared.gap.Gap.{Gap}
 
@@ -17,5 +17,5 @@ abbrev pub IsGap : List DataRecord → Gap → Type 0
 IsGap records gap = All (λ r. IsOutside gap r.start) records
 
 -- where a gap is known, none of the key's records that the transaction sees starts in it
-abbrev pub IsGapIn : {S : Type 0} → Ghosts S → Kept S → Key → Option Gap → Type 0
+abbrev pub IsGapIn : {S : Type 0} → Ghosts S → StoreModel S → Key → Option Gap → Type 0
 IsGapIn g store key gap = (h : Holdings) → Sees g store h → IfSome gap (IsGap (h key))

@@ -6,7 +6,7 @@ use Rattle.edf_fragment.specs.Reading.{CountsFault}
 use Rattle.edf_fragment.specs.Whole.{IsFragmentFault}
 use Rattle.edf_fragment.specs.declared.fault.FragmentFault.{FragmentFault}
 use Rattle.edf_fragment.specs.declared.fault.FragmentFault.TheVariants.{Read as NoRead, Memory as NoMemory}
-use Rattle.edf_store.specs.Held.{Kept, at}
+use Rattle.edf_store.specs.Held.{StoreModel, at}
 use Rattle.edf_store.specs.Fault.{IsStoreRefusal}
 use Rattle.edf_store.specs.declared.fault.StoreFault.{StoreFault}
 use Rattle.edf_store.specs.declared.fault.StoreFault.TheVariants as store
@@ -28,13 +28,13 @@ refusal_of store.Memory = Memory
 refusal_of fault = Refused fault
 
 -- inside a transaction the store refuses with E41, with E42 and its cause, or with E45, which a clean disk never gives
-pub record IsRefusedInside {S : Type 0} (g : Ghosts S) (new : Kept S) (fault : StoreFault) : Type 0 where
+pub record IsRefusedInside {S : Type 0} (g : Ghosts S) (new : StoreModel S) (fault : StoreFault) : Type 0 where
   pub told : (fault ≡ store.Foreign) ⊎ IsStoreRefusal fault
   pub caused : fault ≢ store.Store None
   pub own : HasCleanDisk (at g new) → IsStoreRefusal fault
 
 -- and where the input is why, it refused nothing
-abbrev pub IsToldInside : {S : Type 0} → Ghosts S → Kept S → Stop → Type 0
+abbrev pub IsToldInside : {S : Type 0} → Ghosts S → StoreModel S → Stop → Type 0
 IsToldInside g new (Input refusal) = Unit {0}
 IsToldInside g new (Store fault) = IsRefusedInside g new fault
 

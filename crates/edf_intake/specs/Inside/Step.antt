@@ -5,10 +5,10 @@ use Rattle.edf_field.specs.Number.{duration_of}
 use Rattle.edf_header.specs.Key.{Key}
 use Rattle.edf_fragment.specs.Fragment.{DataRecord}
 use Rattle.edf_holdings.specs.Clash.{near_of, other_of}
-use Rattle.edf_holdings.specs.Rising.{holds, new_of}
+use Rattle.edf_holdings.specs.Rising.{contains_record, new_of}
 use Rattle.edf_holdings.specs.Holdings.{Holdings, put}
 use Rattle.edf_holdings.specs.Reply.{first_clash}
-use Rattle.edf_store.specs.Held.{Kept}
+use Rattle.edf_store.specs.Held.{StoreModel}
 use Rattle.edf_store.specs.Transaction.{Sees}
 use Rattle.edf_intake.specs.declared.walk.Step.{Step}
 use Rattle.edf_intake.specs.declared.walk.Step.TheVariants.{Clashes, Known, New}
@@ -24,25 +24,25 @@ pub record IsRoom (cap held wanted room : ℕ) : Type 0 where
 -- how the stored records near one classify it
 abbrev pub IsStep : DataRecord → List DataRecord → Step → Type 0
 IsStep r near (Clashes stored) = (s : DataRecord) × (other_of r near ≡ Some s) × (stored ≡ s.start)
-IsStep r near Known = (other_of r near ≡ None) × (holds near r ≡ true)
+IsStep r near Known = (other_of r near ≡ None) × (contains_record near r ≡ true)
 IsStep r near New = near ≡ []
 
 -- how those of the key's records that the transaction sees classify it
-abbrev pub IsStepIn : {S : Type 0} → Ghosts S → Kept S → Key → DataRecord → Step → Type 0
+abbrev pub IsStepIn : {S : Type 0} → Ghosts S → StoreModel S → Key → DataRecord → Step → Type 0
 IsStepIn g store key r step = (h : Holdings) → Sees g store h → IsStep r (near_of (duration_of key.duration) r.start (h key)) step
 
 -- how one record changes tally and holdings, given its stored neighbours
-abbrev pub Counts : ℕ → Key → DataRecord → List DataRecord → Holdings → Tally → Holdings → Tally → Step → Type 0
-Counts room key r near h from t to (Clashes stored) = (t ≡ h) × (to ≡ record from { clash = Some (record { start = r.start; stored = stored }) })
-Counts room key r near h from t to Known = (t ≡ h) × (to ≡ record from { known = from.known + 1 })
-Counts room key r near h from t to New =
+abbrev pub CountsStep : ℕ → Key → DataRecord → List DataRecord → Holdings → Tally → Holdings → Tally → Step → Type 0
+CountsStep room key r near h from t to (Clashes stored) = (t ≡ h) × (to ≡ record from { clash = Some (record { start = r.start; stored = stored }) })
+CountsStep room key r near h from t to Known = (t ≡ h) × (to ≡ record from { known = from.known + 1 })
+CountsStep room key r near h from t to New =
     (from.new < room → t ≡ put key (r ∷ []) h) × (room ≤ from.new → t ≡ h) × (to ≡ record from { new = from.new + 1 })
 
 -- after a clash nothing counts
-abbrev pub IsNext : ℕ → Key → DataRecord → Holdings → Tally → Holdings → Tally → Type 0
-IsNext room key r h from t to = MatchOption from.clash
+abbrev pub CountsNext : ℕ → Key → DataRecord → Holdings → Tally → Holdings → Tally → Type 0
+CountsNext room key r h from t to = MatchOption from.clash
     ((step : Step) × IsStep r (near_of (duration_of key.duration) r.start (h key)) step
-    × Counts room key r (near_of (duration_of key.duration) r.start (h key)) h from t to step)
+    × CountsStep room key r (near_of (duration_of key.duration) r.start (h key)) h from t to step)
     (λ starts. to ≡ from)
 
 -- no record clashes with one of the key, and `tally` counts the new and the known

@@ -7,7 +7,7 @@ use Rattle.edf_fragment.specs.Fragment.{DataRecord}
 use Rattle.edf_fragment.specs.Told.{Fragment}
 use Rattle.edf_holdings.specs.Holdings.{Holdings}
 use Rattle.edf_holdings.specs.Reply.{Reply, Overlap, Differs, Full, Accepted, reply, after_one}
-use Rattle.edf_store.specs.Held.{Kept, at}
+use Rattle.edf_store.specs.Held.{StoreModel, at}
 use Rattle.edf_store.specs.Transaction.{Sees}
 use Rattle.edf_intake.specs.Source.{Source, ReadsWhole, ReadsFault, FailsToRead, ReadsSome, LacksMemory}
 use Rattle.edf_intake.specs.Inside.Halt.{IsRefusedInside}
@@ -24,9 +24,9 @@ IsConflict (refusal.Differs start) = Unit {0}
 IsConflict (refusal.Full held new cap) = Unit {0}
 IsConflict other = ⊥
 
-module _ {S : Type 0} (g : Ghosts S) (old new : Kept S) (from to : Source) where
+module _ {S : Type 0} (g : Ghosts S) (old new : StoreModel S) (from to : Source) where
   -- the fragment is accepted so, and the transaction sees what it leaves
-  pub record IsTaken (receipt : Receipt) : Type 0 where
+  pub record IsAcceptedInside (receipt : Receipt) : Type 0 where
     pub records : List DataRecord
     pub read : ReadsWhole from to receipt.identity records
     pub reply_is : HasCleanDisk (at g new) → (h : Holdings) → Sees g old h →

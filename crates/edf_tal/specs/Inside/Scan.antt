@@ -49,10 +49,10 @@ TellsDuration (Some n) (Some m) = n ≡ capped m
 TellsDuration d e = ⊥
 
 -- nothing, or bytes of which the last is 20
-abbrev pub IsEnded : List ℕ → Type 0
-IsEnded [] = Unit {0}
-IsEnded (b ∷ []) = b ≡ 20
-IsEnded (b ∷ c ∷ bytes) = IsEnded (c ∷ bytes)
+abbrev pub EndsWith20 : List ℕ → Type 0
+EndsWith20 [] = Unit {0}
+EndsWith20 (b ∷ []) = b ≡ 20
+EndsWith20 (b ∷ c ∷ bytes) = EndsWith20 (c ∷ bytes)
 
 -- the TAL at the front, its texts and what is after it
 pub record IsTalAtFront (bytes texts rest : List ℕ) (t : Tal) : Type 0 where
@@ -82,7 +82,7 @@ pub record AreGoodTexts (texts : List ℕ) (count : ℕ) : Type 0 where
   pub count_is : count ≡ length list
 
 -- TALs, and then this rest
-pub record IsBehind (bytes rest : List ℕ) : Type 0 where
+pub record FollowsTals (bytes rest : List ℕ) : Type 0 where
   pub front : List ℕ
   pub tals : List Tal
   pub parts : bytes ≡ front ++ rest

@@ -5,16 +5,16 @@ use Rattle.sqlite.specs.Held.{state}
 use Rattle.sqlite.specs.State.{HasCleanDisk}
 use Rattle.edf_rows.specs.Cells.{recordings_in}
 use Rattle.edf_rows.specs.Foreign.{IsForeign}
-use Rattle.edf_audit.specs.All.{AreCounted, Counts}
-use Rattle.edf_tables.proofs.CommitLemmas.{quiet_then}
+use Rattle.edf_audit.specs.Inside.All.{AreCounted, Counts}
+use Rattle.edf_tables.proofs.Commits.{quiet_then}
 use Rattle.edf_audit.specs.Refused.{IsUnchecked}
 use Rattle.edf_audit.specs.Refused.IsUnchecked.{untold}
-use Rattle.edf_audit.proofs.RefusedLemmas.{unchecked_since, untold_unchecked}
-use Rattle.edf_audit.proofs.AllLemmas.{told_all}
-use Rattle.edf_tables.proofs.KeepLemmas.{on_err}
-use Rattle.edf_audit.specs.Kept.{KeepsRows, KeepsShown}
-use Rattle.edf_audit.proofs.AllLemmas.{rows_left, rows_then}
-use Rattle.edf_audit.proofs.ShownLemmas.{shown_left, shown_then}
+use Rattle.edf_audit.proofs.Refusals.{unchecked_since, untold_unchecked}
+use Rattle.edf_audit.proofs.AllRows.{told_all}
+use Rattle.edf_tables.proofs.Keeping.{on_err}
+use Rattle.edf_audit.specs.Inside.Checked.{KeepsRows, KeepsShown}
+use Rattle.edf_audit.proofs.AllRows.{rows_left, rows_then}
+use Rattle.edf_audit.proofs.Shown.{shown_left, shown_then}
 use Rattle.edf_audit.proofs.all.check_all.Goals as goal
 
 pub returns-in_default-clause-answers : goal.returns-in_default-clause-answers

@@ -8,15 +8,15 @@ use Rattle.std.proofs.lemmas.Result.{err_from_is_err_and}
 use Rattle.sqlite.specs.Effect.{Database}
 use Rattle.sqlite.specs.Held.{state}
 use Rattle.sqlite.specs.State.{HasCleanDisk}
-use Rattle.edf_tables.proofs.CommitLemmas.{quiet_then, survives_same}
+use Rattle.edf_tables.proofs.Commits.{quiet_then, survives_same}
 use Rattle.edf_rows.specs.Cells.{recordings_in}
-use Rattle.edf_audit.specs.All.{IsAfter, AreCounted, owns}
-use Rattle.edf_audit.specs.Kept.{KeepsShown, Checks}
-use Rattle.edf_audit.proofs.RefusedLemmas.{unread_unchecked}
-use Rattle.edf_audit.proofs.CountLemmas.{counted_none}
-use Rattle.edf_audit.proofs.AllLemmas.{rows_same, rows_then, row_in, up_more, last_more, id_twice, counted_more, shorter}
-use Rattle.edf_tables.proofs.KeepLemmas.{on_err}
-use Rattle.edf_audit.proofs.ShownLemmas.{shown_rows, shown_then}
+use Rattle.edf_audit.specs.Inside.All.{IsAfter, AreCounted, owns}
+use Rattle.edf_audit.specs.Inside.Checked.{KeepsShown, Checks}
+use Rattle.edf_audit.proofs.Refusals.{unread_unchecked}
+use Rattle.edf_audit.proofs.Counts.{counted_none}
+use Rattle.edf_audit.proofs.AllRows.{rows_same, rows_then, row_in, up_more, last_more, id_twice, counted_more, shorter}
+use Rattle.edf_tables.proofs.Keeping.{on_err}
+use Rattle.edf_audit.proofs.Shown.{shown_rows, shown_then}
 use Rattle.edf_audit.proofs.all.count_owned.Goals as goal
 
 pub loop-row-init : goal.loop-row-init
@@ -34,7 +34,7 @@ returns-in_default-clause-counts g c clean =
     let old = state g.S.Store c.args.conn.now in
     let was = state g.S.Store c.loop-row.conn in
     let inv = c.loop-row.invariant in
-    let late : HasCleanDisk was = omega (arith, c.check_row.ensures.survives.clean) in
+    let late : HasCleanDisk was = omega (arith, c.check_recording_row.ensures.survives.clean) in
     let early : HasCleanDisk old = omega (arith, late, inv.crash.clean) in
     let told = subst (Checks c.args.cap was.now.trees c.row-item.result) c.in_default.is (c.in_ok-count.ensures.told clean) in
     let here = row_in (recordings_in old.now.trees) c.args.rows.now c.loop-row.row-index c.row-item.result (c.requires.listed early) (search rules) (search rules) in
@@ -44,14 +44,14 @@ pub loop-row-preserved : goal.loop-row-preserved
 loop-row-preserved g c =
     let old = state g.S.Store c.args.conn.now in
     let was = state g.S.Store c.loop-row.conn in
-    let now = state g.S.Store c.check_row.new.conn in
+    let now = state g.S.Store c.check_recording_row.new.conn in
     let inv = c.loop-row.invariant in
     let after : IsAfter c.loop-row.last c.row-item.result c.in-Some-next_id.id = c.in-Some-next_id.ensures in
     record {
-      crash = quiet_then old was now _ inv.crash c.check_row.ensures.survives;
-      same = λ clean. rows_then old was now (inv.same (omega (arith, c.check_row.ensures.survives.clean))) (c.in_ok-count.ensures.same clean);
+      crash = quiet_then old was now _ inv.crash c.check_recording_row.ensures.survives;
+      same = λ clean. rows_then old was now (inv.same (omega (arith, c.check_recording_row.ensures.survives.clean))) (c.in_ok-count.ensures.same clean);
       counted = λ clean.
-          let late : HasCleanDisk was = omega (arith, c.check_row.ensures.survives.clean) in
+          let late : HasCleanDisk was = omega (arith, c.check_recording_row.ensures.survives.clean) in
           let early : HasCleanDisk old = omega (arith, late, inv.crash.clean) in
           counted_more c.args.cap old.now was.now c.args.rows.now c.loop-row.row-index c.row-item.result c.loop-row.sum c.in-Some.count c.from.result c.loop-row.last c.in-Some-next_id.id (inv.same late).now_is (c.requires.listed early)
           (search rules) (search rules) (search rules) (inv.counted late) inv.up_to after (subst (Checks c.args.cap was.now.trees c.row-item.result) c.in-Some.is (c.in_ok-count.ensures.told clean));
@@ -62,7 +62,7 @@ loop-row-preserved g c =
 
 pub returns-in_err-count-clause-why : goal.returns-in_err-count-clause-why
 returns-in_err-count-clause-why g c clean =
-    let why = unread_unchecked (state g.S.Store c.args.conn.now) (state g.S.Store c.loop-row.conn) (state g.S.Store c.check_row.new.conn) _ _ _ c.loop-row.invariant.crash c.check_row.ensures.survives clean (c.in_err-count.ensures.why clean) in
+    let why = unread_unchecked (state g.S.Store c.args.conn.now) (state g.S.Store c.loop-row.conn) (state g.S.Store c.check_recording_row.new.conn) _ _ _ c.loop-row.invariant.crash c.check_recording_row.ensures.survives clean (c.in_err-count.ensures.why clean) in
     let told = err_from_is_err_and c.from_residual.result c.from_residual.ensures.1 in
     rw (told.1, told.2) why
 
@@ -72,7 +72,7 @@ returns-then-more-ge-MOST_COUNTED-clause-why g c clean =
     let was = state g.S.Store c.loop-row.conn in
     let inv = c.loop-row.invariant in
     let after : IsAfter c.loop-row.last c.row-item.result c.in-Some-next_id.id = c.in-Some-next_id.ensures in
-    let late : HasCleanDisk was = omega (arith, c.check_row.ensures.survives.clean) in
+    let late : HasCleanDisk was = omega (arith, c.check_recording_row.ensures.survives.clean) in
     let early : HasCleanDisk old = omega (arith, late, inv.crash.clean) in
     let counted : AreCounted c.args.cap old.now.trees (take (c.loop-row.row-index + 1) c.args.rows.now) (c.loop-row.sum + c.from.result) = counted_more c.args.cap old.now was.now c.args.rows.now c.loop-row.row-index c.row-item.result c.loop-row.sum c.in-Some.count c.from.result c.loop-row.last c.in-Some-next_id.id (inv.same late).now_is (c.requires.listed early)
     (search rules) (search rules) (search rules) (inv.counted late) inv.up_to after (subst (Checks c.args.cap was.now.trees c.row-item.result) c.in-Some.is (c.in_ok-count.ensures.told clean)) in
@@ -84,7 +84,7 @@ returns-in_default-next_id-clause-counts g c clean =
     let old = state g.S.Store c.args.conn.now in
     let was = state g.S.Store c.loop-row.conn in
     let inv = c.loop-row.invariant in
-    let late : HasCleanDisk was = omega (arith, c.check_row.ensures.survives.clean) in
+    let late : HasCleanDisk was = omega (arith, c.check_recording_row.ensures.survives.clean) in
     let early : HasCleanDisk old = omega (arith, late, inv.crash.clean) in
     let told = subst (Checks c.args.cap was.now.trees c.row-item.result) c.in-Some.is (c.in_ok-count.ensures.told clean) in
     let here = row_in (recordings_in old.now.trees) c.args.rows.now c.loop-row.row-index c.row-item.result (c.requires.listed early) (search rules) (search rules) in
@@ -95,14 +95,14 @@ pub returns-in_err-count-clause-refused : goal.returns-in_err-count-clause-refus
 returns-in_err-count-clause-refused g c clean =
     let old = state g.S.Store c.args.conn.now in
     let was = state g.S.Store c.loop-row.conn in
-    let late : HasCleanDisk was = omega (arith, c.check_row.ensures.survives.clean) in
-    let kept : KeepsShown old (state g.S.Store c.check_row.new.conn) = shown_then old was _ (c.loop-row.invariant.same late) (c.in_err-count.ensures.refused clean) in
+    let late : HasCleanDisk was = omega (arith, c.check_recording_row.ensures.survives.clean) in
+    let kept : KeepsShown old (state g.S.Store c.check_recording_row.new.conn) = shown_then old was _ (c.loop-row.invariant.same late) (c.in_err-count.ensures.refused clean) in
     on_err _ kept
 
 pub returns-then-more-ge-MOST_COUNTED-clause-refused : goal.returns-then-more-ge-MOST_COUNTED-clause-refused
 returns-then-more-ge-MOST_COUNTED-clause-refused g c clean =
     let old = state g.S.Store c.args.conn.now in
     let was = state g.S.Store c.loop-row.conn in
-    let now = state g.S.Store c.check_row.new.conn in
-    let late : HasCleanDisk was = omega (arith, c.check_row.ensures.survives.clean) in
+    let now = state g.S.Store c.check_recording_row.new.conn in
+    let late : HasCleanDisk was = omega (arith, c.check_recording_row.ensures.survives.clean) in
     shown_rows old now (rows_then old was now (c.loop-row.invariant.same late) (c.in_ok-count.ensures.same clean))

@@ -2,9 +2,9 @@ use Rattle.std.proofs.Common.{◌<◌, ◌^◌, ◌-◌, take}
 use Rattle.std.specs.List.{AllByRecursion}
 use Rattle.sqlite.specs.Held.{state}
 use Rattle.sqlite.specs.State.{HasCleanDisk, Survives}
-use Rattle.edf_audit.specs.Kept.{KeepsRows}
-use Rattle.edf_audit.specs.All.{AreCounted}
-use Rattle.edf_audit.proofs.CountLemmas.{IsUpTo, IsLastOf}
+use Rattle.edf_audit.specs.Inside.Checked.{KeepsRows}
+use Rattle.edf_audit.specs.Inside.All.{AreCounted}
+use Rattle.edf_audit.proofs.Counts.{IsUpTo, IsLastOf}
 use Rattle.edf_audit.proofs.all.count_owned.Given as goal
 
 abbrev pub invariant-loop-row : goal.invariant-loop-row

@@ -1,5 +1,5 @@
 use Rattle.sqlite.specs.Held.{state}
-use Rattle.edf_audit.proofs.FileLemmas.{audited}
+use Rattle.edf_audit.proofs.Files.{audited}
 use Rattle.edf_audit.proofs.open.audit.Goals as goal
 
 pub returns-clause-answers : goal.returns-clause-answers

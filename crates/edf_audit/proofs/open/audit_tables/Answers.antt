@@ -4,7 +4,7 @@ use Rattle.sqlite.specs.Held.{state}
 use Rattle.sqlite.specs.State.{HasCleanDisk}
 use Rattle.edf_audit.specs.Refused.{IsUnaudited}
 use Rattle.edf_audit.specs.Refused.IsUnaudited.{unmade}
-use Rattle.edf_audit.proofs.ShownLemmas.{file_checked}
+use Rattle.edf_audit.proofs.Shown.{file_checked}
 use Rattle.edf_audit.proofs.open.audit_tables.Goals as goal
 
 pub returns-in_err-create_tables-clause-why : goal.returns-in_err-create_tables-clause-why

@@ -8,17 +8,17 @@ use Rattle.sqlite.specs.Held.{Held, state}
 use Rattle.sqlite.specs.State.{HasCleanDisk, Survives, IsUnchanged}
 use Rattle.sqlite.proofs.Callers.{begun_plain, unchanged_then}
 use Rattle.edf_tables.proofs.AloneTexts.{walk_alone, walk_taken}
-use Rattle.edf_tables.proofs.RefusedLemmas.{query_unread, unread_since}
+use Rattle.edf_tables.proofs.Refusals.{query_unread, unread_since}
 use Rattle.edf_tables.specs.Refused.{IsUnread}
 use Rattle.edf_tables.proofs.QueryTexts.{walk_text, walk_is}
-use Rattle.edf_tables.proofs.ShownLemmas.{plain_at}
-use Rattle.edf_tables.proofs.ReadLemmas.{query_quiet, query_left}
-use Rattle.edf_tables.proofs.KeepLemmas.{on_err}
+use Rattle.edf_tables.proofs.Shown.{plain_at}
+use Rattle.edf_tables.proofs.Reading.{query_quiet, query_left}
+use Rattle.edf_tables.proofs.Keeping.{on_err}
 use Rattle.edf_tables.specs.Refused.{IsLeft}
-use Rattle.edf_audit.specs.Kept.{KeepsShown}
-use Rattle.edf_audit.proofs.ShownLemmas.{shown_left, unchanged_left}
-use Rattle.edf_tables.proofs.CommitLemmas.{quiet_then}
-use Rattle.edf_audit.proofs.StandLemmas.{starts, moves, stops, refused_row, past_cap, ends, ends_empty}
+use Rattle.edf_audit.specs.Inside.Checked.{KeepsShown}
+use Rattle.edf_audit.proofs.Shown.{shown_left, unchanged_left}
+use Rattle.edf_tables.proofs.Commits.{quiet_then}
+use Rattle.edf_audit.proofs.Standing.{starts, moves, stops, refused_row, past_cap, ends, ends_empty}
 use Rattle.edf_audit.proofs.walk.check_recording.Goals.{then-count-eq0, else-count-eq0}
 use Rattle.edf_audit.proofs.walk.check_recording.Goals as goal
 

@@ -1,7 +1,7 @@
 use Rattle.std.proofs.Common.{◌≡◌}
 use Rattle.sqlite.specs.Held.{state}
 use Rattle.sqlite.specs.State.{HasCleanDisk, Survives, IsUnchanged}
-use Rattle.edf_audit.proofs.StandLemmas.{Stands}
+use Rattle.edf_audit.proofs.Standing.{Stands}
 use Rattle.edf_audit.proofs.walk.check_recording.Given as goal
 
 abbrev pub invariant-walk : goal.invariant-walk

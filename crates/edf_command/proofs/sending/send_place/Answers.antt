@@ -1,13 +1,13 @@
 use Rattle.std.proofs.Common.{◌∙◌, List, sym, ap, refl, inl, inr}
 use Rattle.std.specs.Prelude.{Option}
 use Rattle.edf_header.specs.Key.{Key}
-use Rattle.edf_store.proofs.ReadyLemmas.{stays_then}
+use Rattle.edf_store.proofs.Readiness.{stays_then}
 use Rattle.edf_command.specs.Run.{at_place}
 use Rattle.edf_export.specs.declared.fault.ExportFault.TheVariants.{Store}
 use Rattle.edf_command.specs.Lines.{no_recording_line}
 use Rattle.edf_command.specs.Output.{growth, Explains}
 use Rattle.edf_command.specs.declared.status.Status.TheVariants.{Refused}
-use Rattle.edf_command.proofs.Kept.{was-clean, is-refusal}
+use Rattle.edf_command.proofs.Staying.{was-clean, is-refusal}
 use Rattle.edf_command.proofs.Puts.{nothing-gets}
 use Rattle.edf_command.proofs.sending.send_place.Goals as goal
 

@@ -2,9 +2,9 @@ use Rattle.std.proofs.Common.{◌≡◌, ◌∙◌, sym, subst, rules}
 use Rattle.std.proofs.lemmas.Result.{IfOk-weaker, IfErr-weaker}
 use Rattle.sqlite.specs.State.{HasCleanDisk}
 use Rattle.edf_store.specs.Held.{at, Stays}
-use Rattle.edf_store.proofs.ReadyLemmas.{stays_then}
+use Rattle.edf_store.proofs.Readiness.{stays_then}
 use Rattle.edf_export.specs.Inside.Walks.{IsSoundRecording}
-use Rattle.edf_export.proofs.WalkLemmas.{clean_before, sound_recording}
+use Rattle.edf_export.proofs.Walks.{clean_before, sound_recording}
 use Rattle.edf_export.proofs.plan.measure.Goals as goal
 
 pub returns-clause-stays : goal.returns-clause-stays

@@ -1,8 +1,8 @@
 use Rattle.std.proofs.Common.{◌≡◌, None, rules}
 use Rattle.std.proofs.lemmas.Result.{IfOk-weaker, IfErr-weaker, err_from_is_err_and}
-use Rattle.edf_store.proofs.ReadyLemmas.{stays_then}
+use Rattle.edf_store.proofs.Readiness.{stays_then}
 use Rattle.edf_export.proofs.Exports.{keeps_same, none_out}
-use Rattle.edf_export.proofs.WalkLemmas.{clean_before}
+use Rattle.edf_export.proofs.Walks.{clean_before}
 use Rattle.edf_export.proofs.recording.export.Goals as goal
 
 pub returns-in_default-clause-refused : goal.returns-in_default-clause-refused

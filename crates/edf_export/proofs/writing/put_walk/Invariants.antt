@@ -4,7 +4,7 @@ use Rattle.sqlite.specs.State.{HasCleanDisk}
 use Rattle.edf_header.specs.Key.{Key}
 use Rattle.edf_holdings.specs.Holdings.{Holdings}
 use Rattle.edf_store.specs.Held.{at, Stays}
-use Rattle.edf_store.specs.Walk.{IsBehind, StandsSomewhere}
+use Rattle.edf_store.specs.Walk.{HasGivenFirst, IsSomeWalk}
 use Rattle.edf_export.specs.File.{second_of, record_text}
 use Rattle.edf_export.specs.Inside.Output.{buffered, Writes}
 use Rattle.edf_export.specs.Inside.Walks.{IsPlanOf}
@@ -13,14 +13,14 @@ use Rattle.edf_export.proofs.writing.put_walk.Given as goal
 abbrev pub invariant-loop : goal.invariant-loop
 invariant-loop g l = record {
   going : l.walk.failed ≡ false;
-  ready : StandsSomewhere l.walk.store.now.cap (at g.S.Store l.walk.store.now) l.walk.recording l.walk.after;
+  ready : IsSomeWalk l.walk.store.now.cap (at g.S.Store l.walk.store.now) l.walk.recording l.walk.after;
   same_reference : l.walk.store.ghost_name ≡ l.initial.walk.store.ghost_name;
   stays : Stays g.S.Store l.initial.walk.store.now l.walk.store.now;
   moved : (h : Holdings) (k : Key) →
-      IsBehind l.initial.walk.store.now.cap (at g.S.Store l.initial.walk.store.now) l.initial.walk.recording l.initial.walk.after h k 0 →
-      IsBehind l.walk.store.now.cap (at g.S.Store l.walk.store.now) l.walk.recording l.walk.after h k l.counter;
+      HasGivenFirst l.initial.walk.store.now.cap (at g.S.Store l.initial.walk.store.now) l.initial.walk.recording l.initial.walk.after h k 0 →
+      HasGivenFirst l.walk.store.now.cap (at g.S.Store l.walk.store.now) l.walk.recording l.walk.after h k l.counter;
   wrote : HasCleanDisk (at g.S.Store l.walk.store.now) → (h : Holdings) (k : Key) →
-      IsBehind l.initial.walk.store.now.cap (at g.S.Store l.initial.walk.store.now) l.initial.walk.recording l.initial.walk.after h k 0 →
+      HasGivenFirst l.initial.walk.store.now.cap (at g.S.Store l.initial.walk.store.now) l.initial.walk.recording l.initial.walk.after h k 0 →
       IsPlanOf k (h k) l.fn.plan →
       Writes (buffered g.W.Output l.initial.out l.initial.held.bytes.items)
       (buffered g.W.Output l.out l.held.bytes.items)

@@ -4,7 +4,7 @@ use Rattle.std.proofs.lemmas.Result.{err_from_is_err_and}
 use Rattle.edf_store.specs.Held.{at}
 use Rattle.edf_export.specs.File.{second_of, record_text}
 use Rattle.edf_export.proofs.Texts.{told_writing, header_stops, body_stops, flush_stops, all_sent}
-use Rattle.edf_export.proofs.WalkLemmas.{idle_behind}
+use Rattle.edf_export.proofs.Walks.{idle_behind}
 use Rattle.edf_export.proofs.writing.send_file.Goals as goal
 
 pub returns-in_err-put-clause-sent : goal.returns-in_err-put-clause-sent

@@ -2,8 +2,8 @@ use Rattle.std.proofs.Common.{◌≡◌, ◌∙◌, [], refl, sym, subst, rules}
 use Rattle.std.proofs.lemmas.Result.{err_from_is_err_and}
 use Rattle.std.proofs.KnownBytes.{Appends-nil}
 use Rattle.edf_store.specs.Held.{Stays}
-use Rattle.edf_store.proofs.ReadyLemmas.{stays_then}
-use Rattle.edf_export.proofs.WalkLemmas.{refusal_told}
+use Rattle.edf_store.proofs.Readiness.{stays_then}
+use Rattle.edf_export.proofs.Walks.{refusal_told}
 use Rattle.edf_export.proofs.writing.send_recording.Goals as goal
 
 pub returns-in_err-walk-clause-sent : goal.returns-in_err-walk-clause-sent

@@ -1,7 +1,7 @@
 use Rattle.std.proofs.Common.{◌≡◌, Option, Some, IfSome, true, length, sym, subst, ◌∙◌, ℕ, arith}
 use Rattle.edf_header.specs.Header.{most_records}
 use Rattle.edf_store.specs.Transaction.{TellsRoom}
-use Rattle.edf_store.proofs.ReadyLemmas.{stays_then}
+use Rattle.edf_store.proofs.Readiness.{stays_then}
 use Rattle.edf_intake.specs.Inside.Step.{IsRoom}
 use Rattle.edf_intake.proofs.Taking.{sees_as}
 use Rattle.edf_intake.proofs.Finding.{at_most, held_now, room_now, room_left}

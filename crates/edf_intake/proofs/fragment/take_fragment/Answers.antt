@@ -10,14 +10,14 @@ use Rattle.edf_fragment.specs.Told.{Fragment}
 use Rattle.edf_fragment.specs.Whole.{ReadsFragment}
 use Rattle.edf_holdings.specs.Holdings.{Holdings}
 use Rattle.edf_holdings.specs.Reply.{reply}
-use Rattle.edf_store.specs.Held.{Kept, at}
+use Rattle.edf_store.specs.Held.{StoreModel, at}
 use Rattle.edf_store.specs.Transaction.{Sees, IsOf, HasAtMost}
-use Rattle.edf_store.proofs.ReadyLemmas.{stays_then}
+use Rattle.edf_store.proofs.Readiness.{stays_then}
 use Rattle.edf_intake.specs.Source.{Source, ReadsWhole}
 use Rattle.edf_intake.specs.Refusal.{reply_told}
 use Rattle.edf_intake.specs.Inside.Step.{IsRoom, IsTally}
 use Rattle.edf_intake.specs.Inside.Halt.{refusal_by, HaltsThere}
-use Rattle.edf_intake.specs.Inside.Taken.{IsTaken, IsStop}
+use Rattle.edf_intake.specs.Inside.Taken.{IsAcceptedInside, IsStop}
 use Rattle.edf_intake.specs.declared.answer.Receipt.{Receipt}
 use Rattle.edf_intake.specs.declared.answer.Stop.{Stop}
 use Rattle.edf_intake.specs.declared.answer.Stop.TheVariants.{Input, Store}
@@ -43,7 +43,7 @@ fewer cap held asked wanted room few found =
     record { fits = found.fits; enough = enough_of (held + room ≡ cap) asked wanted room few found.enough }
 
 -- the room that was found under the identity is there under the layout's key
-space_of : {S : Type 0} (g : Ghosts S) (made : Kept S) (k l : Key) (m n asked wanted room : ℕ) → k ≡ l → m ≡ n → wanted ≤ asked
+space_of : {S : Type 0} (g : Ghosts S) (made : StoreModel S) (k l : Key) (m n asked wanted room : ℕ) → k ≡ l → m ≡ n → wanted ≤ asked
     → (HasCleanDisk (at g made) → (h : Holdings) → Sees g made h → IsRoom m (length (h k)) asked room)
     → HasCleanDisk (at g made) → (h : Holdings) → Sees g made h → IsRoom n (length (h l)) wanted room
 space_of g made k l m n asked wanted room named capped few space clean h seen =
@@ -137,7 +137,7 @@ returns-in-Ok-clause-taken g c =
     let identity : c.into_identity-identity.result ≡ l.key = c.into_identity-identity.ensures ∙ ap (λ (x : Layout). x.key) (c.into_header.ensures ∙ c.in_ok-tally.ensures.header) in
     let accepted = c.in-Ok.ensures.accepted in
     let receipt : c.in-Ok.receipt ≡ receipt_of l.key tally.new tally.known = accepted.0 ∙ ap (λ (k : Key). receipt_of k tally.new tally.known) identity in
-    subst (IsTaken g.S.Store first last from to) (sym receipt)
+    subst (IsAcceptedInside g.S.Store first last from to) (sym receipt)
     (is_taken g.S.Store first made last from to l.key r.0 read recording.room tally was_made was_first c.in_ok-recording.ensures.same space r.2 accepted.1 accepted.2)
 
 pub returns-in-Err-clause-stays : goal.returns-in-Err-clause-stays

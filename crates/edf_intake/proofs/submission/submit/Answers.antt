@@ -1,6 +1,6 @@
 use Rattle.std.proofs.Common.{◌≡◌, ◌∙◌, inl, inr, sym, ap, subst, rules, arith, None, Ok, Err}
 use Rattle.std.proofs.lemmas.Result.{err_from_is_err_and}
-use Rattle.edf_store.specs.Held.{Kept}
+use Rattle.edf_store.specs.Held.{StoreModel}
 use Rattle.edf_intake.specs.Refusal.{Answer, IsStopped}
 use Rattle.edf_intake.specs.declared.answer.Refusal.{Refusal}
 use Rattle.edf_intake.specs.Source.{Source}
@@ -13,21 +13,21 @@ use Rattle.edf_intake.proofs.submission.submit.Goals as goal
 pub returns-in_ok-commit-in-Ok-clause-cap : goal.returns-in_ok-commit-in-Ok-clause-cap
 returns-in_ok-commit-in-Ok-clause-cap g c =
     let same : c.commit.new.self.0 ≡ c.store-in-Ok-1.given.0 = sym (c.store-in-Ok-1.given.1 (sym (c.in-Ok.ensures.same_reference ∙ c.in_ok-transaction.ensures.same_reference))) in
-    subst (λ (s : Kept g.row.S.Denot). s.cap ≡ c.args.store.now.cap) same (c.commit.ensures.cap ∙ (c.in-Ok.ensures.stays.cap ∙ c.in_ok-transaction.ensures.stays.cap))
+    subst (λ (s : StoreModel g.row.S.Denot). s.cap ≡ c.args.store.now.cap) same (c.commit.ensures.cap ∙ (c.in-Ok.ensures.stays.cap ∙ c.in_ok-transaction.ensures.stays.cap))
 
 pub returns-in_ok-commit-in-Ok-clause-submitted : goal.returns-in_ok-commit-in-Ok-clause-submitted
 returns-in_ok-commit-in-Ok-clause-submitted g c =
     let same : c.commit.new.self.0 ≡ c.store-in-Ok-1.given.0 = sym (c.store-in-Ok-1.given.1 (sym (c.in-Ok.ensures.same_reference ∙ c.in_ok-transaction.ensures.same_reference))) in
     let from : Source = record { left = g.R.Input.remaining c.args.input.now; failed = g.R.Input.failures c.args.input.now } in
     let to : Source = record { left = g.R.Input.remaining c.take_fragment.new.input; failed = g.R.Input.failures c.take_fragment.new.input } in
-    subst (λ (s : Kept g.row.S.Denot). Accepts g.S.Store c.args.store.now s from to c.in-Ok.receipt) same
+    subst (λ (s : StoreModel g.row.S.Denot). Accepts g.S.Store c.args.store.now s from to c.in-Ok.receipt) same
     (accepts g.S.Store c.args.store.now c.in_ok-transaction.transaction.store.now c.take_fragment.new.transaction.store.now from to c.in_ok-transaction.ensures.stays c.in_ok-transaction.ensures.sees c.in-Ok.ensures.stays
     c.commit.new.self.0 c.in-Ok.receipt c.in-Ok.ensures.taken c.commit.ensures.cap c.in_ok-commit-in-Ok.ensures.committed c.in_ok-commit-in-Ok.ensures.is_open c.commit.ensures.survives)
 
 pub returns-in_err-commit-in-Ok-clause-cap : goal.returns-in_err-commit-in-Ok-clause-cap
 returns-in_err-commit-in-Ok-clause-cap g c =
     let same : c.commit.new.self.0 ≡ c.store-in-Ok-1.given.0 = sym (c.store-in-Ok-1.given.1 (sym (c.in-Ok.ensures.same_reference ∙ c.in_ok-transaction.ensures.same_reference))) in
-    subst (λ (s : Kept g.row.S.Denot). s.cap ≡ c.args.store.now.cap) same (c.commit.ensures.cap ∙ (c.in-Ok.ensures.stays.cap ∙ c.in_ok-transaction.ensures.stays.cap))
+    subst (λ (s : StoreModel g.row.S.Denot). s.cap ≡ c.args.store.now.cap) same (c.commit.ensures.cap ∙ (c.in-Ok.ensures.stays.cap ∙ c.in_ok-transaction.ensures.stays.cap))
 
 pub returns-in_err-commit-in-Ok-clause-submitted : goal.returns-in_err-commit-in-Ok-clause-submitted
 returns-in_err-commit-in-Ok-clause-submitted g c =
@@ -37,7 +37,7 @@ returns-in_err-commit-in-Ok-clause-submitted g c =
     let fault = c.in_err-commit-in-Ok.field-0.0 in
     let told = err_from_is_err_and c.from_residual-in_err-commit-in-Ok.result c.from_residual-in_err-commit-in-Ok.ensures.1 in
     subst (λ (a : Answer). IsSubmitted g.S.Store c.args.store.now c.store-in-Ok-1.given.0 from to a) (sym told.1)
-    (subst (λ (s : Kept g.row.S.Denot). IsSubmitted g.S.Store c.args.store.now s from to (Err told.0)) same
+    (subst (λ (s : StoreModel g.row.S.Denot). IsSubmitted g.S.Store c.args.store.now s from to (Err told.0)) same
     (refused_by g.S.Store c.args.store.now c.commit.new.self.0 from to fault told.0 told.2
     (stops_at_commit g.S.Store c.args.store.now c.in_ok-transaction.transaction.store.now c.take_fragment.new.transaction.store.now from to c.in_ok-transaction.ensures.stays c.in_ok-transaction.ensures.sees c.in-Ok.ensures.stays
     c.commit.new.self.0 c.in-Ok.receipt c.in-Ok.ensures.taken c.commit.ensures.cap c.in_err-commit-in-Ok.ensures.refused c.commit.ensures.survives fault c.in_err-commit-in-Ok.ensures.told)
@@ -52,7 +52,7 @@ returns-in_ok-give_up-in-Err-Input-clause-submitted g c =
     let from : Source = record { left = g.R.Input.remaining c.args.input.now; failed = g.R.Input.failures c.args.input.now } in
     let to : Source = record { left = g.R.Input.remaining c.take_fragment.new.input; failed = g.R.Input.failures c.take_fragment.new.input } in
     let stop = rw c.in-Err-Input.field-0-is at c.in-Err-Input.ensures.stopped in
-    subst (λ (s : Kept g.row.S.Denot). IsSubmitted g.S.Store c.args.store.now s from to (Err c.in-Err-Input.refusal)) same
+    subst (λ (s : StoreModel g.row.S.Denot). IsSubmitted g.S.Store c.args.store.now s from to (Err c.in-Err-Input.refusal)) same
     (submitted g.S.Store c.args.store.now c.in_ok-transaction.transaction.store.now c.take_fragment.new.transaction.store.now from to c.in_ok-transaction.ensures.stays c.in_ok-transaction.ensures.sees c.in-Err-Input.ensures.stays
     c.give_up.new.self.0 c.in_ok-give_up-in-Err-Input.ensures.stays c.in-Err-Input.refusal stop)
 
@@ -65,7 +65,7 @@ returns-in_err-give_up-in-Err-Input-clause-submitted g c =
     let fault = c.in_err-give_up-in-Err-Input.field-0.0 in
     let told = err_from_is_err_and c.from_residual-in_err-give_up-in-Err-Input.result c.from_residual-in_err-give_up-in-Err-Input.ensures.1 in
     subst (λ (a : Answer). IsSubmitted g.S.Store c.args.store.now c.store-in-Err-Input-1.given.0 from to a) (sym told.1)
-    (subst (λ (s : Kept g.row.S.Denot). IsSubmitted g.S.Store c.args.store.now s from to (Err told.0)) same
+    (subst (λ (s : StoreModel g.row.S.Denot). IsSubmitted g.S.Store c.args.store.now s from to (Err told.0)) same
     (refused_by g.S.Store c.args.store.now c.give_up.new.self.0 from to fault told.0 told.2
     (stops_at_undo g.S.Store c.args.store.now c.in_ok-transaction.transaction.store.now c.take_fragment.new.transaction.store.now from to c.in_ok-transaction.ensures.stays c.in_ok-transaction.ensures.sees c.in-Err-Input.ensures.stays
     c.give_up.new.self.0 c.in_err-give_up-in-Err-Input.ensures.stays c.in-Err-Input.refusal stop fault)
@@ -79,7 +79,7 @@ returns-in-Err-Store-clause-submitted g c =
     let stop = rw c.in-Err-Store.field-0-is at c.in-Err-Store.ensures.stopped in
     let told = c.from in
     let undone = c.give_up-in-Err-Store.ensures.stays in
-    subst (λ (s : Kept g.row.S.Denot). IsSubmitted g.S.Store c.args.store.now s from to (Err told.result)) same
+    subst (λ (s : StoreModel g.row.S.Denot). IsSubmitted g.S.Store c.args.store.now s from to (Err told.result)) same
     (refused_by g.S.Store c.args.store.now c.give_up-in-Err-Store.new.self.0 from to c.in-Err-Store.fault told.result told.ensures
     (stops_before g.S.Store c.args.store.now c.in_ok-transaction.transaction.store.now c.take_fragment.new.transaction.store.now from to c.in_ok-transaction.ensures.stays c.in_ok-transaction.ensures.sees c.in-Err-Store.ensures.stays
     c.give_up-in-Err-Store.new.self.0 undone (inr (inl stop.0)) c.in-Err-Store.fault)
@@ -88,7 +88,7 @@ returns-in-Err-Store-clause-submitted g c =
 pub returns-in_ok-commit-in-Ok-clause-ended : goal.returns-in_ok-commit-in-Ok-clause-ended
 returns-in_ok-commit-in-Ok-clause-ended g c =
     let same : c.commit.new.self.0 ≡ c.store-in-Ok-1.given.0 = sym (c.store-in-Ok-1.given.1 (sym (c.in-Ok.ensures.same_reference ∙ c.in_ok-transaction.ensures.same_reference))) in
-    subst (λ (s : Kept g.row.S.Denot). IsEnded g.S.Store s (Ok c.in-Ok.receipt)) same (λ clean. inr (c.commit.ensures.ended clean))
+    subst (λ (s : StoreModel g.row.S.Denot). IsEnded g.S.Store s (Ok c.in-Ok.receipt)) same (λ clean. inr (c.commit.ensures.ended clean))
 
 pub returns-in_err-commit-in-Ok-clause-ended : goal.returns-in_err-commit-in-Ok-clause-ended
 returns-in_err-commit-in-Ok-clause-ended g c =

@@ -2,7 +2,7 @@ use Rattle.std.proofs.Common.{◌≡◌, ◌≤◌, ℕ, length, ◌+◌, ◌++�
 use Rattle.std.proofs.Math.ListN.{set}
 use Rattle.std.proofs.lemmas.List.{take_all}
 use Rattle.sqlite_trees.specs.declared.store.Store.{Ghosts}
-use Rattle.edf_store.specs.Held.{Kept}
+use Rattle.edf_store.specs.Held.{StoreModel}
 use Rattle.edf_intake.specs.Refusal.{Answer}
 use Rattle.edf_intake.specs.Source.{Source}
 use Rattle.edf_intake.specs.Submitted.{IsSubmitted}
@@ -12,7 +12,7 @@ use Rattle.edf_intake.proofs.Batches.{none_submitted, next_submitted, ended-next
 use Rattle.edf_intake.proofs.submission.submit_all.Goals as goal
 
 -- all of the list was gone through
-all_submitted : {S X : Type 0} (g : Ghosts S) (old new : Kept S) (source : X → Source) (olds nows : List X) (i : ℕ) (answers : List Answer) → length olds ≤ i → length nows ≡ length olds
+all_submitted : {S X : Type 0} (g : Ghosts S) (old new : StoreModel S) (source : X → Source) (olds nows : List X) (i : ℕ) (answers : List Answer) → length olds ≤ i → length nows ≡ length olds
     → AreSubmitted g old new (map source (take i olds)) (map source (take i nows)) answers → AreSubmitted g old new (map source olds) (map source nows) answers
 all_submitted g old new source olds nows i answers done same all =
     subst (λ l. AreSubmitted g old new (map source olds) (map source l) answers) (take_all i nows (omega (arith, done, same)))

@@ -1,7 +1,7 @@
 use Rattle.std.proofs.Common.{List, [], sym, subst, ◌∙◌, arith}
 use Rattle.edf_field.specs.Number.{duration_of}
 use Rattle.edf_fragment.specs.Fragment.{DataRecord}
-use Rattle.edf_store.proofs.ReadyLemmas.{stays_then}
+use Rattle.edf_store.proofs.Readiness.{stays_then}
 use Rattle.edf_intake.specs.Inside.Step.{IsStep}
 use Rattle.edf_intake.specs.declared.walk.Step.TheVariants.{New}
 use Rattle.edf_intake.proofs.Taking.{no_more, sees_on, sees_then, near_there, step_near, gap_found}

@@ -1,7 +1,7 @@
 use Rattle.std.proofs.Common.{sym, subst, ◌∙◌, arith}
 use Rattle.sqlite.specs.State.{HasCleanDisk}
 use Rattle.edf_store.specs.Held.{at}
-use Rattle.edf_store.proofs.ReadyLemmas.{stays_then}
+use Rattle.edf_store.proofs.Readiness.{stays_then}
 use Rattle.edf_intake.specs.Inside.Step.{IsStepIn}
 use Rattle.edf_intake.specs.declared.walk.Step.{Step}
 use Rattle.edf_intake.proofs.Taking.{none_of, no_more, clash_next, known_next, full_next, added_next, may_take, gap_stays, gap_added}

@@ -11,9 +11,9 @@ use Rattle.edf_header.proofs.Cited.{header-has-layout}
 use Rattle.edf_holdings.specs.Holdings.{Holdings}
 use Rattle.edf_store.specs.Held.{at}
 use Rattle.edf_store.specs.Transaction.{Sees, IsOf}
-use Rattle.edf_store.proofs.ReadyLemmas.{stays_then}
+use Rattle.edf_store.proofs.Readiness.{stays_then}
 use Rattle.edf_intake.specs.Inside.Gap.{IsGapIn}
-use Rattle.edf_intake.specs.Inside.Step.{IsNext}
+use Rattle.edf_intake.specs.Inside.Step.{CountsNext}
 use Rattle.edf_intake.specs.declared.walk.Tally.{Tally}
 use Rattle.edf_intake.proofs.Walking.{Walking}
 use Rattle.edf_intake.proofs.Steps.{at_begin, few_seen, first_seen, one_turn, at_end}
@@ -147,7 +147,7 @@ records-preserved g c =
       count = c.in-Ok-Some.ensures.counted ∙ inv.count;
       walking = one_turn g.S.Store first l c.requires.header.0 left c.requires.header.1 c.args.recording.room c.requires.room
           now next mid rest from to c.records.course.tally c.in-Ok.next.tally r inv.walking inv.status answer (ap (λ (p : Progress). p.given) step.0) step.1.may_come was was_first
-          (subst (λ (k : Key). HasCleanDisk (at g.S.Store next) → (h : Holdings) → Sees g.S.Store now h → (t : Holdings) × Sees g.S.Store next t × IsNext c.args.recording.room k r h c.records.course.tally t c.in-Ok.next.tally) same e.next)
+          (subst (λ (k : Key). HasCleanDisk (at g.S.Store next) → (h : Holdings) → Sees g.S.Store now h → (t : Holdings) × Sees g.S.Store next t × CountsNext c.args.recording.room k r h c.records.course.tally t c.in-Ok.next.tally) same e.next)
           e.counted;
       gap = subst (λ (k : Key). HasCleanDisk (at g.S.Store next) → IsGapIn g.S.Store next k c.in-Ok.next.gap) same e.gap;
     }

@@ -1,8 +1,8 @@
 use Rattle.std.proofs.Common.{rules, List, ◌≡◌, ◌∙◌, of_z, w64, pos, refl, sym, ap}
 use Rattle.sqlite_value.specs.declared.value.Value.TheVariants.{Blob}
 use Rattle.edf_tal.specs.Tal.{Annotation}
-use Rattle.edf_rows.specs.Shape.{OwnBlock}
-use Rattle.edf_rows.proofs.CellLemmas.{row-of, bad-starts, same-cell}
+use Rattle.edf_rows.specs.Inside.Shape.{OwnBlock}
+use Rattle.edf_rows.proofs.RowCells.{row-of, bad-starts, same-cell}
 use Rattle.edf_rows.proofs.cells.check_row.Goals as goal
 
 pub returns-then-start_of-start : goal.returns-then-start_of-start

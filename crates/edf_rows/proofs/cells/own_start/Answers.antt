@@ -1,5 +1,5 @@
 use Rattle.std.proofs.Common.{rules}
-use Rattle.edf_rows.proofs.CellLemmas.{other-block, unread-block}
+use Rattle.edf_rows.proofs.RowCells.{other-block, unread-block}
 use Rattle.edf_rows.proofs.cells.own_start.Goals as goal
 
 pub returns-in_default : goal.returns-in_default

@@ -1,5 +1,5 @@
 use Rattle.std.proofs.Common.{rules}
-use Rattle.edf_rows.proofs.CellLemmas.{refused-unread, fault-of}
+use Rattle.edf_rows.proofs.RowCells.{refused-unread, fault-of}
 use Rattle.edf_rows.proofs.cells.read_cell.Goals as goal
 
 pub returns-else-eq : goal.returns-else-eq

@@ -1,5 +1,5 @@
 use Rattle.std.proofs.Common.{rules}
-use Rattle.edf_rows.proofs.CellLemmas.{row-unread, row-made}
+use Rattle.edf_rows.proofs.RowCells.{row-unread, row-made}
 use Rattle.edf_rows.proofs.cells.record_from.Goals as goal
 
 pub returns-in_default : goal.returns-in_default

@@ -1,4 +1,4 @@
-use Rattle.edf_rows.proofs.RowsLemmas.{not-foreign}
+use Rattle.edf_rows.proofs.Rows.{not-foreign}
 use Rattle.edf_rows.proofs.laws.kept_is_not_foreign.Goals as goal
 
 pub returns : goal.returns

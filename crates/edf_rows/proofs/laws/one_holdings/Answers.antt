@@ -1,4 +1,4 @@
-use Rattle.edf_rows.proofs.RowsLemmas.{one-holdings}
+use Rattle.edf_rows.proofs.Rows.{one-holdings}
 use Rattle.edf_rows.proofs.laws.one_holdings.Goals as goal
 
 pub returns : goal.returns

@@ -1,4 +1,4 @@
-use Rattle.edf_rows.proofs.RowsLemmas.{same-records, not-bad}
+use Rattle.edf_rows.proofs.Rows.{same-records, not-bad}
 use Rattle.edf_rows.proofs.laws.one_record.Goals as goal
 
 pub returns-clause-one : goal.returns-clause-one

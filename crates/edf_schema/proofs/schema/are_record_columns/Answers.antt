@@ -1,7 +1,7 @@
 use Rattle.std.proofs.Common.{rules, ◌≡◌, ◌∷◌, [], arith, codes, true, sym, ◌∙◌}
 use Rattle.sqlite_schema.specs.declared.schema.Kind.TheVariants.{Integer, Blob}
 use Rattle.edf_schema.specs.Inside.Parts.{strict_column}
-use Rattle.edf_schema.proofs.ListLemmas.{all_four}
+use Rattle.edf_schema.proofs.Lists.{all_four}
 use Rattle.edf_schema.proofs.schema.are_record_columns.Goals as goal
 
 pub returns-then-is_column : goal.returns-then-is_column

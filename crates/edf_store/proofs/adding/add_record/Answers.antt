@@ -4,10 +4,10 @@ use Rattle.sqlite.specs.Held.{state}
 use Rattle.sqlite.specs.State.{HasCleanDisk}
 use Rattle.edf_tal.specs.Canonical.{block_text}
 use Rattle.edf_tables.specs.Row.{cells, HasRecord}
-use Rattle.edf_tables.proofs.HeldLemmas.{record_keeps}
-use Rattle.edf_store.proofs.DecodeLemmas.{start_fits}
-use Rattle.edf_store.proofs.HeldLemmas.{still_sound}
-use Rattle.edf_store.proofs.StepLemmas.{added_in, none_added}
+use Rattle.edf_tables.proofs.Held.{record_keeps}
+use Rattle.edf_store.proofs.Decoding.{start_fits}
+use Rattle.edf_store.proofs.Held.{still_sound}
+use Rattle.edf_store.proofs.Steps.{added_in, none_added}
 use Rattle.edf_store.proofs.adding.add_record.Goals as goal
 
 pub invariant_of-store : goal.invariant_of-store

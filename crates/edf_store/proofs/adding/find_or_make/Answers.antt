@@ -2,10 +2,10 @@ use Rattle.std.proofs.Common.{◌≡◌, None, rules, w64, arith}
 use Rattle.std.proofs.lemmas.Int.{to_z-of_z}
 use Rattle.sqlite.specs.Held.{state}
 use Rattle.edf_header.specs.Key.{key_bytes}
-use Rattle.edf_tables.proofs.CommitLemmas.{quiet_then}
-use Rattle.edf_tables.proofs.KeepLemmas.{keeps_then}
-use Rattle.edf_store.proofs.HeldLemmas.{still_sound}
-use Rattle.edf_store.proofs.StepLemmas.{found_in, made_under, made_sees, made_only, made_keeps}
+use Rattle.edf_tables.proofs.Commits.{quiet_then}
+use Rattle.edf_tables.proofs.Keeping.{keeps_then}
+use Rattle.edf_store.proofs.Held.{still_sound}
+use Rattle.edf_store.proofs.Steps.{found_in, made_under, made_sees, made_only, made_keeps}
 use Rattle.edf_store.proofs.adding.find_or_make.Goals as goal
 
 pub returns-in-Some-clause-found : goal.returns-in-Some-clause-found

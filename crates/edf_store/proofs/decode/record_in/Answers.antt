@@ -1,5 +1,5 @@
 use Rattle.std.proofs.Common.{rules}
-use Rattle.edf_store.proofs.DecodeLemmas.{row_of, same_some, not_none}
+use Rattle.edf_store.proofs.Decoding.{row_of, same_some, not_none}
 use Rattle.edf_store.proofs.decode.record_in.Goals as goal
 
 pub returns-in-Ok-Some-clause-read : goal.returns-in-Ok-Some-clause-read

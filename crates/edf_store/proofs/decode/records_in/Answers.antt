@@ -3,8 +3,8 @@ use Rattle.std.proofs.lemmas.Result.{err_from_is_err_and}
 use Rattle.std.specs.Vec.Iter.{into_iter_items}
 use Rattle.edf_fragment.specs.Sound.{IsSoundRecord}
 use Rattle.edf_tables.specs.Cells.{cells_of}
-use Rattle.edf_store.proofs.DecodeLemmas.{next_read, pushed, all_read, none_read}
-use Rattle.edf_store.proofs.WalkLemmas.{no_items}
+use Rattle.edf_store.proofs.Decoding.{next_read, pushed, all_read, none_read}
+use Rattle.edf_store.proofs.Walks.{no_items}
 use Rattle.edf_store.proofs.decode.records_in.Goals as goal
 
 pub loop-row-init : goal.loop-row-init

@@ -6,7 +6,7 @@ use Rattle.edf_fragment.specs.Fragment.{DataRecord}
 use Rattle.edf_fragment.specs.Sound.{IsSoundRecord}
 use Rattle.edf_tables.specs.Cells.{cells_of}
 use Rattle.edf_rows.specs.Cells.{record_cells}
-use Rattle.edf_store.proofs.DecodeLemmas.{IsPartRead}
+use Rattle.edf_store.proofs.Decoding.{IsPartRead}
 use Rattle.edf_store.proofs.decode.records_in.Given as goal
 
 abbrev pub invariant-loop-row : goal.invariant-loop-row

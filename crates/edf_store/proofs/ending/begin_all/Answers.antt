@@ -1,6 +1,6 @@
 use Rattle.std.proofs.Common.{rules}
 use Rattle.sqlite.specs.Held.{state}
-use Rattle.edf_store.proofs.StepLemmas.{whole_begun}
+use Rattle.edf_store.proofs.Steps.{whole_begun}
 use Rattle.edf_store.proofs.ending.begin_all.Goals as goal
 
 pub returns-clause-whole : goal.returns-clause-whole

@@ -1,5 +1,5 @@
 use Rattle.sqlite.specs.Held.{state}
-use Rattle.edf_store.proofs.StepLemmas.{committed_held, committed_sound, seen_survives}
+use Rattle.edf_store.proofs.Steps.{committed_held, committed_sound, seen_survives}
 use Rattle.edf_store.proofs.ending.commit_all.Goals as goal
 
 pub returns-in_err-commit-clause-survives : goal.returns-in_err-commit-clause-survives

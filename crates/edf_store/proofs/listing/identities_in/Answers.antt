@@ -1,7 +1,7 @@
 use Rattle.std.proofs.Common.{◌≡◌, ◌<◌, length, slice_index_or, rules, sym, subst, ◌∙◌}
 use Rattle.edf_store.specs.declared.fault.StoreFault.{StoreFault}
 use Rattle.edf_store.specs.declared.fault.StoreFault.TheVariants as fault
-use Rattle.edf_store.proofs.KeysReadLemmas.{IsOfKey, all_index, refused_for_memory}
+use Rattle.edf_store.proofs.KeysRead.{IsOfKey, all_index, refused_for_memory}
 use Rattle.edf_store.proofs.listing.identities_in.Goals as goal
 
 pub returns-in-Err : goal.returns-in-Err

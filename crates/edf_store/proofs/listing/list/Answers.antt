@@ -1,9 +1,9 @@
 use Rattle.std.proofs.Common.{arith, ◌∙◌}
 use Rattle.sqlite.specs.Held.{state}
 use Rattle.sqlite.specs.State.{HasCleanDisk}
-use Rattle.edf_store.proofs.ReadyLemmas.{named_apart, held_now}
-use Rattle.edf_store.proofs.FaultLemmas.{on_ok}
-use Rattle.edf_store.proofs.KeysReadLemmas.{keys_read, identities_of_keys, if_both, if_refused}
+use Rattle.edf_store.proofs.Readiness.{named_apart, held_now}
+use Rattle.edf_store.proofs.Faults.{on_ok}
+use Rattle.edf_store.proofs.KeysRead.{keys_read, identities_of_keys, if_both, if_refused}
 use Rattle.edf_store.proofs.listing.list.Goals as goal
 
 pub identities-requires : goal.identities-requires

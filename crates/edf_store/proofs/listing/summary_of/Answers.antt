@@ -3,10 +3,10 @@ use Rattle.std.proofs.lemmas.Int.{to_z-of_z}
 use Rattle.sqlite.specs.Held.{state}
 use Rattle.sqlite.specs.State.{HasCleanDisk}
 use Rattle.sqlite_exec.proofs.MarkLemmas.{if_ok_then}
-use Rattle.edf_store.proofs.ReadyLemmas.{stays_so, three_survive, three_keep}
-use Rattle.edf_store.proofs.SummaryLemmas.{ready_at, still_ready, summary_read, bounds_read}
-use Rattle.edf_store.proofs.KeysReadLemmas.{if_refused}
-use Rattle.edf_store.proofs.FaultLemmas.{on_ok}
+use Rattle.edf_store.proofs.Readiness.{stays_so, three_survive, three_keep}
+use Rattle.edf_store.proofs.Summaries.{ready_at, still_ready, summary_read, bounds_read}
+use Rattle.edf_store.proofs.KeysRead.{if_refused}
+use Rattle.edf_store.proofs.Faults.{on_ok}
 use Rattle.edf_store.proofs.listing.summary_of.Goals as goal
 
 pub first_start-requires : goal.first_start-requires

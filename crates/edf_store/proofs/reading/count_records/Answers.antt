@@ -1,8 +1,8 @@
 use Rattle.std.proofs.Common.{rules, w64}
 use Rattle.std.proofs.lemmas.Int.{to_z-of_z}
 use Rattle.sqlite.specs.Held.{state}
-use Rattle.edf_store.proofs.HeldLemmas.{still_sound}
-use Rattle.edf_store.proofs.StepLemmas.{count_is}
+use Rattle.edf_store.proofs.Held.{still_sound}
+use Rattle.edf_store.proofs.Steps.{count_is}
 use Rattle.edf_store.proofs.reading.count_records.Goals as goal
 
 pub invariant_of-store : goal.invariant_of-store

@@ -1,10 +1,10 @@
 use Rattle.std.proofs.Common.{w64, ◌≡◌, ℕ, sym, ap, subst, arith}
 use Rattle.std.proofs.lemmas.Int.{to_z-of_z}
 use Rattle.sqlite.specs.State.{HasCleanDisk}
-use Rattle.edf_store.specs.Held.{Kept, at}
+use Rattle.edf_store.specs.Held.{StoreModel, at}
 use Rattle.edf_store.specs.Transaction.{AreSeen, IsCountIn, SeesOn}
-use Rattle.edf_store.proofs.ReadyLemmas.{stays_then}
-use Rattle.edf_store.proofs.ShortLemmas.{sees_twice, none_twice, room_counted}
+use Rattle.edf_store.proofs.Readiness.{stays_then}
+use Rattle.edf_store.proofs.Short.{sees_twice, none_twice, room_counted}
 use Rattle.edf_store.proofs.reading.has_room.Goals as goal
 
 pub count_records-requires-clause-recording : goal.count_records-requires-clause-recording
@@ -24,7 +24,7 @@ returns-clause-room g c clean h k seen under =
     let mid = c.is_short.new.store in
     let clean_mid : HasCleanDisk (at g.S.Store mid) = omega (arith, c.in_ok-held.ensures.stays.crash.clean) in
     let clean_old : HasCleanDisk (at g.S.Store old) = omega (arith, c.in_ok-short.ensures.stays.crash.clean, clean_mid) in
-    let same_cap : c.store.inside.cap ≡ old.cap = ap (λ (s : Kept g.row.S.Denot). s.cap) c.store.view_is in
+    let same_cap : c.store.inside.cap ≡ old.cap = ap (λ (s : StoreModel g.row.S.Denot). s.cap) c.store.view_is in
     let on = c.in_ok-short.ensures.same in
     let counted : IsCountIn mid.cap (at g.S.Store mid) c.args.id c.in_ok-held.held = rw (to_z-of_z w64 c.args.id c.ranges.id) at (c.in_ok-held.ensures.count clean) in
     let held = counted h k (on.holdings h (subst (λ (n : ℕ). AreSeen n (at g.S.Store old) h) (sym c.in_ok-short.ensures.stays.cap) seen)) (on.ids c.args.id k under) in

@@ -2,12 +2,12 @@ use Rattle.std.proofs.Common.{w64, arith}
 use Rattle.std.proofs.lemmas.Int.{to_z-of_z}
 use Rattle.sqlite.specs.Held.{state}
 use Rattle.sqlite.specs.State.{HasCleanDisk}
-use Rattle.edf_store.specs.Held.{Kept}
-use Rattle.edf_store.proofs.HeldLemmas.{still_sound, sees_on}
-use Rattle.edf_store.proofs.StepLemmas.{ready_in, none_made}
-use Rattle.edf_store.proofs.ReadyLemmas.{stays_so, stays_then}
-use Rattle.edf_store.proofs.SummaryLemmas.{still_ready}
-use Rattle.edf_store.proofs.ShortLemmas.{short_read, sees_twice, none_twice}
+use Rattle.edf_store.specs.Held.{StoreModel}
+use Rattle.edf_store.proofs.Held.{still_sound, sees_on}
+use Rattle.edf_store.proofs.Steps.{ready_in, none_made}
+use Rattle.edf_store.proofs.Readiness.{stays_so, stays_then}
+use Rattle.edf_store.proofs.Summaries.{still_ready}
+use Rattle.edf_store.proofs.Short.{short_read, sees_twice, none_twice}
 use Rattle.edf_store.proofs.reading.is_short.Goals as goal
 
 pub first_start-requires : goal.first_start-requires
@@ -44,20 +44,20 @@ invariant_of-store-2 g c =
 pub returns-clause-stays : goal.returns-clause-stays
 returns-clause-stays g c =
     let cap = c.store.inside.cap in
-    let a : Kept g.row.S.Denot = record { held = c.store.inside.conn; cap = cap } in
-    let b : Kept g.row.S.Denot = record { held = c.first_start.new.conn; cap = cap } in
-    let d : Kept g.row.S.Denot = record { held = c.last_start.new.conn; cap = cap } in
+    let a : StoreModel g.row.S.Denot = record { connection = c.store.inside.conn; cap = cap } in
+    let b : StoreModel g.row.S.Denot = record { connection = c.first_start.new.conn; cap = cap } in
+    let d : StoreModel g.row.S.Denot = record { connection = c.last_start.new.conn; cap = cap } in
     rw (← c.store.view_is)
-    (stays_then g.S.Store a b d (stays_so g.S.Store cap a.held b.held c.first_start.ensures.survives c.first_start.ensures.kept) (stays_so g.S.Store cap b.held d.held c.last_start.ensures.survives c.last_start.ensures.kept))
+    (stays_then g.S.Store a b d (stays_so g.S.Store cap a.connection b.connection c.first_start.ensures.survives c.first_start.ensures.kept) (stays_so g.S.Store cap b.connection d.connection c.last_start.ensures.survives c.last_start.ensures.kept))
 
 pub returns-in_err-last-clause-stays : goal.returns-in_err-last-clause-stays
 returns-in_err-last-clause-stays g c =
     let cap = c.store.inside.cap in
-    let a : Kept g.row.S.Denot = record { held = c.store.inside.conn; cap = cap } in
-    let b : Kept g.row.S.Denot = record { held = c.first_start.new.conn; cap = cap } in
-    let d : Kept g.row.S.Denot = record { held = c.last_start.new.conn; cap = cap } in
+    let a : StoreModel g.row.S.Denot = record { connection = c.store.inside.conn; cap = cap } in
+    let b : StoreModel g.row.S.Denot = record { connection = c.first_start.new.conn; cap = cap } in
+    let d : StoreModel g.row.S.Denot = record { connection = c.last_start.new.conn; cap = cap } in
     rw (← c.store.view_is)
-    (stays_then g.S.Store a b d (stays_so g.S.Store cap a.held b.held c.first_start.ensures.survives c.first_start.ensures.kept) (stays_so g.S.Store cap b.held d.held c.last_start.ensures.survives c.last_start.ensures.kept))
+    (stays_then g.S.Store a b d (stays_so g.S.Store cap a.connection b.connection c.first_start.ensures.survives c.first_start.ensures.kept) (stays_so g.S.Store cap b.connection d.connection c.last_start.ensures.survives c.last_start.ensures.kept))
 
 pub returns-clause-short : goal.returns-clause-short
 returns-clause-short g c clean =

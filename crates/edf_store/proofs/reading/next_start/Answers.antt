@@ -3,12 +3,12 @@ use Rattle.std.proofs.lemmas.Int.{to_z-of_z}
 use Rattle.sqlite.specs.Held.{state}
 use Rattle.sqlite_exec.proofs.MarkLemmas.{if_ok_then}
 use Rattle.edf_store.specs.declared.fault.StoreFault.TheVariants as fault
-use Rattle.edf_store.proofs.DecodeLemmas.{nat_fits}
-use Rattle.edf_store.proofs.HeldLemmas.{still_sound, still_held, sees_on}
-use Rattle.edf_store.proofs.StepLemmas.{ready_in, none_made}
-use Rattle.edf_store.proofs.KeysReadLemmas.{if_refused}
-use Rattle.edf_store.proofs.FaultLemmas.{foreign_is}
-use Rattle.edf_store.proofs.NextLemmas.{next_is, next_reads}
+use Rattle.edf_store.proofs.Decoding.{nat_fits}
+use Rattle.edf_store.proofs.Held.{still_sound, still_held, sees_on}
+use Rattle.edf_store.proofs.Steps.{ready_in, none_made}
+use Rattle.edf_store.proofs.KeysRead.{if_refused}
+use Rattle.edf_store.proofs.Faults.{foreign_is}
+use Rattle.edf_store.proofs.Next.{next_is, next_reads}
 use Rattle.edf_store.proofs.reading.next_start.Goals as goal
 
 pub next_start-requires : goal.next_start-requires

@@ -2,12 +2,12 @@ use Rattle.std.proofs.Common.{w64, pos, ◌-ℤ◌, ◌+ℤ◌, FitsSigned, arit
 use Rattle.std.proofs.lemmas.Int.{to_z-of_z, ints}
 use Rattle.sqlite.specs.Held.{state}
 use Rattle.edf_holdings.specs.Clash.{near_of}
-use Rattle.edf_store.proofs.DecodeLemmas.{nat_fits, fits_sub}
+use Rattle.edf_store.proofs.Decoding.{nat_fits, fits_sub}
 use Rattle.edf_header.proofs.Cited.{key-duration-bound}
-use Rattle.edf_store.proofs.HeldLemmas.{still_sound, still_held, sees_on}
-use Rattle.edf_store.proofs.StepLemmas.{ready_in, near_is, two_near, sound_near, none_made, if_ok}
-use Rattle.edf_store.proofs.FaultLemmas.{refused_by, unfailed_by, caused_by}
-use Rattle.edf_store.proofs.NearLemmas.{near_shown}
+use Rattle.edf_store.proofs.Held.{still_sound, still_held, sees_on}
+use Rattle.edf_store.proofs.Steps.{ready_in, near_is, two_near, sound_near, none_made, if_ok}
+use Rattle.edf_store.proofs.Faults.{refused_by, unfailed_by, caused_by}
+use Rattle.edf_store.proofs.Near.{near_shown}
 use Rattle.sqlite.specs.State.{HasCleanDisk}
 use Rattle.edf_store.proofs.reading.records_near.Goals as goal
 

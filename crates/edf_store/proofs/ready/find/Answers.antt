@@ -1,7 +1,7 @@
 use Rattle.std.proofs.Common.{◌≡◌, rules}
 use Rattle.sqlite.specs.Held.{state}
 use Rattle.edf_header.specs.Key.{key_bytes}
-use Rattle.edf_store.proofs.ReadyLemmas.{found_now}
+use Rattle.edf_store.proofs.Readiness.{found_now}
 use Rattle.edf_store.proofs.ready.find.Goals as goal
 
 pub returns-clause-found : goal.returns-clause-found

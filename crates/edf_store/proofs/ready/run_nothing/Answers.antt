@@ -1,6 +1,6 @@
 use Rattle.sqlite.specs.Held.{state}
-use Rattle.edf_tables.proofs.KeepLemmas.{write_refused, same_left}
-use Rattle.edf_store.proofs.ReadyLemmas.{ran_nothing, nothing_survives}
+use Rattle.edf_tables.proofs.Keeping.{write_refused, same_left}
+use Rattle.edf_store.proofs.Readiness.{ran_nothing, nothing_survives}
 use Rattle.edf_store.proofs.ready.run_nothing.Goals as goal
 
 pub returns-clause-same : goal.returns-clause-same

@@ -3,7 +3,7 @@ use Rattle.std.proofs.lemmas.Int.{to_z-of_z}
 use Rattle.std.proofs.lemmas.Result.{err_from_is_err_and}
 use Rattle.sqlite.specs.State.{HasCleanDisk}
 use Rattle.edf_store.specs.Held.{at}
-use Rattle.edf_store.proofs.WalkLemmas.{ended_behind, record_next, read_next, then_behind, no_items}
+use Rattle.edf_store.proofs.Walks.{ended_behind, record_next, read_next, then_behind, no_items}
 use Rattle.edf_store.proofs.records.next_record.Goals as goal
 
 pub returns-in_default-clause-step : goal.returns-in_default-clause-step

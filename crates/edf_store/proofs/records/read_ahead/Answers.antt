@@ -4,7 +4,7 @@ use Rattle.sqlite.specs.Held.{state}
 use Rattle.sqlite.specs.State.{HasCleanDisk}
 use Rattle.edf_tables.specs.declared.row.RecordRow.{RecordRow}
 use Rattle.edf_store.specs.declared.progress.Progress.{Progress}
-use Rattle.edf_store.proofs.WalkLemmas.{ShowFirst, ready_behind, still_behind, page_next, page_behind, none_next}
+use Rattle.edf_store.proofs.Walks.{ShowFirst, ready_behind, still_behind, page_next, page_behind, none_next}
 use Rattle.edf_store.proofs.records.read_ahead.Goals as goal
 
 pub page_rows-requires : goal.page_rows-requires

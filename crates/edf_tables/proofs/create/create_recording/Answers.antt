@@ -1,10 +1,10 @@
 use Rattle.std.proofs.Common.{arith}
 use Rattle.sqlite.specs.Held.{state}
 use Rattle.sqlite.proofs.StateLemmas.{survives_weaker}
-use Rattle.edf_tables.proofs.CreateLemmas.{first_if, first_crash}
-use Rattle.edf_tables.proofs.KeepLemmas.{write_refused}
-use Rattle.edf_tables.proofs.UnaddedLemmas.{first_unmade}
-use Rattle.edf_tables.proofs.FileLemmas.{first_file, first_mode}
+use Rattle.edf_tables.proofs.Creating.{first_if, first_crash}
+use Rattle.edf_tables.proofs.Keeping.{write_refused}
+use Rattle.edf_tables.proofs.Unadded.{first_unmade}
+use Rattle.edf_tables.proofs.File.{first_file, first_mode}
 use Rattle.edf_tables.proofs.create.create_recording.Goals as goal
 
 pub returns-clause-made : goal.returns-clause-made

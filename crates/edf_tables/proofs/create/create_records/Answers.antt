@@ -1,10 +1,10 @@
 use Rattle.std.proofs.Common.{arith}
 use Rattle.sqlite.specs.Held.{state}
 use Rattle.sqlite.proofs.StateLemmas.{survives_weaker}
-use Rattle.edf_tables.proofs.CreateLemmas.{second_if, second_crash}
-use Rattle.edf_tables.proofs.KeepLemmas.{write_refused}
-use Rattle.edf_tables.proofs.UnaddedLemmas.{second_unmade}
-use Rattle.edf_tables.proofs.FileLemmas.{second_file, second_mode}
+use Rattle.edf_tables.proofs.Creating.{second_if, second_crash}
+use Rattle.edf_tables.proofs.Keeping.{write_refused}
+use Rattle.edf_tables.proofs.Unadded.{second_unmade}
+use Rattle.edf_tables.proofs.File.{second_file, second_mode}
 use Rattle.edf_tables.proofs.create.create_records.Goals as goal
 
 pub returns-clause-made : goal.returns-clause-made

@@ -1,9 +1,9 @@
 use Rattle.std.proofs.Common.{inl, inr, arith}
 use Rattle.std.proofs.lemmas.Result.{err_from_is_err_and}
 use Rattle.sqlite.specs.Held.{state}
-use Rattle.edf_tables.proofs.UnaddedLemmas.{unmade_since}
+use Rattle.edf_tables.proofs.Unadded.{unmade_since}
 use Rattle.sqlite.specs.State.{HasCleanDisk}
-use Rattle.edf_tables.proofs.FileLemmas.{file_then}
+use Rattle.edf_tables.proofs.File.{file_then}
 use Rattle.edf_tables.proofs.create.create_tables.Goals as goal
 
 pub returns-in_err-create_records-clause-why : goal.returns-in_err-create_records-clause-why

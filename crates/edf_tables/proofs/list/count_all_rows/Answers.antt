@@ -5,11 +5,11 @@ use Rattle.sqlite_exec.proofs.MarkLemmas.{if_ok_then}
 use Rattle.edf_tables.specs.Refused.{IsUntold}
 use Rattle.edf_tables.proofs.AloneTexts.{count_all_alone, count_all_taken}
 use Rattle.edf_tables.proofs.QueryTexts.{count_all_text, count_all_is}
-use Rattle.edf_tables.proofs.RefusedLemmas.{query_unread, untold_if}
-use Rattle.edf_tables.proofs.ShownLemmas.{plain_at, count_all_shown, count_all_some}
-use Rattle.edf_tables.proofs.ReadLemmas.{query_left}
+use Rattle.edf_tables.proofs.Refusals.{query_unread, untold_if}
+use Rattle.edf_tables.proofs.Shown.{plain_at, count_all_shown, count_all_some}
+use Rattle.edf_tables.proofs.Reading.{query_left}
 use Rattle.edf_tables.specs.Refused.{IsLeft}
-use Rattle.edf_tables.proofs.KeepLemmas.{on_err}
+use Rattle.edf_tables.proofs.Keeping.{on_err}
 use Rattle.edf_tables.proofs.list.count_all_rows.Goals as goal
 
 pub rows_shown-requires : goal.rows_shown-requires

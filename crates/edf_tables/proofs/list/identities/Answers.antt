@@ -5,8 +5,8 @@ use Rattle.sqlite_exec.proofs.MarkLemmas.{if_ok_then}
 use Rattle.edf_tables.specs.Refused.{IsUntold}
 use Rattle.edf_tables.proofs.AloneTexts.{identities_alone, identities_taken}
 use Rattle.edf_tables.proofs.QueryTexts.{identities_text, identities_is}
-use Rattle.edf_tables.proofs.RefusedLemmas.{query_unread}
-use Rattle.edf_tables.proofs.ShownLemmas.{plain_at, identities_shown}
+use Rattle.edf_tables.proofs.Refusals.{query_unread}
+use Rattle.edf_tables.proofs.Shown.{plain_at, identities_shown}
 use Rattle.edf_tables.proofs.list.identities.Goals as goal
 
 pub rows_shown-requires : goal.rows_shown-requires

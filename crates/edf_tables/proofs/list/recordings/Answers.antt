@@ -3,9 +3,9 @@ use Rattle.sqlite.specs.Held.{state}
 use Rattle.sqlite_exec.proofs.MarkLemmas.{if_ok_then}
 use Rattle.edf_tables.proofs.QueryTexts.{recordings_text, recordings_is}
 use Rattle.edf_tables.proofs.AloneTexts.{recordings_alone, recordings_taken}
-use Rattle.edf_tables.proofs.RefusedLemmas.{query_unread, unread_if}
-use Rattle.edf_tables.proofs.ShownLemmas.{plain_at, recordings_shown, recordings_in_order}
-use Rattle.edf_tables.proofs.ReadLemmas.{query_refused}
+use Rattle.edf_tables.proofs.Refusals.{query_unread, unread_if}
+use Rattle.edf_tables.proofs.Shown.{plain_at, recordings_shown, recordings_in_order}
+use Rattle.edf_tables.proofs.Reading.{query_refused}
 use Rattle.edf_tables.proofs.list.recordings.Goals as goal
 
 pub rows_shown-requires : goal.rows_shown-requires

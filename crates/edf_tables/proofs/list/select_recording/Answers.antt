@@ -6,8 +6,8 @@ use Rattle.sqlite_exec.proofs.MarkLemmas.{if_ok_then}
 use Rattle.edf_tables.specs.Refused.{IsUntold}
 use Rattle.edf_tables.proofs.AloneTexts.{id_alone, id_taken}
 use Rattle.edf_tables.proofs.QueryTexts.{id_text, id_is}
-use Rattle.edf_tables.proofs.RefusedLemmas.{query_unread}
-use Rattle.edf_tables.proofs.ShownLemmas.{plain_at, id_shown}
+use Rattle.edf_tables.proofs.Refusals.{query_unread}
+use Rattle.edf_tables.proofs.Shown.{plain_at, id_shown}
 use Rattle.edf_tables.proofs.list.select_recording.Goals as goal
 
 pub rows_shown-requires : goal.rows_shown-requires

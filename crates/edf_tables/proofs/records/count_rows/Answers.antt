@@ -7,8 +7,8 @@ use Rattle.sqlite_exec.proofs.MarkLemmas.{if_ok_then}
 use Rattle.edf_tables.specs.Refused.{IsUntold}
 use Rattle.edf_tables.proofs.AloneTexts.{count_alone, count_taken}
 use Rattle.edf_tables.proofs.QueryTexts.{count_text, count_is}
-use Rattle.edf_tables.proofs.RefusedLemmas.{query_unread, untold_if}
-use Rattle.edf_tables.proofs.ShownLemmas.{plain_at, count_shown, count_some}
+use Rattle.edf_tables.proofs.Refusals.{query_unread, untold_if}
+use Rattle.edf_tables.proofs.Shown.{plain_at, count_shown, count_some}
 use Rattle.edf_tables.proofs.records.count_rows.Goals as goal
 
 pub rows_shown-requires : goal.rows_shown-requires

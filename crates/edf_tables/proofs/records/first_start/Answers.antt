@@ -7,8 +7,8 @@ use Rattle.sqlite_exec.proofs.MarkLemmas.{if_ok_then}
 use Rattle.edf_tables.specs.Refused.{IsUntold}
 use Rattle.edf_tables.proofs.AloneTexts.{first_alone, first_taken}
 use Rattle.edf_tables.proofs.QueryTexts.{first_text, first_is}
-use Rattle.edf_tables.proofs.RefusedLemmas.{query_unread}
-use Rattle.edf_tables.proofs.ShownLemmas.{plain_at, first_shown}
+use Rattle.edf_tables.proofs.Refusals.{query_unread}
+use Rattle.edf_tables.proofs.Shown.{plain_at, first_shown}
 use Rattle.edf_tables.proofs.records.first_start.Goals as goal
 
 pub rows_shown-requires : goal.rows_shown-requires

@@ -7,8 +7,8 @@ use Rattle.sqlite_exec.proofs.MarkLemmas.{if_ok_then}
 use Rattle.edf_tables.specs.Refused.{IsUntold}
 use Rattle.edf_tables.proofs.AloneTexts.{last_alone, last_taken}
 use Rattle.edf_tables.proofs.QueryTexts.{last_text, last_is}
-use Rattle.edf_tables.proofs.RefusedLemmas.{query_unread}
-use Rattle.edf_tables.proofs.ShownLemmas.{plain_at, last_shown}
+use Rattle.edf_tables.proofs.Refusals.{query_unread}
+use Rattle.edf_tables.proofs.Shown.{plain_at, last_shown}
 use Rattle.edf_tables.proofs.records.last_start.Goals as goal
 
 pub rows_shown-requires : goal.rows_shown-requires

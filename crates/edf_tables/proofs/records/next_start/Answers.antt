@@ -7,8 +7,8 @@ use Rattle.sqlite_exec.proofs.MarkLemmas.{if_ok_then}
 use Rattle.edf_tables.specs.Refused.{IsUntold}
 use Rattle.edf_tables.proofs.AloneTexts.{next_alone, next_taken}
 use Rattle.edf_tables.proofs.QueryTexts.{next_text, next_is}
-use Rattle.edf_tables.proofs.RefusedLemmas.{query_unread}
-use Rattle.edf_tables.proofs.ShownLemmas.{plain_at, next_shown}
+use Rattle.edf_tables.proofs.Refusals.{query_unread}
+use Rattle.edf_tables.proofs.Shown.{plain_at, next_shown}
 use Rattle.edf_tables.proofs.records.next_start.Goals as goal
 
 pub rows_shown-requires : goal.rows_shown-requires

@@ -7,8 +7,8 @@ use Rattle.sqlite_exec.proofs.MarkLemmas.{if_ok_then}
 use Rattle.edf_tables.specs.Refused.{IsUntold}
 use Rattle.edf_tables.proofs.AloneTexts.{page_alone, page_taken}
 use Rattle.edf_tables.proofs.QueryTexts.{page_text, page_is}
-use Rattle.edf_tables.proofs.RefusedLemmas.{query_unread}
-use Rattle.edf_tables.proofs.ShownLemmas.{plain_at, typed, page_shown}
+use Rattle.edf_tables.proofs.Refusals.{query_unread}
+use Rattle.edf_tables.proofs.Shown.{plain_at, typed, page_shown}
 use Rattle.edf_tables.proofs.records.page_rows.Goals as goal
 
 pub rows_shown-requires : goal.rows_shown-requires

@@ -1,6 +1,6 @@
 use Rattle.std.proofs.Common.{arith}
 use Rattle.sqlite.specs.Held.{state}
-use Rattle.edf_tables.proofs.ReadLemmas.{query_same, query_keeps, query_quiet}
+use Rattle.edf_tables.proofs.Reading.{query_same, query_keeps, query_quiet}
 use Rattle.edf_tables.proofs.row.rows_shown.Goals as goal
 
 pub returns-clause-same : goal.returns-clause-same

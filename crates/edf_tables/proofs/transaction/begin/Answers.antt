@@ -1,8 +1,8 @@
 use Rattle.std.proofs.lemmas.Result.{err_from_is_err_and}
 use Rattle.sqlite.specs.Held.{state}
-use Rattle.edf_tables.proofs.CommitLemmas.{begun, begin_survives}
-use Rattle.edf_tables.proofs.KeepLemmas.{on_err, write_refused}
-use Rattle.edf_tables.proofs.TurnLemmas.{begin_refused}
+use Rattle.edf_tables.proofs.Commits.{begun, begin_survives}
+use Rattle.edf_tables.proofs.Keeping.{on_err, write_refused}
+use Rattle.edf_tables.proofs.Turns.{begin_refused}
 use Rattle.edf_tables.proofs.transaction.begin.Goals as goal
 
 pub returns-clause-begun : goal.returns-clause-begun

@@ -1,9 +1,9 @@
 use Rattle.std.proofs.lemmas.Result.{err_from_is_err_and}
 use Rattle.sqlite.specs.Held.{state}
-use Rattle.edf_tables.proofs.CommitLemmas.{committed, commit_survives}
-use Rattle.edf_tables.proofs.EndLemmas.{commit_ends}
-use Rattle.edf_tables.proofs.KeepLemmas.{on_err, write_refused}
-use Rattle.edf_tables.proofs.TurnLemmas.{commit_refused}
+use Rattle.edf_tables.proofs.Commits.{committed, commit_survives}
+use Rattle.edf_tables.proofs.Ends.{commit_ends}
+use Rattle.edf_tables.proofs.Keeping.{on_err, write_refused}
+use Rattle.edf_tables.proofs.Turns.{commit_refused}
 use Rattle.edf_tables.proofs.transaction.commit.Goals as goal
 
 pub returns-clause-committed : goal.returns-clause-committed

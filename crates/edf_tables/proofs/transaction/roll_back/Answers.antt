@@ -1,8 +1,8 @@
 use Rattle.std.proofs.lemmas.Result.{err_from_is_err_and}
 use Rattle.sqlite.specs.Held.{state}
-use Rattle.edf_tables.proofs.CommitLemmas.{rolled_back, rollback_survives}
-use Rattle.edf_tables.proofs.KeepLemmas.{write_refused, undone_keeps}
-use Rattle.edf_tables.proofs.TurnLemmas.{rollback_refused}
+use Rattle.edf_tables.proofs.Commits.{rolled_back, rollback_survives}
+use Rattle.edf_tables.proofs.Keeping.{write_refused, undone_keeps}
+use Rattle.edf_tables.proofs.Turns.{rollback_refused}
 use Rattle.edf_tables.proofs.transaction.roll_back.Goals as goal
 
 pub returns-clause-undone : goal.returns-clause-undone

@@ -2,11 +2,11 @@ use Rattle.std.proofs.Common.{ap, ◌∙◌, w64, arith}
 use Rattle.std.proofs.lemmas.Int.{to_z-of_z}
 use Rattle.sqlite.specs.declared.types.Value.TheVariants.{Int}
 use Rattle.sqlite.specs.Held.{state}
-use Rattle.edf_tables.proofs.TextLemmas.{insert_record_text, insert_record_is}
-use Rattle.edf_tables.proofs.CommitLemmas.{insert_survives}
-use Rattle.edf_tables.proofs.KeepLemmas.{write_refused}
-use Rattle.edf_tables.proofs.WriteLemmas.{record_added_if}
-use Rattle.edf_tables.proofs.UnaddedLemmas.{record_unadded}
+use Rattle.edf_tables.proofs.Texts.{insert_record_text, insert_record_is}
+use Rattle.edf_tables.proofs.Commits.{insert_survives}
+use Rattle.edf_tables.proofs.Keeping.{write_refused}
+use Rattle.edf_tables.proofs.Writing.{record_added_if}
+use Rattle.edf_tables.proofs.Unadded.{record_unadded}
 use Rattle.edf_tables.proofs.write.insert_record.Goals as goal
 
 pub returns-clause-added : goal.returns-clause-added

@@ -3,11 +3,11 @@ use Rattle.std.proofs.Common.{arith, ◌∙◌}
 use Rattle.std.proofs.Common.{w64}
 use Rattle.std.proofs.lemmas.Int.{to_z-of_z}
 use Rattle.sqlite.specs.Held.{state}
-use Rattle.edf_tables.proofs.TextLemmas.{insert_recording_text, insert_recording_is}
-use Rattle.edf_tables.proofs.CommitLemmas.{insert_survives}
-use Rattle.edf_tables.proofs.KeepLemmas.{on_err, write_refused}
-use Rattle.edf_tables.proofs.WriteLemmas.{recording_added}
-use Rattle.edf_tables.proofs.UnaddedLemmas.{recording_unadded}
+use Rattle.edf_tables.proofs.Texts.{insert_recording_text, insert_recording_is}
+use Rattle.edf_tables.proofs.Commits.{insert_survives}
+use Rattle.edf_tables.proofs.Keeping.{on_err, write_refused}
+use Rattle.edf_tables.proofs.Writing.{recording_added}
+use Rattle.edf_tables.proofs.Unadded.{recording_unadded}
 use Rattle.edf_tables.proofs.write.insert_recording.Goals as goal
 
 pub returns-clause-added : goal.returns-clause-added

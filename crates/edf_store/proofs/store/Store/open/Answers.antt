@@ -1,6 +1,6 @@
 use Rattle.std.proofs.Common.{refl, inl, inr, sym, ◌∙◌}
 use Rattle.std.proofs.lemmas.Result.{err_from_is_err_and}
-use Rattle.edf_store.proofs.OpenLemmas.{opened}
+use Rattle.edf_store.proofs.Opening.{opened}
 use Rattle.edf_store.proofs.store.Store.open.Goals as goal
 
 pub returns-in_err-kept-clause-given_up : goal.returns-in_err-kept-clause-given_up

@@ -5,8 +5,8 @@ use Rattle.edf_store.specs.declared.fault.StoreFault.{StoreFault}
 use Rattle.edf_store.specs.declared.fault.StoreFault.TheVariants as fault
 use Rattle.edf_holdings.specs.Holdings.{Holdings}
 use Rattle.edf_store.specs.Held.{at}
-use Rattle.edf_store.proofs.ReadyLemmas.{stays_then, held_now}
-use Rattle.edf_store.proofs.WalkLemmas.{at_start}
+use Rattle.edf_store.proofs.Readiness.{stays_then, held_now}
+use Rattle.edf_store.proofs.Walks.{at_start}
 use Rattle.edf_store.proofs.store.Store.records.Goals as goal
 
 told_on : {A B : Type 0} (e f : StoreFault) → ◌≡◌ {A = Result A StoreFault} (Err e) (Err f) → ◌≡◌ {A = Result B StoreFault} (Err e) (Err f)

@@ -2,7 +2,7 @@ use Rattle.std.proofs.Common.{arith, w64, rules, None, ◌≡◌}
 use Rattle.std.proofs.lemmas.Int.{to_z-of_z}
 use Rattle.sqlite.specs.State.{HasCleanDisk}
 use Rattle.edf_store.specs.Held.{at}
-use Rattle.edf_store.proofs.ReadyLemmas.{stays_then, held_now}
+use Rattle.edf_store.proofs.Readiness.{stays_then, held_now}
 use Rattle.edf_store.proofs.store.Store.summary.Goals as goal
 
 pub returns-in_err-id-clause-stays : goal.returns-in_err-id-clause-stays

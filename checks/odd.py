@@ -1,0 +1,192 @@
+#!/usr/bin/env python3
+"""Files that are no stores, our tables made in other ways, foreign rows, and a store of a million rows, as the program meets them.
+
+    checks/odd.py [--program PATH]
+
+Each file is made by the system's SQLite or by hand, given to `list`, and must be answered with the number that stands beside it and
+left as it was, byte for byte. Then `list` of stores of 250,000, 500,000 and 1,000,000 rows: time and peak memory. It needs time.
+"""
+import os
+import shutil
+import sqlite3
+import subprocess
+import sys
+from pathlib import Path
+
+sys.path.insert(0, str(Path(__file__).resolve().parent / "lib"))
+import edf  # noqa: E402
+import measure  # noqa: E402
+import model  # noqa: E402
+
+TABLES = ("CREATE TABLE IF NOT EXISTS recording (\n  id INTEGER PRIMARY KEY, identity BLOB NOT NULL UNIQUE) STRICT",
+          "CREATE TABLE IF NOT EXISTS record (\n  recording INTEGER NOT NULL, start INTEGER NOT NULL,\n"
+          "  samples BLOB NOT NULL, block BLOB NOT NULL,\n  PRIMARY KEY (recording, start)) STRICT")
+INSERT = "INSERT INTO record (recording, start, samples, block) VALUES (?, ?, ?, ?)"
+
+# What another program may have done to a store that holds one record, and that no list of files does
+FOREIGN = (
+    "INSERT INTO recording (identity) VALUES (x'00')",
+    "DELETE FROM record",
+    "DELETE FROM recording",
+    "UPDATE record SET start = -1",
+    "UPDATE record SET start = start + 1",
+    "UPDATE record SET samples = x'0000'",
+    "UPDATE record SET block = x'00'",
+    "UPDATE record SET block = x'2B3534313732373939302E30141400'",
+    "UPDATE record SET block = CAST(block || x'00' AS BLOB)",
+    "UPDATE record SET recording = recording + 1",
+    "UPDATE recording SET identity = CAST(identity || x'20' AS BLOB)",
+    "INSERT INTO record SELECT recording, 541727990500000000, samples, x'2B3534313732373939302E35141400' FROM record",
+)
+
+# Two data records of a recording without a date, on both sides of the end of 2084
+OVER_2084 = edf.fragment(edf.Header((edf.Signal(), edf.annotations_signal(3)), "31.12.84", "23.59.59",
+                                    recording="Startdate X N1 T3 REC5", count="2"),
+                         [(b"\1\0\2\0", edf.keeping("+0")), (b"\3\0\4\0", edf.keeping("+1"))])
+
+# How another program may have made our two tables, and what is answered then
+MADE = (
+    ("our tables", TABLES, ""),
+    ("the first of our tables alone", TABLES[:1], ""),
+    ("our tables behind one that was dropped before they were made", ("CREATE TABLE t (x)", "DROP TABLE t", *TABLES), ""),
+    ("the second of our tables alone", TABLES[1:], "E45"),
+    ("our tables in the other order", TABLES[::-1], "E45"),
+    ("our tables behind one that was dropped later", ("CREATE TABLE t (x)", *TABLES, "DROP TABLE t"), "E45"),
+    ("our tables beside another", (*TABLES, "CREATE TABLE t (x)"), "E45"),
+    ("our tables behind ANALYZE", (*TABLES, "ANALYZE"), "E45"),
+)
+
+
+def changed(store: Path, *statements: str) -> None:
+    connection = sqlite3.connect(store)
+    for statement in statements:
+        connection.execute(statement)
+    connection.commit()
+    connection.close()
+
+
+def bytes_of(path: Path) -> bytes:
+    return path.read_bytes() if path.is_file() else b""
+
+
+class Odd:
+    def __init__(self, program: Path, folder: Path):
+        self.program, self.folder, self.done, self.wrong = program, folder, 0, 0
+        self.store = folder / "s.db"
+
+    def clean(self) -> None:
+        for path in self.folder.iterdir():
+            shutil.rmtree(path) if path.is_dir() else path.unlink()
+
+    def held(self, data: bytes = b"") -> Path:
+        """A store that holds this file, or one record."""
+        self.clean()
+        (self.folder / "a.edf").write_bytes(data or edf.small_files()["Q"])
+        subprocess.run([self.program, "take", self.store, self.folder / "a.edf"], check=True, stdout=subprocess.DEVNULL)
+        return self.store
+
+    def check(self, what: str, *wanted: str) -> None:
+        """`list` answers one of these numbers, or lists where the text is empty, and leaves the file."""
+        before = bytes_of(self.store)
+        ran = subprocess.run([self.program, "list", self.store], capture_output=True, check=False)
+        said = ran.stderr.decode().strip()
+        number = said.split()[2] if said.startswith("store refused") else said
+        self.done += 1
+        if number not in wanted or (ran.returncode != (3 if number else 0)) or (number and bytes_of(self.store) != before):
+            self.wrong += 1
+            kept = "kept" if bytes_of(self.store) == before else "CHANGED"
+            print(f"{what}: {ran.stdout!r} {said!r} status {ran.returncode}, file {kept}; wanted {' or '.join(wanted)}")
+
+
+def no_stores(odd: Odd) -> None:
+    data = bytes_of(odd.held())
+    odd.check("a store", "")
+    odd.clean()
+    odd.check("no file", "")
+    odd.clean()
+    odd.store.write_bytes(b"")
+    odd.check("an empty file", "")
+    for what, given in (("a text", b"This is no database.\n" * 100), ("a file of zeros", bytes(8192)),
+                        ("an EDF file", edf.small_files()["Q"]), ("a store cut in its middle", data[:len(data) // 2]),
+                        ("a store cut by a byte", data[:-1]),
+                        ("a store whose first page is gone", bytes(4096) + data[4096:])):
+        odd.clean()
+        odd.store.write_bytes(given)
+        odd.check(what, "E42", "E45")
+    odd.clean()
+    odd.store.write_bytes(data + b"\0")
+    odd.check("a store with a byte more, as SQLite takes it too", "")
+    odd.clean()
+    odd.store.mkdir()
+    odd.check("a directory", "E42")
+    odd.clean()
+    changed(odd.store, "CREATE TABLE other (a)", "INSERT INTO other VALUES (1)")
+    odd.check("a database of another program", "E45")
+    odd.clean()
+    changed(odd.store, "CREATE TABLE recording (id INTEGER PRIMARY KEY, name TEXT)", "CREATE TABLE record (a, b)",
+            "INSERT INTO record VALUES (1, 2)")
+    odd.check("our tables' names with other columns", "E45")
+    odd.held()
+    os.link(odd.store, odd.folder / "second.db")
+    odd.check("a store with a second name", "E42")
+    if os.geteuid():
+        odd.held().chmod(0)
+        odd.check("a store without leave to read", "E42")
+
+
+def made(odd: Odd) -> None:
+    for what, statements, wanted in MADE:
+        odd.clean()
+        changed(odd.store, *statements)
+        odd.check(what, wanted)
+
+
+def foreign(odd: Odd) -> None:
+    for statement in FOREIGN:
+        changed(odd.held(), statement)
+        odd.check(statement, "E45")
+    odd.held(OVER_2084)
+    odd.check("a recording without a date that goes on after 2084", "")
+    changed(odd.held(OVER_2084), "DELETE FROM record WHERE start < 3155760000000000000")
+    odd.check("a recording without a date that begins after 2084", "E45")
+
+
+def many_rows(odd: Odd) -> None:
+    lines = []
+    key = model.read(edf.small_files()["Q"])[0].to_bytes()
+    for count in (250_000, 500_000, 1_000_000):
+        odd.clean()
+        connection = sqlite3.connect(odd.store)
+        for table in TABLES:
+            connection.execute(table)
+        connection.execute("INSERT INTO recording VALUES (1, ?)", (key,))
+        connection.executemany(INSERT, ((1, second * 10**9, b"\1\0\2\0", b"+%d\x14\x14\0" % second) for second in range(count)))
+        connection.commit()
+        connection.close()
+        size = odd.store.stat().st_size
+        listed = measure.run([odd.program, "list", odd.store])
+        if not listed.out.startswith(b"1 records=%d first=1985-01-01T00:00:00 " % count):
+            odd.wrong += 1
+            print(f"{count} rows: {listed.out!r} {listed.err!r}")
+        lines.append((f"{count:,} rows", measure.mb(size), f"{listed.seconds:.2f} s", measure.mb(listed.peak),
+                      f"{listed.peak / size:.2f}"))
+    changed(odd.store, "UPDATE record SET samples = x'00' WHERE start = (SELECT max(start) FROM record)")
+    odd.check("a million rows, the last of them foreign", "E45")
+    print("list of a store of many rows")
+    measure.table(("", "store", "list", "peak", "peak / store"), lines)
+
+
+def main() -> None:
+    program, _ = measure.program(sys.argv[1:])
+    measure.need("/usr/bin/time")
+    with measure.scratch() as name:
+        odd = Odd(program, Path(name))
+        no_stores(odd)
+        made(odd)
+        foreign(odd)
+        many_rows(odd)
+    print(f"{odd.done} files, {odd.wrong} answered otherwise than wanted")
+    sys.exit(1 if odd.wrong else 0)
+
+
+main()

@@ -1,0 +1,150 @@
+#!/usr/bin/python3
+"""Opens exports of a night by MNE, BioSig and EDFlib, and compares what they read with what was submitted, record by record.
+
+    checks/readers/run.py [--program PATH]
+
+A night of 28,800 records of 1 s and four signals is sent without four of its 96 fragments, which leaves a gap of twenty minutes,
+and exported; then the four come, and it is exported again. Of each export is told: whether the reader opens it, in how many records
+all samples are those submitted, for how many records it tells the right time, and how many annotations come with their time,
+duration and text. It needs Debian's python3-mne, biosig-tools, libedf-dev and cc, and so Debian's own python3.
+"""
+import json
+import subprocess
+import sys
+import warnings
+from collections import Counter
+from datetime import datetime, timedelta
+from pathlib import Path
+
+sys.path.insert(0, str(Path(__file__).resolve().parent.parent / "lib"))
+import measure  # noqa: E402
+import model  # noqa: E402
+import night  # noqa: E402
+
+try:
+    import mne
+    import numpy
+except ImportError:
+    sys.exit("this needs python3-mne, and Debian's own python3 (/usr/bin/python3) to run it")
+
+LOW, HIGH = -3276.8, 3276.7     # a tenth of a microvolt a step of the 16 bits
+NIGHT = night.Night(samples=(100, 100, 100, 25), limits=("-3276.8", "3276.7", "-32768", "32767"))
+MISSING = range(40, 44)
+
+
+class Submitted:
+    """What was submitted, by the plain model: the start of each record in seconds, its samples, the annotations."""
+
+    def __init__(self, files: list):
+        records = {}
+        for path in files:
+            for record in model.read(path.read_bytes())[1]:
+                records[record.start] = record
+        rising = [records[start] for start in sorted(records)]
+        self.begin = rising[0].start
+        self.starts = [(record.start - self.begin) / model.SECOND for record in rising]
+        samples = numpy.frombuffer(b"".join(record.samples for record in rising), "<i2").reshape(len(rising), -1)
+        edges = numpy.cumsum((0, *NIGHT.samples))
+        self.signals = [samples[:, edges[n]:edges[n + 1]] for n in range(len(NIGHT.samples))]
+        self.notes = [((at - self.begin) / model.SECOND, (duration or 0) / model.SECOND, text.decode())
+                      for record in rising for at, duration, text in record.notes]
+
+    def same_records(self, digital: list) -> int:
+        """Of how many records all samples are these, signal by signal in the order of the records."""
+        good = numpy.ones(len(self.starts), bool)
+        for wanted, got in zip(self.signals, digital):
+            if got.size != wanted.size:
+                return 0
+            good &= (got.reshape(wanted.shape) == wanted).all(axis=1)
+        return int(good.sum())
+
+    def right_times(self, times: list) -> int:
+        return sum(abs(got - wanted) < 0.001 for got, wanted in zip(times, self.starts))
+
+    def same_notes(self, notes: list) -> int:
+        """How many annotations came with time and duration, to the millisecond, and text."""
+        wanted, got = (Counter((round(at, 3), round(duration, 3), text) for at, duration, text in each)
+                       for each in (self.notes, notes))
+        return (wanted & got).total()
+
+
+def digital(physical) -> numpy.ndarray:
+    return numpy.rint((physical - LOW) / (HIGH - LOW) * 65535 - 32768).astype(int)
+
+
+def by_mne(path: Path) -> tuple:
+    """Samples by signal, the time of each record, the annotations, and what MNE warned of. A signal at a time, since MNE brings
+    signals of several rates to the highest."""
+    signals, told = [], set()
+    with warnings.catch_warnings(record=True) as warned:
+        warnings.simplefilter("always")
+        for n in range(len(NIGHT.samples)):
+            raw = mne.io.read_raw_edf(path, include=[f"EEG channel {n + 1}"], preload=True, verbose="warning")
+            signals.append(digital(raw.get_data()[0] * 1e6))
+        told.update(str(each.message) for each in warned)
+    count = len(signals[0]) // NIGHT.samples[0]
+    times = [raw.times[n * NIGHT.samples[-1]] for n in range(count)]
+    notes = [(note["onset"], note["duration"], note["description"]) for note in raw.annotations]
+    return signals, times, notes, sorted(told)
+
+
+def stamp(text: str) -> datetime:
+    """A time as BioSig writes it: seconds may be 60."""
+    minute, seconds = text.rsplit(":", 1)
+    return datetime.strptime(minute, "%Y-%m-%d %H:%M") + timedelta(seconds=float(seconds))
+
+
+def by_biosig(path: Path, folder: Path) -> tuple:
+    """The same by `save2gdf`: samples as text, events as JSON."""
+    made = folder / "ascii.asc"
+    subprocess.run(["save2gdf", "-f=ASCII", path, made], check=True, stdout=subprocess.DEVNULL, stderr=subprocess.DEVNULL)
+    signals = [digital(numpy.fromstring((folder / f"ascii.a{n + 1:02}").read_text(), sep="\n")) for n in range(len(NIGHT.samples))]
+    told = subprocess.run(["save2gdf", "-JSON", path], check=True, capture_output=True).stdout.decode()
+    said = json.loads(told[told.index("{"):], strict=False)
+    times, notes = [], []
+    for event in said["EVENT"]:
+        at = (stamp(event["TimeStamp"]) - stamp(said["StartOfRecording"])).total_seconds()
+        if event["TYP"] == "0x7ffe":
+            times.append(at)
+        else:
+            notes.append((at, event["DUR"], event["Description"]))
+    return signals, times, notes, []
+
+
+def compare(title: str, path: Path, submitted: Submitted, folder: Path, probe: Path) -> list:
+    lines, records, notes = [], len(submitted.starts), len(submitted.notes)
+    for name, read in (("MNE " + mne.__version__, lambda: by_mne(path)), ("BioSig", lambda: by_biosig(path, folder))):
+        try:
+            signals, times, found, warned = read()
+        except Exception as fault:
+            lines.append((title, name, f"no: {type(fault).__name__}: {fault}"[:100], "", "", ""))
+            continue
+        lines.append((title, name, "yes", f"{submitted.same_records(signals):,} of {records:,}",
+                      f"{submitted.right_times(times):,} of {records:,}", f"{submitted.same_notes(found):,} of {notes:,}"))
+        for warning in warned:
+            print(f"{title}, {name} warns: {warning}")
+    answer = subprocess.run([probe, path], check=True, capture_output=True).stdout.decode().strip()
+    lines.append((title, "EDFlib", "yes" if answer.startswith("opened") else f"no: {answer}", "", "", ""))
+    return lines
+
+
+def main() -> None:
+    program, _ = measure.program(sys.argv[1:])
+    measure.need("cc", "save2gdf")
+    with measure.scratch() as name:
+        folder = Path(name)
+        probe = measure.compiled(Path(__file__).parent / "probe.c", folder, "-ledf", "-lm")
+        parts = NIGHT.parts(folder)
+        sent = [part for n, part in enumerate(parts) if n not in MISSING]
+        lines, store = [], folder / "s.db"
+        for title, files, told in (("a gap of 20 minutes", sent, sent), ("no gap", parts[MISSING[0]:MISSING[-1] + 1], parts)):
+            measure.run([program, "take", store, *files])
+            export = folder / "export.edf"
+            measure.run([program, "export", store, "1"], out=export)
+            lines += compare(title, export, Submitted(told), folder, probe)
+        print()
+        measure.table(("export", "reader", "opens", "records with the samples submitted", "records at the right time",
+                       "annotations with time, duration, text"), lines)
+
+
+main()

@@ -1,0 +1,30 @@
+-- What reading leaves of a connection, and what a row of the table of recordings tells.
+use Rattle.std.specs.Prelude.{◌≡◌, ◌⊎◌, [], ◌∷◌, ℕ, Option, Some, None, Contains, length, IsTrue}
+use Rattle.sqlite.specs.Order.{Row}
+use Rattle.sqlite.specs.Tree.{Trees}
+use Rattle.sqlite.specs.State.{State, KeepsCommit}
+use Rattle.edf_schema.specs.Columns.{the_id, the_identity}
+use Rattle.edf_rows.specs.Cells.{recordings_in, records_in}
+use Rattle.edf_rows.specs.Foreign.{IsForeign}
+use Rattle.edf_rows.specs.Inside.Shape.{HasRecords}
+
+-- the rows are as they were, nothing was committed, and no transaction began or ended
+pub record KeepsRows (old new : State) : Type 0 where
+  pub now_is : new.now ≡ old.now
+  pub commit : KeepsCommit old new
+  pub mode : new.in_transaction ≡ old.in_transaction
+  pub stays : IsTrue old.is_open → IsTrue new.is_open
+
+-- nothing was committed, and what is shown is as it was, or it is what is committed, as where a transaction was undone
+pub record KeepsShown (old new : State) : Type 0 where
+  pub commit : KeepsCommit old new
+  pub shown : IsTrue new.is_open → (new.now ≡ old.now) ⊎ (new.now ≡ new.committed)
+
+-- what the check reads of a row
+abbrev pub first_two : Row → Row
+first_two row = the_id row ∷ the_identity row ∷ []
+
+-- `Some count`: the row is of a recording with `count` records; `None`: the rows are foreign
+abbrev pub Checks : ℕ → Trees → Row → Option ℕ → Type 0
+Checks cap trees row None = Contains (recordings_in trees) row → IsForeign cap trees
+Checks cap trees row (Some count) = Contains (recordings_in trees) row → (has : HasRecords cap trees row) × (count ≡ length (records_in trees has.id))

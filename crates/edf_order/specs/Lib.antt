@@ -1,4 +1,0 @@
-pub mod Commands
-pub mod Faults
-pub mod Matches
-pub mod Order

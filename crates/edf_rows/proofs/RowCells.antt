@@ -1,0 +1,118 @@
+-- The cells of one row.
+use Rattle.std.proofs.Common.{◌≡◌, ◌≢◌, ℕ, ◌*◌, ◌<◌, pos, ℤ, Option, None, Some, MatchOption, List, [], ◌∷◌, length, ◌^◌, of_z, to_z, w64, FitsSigned, refl, sym, ap, ap₂, subst, ◌∙◌, arith}
+use Rattle.sqlite_value.specs.declared.value.Value.{Value}
+use Rattle.sqlite_value.specs.declared.value.Value.TheVariants.{Int, Blob}
+use Rattle.sqlite_value.specs.Order.{Row, column}
+use Rattle.edf_header.specs.Key.{Key, IsKey}
+use Rattle.edf_header.specs.Signal.{samples_in_all}
+use Rattle.edf_tal.specs.Tal.{Annotation}
+use Rattle.edf_tal.specs.Block.{IsRead, IsBlockFault, IsBlockRefusal}
+use Rattle.edf_tal.specs.declared.place.Place.TheVariants.{Any}
+use Rattle.edf_tal.specs.declared.place.TalFault.{TalFault}
+use Rattle.edf_tal.specs.declared.place.TalFault.TheVariants.{Tal as NotTals, Text, NotTimed, FirstOnset, Window, Order, TooMany, Memory}
+use Rattle.std.proofs.lemmas.Int.{to_z-of_z}
+use Rattle.std.proofs.lemmas.List.{append-nil}
+use Rattle.edf_tal.specs.Canonical.{block_text}
+use Rattle.edf_tal.proofs.Cited.{one-read, read-no-fault}
+use Rattle.edf_tal.proofs.Cited.{read-start, read-annotations, read-any}
+use Rattle.edf_fragment.specs.Fragment.{DataRecord, IsWithinSize}
+use Rattle.edf_fragment.specs.Sound.{IsValidRecord, IsSoundRecord}
+use Rattle.edf_rows.specs.Foreign.{IsBadRow, bad_samples, bad_block}
+use Rattle.edf_rows.specs.Rows.{IsRowOf}
+use Rattle.edf_rows.specs.Inside.Shape.{IsUnread, OwnBlock, NoOwnBlock}
+
+-- a block that is not written for what it gives is written for nothing
+pub other-block : (block : List ℕ) (start : ℕ) (list : List Annotation) → IsRead block 0 Any start list → block ≢ block_text 0 start list → NoOwnBlock block
+other-block block start list read other s l own =
+    let same = one-read block 0 Any start s list l read own.read in
+    other (own.written ∙ sym (ap₂ (block_text 0) same.start same.list))
+
+pub refused-unread : (block : List ℕ) (fault : TalFault) → IsBlockFault block 0 Any fault → IsUnread block
+refused-unread block fault refused s l read = read-no-fault block 0 Any s l fault read refused
+
+pub unread-block : (block : List ℕ) → IsUnread block → NoOwnBlock block
+unread-block block none s l own = none s l own.read
+
+pub refused-block : (block : List ℕ) (fault : TalFault) → IsBlockFault block 0 Any fault → NoOwnBlock block
+refused-block block fault refused = unread-block block (refused-unread block fault refused)
+
+-- a row with an own block, its start and as many samples as the key says is a data record's
+pub row-of : (k : Key) (start : ℕ) (samples block : List ℕ) (list : List Annotation) → OwnBlock block start list → length samples ≡ 2 * samples_in_all k.signals
+    → IsRowOf k (record { start = start; samples = samples; annotations = list }) (Int (pos start) ∷ Blob samples ∷ Blob block ∷ [])
+row-of k start samples block list own len = record {
+  cells = ap (λ (b : List ℕ). Int (pos start) ∷ Blob samples ∷ Blob b ∷ []) own.written;
+  sound = record {
+    samples_len = len;
+    start = read-start block 0 Any start list own.read;
+    limits = own.read.limits;
+    notes = read-annotations block 0 Any start list own.read;
+  };
+}
+
+blob-bytes : (a b : List ℕ) → ◌≡◌ {A = Value} (Blob a) (Blob b) → a ≡ b
+blob-bytes a b h = cc
+
+int-number : (a b : ℤ) → ◌≡◌ {A = Value} (Int a) (Int b) → a ≡ b
+int-number a b h = cc
+
+pub bad-len : (k : Key) (start : Value) (samples : List ℕ) (block : Value) → ¬ (length samples ≡ 2 * samples_in_all k.signals) → IsBadRow k (start ∷ Blob samples ∷ block ∷ [])
+bad-len k start samples block other = bad_samples (λ are. other (ap length (blob-bytes samples are.0 are.1) ∙ are.2))
+
+pub bad-own : (k : Key) (start samples : Value) (block : List ℕ) → NoOwnBlock block → IsBadRow k (start ∷ samples ∷ Blob block ∷ [])
+bad-own k start samples block none = bad_block (λ own.
+    let same : block ≡ own.block = blob-bytes block own.block own.is_block in
+    none own.start own.list (record { read = subst (λ b. IsRead b 0 Any own.start own.list) (sym same) own.read; written = same ∙ own.written }))
+
+pub bad-starts : (k : Key) (start : ℤ) (samples : Value) (block : List ℕ) (read : ℕ) (list : List Annotation) → OwnBlock block read list → ¬ (pos read ≡ start)
+    → IsBadRow k (Int start ∷ samples ∷ Blob block ∷ [])
+bad-starts k start samples block read list is other = bad_block (λ own.
+    let same : own.block ≡ block = sym (blob-bytes block own.block own.is_block) in
+    let one = one-read block 0 Any read own.start list own.list is.read (subst (λ b. IsRead b 0 Any own.start own.list) same own.read) in
+    other (ap pos one.start ∙ sym (int-number start (pos own.start) own.starts)))
+
+pub fault-of : (block : List ℕ) (fault : TalFault) → fault ≢ Memory → IsBlockRefusal block 0 Any fault → IsBlockFault block 0 Any fault
+fault-of block (NotTals offset) other refused = refused
+fault-of block (Text offset) other refused = refused
+fault-of block NotTimed other refused = refused
+fault-of block FirstOnset other refused = refused
+fault-of block Window other refused = refused
+fault-of block Order other refused = refused
+fault-of block TooMany other refused = refused
+fault-of block Memory other refused = absurd (other refl)
+
+pub same-cell : (n : ℕ) (z : ℤ) → n < 2 ^ 63 → FitsSigned w64 z → of_z w64 (pos n) ≡ of_z w64 z → pos n ≡ z
+same-cell n z low fits same = sym (to_z-of_z w64 (pos n) (record { sfits = omega (arith, low) })) ∙ ap (to_z w64) same ∙ to_z-of_z w64 z fits
+
+-- the block of a sound data record gives its start and annotations
+pub own-read : (k : Key) (r : DataRecord) → IsSoundRecord k r → IsRead (block_text 0 r.start r.annotations) 0 Any r.start r.annotations
+own-read k r s = subst (λ (b : List ℕ). IsRead b 0 Any r.start r.annotations) (append-nil (block_text 0 r.start r.annotations)) (read-any 0 r.start 0 r.annotations (omega arith) s.start s.notes s.limits)
+
+row-read : (k : Key) (r : DataRecord) (start : ℤ) (samples block : List ℕ) → IsRowOf k r (Int start ∷ Blob samples ∷ Blob block ∷ []) → IsRead block 0 Any r.start r.annotations
+row-read k r start samples block is =
+    let same : block ≡ block_text 0 r.start r.annotations = blob-bytes block _ (ap (λ (row : Row). column row 2) is.cells) in
+    subst (λ (b : List ℕ). IsRead b 0 Any r.start r.annotations) (sym same) (own-read k r is.sound)
+
+pub row-unread : (k : Key) (r : DataRecord) (start : ℤ) (samples block : List ℕ) → IsRowOf k r (Int start ∷ Blob samples ∷ Blob block ∷ []) → ¬ IsUnread block
+row-unread k r start samples block is none = none r.start r.annotations (row-read k r start samples block is)
+
+-- what is made of the parts that a data record's row gives is that data record
+pub row-made : (k : Key) (r : DataRecord) (start : ℤ) (samples block : List ℕ) (read : ℕ) (list : List Annotation) (made : Option DataRecord)
+    → IsKey k → IsRowOf k r (Int start ∷ Blob samples ∷ Blob block ∷ []) → IsRead block 0 Any read list
+    → (let parts : DataRecord = record { start = read; samples = samples; annotations = list } in
+    MatchOption made (¬ IsWithinSize parts) (λ d. IsValidRecord d × (d ≡ parts)))
+    → made ≡ Some r
+row-made k r start samples block read list made key is gives parts = go made parts
+  where
+    same : record { start = read; samples = samples; annotations = list } ≡ r
+    same =
+        let one = one-read block 0 Any read r.start list r.annotations gives (row-read k r start samples block is) in
+        let bytes : samples ≡ r.samples = blob-bytes samples _ (ap (λ (row : Row). column row 1) is.cells) in
+        λ i. record { start = one.start i; samples = bytes i; annotations = one.list i }
+
+    small : IsWithinSize r
+    small = record { samples = omega (arith, is.sound.samples_len, key.size); annotations = is.sound.limits }
+
+    go : (made : Option DataRecord) → (let parts : DataRecord = record { start = read; samples = samples; annotations = list } in
+        MatchOption made (¬ IsWithinSize parts) (λ d. IsValidRecord d × (d ≡ parts))) → made ≡ Some r
+    go None refused = absurd (refused (subst IsWithinSize (sym same) small))
+    go (Some d) kept = ap Some (kept.1 ∙ same)

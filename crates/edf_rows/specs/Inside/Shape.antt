@@ -1,0 +1,39 @@
+-- Words of the test of one row.
+use Rattle.std.specs.Prelude.{◌≡◌, ◌≢◌, ℕ, ◌≤◌, ℤ, List, [], map, length}
+use Rattle.sqlite_trees.specs.Tree.{Trees}
+use Rattle.sqlite_value.specs.Order.{Row}
+use Rattle.edf_header.specs.Key.{Key, IsKey}
+use Rattle.edf_tal.specs.Tal.{Annotation}
+use Rattle.edf_tal.specs.Block.{IsRead}
+use Rattle.edf_tal.specs.declared.place.Place.TheVariants.{Any}
+use Rattle.edf_tal.specs.Canonical.{block_text}
+use Rattle.edf_fragment.specs.Fragment.{DataRecord}
+use Rattle.edf_fragment.specs.Sound.{AreSound, MayBegin}
+use Rattle.edf_rows.specs.Cells.{record_cells, recording_cells, records_in}
+
+-- the block gives nothing
+abbrev pub IsUnread : List ℕ → Type 0
+IsUnread block = (start : ℕ) (list : List Annotation) → ¬ IsRead block 0 Any start list
+
+-- the block gives this start and list, and is the one that is written for them
+pub record OwnBlock (block : List ℕ) (start : ℕ) (list : List Annotation) : Type 0 where
+  pub read : IsRead block 0 Any start list
+  pub written : block ≡ block_text 0 start list
+
+-- the block is not written for what it gives
+abbrev pub NoOwnBlock : List ℕ → Type 0
+NoOwnBlock block = (start : ℕ) (list : List Annotation) → ¬ OwnBlock block start list
+
+-- the row is a recording's, and its records are sound ones that lie a duration apart and with which it may begin, at least one
+-- and at most the cap
+pub record HasRecords (cap : ℕ) (trees : Trees) (row : Row) : Type 0 where
+  pub id : ℤ
+  pub key : Key
+  pub records : List DataRecord
+  pub cells : row ≡ recording_cells id key
+  pub is_key : IsKey key
+  pub sound : AreSound key 0 records
+  pub begins : MayBegin key records
+  pub shown : records_in trees id ≡ map record_cells records
+  pub some : records_in trees id ≢ []
+  pub few : length records ≤ cap

@@ -1,0 +1,20 @@
+-- A file whose rows are kept is opened.
+use Rattle.std.proofs.Common.{ℕ, sym, subst}
+use Rattle.sqlite_trees.specs.declared.store.Store.{Ghosts}
+use Rattle.sqlite.specs.Effect.{Database}
+use Rattle.sqlite.specs.Held.{Held, state}
+use Rattle.sqlite.specs.State.{HasCleanDisk, Survives}
+use Rattle.edf_tables.specs.Made.{HasTables, IsMadeOf}
+use Rattle.edf_rows.specs.Rows.{AreKept}
+use Rattle.edf_audit.specs.File.{PassesAudit}
+use Rattle.edf_store.specs.Open.{IsOpened}
+
+pub opened : {S : Type 0} (g : Ghosts S) (cap : ℕ) (old new : Held S) → (HasCleanDisk (state g new) → PassesAudit cap (state g old) (state g new)) → Survives (state g old) (state g new) (IsMadeOf (state g old).now) → IsOpened g old (record { connection = new; cap = cap })
+opened g cap old new kept survives = record {
+  is_open = λ clean. (kept clean).is_open;
+  idle = λ clean. (kept clean).idle;
+  tables = λ clean. let it = kept clean in subst (λ (d : Database). HasTables (state g old).now d) (sym it.settled) it.tables;
+  holdings = λ clean. let it = kept clean in (it.holdings.0, subst (λ (d : Database). AreKept cap d.trees it.holdings.0) (sym it.settled) it.holdings.1);
+  own = λ clean. (kept clean).own;
+  crash = survives;
+}

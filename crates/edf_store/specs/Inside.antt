@@ -1,0 +1,2 @@
+-- Words of private contracts, which no public contract cites.
+pub mod Settled

@@ -1,0 +1,24 @@
+-- Words of the functions that only this crate calls.
+use Rattle.std.specs.Prelude.{◌≡◌, ℕ, ℤ, false, [], Option, MatchOption, IsTrue}
+use Rattle.sqlite_trees.specs.declared.store.Store.{Ghosts}
+use Rattle.sqlite.specs.State.{State, HasCleanDisk}
+use Rattle.edf_header.specs.Key.{Key}
+use Rattle.edf_holdings.specs.Holdings.{Holdings}
+use Rattle.edf_tables.specs.Schema.{both_schema}
+use Rattle.edf_rows.specs.Rows.{IsThere, AreKept}
+use Rattle.edf_store.specs.Held.{StoreModel, at}
+
+-- no transaction is open, and the tables are what is held
+pub record IsSettled (cap : ℕ) (s : State) : Type 0 where
+  pub is_open : IsTrue s.is_open
+  pub idle : s.in_transaction ≡ false
+  pub settled : s.now ≡ s.committed
+  pub schema : s.now.schema ≡ both_schema
+  pub holdings : (h : Holdings) × AreKept cap s.now.trees h
+
+abbrev pub IsAtRest : {S : Type 0} → Ghosts S → StoreModel S → Type 0
+IsAtRest g store = HasCleanDisk (at g store) → IsSettled store.cap (at g store)
+
+-- the key's recording is under this id, or it holds nothing
+abbrev pub IsFoundIn : State → Key → Holdings → Option ℤ → Type 0
+IsFoundIn s k h id = MatchOption id (h k ≡ []) (λ id. IsThere s.now.trees id k)

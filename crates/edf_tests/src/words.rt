@@ -1,0 +1,141 @@
+//! Words after the program's name, read as a command or told why not.
+
+use crate::stage;
+use edf_arguments::VERSION;
+use edf_command::{CommandFault, ParsedCommand, parse, store_path};
+use std::alloc::{AllocError, Global};
+
+/// The command of a line's words and its values, or which fault they have, with its text.
+fn answer(alloc: Global, line: &str) -> Result<String, AllocError> {
+    let mut words = Vec::new(alloc);
+    for word in line.split_whitespace() {
+        words.push(String::from_str(alloc, word)?)?;
+    }
+    match parse(alloc, words.as_slice()) {
+        Ok(ParsedCommand::Take { store, files }) => format!(in alloc; "take {store} {files:?}"),
+        Ok(ParsedCommand::List { store }) => format!(in alloc; "list {store}"),
+        Ok(ParsedCommand::Export { store, place }) => format!(in alloc; "export {store} {place}"),
+        Ok(ParsedCommand::Convert { file }) => format!(in alloc; "convert {file}"),
+        Err(CommandFault::Help(text)) => format!(in alloc; "help: {text}"),
+        Err(CommandFault::Usage(text)) => format!(in alloc; "usage: {text}"),
+        Err(CommandFault::Memory) => format!(in alloc; "memory"),
+    }
+}
+
+/// Whether the answer to a line begins so and has this text in it.
+fn shows(alloc: Global, line: &str, begin: &str, text: &str) -> Option<bool> {
+    let got = answer(alloc, line).ok()?;
+    Some(got.as_str().starts_with(begin) && got.as_str().contains(text))
+}
+
+/// Words, and their command.
+const COMMANDS: &[(&str, &str)] = &[
+    ("", "convert -"),
+    ("convert -", "convert -"),
+    ("convert a.edf", "convert a.edf"),
+    ("list night.db", "list night.db"),
+    ("export night.db 007", "export night.db 7"),
+    ("export :memory: 4294967295", "export :memory: 4294967295"),
+    ("take night.db a.edf", "take night.db [\"a.edf\"]"),
+    ("take night.db - a.edf", "take night.db [\"-\", \"a.edf\"]"),
+    (
+        "take list c.edf a.edf b.edf",
+        "take list [\"c.edf\", \"a.edf\", \"b.edf\"]",
+    ),
+];
+
+#[test]
+fn words_that_ask_for_something_are_its_command(rt: HostRuntime) {
+    for (line, want) in COMMANDS.iter().copied() {
+        let got = answer(rt.alloc(), line).ok();
+        assert_eq!(rt; got.as_deref(), Some(want), "at {line}");
+    }
+}
+
+/// Whether a line's command names a store of this path.
+fn has_path(alloc: Global, line: &str, path: Option<&str>) -> Option<bool> {
+    let words = stage::words(alloc, line)?;
+    let command = parse(alloc, words.as_slice()).ok()?;
+    Some(store_path(&command) == path)
+}
+
+/// Words, and the path of the store that their command names.
+const STORES: &[(&str, Option<&str>)] = &[
+    ("take night.db a.edf", Some("night.db")),
+    ("list night.db", Some("night.db")),
+    ("export night.db 1", Some("night.db")),
+    ("take :memory: a.edf", None),
+    ("list :memory:", None),
+    ("export :memory: 1", None),
+    ("convert night.db", None),
+];
+
+#[test]
+fn an_order_has_the_path_of_its_store_but_for_one_in_memory(rt: HostRuntime) {
+    for (line, path) in STORES.iter().copied() {
+        let told = has_path(rt.alloc(), line, path);
+        assert_eq!(rt; told, Some(true), "at {line}");
+    }
+}
+
+/// Words, how what is printed begins, and a text that it has.
+const TOLD: &[(&str, &str, &str)] = &[
+    ("list", "usage: ", "<STORE>"),
+    ("list night.db 1", "usage: ", "'1'"),
+    ("list -x", "usage: ", "'-x'"),
+    ("list --version", "usage: ", "'--version'"),
+    ("--version=1", "usage: ", "--version"),
+    ("take night.db", "usage: ", "<FILE>"),
+    ("frob", "usage: ", "'frob'"),
+    ("frob night.db", "usage: ", "'frob'"),
+    ("export night.db 0", "usage: ", "from 1 to 4294967295"),
+    ("export night.db +7", "usage: ", "from 1 to 4294967295"),
+    ("export night.db 7th", "usage: ", "from 1 to 4294967295"),
+    (
+        "export night.db 4294967296",
+        "usage: ",
+        "edfstore export <STORE> <PLACE>",
+    ),
+    ("--help", "help: ", "\n  take "),
+    ("--help", "help: ", "\n  list "),
+    ("--help", "help: ", "\n  export "),
+    ("--help", "help: ", "\n  convert "),
+    ("-h", "help: ", "\n  edfstore take night.db "),
+    ("--help", "help: ", "-V, --version"),
+    ("take --help", "help: ", "\n  edfstore take night.db "),
+    ("list --help", "help: ", "\n  edfstore list night.db\n"),
+    ("export --help", "help: ", "\n  edfstore export night.db 1 "),
+    (
+        "convert --help",
+        "help: ",
+        "\n  edfstore convert recorder.edf ",
+    ),
+    (
+        "help convert",
+        "help: ",
+        "\n  edfstore convert recorder.edf ",
+    ),
+];
+
+/// What is printed where a line asks for the version.
+fn version(alloc: Global) -> Option<String> {
+    format!(in alloc; "help: edfstore {VERSION}\n").ok()
+}
+
+#[test]
+fn the_version_is_told_in_a_line(rt: HostRuntime) {
+    let want = version(rt.alloc());
+    assert!(rt; want.is_some());
+    for line in ["--version", "-V", "--version list night.db"] {
+        let got = answer(rt.alloc(), line).ok();
+        assert_eq!(rt; got, want, "at {line}");
+    }
+}
+
+#[test]
+fn words_that_ask_for_help_or_for_nothing_are_told_so(rt: HostRuntime) {
+    for (line, begin, text) in TOLD.iter().copied() {
+        let told = shows(rt.alloc(), line, begin, text);
+        assert_eq!(rt; told, Some(true), "at {line}");
+    }
+}
