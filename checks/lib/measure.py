@@ -43,7 +43,7 @@ def compiled(source: Path, folder: Path, *libraries: str) -> Path:
 
 def scratch() -> tempfile.TemporaryDirectory:
     """A folder that goes with the run; TMPDIR says on which disk."""
-    return tempfile.TemporaryDirectory(prefix="edfstore-bench-")
+    return tempfile.TemporaryDirectory(prefix="edfstore-checks-")
 
 
 @dataclass
