@@ -4,7 +4,7 @@ use Rattle.std.specs.Bool.{MatchBool}
 use Rattle.std.specs.Io.KnownBytes.{Appends}
 use Rattle.edf_fragment.specs.Failures.{one_more}
 use Rattle.edf_fragment.specs.declared.streams.Output.{Ghosts}
-use Rattle.edf_export.specs.Export.{WritesFront}
+use Rattle.edf_canonical.specs.Output.{WritesFront}
 use Rattle.edf_command.specs.declared.status.Status.{Status}
 use Rattle.edf_command.specs.declared.status.Status.TheVariants.{Trouble}
 

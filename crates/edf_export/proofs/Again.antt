@@ -10,9 +10,9 @@ use Rattle.edf_holdings.specs.Reply.{after_one}
 use Rattle.edf_holdings.proofs.Same.{same_key-refl}
 use Rattle.edf_holdings.proofs.InSets.{own_list}
 use Rattle.edf_holdings.proofs.Free.{recut_law}
-use Rattle.edf_export.specs.File.{IsCanonicalFile}
+use Rattle.edf_canonical.specs.File.{IsCanonicalFile}
 use Rattle.edf_export.specs.Again.{IsAcceptedAgain, ExportAlike}
-use Rattle.edf_export.proofs.Files.{its-own, one-file}
+use Rattle.edf_canonical.proofs.Files.{its-own, one-file}
 
 has-some : (file : List ℕ) (k : Key) (rs : List DataRecord) → IsCanonicalFile file k rs → rs ≢ []
 has-some file k [] is = absurd is

@@ -17,10 +17,10 @@ use Rattle.edf_holdings.proofs.Recut.{free_of_same}
 use Rattle.edf_holdings.proofs.Settled.{sound_front, sound_back}
 use Rattle.edf_holdings.proofs.Sound.{stays_sound}
 use Rattle.edf_holdings.proofs.ToldSound.{told_is_sound}
-use Rattle.edf_export.specs.File.{IsCanonicalFile}
+use Rattle.edf_canonical.specs.File.{IsCanonicalFile}
 use Rattle.edf_export.specs.Headline.{IsOnlyFile, EndAlike, Headline, TellOneList}
-use Rattle.edf_export.proofs.Files.{one-file}
-use Rattle.edf_export.proofs.SomeFile.{some-file}
+use Rattle.edf_canonical.proofs.Files.{one-file}
+use Rattle.edf_canonical.proofs.SomeFile.{some-file}
 
 some-long : (rs : List DataRecord) → rs ≢ [] → 1 ≤ length rs
 some-long [] some = absurd (some refl)

@@ -1,10 +1,4 @@
-pub mod Records
-pub mod CanonicalRecords
-pub mod Files
 pub mod Longest
-pub mod Puts
-pub mod Written
-pub mod SomeFile
 pub mod Exports
 pub mod Walks
 pub mod Texts

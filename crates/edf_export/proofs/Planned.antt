@@ -10,14 +10,15 @@ use Rattle.edf_header.specs.Signal.{samples_in_all}
 use Rattle.edf_header.specs.Canonical.{IsCanonicalHeader}
 use Rattle.edf_fragment.specs.Fragment.{DataRecord}
 use Rattle.edf_fragment.specs.Sound.{AreSound}
-use Rattle.edf_export.specs.File.{second_of, record_text, IsCanonicalFile}
-use Rattle.edf_export.specs.Export.{IsExported, WritesFront, StaysInFile, IsNotExported}
+use Rattle.edf_canonical.specs.File.{second_of, record_text, IsCanonicalFile}
+use Rattle.edf_export.specs.Export.{IsExported, StaysInFile, IsNotExported}
+use Rattle.edf_canonical.specs.Output.{WritesFront}
 use Rattle.edf_export.specs.Inside.Walks.{IsPlanOf, IsWritingFault}
 use Rattle.edf_export.specs.declared.plan.Plan.{Plan}
 use Rattle.edf_export.specs.declared.fault.ExportFault.{ExportFault}
 use Rattle.edf_export.specs.declared.fault.ExportFault.TheVariants.{NoRecording, Store, Memory, Write}
-use Rattle.edf_export.proofs.Files.{canonical, one-file}
-use Rattle.edf_export.proofs.Written.{laid-out, file-length}
+use Rattle.edf_canonical.proofs.Files.{canonical, one-file}
+use Rattle.edf_canonical.proofs.Written.{laid-out, file-length}
 
 -- the file of a plan, its header given
 abbrev pub planned_text : List ℕ → Plan → List DataRecord → List ℕ

@@ -1,20 +1,18 @@
 -- The texts of the records that a walk gives, put out one after another.
-use Rattle.std.proofs.Common.{◌≡◌, ℕ, ◌+◌, ◌*◌, ◌≤◌, ◌<◌, List, [], ◌++◌, length, take, drop, get_or, refl, sym, ap, ◌∙◌, subst, arith, append-nil, take-append-drop, Some, Err}
+use Rattle.std.proofs.Common.{◌≡◌, ℕ, ◌+◌, ◌*◌, ◌≤◌, ◌<◌, List, ◌++◌, length, take, drop, get_or, sym, ap, ◌∙◌, subst, arith, take-append-drop, Some, Err}
 use Rattle.std.specs.List.{flat_map, slice_get}
-use Rattle.std.specs.Io.KnownBytes.{Appends}
 use Rattle.std.proofs.lemmas.Grind.{flat_map-append}
 use Rattle.std.proofs.lemmas.Option.{slice_get_within, get_or_from_slice_get}
 use Rattle.std.proofs.lemmas.List.Elements.{All-get_or}
 use Rattle.edf_fragment.specs.Fragment.{DataRecord}
-use Rattle.edf_export.specs.File.{block_of, record_text, BlocksFit}
-use Rattle.edf_export.specs.Export.{WritesFront}
-use Rattle.edf_export.specs.Inside.Output.{Buffered, Writes, CountsOutputFault, IsPutThrough}
+use Rattle.edf_canonical.specs.File.{block_of, record_text, BlocksFit}
+use Rattle.edf_canonical.specs.Output.{Buffered, Writes, CountsOutputFault, IsPutThrough}
 use Rattle.edf_export.specs.Inside.Walks.{export_fault_of, IsWritingFault, CountsWritingFault, IsPutOut}
-use Rattle.edf_export.specs.declared.fault.OutputFault.{OutputFault}
-use Rattle.edf_export.specs.declared.fault.OutputFault.TheVariants.{Write, Memory}
+use Rattle.edf_canonical.specs.declared.fault.OutputFault.{OutputFault}
+use Rattle.edf_canonical.specs.declared.fault.OutputFault.TheVariants.{Write, Memory}
 use Rattle.edf_export.specs.declared.fault.ExportFault.{ExportFault}
-use Rattle.edf_export.proofs.Records.{one-more-text}
-use Rattle.edf_export.proofs.Puts.{writes-then, writes-no-more, writes-same, front-written, all-written}
+use Rattle.edf_canonical.proofs.Records.{one-more-text}
+use Rattle.edf_canonical.proofs.Puts.{writes-then, writes-no-more, writes-same}
 
 pub told_writing : (fault : OutputFault) → IsWritingFault (export_fault_of fault)
 told_writing Write = tt
@@ -78,24 +76,3 @@ texts_end base samples i rs a b w =
     let all : flat_map f (take i rs) ++ flat_map f (drop i rs) ≡ flat_map f rs =
     sym (flat_map-append f (take i rs) (drop i rs)) ∙ ap (λ (l : List DataRecord). flat_map f l) (take-append-drop i rs) in
     (b.held ++ flat_map f (drop i rs), writes-same a b _ _ _ all (writes-no-more a b _ (flat_map f (drop i rs)) b.held w))
-
--- ---- from an empty buffer: a header, and then a body
-
-module _ (a b : Buffered) (header body : List ℕ) (none : a.held ≡ []) where
-  pub header_stops : (left : List ℕ) → Writes a b header left → WritesFront a.contents b.contents (header ++ body)
-  header_stops left w = front-written a b header (header ++ body) body left none refl w
-
-  module _ (c : Buffered) (head : Writes a b header b.held) where
-    pub body_stops : (left : List ℕ) → Writes b c body left → WritesFront a.contents c.contents (header ++ body)
-    body_stops left w = front-written a c (header ++ body) (header ++ body) [] left none (sym (append-nil (header ++ body))) (writes-then a b c header body left head w)
-
-    module _ (d : Buffered) (put : Writes b c body c.held) where
-      whole : Writes a c (header ++ body) c.held
-      whole = writes-then a b c header body c.held head put
-
-      pub flush_stops : (left : List ℕ) → Writes c d [] left → WritesFront a.contents d.contents (header ++ body)
-      flush_stops left w =
-          front-written a d ((header ++ body) ++ []) (header ++ body) [] left none (sym (append-nil (header ++ body)) ∙ sym (append-nil ((header ++ body) ++ []))) (writes-then a c d (header ++ body) [] left whole w)
-
-      pub all_sent : Writes c d [] [] → Appends a.contents d.contents (header ++ body)
-      all_sent w = all-written a d (header ++ body) none (subst (λ (l : List ℕ). Writes a d l []) (append-nil (header ++ body)) (writes-then a c d (header ++ body) [] [] whole w))

@@ -18,7 +18,7 @@ use Rattle.edf_holdings.proofs.Joining.{IsGood-from_sound}
 use Rattle.edf_holdings.proofs.Sound.{Each-from_All}
 use Rattle.edf_holdings.proofs.InSets.{are-sound-from}
 use Rattle.edf_store.specs.Walk.{IsWalkAfter}
-use Rattle.edf_export.specs.File.{block_of, BlocksFit}
+use Rattle.edf_canonical.specs.File.{block_of, BlocksFit}
 use Rattle.edf_export.specs.Export.{IsIdleAfter}
 use Rattle.edf_export.specs.Inside.Walks.{IsLongest, IsSoundRecording}
 use Rattle.edf_export.specs.declared.fault.ExportFault.{ExportFault}

@@ -6,7 +6,7 @@ use Rattle.edf_holdings.specs.Holdings.{Holdings, IsSound, nothing_held}
 use Rattle.edf_holdings.specs.Reply.{after_one, after, Accepted, reply}
 use Rattle.edf_holdings.specs.Free.{IsFree, SameRecords}
 use Rattle.edf_holdings.specs.Laws.{AreSoundTold}
-use Rattle.edf_export.specs.File.{IsCanonicalFile}
+use Rattle.edf_canonical.specs.File.{IsCanonicalFile}
 
 -- the file of a key's records tells just them; the holdings answer it as accepted with nothing new, and where nothing is held
 -- it is accepted with every record new, and is the file of what is then held

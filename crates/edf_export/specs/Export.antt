@@ -1,12 +1,13 @@
 -- What an export does: the canonical file of what is held under a key goes out, or a front of it.
-use Rattle.std.specs.Prelude.{◌≡◌, ℕ, false, List, [], ◌∷◌, ◌++◌, length, Option, Result, MatchResult}
+use Rattle.std.specs.Prelude.{◌≡◌, ℕ, false, List, [], ◌∷◌, length, Option, Result, MatchResult}
 use Rattle.std.specs.Io.KnownBytes.{Appends, Keeps}
 use Rattle.sqlite.specs.State.{State}
 use Rattle.edf_header.specs.Key.{Key}
 use Rattle.edf_fragment.specs.Failures.{one_more}
 use Rattle.edf_fragment.specs.Fragment.{DataRecord}
 use Rattle.edf_store.specs.Fault.{number, IsStoreRefusal}
-use Rattle.edf_export.specs.File.{IsCanonicalFile}
+use Rattle.edf_canonical.specs.File.{IsCanonicalFile}
+use Rattle.edf_canonical.specs.Output.{WritesFront}
 use Rattle.edf_export.specs.declared.fault.ExportFault.{ExportFault}
 use Rattle.edf_export.specs.declared.fault.ExportFault.TheVariants.{NoRecording, Store, Memory, Write}
 
@@ -17,13 +18,6 @@ pub record IsExported (before after : Option (List ℕ)) (k : Key) (records : Li
   pub only : (other : List ℕ) → IsCanonicalFile other k records → other ≡ file
   pub wrote : Appends before after file
   pub len_is : len ≡ length file
-
--- a front of some bytes was written
-pub record WritesFront (before after : Option (List ℕ)) (bytes : List ℕ) : Type 0 where
-  pub front : List ℕ
-  pub left : List ℕ
-  pub parts : bytes ≡ front ++ left
-  pub wrote : Appends before after front
 
 -- the records have a canonical file, of which a front went out
 pub record StopsInFile (before after : Option (List ℕ)) (k : Key) (records : List DataRecord) : Type 0 where

@@ -10,7 +10,7 @@ use Rattle.edf_holdings.specs.Reply.{after_one, after, reply, replies, IsAccepte
 use Rattle.edf_holdings.specs.Free.{IsFragment, IsFree, SameRecords}
 use Rattle.edf_holdings.specs.Laws.{AreSoundTold}
 use Rattle.edf_holdings.specs.Meaning.{FromAccepted}
-use Rattle.edf_export.specs.File.{IsCanonicalFile}
+use Rattle.edf_canonical.specs.File.{IsCanonicalFile}
 
 -- these bytes are the canonical file of the key's records, and no other bytes are
 pub record IsOnlyFile (file : List ℕ) (k : Key) (records : List DataRecord) : Type 0 where

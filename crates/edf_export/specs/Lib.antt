@@ -1,4 +1,3 @@
-pub mod File
 pub mod Export
 pub mod Again
 pub mod Headline

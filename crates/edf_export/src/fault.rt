@@ -1,5 +1,6 @@
 //! Why a call of this crate is refused.
 
+use edf_canonical::OutputFault;
 use edf_store::StoreFault;
 use thiserror::Error;
 
@@ -60,15 +61,4 @@ impl From<OutputFault> for ExportFault {
             OutputFault::Memory => ExportFault::Memory,
         }
     }
-}
-
-/// Why bytes could not be put out.
-#[derive(Clone, Copy, Debug, PartialEq, Eq, Drop, Error)]
-pub(crate) enum OutputFault {
-    /// A write failed, or took none of some bytes.
-    #[error("a write failed")]
-    Write,
-    /// Memory ran out.
-    #[error("out of memory")]
-    Memory,
 }

@@ -1,38 +1,15 @@
-//! Laws of canonical files: each function has a law for a contract, and does nothing.
+//! Laws of exports: each function has a law for a contract, and does nothing.
 
-ghost use Rattle.std.specs.Prelude.{◌≡◌, ℕ, ◌≤◌, List, length, Option};
-ghost use Rattle.edf_header.specs.Key.{Key, IsKey};
+ghost use Rattle.std.specs.Prelude.{ℕ, List, Option};
+ghost use Rattle.edf_header.specs.Key.{Key};
 ghost use Rattle.edf_fragment.specs.Fragment.{DataRecord, Spells};
-ghost use Rattle.edf_fragment.specs.Sound.{AreSound, MayBegin};
 ghost use Rattle.edf_fragment.specs.Told.{Told};
 ghost use Rattle.edf_holdings.specs.Holdings.{Holdings, IsSound};
 ghost use Rattle.edf_holdings.specs.Laws.{AreSoundTold};
-ghost use Rattle.edf_export.specs.File.{IsCanonicalFile};
+ghost use Rattle.edf_canonical.specs.File.{IsCanonicalFile};
 ghost use Rattle.edf_export.specs.Export.{IsExported};
 ghost use Rattle.edf_export.specs.Again.{IsAcceptedAgain, ExportAlike};
 ghost use Rattle.edf_export.specs.Headline.{Headline, TellOneList};
-
-/// Records have one canonical file at most.
-pub fn one_canonical_file()
-    ensures { (file other : List ℕ) (key : Key) (records : List DataRecord) →
-        IsCanonicalFile file key records → IsCanonicalFile other key records → file ≡ other }
-{}
-
-/// Sound records of a key with which its recording may begin have a canonical file, where they are
-/// 1 to 99,999,999; and so have those of each fragment.
-pub fn some_canonical_file()
-    ensures sound { (key : Key) (records : List DataRecord) →
-        IsKey key → AreSound key 0 records → MayBegin key records → 1 ≤ length records →
-        length records ≤ 99_999_999 → (file : List ℕ) × IsCanonicalFile file key records }
-    ensures spelled { (bytes : List ℕ) (key : Key) (records : List DataRecord) →
-        Spells bytes key records → (file : List ℕ) × IsCanonicalFile file key records }
-{}
-
-/// A canonical file is a fragment of just its key and records; so it is its own canonical file.
-pub fn a_canonical_file_is_read_again()
-    ensures { (file : List ℕ) (key : Key) (records : List DataRecord) →
-        IsCanonicalFile file key records → Spells file key records }
-{}
 
 /// An export is a fragment of just the key and the data records that were exported.
 pub fn an_export_is_a_fragment()

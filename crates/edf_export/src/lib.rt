@@ -2,14 +2,12 @@
 //!
 //! - [`export`]: the file of what is held under an identity.
 //! - [`ExportFault`]: why a recording is not exported.
-//! - [`laws`]: the headline; sound records have one canonical file, which is read again. Functions
-//!   that do nothing, each with a law for a contract.
+//! - [`laws`]: the headline; an export is a fragment, and is accepted again. Functions that do
+//!   nothing, each with a law for a contract.
 #![tactic(auto)]
 
-mod data_record;
 mod fault;
 pub mod laws;
-mod output;
 mod plan;
 mod recording;
 mod writing;

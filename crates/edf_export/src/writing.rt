@@ -8,15 +8,14 @@ ghost use Rattle.edf_header.specs.Key.{Key, MayStart};
 ghost use Rattle.edf_holdings.specs.Holdings.{Holdings};
 ghost use Rattle.edf_store.specs.Held.{at, Holds, Stays};
 ghost use Rattle.edf_store.specs.Walk.{HasGivenFirst, IsSomeWalk};
-ghost use Rattle.edf_export.specs.File.{second_of, block_of, record_text};
+ghost use Rattle.edf_canonical.specs.File.{second_of, block_of, record_text};
 ghost use Rattle.edf_export.specs.Export.{IsExported, IsNotExported, LeavesIdle};
-ghost use Rattle.edf_export.specs.Inside.Output.{buffered};
+ghost use Rattle.edf_canonical.specs.Output.{buffered};
 ghost use Rattle.edf_export.specs.Inside.Walks.{IsPlanOf, IsPutOut, IsSentOut, CountsWriting};
 
-use crate::data_record::put_record;
 use crate::fault::ExportFault;
-use crate::output::{Buffer, flush, put};
 use crate::plan::Plan;
+use edf_canonical::{Buffer, flush, put, put_record};
 use edf_fragment::{Output, Record};
 use edf_header::{Identity, write_header};
 use edf_store::{Records, Store, StoreFault};

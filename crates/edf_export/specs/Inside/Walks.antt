@@ -7,12 +7,11 @@ use Rattle.edf_fragment.specs.Fragment.{DataRecord}
 use Rattle.edf_fragment.specs.Sound.{AreSound, MayBegin}
 use Rattle.edf_store.specs.Fault.{IsStoreRefusal}
 use Rattle.edf_store.specs.Listed.{start_at}
-use Rattle.edf_export.specs.File.{second_of, block_of, BlocksFit}
-use Rattle.edf_export.specs.Export.{WritesFront}
-use Rattle.edf_export.specs.Inside.Output.{Buffered, Writes}
+use Rattle.edf_canonical.specs.File.{second_of, block_of, BlocksFit}
+use Rattle.edf_canonical.specs.Output.{WritesFront, Buffered, Writes}
 use Rattle.edf_export.specs.declared.plan.Plan.{Plan}
-use Rattle.edf_export.specs.declared.fault.OutputFault.{OutputFault}
-use Rattle.edf_export.specs.declared.fault.OutputFault.TheVariants.{Write as Failed, Memory as NoRoom}
+use Rattle.edf_canonical.specs.declared.fault.OutputFault.{OutputFault}
+use Rattle.edf_canonical.specs.declared.fault.OutputFault.TheVariants.{Write as Failed, Memory as NoRoom}
 use Rattle.edf_export.specs.declared.fault.ExportFault.{ExportFault}
 use Rattle.edf_export.specs.declared.fault.ExportFault.TheVariants.{NoRecording, Store, Memory, Write}
 

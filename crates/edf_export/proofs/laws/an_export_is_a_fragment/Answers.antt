@@ -1,4 +1,4 @@
-use Rattle.edf_export.proofs.Files.{its-own}
+use Rattle.edf_canonical.proofs.Files.{its-own}
 use Rattle.edf_export.proofs.laws.an_export_is_a_fragment.Goals as goal
 
 pub returns : goal.returns

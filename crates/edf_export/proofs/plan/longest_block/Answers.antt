@@ -4,7 +4,7 @@ use Rattle.std.proofs.lemmas.Result.{err_from_is_err_and}
 use Rattle.edf_tal.specs.Tal.{Annotation}
 use Rattle.edf_tal.specs.Canonical.{block_text}
 use Rattle.edf_store.proofs.Readiness.{stays_then}
-use Rattle.edf_export.specs.File.{block_of}
+use Rattle.edf_canonical.specs.File.{block_of}
 use Rattle.edf_export.specs.Inside.Walks.{IsLongest}
 use Rattle.edf_export.proofs.Walks.{stays_same, clean_before, refusal_told, longest_none, longest_more}
 use Rattle.edf_export.proofs.plan.longest_block.Goals as goal

@@ -1,7 +1,7 @@
 use Rattle.std.proofs.Common.{◌≡◌, ◌<◌, None, length, refl, sym, subst, arith, rules}
 use Rattle.std.proofs.lemmas.Result.{err_from_is_err_and}
 use Rattle.edf_store.proofs.Readiness.{stays_then}
-use Rattle.edf_export.specs.File.{second_of}
+use Rattle.edf_canonical.specs.File.{second_of}
 use Rattle.edf_export.specs.Inside.Walks.{IsLongest}
 use Rattle.edf_export.proofs.Walks.{clean_before, samples_hold, samples_least, some_first, may_start}
 use Rattle.edf_export.proofs.plan.plan_file.Goals.{then-summary-eq0-via-then-summary-eq0, then-summary-eq0-via-else-summary-eq0+then-summary-cap}

@@ -3,7 +3,7 @@ use Rattle.std.proofs.lemmas.Result.{err_from_is_err_and}
 use Rattle.std.proofs.KnownBytes.{Appends-nil}
 use Rattle.edf_store.specs.Held.{at}
 use Rattle.edf_store.proofs.Readiness.{stays_then}
-use Rattle.edf_export.specs.File.{second_of}
+use Rattle.edf_canonical.specs.File.{second_of}
 use Rattle.edf_export.proofs.Walks.{stays_same, clean_before, refusal_told, idle_behind}
 use Rattle.edf_export.proofs.Texts.{fits_here, texts_more, texts_stop, texts_end}
 use Rattle.edf_export.proofs.writing.put_walk.Goals as goal

@@ -5,8 +5,8 @@ use Rattle.edf_header.specs.Key.{Key}
 use Rattle.edf_holdings.specs.Holdings.{Holdings}
 use Rattle.edf_store.specs.Held.{at, Stays}
 use Rattle.edf_store.specs.Walk.{HasGivenFirst, IsSomeWalk}
-use Rattle.edf_export.specs.File.{second_of, record_text}
-use Rattle.edf_export.specs.Inside.Output.{buffered, Writes}
+use Rattle.edf_canonical.specs.File.{second_of, record_text}
+use Rattle.edf_canonical.specs.Output.{buffered, Writes}
 use Rattle.edf_export.specs.Inside.Walks.{IsPlanOf}
 use Rattle.edf_export.proofs.writing.put_walk.Given as goal
 

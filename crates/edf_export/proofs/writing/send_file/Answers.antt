@@ -2,8 +2,9 @@ use Rattle.std.proofs.Common.{ℕ, ◌*◌, List}
 use Rattle.std.specs.List.{flat_map}
 use Rattle.std.proofs.lemmas.Result.{err_from_is_err_and}
 use Rattle.edf_store.specs.Held.{at}
-use Rattle.edf_export.specs.File.{second_of, record_text}
-use Rattle.edf_export.proofs.Texts.{told_writing, header_stops, body_stops, flush_stops, all_sent}
+use Rattle.edf_canonical.specs.File.{second_of, record_text}
+use Rattle.edf_canonical.proofs.Sent.{header_stops, body_stops, flush_stops, all_sent}
+use Rattle.edf_export.proofs.Texts.{told_writing}
 use Rattle.edf_export.proofs.Walks.{idle_behind}
 use Rattle.edf_export.proofs.writing.send_file.Goals as goal
 

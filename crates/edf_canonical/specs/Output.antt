@@ -1,0 +1,52 @@
+-- What putting bytes out through a buffer does: at each answer, the writer's bytes grew by a front of what was to be put.
+use Rattle.std.specs.Prelude.{◌≡◌, ℕ, List, [], ◌++◌, Option, Result, MatchResult}
+use Rattle.std.specs.Io.KnownBytes.{Appends}
+use Rattle.edf_fragment.specs.Failures.{one_more}
+use Rattle.edf_fragment.specs.declared.streams.Output.{Ghosts}
+use Rattle.edf_canonical.specs.declared.fault.OutputFault.{OutputFault}
+use Rattle.edf_canonical.specs.declared.fault.OutputFault.TheVariants.{Write, Memory}
+
+-- how many bytes are held back at most
+abbrev pub most_held : ℕ
+most_held = 65_536
+
+-- a writer and the buffer before it: what it holds, how many of its writes failed, what is held back
+pub record Buffered : Type 0 where
+  pub contents : Option (List ℕ)
+  pub failures : ℕ
+  pub held : List ℕ
+
+abbrev pub buffered : {W : Type 0} → Ghosts W → W → List ℕ → Buffered
+buffered g out held = record { contents = g.contents out; failures = g.failures out; held = held }
+
+-- of what was held back and the bytes after it, a front was written, and the rest is left
+pub record Writes (before after : Buffered) (bytes left : List ℕ) : Type 0 where
+  pub front : List ℕ
+  pub wrote : Appends before.contents after.contents front
+  pub parts : before.held ++ bytes ≡ front ++ left
+
+-- a write failed where one is told, and none failed before another end
+abbrev pub CountsOutputFault : ℕ → ℕ → OutputFault → Type 0
+CountsOutputFault old new Write = new ≡ one_more old
+CountsOutputFault old new Memory = new ≡ old
+
+-- the bytes were put: written, or held back; or a front was written before the fault
+abbrev pub IsPutThrough : Buffered → Buffered → List ℕ → Result Unit OutputFault → Type 0
+IsPutThrough before after bytes result =
+    MatchResult result
+    (λ _. Writes before after bytes after.held × (after.failures ≡ before.failures))
+    (λ fault. ((left : List ℕ) × Writes before after bytes left) × CountsOutputFault before.failures after.failures fault)
+
+-- all that was held back is written; or a front of it
+abbrev pub IsFlushed : Buffered → Buffered → Result Unit OutputFault → Type 0
+IsFlushed before after result =
+    MatchResult result
+    (λ _. Writes before after [] [] × (after.held ≡ []) × (after.failures ≡ before.failures))
+    (λ fault. ((left : List ℕ) × Writes before after [] left) × (fault ≡ Write) × (after.failures ≡ one_more before.failures))
+
+-- a front of some bytes was written
+pub record WritesFront (before after : Option (List ℕ)) (bytes : List ℕ) : Type 0 where
+  pub front : List ℕ
+  pub left : List ℕ
+  pub parts : bytes ≡ front ++ left
+  pub wrote : Appends before after front

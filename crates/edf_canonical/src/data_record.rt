@@ -1,0 +1,51 @@
+//! A data record as it is in a canonical file.
+
+ghost use Rattle.std.specs.Prelude.{◌≤◌, length};
+ghost use Rattle.edf_canonical.specs.File.{block_of, filled_block, record_text};
+ghost use Rattle.edf_canonical.specs.Output.{buffered, IsPutThrough};
+
+use crate::fault::OutputFault;
+use crate::output::{Buffer, put, put_zeros};
+use edf_fragment::{Output, Record};
+use edf_tal::write_block;
+use edf_time::Instant;
+use std::alloc::Global;
+
+/// Puts the block of a data record, and then zeros up to `size` bytes.
+fn put_block<W: Output>(
+    alloc: Global,
+    out: &mut W,
+    held: &mut Buffer,
+    data_record: &Record,
+    file_start: Instant,
+    size: usize,
+) -> Result<(), OutputFault>
+    requires { length (block_of file_start data_record.now) ≤ size }
+    ensures { IsPutThrough (buffered W.Output out.old held.old.bytes.items)
+        (buffered W.Output out.new held.new.bytes.items)
+        (filled_block file_start size data_record.now) result }
+{
+    let Ok(block) = write_block(alloc, data_record.start(), data_record.notes(), file_start) else {
+        return Err(OutputFault::Memory);
+    };
+    put(out, held, block.as_slice())?;
+    put_zeros(out, held, size - block.len())
+}
+
+/// Puts a data record: its samples, its block and the fill.
+pub fn put_record<W: Output>(
+    alloc: Global,
+    out: &mut W,
+    held: &mut Buffer,
+    data_record: &Record,
+    file_start: Instant,
+    size: usize,
+) -> Result<(), OutputFault>
+    requires { length (block_of file_start data_record.now) ≤ size }
+    ensures { IsPutThrough (buffered W.Output out.old held.old.bytes.items)
+        (buffered W.Output out.new held.new.bytes.items)
+        (record_text file_start size data_record.now) result }
+{
+    put(out, held, data_record.samples())?;
+    put_block(alloc, out, held, data_record, file_start, size)
+}

@@ -1,5 +1,0 @@
-use Rattle.edf_export.proofs.Files.{its-own}
-use Rattle.edf_export.proofs.laws.a_canonical_file_is_read_again.Goals as goal
-
-pub returns : goal.returns
-returns c = its-own
