@@ -1,62 +1,16 @@
-//! Why a store was refused, or a file could not be read, in plain words for a person.
+//! Why a store was refused, in plain words for a person.
 
 use crate::disk::Refused;
-use crate::terminal::Terminal;
 use edf_store::StoreFault;
+use edf_system::{FULL, Terminal, tell_system_error};
 use sqlite::{Error, ErrorCode};
 use sqlite_std_file::{OpenError, Unknown};
-use std::io::{self, ErrorKind};
 
 const BUSY: &str = "another program has it open; run this again when that has ended";
-
-const FULL: &str = "the disk is full";
 
 const OTHER_TABLES: &str = "a database with other tables than a store's; it was left as it is";
 
 const OTHER_ROWS: &str = "its rows are such as no submissions leave; put it aside, as it is";
-
-/// Plain words for a system error; `None` means print the error itself.
-fn system_words(error: &io::Error) -> Option<&'static str> {
-    match error.kind() {
-        ErrorKind::NotFound => Some("no such file or directory"),
-        ErrorKind::NotADirectory => Some("a directory of its path is a file"),
-        ErrorKind::PermissionDenied => Some(
-            "no permission to read and write it, or files beside it",
-        ),
-        ErrorKind::ReadOnlyFilesystem => Some(
-            "no permission to write: the file system is read-only",
-        ),
-        ErrorKind::StorageFull | ErrorKind::QuotaExceeded => Some(FULL),
-        ErrorKind::Unsupported | ErrorKind::IsADirectory => Some(
-            "not a plain file, but a directory, a device or a linked file",
-        ),
-        _ => None,
-    }
-}
-
-fn tell_system_error(terminal: &Terminal<'_>, path: &str, error: io::Error) {
-    match system_words(&error) {
-        Some(words) => terminal.say(path, words),
-        None => terminal.say(path, error),
-    }
-}
-
-/// Plain words for a system error of a file that is only read; `None` means print the error itself.
-fn reading_words(error: &io::Error) -> Option<&'static str> {
-    match error.kind() {
-        ErrorKind::PermissionDenied => Some("no permission to read it"),
-        ErrorKind::IsADirectory => Some("a directory"),
-        _ => system_words(error),
-    }
-}
-
-/// Prints why a file of this name, or standard input, could not be read.
-pub(crate) fn tell_unread(terminal: &Terminal<'_>, name: &str, error: &io::Error) {
-    match reading_words(error) {
-        Some(words) => terminal.say(name, words),
-        None => terminal.say(name, error),
-    }
-}
 
 /// Prints why the store could not be opened. SQLite's port gives no cause, so the path is opened
 /// again to get one.
@@ -69,7 +23,7 @@ fn tell_unopened(rt: &HostRuntime, terminal: &Terminal<'_>, path: &str) {
             path,
             "it could not be opened, but now it can: run this again",
         ),
-        Err(OpenError::Io(error)) => tell_system_error(terminal, path, error),
+        Err(OpenError::Io(error)) => tell_system_error(terminal, path, &error),
         Err(OpenError::Busy) => terminal.say(path, BUSY),
         Err(error) => terminal.say(path, error),
     }

@@ -1,4 +1,5 @@
-//! The program over the system: its words, files, stores, standard streams and status.
+//! The program `edfstore` over the system: its stores, beside the words, files and streams of
+//! `edf_system`.
 //!
 //! - [`run_program`]: what the program does. What is read, written and answered is `edf_command`'s;
 //!   here the system is handed to it.
@@ -7,46 +8,15 @@
 
 mod cause;
 mod disk;
-mod files;
-mod terminal;
 
 use cause::{tell_error, tell_refused};
 use disk::{close_file, is_missing, open_file, open_memory};
 use edf_command::{ParsedCommand, Status, read_command, refuse_store, run, store_path};
 use edf_fragment::Counted;
 use edf_store::Store;
-use files::Files;
+use edf_system::{Files, Streams, Terminal, refuse_words, words};
 use sqlite::Alter;
-use std::io::{ErrorKind, Stderr, Stdout};
 use std::process::ExitCode;
-use std::{env, io};
-use terminal::{Clearing, Terminal};
-
-/// The words after the program's name.
-fn words(rt: &HostRuntime) -> io::Result<Vec<String>> {
-    let words: Vec<String> = env::args(rt)?.skip(1).collect(rt.alloc())?;
-    Ok(words)
-}
-
-/// Standard output and standard error.
-#[derive(Drop)]
-struct Streams<'t> {
-    out: Counted<Clearing<'t, Stdout>>,
-    err: Counted<Clearing<'t, Stderr>>,
-}
-
-/// Prints why the words can't be had: one is not UTF-8, or memory ran out.
-fn refuse_words(rt: &HostRuntime, error: &io::Error) -> Status {
-    let (line, status) = if error.kind() == ErrorKind::InvalidData {
-        ("error: a word is not UTF-8", Status::Usage)
-    } else {
-        ("command refused E41 Memory", Status::Trouble)
-    };
-    match eprintln!(rt; "{line}") {
-        Ok(()) => status,
-        Err(_) => Status::Trouble,
-    }
-}
 
 /// The command that words ask for, or the status where there is none.
 fn command_of(rt: &HostRuntime, words: &[String]) -> Result<ParsedCommand, Status> {
@@ -58,8 +28,8 @@ fn command_of(rt: &HostRuntime, words: &[String]) -> Result<ParsedCommand, Statu
 /// The terminal of a command, which shows a person how far `take` is.
 fn terminal_of<'rt>(rt: &'rt HostRuntime, command: &ParsedCommand) -> Terminal<'rt> {
     match command {
-        ParsedCommand::Take { store: _, files } => Terminal::new(rt, files.len()),
-        _ => Terminal::new(rt, 0),
+        ParsedCommand::Take { store: _, files } => Terminal::new(rt, "file", files.len()),
+        _ => Terminal::new(rt, "file", 0),
     }
 }
 
@@ -133,10 +103,7 @@ fn run_in_memory(
 /// What the command asks for, done over the system's files and streams.
 fn run_command(rt: &HostRuntime, command: &ParsedCommand) -> Status {
     let terminal = terminal_of(rt, command);
-    let mut streams = Streams {
-        out: Counted::new(Clearing::new(&terminal, rt.stdout())),
-        err: Counted::new(Clearing::new(&terminal, rt.stderr())),
-    };
+    let mut streams = Streams::new(rt, &terminal);
     let mut inputs = Files::new(rt, &terminal);
     let status = match store_path(command) {
         Some(path) => run_on_file(rt, &terminal, path, command, &mut inputs, &mut streams),

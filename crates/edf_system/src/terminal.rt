@@ -14,24 +14,28 @@ const WIPED: &str = "\r                                                         
 
 /// Standard error as a person sees it. Nothing is printed where it is no terminal.
 #[derive(Drop)]
-pub(crate) struct Terminal<'rt> {
+pub struct Terminal<'rt> {
     rt: &'rt HostRuntime,
     is_there: bool,
-    /// How many files there are to take; 0 where no progress is shown.
-    files: usize,
+    /// What the line of progress counts, as `file`, and how many of them there are; 0 where no
+    /// progress is shown.
+    unit: &'static str,
+    units: usize,
     begun: Cell<usize>,
     bytes: Cell<u64>,
     is_progress_shown: Cell<bool>,
 }
 
 impl<'rt> Terminal<'rt> {
-    /// A terminal that shows the progress of taking `files` files, if there are any.
-    pub(crate) fn new(rt: &'rt HostRuntime, files: usize) -> Terminal<'rt> {
+    /// A terminal that shows the progress of reading `units` files or whatever else `unit` names, if
+    /// there are any.
+    pub fn new(rt: &'rt HostRuntime, unit: &'static str, units: usize) -> Terminal<'rt> {
         let is_there = rt.stderr().is_terminal();
         Terminal {
             rt,
             is_there,
-            files: if is_there { files } else { 0 },
+            unit,
+            units: if is_there { units } else { 0 },
             begun: Cell::new(0),
             bytes: Cell::new(0),
             is_progress_shown: Cell::new(false),
@@ -39,13 +43,13 @@ impl<'rt> Terminal<'rt> {
     }
 
     /// Whether a person reads what is printed.
-    pub(crate) fn is_there(&self) -> bool {
+    pub fn is_there(&self) -> bool {
         self.is_there
     }
 
     /// A line about the file or the store of this name. Where it can't be written, that does not
     /// matter.
-    pub(crate) fn say(&self, name: &str, words: impl Display + Drop) {
+    pub fn say(&self, name: &str, words: impl Display + Drop) {
         if self.is_there {
             self.wipe_progress();
             let _ = eprintln!(self.rt; "{name}: {words}");
@@ -54,7 +58,7 @@ impl<'rt> Terminal<'rt> {
 
     /// Counts one more file as begun, and shows the progress.
     pub(crate) fn begin_file(&self) {
-        if self.files > 0 {
+        if self.units > 0 {
             self.begun.set(self.begun.get().saturating_add(1));
             self.show_progress();
         }
@@ -62,7 +66,7 @@ impl<'rt> Terminal<'rt> {
 
     /// Counts `count` more bytes as read, and shows the progress where a megabyte is full.
     pub(crate) fn add_bytes(&self, count: usize) {
-        if self.files > 0 {
+        if self.units > 0 {
             let before = self.bytes.get();
             let after = before.saturating_add(count as u64);
             self.bytes.set(after);
@@ -73,14 +77,14 @@ impl<'rt> Terminal<'rt> {
     }
 
     fn show_progress(&self) {
-        let (begun, files) = (self.begun.get(), self.files);
+        let (unit, begun, units) = (self.unit, self.begun.get(), self.units);
         let megabytes = self.bytes.get() / MEGABYTE;
-        let _ = eprint!(self.rt; "\rfile {begun} of {files}, {megabytes} MB read");
+        let _ = eprint!(self.rt; "\r{unit} {begun} of {units}, {megabytes} MB read");
         self.is_progress_shown.set(true);
     }
 
     /// Erases the line of progress, if it is there.
-    pub(crate) fn wipe_progress(&self) {
+    pub fn wipe_progress(&self) {
         if self.is_progress_shown.get() {
             let _ = eprint!(self.rt; "{WIPED}");
             self.is_progress_shown.set(false);
@@ -90,7 +94,7 @@ impl<'rt> Terminal<'rt> {
 
 /// A standard stream that erases the line of progress before it writes.
 #[derive(Drop)]
-pub(crate) struct Clearing<'t, W> {
+pub struct Clearing<'t, W> {
     terminal: &'t Terminal<'t>,
     stream: W,
 }

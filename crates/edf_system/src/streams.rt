@@ -1,0 +1,46 @@
+//! The words after a program's name, and its standard streams.
+
+use crate::terminal::{Clearing, Terminal};
+use edf_command::Status;
+use edf_fragment::Counted;
+use std::io::{ErrorKind, Stderr, Stdout};
+use std::{env, io};
+
+/// The words after the program's name.
+///
+/// # Errors
+/// `InvalidData` where one is not UTF-8, another where memory ran out.
+pub fn words(rt: &HostRuntime) -> io::Result<Vec<String>> {
+    let words: Vec<String> = env::args(rt)?.skip(1).collect(rt.alloc())?;
+    Ok(words)
+}
+
+/// Prints why the words can't be had: one is not UTF-8, or memory ran out.
+pub fn refuse_words(rt: &HostRuntime, error: &io::Error) -> Status {
+    let (line, status) = if error.kind() == ErrorKind::InvalidData {
+        ("error: a word is not UTF-8", Status::Usage)
+    } else {
+        ("command refused E41 Memory", Status::Trouble)
+    };
+    match eprintln!(rt; "{line}") {
+        Ok(()) => status,
+        Err(_) => Status::Trouble,
+    }
+}
+
+/// Standard output and standard error.
+#[derive(Drop)]
+pub struct Streams<'t> {
+    pub out: Counted<Clearing<'t, Stdout>>,
+    pub err: Counted<Clearing<'t, Stderr>>,
+}
+
+impl<'t> Streams<'t> {
+    /// The streams of a program whose progress a terminal shows.
+    pub fn new(rt: &HostRuntime, terminal: &'t Terminal<'t>) -> Streams<'t> {
+        Streams {
+            out: Counted::new(Clearing::new(terminal, rt.stdout())),
+            err: Counted::new(Clearing::new(terminal, rt.stderr())),
+        }
+    }
+}
