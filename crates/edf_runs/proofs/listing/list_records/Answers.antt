@@ -1,0 +1,51 @@
+use Rattle.std.proofs.Common.{◌≡◌, ◌<◌, List, ◌++◌, ◌∷◌, [], length, refl, ap, ◌∙◌, sym, subst, rules, arith, Ok, Some}
+use Rattle.edf_header.specs.Header.{Layout, IsLayout}
+use Rattle.edf_fragment.specs.Fragment.{DataRecord}
+use Rattle.edf_fragment.specs.Reading.{progress_after, GivesRecord}
+use Rattle.edf_fragment.specs.Whole.{HasRead}
+use Rattle.edf_fragment.specs.declared.advance.Progress.{Progress}
+use Rattle.edf_fragment.proofs.Fragments.{reads_none}
+use Rattle.edf_fragment.proofs.Runs.{next_of, reads_more}
+use Rattle.edf_runs.specs.Runs.{AreListed}
+use Rattle.edf_runs.specs.declared.run.Run.{Run}
+use Rattle.edf_runs.proofs.Growing.{nothing_listed}
+use Rattle.edf_runs.proofs.listing.list_records.Goals as goal
+
+pub records-init : goal.records-init
+records-init g c =
+    let left = g.R.Input.remaining c.args.input.now in
+    record {
+      header = refl;
+      status = ap (λ (x : Progress). x.status) c.requires.first;
+      so_far = (
+        [],
+        subst (λ (p : Progress). HasRead c.args.fragment.now.header left left [] p) (sym c.requires.first) (reads_none c.args.fragment.now.header left),
+        subst (λ (l : List Run). AreListed c.args.duration [] l) (sym c.new-runs.ensures.items) (nothing_listed c.args.duration),
+      );
+      count = refl;
+    }
+
+pub records-preserved : goal.records-preserved
+records-preserved g c =
+    let before = c.records.invariant in
+    let from = c.records.fragment.progress in
+    let to = c.next.new.self.progress in
+    let r = c.in-Some.record in
+    let l = c.args.fragment.now.header in
+    let mid = g.R.Input.remaining c.records.input in
+    let rest = g.R.Input.remaining c.next.new.input in
+    let records = before.so_far.0 in
+    let step = next_of c.records.fragment.header from to mid rest c.in_ok-record.field-0 r before.status c.in_ok-record.ensures.answer c.in-Some.is in
+    let to_is : to ≡ progress_after l from (Ok (Some r)) = subst (λ (x : Layout). to ≡ progress_after x from (Ok (Some r))) before.header step.0 in
+    let gives : GivesRecord l from mid rest r = subst (λ (x : Layout). GivesRecord x from mid rest r) before.header step.1 in
+    let read = reads_more l (g.R.Input.remaining c.args.input.now) mid rest records from to r before.so_far.1 to_is gives in
+    let layout : IsLayout l = subst (λ (x : Layout). IsLayout x) c.header.ensures c.count-count.ensures.layout in
+    let few : length records < 99_999_999 = omega (arith, layout.count.1, gives.may_come, before.so_far.1.given) in
+    let grows : (rs : List DataRecord) → length rs < 99_999_999 → AreListed c.args.duration rs c.records.runs.items
+    → AreListed c.args.duration (rs ++ r ∷ []) c.add_record.new.runs.items = search rules in
+    record {
+      header = c.in_ok-record.ensures.header ∙ before.header;
+      status = ap (λ (x : Progress). x.status) to_is;
+      so_far = (records ++ r ∷ [], read, grows records few before.so_far.2);
+      count = c.in_ok-record.ensures.counted ∙ before.count;
+    }

@@ -1,0 +1,38 @@
+//! Laws of runs: each function has laws for a contract, and does nothing.
+
+ghost use Rattle.std.specs.Prelude.{◌≡◌, ℕ, ◌≤◌, List, length};
+ghost use Rattle.edf_field.specs.Number.{duration_of};
+ghost use Rattle.edf_header.specs.Key.{Key, IsKey};
+ghost use Rattle.edf_fragment.specs.Fragment.{DataRecord};
+ghost use Rattle.edf_fragment.specs.Sound.{AreSound, MayBegin};
+ghost use Rattle.edf_runs.specs.File.{IsRunFile, IsContinuous};
+ghost use Rattle.edf_runs.specs.Rejoined.{RunsRejoin};
+ghost use Rattle.edf_runs.specs.Runs.{IsRuns, IsTouching};
+
+/// Each list of data records has runs, and no others.
+pub fn each_has_its_runs()
+    ensures some { (d : ℕ) (records : List DataRecord) →
+        (runs : List (List DataRecord)) × IsRuns d records runs }
+    ensures one { (d : ℕ) (records : List DataRecord) (runs others : List (List DataRecord)) →
+        IsRuns d records runs → IsRuns d records others → runs ≡ others }
+{}
+
+/// Sound data records without a gap, of a key with which a recording may begin so, have one file as
+/// a run, where they are 1 to 99,999,999; and it is read again, as a file without a gap.
+pub fn a_runs_file()
+    ensures some { (key : Key) (run : List DataRecord) →
+        IsKey key → AreSound key 0 run → MayBegin key run → 1 ≤ length run →
+        length run ≤ 99_999_999 → IsTouching (duration_of key.duration) run →
+        (file : List ℕ) × IsRunFile file key run }
+    ensures one { (file other : List ℕ) (key : Key) (run : List DataRecord) →
+        IsRunFile file key run → IsRunFile other key run → file ≡ other }
+    ensures read { (file : List ℕ) (key : Key) (run : List DataRecord) →
+        IsRunFile file key run → IsContinuous file key run }
+{}
+
+/// Nothing is lost where a file is split into its runs. Their files, submitted in any order to
+/// holdings that have none of the recording, are all accepted, and leave just the data records of
+/// the whole file.
+pub fn nothing_is_lost_by_splitting()
+    ensures { RunsRejoin }
+{}

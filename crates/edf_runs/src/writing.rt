@@ -1,0 +1,199 @@
+//! The file of a run, written data record by data record in a second reading.
+
+ghost use Rattle.std.specs.Prelude.{◌≡◌, ◌≢◌, ◌+◌, ◌/◌, ◌≤◌, ◌↔◌, Err, IfOk, IfErr, MatchResult};
+ghost use Rattle.std.specs.Prelude.{length};
+ghost use Rattle.edf_header.specs.Key.{MayStart};
+ghost use Rattle.edf_canonical.specs.File.{block_of};
+ghost use Rattle.edf_canonical.specs.Output.{buffered};
+ghost use Rattle.edf_runs.specs.File.{marked_continuous};
+ghost use Rattle.edf_runs.specs.Written.{IsRunWritten, IsRunHeader, IsNotWritten};
+ghost use Rattle.edf_runs.specs.Written.{CountsReads, CountsWrites, ComesNext};
+ghost use Rattle.edf_runs.specs.Inside.Steps.{IsPutAll, StopsPutting, IsSent, StopsSending};
+
+use crate::adding::samples_for;
+use crate::fault::WriteFault;
+use crate::reading::next_at;
+use crate::run::Run;
+use edf_canonical::{Buffer, OutputFault, flush, put, put_record};
+use edf_fragment::{Input, OpenFragment, Output, Record};
+use edf_header::{Identity, write_header};
+use edf_tal::block_len;
+use edf_time::Instant;
+use std::alloc::{AllocError, Global};
+
+impl From<OutputFault> for WriteFault {
+    ghost use Rattle.std.specs.Prelude.{◌≡◌};
+    ghost use Rattle.edf_runs.specs.Inside.Steps.{fault_out};
+
+    ghost from_gives = { λ refused fault. fault ≡ fault_out refused };
+
+    fn from(refused: OutputFault) -> WriteFault {
+        match refused {
+            OutputFault::Write => WriteFault::Write,
+            OutputFault::Memory => WriteFault::Memory,
+        }
+    }
+}
+
+/// A header with EDF+C at the front of the reserved field, which begins at byte 192.
+fn marked_continuous(alloc: Global, plain: &[u8]) -> Result<Vec<u8>, AllocError>
+    requires { 197 ≤ length plain.now }
+    ensures { IfOk result (λ header. header.items ≡ marked_continuous plain.now) }
+{
+    let (before, marked) = plain.split_at(192);
+    let after = &marked[5..];
+    let mut header = Vec::from_slice(alloc, before)?;
+    header.extend_from_slice(b"EDF+C".as_slice())?;
+    header.extend_from_slice(after)?;
+    Ok(header)
+}
+
+/// The header of a run's file: the canonical one, marked EDF+C.
+fn run_header(alloc: Global, identity: &Identity, run: &Run) -> Result<Vec<u8>, AllocError>
+    requires { MayStart identity.now run.now.first }
+    ensures header { IfOk result (λ header. IsRunHeader header.items identity.now run.now) }
+    ensures short { IfOk result (λ header. length header.items ≤ 164_096) }
+{
+    // contracts learn from this call that headers name such an identity
+    let _duration = identity.duration();
+    let plain = write_header(
+        alloc,
+        identity,
+        run.first(),
+        run.records(),
+        run.block_samples(),
+    )?;
+    let header = marked_continuous(alloc, plain.as_slice())?;
+    Ok(header)
+}
+
+/// How many samples hold the block of a data record, with onsets counted from `base`.
+fn samples_of(data_record: &Record, base: Instant) -> u32
+    ensures { result ≡ (length (block_of base data_record.now) + 1) / 2 }
+{
+    let len = block_len(data_record.start(), data_record.notes(), base);
+    samples_for(len)
+}
+
+/// Reads the data records of a run and puts them.
+fn put_records<R: Input, W: Output>(
+    alloc: Global,
+    fragment: &mut OpenFragment,
+    input: &mut R,
+    run: &Run,
+    out: &mut W,
+    held: &mut Buffer,
+) -> Result<(), WriteFault>
+    ensures header { fragment.new.header ≡ fragment.old.header }
+    ensures put { MatchResult result
+        (λ _. IsPutAll fragment.old.header fragment.old.progress fragment.new.progress
+        (R.remaining input.old) (R.remaining input.new)
+        (buffered W.Output out.old held.old.bytes.items)
+        (buffered W.Output out.new held.new.bytes.items) run.now)
+        (λ _. StopsPutting fragment.old.header fragment.old.progress fragment.new.progress
+        (R.remaining input.old) (R.remaining input.new)
+        (buffered W.Output out.old held.old.bytes.items)
+        (buffered W.Output out.new held.new.bytes.items) run.now) }
+    ensures unchanged { ComesNext fragment.old.header fragment.old.progress
+        (R.remaining input.old) run.now → result ≢ Err WriteFault.Changed }
+    ensures reads_counted { CountsReads (R.failures input.old) (R.failures input.new) result }
+    ensures writes_counted { CountsWrites (W.failures out.old) (W.failures out.new) result }
+    ensures dated { result ≢ Err WriteFault.Undated }
+{
+    // contracts learn from this call how a data record is laid out
+    let _count = fragment.header().count();
+    let duration = fragment.header().identity().duration();
+    let base = run.first().second();
+    let size = 2 * run.block_samples() as usize;
+    let mut next = run.first().nanos();
+    let mut longest = 0;
+    for _ in 0..run.records() {
+        let data_record = next_at(fragment, input, next)?;
+        let samples = samples_of(&data_record, base);
+        if samples > run.block_samples() {
+            return Err(WriteFault::Changed);
+        }
+        put_record(alloc, out, held, &data_record, base, size)?;
+        longest = samples.max(longest);
+        next = data_record.start().nanos() + duration;
+    }
+    if longest != run.block_samples() || next != run.last().nanos() + duration {
+        return Err(WriteFault::Changed);
+    }
+    Ok(())
+}
+
+/// Writes a header and then the data records of a run, from an empty buffer.
+fn send_run<R: Input, W: Output>(
+    alloc: Global,
+    fragment: &mut OpenFragment,
+    input: &mut R,
+    run: &Run,
+    header: &[u8],
+    out: &mut W,
+) -> Result<(), WriteFault>
+    ensures header { fragment.new.header ≡ fragment.old.header }
+    ensures sent { MatchResult result
+        (λ _. IsSent fragment.old.header fragment.old.progress fragment.new.progress
+        (R.remaining input.old) (R.remaining input.new) (W.contents out.old) (W.contents out.new)
+        header.now run.now)
+        (λ _. StopsSending fragment.old.header fragment.old.progress fragment.new.progress
+        (R.remaining input.old) (R.remaining input.new) (W.contents out.old) (W.contents out.new)
+        header.now run.now) }
+    ensures unchanged { ComesNext fragment.old.header fragment.old.progress
+        (R.remaining input.old) run.now → result ≢ Err WriteFault.Changed }
+    ensures reads_counted { CountsReads (R.failures input.old) (R.failures input.new) result }
+    ensures writes_counted { CountsWrites (W.failures out.old) (W.failures out.new) result }
+    ensures dated { result ≢ Err WriteFault.Undated }
+{
+    let mut held = Buffer::new(alloc);
+    put(out, &mut held, header)?;
+    put_records(alloc, fragment, input, run, out, &mut held)?;
+    flush(out, &mut held)?;
+    Ok(())
+}
+
+/// Reads the data records of a run again, which come next in its file, and writes the run's file:
+/// their canonical file, but EDF+C in place of EDF+D. It tells the length in bytes.
+///
+/// One data record is in memory at a time, beside a buffer of 64 KiB. The writer is not flushed.
+///
+/// # Errors
+/// `Undated` where no header can name the run's start; then nothing was read or written. `Changed`
+/// where other data records come than were listed; `Read` (E40) where a read failed, `Memory` (E41)
+/// where memory ran out, `Write` (E43) where a write failed or took none of some bytes. Then a
+/// front of the file may have been written.
+pub fn write_run<R: Input, W: Output>(
+    alloc: Global,
+    fragment: &mut OpenFragment,
+    input: &mut R,
+    run: &Run,
+    out: &mut W,
+) -> Result<u64, WriteFault>
+    ensures header { fragment.new.header ≡ fragment.old.header }
+    ensures written { IfOk result
+        (IsRunWritten fragment.old.header fragment.old.progress fragment.new.progress
+        (R.remaining input.old) (R.remaining input.new) (W.contents out.old) (W.contents out.new)
+        run.now) }
+    ensures refused { IfErr result
+        (IsNotWritten fragment.old.header fragment.old.progress fragment.new.progress
+        (R.remaining input.old) (R.remaining input.new) (W.contents out.old) (W.contents out.new)
+        run.now) }
+    ensures dated { (result ≢ Err WriteFault.Undated)
+        ↔ MayStart fragment.old.header.key run.now.first }
+    ensures unchanged { ComesNext fragment.old.header fragment.old.progress
+        (R.remaining input.old) run.now → result ≢ Err WriteFault.Changed }
+    ensures reads_counted { CountsReads (R.failures input.old) (R.failures input.new) result }
+    ensures writes_counted { CountsWrites (W.failures out.old) (W.failures out.new) result }
+{
+    let identity = fragment.header().identity();
+    if !identity.may_start(run.first()) {
+        return Err(WriteFault::Undated);
+    }
+    let Ok(header) = run_header(alloc, identity, run) else {
+        return Err(WriteFault::Memory);
+    };
+    let record_bytes = identity.ordinary_bytes() + 2 * run.block_samples() as usize;
+    send_run(alloc, fragment, input, run, header.as_slice(), out)?;
+    Ok(header.len() as u64 + run.records() as u64 * record_bytes as u64)
+}
