@@ -1,0 +1,194 @@
+use crate::escape::escaped;
+use crate::numbers::{counted, thousands};
+use crate::pixels::LEFT;
+use crate::recording::Recording;
+use crate::times::instant_label;
+use std::alloc::{AllocError, Global};
+
+/// What the title names.
+#[derive(Clone, Copy)]
+pub struct Title<'a> {
+    /// The patient code, in printable ASCII.
+    pub patient: &'a [u8],
+    /// The investigation code, in printable ASCII.
+    pub investigation: &'a [u8],
+}
+
+/// How many annotations there are.
+#[derive(Clone, Copy)]
+pub(crate) struct Counts {
+    pub(crate) all: u64,
+    /// Those that are stages of sleep.
+    pub(crate) stages: u64,
+    /// Those that begin outside the recording's time.
+    pub(crate) outside: u64,
+    /// Whether there are too many stages to draw them all.
+    pub(crate) lacks_stages: bool,
+}
+
+/// The texts above the picture.
+#[derive(Drop)]
+pub(crate) struct Heading {
+    /// One line, or two where the codes are long.
+    titles: Vec<String>,
+    /// All of the codes.
+    name: String,
+    /// The first and the last instant.
+    time: String,
+    summary: String,
+    annotations: String,
+}
+
+/// Longer codes get a line each.
+const ONE_LINE: usize = 52;
+
+/// So many characters of a code are shown in a line.
+const SHOWN: usize = 60;
+
+/// More than a text of the header has.
+const ALL: usize = 1_000;
+
+const STYLE: &str = "<style>\
+text{font-family:'DejaVu Sans',Verdana,Arial,Helvetica,sans-serif;font-size:12px;fill:#000}\
+.b{font-size:16px;font-weight:bold}.f{font-size:13px}\
+.m,.n{text-anchor:middle}.e{text-anchor:end}\
+.n{paint-order:stroke;stroke:#fff;stroke-width:3px}\
+.r{fill:#0072B2}.g{fill:url(#edf-gap);stroke:#D55E00}.w{fill:#fff}\
+.h{fill:#D55E00;fill-opacity:.25}.t,.a,.s{stroke:#000;fill:none}\
+.t{stroke-width:1.2}.s{stroke-width:1.5}\
+.q{stroke:#009E73;stroke-width:6;fill:none}.l{stroke:#ccc;fill:none}</style>\
+<defs><pattern id='edf-gap' width='6' height='6' patternUnits='userSpaceOnUse' \
+patternTransform='rotate(45)'><rect width='6' height='6' fill='#fff'/>\
+<rect width='2.5' height='6' fill='#D55E00'/></pattern></defs>";
+
+impl Heading {
+    pub(crate) fn new(
+        alloc: Global,
+        title: &Title<'_>,
+        recording: &Recording<'_>,
+        counts: Counts,
+    ) -> Result<Heading, AllocError> {
+        Ok(Heading {
+            titles: title.lines(alloc)?,
+            name: title.line(alloc, ALL)?,
+            time: time_line(alloc, recording)?,
+            summary: recording.summary(alloc)?,
+            annotations: counts.line(alloc)?,
+        })
+    }
+
+    /// Its height in pixels.
+    pub(crate) fn height(&self) -> u64 {
+        if self.titles.len() > 1 { 158 } else { 138 }
+    }
+
+    /// Writes what stands before anything that is drawn.
+    pub(crate) fn write_start(&self, svg: &mut String, height: u64) -> Result<(), AllocError> {
+        let (name, time) = (self.name.as_str(), self.time.as_str());
+        let (summary, annotations) = (self.summary.as_str(), self.annotations.as_str());
+        svg.push_str("<svg xmlns='http://www.w3.org/2000/svg' role='img' ")?;
+        svg.push_str("aria-labelledby='edf-title edf-desc' ")?;
+        write!(
+            svg,
+            "width='1000' height='{height}' viewBox='0 0 1000 {height}'>"
+        )?;
+        write!(svg, "<title id='edf-title'>{name}</title>")?;
+        write!(
+            svg,
+            "<desc id='edf-desc'>{time}. {summary}. {annotations}.</desc>"
+        )?;
+        svg.push_str(STYLE)?;
+        write!(svg, "<rect class='w' width='1000' height='{height}'/>")
+    }
+
+    /// Writes the lines of the heading.
+    pub(crate) fn write(&self, svg: &mut String, has_joined: bool) -> Result<(), AllocError> {
+        let mut y = 28u64;
+        for title in &self.titles {
+            write_line(svg, "b", y, title)?;
+            y = y.saturating_add(20);
+        }
+        write_line(svg, "f", y, &self.time)?;
+        write_line(svg, "f", y.saturating_add(20), &self.summary)?;
+        write_line(svg, "f", y.saturating_add(40), &self.annotations)?;
+        write_legend(svg, y.saturating_add(62), has_joined)
+    }
+}
+
+fn write_line(svg: &mut String, class: &str, y: u64, text: &String) -> Result<(), AllocError> {
+    let text = text.as_str();
+    write!(
+        svg,
+        "<text class='{class}' x='{LEFT}' y='{y}'>{text}</text>"
+    )
+}
+
+impl Title<'_> {
+    /// Both codes, each cut after so many characters.
+    fn line(&self, alloc: Global, limit: usize) -> Result<String, AllocError> {
+        let patient = escaped(alloc, self.patient, limit)?;
+        let investigation = escaped(alloc, self.investigation, limit)?;
+        format!(in alloc; "Patient {patient}, investigation {investigation}")
+    }
+
+    fn lines(&self, alloc: Global) -> Result<Vec<String>, AllocError> {
+        let mut lines = Vec::new(alloc);
+        let length = self.patient.len().saturating_add(self.investigation.len());
+        if length <= ONE_LINE {
+            lines.push(self.line(alloc, SHOWN)?)?;
+            return Ok(lines);
+        }
+        let patient = escaped(alloc, self.patient, SHOWN)?;
+        let investigation = escaped(alloc, self.investigation, SHOWN)?;
+        lines.push(format!(in alloc; "Patient {patient}")?)?;
+        lines.push(format!(in alloc; "Investigation {investigation}")?)?;
+        Ok(lines)
+    }
+}
+
+fn time_line(alloc: Global, recording: &Recording<'_>) -> Result<String, AllocError> {
+    if recording.stretches.is_empty() {
+        return String::from_str(alloc, "no time");
+    }
+    let from = instant_label(alloc, recording.all.from)?;
+    let to = instant_label(alloc, recording.all.to)?;
+    format!(in alloc; "{from} to {to}")
+}
+
+impl Counts {
+    /// `2,963 annotations, 960 of them sleep stages; 3 outside the recording's time, not drawn`.
+    fn line(self, alloc: Global) -> Result<String, AllocError> {
+        let mut line = counted(alloc, self.all, "annotation")?;
+        if self.stages > 0 {
+            let stages = thousands(alloc, self.stages)?;
+            write!(line, ", {stages} of them sleep stages")?;
+        }
+        if self.lacks_stages {
+            line.push_str(" (the first ones are drawn)")?;
+        }
+        if self.outside > 0 {
+            let outside = thousands(alloc, self.outside)?;
+            write!(line, "; {outside} outside the recording's time, not drawn")?;
+        }
+        Ok(line)
+    }
+}
+
+/// Writes what the shapes mean.
+fn write_legend(svg: &mut String, y: u64, has_joined: bool) -> Result<(), AllocError> {
+    let top = y.saturating_sub(10);
+    write!(svg, "<g transform='translate({LEFT} {top})'>")?;
+    svg.push_str(
+        "<rect class='r' y='0' width='20' height='12'/><text x='26' y='10'>recorded</text>",
+    )?;
+    svg.push_str("<rect class='g' x='104' y='-1' width='20' height='14'/>")?;
+    svg.push_str("<text x='130' y='10'>gap</text>")?;
+    svg.push_str("<path class='t' d='M180 12v-5M186 12v-5M192 12v-13'/>")?;
+    svg.push_str("<text x='200' y='10'>annotation; taller where there are more</text>")?;
+    if has_joined {
+        svg.push_str("<rect class='g' x='464' y='-1' width='20' height='14'/>")?;
+        svg.push_str("<rect class='r' x='464' y='6' width='20' height='6'/>")?;
+        svg.push_str("<text x='490' y='10'>short runs and gaps</text>")?;
+    }
+    svg.push_str("</g>")
+}

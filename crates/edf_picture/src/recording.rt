@@ -1,0 +1,76 @@
+use crate::extent::{Extent, Stretch};
+use crate::numbers::{counted, percent};
+use crate::times::{seconds_text, span_text};
+use std::alloc::{AllocError, Global};
+
+/// The data records that a picture shows.
+#[derive(Clone, Copy)]
+pub(crate) struct Recording<'a> {
+    pub(crate) stretches: &'a [Stretch],
+    /// The nanoseconds of a data record.
+    pub(crate) duration: u64,
+    /// The time from its start to its end, empty where it has no data record.
+    pub(crate) all: Extent,
+}
+
+impl<'a> Recording<'a> {
+    pub(crate) fn new(stretches: &'a [Stretch], duration: u64) -> Recording<'a> {
+        let all = Extent::of_all(stretches, duration).unwrap_or(Extent { from: 0, to: 0 });
+        Recording {
+            stretches,
+            duration,
+            all,
+        }
+    }
+
+    /// The time of the annotations that are drawn: one may mark the very end.
+    pub(crate) fn annotated(&self) -> Extent {
+        Extent {
+            from: self.all.from,
+            to: self.all.to.saturating_add(1),
+        }
+    }
+
+    pub(crate) fn extent_of(&self, stretch: &Stretch) -> Extent {
+        Extent::of(stretch, self.duration)
+    }
+
+    pub(crate) fn runs(&self) -> u64 {
+        u64::try_from(self.stretches.len()).unwrap_or(u64::MAX)
+    }
+
+    /// How many gaps are between the runs.
+    fn gaps(&self) -> u64 {
+        let mut gaps = 0u64;
+        let mut before = self.all.from;
+        for stretch in self.stretches {
+            let run = self.extent_of(stretch);
+            gaps = gaps.saturating_add(u64::from(before < run.from));
+            before = run.to;
+        }
+        gaps
+    }
+
+    fn records(&self) -> u64 {
+        let mut records = 0u64;
+        for stretch in self.stretches {
+            records = records.saturating_add(u64::from(stretch.records));
+        }
+        records
+    }
+
+    /// `28,755 records of 1 s, 3 runs, 2 gaps, 99.8 % of 8 h 00 min`.
+    pub(crate) fn summary(&self, alloc: Global) -> Result<String, AllocError> {
+        if self.stretches.is_empty() {
+            return String::from_str(alloc, "no data record");
+        }
+        let records = counted(alloc, self.records(), "record")?;
+        let each = seconds_text(alloc, self.duration)?;
+        let runs = counted(alloc, self.runs(), "run")?;
+        let gaps = counted(alloc, self.gaps(), "gap")?;
+        let recorded = self.records().saturating_mul(self.duration);
+        let share = percent(alloc, recorded, self.all.length())?;
+        let span = span_text(alloc, self.all.length())?;
+        format!(in alloc; "{records} of {each}, {runs}, {gaps}, {share} of {span}")
+    }
+}

@@ -1,0 +1,99 @@
+use crate::bins::{Bin, Bins};
+use crate::extent::Extent;
+use crate::numbers::{counted, scaled};
+use crate::pixels::{ACROSS, LEFT};
+use crate::recording::Recording;
+use std::alloc::AllocError;
+
+/// The annotations in one place of a row.
+#[derive(Clone, Copy)]
+struct Tick {
+    place: u64,
+    count: u64,
+}
+
+/// How many places a row has.
+const PLACES: u64 = ACROSS / 2;
+
+/// Where ticks end, in pixels below their row's top.
+const FOOT: u64 = 14;
+
+impl Tick {
+    fn of(bin: &Bin, row: Extent) -> Tick {
+        let part = bin.first.saturating_sub(row.from);
+        Tick {
+            place: scaled(part, row.length(), PLACES),
+            count: u64::from(bin.count),
+        }
+    }
+
+    /// The more annotations, the taller.
+    fn height(self) -> u64 {
+        match self.count {
+            0..=1 => 5,
+            2..=4 => 7,
+            5..=16 => 9,
+            17..=64 => 11,
+            _ => 13,
+        }
+    }
+
+    fn write(self, svg: &mut String) -> Result<(), AllocError> {
+        let x = self.place.saturating_mul(2).saturating_add(LEFT + 1);
+        let height = self.height();
+        write!(svg, "M{x} {FOOT}v-{height}")
+    }
+}
+
+/// Writes the ticks of a row as one path, for the annotations within the recording's time.
+pub(crate) fn write_ticks(
+    svg: &mut String,
+    bins: &Bins,
+    row: Extent,
+    recording: &Recording<'_>,
+) -> Result<(), AllocError> {
+    let Some(shown) = row.within(recording.all) else {
+        return Ok(());
+    };
+    let is_last = shown.to == recording.all.to;
+    let to = shown.to.saturating_add(u64::from(is_last));
+    let extent = Extent {
+        from: shown.from,
+        to,
+    };
+    let found = bins.list_within(extent)?;
+    if found.is_empty() {
+        return Ok(());
+    }
+    svg.push_str("<path class='t' d='")?;
+    write_places(svg, &found, row)?;
+    let count = counted(bins.alloc(), bins.within(extent), "annotation")?;
+    write!(svg, "'><title>{count}</title></path>")
+}
+
+fn write_places(svg: &mut String, found: &[Bin], row: Extent) -> Result<(), AllocError> {
+    let mut open: Option<Tick> = None;
+    for bin in found {
+        let tick = Tick::of(bin, row);
+        open = Some(next_tick(svg, open, tick)?);
+    }
+    match open {
+        Some(last) => last.write(svg),
+        None => Ok(()),
+    }
+}
+
+/// The two as one where they are in one place; else the first is written.
+fn next_tick(svg: &mut String, open: Option<Tick>, tick: Tick) -> Result<Tick, AllocError> {
+    let Some(before) = open else {
+        return Ok(tick);
+    };
+    if before.place == tick.place {
+        return Ok(Tick {
+            place: tick.place,
+            count: before.count.saturating_add(tick.count),
+        });
+    }
+    before.write(svg)?;
+    Ok(tick)
+}

@@ -1,0 +1,94 @@
+use crate::numbers::thousands;
+use edf_time::{Instant, instant_text, write_seconds};
+use std::alloc::{AllocError, Global};
+
+pub(crate) const SECOND: u64 = 1_000_000_000;
+
+pub(crate) const MINUTE: u64 = 60_000_000_000;
+
+pub(crate) const HOUR: u64 = 3_600_000_000_000;
+
+pub(crate) const DAY: u64 = 86_400_000_000_000;
+
+/// A length of time in its two largest units, cut: `8 h 00 min`.
+pub(crate) fn span_text(alloc: Global, nanos: u64) -> Result<String, AllocError> {
+    if nanos < MINUTE {
+        return seconds_text(alloc, nanos);
+    }
+    if nanos < HOUR {
+        let (minutes, seconds) = (nanos / MINUTE, nanos / SECOND % 60);
+        return format!(in alloc; "{minutes} min {seconds:02} s");
+    }
+    if nanos < 2 * DAY {
+        let (hours, minutes) = (nanos / HOUR, nanos / MINUTE % 60);
+        return format!(in alloc; "{hours} h {minutes:02} min");
+    }
+    days_text(alloc, nanos / DAY, nanos / HOUR % 24)
+}
+
+/// A decimal of seconds: `0.25 s`.
+pub(crate) fn seconds_text(alloc: Global, nanos: u64) -> Result<String, AllocError> {
+    let mut text = ascii_text(alloc, &write_seconds(alloc, nanos)?, 0, 20)?;
+    text.push_str(" s")?;
+    Ok(text)
+}
+
+/// Two days or more. The hours are told up to ten days, and from four years on the years.
+fn days_text(alloc: Global, days: u64, hours: u64) -> Result<String, AllocError> {
+    if days >= 1_461 {
+        let tenths = days.saturating_mul(40) / 1_461;
+        let (years, tenth) = (tenths / 10, tenths % 10);
+        return format!(in alloc; "{years}.{tenth} years");
+    }
+    if days >= 10 || hours == 0 {
+        let days = thousands(alloc, days)?;
+        return format!(in alloc; "{days} days");
+    }
+    format!(in alloc; "{days} days {hours:02} h")
+}
+
+/// An instant as a person reads it: `2002-03-02 22:00:00`, and its fraction where it has one.
+pub(crate) fn instant_label(alloc: Global, nanos: u64) -> Result<String, AllocError> {
+    instant_part(alloc, nanos, 0, 30)
+}
+
+/// Its day: `2002-03-02`.
+pub(crate) fn date_label(alloc: Global, nanos: u64) -> Result<String, AllocError> {
+    instant_part(alloc, nanos, 0, 10)
+}
+
+/// Its clock reading: `22:00` or, where it is not of a whole minute, `22:00:30`.
+pub(crate) fn clock_label(alloc: Global, nanos: u64) -> Result<String, AllocError> {
+    let count = if nanos % MINUTE == 0 { 5 } else { 19 };
+    instant_part(alloc, nanos, 11, count)
+}
+
+fn instant_part(
+    alloc: Global,
+    nanos: u64,
+    skipped: usize,
+    count: usize,
+) -> Result<String, AllocError> {
+    match Instant::at(nanos) {
+        Some(instant) => ascii_text(alloc, &instant_text(alloc, instant)?, skipped, count),
+        None => String::from_str(alloc, "after 2184"),
+    }
+}
+
+/// A part of a text, with a blank for the `T` between a date and a time.
+fn ascii_text(
+    alloc: Global,
+    text: &[u8],
+    skipped: usize,
+    count: usize,
+) -> Result<String, AllocError> {
+    let mut part = String::new(alloc);
+    for byte in text.iter().skip(skipped).take(count) {
+        part.push(if *byte == b'T' {
+            ' '
+        } else {
+            char::from(*byte)
+        })?;
+    }
+    Ok(part)
+}
