@@ -1,31 +1,36 @@
-# What the scripts of this folder share: which sources the program is made from, and their digest.
+# What the scripts of this folder share: which sources the programs are made from, and their digest.
 top=$(cd "$(dirname "${BASH_SOURCE[0]}")/.." && pwd)
-name=edfstore
-program=$top/crates/$name/out/$name
+programs="edfstore edfruns"
 release=$top/release
 
-# The crate $1 and all that it stands on, a line each, by crates.txt.
+# Where the program $1 is when it was built here.
+built() {
+  echo "$top/crates/$1/out/$1"
+}
+
+# The crates $* and all that they stand on, a line each, by crates.txt.
 crates_below() {
-  awk -v top="$1" '
+  awk -v tops="$*" '
     { sub(/#.*/, "") }
     split($0, sides, ":") < 2 { next }
     { split(sides[1], kind, " "); below[kind[1]] = sides[2] }
+    function want(name) { if (!(name in seen)) { seen[name] = 1; wanted[++count] = name } }
     END {
-      wanted[count = 1] = top; seen[top] = 1
+      number = split(tops, names, " ")
+      for (i = 1; i <= number; i++) want(names[i])
       for (at = 1; at <= count; at++) {
         print wanted[at]
         number = split(below[wanted[at]], names, " ")
-        for (i = 1; i <= number; i++)
-          if (names[i] in below && !(names[i] in seen)) { seen[names[i]] = 1; wanted[++count] = names[i] }
+        for (i = 1; i <= number; i++) if (names[i] in below) want(names[i])
       }
     }' "$top/crates.txt"
 }
 
-# The files that the program is made from, below the top, in one order everywhere.
+# The files that the programs $* are made from, below the top, in one order everywhere.
 source_files() {
   (cd "$top" && {
     echo crates.txt
-    for crate in $(crates_below $name); do
+    for crate in $(crates_below "$@"); do
       for part in src specs proofs; do
         if [ -d "crates/$crate/$part" ]; then find "crates/$crate/$part" -type f; fi
       done
@@ -33,15 +38,15 @@ source_files() {
   } | LC_ALL=C sort)
 }
 
-# The SHA-256 of the names and the contents of those files.
+# The SHA-256 of the names and the contents of those files, of all programs.
 sources_digest() {
-  (cd "$top" && source_files | xargs -d '\n' sha256sum | sha256sum | cut -d ' ' -f 1)
+  (cd "$top" && source_files $programs | xargs -d '\n' sha256sum | sha256sum | cut -d ' ' -f 1)
 }
 
-# Whether the program was built here and no source is newer.
+# Whether the program $1 was built here and no source of it is newer.
 is_fresh() {
-  [ -x "$program" ] && [ -z "$(cd "$top" && source_files |
-    xargs -d '\n' sh -c 'find "$@" -newer "$0" -print -quit' "$program")" ]
+  [ -x "$(built "$1")" ] && [ -z "$(cd "$top" && source_files "$1" |
+    xargs -d '\n' sh -c 'find "$@" -newer "$0" -print -quit' "$(built "$1")")" ]
 }
 
 # Whether the release was made from the sources that lie here.
@@ -54,30 +59,30 @@ released_archive() {
   sed -n 's/^[0-9a-f]*  \(.*\.tar\.xz\)$/\1/p' "$release/SHA256SUMS"
 }
 
-# Unpacks the released program, once, and tells its path. The archive must have the sum that SHA256SUMS says.
+# Unpacks the released programs, once, and tells the path of $1. The archive must have the sum that SHA256SUMS says.
 released_program() {
   local archive sum folder
   archive=$(released_archive)
   sum=$(cut -d ' ' -f 1 "$release/SHA256SUMS")
   folder=$release/out/$sum
-  if [ ! -x "$folder/$name" ]; then
+  if [ ! -x "$folder/$1" ]; then
     (cd "$release" && sha256sum --quiet -c SHA256SUMS >&2) || return 1
     mkdir -p "$release/out" && local new && new=$(mktemp -d "$release/out/new.XXXXXX") || return 1
     if ! tar -xJf "$release/$archive" -C "$new" --strip-components=1; then rm -rf "$new"; return 1; fi
     # Another run may have been first: then its folder stays.
     mv -T "$new" "$folder" 2>/dev/null || rm -rf "$new"
   fi
-  echo "$folder/$name"
+  echo "$folder/$1"
 }
 
-# The path of the program to run: the one that was built here, where no source is newer; else the released one, where the release was
-# made from these sources; else it is proved and built first.
+# The path of the program $1 to run: the one that was built here, where no source is newer; else the released one, where the release
+# was made from these sources; else it is proved and built first.
 chosen_program() {
-  if is_fresh; then
-    echo "$program"
-  elif ! is_released || ! released_program; then
+  if is_fresh "$1"; then
+    built "$1"
+  elif ! is_released || ! released_program "$1"; then
     # Status 1 tells that the released bytes are others: what was proved here is run all the same.
-    "$top/bin/build" >&2 </dev/null || [ $? = 1 ] || return 3
-    echo "$program"
+    "$top/bin/build" "$1" >&2 </dev/null || [ $? = 1 ] || return 3
+    built "$1"
   fi
 }

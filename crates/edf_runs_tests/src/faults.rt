@@ -1,0 +1,162 @@
+//! Readers and writers that fail, files that change, names that are there.
+
+use crate::files::{file_named, first_run, two_gaps};
+use crate::folder::Folder;
+use crate::shelf::Shelf;
+use crate::stage::{story, told};
+use edf_command::Status;
+use std::alloc::Global;
+
+/// The length of `two.edf`.
+const LENGTH: usize = 1_008;
+
+/// What a command tells where the first reading fails from a byte on, or the second does.
+fn told_of_failing(alloc: Global, line: &str, first: usize, second: usize) -> Option<String> {
+    let shelf = Shelf::new(alloc).failing(first, second);
+    let mut folder = Folder::new(alloc);
+    let told = story(alloc, shelf, &mut folder, usize::MAX, line)?;
+    if folder.count() == 0 {
+        Some(told)
+    } else {
+        None
+    }
+}
+
+/// Whether a command is refused so for each byte of a reading that may be the first to fail.
+fn fails_anywhere(alloc: Global, line: &str, is_second: bool) -> bool {
+    for cut in 0..=LENGTH {
+        let (first, second) = if is_second {
+            (usize::MAX, cut)
+        } else {
+            (cut, usize::MAX)
+        };
+        let told = told_of_failing(alloc, line, first, second);
+        let wanted = "err: two.edf refused E40 Read\nstatus 3\n";
+        if !told.is_some_and(|told| told.as_str() == wanted) {
+            return false;
+        }
+    }
+    true
+}
+
+#[test]
+fn a_reading_that_fails_is_told_and_leaves_no_file(rt: HostRuntime) {
+    for (line, is_second) in [
+        ("list two.edf", false),
+        ("picture two.edf", false),
+        ("split two.edf night", false),
+        ("split two.edf night", true),
+    ] {
+        assert!(rt; fails_anywhere(rt.alloc(), line, is_second), "{line}");
+    }
+}
+
+/// What a command tells, and how many files it leaves, where the second reading finds the file of
+/// that name.
+fn told_of_changed(alloc: Global, line: &str, name: &str) -> Option<(String, usize)> {
+    let shelf = Shelf::new(alloc).changed(file_named(alloc, name)?);
+    let mut folder = Folder::new(alloc);
+    let told = story(alloc, shelf, &mut folder, usize::MAX, line)?;
+    Some((told, folder.count()))
+}
+
+#[test]
+fn a_file_that_changed_between_its_readings_is_told_and_leaves_no_file(rt: HostRuntime) {
+    let wanted = "err: two.edf refused E40 Read\nstatus 3\n";
+    for name in ["one.edf", "cut.edf", "tenths.edf", "overlap.edf"] {
+        let told = told_of_changed(rt.alloc(), "split two.edf night", name);
+        let is_told = told.is_some_and(|(text, files)| text.as_str() == wanted && files == 0);
+        assert!(rt; is_told, "{name}");
+    }
+}
+
+/// What `split` tells, and how many files it leaves, where one more data record follows the last in
+/// the second reading.
+fn told_of_grown(alloc: Global) -> Option<(String, usize)> {
+    let mut bytes = two_gaps(alloc).ok()?;
+    let last = Vec::from_slice(alloc, bytes.get(968..)?).ok()?;
+    bytes.extend_from_slice(last.as_slice()).ok()?;
+    let shelf = Shelf::new(alloc).changed(bytes);
+    let mut folder = Folder::new(alloc);
+    let told = story(alloc, shelf, &mut folder, usize::MAX, "split two.edf night")?;
+    Some((told, folder.count()))
+}
+
+#[test]
+fn a_file_that_grew_between_its_readings_is_told_and_leaves_no_file(rt: HostRuntime) {
+    let wanted = "err: two.edf refused E40 Read\nstatus 3\n";
+    let told = told_of_grown(rt.alloc());
+    assert!(rt; told.is_some_and(|(text, files)| text.as_str() == wanted && files == 0));
+}
+
+/// What is told and how many files are left where a folder takes no more than it can.
+fn told_of_folder(alloc: Global, mut folder: Folder) -> Option<(String, usize)> {
+    let shelf = Shelf::new(alloc);
+    let told = story(alloc, shelf, &mut folder, usize::MAX, "split two.edf night")?;
+    Some((told, folder.count()))
+}
+
+#[test]
+fn a_file_that_cannot_be_written_is_told_and_leaves_no_file(rt: HostRuntime) {
+    let wanted = "err: two.edf refused E43 Write\nstatus 3\n";
+    let alloc = rt.alloc();
+    for (folder, why) in [
+        (Folder::new(alloc).with_room(0), "no room"),
+        (Folder::new(alloc).with_room(800), "room for a part"),
+        (Folder::new(alloc).unmade(1), "the first not made"),
+        (Folder::new(alloc).unmade(3), "the last not made"),
+        (Folder::new(alloc).unfinished(2), "the second not ended"),
+    ] {
+        let told = told_of_folder(alloc, folder);
+        let is_told = told.is_some_and(|(text, files)| text.as_str() == wanted && files == 0);
+        assert!(rt; is_told, "{why}");
+    }
+}
+
+/// What a second `split` tells over the files of a first one, and whether those are left.
+fn told_twice(alloc: Global) -> Option<(String, usize, bool)> {
+    let mut folder = Folder::new(alloc);
+    let line = "split two.edf night";
+    told(alloc, Shelf::new(alloc), &mut folder, usize::MAX, line)?;
+    let told = story(alloc, Shelf::new(alloc), &mut folder, usize::MAX, line)?;
+    let is_left = folder.has("night-1.edf", first_run(alloc).ok()?.as_slice());
+    Some((told, folder.count(), is_left))
+}
+
+#[test]
+fn no_file_that_is_there_is_written_over(rt: HostRuntime) {
+    let wanted = "err: night-1.edf is there already; nothing was written\nstatus 1\n";
+    let told = told_twice(rt.alloc());
+    assert!(rt;
+        told.is_some_and(|(text, files, is_left)| {
+            text.as_str() == wanted && files == 3 && is_left
+        })
+    );
+}
+
+/// How a line of words ends with room for so many bytes on standard output, how many bytes went
+/// out, and how many files are left.
+fn told_with_room(alloc: Global, line: &str, room: usize) -> Option<(Status, usize, usize)> {
+    let mut folder = Folder::new(alloc);
+    let told = told(alloc, Shelf::new(alloc), &mut folder, room, line)?;
+    Some((told.status, told.out.len(), folder.count()))
+}
+
+#[test]
+fn lines_and_files_that_cannot_be_written_are_trouble(rt: HostRuntime) {
+    for line in [
+        "list two.edf",
+        "write two.edf 2",
+        "split two.edf night",
+        "picture two.edf",
+    ] {
+        for room in [0usize, 1, 59, 100] {
+            let told = told_with_room(rt.alloc(), line, room);
+            assert_eq!(rt;
+                told,
+                Some((Status::Trouble, room, 0)),
+                "{line}, room for {room}"
+            );
+        }
+    }
+}

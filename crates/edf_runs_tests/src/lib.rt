@@ -1,0 +1,37 @@
+//! Tests of runs end to end: what is listed, written, split and refused, by small files spelled by
+//! hand.
+//!
+//! They are in a crate of their own, so that the crates that they test are proved once. Each file
+//! that is wanted is spelled by the builders of files and by no program.
+//!
+//! - `files`: the files.
+//! - `shelf`, `folder`: what gives files in place of a disk, and what takes them.
+//! - `stage`: commands, run over both.
+//! - `lines`: the lines of commands, and how they end.
+//! - `written`: the files of runs, byte for byte.
+//! - `faults`: readers and writers that fail, files that change, names that are there.
+//! - `memory`: memory that runs out, under each budget until one suffices.
+//! - `library`: the functions of `edf_runs`, each called once.
+//! - `picture`: what pictures say.
+#![tactic(auto)]
+
+#[cfg(test)]
+mod faults;
+#[cfg(test)]
+mod files;
+#[cfg(test)]
+mod folder;
+#[cfg(test)]
+mod library;
+#[cfg(test)]
+mod lines;
+#[cfg(test)]
+mod memory;
+#[cfg(test)]
+mod picture;
+#[cfg(test)]
+mod shelf;
+#[cfg(test)]
+mod stage;
+#[cfg(test)]
+mod written;

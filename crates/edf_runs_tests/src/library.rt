@@ -1,0 +1,68 @@
+//! The functions of `edf_runs`, each called once.
+
+use crate::files::{second_run, two_gaps};
+use edf_fragment::{Counted, OpenFragment};
+use edf_runs::{Listing, Run, add_record, list_runs, reopen, skip_run, write_run};
+use edf_sample::{Sink, Source};
+use std::alloc::Global;
+
+/// The runs of two gaps.
+fn listed(alloc: Global) -> Option<Listing> {
+    let bytes = two_gaps(alloc).ok()?;
+    let mut input = Counted::new(Source::whole(&bytes, 100));
+    list_runs(alloc, &mut input).ok()
+}
+
+/// The same, gathered by a caller that reads itself.
+fn gathered(alloc: Global) -> Option<Vec<Run>> {
+    let bytes = two_gaps(alloc).ok()?;
+    let mut input = Counted::new(Source::whole(&bytes, 100));
+    let mut fragment = OpenFragment::read(alloc, &mut input).ok()?;
+    let duration = fragment.header().identity().duration();
+    let mut runs = Vec::new(alloc);
+    for _ in 0..6u8 {
+        let data_record = fragment.next(&mut input).ok()??;
+        add_record(&mut runs, &data_record, duration).ok()?;
+    }
+    Some(runs)
+}
+
+/// The number of data records and of annotations samples of each run.
+fn sizes(alloc: Global, runs: &[Run]) -> Option<Vec<(u32, u32)>> {
+    let mut sizes = Vec::new(alloc);
+    for run in runs {
+        sizes.push((run.records(), run.block_samples())).ok()?;
+    }
+    Some(sizes)
+}
+
+#[test]
+fn runs_are_listed_and_gathered(rt: HostRuntime) {
+    let wanted = [(3u32, 10u32), (2, 17), (1, 3)];
+    let listed = listed(rt.alloc()).and_then(|found| sizes(rt.alloc(), &found.runs));
+    assert!(rt; listed.is_some_and(|sizes| sizes.as_slice() == wanted.as_slice()));
+    let gathered = gathered(rt.alloc()).and_then(|found| sizes(rt.alloc(), &found));
+    assert!(rt; gathered.is_some_and(|sizes| sizes.as_slice() == wanted.as_slice()));
+}
+
+/// The file of the second run, with its length as it was answered.
+fn second(alloc: Global) -> Option<(Vec<u8>, u64)> {
+    let listing = listed(alloc)?;
+    let bytes = two_gaps(alloc).ok()?;
+    let mut input = Counted::new(Source::whole(&bytes, 7));
+    let mut fragment = reopen(alloc, &mut input, &listing).ok()?;
+    skip_run(&mut fragment, &mut input, listing.runs.first()?).ok()?;
+    let mut got = Vec::new(alloc);
+    let mut out = Counted::new(Sink::whole(&mut got, 100));
+    let run = listing.runs.get(1)?;
+    let len = write_run(alloc, &mut fragment, &mut input, run, &mut out).ok()?;
+    drop(out);
+    Some((got, len))
+}
+
+#[test]
+fn a_run_is_skipped_and_the_next_one_written(rt: HostRuntime) {
+    let wanted = second_run(rt.alloc()).ok();
+    let written = second(rt.alloc());
+    assert!(rt; matches!((&written, &wanted), (Some((got, 844)), Some(file)) if got == file));
+}

@@ -1,0 +1,123 @@
+//! The lines of commands, and how they end.
+
+use crate::stage::plain_story;
+use std::alloc::Global;
+
+/// Each line of words, and what it writes.
+const STORIES: &[(&str, &str)] = &[
+    (
+        "list one.edf",
+        "1 records=2 first=2002-03-02T23:59:50 seconds=2\nstatus 0\n",
+    ),
+    (
+        "list nanosecond.edf",
+        "1 records=1 first=2002-03-02T23:59:50 seconds=1 gap=0.000000001\n\
+        2 records=1 first=2002-03-02T23:59:51.000000001 seconds=1\nstatus 0\n",
+    ),
+    (
+        "list day.edf",
+        "1 records=1 first=2002-03-02T23:59:50 seconds=1 gap=86400\n\
+        2 records=1 first=2002-03-03T23:59:51 seconds=1\nstatus 0\n",
+    ),
+    (
+        "list tenths.edf",
+        "1 records=4 first=2002-03-02T23:59:50 seconds=0.4\nstatus 0\n",
+    ),
+    (
+        "list -",
+        "1 records=3 first=2002-03-02T23:59:50.25 seconds=3 gap=7.5\n\
+        2 records=2 first=2002-03-03T00:00:00.75 seconds=2 gap=3597.25\n\
+        3 records=1 first=2002-03-03T01:00:00 seconds=1\nstatus 0\n",
+    ),
+    (
+        "split two.edf night",
+        "night-1.edf 1 records=3 first=2002-03-02T23:59:50.25 seconds=3 gap=7.5\n\
+        night-2.edf 2 records=2 first=2002-03-03T00:00:00.75 seconds=2 gap=3597.25\n\
+        night-3.edf 3 records=1 first=2002-03-03T01:00:00 seconds=1\nstatus 0\n",
+    ),
+    (
+        "list cut.edf",
+        "err: cut.edf refused E21 CutRecord record=3\nstatus 1\n",
+    ),
+    (
+        "write overlap.edf 1",
+        "err: overlap.edf refused E27 Order record=2\nstatus 1\n",
+    ),
+    (
+        "split cut.edf night",
+        "err: cut.edf refused E21 CutRecord record=3\nstatus 1\n",
+    ),
+    (
+        "picture cut.edf",
+        "err: cut.edf refused E21 CutRecord record=3\nstatus 1\n",
+    ),
+    (
+        "picture none.edf",
+        "err: none.edf refused E40 Read\nstatus 3\n",
+    ),
+    ("write two.edf 4", "err: no run 4\nstatus 1\n"),
+    (
+        "write two.edf 4294967295",
+        "err: no run 4294967295\nstatus 1\n",
+    ),
+    ("--version", "edfruns 1.0.0\nstatus 0\n"),
+    (
+        "write - 1",
+        "err: error: FILE is read twice, which standard input can't be: write it to a file first\n\n\
+        Usage: edfruns write <FILE> <N>\n\n\
+        For more information, try '--help'.\nstatus 2\n",
+    ),
+    (
+        "split - night",
+        "err: error: FILE is read twice, which standard input can't be: write it to a file first\n\n\
+        Usage: edfruns split <FILE> <PREFIX>\n\n\
+        For more information, try '--help'.\nstatus 2\n",
+    ),
+];
+
+#[test]
+fn commands_write_their_lines(rt: HostRuntime) {
+    for (line, wanted) in STORIES.iter().copied() {
+        let told = plain_story(rt.alloc(), line);
+        let Some(told) = told else {
+            assert!(rt; false, "{line}: out of memory");
+            continue;
+        };
+        assert_eq!(rt; told.as_str(), wanted, "{line}");
+    }
+}
+
+/// Whether no number of a run is refused as words that ask for nothing.
+fn is_no_number(alloc: Global, number: &str) -> Option<bool> {
+    let line = format!(in alloc; "write two.edf {number}").ok()?;
+    let told = plain_story(alloc, line.as_str())?;
+    let why = "err: error: N is a run's number in the list, in digits, from 1 to 4294967295\n";
+    Some(told.as_str().starts_with(why) && told.as_str().ends_with("status 2\n"))
+}
+
+#[test]
+fn numbers_of_runs_are_digits_from_one(rt: HostRuntime) {
+    for number in ["0", "00", "+1", "1.0", "4294967296", "one"] {
+        assert_eq!(rt; is_no_number(rt.alloc(), number), Some(true), "{number}");
+    }
+}
+
+/// The lines of a thousand runs of one data record, each a second after the end of the one before.
+fn thousand_lines(alloc: Global) -> Option<String> {
+    let mut text = String::new(alloc);
+    for number in 1..=1_000u32 {
+        let second = number.saturating_sub(1).saturating_mul(2);
+        let (minute, second) = (second / 60, second % 60);
+        let first = format!(in alloc; "2002-03-03T00:{minute:02}:{second:02}").ok()?;
+        let gap = if number < 1_000 { " gap=1" } else { "" };
+        write!(text, "{number} records=1 first={first} seconds=1{gap}\n").ok()?;
+    }
+    text.push_str("status 0\n").ok()?;
+    Some(text)
+}
+
+#[test]
+fn a_thousand_runs_are_listed(rt: HostRuntime) {
+    let told = plain_story(rt.alloc(), "list thousand.edf");
+    assert!(rt; told.is_some() && told == thousand_lines(rt.alloc()));
+}

@@ -1,0 +1,125 @@
+//! Memory that runs out, under each budget until one suffices.
+
+ghost use Rattle.std.specs.Prelude.{None, map, string_bytes};
+
+use crate::files::two_gaps;
+use crate::folder::Folder;
+use edf_command::{Inputs, Status};
+use edf_fragment::Counted;
+use edf_runs_command::{RunsCommand, run_runs};
+use edf_sample::{Scarce, Sink, Source};
+use std::alloc::{AllocError, Global};
+
+/// One file, whatever the name.
+#[derive(Drop)]
+struct Held<'a> {
+    bytes: &'a [u8],
+    /// The names that were opened, in turn.
+    names: Vec<String>,
+}
+
+impl<'a> Inputs for Held<'a> {
+    type Reader = Counted<Source<'a>>;
+
+    ghost bytes = { λ _ _. None };
+
+    ghost opened = { λ held. map string_bytes held.names.items };
+
+    fn open(&mut self, alloc: Global, name: &str) -> Result<Counted<Source<'a>>, AllocError> {
+        self.names.push(String::from_str(alloc, name)?)?;
+        Ok(Counted::new(Source::whole(self.bytes, 300)))
+    }
+}
+
+/// How a budget served.
+#[derive(Clone, Copy, Debug, PartialEq, Eq)]
+enum Served {
+    /// Memory ran out.
+    Short,
+    /// It sufficed.
+    Whole,
+}
+
+/// How the budget served under which a command ended so, wrote so and left so many files; `None`
+/// where it may not. A file that can't be made for want of memory is told as not written.
+fn how_served(status: Status, out: &[u8], err: &[u8], files: usize) -> Option<Served> {
+    match status {
+        Status::Done if err.is_empty() && !out.is_empty() => Some(Served::Whole),
+        Status::Trouble if files == 0 && out.is_empty() => {
+            let is_told = err.is_empty()
+                || err == b"two.edf refused E41 Memory\n".as_slice()
+                || err == b"two.edf refused E43 Write\n".as_slice();
+            if is_told { Some(Served::Short) } else { None }
+        }
+        _ => None,
+    }
+}
+
+/// Runs a command over two gaps under a budget.
+fn run_under(
+    alloc: Global,
+    command: &RunsCommand,
+    scarce: &mut Scarce,
+    budget: usize,
+) -> Option<Served> {
+    let bytes = two_gaps(alloc).ok()?;
+    let mut out_bytes = Vec::with_capacity(alloc, 10_000).ok()?;
+    let mut err_bytes = Vec::with_capacity(alloc, 1_000).ok()?;
+    let names = Vec::new(alloc);
+    let mut held = Held {
+        bytes: &bytes,
+        names,
+    };
+    let mut folder = Folder::new(alloc);
+    if !scarce.leave(alloc, budget) {
+        return None;
+    }
+    let mut out = Counted::new(Sink::whole(&mut out_bytes, 1_000));
+    let mut err = Counted::new(Sink::whole(&mut err_bytes, 1_000));
+    let status = run_runs(alloc, command, &mut held, &mut folder, &mut out, &mut err);
+    drop((out, err));
+    scarce.ease();
+    how_served(status, &out_bytes, &err_bytes, folder.count())
+}
+
+/// Under how many budgets memory runs out until one suffices; `None` where one is served otherwise,
+/// or none suffices.
+fn short_until_whole(alloc: Global, command: &RunsCommand) -> Option<u32> {
+    let mut scarce = Scarce::new(alloc).ok()?;
+    for turn in 0..10_000u32 {
+        let budget = if turn == 0 {
+            0
+        } else {
+            (turn as usize).saturating_mul(16).saturating_add(1_084)
+        };
+        match run_under(alloc, command, &mut scarce, budget)? {
+            Served::Short => {}
+            Served::Whole => return Some(turn),
+        }
+    }
+    None
+}
+
+/// The commands to list two gaps and to split it.
+fn commands(alloc: Global) -> Option<[RunsCommand; 2]> {
+    let list = RunsCommand::List {
+        file: String::from_str(alloc, "two.edf").ok()?,
+    };
+    let split = RunsCommand::Split {
+        file: String::from_str(alloc, "two.edf").ok()?,
+        prefix: String::from_str(alloc, "night").ok()?,
+    };
+    Some([list, split])
+}
+
+#[test]
+fn a_command_without_memory_writes_nothing_and_leaves_no_file(rt: HostRuntime) {
+    let Some([list, split]) = commands(rt.alloc()) else {
+        assert!(rt; false, "out of memory");
+        return;
+    };
+    let listed = short_until_whole(rt.alloc(), &list);
+    assert!(rt; matches!(listed, Some(10..)), "{listed:?}");
+    let made = short_until_whole(rt.alloc(), &split);
+    assert!(rt; matches!(made, Some(10..)), "{made:?}");
+}

@@ -1,0 +1,73 @@
+//! The program `edfruns`: lists the runs of a sleep recording, writes each as an EDF+C file, and
+//! draws a picture of it. What is read, written and answered is `edf_runs_command`'s; here the
+//! system is handed to it.
+#![tactic(auto)]
+
+mod new_files;
+
+use edf_command::Status;
+use edf_fragment::Counted;
+use edf_runs_command::{RunsCommand, read_command, run_runs};
+use edf_system::{Files, Streams, Terminal, refuse_words, words};
+use new_files::NewFiles;
+use std::process::ExitCode;
+
+/// The command that words ask for, or the status where there is none.
+fn command_of(rt: &HostRuntime, words: &[String]) -> Result<RunsCommand, Status> {
+    let mut out = Counted::new(rt.stdout());
+    let mut err = Counted::new(rt.stderr());
+    read_command(rt.alloc(), words, &mut out, &mut err)
+}
+
+/// The terminal of a command, which shows a person how much of the file was read.
+fn terminal_of<'rt>(rt: &'rt HostRuntime, command: &RunsCommand) -> Terminal<'rt> {
+    match command {
+        RunsCommand::List { .. } | RunsCommand::Picture { .. } => Terminal::new(rt, "reading", 1),
+        RunsCommand::Write { .. } | RunsCommand::Split { .. } => Terminal::new(rt, "reading", 2),
+    }
+}
+
+/// Runs a command over the system's files and streams.
+fn run_over(
+    rt: &HostRuntime,
+    command: &RunsCommand,
+    inputs: &mut Files<'_>,
+    outputs: &mut NewFiles<'_>,
+    streams: &mut Streams<'_>,
+) -> Status {
+    run_runs(
+        rt.alloc(),
+        command,
+        inputs,
+        outputs,
+        &mut streams.out,
+        &mut streams.err,
+    )
+}
+
+/// What the command asks for, done, with what a person sees of it.
+fn run_command(rt: &HostRuntime, command: &RunsCommand) -> Status {
+    let terminal = terminal_of(rt, command);
+    let mut streams = Streams::new(rt, &terminal);
+    let mut inputs = Files::new(rt, &terminal);
+    let mut outputs = NewFiles::new(rt, &terminal);
+    let status = run_over(rt, command, &mut inputs, &mut outputs, &mut streams);
+    terminal.wipe_progress();
+    status
+}
+
+/// Does what the words after the program's name ask for, and answers how it went.
+fn run_words(rt: &HostRuntime, words: &[String]) -> Status {
+    match command_of(rt, words) {
+        Ok(command) => run_command(rt, &command),
+        Err(status) => status,
+    }
+}
+
+fn main(rt: HostRuntime) -> ExitCode {
+    let status = match words(&rt) {
+        Ok(words) => run_words(&rt, words.as_slice()),
+        Err(error) => refuse_words(&rt, &error),
+    };
+    ExitCode::from(status.code())
+}
