@@ -10,8 +10,8 @@ SECONDS = 60    # that a line of the shell may take
 
 
 class Checks:
-    def __init__(self, program: Path, folder: Path):
-        self.program, self.folder, self.done, self.failed, self.case = program, folder, 0, 0, ""
+    def __init__(self, program: Path, folder: Path, name: str = "edfstore"):
+        self.program, self.folder, self.name, self.done, self.failed, self.case = program, folder, name, 0, 0, ""
 
     def begin(self, case: str) -> None:
         """A new case, with no files but its own."""
@@ -22,14 +22,23 @@ class Checks:
     def file(self, name: str, data: bytes) -> None:
         (self.folder / name).write_bytes(data)
 
+    def content(self, name: str):
+        """The bytes of a file, or None where it is not there."""
+        path = self.folder / name
+        return path.read_bytes() if path.is_file() else None
+
+    def names(self) -> list:
+        """What is in the case's folder."""
+        return sorted(path.name for path in self.folder.iterdir())
+
     def run(self, *words: str, given: bytes = b"", out="", err="", status: int = 0) -> None:
         """Runs the words in the case's folder; `err=None` is any text at all but none."""
         ran = subprocess.run([self.program, *words], input=given, capture_output=True, cwd=self.folder, check=False)
-        self.compare(f"edfstore {' '.join(words)}", ran, out, err, status)
+        self.compare(f"{self.name} {' '.join(words)}", ran, out, err, status)
 
     def shell(self, line: str, out="", err="", status: int = 0) -> None:
-        """Runs a line of the shell, in which `edfstore` is the program."""
-        words = ["bash", "-c", f'edfstore() {{ "$PROGRAM" "$@"; }}; {line}']
+        """Runs a line of the shell, in which the program has its name."""
+        words = ["bash", "-c", f'{self.name}() {{ "$PROGRAM" "$@"; }}; {line}']
         with subprocess.Popen(words, stdout=subprocess.PIPE, stderr=subprocess.PIPE, stdin=subprocess.DEVNULL, cwd=self.folder,
                               env={**os.environ, "PROGRAM": str(self.program)}, start_new_session=True) as child:
             try:
@@ -53,6 +62,13 @@ class Checks:
         if wrong:
             self.failed += 1
             print(f"{self.case}: {line[:100]}\n  " + "\n  ".join(wrong))
+
+    def same(self, what: str, got, wanted) -> None:
+        """Compares what a run left."""
+        self.done += 1
+        if got != wanted:
+            self.failed += 1
+            print(f"{self.case}: {what}\n  was {got!r:.300}, wanted {wanted!r:.300}")
 
     def end(self) -> None:
         """Says how many runs there were, and ends the script."""

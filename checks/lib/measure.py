@@ -13,17 +13,18 @@ LIB = Path(__file__).resolve().parent
 TOP = LIB.parent.parent
 
 
-def program(words: list) -> tuple:
-    """The program to run, and the words left: the word after `--program`, or the one that `bin/edfstore` runs."""
+def program(words: list, name: str = "edfstore") -> tuple:
+    """The program to run, and the words left: the word after `--program`, or the one that `bin/edfstore` runs, or another of bin/."""
     words = list(words)
     if "--program" in words:
         at = words.index("--program")
         given = Path(words[at + 1]).resolve()
         del words[at:at + 2]
         return given, words
-    chosen = subprocess.run(["bash", "-c", '. "$0/bin/common.sh" && chosen_program', TOP], stdout=subprocess.PIPE, text=True, check=False)
+    script = '. "$0/bin/common.sh" && chosen_program "$1"'
+    chosen = subprocess.run(["bash", "-c", script, TOP, name], stdout=subprocess.PIPE, text=True, check=False)
     if chosen.returncode:
-        sys.exit("bin/edfstore has no program to run")
+        sys.exit(f"bin/{name} has no program to run")
     return Path(chosen.stdout.strip()), words
 
 

@@ -1,10 +1,10 @@
 #!/usr/bin/env python3
 """The files of the programs' stored runs, which the gate runs: compared with those made here, and run; or written anew.
 
-    checks/lines/stored.py [--program PATH] [--write]       --write: writes stdin, stdout and data/ of the two crates
+    checks/lines/stored.py [--program PATH] [--write]       --write: writes stdin, stdout and data/ of the three crates
 
-What goes in is built field by field; what must come out is written below by hand, and compared with the plain model. Of the
-program's own making is only the store that `list` and `export` are given: the identity, start and samples of each row of it are
+PATH is edfstore; edfruns is the one that bin/edfruns runs. What goes in is built field by field; what must come out is written below by
+hand, and compared with the plain model. Of the program's own making is only the store that `list` and `export` are given: the identity, start and samples of each row of it are
 compared with the model. It needs no SQLite but Python's.
 """
 import shutil
@@ -64,6 +64,14 @@ def exported() -> bytes:
     return edf.fragment(edf.Header((edf.Signal(), edf.annotations_signal(16)), count="6"), records)
 
 
+def two_gaps() -> bytes:
+    """Six data records of a second, 0.25, 1.25, 2.25, 10.75, 11.75 and 3610 seconds after Q's start."""
+    blocks = [edf.keeping("+0.25"), edf.keeping("+1.25") + edf.tal("+1.5", "Snore"), edf.keeping("+2.25"), edf.keeping("+10.75"),
+              edf.keeping("+11.75"), edf.keeping("+3610") + edf.tal("+3610.5", "Turn", duration="0.5")]
+    header = edf.Header((edf.Signal(), edf.annotations_signal(14)), count=str(len(blocks)))
+    return edf.fragment(header, [(bytes([n, 0, 0xff - n, 0xff]), block) for n, block in enumerate(blocks, 1)])
+
+
 HELD = (P5, K, U, Q, nap(), R9)
 LISTED = b"""1 records=2 first=2002-03-04T13:00:00.25 patient=P12 investigation=N4
 2 records=6 first=2002-03-02T23:59:50 patient=P7 investigation=N1
@@ -74,6 +82,10 @@ missing.edf refused E40 Read
 b.edf refused E30 Overlap start=2002-03-02T23:59:50.5 stored=2002-03-02T23:59:50
 - accepted new=600 known=0
 card.edf accepted new=0 known=601
+"""
+RUNS = b"""1 records=3 first=2002-03-02T23:59:50.25 seconds=3 gap=7.5
+2 records=2 first=2002-03-03T00:00:00.75 seconds=2 gap=3597.25
+3 records=1 first=2002-03-03T01:00:00 seconds=1
 """
 
 
@@ -92,7 +104,8 @@ def files_of(held: bytes) -> dict:
     orders = b"".join((TAKEN, LISTED, b"status 0\n", exported(), b"status 0\n", b"status 1\n", b"status 2\n"))
     return {"edfstore/stdin": Q, "edfstore/stdout": Q, "edfstore_stored_run/data/held.db": held, "edfstore_stored_run/data/cut.edf": Q[:-1],
             "edfstore_stored_run/data/a.edf": Q, "edfstore_stored_run/data/b.edf": FILES["half"], "edfstore_stored_run/data/card.edf": card(),
-            "edfstore_stored_run/stdin": long_spelling(), "edfstore_stored_run/stdout": orders}
+            "edfstore_stored_run/stdin": long_spelling(), "edfstore_stored_run/stdout": orders,
+            "edfruns/stdin": b"", "edfruns/data/two_gaps.edf": two_gaps(), "edfruns/stdout": RUNS}
 
 
 def by_model() -> None:
@@ -159,6 +172,7 @@ def run(program: Path, crate: Path, folder: Path) -> bool:
 
 def main() -> None:
     program, words = measure.program(sys.argv[1:])
+    runs, _ = measure.program([], "edfruns")
     is_writing = measure.flag(words, "--write")
     by_model()
     with measure.scratch() as name:
@@ -172,6 +186,7 @@ def main() -> None:
         for path in others:
             print(f"{path} is not what is made here")
         ran = [run(program, crate, folder) for crate in sorted(CRATES.glob("edfstore*"))]
+        ran.append(run(runs, CRATES / "edfruns", folder))
     sys.exit(0 if all(ran) and not others else 1)
 
 

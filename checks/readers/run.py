@@ -8,27 +8,19 @@ and exported; then the four come, and it is exported again. Of each export is to
 all samples are those submitted, for how many records it tells the right time, and how many annotations come with their time,
 duration and text. It needs Debian's python3-mne, biosig-tools, libedf-dev and cc, and so Debian's own python3.
 """
-import json
 import subprocess
 import sys
-import warnings
 from collections import Counter
-from datetime import datetime, timedelta
 from pathlib import Path
 
 sys.path.insert(0, str(Path(__file__).resolve().parent.parent / "lib"))
 import measure  # noqa: E402
 import model  # noqa: E402
 import night  # noqa: E402
+import reading  # noqa: E402
+from reading import numpy  # noqa: E402
 
-try:
-    import mne
-    import numpy
-except ImportError:
-    sys.exit("this needs python3-mne, and Debian's own python3 (/usr/bin/python3) to run it")
-
-LOW, HIGH = -3276.8, 3276.7     # a tenth of a microvolt a step of the 16 bits
-NIGHT = night.Night(samples=(100, 100, 100, 25), limits=("-3276.8", "3276.7", "-32768", "32767"))
+NIGHT = night.Night(samples=(100, 100, 100, 25), limits=reading.LIMITS)
 MISSING = range(40, 44)
 
 
@@ -68,60 +60,18 @@ class Submitted:
         return (wanted & got).total()
 
 
-def digital(physical) -> numpy.ndarray:
-    return numpy.rint((physical - LOW) / (HIGH - LOW) * 65535 - 32768).astype(int)
-
-
-def by_mne(path: Path) -> tuple:
-    """Samples by signal, the time of each record, the annotations, and what MNE warned of. A signal at a time, since MNE brings
-    signals of several rates to the highest."""
-    signals, told = [], set()
-    with warnings.catch_warnings(record=True) as warned:
-        warnings.simplefilter("always")
-        for n in range(len(NIGHT.samples)):
-            raw = mne.io.read_raw_edf(path, include=[f"EEG channel {n + 1}"], preload=True, verbose="warning")
-            signals.append(digital(raw.get_data()[0] * 1e6))
-        told.update(str(each.message) for each in warned)
-    count = len(signals[0]) // NIGHT.samples[0]
-    times = [raw.times[n * NIGHT.samples[-1]] for n in range(count)]
-    notes = [(note["onset"], note["duration"], note["description"]) for note in raw.annotations]
-    return signals, times, notes, sorted(told)
-
-
-def stamp(text: str) -> datetime:
-    """A time as BioSig writes it: seconds may be 60."""
-    minute, seconds = text.rsplit(":", 1)
-    return datetime.strptime(minute, "%Y-%m-%d %H:%M") + timedelta(seconds=float(seconds))
-
-
-def by_biosig(path: Path, folder: Path) -> tuple:
-    """The same by `save2gdf`: samples as text, events as JSON."""
-    made = folder / "ascii.asc"
-    subprocess.run(["save2gdf", "-f=ASCII", path, made], check=True, stdout=subprocess.DEVNULL, stderr=subprocess.DEVNULL)
-    signals = [digital(numpy.fromstring((folder / f"ascii.a{n + 1:02}").read_text(), sep="\n")) for n in range(len(NIGHT.samples))]
-    told = subprocess.run(["save2gdf", "-JSON", path], check=True, capture_output=True).stdout.decode()
-    said = json.loads(told[told.index("{"):], strict=False)
-    times, notes = [], []
-    for event in said["EVENT"]:
-        at = (stamp(event["TimeStamp"]) - stamp(said["StartOfRecording"])).total_seconds()
-        if event["TYP"] == "0x7ffe":
-            times.append(at)
-        else:
-            notes.append((at, event["DUR"], event["Description"]))
-    return signals, times, notes, []
-
-
 def compare(title: str, path: Path, submitted: Submitted, folder: Path, probe: Path) -> list:
     lines, records, notes = [], len(submitted.starts), len(submitted.notes)
-    for name, read in (("MNE " + mne.__version__, lambda: by_mne(path)), ("BioSig", lambda: by_biosig(path, folder))):
+    for name, read in ((reading.MNE, lambda: reading.by_mne(path, NIGHT.samples)),
+                       ("BioSig", lambda: reading.by_biosig(path, folder, NIGHT.samples))):
         try:
-            signals, times, found, warned = read()
+            told = read()
         except Exception as fault:
             lines.append((title, name, f"no: {type(fault).__name__}: {fault}"[:100], "", "", ""))
             continue
-        lines.append((title, name, "yes", f"{submitted.same_records(signals):,} of {records:,}",
-                      f"{submitted.right_times(times):,} of {records:,}", f"{submitted.same_notes(found):,} of {notes:,}"))
-        for warning in warned:
+        lines.append((title, name, "yes", f"{submitted.same_records(told.signals):,} of {records:,}",
+                      f"{submitted.right_times(told.times):,} of {records:,}", f"{submitted.same_notes(told.notes):,} of {notes:,}"))
+        for warning in told.warned:
             print(f"{title}, {name} warns: {warning}")
     answer = subprocess.run([probe, path], check=True, capture_output=True).stdout.decode().strip()
     lines.append((title, "EDFlib", "yes" if answer.startswith("opened") else f"no: {answer}", "", "", ""))

@@ -1,0 +1,149 @@
+#!/usr/bin/env python3
+"""The words of `edfruns` by the clock against `cat`, with their peak memory, and by the instructions that they take.
+
+    bench/runs/run.py [--program PATH] [--short] [RUNS]     best of RUNS runs of each, 3 if left out; --short: of 12.8 MB
+
+A night of 195 MB: its card, which is one run, and the same night with three gaps, which is four. `list` and `picture` read once,
+`write` and `split` twice. Each word is run from a file, right after a `cat` of that file into another, and `list` and `picture` from
+a pipe too, right after a `cat` between pipes. From file to file `cat` lets the kernel copy, and no byte passes through it; between pipes
+it reads and writes. What is written is compared with the plain model's, but for the picture. Then the same words on a night of 7,200
+records of 1.7 kB, whose instructions callgrind counts. It needs time and valgrind; about 1.5 GB in TMPDIR.
+"""
+import os
+import subprocess
+import sys
+import time
+from dataclasses import dataclass
+from pathlib import Path
+
+sys.path.insert(0, str(Path(__file__).resolve().parent.parent.parent / "checks" / "lib"))
+import gapped  # noqa: E402
+import measure  # noqa: E402
+import night  # noqa: E402
+import runs  # noqa: E402
+
+LIST_MOST, WRITE_MOST, PEAK_MOST = 1.5, 3.0, 16_000_000     # what is wanted
+
+
+@dataclass
+class Line:
+    """The best of a word and of the `cat` beside it."""
+    word: str
+    seconds: float = float("inf")
+    processor: float = float("inf")     # not told of a run between pipes
+    copied: float = float("inf")
+    peak: int = 0
+
+    def add(self, done: measure.Run, copied: float) -> None:
+        self.seconds, self.copied = min(self.seconds, done.seconds), min(self.copied, copied)
+        self.processor, self.peak = min(self.processor, done.processor), max(self.peak, done.peak)
+
+    def cells(self) -> tuple:
+        return (self.word, f"{self.seconds:.3f} s", f"{self.processor:.3f} s" if self.peak else "", f"{self.copied:.3f} s",
+                f"{self.seconds / self.copied:.2f}", measure.mb(self.peak) if self.peak else "")
+
+
+def piped(command: list, source: Path) -> float:
+    """Seconds of the command between two `cat`."""
+    begun = time.perf_counter()
+    with open(source, "rb") as given, open(os.devnull, "wb") as nothing:
+        before = subprocess.Popen(["cat"], stdin=given, stdout=subprocess.PIPE)
+        middle = subprocess.Popen(command, stdin=before.stdout, stdout=subprocess.PIPE)
+        before.stdout.close()
+        after = subprocess.Popen(["cat"], stdin=middle.stdout, stdout=nothing)
+        middle.stdout.close()
+        for child in (before, middle, after):
+            if child.wait():
+                sys.exit(f"{child.args[0]} ended with status {child.returncode}")
+    return time.perf_counter() - begun
+
+
+def words_of(name: str, path: Path, folder: Path) -> dict:
+    """Each word's command without the program, and the file for its standard output."""
+    return {f"list, {name}": (["list", path], folder / f"{name}.txt"),
+            f"write 1, {name}": (["write", path, "1"], folder / f"{name}-one.edf"),
+            f"split, {name}": (["split", path, folder / f"{name}-run"], folder / f"{name}-split.txt"),
+            f"picture, {name}": (["picture", path], folder / f"{name}.svg")}
+
+
+def cleared(folder: Path, name: str) -> None:
+    """The files of the last `split` are gone."""
+    for made in folder.glob(f"{name}-run-*.edf"):
+        made.unlink()
+
+
+def one_round(program, files: dict, folder: Path, best: dict) -> None:
+    for name, path in files.items():
+        for word, (words, out) in words_of(name, path, folder).items():
+            if words[0] == "split":
+                cleared(folder, name)
+            measure.settle()
+            copied = measure.run(["cat", path], out=folder / "copy")
+            measure.settle()
+            best.setdefault(word, Line(word)).add(measure.run([program, *words], out=out), copied.seconds)
+        for word in ("list", "picture"):
+            line = best.setdefault(f"{word} -, {name}", Line(f"{word} -, {name}"))
+            line.copied = min(line.copied, piped(["cat"], path))
+            line.seconds = min(line.seconds, piped([program, word, "-"], path))
+
+
+def compared(files: dict, folder: Path) -> None:
+    """What the last round wrote, against the model."""
+    for name, path in files.items():
+        made = runs.read_runs(path.read_bytes())
+        wanted = [run.to_bytes() for run in made]
+        same = ((folder / f"{name}.txt").read_text() == runs.lines(made), (folder / f"{name}-one.edf").read_bytes() == wanted[0],
+                [(folder / part).read_bytes() for part in runs.split_names(f"{name}-run", made)] == wanted)
+        if not all(same):
+            sys.exit(f"{name}: lines, the first run and the files of the split are as the model's: {same}")
+
+
+def counted(program, folder: Path) -> None:
+    """Each word's instructions on a short night."""
+    files = nights(folder, night.SHORT, "short-")
+    lines = []
+    for name, path in files.items():
+        for word, (words, out) in words_of(name, path, folder).items():
+            if words[0] == "split":
+                cleared(folder, name)
+            number = measure.instructions([program, *words], out)
+            lines.append((word, f"{number / 1e6:.1f} million", f"{number // night.SHORT.records:,}", f"{number / path.stat().st_size:.1f}"))
+    print(f"instructions on a night of {night.SHORT.records:,} records, {measure.mb(path.stat().st_size)}")
+    measure.table(("", "instructions", "a record", "a byte"), lines)
+
+
+def nights(folder: Path, kind: night.Night, prefix: str = "") -> dict:
+    """A night as its card and with three gaps."""
+    third = kind.records // 4
+    gaps = ((third, 1_200 * gapped.SECOND), (2 * third, 600 * gapped.SECOND + gapped.SECOND // 4), (3 * third, 7 * gapped.SECOND))
+    parted = gapped.GappedNight(records=kind.records, samples=kind.samples, gaps=gaps)
+    return {f"{prefix}card": kind.card(folder / f"{prefix}card.edf"), f"{prefix}gaps": parted.whole(folder / f"{prefix}gaps.edf")}
+
+
+def verdict(best: dict) -> None:
+    ratios = {word: line.seconds / line.copied for word, line in best.items()}
+    for kind, most in (("list", LIST_MOST), ("write", WRITE_MOST)):
+        worst = max(ratio for word, ratio in ratios.items() if word.startswith(kind))
+        print(f"`{kind}` takes at most {worst:.2f} times `cat` (wanted: at most {most})")
+    peak = max(line.peak for line in best.values())
+    print(f"peak memory at most {measure.mb(peak)} (wanted: at most {measure.mb(PEAK_MOST)})\n")
+
+
+def main() -> None:
+    program, words = measure.program(sys.argv[1:], "edfruns")
+    measure.need("cat", "/usr/bin/time", "valgrind")
+    kind = night.SHORT if measure.flag(words, "--short") else night.CLINIC
+    rounds = int(words[0]) if words else 3
+    with measure.scratch() as name:
+        folder = Path(name)
+        files, best = nights(folder, kind), {}
+        for _ in range(rounds):
+            one_round(program, files, folder, best)
+        compared(files, folder)
+        print(f"a night of {measure.mb(files['card'].stat().st_size)}, best of {rounds} runs, {measure.machine()}\n")
+        measure.table(("", "`edfruns`", "processor", "`cat`", "/ `cat`", "peak"), [line.cells() for line in best.values()])
+        verdict(best)
+        counted(program, folder)
+
+
+main()

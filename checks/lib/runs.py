@@ -1,0 +1,74 @@
+"""A plain model of `edfruns`, beside the one of `edfstore`: the runs of a file, the line of each and the file of each. A run is a longest
+stretch of data records each of which starts where the one before ends, to the nanosecond.
+
+    from runs import read_runs
+    runs = read_runs(data)                      or model.Refused, with the first fault of the file
+    runs[0].line()                              '1 records=3 first=2002-03-02T22:00:00 seconds=3 gap=0.5\\n'
+    runs[0].to_bytes()                          the run's file
+    split_lines("night", runs)                  what `split` prints; split_names("night", runs) are the files that it makes
+"""
+from dataclasses import dataclass
+
+import model
+
+RESERVED = slice(192, 197)      # where a file says EDF+C or EDF+D
+
+
+@dataclass(frozen=True)
+class Run:
+    number: int
+    key: model.Key
+    records: tuple
+    gap: int                    # nanoseconds to the run that follows, 0 for the last
+
+    def first(self) -> int:
+        """When its first data record starts, in nanoseconds from 1985."""
+        return self.records[0].start
+
+    def length(self) -> int:
+        """How many nanoseconds it has."""
+        return len(self.records) * self.key.duration()
+
+    def line(self) -> str:
+        gap = f" gap={model.shortest(self.gap).decode()}" if self.gap else ""
+        return (f"{self.number} records={len(self.records)} first={model.instant_text(self.first())} "
+                f"seconds={model.shortest(self.length()).decode()}{gap}\n")
+
+    def to_bytes(self) -> bytes:
+        """The canonical file of its data records, but that it is marked as one without a gap."""
+        data = bytearray(model.canonical(self.key, list(self.records)))
+        data[RESERVED] = b"EDF+C"
+        return bytes(data)
+
+
+def parted(key: model.Key, records: list) -> list:
+    """The data records of each run."""
+    stretches = [[records[0]]]
+    for before, record in zip(records, records[1:]):
+        if record.start == before.start + key.duration():
+            stretches[-1].append(record)
+        else:
+            stretches.append([record])
+    return stretches
+
+
+def read_runs(data: bytes) -> list:
+    key, records = model.read(data)
+    stretches = parted(key, records)
+    nexts = [stretch[0].start for stretch in stretches[1:]]
+    gaps = [start - stretch[-1].start - key.duration() for stretch, start in zip(stretches, nexts)] + [0]
+    return [Run(number, key, tuple(stretch), gap) for number, (stretch, gap) in enumerate(zip(stretches, gaps), 1)]
+
+
+def lines(runs: list) -> str:
+    return "".join(run.line() for run in runs)
+
+
+def split_names(prefix: str, runs: list) -> list:
+    """The files' names: each number has as many digits as the last."""
+    width = len(str(len(runs)))
+    return [f"{prefix}-{run.number:0{width}}.edf" for run in runs]
+
+
+def split_lines(prefix: str, runs: list) -> str:
+    return "".join(f"{name} {run.line()}" for name, run in zip(split_names(prefix, runs), runs))
