@@ -4,9 +4,9 @@
     bench/runs/run.py [--program PATH] [--short] [RUNS]     best of RUNS runs of each, 3 if left out; --short: of 12.8 MB
 
 A night of 195 MB: its card, which is one run, and the same night with three gaps, which is four. `list` and `picture` read once,
-`write` and `split` twice. Each word is run from a file, right after a `cat` of that file into another, and `list` and `picture` from
-a pipe too, right after a `cat` between pipes. From file to file `cat` lets the kernel copy, and no byte passes through it; between pipes
-it reads and writes. What is written is compared with the plain model's, but for the picture. Then the same words on a night of 7,200
+`write` and `split` twice. Each word is run from a file, right after a `cat` of that file: into another file for `write` and `split`, which
+write as much, and to /dev/null for the others. `list` and `picture` read a pipe too, right after a `cat` between pipes. From file to file
+`cat` lets the kernel copy, and no byte passes through it; between pipes it reads and writes. What is written is compared with the plain model's, but for the picture. Then the same words on a night of 7,200
 records of 1.7 kB, whose instructions callgrind counts. It needs time and valgrind; about 1.5 GB in TMPDIR.
 """
 import os
@@ -58,6 +58,10 @@ def piped(command: list, source: Path) -> float:
     return time.perf_counter() - begun
 
 
+# The words that write as much as they read: their `cat` writes a file too, and that of the others nothing.
+COPIES = ("write", "split")
+
+
 def words_of(name: str, path: Path, folder: Path) -> dict:
     """Each word's command without the program, and the file for its standard output."""
     return {f"list, {name}": (["list", path], folder / f"{name}.txt"),
@@ -78,7 +82,7 @@ def one_round(program, files: dict, folder: Path, best: dict) -> None:
             if words[0] == "split":
                 cleared(folder, name)
             measure.settle()
-            copied = measure.run(["cat", path], out=folder / "copy")
+            copied = measure.run(["cat", path], out=folder / "copy" if words[0] in COPIES else Path("/dev/null"))
             measure.settle()
             best.setdefault(word, Line(word)).add(measure.run([program, *words], out=out), copied.seconds)
         for word in ("list", "picture"):
