@@ -1,5 +1,5 @@
 -- The cells of one row.
-use Rattle.std.proofs.Common.{◌≡◌, ◌≢◌, ℕ, ◌*◌, ◌<◌, pos, ℤ, Option, None, Some, MatchOption, List, [], ◌∷◌, length, ◌^◌, of_z, to_z, w64, FitsSigned, refl, sym, ap, ap₂, subst, ◌∙◌, arith}
+use Rattle.std.proofs.Common.{◌≡◌, ◌≢◌, ◌↔◌, ℕ, ◌*◌, ◌<◌, pos, ℤ, Option, None, Some, MatchOption, List, [], ◌∷◌, length, ◌^◌, of_z, to_z, w64, FitsSigned, refl, sym, ap, ap₂, subst, ◌∙◌, arith}
 use Rattle.sqlite_value.specs.declared.value.Value.{Value}
 use Rattle.sqlite_value.specs.declared.value.Value.TheVariants.{Int, Blob}
 use Rattle.sqlite_value.specs.Order.{Row, column}
@@ -18,7 +18,7 @@ use Rattle.edf_tal.proofs.Cited.{read-start, read-annotations, read-any}
 use Rattle.edf_fragment.specs.Fragment.{DataRecord, IsWithinSize}
 use Rattle.edf_fragment.specs.Sound.{IsValidRecord, IsSoundRecord}
 use Rattle.edf_rows.specs.Foreign.{IsBadRow, bad_samples, bad_block}
-use Rattle.edf_rows.specs.Rows.{IsRowOf}
+use Rattle.edf_rows.specs.Rows.{IsRowOf, GivesRecord, GivesNoRecord}
 use Rattle.edf_rows.specs.Inside.Shape.{IsUnread, OwnBlock, NoOwnBlock}
 
 -- a block that is not written for what it gives is written for nothing
@@ -92,27 +92,50 @@ row-read k r start samples block is =
     let same : block ≡ block_text 0 r.start r.annotations = blob-bytes block _ (ap (λ (row : Row). column row 2) is.cells) in
     subst (λ (b : List ℕ). IsRead b 0 Any r.start r.annotations) (sym same) (own-read k r is.sound)
 
-pub row-unread : (k : Key) (r : DataRecord) (start : ℤ) (samples block : List ℕ) → IsRowOf k r (Int start ∷ Blob samples ∷ Blob block ∷ []) → ¬ IsUnread block
-row-unread k r start samples block is none = none r.start r.annotations (row-read k r start samples block is)
+-- the row of a sound data record gives that data record
+pub row-gives : (k : Key) (r : DataRecord) (start : ℤ) (samples block : List ℕ) → IsKey k → IsRowOf k r (Int start ∷ Blob samples ∷ Blob block ∷ []) → GivesRecord samples block r
+row-gives k r start samples block key is = record {
+  samples_are = sym (blob-bytes samples _ (ap (λ (row : Row). column row 1) is.cells));
+  read = row-read k r start samples block is;
+  size = record { samples = omega (arith, is.sound.samples_len, key.size); annotations = is.sound.limits };
+}
 
--- what is made of the parts that a data record's row gives is that data record
-pub row-made : (k : Key) (r : DataRecord) (start : ℤ) (samples block : List ℕ) (read : ℕ) (list : List Annotation) (made : Option DataRecord)
-    → IsKey k → IsRowOf k r (Int start ∷ Blob samples ∷ Blob block ∷ []) → IsRead block 0 Any read list
+-- ---- what samples and a block give
+pub one-given : (samples block : List ℕ) (r s : DataRecord) → GivesRecord samples block r → GivesRecord samples block s → r ≡ s
+one-given samples block r s p q =
+    let one = one-read block 0 Any r.start s.start r.annotations s.annotations p.read q.read in
+    let bytes : r.samples ≡ s.samples = p.samples_are ∙ sym q.samples_are in
+    λ i. record { start = one.start i; samples = bytes i; annotations = one.list i }
+
+-- the answer is what they give, or `None` where they give nothing
+abbrev pub IsGiven : List ℕ → List ℕ → Option DataRecord → Type 0
+IsGiven samples block made = MatchOption made (GivesNoRecord samples block) (GivesRecord samples block)
+
+pub given-unread : (samples block : List ℕ) → IsUnread block → IsGiven samples block None
+given-unread samples block none r gives = none r.start r.annotations gives.read
+
+-- what is made of the samples and of what is read
+pub given-made : (samples block : List ℕ) (read : ℕ) (list : List Annotation) (made : Option DataRecord) → IsRead block 0 Any read list
     → (let parts : DataRecord = record { start = read; samples = samples; annotations = list } in
     MatchOption made (¬ IsWithinSize parts) (λ d. IsValidRecord d × (d ≡ parts)))
-    → made ≡ Some r
-row-made k r start samples block read list made key is gives parts = go made parts
-  where
-    same : record { start = read; samples = samples; annotations = list } ≡ r
-    same =
-        let one = one-read block 0 Any read r.start list r.annotations gives (row-read k r start samples block is) in
-        let bytes : samples ≡ r.samples = blob-bytes samples _ (ap (λ (row : Row). column row 1) is.cells) in
-        λ i. record { start = one.start i; samples = bytes i; annotations = one.list i }
+    → IsGiven samples block made
+given-made samples block read list None is large = λ r gives.
+    let one = one-read block 0 Any r.start read r.annotations list gives.read is in
+    let same : r ≡ record { start = read; samples = samples; annotations = list } = λ i. record { start = one.start i; samples = gives.samples_are i; annotations = one.list i } in
+    large (subst IsWithinSize same gives.size)
+given-made samples block read list (Some d) is kept = record {
+  samples_are = ap (λ (r : DataRecord). r.samples) kept.1;
+  read = subst (λ (r : DataRecord). IsRead block 0 Any r.start r.annotations) (sym kept.1) is;
+  size = kept.0.size;
+}
 
-    small : IsWithinSize r
-    small = record { samples = omega (arith, is.sound.samples_len, key.size); annotations = is.sound.limits }
+pub given-some : (samples block : List ℕ) (made : Option DataRecord) → IsGiven samples block made → (r : DataRecord) → (made ≡ Some r) ↔ GivesRecord samples block r
+given-some samples block None none r = (λ same. absurd (let h : None ≡ Some r = same in cc), λ gives. absurd (none r gives))
+given-some samples block (Some d) is r = (
+  λ same. let e : d ≡ r = cc in subst (GivesRecord samples block) e is,
+  λ gives. ap Some (one-given samples block d r is gives),
+)
 
-    go : (made : Option DataRecord) → (let parts : DataRecord = record { start = read; samples = samples; annotations = list } in
-        MatchOption made (¬ IsWithinSize parts) (λ d. IsValidRecord d × (d ≡ parts))) → made ≡ Some r
-    go None refused = absurd (refused (subst IsWithinSize (sym same) small))
-    go (Some d) kept = ap Some (kept.1 ∙ same)
+pub given-none : (samples block : List ℕ) (made : Option DataRecord) → IsGiven samples block made → (made ≡ None) ↔ GivesNoRecord samples block
+given-none samples block None none = (λ same. none, λ no. refl)
+given-none samples block (Some d) is = (λ same. absurd (let h : Some d ≡ None = same in cc), λ no. absurd (no d is))

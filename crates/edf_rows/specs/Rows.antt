@@ -3,10 +3,12 @@ use Rattle.std.specs.Prelude.{◌≡◌, ◌≢◌, ℕ, ℤ, List, [], ◌∷�
 use Rattle.sqlite_value.specs.Order.{Row}
 use Rattle.sqlite_trees.specs.Tree.{Trees}
 use Rattle.edf_header.specs.Key.{Key, IsKey}
+use Rattle.edf_tal.specs.Block.{IsRead}
+use Rattle.edf_tal.specs.declared.place.Place.TheVariants.{Any}
 use Rattle.edf_holdings.specs.Holdings.{Holdings, IsSound}
 use Rattle.edf_rows.specs.Cells.{record_cells, recording_cells, recordings_in, records_in}
 use Rattle.edf_schema.specs.Columns.{the_id, the_identity, stored_records, is_of}
-use Rattle.edf_fragment.specs.Fragment.{DataRecord}
+use Rattle.edf_fragment.specs.Fragment.{DataRecord, IsWithinSize}
 use Rattle.edf_fragment.specs.Sound.{IsSoundRecord}
 
 -- the key's recording is there, under this id
@@ -58,3 +60,15 @@ pub record AreKept (cap : ℕ) (trees : Trees) (h : Holdings) : Type 0 where
 pub record IsRowOf (k : Key) (r : DataRecord) (row : Row) : Type 0 where
   pub cells : row ≡ record_cells r
   pub sound : IsSoundRecord k r
+
+-- samples and a block give this data record: it has these samples, the start and the annotations
+-- that are read from the block, and the size of a data record. Another spelling of the block that is
+-- written for it gives the same
+pub record GivesRecord (samples block : List ℕ) (r : DataRecord) : Type 0 where
+  pub samples_are : r.samples ≡ samples
+  pub read : IsRead block 0 Any r.start r.annotations
+  pub size : IsWithinSize r
+
+-- they give none
+abbrev pub GivesNoRecord : List ℕ → List ℕ → Type 0
+GivesNoRecord samples block = (r : DataRecord) → ¬ GivesRecord samples block r

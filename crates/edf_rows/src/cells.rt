@@ -1,4 +1,4 @@
-ghost use Rattle.std.specs.Prelude.{◌≡◌, ◌∷◌, [], ℤ, Some, List, pos, IfOk, MatchOption};
+ghost use Rattle.std.specs.Prelude.{◌≡◌, ◌↔◌, ◌∷◌, [], ℤ, Some, None, List, pos, IfOk, MatchOption};
 ghost use Rattle.sqlite_value.specs.declared.value.Value.TheVariants.{Int, Blob};
 ghost use Rattle.edf_header.specs.Key.{Key, IsKey};
 ghost use Rattle.edf_tal.specs.Tal.{Annotation};
@@ -7,7 +7,7 @@ ghost use Rattle.edf_tal.specs.declared.place.Place.TheVariants.{Any};
 ghost use Rattle.edf_tal.specs.Canonical.{block_text};
 ghost use Rattle.edf_fragment.specs.Fragment.{DataRecord};
 ghost use Rattle.edf_rows.specs.Foreign.{IsBadRow};
-ghost use Rattle.edf_rows.specs.Rows.{IsRowOf};
+ghost use Rattle.edf_rows.specs.Rows.{IsRowOf, GivesRecord, GivesNoRecord};
 ghost use Rattle.edf_rows.specs.Inside.Shape.{IsUnread, OwnBlock, NoOwnBlock};
 
 use edf_fragment::Record;
@@ -99,10 +99,11 @@ pub fn check_row(
     }
 }
 
-/// The data record of a row that `check_row` accepts, by the samples and the block of the row.
+/// The data record that the samples and the block of a row give; `None` where they give none: the
+/// block is refused, or there are more than 4,194,304 sample bytes.
 ///
-/// Of another row it gives any data record, or `None`: the block is not written again to compare
-/// it.
+/// Of a row that `check_row` accepts it is the row's data record. The block is not written again to
+/// compare it, so another spelling of it gives the same data record.
 ///
 /// # Errors
 /// Where memory runs out, which says nothing of the row.
@@ -111,7 +112,10 @@ pub fn record_from(
     samples: Vec<u8>,
     block: &[u8],
 ) -> Result<Option<Record>, AllocError>
-    ensures { IfOk result (λ o. (k : Key) (r : DataRecord) (start : ℤ) → IsKey k →
+    ensures read { IfOk result (λ o. (r : DataRecord) →
+        (o ≡ Some r) ↔ GivesRecord samples.items block.now r) }
+    ensures none { IfOk result (λ o. (o ≡ None) ↔ GivesNoRecord samples.items block.now) }
+    ensures row { IfOk result (λ o. (k : Key) (r : DataRecord) (start : ℤ) → IsKey k →
         IsRowOf k r (Int start ∷ Blob samples.items ∷ Blob block.now ∷ []) → o ≡ Some r) }
 {
     let Some((start, notes)) = read_cell(alloc, block)? else {
