@@ -18,7 +18,7 @@ use Rattle.sqlite.specs.State.{State, IsUnchanged}
 use Rattle.sqlite_value.specs.Order.{column, value_cmp}
 use Rattle.sqlite_schema.specs.Rules.{Obeys}
 use Rattle.sqlite_trees.proofs.ListLemmas.{all-permutation}
-use Rattle.edf_tables.specs.Schema.{both_schema}
+use Rattle.edf_tables.specs.Schema.{Others, schema_with, HasBoth}
 use Rattle.edf_tables.proofs.Keeping.{same_left, same_keeps, keeps_then}
 use Rattle.edf_rows.specs.Cells.{recording_cells, recordings_in}
 use Rattle.edf_rows.specs.Rows.{IsOwned, AreTwoOf, AreOther}
@@ -104,13 +104,13 @@ module _ (cap : ℕ) (trees : Trees) (rows : List Row) (sum : ℕ) (same : IsPer
   all_owned [] all = tt
   all_owned (r ∷ rs) all = (owned_by_one cap trees rows r same counted.has all.0, all_owned rs all.1)
 
-  kept : Obeys both_schema trees → sum ≡ length (trees 2) → Answers cap trees true
-  kept obeys full =
+  kept : (o : Others) → Obeys (schema_with o) trees → sum ≡ length (trees 2) → Answers cap trees true
+  kept o obeys full =
       let has : AllByRecursion (HasRecords cap trees) (recordings_in trees) = all-permutation (HasRecords cap trees) rows (recordings_in trees) (IsPermutation-sym _ _ same) counted.has in
       let ids : (a b : Row) → AreTwoOf (recordings_in trees) a b → column a 0 ≢ column b 0 = λ a b two. other_ids rows a b counted.apart (two.0, IsPermutation-trans _ _ _ (IsPermutation-sym _ _ same) two.1) in
       let first : (a b : Row) → AreTwoOf (recordings_in trees) a b → Contains (recordings_in trees) a = λ a b two. Contains-permutation _ _ a (IsPermutation-sym _ _ two.1) (here a (b ∷ two.0)) in
       let second : (a b : Row) → AreTwoOf (recordings_in trees) a b → Contains (recordings_in trees) b = λ a b two. Contains-permutation _ _ b (IsPermutation-sym _ _ two.1) (there a b (b ∷ two.0) (here b two.0)) in
-      let apart : (a b : Row) → AreTwoOf (recordings_in trees) a b → AreOther a b = λ a b two. record { id = ids a b two; identity = other_identities cap trees obeys has a b (first a b two) (second a b two) (ids a b two) } in
+      let apart : (a b : Row) → AreTwoOf (recordings_in trees) a b → AreOther a b = λ a b two. record { id = ids a b two; identity = other_identities cap trees o obeys has a b (first a b two) (second a b two) (ids a b two) } in
       let owners : All (IsOwned trees) (trees 2) = All-from_recursion (IsOwned trees) (trees 2) (all_owned (trees 2) (all_full (λ r. list_any (λ g. owns g r) rows) (trees 2) (sym counted.sums ∙ full))) in
       (held_of cap trees (recordings_in trees) has, are-kept cap trees has apart owners)
 
@@ -120,18 +120,18 @@ module _ (cap : ℕ) (trees : Trees) (rows : List Row) (sum : ℕ) (same : IsPer
       without_recording it.0 it.1 (λ id k is own.
       true≢false (sym (any_here rows (recording_cells id k) it.0 (Contains-permutation (recordings_in trees) rows (recording_cells id k) same is.row) own) ∙ it.2))
 
-  pub answered : (b : Bool) (all : ℕ) → Obeys both_schema trees → sum < 9223372036854775807 → all ≡ min (length (trees 2)) 9223372036854775807 → b ≡ nat_eq sum all → Answers cap trees b
-  answered true all obeys low is e = kept obeys (let h : nat_eq sum all ≡ true = sym e in grind (arith, nat_tests, low, is))
-  answered false all obeys low is e = foreign (λ s. absurd (let h : nat_eq sum all ≡ false = sym e in grind (arith, nat_tests, low, is, s)))
+  pub answered : (b : Bool) (all : ℕ) (o : Others) → Obeys (schema_with o) trees → sum < 9223372036854775807 → all ≡ min (length (trees 2)) 9223372036854775807 → b ≡ nat_eq sum all → Answers cap trees b
+  answered true all o obeys low is e = kept o obeys (let h : nat_eq sum all ≡ true = sym e in grind (arith, nat_tests, low, is))
+  answered false all o obeys low is e = foreign (λ s. absurd (let h : nat_eq sum all ≡ false = sym e in grind (arith, nat_tests, low, is, s)))
 
 pub row_in : (listed rows : List Row) (i : ℕ) (row : Row) → IsPermutation listed rows → i < length rows → row ≡ get_or rows i row → Contains listed row
 row_in listed rows i row same low is = Contains-permutation rows listed row (IsPermutation-sym _ _ same) (i, low, sym is)
 
-pub told_all : (cap : ℕ) (old mid was now : Database) (rows : List Row) (sum all : ℕ) (b : Bool) → mid ≡ old → was ≡ old → now ≡ old → old.schema ≡ both_schema → IsPermutation (recordings_in old.trees) rows
+pub told_all : (cap : ℕ) (old mid was now : Database) (rows : List Row) (sum all : ℕ) (b : Bool) → mid ≡ old → was ≡ old → now ≡ old → HasBoth old.schema → IsPermutation (recordings_in old.trees) rows
     → AreCounted cap mid.trees rows sum → IsDatabase now → sum < 9223372036854775807 → all ≡ min (length (was.trees 2)) 9223372036854775807 → b ≡ nat_eq sum all → Answers cap old.trees b
 told_all cap old mid was now rows sum all b m w n has same counted live low is e =
     let obeys : Obeys old.schema old.trees = subst (λ (d : Database). Obeys d.schema d.trees) n live.obeys in
-    answered cap old.trees rows sum same (subst (λ (d : Database). AreCounted cap d.trees rows sum) m counted) b all (subst (λ s. Obeys s old.trees) has obeys) low
+    answered cap old.trees rows sum same (subst (λ (d : Database). AreCounted cap d.trees rows sum) m counted) b all has.others (subst (λ s. Obeys s old.trees) has.is obeys) low
     (is ∙ ap (λ (d : Database). min (length (d.trees 2)) 9223372036854775807) w) e
 
 given_two_in : (trees : Trees) (rows front tail : List Row) (a b : Row) → IsPermutation (recordings_in trees) (front ++ a ∷ b ∷ tail) → AreTwoOf (recordings_in trees) a b

@@ -18,7 +18,7 @@ use Rattle.sqlite_schema.specs.declared.schema.Constraint.TheVariants.{Unique}
 use Rattle.sqlite_value.specs.Keys.{plain, first_key}
 use Rattle.sqlite_keyed.proofs.ListLemmas.{ascending-filter, IsPermutation-filter}
 use Rattle.edf_header.specs.Key.{key_bytes}
-use Rattle.edf_tables.specs.Schema.{recording, both_schema}
+use Rattle.edf_tables.specs.Schema.{recording, Others, schema_with}
 use Rattle.edf_tables.proofs.Apart.{all_pass, at_most_one}
 use Rattle.edf_tables.proofs.Terms.{truth_of}
 use Rattle.edf_rows.specs.Cells.{recordings_in}
@@ -81,10 +81,10 @@ passes_first true rest h = absurd (true≢false (sym h))
 passes_first false rest h = refl
 
 -- no row has another's identity
-clash_free : (trees : Trees) → Obeys both_schema trees → AllByRecursion (λ row. clashes plain (2 ∷ []) (trees 0) row ≡ false) (trees 0)
-clash_free trees obeys = each (trees 0) (obeys.rules Unique).0
+clash_free : (trees : Trees) (o : Others) → Obeys (schema_with o) trees → AllByRecursion (λ row. clashes plain (2 ∷ []) (trees 0) row ≡ false) (trees 0)
+clash_free trees o obeys = each (trees 0) (obeys.rules Unique).0
   where
-    each : (rows : List Row) → AllByRecursion (λ row. Rattle.sqlite_schema.specs.Rules.passes Unique both_schema trees recording row ≡ true) rows
+    each : (rows : List Row) → AllByRecursion (λ row. Rattle.sqlite_schema.specs.Rules.passes Unique (schema_with o) trees recording row ≡ true) rows
         → AllByRecursion (λ row. clashes plain (2 ∷ []) (trees 0) row ≡ false) rows
     each [] all = tt
     each (row ∷ rows) all = (passes_first _ _ all.0, each rows all.1)
@@ -93,10 +93,10 @@ kept_apart : (e d : Bool) → ((e && true) && d) ≡ false → e ≡ true → d 
 kept_apart true d h e = h
 kept_apart false d h e = absurd (true≢false (sym e))
 
-pub other_identities : (cap : ℕ) (trees : Trees) → Obeys both_schema trees → AllByRecursion (HasRecords cap trees) (recordings_in trees) → (a b : Row) → Contains (recordings_in trees) a → Contains (recordings_in trees) b → column a 0 ≢ column b 0
+pub other_identities : (cap : ℕ) (trees : Trees) (o : Others) → Obeys (schema_with o) trees → AllByRecursion (HasRecords cap trees) (recordings_in trees) → (a b : Row) → Contains (recordings_in trees) a → Contains (recordings_in trees) b → column a 0 ≢ column b 0
     → column a 1 ≢ column b 1
 unfolding first_key
-other_identities cap trees obeys has a b in_a in_b other same =
+other_identities cap trees o obeys has a b in_a in_b other same =
     let first = find_row (trees 0) a in_a in
     let second = find_row (trees 0) b in_b in
     let ha = all_at (HasRecords cap trees) (recordings_in trees) a has in_a in
@@ -105,7 +105,7 @@ other_identities cap trees obeys has a b in_a in_b other same =
     let id_b : column second.0 0 ≡ Int hb.id = sym (ap (λ (r : Row). column r 0) second.2) ∙ ap (λ (r : Row). column r 0) hb.cells in
     let bytes_b : column second.0 2 ≡ Blob (key_bytes hb.key) = sym (ap (λ (r : Row). column r 1) second.2) ∙ ap (λ (r : Row). column r 1) hb.cells in
     let bytes_a : column first.0 2 ≡ Blob (key_bytes hb.key) = sym (ap (λ (r : Row). column r 1) first.2) ∙ same ∙ ap (λ (r : Row). column r 1) hb.cells in
-    let free = all_at (λ row. clashes plain (2 ∷ []) (trees 0) row ≡ false) (trees 0) first.0 (clash_free trees obeys) first.1 in
+    let free = all_at (λ row. clashes plain (2 ∷ []) (trees 0) row ≡ false) (trees 0) first.0 (clash_free trees o obeys) first.1 in
     let apart = none_at _ (trees 0) second.0 free second.1 in
     let alike : equal Binary (column second.0 2) (column first.0 2) ≡ true = ap₂ (equal Binary) bytes_b bytes_a ∙ same_bytes (key_bytes hb.key) in
     let close : differ (column second.0 0) (column first.0 0) ≡ false = kept_apart (equal Binary (column second.0 2) (column first.0 2)) (differ (column second.0 0) (column first.0 0)) apart alike in

@@ -1,22 +1,21 @@
 -- What the rows were before missing tables were made, by the rows that there are then.
-use Rattle.std.proofs.Common.{◌≡◌, ◌≢◌, inl, inr, ℕ, List, [], ◌∷◌, map, length, Contains, Bool, true, false, Ok, Err, Result, IfOk, OnOk, IsTrue, IsPermutation, sym, ap, subst, ◌∙◌, refl, arith}
+use Rattle.std.proofs.Common.{◌≡◌, inl, inr, ℕ, List, [], ◌∷◌, map, Contains, Bool, true, false, Ok, Err, Result, IfOk, OnOk, IsTrue, IsPermutation, sym, subst, ◌∙◌, refl, arith}
 use Rattle.std.proofs.lemmas.List.Elements.{All-contains}
 use Rattle.std.proofs.lemmas.List.Sorted.{length_permutation}
 use Rattle.sqlite_value.specs.Order.{Row, column}
 use Rattle.sqlite_trees.specs.Tree.{Trees}
-use Rattle.sqlite.specs.Schema.{Schema}
 use Rattle.sqlite.specs.Effect.{Database}
 use Rattle.sqlite.specs.State.{State}
 use Rattle.sqlite.specs.declared.error.Error.{Error}
 use Rattle.edf_holdings.specs.Holdings.{Holdings}
-use Rattle.edf_tables.specs.Schema.{no_schema, one_schema, both_schema}
+use Rattle.edf_tables.proofs.Schemas.{none_not_one, none_not_both, one_not_both}
 use Rattle.edf_tables.specs.Made.{IsOurs, HasTables, from_none, from_one, from_both}
 use Rattle.edf_rows.specs.Cells.{recordings_in, records_in, recording_cells}
 use Rattle.edf_rows.specs.Rows.{IsRecordingRow, AreKept}
 use Rattle.edf_rows.specs.Foreign.{IsForeign, bad_recording, bad_records, without_recording, twice}
 use Rattle.edf_rows.proofs.Rows.{here, no_member, not-foreign}
 use Rattle.edf_audit.specs.Inside.All.{Answers}
-use Rattle.edf_audit.specs.File.{IsForeignFile, other_tables, foreign_rows, only_recordings, Audits}
+use Rattle.edf_audit.specs.File.{IsForeignFile, other_schema, foreign_rows, only_recordings, Audits}
 
 -- tables without rows are not foreign
 none_foreign : (cap : ℕ) (trees : Trees) → trees 0 ≡ [] → trees 2 ≡ [] → ¬ IsForeign cap trees
@@ -33,18 +32,6 @@ were_foreign : (cap : ℕ) (old new : Database) → HasTables old new → IsFore
 were_foreign cap old new (from_none none both first second) foreign = absurd (none_foreign cap new.trees first second foreign)
 were_foreign cap old new (from_one one both first second) foreign = only_recordings one (λ none. none_foreign cap new.trees (first ∙ none) second foreign)
 were_foreign cap old new (from_both both same) foreign = foreign_rows both (subst (λ (d : Database). IsForeign cap d.trees) same foreign)
-
-tables_apart : (a b : Schema) → length a.tables ≢ length b.tables → a ≢ b
-tables_apart a b apart same = apart (ap (λ (s : Schema). length s.tables) same)
-
-one_not_both : one_schema ≢ both_schema
-one_not_both = tables_apart one_schema both_schema (λ e. absurd (let n : ◌≡◌ {A = ℕ} 1 2 = e in omega (arith, n)))
-
-no_not_both : no_schema ≢ both_schema
-no_not_both = tables_apart no_schema both_schema (λ e. absurd (let n : ◌≡◌ {A = ℕ} 0 2 = e in omega (arith, n)))
-
-no_not_one : no_schema ≢ one_schema
-no_not_one = tables_apart no_schema one_schema (λ e. absurd (let n : ◌≡◌ {A = ℕ} 0 1 = e in omega (arith, n)))
 
 -- a recording that is kept has a record
 recorded : (cap : ℕ) (trees : Trees) (h : Holdings) → AreKept cap trees h → trees 2 ≡ [] → trees 0 ≡ []
@@ -66,13 +53,13 @@ had_ours old new (from_both both same) = inr (inr both)
 
 -- rows that are kept were not foreign
 were_own : (cap : ℕ) (old new : Database) (h : Holdings) → HasTables old new → AreKept cap new.trees h → ¬ IsForeignFile cap old
-were_own cap old new h tables kept (other_tables none) = none (had_ours old new tables)
-were_own cap old new h (from_none none both first second) kept (foreign_rows was foreign) = no_not_both (sym none ∙ was)
-were_own cap old new h (from_none none both first second) kept (only_recordings was some) = no_not_one (sym none ∙ was)
-were_own cap old new h (from_one one both first second) kept (foreign_rows was foreign) = one_not_both (sym one ∙ was)
+were_own cap old new h tables kept (other_schema none) = none (had_ours old new tables)
+were_own cap old new h (from_none none both first second) kept (foreign_rows was foreign) = none_not_both old.schema none was
+were_own cap old new h (from_none none both first second) kept (only_recordings was some) = none_not_one old.schema none was
+were_own cap old new h (from_one one both first second) kept (foreign_rows was foreign) = one_not_both old.schema one was
 were_own cap old new h (from_one one both first second) kept (only_recordings was some) = some (sym first ∙ recorded cap new.trees h kept second)
 were_own cap old new h (from_both both same) kept (foreign_rows was foreign) = not-foreign cap new.trees h kept (subst (λ (d : Database). IsForeign cap d.trees) (sym same) foreign)
-were_own cap old new h (from_both both same) kept (only_recordings was some) = one_not_both (sym was ∙ both)
+were_own cap old new h (from_both both same) kept (only_recordings was some) = one_not_both old.schema was both
 
 -- the answer about the tables is one about the file
 pub audited : (cap : ℕ) (old new : State) (r : Result Bool Error) → OnOk r (HasTables old.now new.now) → IfOk r (Answers cap new.now.trees) → OnOk r (IsTrue new.is_open) → OnOk r (new.committed ≡ new.now) → OnOk r (new.in_transaction ≡ false) → IfOk r (Audits cap old new)

@@ -25,7 +25,7 @@ use Rattle.edf_field.specs.Number.{duration_of}
 use Rattle.edf_header.specs.Key.{Key}
 use Rattle.edf_fragment.specs.Fragment.{DataRecord}
 use Rattle.edf_fragment.specs.Sound.{AreSound, MayBegin}
-use Rattle.edf_tables.specs.Schema.{both_schema}
+use Rattle.edf_tables.specs.Schema.{HasBoth}
 use Rattle.edf_tables.proofs.QueryTexts.{walk_text, walk_is}
 use Rattle.edf_tables.proofs.Shown.{plain_at, answer_of, answer_begun}
 use Rattle.edf_rows.specs.Cells.{record_cells, records_in}
@@ -45,7 +45,7 @@ pub record Stands {S : Type 0} (g : Ghosts S) (recording : ℤ) (k : Key) (last 
 some_is : (m n : ℕ) → ◌≡◌ {A = Option ℕ} (Some m) (Some n) → m ≡ n
 some_is m n h = cc
 
-module _ {S : Type 0} (g : Ghosts S) (recording : ℤ) (k : Key) (long : 0 < duration_of k.duration) (old : State) (has : old.now.schema ≡ both_schema) where
+module _ {S : Type 0} (g : Ghosts S) (recording : ℤ) (k : Key) (long : 0 < duration_of k.duration) (old : State) (has : HasBoth old.now.schema) where
   abbrev pub rows_there : List Row
   rows_there = records_in old.now.trees recording
 
@@ -56,7 +56,7 @@ module _ {S : Type 0} (g : Ghosts S) (recording : ℤ) (k : Key) (long : 0 < dur
   pub begun : (h : Held S) (rows : List Row) → IsUnchanged old (state g h) → HasGiven g walk_text (Int recording ∷ []) h rows
       → (tail : List Row) × IsPermutation rows_there (rows ++ tail) × IsSorted (by_column 0) (rows ++ tail)
   begun h rows same given =
-      let there : (state g h).now.schema ≡ both_schema = ap (λ (b : Database). b.schema) same.0.now_is ∙ has in
+      let there : HasBoth (state g h).now.schema = subst (λ (b : Database). HasBoth b.schema) (sym same.0.now_is) has in
       let it = answer_begun walk_text _ _ walk_is g (Int recording ∷ []) h rows there given in (
         it.0,
         subst (λ (b : Database). IsPermutation (records_in b.trees recording) (rows ++ it.0)) same.0.now_is (answer_moved (state g h).now.trees recording (rows ++ it.0) it.1),
@@ -149,7 +149,7 @@ module _ {S : Type 0} (g : Ghosts S) (recording : ℤ) (k : Key) (long : 0 < dur
 
   all_given : (count : ℕ) (last : Option ℕ) (h next : Held S) → IsUnchanged old (state g h) → (stands : Stands g recording k last count h) → Advances g h next None → rows_there ≡ map record_cells stands.records
   all_given count last h next same stands on =
-      let there : (state g h).now.schema ≡ both_schema = ap (λ (b : Database). b.schema) same.0.now_is ∙ has in
+      let there : HasBoth (state g h).now.schema = subst (λ (b : Database). HasBoth b.schema) (sym same.0.now_is) has in
       let shown = on walk_text (Int recording ∷ []) (map record_cells stands.records) stands.given in
       let a = answer_of walk_text _ _ walk_is (Int recording ∷ []) (state g h) (state g next) (map record_cells stands.records) there shown in
       only_sound old.now.trees recording k stands.records long stands.sound

@@ -4,16 +4,16 @@ use Rattle.sqlite.specs.Effect.{Database}
 use Rattle.sqlite.specs.State.{State}
 use Rattle.edf_holdings.specs.Holdings.{Holdings}
 use Rattle.edf_schema.specs.Columns.{stored_recordings}
-use Rattle.edf_tables.specs.Schema.{one_schema, both_schema}
+use Rattle.edf_tables.specs.Schema.{one_schema, HasBoth}
 use Rattle.edf_tables.specs.Made.{IsOurs, HasTables}
 use Rattle.edf_rows.specs.Rows.{AreKept}
 use Rattle.edf_rows.specs.Foreign.{IsForeign}
 
--- why a file is none that submissions leave under the cap: it has other tables than ours; its rows are foreign; or it has a
+-- why a file is refused: its schema is not ours; its rows are such as no submissions under the cap leave; or it has a
 -- recording, and not the table of the records
 pub data IsForeignFile (cap : ℕ) (db : Database) : Type 0 where
-  other_tables : ¬ IsOurs db → IsForeignFile cap db
-  foreign_rows : db.schema ≡ both_schema → IsForeign cap db.trees → IsForeignFile cap db
+  other_schema : ¬ IsOurs db → IsForeignFile cap db
+  foreign_rows : HasBoth db.schema → IsForeign cap db.trees → IsForeignFile cap db
   only_recordings : db.schema ≡ one_schema → stored_recordings db.trees ≢ [] → IsForeignFile cap db
 
 -- the file had our tables, or those that are missing are made; the rows that it had are there, and stand for holdings; no

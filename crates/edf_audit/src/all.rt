@@ -3,7 +3,7 @@
 ghost use Rattle.std.specs.Prelude.{◌<◌, ◌^◌, ◌-◌, IfOk, IfSome, MatchOption, IsPermutation};
 ghost use Rattle.std.specs.Prelude.{IsSorted, IsTrue};
 ghost use Rattle.sqlite.specs.Held.{state};
-ghost use Rattle.sqlite.specs.State.{HasCleanDisk, IsLive};
+ghost use Rattle.sqlite.specs.State.{HasCleanDisk};
 ghost use Rattle.edf_schema.specs.Columns.{id_order};
 ghost use Rattle.edf_rows.specs.Cells.{recordings_in};
 ghost use Rattle.edf_audit.specs.Inside.Checked.{KeepsRows, KeepsShown};
@@ -13,7 +13,7 @@ ghost use Rattle.edf_tables.specs.Statement.{HasBothTables, tables, IfClean, Giv
 ghost use Rattle.edf_tables.specs.Statement.{FailsAs, LeavesOnErr, IsCrashSafe};
 
 use crate::check::check_recording_row;
-use edf_tables::{count_all_rows, recordings};
+use edf_tables::{count_all_rows, obey, recordings};
 use sqlite::types::ValueRef;
 use sqlite::{Alter, Connection, Error, ErrorCode, Row};
 use std::alloc::Global;
@@ -81,13 +81,6 @@ fn count_owned<S: Alter>(
     Ok(Some(sum))
 }
 
-/// The tables obey their schema, whose UNIQUE keeps identities apart.
-fn obey<S: Alter>(conn: &Connection<S>)
-    ensures { IsLive (state S.Store conn.now) }
-{
-    let _ = conn.schema();
-}
-
 /// Whether the rows are those of submissions under the cap.
 ///
 /// # Errors
@@ -108,6 +101,7 @@ pub fn check_all<S: Alter>(alloc: Global, conn: &mut Connection<S>, cap: u32) ->
         return Ok(false);
     };
     let all = count_all_rows(conn)?;
+    // The UNIQUE of the schema keeps identities apart.
     obey(conn);
     Ok(sum == all)
 }

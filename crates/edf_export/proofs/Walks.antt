@@ -8,6 +8,7 @@ use Rattle.edf_store.specs.Fault.{IsStoreRefusal}
 use Rattle.sqlite_trees.specs.declared.store.Store.{Ghosts}
 use Rattle.sqlite.specs.State.{State, HasCleanDisk}
 use Rattle.edf_store.specs.Held.{StoreModel, at, Stays}
+use Rattle.edf_store.proofs.Held.{others_committed_same}
 use Rattle.edf_store.specs.Listed.{start_at}
 use Rattle.edf_store.specs.declared.fault.StoreFault.{StoreFault}
 use Rattle.edf_store.specs.declared.fault.StoreFault.TheVariants.{Memory, Store, Foreign, Failed}
@@ -75,6 +76,7 @@ pub stays_same : {S : Type 0} (g : Ghosts S) (s : StoreModel S) → Stays g s s
 stays_same g s = record {
   cap = refl;
   holdings = λ h held. held;
+  others = others_committed_same (at g s);
   crash = record { clean = omega arith; shield = λ x. x; counts = omega arith; limit = refl; closes = λ clean is_open. inl is_open; crash = λ clean db may. inl may };
 }
 

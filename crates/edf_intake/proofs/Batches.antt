@@ -19,6 +19,7 @@ use Rattle.edf_holdings.proofs.Replies.{replies-append}
 use Rattle.edf_holdings.proofs.Settled.{after-append}
 use Rattle.edf_rows.specs.Rows.{AreKept}
 use Rattle.edf_store.specs.Held.{StoreModel, at, Holds, Stays}
+use Rattle.edf_store.proofs.Held.{others_committed_then}
 use Rattle.edf_intake.specs.Refusal.{Answer, reply_told}
 use Rattle.edf_intake.specs.Source.{Source, IsOfForm, Hears}
 use Rattle.edf_intake.specs.Submitted.{IsSubmitted, IsEnded}
@@ -84,6 +85,7 @@ module _ {S : Type 0} (g : Ghosts S) where
     refusals = tt;
     replies_are = λ clean h held. refl;
     holdings = λ h held. held;
+    others = stays.others;
     crash = survives_weaker (at g old) (at g old) (λ _. ⊥) _ (λ clean rows none. absurd none) stays.crash;
   }
 
@@ -107,6 +109,7 @@ module _ {S : Type 0} (g : Ghosts S) where
       holdings = λ h held.
           let step = m.holdings (after old.cap h (told_in all.turns)) (all.holdings h held) in
           subst (Holds g new) (ap (λ (n : ℕ). after n (after old.cap h (told_in all.turns)) (somes (t.told ∷ []))) capped ∙ after-next old.cap h all.turns t) step;
+      others = others_committed_then (at g old) (at g mid) (at g new) all.others m.others;
       crash = survives_then (at g old) (at g mid) (at g new) _ _ _
           (λ clean rows left h held. left-more old.cap h all.turns t rows (left h held))
           (λ clean rows left h held. left-last old.cap h all.turns t rows

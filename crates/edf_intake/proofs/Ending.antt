@@ -11,7 +11,8 @@ use Rattle.edf_holdings.specs.Holdings.{Holdings}
 use Rattle.edf_holdings.specs.Reply.{Reply, Form, reply, after_one}
 use Rattle.edf_rows.specs.Rows.{AreKept}
 use Rattle.edf_tables.proofs.Commits.{quiet_then}
-use Rattle.edf_store.specs.Held.{StoreModel, at, Holds, Stays}
+use Rattle.edf_store.specs.Held.{StoreModel, at, Holds, Stays, KeepsCommittedOthers}
+use Rattle.edf_store.proofs.Held.{others_committed_then}
 use Rattle.edf_store.specs.Fault.{IsStoreRefusal}
 use Rattle.edf_store.specs.Transaction.{Sees, IsSeen}
 use Rattle.edf_store.specs.declared.fault.StoreFault.{StoreFault}
@@ -88,14 +89,15 @@ module _ {S : Type 0} (g : Ghosts S) (old first last : StoreModel S) (from to : 
         (λ clean rows seen h held. subst (λ (n : ℕ). AreKept n rows (after_one old.cap h told)) stays.cap (seen (after_one old.cap h told) (left told is h held))) survives)
 
     pub accepts : (receipt : Receipt) → IsAcceptedInside g first last from to receipt → new.cap ≡ last.cap → ((h : Holdings) → Sees g last h → Holds g new h)
-        → (HasCleanDisk (at g new) → IsTrue (at g new).is_open) → Survives (at g last) (at g new) (IsSeen g last) → Accepts g old new from to receipt
-    accepts receipt t same committed is_open survives = record {
+        → KeepsCommittedOthers (at g last) (at g new) → (HasCleanDisk (at g new) → IsTrue (at g new).is_open) → Survives (at g last) (at g new) (IsSeen g last) → Accepts g old new from to receipt
+    accepts receipt t same committed beside is_open survives = record {
       records = t.records;
       read = t.read;
       reply_is = λ clean h held. replied (Fragment receipt.identity t.records) _ t.reply_is (omega (arith, survives.clean)) h held;
       leaves = record {
         cap = same ∙ stays.cap;
         holdings = λ h held. committed (after_one old.cap h (Fragment receipt.identity t.records)) (left (Fragment receipt.identity t.records) t.sees h held);
+        others = others_committed_then (at g old) (at g last) (at g new) stays.others beside;
         is_open = is_open;
         crash = crash_left (Fragment receipt.identity t.records) t.sees survives;
       };
@@ -103,8 +105,8 @@ module _ {S : Type 0} (g : Ghosts S) (old first last : StoreModel S) (from to : 
 
     -- the commit was refused
     pub stops_at_commit : (receipt : Receipt) → IsAcceptedInside g first last from to receipt → new.cap ≡ last.cap → ((h : Holdings) → Holds g last h → Holds g new h)
-        → Survives (at g last) (at g new) (IsSeen g last) → (fault : StoreFault) → IsStoreRefusal fault → StopsThere g old new from to (Err (refusal_of fault))
-    stops_at_commit receipt t same refused survives fault told = inr (
+        → KeepsCommittedOthers (at g last) (at g new) → Survives (at g last) (at g new) (IsSeen g last) → (fault : StoreFault) → IsStoreRefusal fault → StopsThere g old new from to (Err (refusal_of fault))
+    stops_at_commit receipt t same refused beside survives fault told = inr (
       in_doubt fault told,
       (
         receipt.identity,
@@ -113,6 +115,7 @@ module _ {S : Type 0} (g : Ghosts S) (old first last : StoreModel S) (from to : 
         record {
           cap = same ∙ stays.cap;
           holdings = λ h held. refused h (stays.holdings h held);
+          others = others_committed_then (at g old) (at g last) (at g new) stays.others beside;
           crash = crash_left (Fragment receipt.identity t.records) t.sees survives;
         },
       ),

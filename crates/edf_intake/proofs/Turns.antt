@@ -10,7 +10,7 @@ use Rattle.edf_holdings.specs.Holdings.{Holdings, IsSound}
 use Rattle.edf_holdings.specs.Reply.{IsSoundTold, Reply, Form, Overlap, Differs, Full, Accepted, IsAccepted, reply, replies, after}
 use Rattle.edf_holdings.proofs.Accepted.{refused_changes_nothing}
 use Rattle.edf_rows.specs.Rows.{AreKept}
-use Rattle.edf_store.specs.Held.{StoreModel, at, Holds, Stays}
+use Rattle.edf_store.specs.Held.{StoreModel, at, Holds, Stays, KeepsCommittedOthers}
 use Rattle.edf_intake.specs.Refusal.{Answer, reply_told, IsStopped, IsInDoubt}
 use Rattle.edf_intake.specs.Source.{Source, Hears, FailsToRead, ReadsFront}
 use Rattle.edf_intake.specs.Submitted.{AreLeft, Leaves, MayLeave, Refuses, StopsThere, IsSubmitted}
@@ -47,6 +47,7 @@ pub record IsMade {S : Type 0} (g : Ghosts S) (old new : StoreModel S) (t : Turn
   pub cap : new.cap ≡ old.cap
   pub replied : HasCleanDisk (at g new) → (h : Holdings) → Holds g old h → somes (reply_told t.answer ∷ []) ≡ replies old.cap h (somes (t.told ∷ []))
   pub holdings : (h : Holdings) → Holds g old h → Holds g new (after old.cap h (somes (t.told ∷ [])))
+  pub others : KeepsCommittedOthers (at g old) (at g new)
   pub crash : Survives (at g old) (at g new) (λ rows. (h : Holdings) → Holds g old h → AreKept old.cap rows (after old.cap h (somes (t.told ∷ []))) ⊎ AreUnended old.cap h (t ∷ []) rows)
 
 sound_told : (from to : Source) (told : Told) → Hears from to told → IsSoundTold told
@@ -67,6 +68,7 @@ module _ {S : Type 0} (g : Ghosts S) (old new : StoreModel S) (from to : Source)
     cap = leaves.cap;
     replied = λ clean h held. ap (λ (o : Option Reply). somes (o ∷ [])) (tells ∙ ap (λ (r : Reply). Some r) (sym (is clean h held)));
     holdings = leaves.holdings;
+    others = leaves.others;
     crash = survives_weaker (at g old) (at g new) (AreLeft g old new told) _ (λ clean rows left h held. inl (left h held)) leaves.crash;
   }
 
@@ -83,6 +85,7 @@ module _ {S : Type 0} (g : Ghosts S) (old new : StoreModel S) (from to : Source)
         let sound : IsSound old.cap h = subst (λ (n : ℕ). IsSound n h) r.stays.cap kept.sound in
         let same = refused_changes_nothing old.cap h told sound (sound_told from to told r.read) (λ yes. never (subst IsAccepted (r.reply_is clean h held) yes)) in
         subst (λ (z : Holdings). AreKept new.cap (at g new).committed.trees z) (sym same) kept;
+    others = r.stays.others;
     crash = survives_weaker (at g old) (at g new) (λ _. ⊥) _ (λ clean rows none. absurd none) r.stays.crash;
   }
 
@@ -94,6 +97,7 @@ module _ {S : Type 0} (g : Ghosts S) (old new : StoreModel S) (from to : Source)
     cap = stays.cap;
     replied = λ clean h held. ap (λ (o : Option Reply). somes (o ∷ [])) tells;
     holdings = stays.holdings;
+    others = stays.others;
     crash = survives_weaker (at g old) (at g new) (λ _. ⊥) _ (λ clean rows none. absurd none) stays.crash;
   }
 
@@ -105,6 +109,7 @@ module _ {S : Type 0} (g : Ghosts S) (old new : StoreModel S) (from to : Source)
     cap = may.cap;
     replied = λ clean h held. ap (λ (o : Option Reply). somes (o ∷ [])) tells;
     holdings = may.holdings;
+    others = may.others;
     crash = survives_weaker (at g old) (at g new) (AreLeft g old new told) _ (λ clean rows left h held. inr (doubt, (told, heard, left h held))) may.crash;
   }
 

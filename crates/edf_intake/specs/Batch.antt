@@ -9,7 +9,7 @@ use Rattle.edf_fragment.specs.Told.{Told, Fragment, Fault, Tells}
 use Rattle.edf_holdings.specs.Holdings.{Holdings}
 use Rattle.edf_holdings.specs.Reply.{Reply, Form, Accepted, after_one, after, replies}
 use Rattle.edf_rows.specs.Rows.{AreKept}
-use Rattle.edf_store.specs.Held.{StoreModel, at, Holds}
+use Rattle.edf_store.specs.Held.{StoreModel, at, Holds, KeepsCommittedOthers}
 use Rattle.edf_intake.specs.Refusal.{Answer, reply_told, IsStopped, IsInDoubt}
 use Rattle.edf_intake.specs.Submitted.{IsRefusal, IsEnded}
 use Rattle.edf_intake.specs.declared.answer.Refusal.TheVariants as refusal
@@ -93,6 +93,7 @@ module _ {S : Type 0} (g : Ghosts S) (old new : StoreModel S) where
     pub refusals : AllByRecursion (IsOwnRefusal g new) answers
     pub replies_are : HasCleanDisk (at g new) → (h : Holdings) → Holds g old h → replies_in turns ≡ replies old.cap h (told_in turns)
     pub holdings : (h : Holdings) → Holds g old h → Holds g new (after old.cap h (told_in turns))
+    pub others : KeepsCommittedOthers (at g old) (at g new)
     pub crash : Survives (at g old) (at g new) (λ rows. (h : Holdings) → Holds g old h → AreLeftBy old.cap h turns rows)
 
 -- after the last input no transaction is open, as its answer says; without inputs the store is as it was

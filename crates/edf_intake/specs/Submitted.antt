@@ -10,7 +10,7 @@ use Rattle.edf_fragment.specs.Told.{Told, Fragment, Fault}
 use Rattle.edf_holdings.specs.Holdings.{Holdings}
 use Rattle.edf_holdings.specs.Reply.{Reply, Form, Overlap, Differs, Full, Accepted, reply, after_one}
 use Rattle.edf_rows.specs.Rows.{AreKept}
-use Rattle.edf_store.specs.Held.{StoreModel, at, Holds, Stays}
+use Rattle.edf_store.specs.Held.{StoreModel, at, Holds, KeepsCommittedOthers, Stays}
 use Rattle.edf_store.specs.Fault.{IsStoreRefusal}
 use Rattle.edf_store.specs.declared.fault.StoreFault.{StoreFault}
 use Rattle.edf_store.specs.declared.fault.StoreFault.TheVariants as store
@@ -34,17 +34,20 @@ module _ {S : Type 0} (g : Ghosts S) (old new : StoreModel S) where
   abbrev pub AreLeft : Told → Trees → Type 0
   AreLeft told rows = (h : Holdings) → Holds g old h → AreKept old.cap rows (after_one old.cap h told)
 
-  -- what is told was submitted: the store holds what that leaves, and is open; a crash leaves what it could leave before, or that
+  -- what is told was submitted: the store holds what that leaves, with what was beside it, and is open; a crash leaves what it
+  -- could leave before, or that
   pub record Leaves (told : Told) : Type 0 where
     pub cap : new.cap ≡ old.cap
     pub holdings : (h : Holdings) → Holds g old h → Holds g new (after_one old.cap h told)
+    pub others : KeepsCommittedOthers (at g old) (at g new)
     pub is_open : HasCleanDisk (at g new) → IsTrue (at g new).is_open
     pub crash : Survives (at g old) (at g new) (AreLeft told)
 
-  -- what is held stays; yet a crash leaves what it could leave before, or that what is told was submitted
+  -- what is held stays, and what is beside it; yet after a crash the store may hold what is told too
   pub record MayLeave (told : Told) : Type 0 where
     pub cap : new.cap ≡ old.cap
     pub holdings : (h : Holdings) → Holds g old h → Holds g new h
+    pub others : KeepsCommittedOthers (at g old) (at g new)
     pub crash : Survives (at g old) (at g new) (AreLeft told)
 
   module _ (from to : Source) where

@@ -1,12 +1,14 @@
 -- The two tables, as the CREATE texts leave them.
 use Rattle.sqlite_value.specs.declared.keys.Collation.TheVariants.{Binary}
-use Rattle.std.specs.Prelude.{◌≡◌, ◌⊎◌, true, false, [], ◌∷◌, Some, None, codes}
+use Rattle.std.specs.Prelude.{◌≡◌, ◌⊎◌, ◌≤◌, ℕ, true, false, List, [], ◌∷◌, Some, None, IfSome, All, codes}
 use Rattle.sqlite_value.specs.declared.value.Value.TheVariants.{Null}
 use Rattle.sqlite_schema.specs.declared.schema.Table.{Table}
 use Rattle.sqlite_schema.specs.declared.schema.Schema.{Schema}
 use Rattle.sqlite_schema.specs.declared.schema.Index.{Index}
+use Rattle.sqlite_schema.specs.declared.schema.View.{View}
 use Rattle.sqlite_schema.specs.declared.schema.Kind.TheVariants.{Integer, Blob}
 use Rattle.sqlite_value.specs.Keys.{plain}
+use Rattle.sqlite_schema.specs.Names.{same_name}
 use Rattle.sqlite_catalog.specs.Listing.{automatic}
 
 -- tree 0, and its index of identities tree 1
@@ -59,9 +61,40 @@ no_schema = record { tables = []; indexes = []; views = [] }
 abbrev pub one_schema : Schema
 one_schema = record { tables = recording ∷ []; indexes = identity_index ∷ []; views = [] }
 
-abbrev pub both_schema : Schema
-both_schema = record { tables = recording ∷ records ∷ []; indexes = identity_index ∷ start_index ∷ []; views = [] }
+-- what a database may have after our two tables: other tables, indexes and views
+pub record Others : Type 0 where
+  pub tables : List Table
+  pub indexes : List Index
+  pub views : List View
 
--- neither table, the first alone or both, and nothing else
+-- both tables, and after them others
+abbrev pub schema_with : Others → Schema
+schema_with others = record { tables = recording ∷ records ∷ others.tables; indexes = identity_index ∷ start_index ∷ others.indexes; views = others.views }
+
+abbrev pub both_schema : Schema
+both_schema = schema_with (record { tables = []; indexes = []; views = [] })
+
+-- the rows are stored in a tree of their own: none of the four of our tables and their indexes
+abbrev pub IsOtherTree : ℕ → Type 0
+IsOtherTree tree = 4 ≤ tree
+
+-- an index of another table
+abbrev pub IsOtherIndex : Index → Type 0
+IsOtherIndex index = IsOtherTree index.tree × IsOtherTree index.table
+
+-- a view, or what SQLite's port keeps unread of another table: that table, or an index or a trigger on it
+abbrev pub IsOtherView : View → Type 0
+IsOtherView view = IsOtherTree view.tree × IfSome view.foreign (λ owner. (same_name owner recording.name ≡ false) × (same_name owner records.name ≡ false))
+
+-- both tables come first. What comes after them has trees of its own, and is no index and no trigger on our tables, which could
+-- refuse our rows or change them
+pub record HasBoth (schema : Schema) : Type 0 where
+  pub others : Others
+  pub is : schema ≡ schema_with others
+  pub tables : All (λ (t : Table). IsOtherTree t.tree) others.tables
+  pub indexes : All IsOtherIndex others.indexes
+  pub views : All IsOtherView others.views
+
+-- neither table and nothing else, the first alone, or both with whatever comes after them
 abbrev pub AreOurs : Schema → Type 0
-AreOurs schema = (schema ≡ no_schema) ⊎ ((schema ≡ one_schema) ⊎ (schema ≡ both_schema))
+AreOurs schema = (schema ≡ no_schema) ⊎ ((schema ≡ one_schema) ⊎ HasBoth schema)

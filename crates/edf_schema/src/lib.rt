@@ -1,9 +1,11 @@
 //! The schema of a store's two tables, and whether a database has it.
 //!
-//! - [`is_ours`]: whether a database has neither table, the first alone or both, and nothing else.
+//! - [`is_ours`]: whether a database is empty, has the first table alone, or has both, with or
+//!   without other tables after them.
+//! - [`has_both`]: whether it has both.
 #![tactic(auto)]
 
 mod schema;
 mod table;
 
-pub use schema::is_ours;
+pub use schema::{has_both, is_ours};

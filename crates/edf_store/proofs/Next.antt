@@ -1,5 +1,5 @@
 -- What the first start from an instant on tells of the records.
-use Rattle.std.proofs.Common.{◌≡◌, ◌≢◌, ℕ, ◌+◌, ◌<◌, ◌≤◌, ℤ, pos, ◌⊎◌, inl, inr, true, false, Bool, List, [], ◌∷◌, map, filter, slice_get, Contains, All, Option, Some, None, option_map, sym, ap, subst, ◌∙◌, arith, is_ge}
+use Rattle.std.proofs.Common.{◌≡◌, ◌≢◌, ℕ, ◌+◌, ◌<◌, ◌≤◌, ℤ, pos, ◌⊎◌, inl, inr, true, false, Bool, List, [], ◌∷◌, map, filter, slice_get, Contains, Option, Some, None, option_map, sym, ap, subst, ◌∙◌, arith, is_ge}
 use Rattle.std.specs.Ordering.{int_cmp}
 use Rattle.std.specs.List.{AllByRecursion}
 use Rattle.std.proofs.lemmas.Bool.{cond-true, cond-false}
@@ -15,7 +15,7 @@ use Rattle.edf_header.specs.Key.{Key}
 use Rattle.edf_fragment.specs.Fragment.{DataRecord}
 use Rattle.edf_fragment.specs.Sound.{IsSoundRecord}
 use Rattle.edf_holdings.specs.Rising.{IsApart}
-use Rattle.edf_holdings.specs.Holdings.{Holdings, IsSound}
+use Rattle.edf_holdings.specs.Holdings.{Holdings}
 use Rattle.edf_tables.specs.Records.{records_of, starts_from}
 use Rattle.edf_rows.specs.Rows.{IsThere, StandFor}
 use Rattle.edf_rows.proofs.Rows.{here, there}

@@ -1,13 +1,24 @@
 -- A file whose rows are kept is opened.
-use Rattle.std.proofs.Common.{ℕ, sym, subst}
+use Rattle.std.proofs.Common.{ℕ, ◌≤◌, sym, subst}
 use Rattle.sqlite_trees.specs.declared.store.Store.{Ghosts}
 use Rattle.sqlite.specs.Effect.{Database}
 use Rattle.sqlite.specs.Held.{Held, state}
-use Rattle.sqlite.specs.State.{HasCleanDisk, Survives}
+use Rattle.sqlite.specs.State.{State, HasCleanDisk, Survives}
 use Rattle.edf_tables.specs.Made.{HasTables, IsMadeOf}
 use Rattle.edf_rows.specs.Rows.{AreKept}
 use Rattle.edf_audit.specs.File.{PassesAudit}
+use Rattle.edf_tables.specs.Schema.{HasBoth}
+use Rattle.edf_tables.proofs.File.{tables_both}
+use Rattle.edf_store.specs.Held.{IsSoundStore}
 use Rattle.edf_store.specs.Open.{IsOpened}
+
+pub sound_opened : (cap : ℕ) (old new : State) → 1 ≤ cap → cap ≤ 99_999_999 → (HasCleanDisk new → PassesAudit cap old new) → IsSoundStore cap new
+sound_opened cap old new from to kept = record {
+  cap_from = from;
+  cap_to = to;
+  schema = λ clean is_open. let it = kept clean in subst (λ (d : Database). HasBoth d.schema) (sym it.settled) (tables_both old.now new.now it.tables);
+  holdings = λ clean is_open. let it = kept clean in (it.holdings.0, subst (λ (d : Database). AreKept cap d.trees it.holdings.0) (sym it.settled) it.holdings.1);
+}
 
 pub opened : {S : Type 0} (g : Ghosts S) (cap : ℕ) (old new : Held S) → (HasCleanDisk (state g new) → PassesAudit cap (state g old) (state g new)) → Survives (state g old) (state g new) (IsMadeOf (state g old).now) → IsOpened g old (record { connection = new; cap = cap })
 opened g cap old new kept survives = record {

@@ -1,5 +1,5 @@
 -- What an empty text tells, and what is read outside a transaction.
-use Rattle.std.proofs.Common.{◌≡◌, ℕ, ℤ, List, [], false, IsTrue, Some, None, Ok, inl, inr, refl, sym, ap, subst, ◌∙◌, arith, Option}
+use Rattle.std.proofs.Common.{◌≡◌, ℕ, ℤ, List, [], false, IsTrue, Some, None, Ok, inl, inr, refl, sym, subst, ◌∙◌, arith, Option}
 use Rattle.sqlite.specs.Order.{Row}
 use Rattle.sqlite.specs.Tree.{Trees}
 use Rattle.sqlite.specs.Effect.{Database}
@@ -20,7 +20,8 @@ use Rattle.edf_store.specs.Held.{StoreModel, AreHeld, IsSoundStore, Stays}
 use Rattle.edf_store.specs.Inside.Settled.{IsSettled, IsFoundIn}
 use Rattle.sqlite_trees.specs.declared.store.Store.{Ghosts}
 use Rattle.sqlite.specs.Held.{Held, state}
-use Rattle.edf_store.proofs.Held.{still_held}
+use Rattle.edf_tables.specs.Schema.{HasBoth}
+use Rattle.edf_store.proofs.Held.{still_held, still_others, others_committed_then}
 use Rattle.edf_store.proofs.Found.{found, absent}
 use Rattle.edf_store.proofs.Keys.{identities_rise}
 
@@ -51,7 +52,7 @@ settled_now cap old new P s clean same none settles sound =
       is_open = same.0.is_open;
       idle = same.0.mode ∙ none;
       settled = now ∙ sym same.0.committed_is;
-      schema = ap (λ (d : Database). d.schema) now ∙ sound.schema was_clean was_open;
+      schema = subst (λ (d : Database). HasBoth d.schema) (sym now) (sound.schema was_clean was_open);
       holdings = (held.0, subst (λ (d : Database). AreKept cap d.trees held.0) (sym now) held.1);
     }
 
@@ -67,7 +68,7 @@ still_settled cap old new same it = record {
   is_open = same.0.is_open;
   idle = same.0.mode ∙ it.idle;
   settled = same.0.now_is ∙ it.settled ∙ sym same.0.committed_is;
-  schema = ap (λ (d : Database). d.schema) same.0.now_is ∙ it.schema;
+  schema = subst (λ (d : Database). HasBoth d.schema) (sym same.0.now_is) it.schema;
   holdings = (it.holdings.0, subst (λ (d : Database). AreKept cap d.trees it.holdings.0) (sym same.0.now_is) it.holdings.1);
 }
 
@@ -93,8 +94,8 @@ module _ (a b c d : State) (one : Survives a b (λ _. ⊥)) (two : Survives b c 
       keeps_then a b d (first clean_b) (keeps_then b c d (second clean_c) (third clean))
 
 pub stays_so : {S : Type 0} (g : Ghosts S) (cap : ℕ) (old new : Held S) → Survives (state g old) (state g new) (λ _. ⊥) → (HasCleanDisk (state g new) → KeepsCommit (state g old) (state g new)) → Stays g (record { connection = old; cap = cap }) (record { connection = new; cap = cap })
-stays_so g cap old new s keeps = record { cap = refl; holdings = λ h held. still_held cap (state g old) (state g new) _ s keeps h held; crash = s }
+stays_so g cap old new s keeps = record { cap = refl; holdings = λ h held. still_held cap (state g old) (state g new) _ s keeps h held; others = still_others (state g old) (state g new) s keeps; crash = s }
 
 -- one call after the other
 pub stays_then : {S : Type 0} (g : Ghosts S) (a b c : StoreModel S) → Stays g a b → Stays g b c → Stays g a c
-stays_then g a b c p q = record { cap = q.cap ∙ p.cap; holdings = λ h held. q.holdings h (p.holdings h held); crash = quiet_then (state g a.connection) (state g b.connection) (state g c.connection) _ p.crash q.crash }
+stays_then g a b c p q = record { cap = q.cap ∙ p.cap; holdings = λ h held. q.holdings h (p.holdings h held); others = others_committed_then (state g a.connection) (state g b.connection) (state g c.connection) p.others q.others; crash = quiet_then (state g a.connection) (state g b.connection) (state g c.connection) _ p.crash q.crash }

@@ -30,7 +30,8 @@ use Rattle.edf_rows.specs.Rows.{IsThere, AreKept}
 use Rattle.edf_rows.proofs.Rows.{same-recordings}
 use Rattle.edf_store.specs.Held.{AreHeld, IsSoundStore}
 use Rattle.edf_store.specs.Transaction.{AreSeen, SeesSome, IsTransactionOf, IsUnder, SeesOn, IsCountIn, AreNearIn, MakesNone, MakesOnly, MayTakeIn, IsAddedIn, EachHasRecordIn, AreSeenRows}
-use Rattle.edf_store.proofs.Held.{still_inside, still_under}
+use Rattle.edf_tables.specs.Schema.{HasBoth}
+use Rattle.edf_store.proofs.Held.{still_inside, still_under, others_on}
 use Rattle.edf_store.proofs.Standing.{one_key, stand_more, there_too}
 use Rattle.edf_store.proofs.Found.{found, stand_named, there_now, there_still, there_cases}
 use Rattle.edf_store.proofs.Near.{count_shown, near_shown, rows_rising}
@@ -81,6 +82,7 @@ module _ (cap : ℕ) (old new : State) (P : Trees → Type 0) (s : Survives old 
             inside = record_inside old new _ (has clean);
             stand = stand_more old new id may.key r h (has clean) it.stand mine room.none_near;
             sound = add_stays_sound cap h may.key r it.sound may.is_under.key may.sound room.none_near room.few room.first;
+            others = others_on old new (has clean).others (has clean).shown.committed_is it.others;
           })
 
   -- what is seen is kept where each recording holds a record
@@ -103,7 +105,7 @@ module _ (cap : ℕ) (old new : State) (P : Trees → Type 0) (s : Survives old 
   committed_sound shows whole running sound = record {
     cap_from = sound.cap_from;
     cap_to = sound.cap_to;
-    schema = λ clean is_open. ap (λ (d : Database). d.schema) (shows clean).committed_is ∙ (running (was_clean clean)).1.inside.schema;
+    schema = λ clean is_open. subst (λ (d : Database). HasBoth d.schema) (sym (shows clean).committed_is) (running (was_clean clean)).1.inside.schema;
     holdings = λ clean is_open. let it = running (was_clean clean) in (it.0, committed_held shows whole it.0 (λ _. it.1) clean is_open);
   }
 
@@ -147,6 +149,7 @@ module _ (cap : ℕ) (a b : State) (id : ℤ) (k : Key) (bytes : List ℕ) (is :
           inside = recording_inside b c _ (has clean);
           stand = stand_named b c id k h (has clean) (made clean).1 then.stand key (unnamed clean);
           sound = it.sound;
+          others = others_on b c (has clean).others (has clean).shown.committed_is then.others;
         }
 
     still_there : (m : ℤ) (q : Key) → HasCleanDisk c → IsThere b.now.trees m q → IsThere c.now.trees m q

@@ -16,6 +16,7 @@ use Rattle.edf_header.specs.Key.{Key}
 use Rattle.edf_fragment.specs.Fragment.{DataRecord}
 use Rattle.edf_fragment.specs.Sound.{IsSoundRecord}
 use Rattle.edf_holdings.specs.Holdings.{Holdings}
+use Rattle.edf_tables.specs.Schema.{HasBoth}
 use Rattle.edf_tables.specs.Records.{records_of, shown_record, IsReady, HaveRisingStarts}
 use Rattle.edf_rows.specs.Cells.{record_cells}
 use Rattle.edf_rows.specs.Rows.{IsThere, AreKept}
@@ -51,7 +52,7 @@ pub ready_at : (cap : ℕ) (s : State) (id : ℤ) (k : Key) → IsSettled cap s 
 ready_at cap s id k it there = record { schema = it.schema; rising = rows_rising s.now.trees cap it.holdings.0 id k it.holdings.1.stand it.holdings.1.sound there }
 
 pub still_ready : (old new : State) (id : ℤ) → IsUnchanged old new → IsReady id old → IsReady id new
-still_ready old new id same it = record { schema = ap (λ (d : Database). d.schema) same.0.now_is ∙ it.schema; rising = subst (λ (d : Database). HaveRisingStarts (records_of id (d.trees 2))) (sym same.0.now_is) it.rising }
+still_ready old new id same it = record { schema = subst (λ (d : Database). HasBoth d.schema) (sym same.0.now_is) it.schema; rising = subst (λ (d : Database). HaveRisingStarts (records_of id (d.trees 2))) (sym same.0.now_is) it.rising }
 
 module _ (cap : ℕ) (trees : Trees) (h : Holdings) (id : ℤ) (k : Key) (kept : AreKept cap trees h) (there : IsThere trees id k) (small : cap ≤ 99_999_999) where
   shown : Show (records_of id (trees 2)) (h k)

@@ -7,6 +7,7 @@ use Rattle.edf_header.specs.Key.{Key, IsKey}
 use Rattle.edf_fragment.specs.Fragment.{DataRecord}
 use Rattle.edf_fragment.specs.Sound.{IsSoundRecord}
 use Rattle.edf_holdings.specs.Holdings.{Holdings}
+use Rattle.edf_tables.specs.Schema.{HasBoth}
 use Rattle.edf_tables.specs.Cells.{cells_of}
 use Rattle.edf_tables.specs.declared.row.RecordRow.{RecordRow}
 use Rattle.edf_tables.specs.Records.{records_of, shown_record, starts_after, IsReady}
@@ -89,7 +90,7 @@ module _ (cap : ℕ) (s : State) (id : ℤ) (after : Progress) (h : Holdings) (k
     is_open = same.0.is_open;
     idle = same.0.mode ∙ it.idle;
     settled = same.0.now_is ∙ it.settled ∙ sym same.0.committed_is;
-    schema = ap (λ (d : Database). d.schema) same.0.now_is ∙ it.schema;
+    schema = subst (λ (d : Database). HasBoth d.schema) (sym same.0.now_is) it.schema;
     kept = subst (λ (d : Database). AreKept cap d.trees h) (sym same.0.now_is) it.kept;
     key = it.key;
     found = subst (λ (d : Database). IsThere d.trees id k) (sym same.0.now_is) it.found;

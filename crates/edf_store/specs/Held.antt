@@ -4,7 +4,8 @@ use Rattle.std.specs.Coded.{Coded, code_by, coded×, coded_ℕ}
 use Rattle.sqlite_trees.specs.declared.store.Store.{Ghosts}
 use Rattle.sqlite.specs.Held.{Held, held_code, state}
 use Rattle.sqlite.specs.State.{State, HasCleanDisk, Survives}
-use Rattle.edf_tables.specs.Schema.{both_schema}
+use Rattle.edf_tables.specs.Schema.{HasBoth}
+use Rattle.edf_tables.specs.Others.{KeepsTrees, KeepsOthers}
 use Rattle.edf_holdings.specs.Holdings.{Holdings}
 use Rattle.edf_rows.specs.Rows.{AreKept}
 
@@ -28,15 +29,23 @@ AreHeld cap s h = HasCleanDisk s → IsTrue s.is_open → AreKept cap s.committe
 abbrev pub Holds : {S : Type 0} → Ghosts S → StoreModel S → Holdings → Type 0
 Holds g store h = AreHeld store.cap (at g store) h
 
--- what is true of every store: the tables are there, and it holds something
+-- what is true of every store: the tables are there, and their rows stand for holdings
 pub record IsSoundStore (cap : ℕ) (s : State) : Type 0 where
   pub cap_from : 1 ≤ cap
   pub cap_to : cap ≤ 99_999_999
-  pub schema : HasCleanDisk s → IsTrue s.is_open → s.committed.schema ≡ both_schema
+  pub schema : HasCleanDisk s → IsTrue s.is_open → HasBoth s.committed.schema
   pub holdings : HasCleanDisk s → IsTrue s.is_open → (h : Holdings) × AreKept cap s.committed.trees h
 
--- a call leaves the holdings as they are, and a crash in it leaves nothing but what it could leave before
+-- what is committed beside our two tables is as it was, where the connection is still open after the call; what a crash in the
+-- call may leave has it too
+pub record KeepsCommittedOthers (old new : State) : Type 0 where
+  pub was_open : HasCleanDisk new → IsTrue new.is_open → IsTrue old.is_open
+  pub others : HasCleanDisk new → IsTrue new.is_open → KeepsOthers old.committed new.committed
+  pub crash : Survives old new (λ rows. IsTrue old.is_open × KeepsTrees old.committed.schema old.committed.trees rows)
+
+-- a call leaves the holdings as they are, and what is beside them; a crash in it leaves nothing but what it could leave before
 pub record Stays {S : Type 0} (g : Ghosts S) (old new : StoreModel S) : Type 0 where
   pub cap : new.cap ≡ old.cap
   pub holdings : (h : Holdings) → Holds g old h → Holds g new h
+  pub others : KeepsCommittedOthers (at g old) (at g new)
   pub crash : Survives (at g old) (at g new) (λ _. ⊥)

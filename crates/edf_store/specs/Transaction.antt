@@ -10,15 +10,17 @@ use Rattle.edf_holdings.specs.Clash.{near_of}
 use Rattle.edf_fragment.specs.Sound.{IsSoundRecord}
 use Rattle.edf_holdings.specs.Holdings.{Holdings, IsSound, put}
 use Rattle.edf_tables.specs.Row.{IsInside}
+use Rattle.edf_tables.specs.Others.{KeepsOthers}
 use Rattle.edf_rows.specs.Rows.{IsThere, StandFor, AreKept}
 use Rattle.edf_store.specs.Held.{StoreModel, at}
 
--- a transaction is open, and its rows stand for these sound holdings
+-- a transaction is open, and its rows stand for these sound holdings; what is beside them is as the last commit left it
 pub record IsTransactionOf (cap : ℕ) (s : State) (h : Holdings) : Type 0 where
   pub is_open : IsTrue s.is_open
   pub inside : IsInside s
   pub stand : StandFor s.now.trees h
   pub sound : IsSound cap h
+  pub others : KeepsOthers s.committed s.now
 
 abbrev pub AreSeen : ℕ → State → Holdings → Type 0
 AreSeen cap s h = HasCleanDisk s → IsTransactionOf cap s h

@@ -6,7 +6,7 @@ use Rattle.sqlite.specs.State.{State, HasCleanDisk}
 use Rattle.edf_header.specs.Key.{Key, IsKey}
 use Rattle.edf_fragment.specs.Fragment.{DataRecord}
 use Rattle.edf_holdings.specs.Holdings.{Holdings}
-use Rattle.edf_tables.specs.Schema.{both_schema}
+use Rattle.edf_tables.specs.Schema.{HasBoth}
 use Rattle.edf_tables.specs.Cells.{cells_of}
 use Rattle.edf_rows.specs.Cells.{record_cells}
 use Rattle.edf_rows.specs.Rows.{IsThere, AreKept}
@@ -23,7 +23,7 @@ pub record IsWalkAfter (cap : ℕ) (s : State) (recording : Option ℤ) (after :
   pub is_open : IsTrue s.is_open
   pub idle : s.in_transaction ≡ false
   pub settled : s.now ≡ s.committed
-  pub schema : s.now.schema ≡ both_schema
+  pub schema : HasBoth s.now.schema
   pub kept : AreKept cap s.now.trees h
   pub key : IsKey k
   pub found : MatchOption recording (n ≡ length (h k)) (λ id. IsThere s.now.trees id k)

@@ -4,7 +4,7 @@ ghost use Rattle.std.specs.Prelude.{◌≡◌, ◌≢◌, false, None, Err, IsTr
 ghost use Rattle.sqlite.specs.State.{HasCleanDisk, Survives};
 ghost use Rattle.edf_holdings.specs.Holdings.{Holdings};
 ghost use Rattle.edf_store.specs.Fault.{IsStoreRefusal};
-ghost use Rattle.edf_store.specs.Held.{at, Holds, Stays};
+ghost use Rattle.edf_store.specs.Held.{at, Holds, KeepsCommittedOthers, Stays};
 ghost use Rattle.edf_store.specs.Transaction.{Sees, IsRunning, EachHasRecord, IsSeen};
 ghost use Rattle.edf_store.specs.Call.{EndsIdle, IsBusy};
 
@@ -38,6 +38,7 @@ pub(crate) fn commit_all<S: Alter>(store: &mut Store<S>) -> Result<(), StoreFaul
         (h : Holdings) → Sees S.Store store.old h → Holds S.Store store.new h) }
     ensures refused { IfErr result (λ _.
         (h : Holdings) → Holds S.Store store.old h → Holds S.Store store.new h) }
+    ensures others { KeepsCommittedOthers (at S.Store store.old) (at S.Store store.new) }
     ensures survives { Survives (at S.Store store.old) (at S.Store store.new)
         (IsSeen S.Store store.old) }
     ensures ended { HasCleanDisk (at S.Store store.new) →

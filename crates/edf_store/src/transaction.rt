@@ -7,7 +7,7 @@ ghost use Rattle.edf_field.specs.Number.{duration_of};
 ghost use Rattle.edf_header.specs.Key.{Key};
 ghost use Rattle.edf_holdings.specs.Holdings.{Holdings};
 ghost use Rattle.edf_store.specs.Fault.{IsStoreRefusal};
-ghost use Rattle.edf_store.specs.Held.{at, Holds, Stays};
+ghost use Rattle.edf_store.specs.Held.{at, Holds, KeepsCommittedOthers, Stays};
 ghost use Rattle.edf_store.specs.Transaction.{Sees, IsRunning, IsOf, SeesAsBefore, HasNoMore};
 ghost use Rattle.edf_store.specs.Transaction.{HasAtMost, AreNear, IsNextStartOf, IsCountOf};
 ghost use Rattle.edf_store.specs.Transaction.{TellsRoom, MayTake, IsAdded, EachHasRecord, IsSeen};
@@ -256,6 +256,8 @@ impl<S: Alter> StoreTx<'_, S> {
         ensures refused { IfErr result (λ _.
             (h : Holdings) → Holds S.Store self.entry.store.now h →
             Holds S.Store self.exit.0.now h) }
+        ensures others { KeepsCommittedOthers (at S.Store self.entry.store.now)
+            (at S.Store self.exit.0.now) }
         ensures survives { Survives (at S.Store self.entry.store.now) (at S.Store self.exit.0.now)
             (IsSeen S.Store self.entry.store.now) }
         ensures ended { HasCleanDisk (at S.Store self.exit.0.now) →

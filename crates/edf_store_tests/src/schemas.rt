@@ -33,18 +33,36 @@ fn audited(alloc: Global, made: &str, more: &str) -> Option<(bool, i64, bool)> {
     Some((kept, count, after == before))
 }
 
-/// A name, what makes the file, and whether it has all of our tables.
-const OURS: &[(&str, &str, bool)] = &[
-    ("empty", "", false),
-    ("the first table", RECORDING, false),
-    ("both", BOTH, true),
-];
+/// What makes the file, and whether it has all of our tables.
+const OURS: &[(&str, bool)] = &[("", false), (RECORDING, false), (BOTH, true)];
 
 #[test]
 fn a_file_of_our_tables_alone_gets_those_that_are_missing(rt: HostRuntime) {
-    for (name, made, stays) in OURS.iter().copied() {
+    for (made, stays) in OURS.iter().copied() {
         let told = audited(rt.alloc(), made, "");
-        assert_eq!(rt; told, Some((true, 4, stays)), "{name}");
+        assert_eq!(rt; told, Some((true, 4, stays)), "{made}");
+    }
+}
+
+/// What is made after both tables, and how many tables, indexes and views the file has then.
+const BESIDE: &[(&str, i64)] = &[
+    ("CREATE TABLE another (x)", 5),
+    ("CREATE VIEW starts AS SELECT start FROM record", 5),
+    (
+        "CREATE TABLE note (of INTEGER REFERENCES recording (id))",
+        5,
+    ),
+    (
+        "CREATE TABLE another (x UNIQUE); CREATE INDEX by_x ON another (x); CREATE TABLE third (y)",
+        8,
+    ),
+];
+
+#[test]
+fn a_file_with_others_after_our_tables_is_ours_and_stays(rt: HostRuntime) {
+    for (more, count) in BESIDE.iter().copied() {
+        let told = audited(rt.alloc(), BOTH, more);
+        assert_eq!(rt; told, Some((true, count, true)), "{more}");
     }
 }
 
@@ -53,9 +71,11 @@ const FOREIGN: &[(&str, &str, i64)] = &[
     ("", "CREATE TABLE record (x)", 1),
     (RECORDING, "CREATE TABLE record (x)", 3),
     (RECORDING, "CREATE TABLE another (x)", 3),
-    (BOTH, "CREATE TABLE another (x)", 5),
+    (RECORDING, "CREATE VIEW ids AS SELECT id FROM recording", 3),
+    ("CREATE TABLE another (x)", BOTH, 5),
+    ("CREATE VIEW one AS SELECT 1", "", 1),
     (BOTH, "CREATE INDEX by_block ON record (block)", 5),
-    (BOTH, "CREATE VIEW starts AS SELECT start FROM record", 5),
+    (BOTH, "CREATE UNIQUE INDEX by_id ON recording (id)", 5),
     (
         "",
         "CREATE TABLE recording (id INTEGER PRIMARY KEY, identity BLOB NOT NULL UNIQUE)",
@@ -84,7 +104,7 @@ const FOREIGN: &[(&str, &str, i64)] = &[
 ];
 
 #[test]
-fn a_file_of_any_other_table_index_or_view_is_foreign_and_stays(rt: HostRuntime) {
+fn a_file_of_another_schema_is_foreign_and_stays(rt: HostRuntime) {
     for (made, more, left) in FOREIGN.iter().copied() {
         let told = audited(rt.alloc(), made, more);
         assert_eq!(rt; told, Some((false, left, true)), "{more}");

@@ -448,3 +448,43 @@ fn records_are_read_by_their_starts_in_memory(rt: HostRuntime) {
 fn records_are_read_by_their_starts_on_disk(rt: HostRuntime) {
     assert_eq!(rt; walked_on_disk(rt.alloc()), Some(WALKED));
 }
+
+/// A table of another tool's that may refer to ours, with an index and a view.
+const BESIDE: &str = "CREATE TABLE note (id INTEGER PRIMARY KEY, text TEXT NOT NULL UNIQUE, \
+        of INTEGER REFERENCES recording (id)); \
+    CREATE INDEX by_recording ON note (of); \
+    CREATE VIEW starts AS SELECT start FROM record; \
+    INSERT INTO note (text, of) VALUES ('seen by a nurse', 1), ('for the report', NULL)";
+
+const NOTES: &str = "SELECT group_concat(id || ' ' || text || ' ' || coalesce(of, 0)) FROM note";
+
+/// Adds a data record of Q's identity to a store that is opened over the connection; how many
+/// there were before and are then, and the connection.
+fn added_over<S: Alter + Drop>(
+    alloc: Global,
+    conn: Connection<S>,
+    halves: i8,
+) -> Option<((u32, u32), Connection<S>)> {
+    let mut store = store_over(alloc, conn)?;
+    let (identity, _) = first_of(alloc, file_q(alloc).ok()?.as_slice())?;
+    let seen = put(&mut store, &identity, &record_behind(alloc, halves)?, true).ok()?;
+    Some(((seen.before, seen.after), store.into_connection()))
+}
+
+/// What is told of a data record that is added to a store which another tool put a table into, and
+/// what that table has then.
+fn added_beside(alloc: Global) -> Option<((u32, u32), String)> {
+    let (_, mut conn) = added_over(alloc, Connection::open_in_memory(alloc).ok()?, 0)?;
+    conn.execute_batch(BESIDE).ok()?;
+    let (seen, mut conn) = added_over(alloc, conn, 2)?;
+    Some((seen, conn.query_row(NOTES, &[]).ok()?.get(0).ok()?))
+}
+
+#[test]
+fn a_record_is_added_beside_the_table_of_another_tool(rt: HostRuntime) {
+    let Some((seen, notes)) = added_beside(rt.alloc()) else {
+        panic!(rt; "a statement or a call was refused");
+    };
+    assert_eq!(rt; seen, (1, 2));
+    assert_eq!(rt; notes.as_str(), "1 seen by a nurse 1,2 for the report 0");
+}

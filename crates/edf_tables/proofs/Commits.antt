@@ -11,7 +11,7 @@ use Rattle.sqlite.specs.Listing.{understood}
 use Rattle.sqlite.specs.State.{State, HasCleanDisk, Survives, MayCommit, CommitsBy, Executes, Shows, IsRolledBack}
 use Rattle.sqlite.proofs.StateLemmas.{survives_weaker, survives_then}
 use Rattle.sqlite.proofs.Callers.{IsPlain, command_of, statement_of, runs_as}
-use Rattle.edf_tables.specs.Schema.{both_schema}
+use Rattle.edf_tables.specs.Schema.{HasBoth, Others, schema_with}
 
 abbrev pub begin_text : List ℕ
 begin_text = codes "BEGIN"
@@ -75,10 +75,10 @@ pub commit_survives : (old new : State) → Survives old new (CommitsBy commit_t
 commit_survives old new s =
     survives_weaker old new _ _ (λ clean db may. commits_now old (statement_of commit_text (understood old.now.schema commit_text)) [] db (commits_as commit_text [] old old.now.schema refl Commit (commit_is old.now.schema).0 (commit_is old.now.schema).1 db may)) s
 
-pub insert_survives : (old new : State) (sql : List ℕ) (params : Row) (at : ℕ) (from : Source) → command_of (understood both_schema sql) ≡ Insert at from → IsPlain (understood both_schema sql)
-    → (HasCleanDisk old → (old.now.schema ≡ both_schema) × IsTrue old.in_transaction) → Survives old new (CommitsBy sql params old) → Survives old new (λ _. ⊥)
-insert_survives old new sql params at from is plain has s =
-    survives_weaker old new _ _ (λ clean db may. let was = has (omega (arith, s.clean)) in inserts_nothing old at from (statement_of sql (understood both_schema sql)) params db was.1 (commits_as sql params old both_schema was.0 (Insert at from) is plain db may)) s
+pub insert_survives : (old new : State) (sql : List ℕ) (params : Row) (at : ℕ) (from : Source) → ((o : Others) → (command_of (understood (schema_with o) sql) ≡ Insert at from) × IsPlain (understood (schema_with o) sql))
+    → (HasCleanDisk old → HasBoth old.now.schema × IsTrue old.in_transaction) → Survives old new (CommitsBy sql params old) → Survives old new (λ _. ⊥)
+insert_survives old new sql params at from is has s =
+    survives_weaker old new _ _ (λ clean db may. let was = has (omega (arith, s.clean)) in inserts_nothing old at from (statement_of sql (understood (schema_with was.0.others) sql)) params db was.1 (commits_as sql params old _ was.0.is (Insert at from) (is was.0.others).0 (is was.0.others).1 db may)) s
 
 pub begun : (old new : State) (count : ℕ) → Executes begin_text [] old new (Ok count) → Shows old new old.now old.committed true
 begun old new count h = (runs_as begin_text [] old new old.now.schema refl Begin (begin_is old.now.schema).0 (begin_is old.now.schema).1 count h).1

@@ -14,9 +14,9 @@ use Rattle.sqlite.specs.Effect.{Database, IsDatabase}
 use Rattle.sqlite.specs.State.{State, mode_of, Executes, Writes, MayCommit, CommitsBy}
 use Rattle.sqlite.proofs.Callers.{statement_of, runs_as}
 use Rattle.edf_tables.specs.Schema.{recording, records, no_schema, one_schema, both_schema}
-use Rattle.edf_tables.specs.Made.{IsOurs, AreOf, HasFirst, made_first, kept_one, kept_both, HasSecond, made_second, kept_second}
+use Rattle.edf_tables.specs.Made.{AreOf, HasFirst, made_first, kept_first, HasTables, from_one}
 use Rattle.edf_tables.proofs.Commits.{commits_as}
-use Rattle.edf_tables.proofs.Texts.{create_recording_text, create_records_text, create_recording_is, recording_there, recording_there_2, create_records_is, records_there, created_one, created_both}
+use Rattle.edf_tables.proofs.Texts.{create_recording_text, create_records_text, create_recording_is, recording_there, create_records_is, created_one, created_both}
 
 went : {B E R : Type 0} {b : B} {Stops : E → Type 0} → ((stop : E) × Stops stop × (Ok b ≡ Err stop)) ⊎ R → R
 went (inl stopped) = absurd (let e = stopped.2 in cc)
@@ -60,31 +60,23 @@ first_made old new count has h =
     made_first has it.0 it.1
 
 pub first_there : (old new : State) (count : ℕ) → old.now.schema ≡ one_schema → Executes create_recording_text [] old new (Ok count) → HasFirst old.now new.now
-first_there old new count has h = kept_one has (runs_as create_recording_text [] old new one_schema has Nothing recording_there.0 recording_there.1 count h).0.0.now_is
+first_there old new count has h = kept_first has (runs_as create_recording_text [] old new one_schema has Nothing recording_there.0 recording_there.1 count h).0.0.now_is
 
-pub first_there_both : (old new : State) (count : ℕ) → old.now.schema ≡ both_schema → Executes create_recording_text [] old new (Ok count) → HasFirst old.now new.now
-first_there_both old new count has h = kept_both has (runs_as create_recording_text [] old new both_schema has Nothing recording_there_2.0 recording_there_2.1 count h).0.0.now_is
-
-pub second_made : (old new : State) (count : ℕ) → old.now.schema ≡ one_schema → Executes create_records_text [] old new (Ok count) → HasSecond old.now new.now
+pub second_made : (old new : State) (count : ℕ) → old.now.schema ≡ one_schema → Executes create_records_text [] old new (Ok count) → HasTables old.now new.now
 second_made old new count has h =
     let w = subst (λ t. Writes old new None CreateTable t [] count) create_records_is.1 (runs_as create_records_text [] old new one_schema has CreateTable create_records_is.0 create_records_is.3 count h) in
     let changed = subst (λ (s : Schema). Does old.step_limit (mode_of old) [] (record old.now { schema = s }) create_records_text None CreateTable (Ok (w.tally, new.now))) has w.changed in
     let it = makes_records old.step_limit (mode_of old) old.now.trees w.tally new.now changed in
-    made_second has it.0 it.1 it.2
+    from_one has it.0 it.1 it.2
 
-pub second_there : (old new : State) (count : ℕ) → old.now.schema ≡ both_schema → Executes create_records_text [] old new (Ok count) → HasSecond old.now new.now
-second_there old new count has h = kept_second has (runs_as create_records_text [] old new both_schema has Nothing records_there.0 records_there.1 count h).0.0.now_is
-
-pub first_if : (old new : State) (r : Result ℕ Error) → IsOurs old.now → Executes create_recording_text [] old new r → OnOk r (HasFirst old.now new.now)
+pub first_if : (old new : State) (r : Result ℕ Error) → (old.now.schema ≡ no_schema) ⊎ (old.now.schema ≡ one_schema) → Executes create_recording_text [] old new r → OnOk r (HasFirst old.now new.now)
 first_if old new (Err e) ours h = tt
 first_if old new (Ok count) (inl none) h = first_made old new count none h
-first_if old new (Ok count) (inr (inl one)) h = first_there old new count one h
-first_if old new (Ok count) (inr (inr both)) h = first_there_both old new count both h
+first_if old new (Ok count) (inr one) h = first_there old new count one h
 
-pub second_if : (old new : State) (r : Result ℕ Error) → (old.now.schema ≡ one_schema) ⊎ (old.now.schema ≡ both_schema) → Executes create_records_text [] old new r → OnOk r (HasSecond old.now new.now)
-second_if old new (Err e) ours h = tt
-second_if old new (Ok count) (inl one) h = second_made old new count one h
-second_if old new (Ok count) (inr both) h = second_there old new count both h
+pub second_if : (old new : State) (r : Result ℕ Error) → old.now.schema ≡ one_schema → Executes create_records_text [] old new r → OnOk r (HasTables old.now new.now)
+second_if old new (Err e) one h = tt
+second_if old new (Ok count) one h = second_made old new count one h
 
 -- a text that does nothing commits nothing
 nothing_commits : (old : State) (text : List ℕ) (params : Row) (db : Trees) → ¬ MayCommit old None Nothing text params db
@@ -104,12 +96,11 @@ first_commits old db has (inr may) =
     (left_of one_schema may.2 db may.5 made.0 may.4, ap (λ (t : Trees). t 0) may.5 ∙ made.1)
 
 -- what a crash in it adds is the empty table
-pub first_crash : (old : State) (db : Trees) → IsOurs old.now → CommitsBy create_recording_text [] old db → (old.now.schema ≡ no_schema) × AreOf one_schema db × (db 0 ≡ [])
+pub first_crash : (old : State) (db : Trees) → (old.now.schema ≡ no_schema) ⊎ (old.now.schema ≡ one_schema) → CommitsBy create_recording_text [] old db → (old.now.schema ≡ no_schema) × AreOf one_schema db × (db 0 ≡ [])
 first_crash old db (inl none) h =
     let it = first_commits old db none (subst (λ t. MayCommit old None CreateTable t [] db) create_recording_is.1 (commits_as create_recording_text [] old no_schema none CreateTable create_recording_is.0 create_recording_is.3 db h)) in
     (none, it.0, it.1)
-first_crash old db (inr (inl one)) h = absurd (nothing_commits old (statement_of create_recording_text (understood one_schema create_recording_text)) [] db (commits_as create_recording_text [] old one_schema one Nothing recording_there.0 recording_there.1 db h))
-first_crash old db (inr (inr both)) h = absurd (nothing_commits old (statement_of create_recording_text (understood both_schema create_recording_text)) [] db (commits_as create_recording_text [] old both_schema both Nothing recording_there_2.0 recording_there_2.1 db h))
+first_crash old db (inr one) h = absurd (nothing_commits old (statement_of create_recording_text (understood one_schema create_recording_text)) [] db (commits_as create_recording_text [] old one_schema one Nothing recording_there.0 recording_there.1 db h))
 
 second_commits : (old : State) (db : Trees) → old.now.schema ≡ one_schema → MayCommit old None CreateTable create_records_text [] db → AreOf both_schema db × (db 0 ≡ old.now.trees 0) × (db 2 ≡ [])
 second_commits old db has (inl (inl e, same)) = absurd (cc)
@@ -119,8 +110,7 @@ second_commits old db has (inr may) =
     let made = makes_records old.step_limit (mode_of old) old.now.trees may.1 may.2 changed in
     (left_of both_schema may.2 db may.5 made.0 may.4, ap (λ (t : Trees). t 0) may.5 ∙ made.1, ap (λ (t : Trees). t 2) may.5 ∙ made.2)
 
-pub second_crash : (old : State) (db : Trees) → (old.now.schema ≡ one_schema) ⊎ (old.now.schema ≡ both_schema) → CommitsBy create_records_text [] old db → (old.now.schema ≡ one_schema) × AreOf both_schema db × (db 0 ≡ old.now.trees 0) × (db 2 ≡ [])
-second_crash old db (inl one) h =
+pub second_crash : (old : State) (db : Trees) → old.now.schema ≡ one_schema → CommitsBy create_records_text [] old db → (old.now.schema ≡ one_schema) × AreOf both_schema db × (db 0 ≡ old.now.trees 0) × (db 2 ≡ [])
+second_crash old db one h =
     let it = second_commits old db one (subst (λ t. MayCommit old None CreateTable t [] db) create_records_is.1 (commits_as create_records_text [] old one_schema one CreateTable create_records_is.0 create_records_is.3 db h)) in
     (one, it.0, it.1, it.2)
-second_crash old db (inr both) h = absurd (nothing_commits old (statement_of create_records_text (understood both_schema create_records_text)) [] db (commits_as create_records_text [] old both_schema both Nothing records_there.0 records_there.1 db h))

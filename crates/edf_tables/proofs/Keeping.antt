@@ -1,5 +1,5 @@
 -- A call that is refused, and chains of calls that keep what is committed.
-use Rattle.std.proofs.Common.{◌⊎◌, inl, inr, ℕ, List, Bool, false, Ok, Err, Result, OnErr, refl, ◌∙◌}
+use Rattle.std.proofs.Common.{inl, inr, ℕ, List, Bool, false, Ok, Err, Result, OnErr, refl, ◌∙◌}
 use Rattle.std.proofs.lemmas.Bool.{cases_Bool}
 use Rattle.sqlite.specs.Order.{Row}
 use Rattle.sqlite.specs.Effect.{Database}

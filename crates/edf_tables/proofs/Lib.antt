@@ -7,10 +7,13 @@ pub mod Ends
 pub mod File
 pub mod Held
 pub mod Keeping
+pub mod Others
 pub mod Queries
 pub mod QueryTexts
 pub mod Reading
 pub mod Refusals
+pub mod Rules
+pub mod Schemas
 pub mod Shown
 pub mod Sorting
 pub mod Steps

@@ -8,13 +8,13 @@ use Rattle.sqlite_tied.specs.Compute.{everything}
 use Rattle.sqlite.specs.Listing.{understood, reads_listing}
 use Rattle.sqlite.proofs.Callers.{IsPlain, command_of}
 use Rattle.edf_tables.proofs.Queries.{plain_query, ordered_query, paged_query, last_query, of_recording, start_samples_block, near_terms, after_terms, from_terms, count_query, identity_terms}
-use Rattle.edf_tables.specs.Schema.{both_schema}
+use Rattle.edf_tables.specs.Schema.{Others, schema_with}
 
 -- the text is this query, which reads our rows and nothing else
 pub record Means (sql : List ℕ) (query : Query) (names : List (List ℕ)) : Type 0 where
-  pub command : command_of (understood both_schema sql) ≡ Select (record { lets = []; body = query }) names
-  pub unlisted : reads_listing both_schema sql ≡ false
-  pub plain : IsPlain (understood both_schema sql)
+  pub command : (o : Others) → command_of (understood (schema_with o) sql) ≡ Select (record { lets = []; body = query }) names
+  pub unlisted : (o : Others) → reads_listing (schema_with o) sql ≡ false
+  pub plain : (o : Others) → IsPlain (understood (schema_with o) sql)
 
 abbrev pub near_text : List ℕ
 near_text = codes "SELECT start, samples, block FROM record WHERE recording = ?1 AND start > ?2 AND start < ?3 ORDER BY start"
@@ -54,44 +54,44 @@ start_samples_block_names = codes "start" ∷ codes "samples" ∷ codes "block" 
 
 pub near_is : Means near_text (ordered_query 2 near_terms start_samples_block 2) start_samples_block_names
 unfolding understood everything
-near_is = record { command = refl; unlisted = refl; plain = (refl, refl) }
+near_is = record { command = λ o. refl; unlisted = λ o. refl; plain = λ o. (refl, refl) }
 
 pub page_is : Means page_text (paged_query 2 after_terms start_samples_block 2 (col 0 2)) start_samples_block_names
 unfolding understood everything
-page_is = record { command = refl; unlisted = refl; plain = (refl, refl) }
+page_is = record { command = λ o. refl; unlisted = λ o. refl; plain = λ o. (refl, refl) }
 
 pub walk_is : Means walk_text (ordered_query 2 (of_recording ∷ []) start_samples_block 2) start_samples_block_names
 unfolding understood everything
-walk_is = record { command = refl; unlisted = refl; plain = (refl, refl) }
+walk_is = record { command = λ o. refl; unlisted = λ o. refl; plain = λ o. (refl, refl) }
 
 pub count_is : Means count_text (count_query (of_recording ∷ [])) (codes "count(*)" ∷ [])
 unfolding understood everything
-count_is = record { command = refl; unlisted = refl; plain = (refl, refl) }
+count_is = record { command = λ o. refl; unlisted = λ o. refl; plain = λ o. (refl, refl) }
 
 pub first_is : Means first_text (paged_query 2 (of_recording ∷ []) (col 1 2 ∷ []) 2 (lit (Int (pos 1)))) (codes "start" ∷ [])
 unfolding understood everything
-first_is = record { command = refl; unlisted = refl; plain = (refl, refl) }
+first_is = record { command = λ o. refl; unlisted = λ o. refl; plain = λ o. (refl, refl) }
 
 pub next_is : Means next_text (paged_query 2 from_terms (col 1 2 ∷ []) 2 (lit (Int (pos 1)))) (codes "start" ∷ [])
 unfolding understood everything
-next_is = record { command = refl; unlisted = refl; plain = (refl, refl) }
+next_is = record { command = λ o. refl; unlisted = λ o. refl; plain = λ o. (refl, refl) }
 
 pub last_is : Means last_text (last_query 2 (of_recording ∷ []) (col 1 2 ∷ []) 2) (codes "start" ∷ [])
 unfolding understood everything
-last_is = record { command = refl; unlisted = refl; plain = (refl, refl) }
+last_is = record { command = λ o. refl; unlisted = λ o. refl; plain = λ o. (refl, refl) }
 
 pub id_is : Means id_text (plain_query 0 identity_terms (col 1 0 ∷ [])) (codes "id" ∷ [])
 unfolding understood everything
-id_is = record { command = refl; unlisted = refl; plain = (refl, refl) }
+id_is = record { command = λ o. refl; unlisted = λ o. refl; plain = λ o. (refl, refl) }
 
 pub identities_is : Means identities_text (ordered_query 0 [] (col 1 2 ∷ []) 2) (codes "identity" ∷ [])
 unfolding understood everything
-identities_is = record { command = refl; unlisted = refl; plain = (refl, refl) }
+identities_is = record { command = λ o. refl; unlisted = λ o. refl; plain = λ o. (refl, refl) }
 
 pub recordings_is : Means recordings_text (ordered_query 0 [] (col 1 0 ∷ col 1 2 ∷ []) 0) (codes "id" ∷ codes "identity" ∷ [])
 unfolding understood everything
-recordings_is = record { command = refl; unlisted = refl; plain = (refl, refl) }
+recordings_is = record { command = λ o. refl; unlisted = λ o. refl; plain = λ o. (refl, refl) }
 
 pub count_all_is : Means count_all_text (count_query []) (codes "count(*)" ∷ [])
 unfolding understood everything
-count_all_is = record { command = refl; unlisted = refl; plain = (refl, refl) }
+count_all_is = record { command = λ o. refl; unlisted = λ o. refl; plain = λ o. (refl, refl) }

@@ -28,7 +28,7 @@ use Rattle.sqlite.specs.Effect.{is_query, RefusesToRead}
 use Rattle.sqlite.specs.Listing.{understood, reads_listing, IsSourceOf}
 use Rattle.sqlite.specs.State.{State, HasCleanDisk, Survives, mode_of, Executes, ExecutesIn, IsMisplaced, shows_rows, is_pragma, Fails, HasCause, IsNoStatement, IsNotRun, IsUnchanged, IsRolledBack, FailsToQuery, store_error, is_disk_error}
 use Rattle.sqlite.proofs.Callers.{IsPlain, command_of, statement_of}
-use Rattle.edf_tables.specs.Schema.{both_schema}
+use Rattle.edf_tables.specs.Schema.{Others, schema_with, HasBoth}
 use Rattle.edf_tables.specs.Refused.{HasFailed, IsSystemFailure, IsUnread, IsUntold, IsCellRefused}
 use Rattle.edf_tables.specs.Refused.IsSystemFailure.{no_memory, disk_failed, was_shut}
 use Rattle.edf_tables.specs.Refused.IsUnread.{stopped, limited}
@@ -102,7 +102,7 @@ untold_since old mid new P Q e one two clean (inr it) = inr it
 -- what a statement is refused for: its place, its rules, or the store
 abbrev pub TurnsDown : State → State → Command → List ℕ → Row → Error → Type 0
 TurnsDown old new command text params e =
-    (IsMisplaced old command e × IsUnchanged old new) ⊎ ((IsWrite command × Does old.step_limit (mode_of old) params old.now text None command (Err (Some e))) ⊎ Fails old new (Does old.step_limit (mode_of old) params old.now text None command (Err None)) e)
+    (IsMisplaced old command e × IsUnchanged old new) ⊎ ((IsWrite command × Does old.step_limit (mode_of old) params old.now text None command (Err (Some e)) × IsUnchanged old new) ⊎ Fails old new (Does old.step_limit (mode_of old) params old.now text None command (Err None)) e)
 
 -- a text that is one statement, shows no rows and has no RETURNING
 module _ (sql : List ℕ) (params : Row) (old new : State) (schema : Schema) (has : old.now.schema ≡ schema) (command : Command) (is : command_of (understood schema sql) ≡ command) (alone : IsAlone schema sql (length params))
@@ -121,7 +121,7 @@ module _ (sql : List ℕ) (params : Row) (old new : State) (schema : Schema) (ha
         | inr runs ↦ elim (rw runs at h.2) [
           | inl same ↦ elim same.0 [
             | inl misplaced ↦ inr (inl (subst (λ k. IsMisplaced old k e) k misplaced, same.1))
-            | inr may ↦ inr (inr (inl (elim may.0 [ inl writes ↦ subst IsWrite k writes | inr some ↦ absurd (true≢false (sym (subst IsSome bare.0 some))) ], subst₂ (λ k t. Does old.step_limit (mode_of old) params old.now t None k (Err (Some e))) k t (rw (bare.0, bare.1, append-nil params) at may.1))))
+            | inr may ↦ inr (inr (inl (elim may.0 [ inl writes ↦ subst IsWrite k writes | inr some ↦ absurd (true≢false (sym (subst IsSome bare.0 some))) ], subst₂ (λ k t. Does old.step_limit (mode_of old) params old.now t None k (Err (Some e))) k t (rw (bare.0, bare.1, append-nil params) at may.1), same.1)))
           ]
           | inr fails ↦ inr (inr (inr (subst₂ (λ k t. Fails old new (Does old.step_limit (mode_of old) params old.now t None k (Err None)) e) k t (rw (bare.0, bare.1, append-nil params) at fails))))
         ]
@@ -129,7 +129,7 @@ module _ (sql : List ℕ) (params : Row) (old new : State) (schema : Schema) (ha
 
 -- a query takes the parameters, and no SUM of it overflows
 pub record IsTaken (query : Query) (params : Row) : Type 0 where
-  pub typed : accepts_program both_schema [] query params ≡ true
+  pub typed : (o : Others) → accepts_program (schema_with o) [] query params ≡ true
   pub small : (db : Trees) → ¬ QueryOverflows query db params
 
 -- without aggregates none overflows
@@ -147,19 +147,19 @@ counted_small filter params db (inl (groups, are, large)) = let it = large.4 in 
 counted_small filter params db (inr large) = large.4
 
 -- a query of our tables
-pub query_unread : (sql : List ℕ) (query : Query) (names : List (List ℕ)) → Means sql query names → (params : Row) (old new : State) (e : Error) → old.now.schema ≡ both_schema → IsAlone both_schema sql (length params)
+pub query_unread : (sql : List ℕ) (query : Query) (names : List (List ℕ)) → Means sql query names → (params : Row) (old new : State) (e : Error) → HasBoth old.now.schema → ((o : Others) → IsAlone (schema_with o) sql (length params))
     → IsTaken query params → FailsToQuery sql params old new e → IsUnread old new e
 unfolding FailsToQuery IsNotRun
-query_unread sql query names means params old new e has alone taken (inl (inl h)) = absurd (is_statement sql params old (subst (λ (s : Schema). IsAlone s sql (length params)) (sym has) alone) e h.0)
+query_unread sql query names means params old new e has alone taken (inl (inl h)) = absurd (is_statement sql params old (subst (λ (s : Schema). IsAlone s sql (length params)) (sym has.is) (alone has.others)) e h.0)
 query_unread sql query names means params old new e has alone taken (inl (inr h)) = stopped (stopped_by old new e h)
 query_unread sql query names means params old new e has alone taken (inr h) =
-    let known = sym h.1.is ∙ ap (λ s. understood s sql) has in
-    let bare = subst IsPlain (sym known) means.plain in
+    let known = sym h.1.is ∙ ap (λ s. understood s sql) has.is in
+    let bare = subst IsPlain (sym known) (means.plain has.others) in
     let it = rw (bare.0, bare.1, append-nil params) at h.2 in
-    let db : it.0 ≡ old.now = subst (λ b. IsSourceOf b old.now it.0) (ap (λ s. reads_listing s sql) has ∙ means.unlisted) it.1 in
-    let refused : RefusesToRead old.step_limit (Select (record { lets = []; body = query }) names) old.now params e = subst₂ (λ k d. RefusesToRead old.step_limit k d params e) (ap command_of known ∙ means.command) db it.2 in
+    let db : it.0 ≡ old.now = subst (λ b. IsSourceOf b old.now it.0) (ap (λ s. reads_listing s sql) has.is ∙ means.unlisted has.others) it.1 in
+    let refused : RefusesToRead old.step_limit (Select (record { lets = []; body = query }) names) old.now params e = subst₂ (λ k d. RefusesToRead old.step_limit k d params e) (ap command_of known ∙ means.command has.others) db it.2 in
     elim refused [
-      | inl mismatch ↦ absurd (true≢false (sym taken.typed ∙ ap (λ (s : Schema). accepts_program s [] query params) (sym has) ∙ mismatch.1))
+      | inl mismatch ↦ absurd (true≢false (sym (taken.typed has.others) ∙ ap (λ (s : Schema). accepts_program s [] query params) (sym has.is) ∙ mismatch.1))
       | inr rest ↦ elim rest [ inl large ↦ absurd (taken.small _ large.1) | inr steps ↦ limited steps.0 steps.1 ]
     ]
 

@@ -24,7 +24,7 @@ use Rattle.sqlite_keyed.proofs.ListLemmas.{ascending-filter, map-map}
 use Rattle.sqlite_keyed.proofs.SortLemmas.{IsPermutation-sort_by}
 use Rattle.edf_tables.specs.declared.row.RecordRow.{RecordRow}
 use Rattle.edf_tables.specs.Cells.{cells_of, first_three}
-use Rattle.edf_tables.specs.Schema.{both_schema}
+use Rattle.edf_tables.specs.Schema.{HasBoth}
 use Rattle.edf_tables.specs.Records.{records_of, HaveRisingStarts, IsReady, starts_after, starts_from, starts_between, shown_record}
 use Rattle.edf_schema.specs.Columns.{by_column, is_of}
 use Rattle.edf_tables.specs.Recordings.{named, IsIdIn, by_identity, AreNamedApart, shown_recording}
@@ -35,18 +35,18 @@ use Rattle.edf_tables.proofs.Terms.{is_of_passes, near_passes, after_passes, fro
 use Rattle.edf_tables.proofs.Answers.{column_total, AreApart, answered, last_answered, some_order, in_order, any_order, counted}
 
 module _ (sql : List ℕ) (query : Query) (names : List (List ℕ)) (means : Means sql query names) where
-  pub plain_at : (old : State) → old.now.schema ≡ both_schema → IsPlain (understood old.now.schema sql)
-  plain_at old has = subst (λ (s : Schema). IsPlain (understood s sql)) (sym has) means.plain
+  pub plain_at : (old : State) → HasBoth old.now.schema → IsPlain (understood old.now.schema sql)
+  plain_at old has = subst (λ (s : Schema). IsPlain (understood s sql)) (sym has.is) (means.plain has.others)
 
-  pub answer_of : (params : Row) (old new : State) (rows : List Row) → old.now.schema ≡ both_schema → Shown sql params old new rows → IsAnswer query (overlay old.now.trees []) params rows
-  answer_of params old new rows has h = (reads_as sql params old new both_schema has _ means.command means.plain means.unlisted rows h).answer Null
+  pub answer_of : (params : Row) (old new : State) (rows : List Row) → HasBoth old.now.schema → Shown sql params old new rows → IsAnswer query (overlay old.now.trees []) params rows
+  answer_of params old new rows has h = (reads_as sql params old new _ has.is _ (means.command has.others) (means.plain has.others) (means.unlisted has.others) rows h).answer Null
 
   -- rows that were given one at a time begin an answer
-  pub answer_begun : {S : Type 0} (g : Ghosts S) (params : Row) (h : Held S) (rows : List Row) → (state g h).now.schema ≡ both_schema → HasGiven g sql params h rows
+  pub answer_begun : {S : Type 0} (g : Ghosts S) (params : Row) (h : Held S) (rows : List Row) → HasBoth (state g h).now.schema → HasGiven g sql params h rows
       → (tail : List Row) × IsAnswer query (overlay (state g h).now.trees []) params (rows ++ tail)
   answer_begun g params h rows has it =
       let s = state g h in
-      let read = begins_as sql params s s both_schema has _ means.command means.plain means.unlisted rows (given_begin g sql params h rows it) in
+      let read = begins_as sql params s s _ has.is _ (means.command has.others) (means.plain has.others) (means.unlisted has.others) rows (given_begin g sql params h rows it) in
       (read.1.0, read.1.1 Null)
 
 -- WHERE takes this part of the records of a recording
@@ -103,14 +103,14 @@ typed found rows xs e is = e ∙ ap (map first_three) is ∙ map-map first_three
 number_of : (found m : ℕ) (rows : List Row) → option_map (λ row. column row 0) (slice_get rows 0) ≡ Some (Int (pos found)) → rows ≡ (count m ∷ []) ∷ [] → found ≡ min m 9223372036854775807
 number_of found m rows h is = let e : Some (count m) ≡ Some (Int (pos found)) = rw is at h in let same : min m 9223372036854775807 ≡ found = cc in sym same
 
-pub count_shown : (n : ℤ) (found : ℕ) (old new : State) (rows : List Row) → old.now.schema ≡ both_schema → Shown count_text (Int n ∷ []) old new rows → option_map (λ row. column row 0) (slice_get rows 0) ≡ Some (Int (pos found))
+pub count_shown : (n : ℤ) (found : ℕ) (old new : State) (rows : List Row) → HasBoth old.now.schema → Shown count_text (Int n ∷ []) old new rows → option_map (λ row. column row 0) (slice_get rows 0) ≡ Some (Int (pos found))
     → found ≡ min (length (records_of n (old.now.trees 2))) 9223372036854775807
 count_shown n found old new rows has h first =
     let size : length (filter (passes (Int n ∷ []) (of_recording ∷ [])) (old.now.trees 2)) ≡ length (records_of n (old.now.trees 2)) =
     ap length (of_whole n (old.now.trees 2)) ∙ length_permutation _ _ (IsPermutation-sort_by (by_column 2) (column_total 2) (filter (is_of n) (old.now.trees 2))) in
     number_of found _ rows first (counted (of_recording ∷ []) (Int n ∷ []) (overlay old.now.trees []) rows (answer_of count_text _ _ count_is (Int n ∷ []) old new rows has h)) ∙ ap (λ m. min m 9223372036854775807) size
 
-pub count_all_shown : (found : ℕ) (old new : State) (rows : List Row) → old.now.schema ≡ both_schema → Shown count_all_text [] old new rows → option_map (λ row. column row 0) (slice_get rows 0) ≡ Some (Int (pos found))
+pub count_all_shown : (found : ℕ) (old new : State) (rows : List Row) → HasBoth old.now.schema → Shown count_all_text [] old new rows → option_map (λ row. column row 0) (slice_get rows 0) ≡ Some (Int (pos found))
     → found ≡ min (length (old.now.trees 2)) 9223372036854775807
 count_all_shown found old new rows has h first =
     number_of found _ rows first (counted [] [] (overlay old.now.trees []) rows (answer_of count_all_text _ _ count_all_is [] old new rows has h)) ∙ ap (λ l. min (length l) 9223372036854775807) (filter_true (old.now.trees 2))
@@ -119,10 +119,10 @@ count_all_shown found old new rows has h first =
 not_none : (m : ℕ) (rows : List Row) → rows ≡ (count m ∷ []) ∷ [] → rows ≢ []
 not_none m rows is none = let e : [] ≡ (count m ∷ []) ∷ [] = sym none ∙ is in cc
 
-pub count_some : (n : ℤ) (old new : State) (rows : List Row) → old.now.schema ≡ both_schema → Shown count_text (Int n ∷ []) old new rows → rows ≢ []
+pub count_some : (n : ℤ) (old new : State) (rows : List Row) → HasBoth old.now.schema → Shown count_text (Int n ∷ []) old new rows → rows ≢ []
 count_some n old new rows has h = not_none _ rows (counted (of_recording ∷ []) (Int n ∷ []) (overlay old.now.trees []) rows (answer_of count_text _ _ count_is (Int n ∷ []) old new rows has h))
 
-pub count_all_some : (old new : State) (rows : List Row) → old.now.schema ≡ both_schema → Shown count_all_text [] old new rows → rows ≢ []
+pub count_all_some : (old new : State) (rows : List Row) → HasBoth old.now.schema → Shown count_all_text [] old new rows → rows ≢ []
 count_all_some old new rows has h = not_none _ rows (counted [] [] (overlay old.now.trees []) rows (answer_of count_all_text _ _ count_all_is [] old new rows has h))
 
 head_of : (xs : List Row) → option_map (λ row. column row 0) (slice_get (take 1 (map (λ r. column r 2 ∷ []) xs)) 0) ≡ option_map (λ row. column row 2) (slice_get xs 0)
@@ -164,7 +164,7 @@ id_among xs (row ∷ rows) (Some id) same first =
     let moved = Rattle.std.proofs.lemmas.List.Sorted.IsPermutation-map (λ (r : Row). column r 0) _ _ same in
     Contains-permutation _ _ (Int id) (IsPermutation-sym _ _ (subst (λ l. IsPermutation l (map (λ r. column r 0) (row ∷ rows))) (map-map (λ (r : Row). column r 0) (λ r. column r 0 ∷ []) xs) moved)) (0, omega arith, e)
 
-pub id_shown : (identity : List ℕ) (found : Option ℤ) (old new : State) (rows : List Row) → old.now.schema ≡ both_schema → Shown id_text (Blob identity ∷ []) old new rows → option_map Int found ≡ option_map (λ row. column row 0) (slice_get rows 0)
+pub id_shown : (identity : List ℕ) (found : Option ℤ) (old new : State) (rows : List Row) → HasBoth old.now.schema → Shown id_text (Blob identity ∷ []) old new rows → option_map Int found ≡ option_map (λ row. column row 0) (slice_get rows 0)
     → IsIdIn (named identity (old.now.trees 0)) found
 id_shown identity found old new rows has h first =
     let some = any_order 0 identity_terms _ (Blob identity ∷ []) (overlay old.now.trees []) rows (answer_of id_text _ _ id_is (Blob identity ∷ []) old new rows has h) in
@@ -177,9 +177,9 @@ identities_shown old new rows apart h =
     let shown = answered 0 2 [] _ _ [] (overlay old.now.trees []) rows (answer_of identities_text _ _ identities_is [] old new rows apart.schema h) (subst (λ (l : List Row). Rattle.sqlite_trees.specs.Tree.IsAscending (λ a b. by_column 2 a b ≡ Less) (by_identity l)) (sym all) apart.apart) in
     ap (map (λ (row : Row). column row 0)) (shown ∙ ap (λ (l : List Row). map (λ r. column r 2 ∷ []) (by_identity l)) all) ∙ map-map (λ (row : Row). column row 0) (λ r. column r 2 ∷ []) (by_identity (old.now.trees 0))
 
-pub recordings_shown : (old new : State) (rows : List Row) → old.now.schema ≡ both_schema → Shown recordings_text [] old new rows → IsPermutation (map shown_recording (old.now.trees 0)) rows
+pub recordings_shown : (old new : State) (rows : List Row) → HasBoth old.now.schema → Shown recordings_text [] old new rows → IsPermutation (map shown_recording (old.now.trees 0)) rows
 recordings_shown old new rows has h =
     subst (λ (l : List Row). IsPermutation (map shown_recording l) rows) (filter_true (old.now.trees 0)) (some_order 0 0 [] _ [] (overlay old.now.trees []) rows (answer_of recordings_text _ _ recordings_is [] old new rows has h))
 
-pub recordings_in_order : (old new : State) (rows : List Row) → old.now.schema ≡ both_schema → Shown recordings_text [] old new rows → IsSorted (by_column 0) rows
+pub recordings_in_order : (old new : State) (rows : List Row) → HasBoth old.now.schema → Shown recordings_text [] old new rows → IsSorted (by_column 0) rows
 recordings_in_order old new rows has h = in_order 0 0 [] _ [] (overlay old.now.trees []) rows (answer_of recordings_text _ _ recordings_is [] old new rows has h) (λ r. refl)

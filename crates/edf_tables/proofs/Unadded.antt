@@ -1,8 +1,8 @@
 -- Why a row is not added, and why a table is not made.
-use Rattle.std.proofs.Common.{ap, cond, ◌≡◌, ◌⊎◌, ◌+◌, ◌*◌, ◌^◌, ◌<◌, ◌≤◌, pos, negsuc, zero, suc, ◌&&◌, ◌||◌, inl, inr, ℕ, ℤ, List, [], ◌∷◌, true, false, Option, Some, None, IsSome, Result, Ok, Err, IfErr, length, slice_get, refl, sym, subst, ◌∙◌, arith, true≢false}
+use Rattle.std.proofs.Common.{ap, cond, ◌≡◌, ◌⊎◌, ◌+◌, ◌*◌, ◌^◌, ◌<◌, ◌≤◌, pos, negsuc, zero, suc, ◌&&◌, ◌||◌, inl, inr, ℕ, ℤ, List, [], ◌∷◌, true, false, Option, Some, None, IsSome, Result, Ok, Err, IfErr, IsTrue, All, length, slice_get, refl, sym, subst, ◌∙◌, arith, true≢false}
 use Rattle.std.proofs.lemmas.Bool.{cases_Bool, cases_lt}
 use Rattle.std.proofs.lemmas.List.{length-append}
-use Rattle.std.proofs.lemmas.List.Elements.{All-from_recursion}
+use Rattle.std.proofs.lemmas.List.Elements.{All-from_recursion, recursion_from_All}
 use Rattle.std.proofs.lemmas.Nat.Bits.{bit_at-zero}
 use Rattle.std.specs.List.{AllByRecursion}
 use Rattle.std.specs.Int.{bit_at}
@@ -20,14 +20,17 @@ use Rattle.sqlite.specs.Command.TheVariants.{Insert, CreateTable, Nothing}
 use Rattle.sqlite_schema.specs.declared.command.Command.{Command}
 use Rattle.sqlite_schema.specs.declared.schema.Keys.TheVariants.{Enforced}
 use Rattle.sqlite_schema.specs.declared.schema.Index.{Index}
-use Rattle.sqlite_schema.specs.Rules.{table_reals, index_reals}
+use Rattle.sqlite_schema.specs.declared.schema.Among.TheVariants.{All as AllKeys}
+use Rattle.sqlite_schema.specs.Rules.{table_reals, index_reals, Refers, Obeys}
+use Rattle.sqlite_rules.proofs.ListLemmas.{all_has}
+use Rattle.sqlite.proofs.StateLemmas.{refers_if_sound}
 use Rattle.sqlite_sql.specs.Catalog.{entry_of}
 use Rattle.sqlite_trees.specs.View.{IsStorable, is_int}
 use Rattle.sqlite_value.specs.Order.{column, number}
 use Rattle.sqlite.specs.Edit.{edit_of}
 use Rattle.sqlite.specs.Rowids.TheVariants.{Above, Chosen}
-use Rattle.sqlite_rules.specs.Action.{Writes, Leads, works}
-use Rattle.sqlite_rules.specs.Edit.{IsRefused, IsOversized, taken_by, next_rowid}
+use Rattle.sqlite_rules.specs.Action.{Writes, Leads}
+use Rattle.sqlite_rules.specs.Edit.{IsRefused, IsOversized, next_rowid}
 use Rattle.sqlite_rules.specs.declared.error.Refusal.{Refusal}
 use Rattle.sqlite_catalog.specs.declared.error.Refusal as alter
 use Rattle.sqlite_catalog.specs.declared.error.Refusal.TheVariants as why
@@ -44,64 +47,62 @@ use Rattle.sqlite.specs.Calls.{IsWrite}
 use Rattle.sqlite.specs.Does.{Does, MakesTable, OnRows, lacks_sequence, sequence_text}
 use Rattle.sqlite.specs.Effect.{is_query, Database, edit_error, alter_error, value_rows}
 use Rattle.sqlite.specs.Listing.{understood}
-use Rattle.sqlite.specs.Rows.{Task, Sourced, Edited, stamped, rowids_for, count_of}
-use Rattle.sqlite.specs.State.{State, HasCleanDisk, Survives, mode_of, Executes, IsMisplaced, is_pragma}
+use Rattle.sqlite.specs.Rows.{Written, Sourced, Edited, stamped, rowids_for, count_of}
+use Rattle.sqlite.specs.State.{State, HasCleanDisk, Survives, mode_of, Executes, IsMisplaced, IsUnchanged, IsLive, is_pragma}
 use Rattle.sqlite.proofs.Callers.{command_of, statement_of}
-use Rattle.edf_tables.specs.Made.{IsOurs}
 use Rattle.edf_tables.specs.Refused.{IsUnadded, IsUnmade}
 use Rattle.edf_tables.specs.Refused.{IsUnadded as row}
 use Rattle.edf_tables.specs.Refused.{IsUnmade as table}
 use Rattle.edf_tables.specs.Row.{cells, named_cells, new_row, one_row, stored_size, IsInside}
-use Rattle.edf_tables.specs.Schema.{recording, records, no_schema, one_schema, both_schema}
-use Rattle.edf_tables.proofs.Writing.{cast_null, cast_int}
+use Rattle.edf_tables.specs.Schema.{recording, records, no_schema, one_schema, Others, schema_with, IsOtherIndex, HasBoth}
+use Rattle.edf_tables.proofs.Others.{no_works}
+use Rattle.edf_tables.proofs.Rules.{refused_by_ours}
+use Rattle.edf_tables.proofs.Schemas.{none_not_both, one_not_both}
+use Rattle.edf_tables.proofs.Writing.{task_of, WritesOne, record_makes, recording_makes, record_refers, recording_refers}
 use Rattle.edf_tables.proofs.Refusals.{IsAlone, turned_down, stopped_or, stopped_since}
-use Rattle.edf_tables.proofs.Texts.{create_recording_text, create_recording_is, create_records_text, create_records_is, recording_there, recording_there_2, records_there, insert_record_text, insert_record_is, record_terms, insert_recording_text, insert_recording_is, recording_terms}
+use Rattle.edf_tables.proofs.Texts.{create_recording_text, create_recording_is, create_records_text, create_records_is, recording_there, insert_record_text, insert_record_is, record_terms, insert_recording_text, insert_recording_is, recording_terms}
 
 -- ---- a row
 
 -- the row is too large, a rule of the table refuses it, or the steps ran out
-abbrev Stops : Option ℕ → Trees → Table → Row → Option Error → Type 0
-Stops limit db of cells None = IsOversized both_schema of (new_row (db of.tree) cells)
-Stops limit db of cells (Some e) = ((rule : Refusal) × (e ≡ edit_error rule) × IsRefused both_schema Enforced db (one_row db of cells) rule) ⊎ ((e ≡ SqliteFailure OperationInterrupted) × IsSome limit)
+abbrev Stops : Option ℕ → Schema → Trees → Table → Row → Option Error → Type 0
+Stops limit schema db of cells None = IsOversized schema of (new_row (db of.tree) cells)
+Stops limit schema db of cells (Some e) = ((rule : Refusal) × (e ≡ edit_error rule) × IsRefused schema Enforced db (one_row db of cells) rule) ⊎ ((e ≡ SqliteFailure OperationInterrupted) × IsSome limit)
 
-source_stops : (limit : Option ℕ) (db : Trees) (of : Table) (cells given : Row) (terms : List Term) (width : ℕ) (stop : Option Error) → accepts_terms terms given ≡ true
-    → Sourced limit (record { schema = both_schema; trees = db }) given (Values terms width) (Err stop) → Stops limit db of cells stop
-source_stops limit db of cells given terms width None typed h = absurd h
-source_stops limit db of cells given terms width (Some x) typed (inl mismatch) = absurd (true≢false (sym typed ∙ mismatch.1))
-source_stops limit db of cells given terms width (Some x) typed (inr steps) = inr steps
+source_stops : (limit : Option ℕ) (schema : Schema) (db : Trees) (of : Table) (cells given : Row) (terms : List Term) (width : ℕ) (stop : Option Error) → accepts_terms terms given ≡ true
+    → Sourced limit (record { schema = schema; trees = db }) given (Values terms width) (Err stop) → Stops limit schema db of cells stop
+source_stops limit schema db of cells given terms width None typed h = absurd h
+source_stops limit schema db of cells given terms width (Some x) typed (inl mismatch) = absurd (true≢false (sym typed ∙ mismatch.1))
+source_stops limit schema db of cells given terms width (Some x) typed (inr steps) = inr steps
 
-none_left : (n : ℕ) (db : Trees) (stop : Option Refusal) → ¬ Leads both_schema Enforced n db [] (Err stop)
-none_left zero db stop h = let e = h.1 in cc
-none_left (suc n) db stop h = absurd (omega (arith, ap length h.2, length-append h.0 (h.1 ∷ [])))
+none_left : (n : ℕ) (schema : Schema) (db : Trees) (stop : Option Refusal) → ¬ Leads schema Enforced n db [] (Err stop)
+none_left zero schema db stop h = let e = h.1 in cc
+none_left (suc n) schema db stop h = absurd (omega (arith, ap length h.2, length-append h.0 (h.1 ∷ [])))
 
-edit_stops : (limit : Option ℕ) (db : Trees) (of : Table) (cells : Row) (stop : Option Error) → ((olds news : List Row) → works both_schema Enforced 0 of.tree olds news ≡ [])
-    → Edited both_schema Enforced db (one_row db of cells) (Err stop) → Stops limit db of cells stop
-edit_stops limit db of cells stop none h = go h.0 h.1 h.2
+edit_stops : (limit : Option ℕ) (schema : Schema) (db : Trees) (of : Table) (cells : Row) (stop : Option Error) → Edited schema Enforced db (one_row db of cells) (Err stop) → Stops limit schema db of cells stop
+edit_stops limit schema db of cells stop h = go h.0 h.1 h.2
   where
-    go : (why : Option Refusal) → Writes both_schema Enforced db (one_row db of cells) (Err why) → stop ≡ option_map edit_error why → Stops limit db of cells stop
-    go why (inr (inr went)) same = absurd (none_left went.2.0 went.0 why (rw (none (taken_by db (one_row db of cells)) (one_row db of cells).news) at went.2.1))
+    go : (why : Option Refusal) → Writes schema Enforced db (one_row db of cells) (Err why) → stop ≡ option_map edit_error why → Stops limit schema db of cells stop
+    go why (inr (inr went)) same = absurd (none_left went.2.0 schema went.0 why (rw (no_works schema Enforced 0 of.tree (one_row db of cells).news) at went.2.1))
     go None (inl refused) same = absurd (let e = refused.2 in cc)
-    go None (inr (inl big)) same = elim big.1 [ inl is ↦ rw same (subst (IsOversized both_schema of) is big.2) | inr never ↦ absurd never ]
-    go (Some rule) (inl refused) same = let is : refused.0 ≡ rule = (let e = refused.2 in cc) in rw same (inl (rule, refl, subst (IsRefused both_schema Enforced db (one_row db of cells)) is refused.1))
+    go None (inr (inl big)) same = elim big.1 [ inl is ↦ rw same (subst (IsOversized schema of) is big.2) | inr never ↦ absurd never ]
+    go (Some rule) (inl refused) same = let is : refused.0 ≡ rule = (let e = refused.2 in cc) in rw same (inl (rule, refl, subst (IsRefused schema Enforced db (one_row db of cells)) is refused.1))
     go (Some rule) (inr (inl big)) same = absurd (let e = big.3 in cc)
-
-all_free : (db : Trees) (rows : List Row) → AllByRecursion (λ (row : Row). true ≡ true) rows
-all_free db [] = tt
-all_free db (row ∷ rows) = (refl, all_free db rows)
-
-abbrev task_of : Option ℕ → Table → Row → Task
-task_of limit of params = record { limit = limit; keys = Enforced; schema = both_schema; table = of; params = params }
 
 abbrev plain_mode : Mode
 plain_mode = record { keys = Enforced; in_doubt = false; may_wait = false }
 
-rows_stop : (limit : Option ℕ) (of : Table) (params cells : Row) (at : ℕ) (terms : List Term) (width : ℕ) (db : Trees) (stop : Option Error) → of.is_counted ≡ false → accepts_terms terms (stamped of params) ≡ true
-    → edit_of db of [] Chosen 0 (value_rows (stamped of params) width (length terms / width) terms) ≡ one_row db of cells → ((olds news : List Row) → works both_schema Enforced 0 of.tree olds news ≡ [])
-    → OnRows (task_of limit of params) plain_mode None (Insert at (Values terms width)) db (Err stop) → Stops limit db of cells stop
-rows_stop limit of params cells at terms width db stop plain typed one none (inl (was, w, same)) =
+-- it stops for no reference, or none is broken
+abbrev Refer : Option ℕ → Schema → Table → Row → ℕ → List Term → ℕ → Trees → Option Error → Type 0
+Refer limit schema of params at terms width db stop = (stop ≡ None) ⊎ ((w : Written) → WritesOne limit schema of params at terms width db w → Refers AllKeys schema w.trees)
+
+rows_stop : (limit : Option ℕ) (schema : Schema) (of : Table) (params cells : Row) (at : ℕ) (terms : List Term) (width : ℕ) (db : Trees) (stop : Option Error) → of.is_counted ≡ false → accepts_terms terms (stamped of params) ≡ true
+    → edit_of db of [] Chosen 0 (value_rows (stamped of params) width (length terms / width) terms) ≡ one_row db of cells → Refer limit schema of params at terms width db stop
+    → OnRows (task_of limit schema of params) plain_mode None (Insert at (Values terms width)) db (Err stop) → Stops limit schema db of cells stop
+rows_stop limit schema of params cells at terms width db stop plain typed one refer (inl (was, w, same)) =
     let is : was ≡ stop = cc in
     elim w [
-      | inl source ↦ let here : source.0 ≡ stop = (let k = source.2 in cc) in subst (Stops limit db of cells) here (source_stops limit db of cells (stamped of params) terms width source.0 typed source.1)
+      | inl source ↦ let here : source.0 ≡ stop = (let k = source.2 in cc) in subst (Stops limit schema db of cells) here (source_stops limit schema db of cells (stamped of params) terms width source.0 typed source.1)
       | inr read ↦ elim read.2 [
         | inl counter ↦ absurd (let k = rw plain at counter.1 in cc)
         | inr counted ↦ elim counted.2 [
@@ -109,13 +110,16 @@ rows_stop limit of params cells at terms width db stop plain typed one none (inl
               let here : edited.0 ≡ stop = (let k = edited.2 in cc) in
               let way : rowids_for of (count_of counted.0) ≡ Chosen = ap (λ b. cond b (Above (count_of counted.0)) Chosen) plain in
               let edit : edit_of db of [] (rowids_for of (count_of counted.0)) 0 read.0 ≡ one_row db of cells = ap (λ w. edit_of db of [] w 0 read.0) way ∙ ap (edit_of db of [] Chosen 0) read.1.1 ∙ one in
-              subst (Stops limit db of cells) here (edit_stops limit db of cells edited.0 none (subst (λ x. Edited both_schema Enforced db x (Err edited.0)) edit edited.1))
+              subst (Stops limit schema db of cells) here (edit_stops limit schema db of cells edited.0 (subst (λ x. Edited schema Enforced db x (Err edited.0)) edit edited.1))
           | inr made ↦ elim made.2 [ inl counts ↦ absurd (let k = rw plain at counts.1 in cc) | inr gave ↦ absurd (let k = gave.2 in cc) ]
         ]
       ]
     ]
-rows_stop limit of params cells at terms width db stop plain typed one none (inr (w, done, rest)) = elim rest [
-  | inl tested ↦ absurd (tested.1.0 (all_free w.trees (w.trees 0), (all_free w.trees (w.trees 2), tt)))
+rows_stop limit schema of params cells at terms width db stop plain typed one refer (inr (w, done, rest)) = elim rest [
+  | inl tested ↦ elim refer [
+    | inl none ↦ absurd (let is : tested.0 ≡ stop = (let k = tested.2 in cc) in let k = tested.1.1 in cc)
+    | inr refers ↦ absurd (tested.1.0 (refers w done))
+  ]
   | inr held ↦ elim held.2 [ inl shows ↦ absurd (let k = shows.1 in cc) | inr gave ↦ absurd (let k = gave.2 in cc) ]
 ]
 
@@ -125,27 +129,29 @@ writes_at_any_place old command e writes (inl (is, inl begins)) = subst IsWrite 
 writes_at_any_place old command e writes (inl (is, inr ends)) = elim ends.0 [ inl k ↦ subst IsWrite k writes | inr k ↦ subst IsWrite k writes ]
 writes_at_any_place old command e writes (inr named) = elim named.2 [ inl k ↦ subst IsWrite k writes | inr k ↦ subst IsWrite k writes ]
 
-unadded : (of : Table) (cells : Row) (old new : State) (e : Error) → Stops old.step_limit old.now.trees of cells (Some e) → IsUnadded of cells old new e
-unadded of cells old new e (inl ruled) = row.against_rule ruled.0 ruled.1 ruled.2
-unadded of cells old new e (inr steps) = row.limited steps.0 steps.1
+unadded : (of : Table) (cells : Row) (old new : State) (e : Error) (both : HasBoth old.now.schema) → of.tree < 4 → of.references ≡ [] → Obeys old.now.schema old.now.trees → Stops old.step_limit old.now.schema old.now.trees of cells (Some e) → IsUnadded of cells old new e
+unadded of cells old new e both low none obeys (inl ruled) = row.against_rule ruled.0 ruled.1 (refused_by_ours old.now.schema both old.now.trees of cells ruled.0 low none obeys ruled.2)
+unadded of cells old new e both low none obeys (inr steps) = row.limited steps.0 steps.1
 
 -- a text that adds a row to one of our tables
-row_unadded : (sql : List ℕ) (params cells : Row) (old new : State) (at : ℕ) (terms : List Term) (width : ℕ) (of : Table) → old.now.schema ≡ both_schema → command_of (understood both_schema sql) ≡ Insert at (Values terms width)
-    → IsAlone both_schema sql (length params) → slice_get both_schema.tables at ≡ Some of → of.is_counted ≡ false → accepts_terms terms (stamped of params) ≡ true
-    → edit_of old.now.trees of [] Chosen 0 (value_rows (stamped of params) width (length terms / width) terms) ≡ one_row old.now.trees of cells → ((olds news : List Row) → works both_schema Enforced 0 of.tree olds news ≡ [])
-    → (IsOversized both_schema of (new_row (old.now.trees of.tree) cells) → 10 ^ 9 < stored_size (new_row (old.now.trees of.tree) cells)) → (e : Error) → Executes sql params old new (Err e) → IsUnadded of cells old new e
-row_unadded sql params cells old new at terms width of has is alone listed plain typed one none large e h =
+row_unadded : (sql : List ℕ) (params cells : Row) (old new : State) (at : ℕ) (terms : List Term) (width : ℕ) (of : Table) (has : HasBoth old.now.schema) → command_of (understood (schema_with has.others) sql) ≡ Insert at (Values terms width)
+    → IsAlone (schema_with has.others) sql (length params) → slice_get (schema_with has.others).tables at ≡ Some of → of.tree < 4 → of.references ≡ [] → (IsTrue old.is_open → Obeys old.now.schema old.now.trees) → of.is_counted ≡ false → accepts_terms terms (stamped of params) ≡ true
+    → edit_of old.now.trees of [] Chosen 0 (value_rows (stamped of params) width (length terms / width) terms) ≡ one_row old.now.trees of cells
+    → (IsTrue old.is_open → (w : Written) → WritesOne old.step_limit (schema_with has.others) of params at terms width old.now.trees w → Refers AllKeys (schema_with has.others) w.trees)
+    → (IsOversized (schema_with has.others) of (new_row (old.now.trees of.tree) cells) → 10 ^ 9 < stored_size (new_row (old.now.trees of.tree) cells)) → (e : Error) → Executes sql params old new (Err e) → IsUnadded of cells old new e
+row_unadded sql params cells old new at terms width of has is alone listed low none obeys plain typed one refers large e h =
+    let schema = schema_with has.others in
     let command = Insert at (Values terms width) in
-    let text = statement_of sql (understood both_schema sql) in
-    let does : (stop : Option Error) → Does old.step_limit (mode_of old) params old.now text None command (Err stop) → Stops old.step_limit old.now.trees of cells stop =
-    λ stop d. rows_stop old.step_limit of params cells at terms width old.now.trees stop plain typed one none (rw listed at (subst (λ s. Does old.step_limit (mode_of old) params (record old.now { schema = s }) text None command (Err stop)) has d)) in
-    elim (turned_down sql params old new both_schema has command is alone refl e h) [
+    let text = statement_of sql (understood schema sql) in
+    let does : (stop : Option Error) → Refer old.step_limit schema of params at terms width old.now.trees stop → Does old.step_limit (mode_of old) params old.now text None command (Err stop) → Stops old.step_limit schema old.now.trees of cells stop =
+    λ stop refer d. rows_stop old.step_limit schema of params cells at terms width old.now.trees stop plain typed one refer (rw listed at (subst (λ s. Does old.step_limit (mode_of old) params (record old.now { schema = s }) text None command (Err stop)) has.is d)) in
+    elim (turned_down sql params old new schema has.is command is alone refl e h) [
       | inl it ↦ row.stopped it.0
       | inr down ↦ elim down [
         | inl place ↦ absurd (writes_at_any_place old command e tt place.0)
         | inr rest ↦ elim rest [
-          | inl ruled ↦ unadded of cells old new e (does (Some e) ruled.1)
-          | inr fails ↦ elim (stopped_or old new _ e fails) [ inl it ↦ row.stopped it | inr big ↦ row.too_big big.0 (large (does None big.1)) ]
+          | inl ruled ↦ unadded of cells old new e has low none (obeys ruled.2.0.was_open) (subst (λ s. Stops old.step_limit s old.now.trees of cells (Some e)) (sym has.is) (does (Some e) (inr (refers ruled.2.0.was_open)) ruled.1))
+          | inr fails ↦ elim (stopped_or old new _ e fails) [ inl it ↦ row.stopped it | inr big ↦ row.too_big big.0 (large (does None (inl refl) big.1)) ]
         ]
       ]
     ]
@@ -173,8 +179,8 @@ stored row some few whole short = record { typed = no_reals row; columns = (some
 over : (n : ℕ) → ¬ (n ≤ 10 ^ 9) → 10 ^ 9 < n
 over n h = elim (cases_lt (10 ^ 9) n) [ inl more ↦ more | inr less ↦ absurd (h (omega (arith, less))) ]
 
-record_large : (rows : List Row) (n start : ℤ) (samples block : List ℕ) → IsOversized both_schema records (new_row rows (cells n start samples block)) → 10 ^ 9 < stored_size (new_row rows (cells n start samples block))
-record_large rows n start samples block big =
+record_large : (o : Others) → All IsOtherIndex o.indexes → (rows : List Row) (n start : ℤ) (samples block : List ℕ) → IsOversized (schema_with o) records (new_row rows (cells n start samples block)) → 10 ^ 9 < stored_size (new_row rows (cells n start samples block))
+record_large o elsewhere rows n start samples block big =
     let row = new_row rows (cells n start samples block) in
     let whole : AllByRecursion (λ v. NotNan (number v)) row = (number_whole (next_rowid rows), (number_whole n, (number_whole start, (blob_whole samples, (blob_whole block, tt))))) in
     elim big [
@@ -184,13 +190,13 @@ record_large rows n start samples block big =
         | inr other ↦ elim other [
           | inl is ↦ absurd (subst (λ (i : Index). ¬ IsStorable (index_reals (table_reals records) i.columns) (entry_of i.columns row)) is entry.3
               (stored (Int n ∷ Int start ∷ Int (next_rowid rows) ∷ []) (omega arith) (omega arith) (number_whole n, (number_whole start, (number_whole (next_rowid rows), tt))) (omega arith)))
-          | inr never ↦ absurd never
+          | inr further ↦ absurd (let far = (all_has IsOtherIndex o.indexes entry.0 (recursion_from_All _ _ elsewhere) further).1 in omega (arith, far, entry.2))
         ]
       ]
     ]
 
-recording_large : (rows : List Row) (identity : List ℕ) → IsOversized both_schema recording (new_row rows (named_cells identity)) → 10 ^ 9 < stored_size (new_row rows (named_cells identity))
-recording_large rows identity big =
+recording_large : (o : Others) → All IsOtherIndex o.indexes → (rows : List Row) (identity : List ℕ) → IsOversized (schema_with o) recording (new_row rows (named_cells identity)) → 10 ^ 9 < stored_size (new_row rows (named_cells identity))
+recording_large o elsewhere rows identity big =
     let row = new_row rows (named_cells identity) in
     let whole : AllByRecursion (λ v. NotNan (number v)) row = (number_whole (next_rowid rows), (null_whole, (blob_whole identity, tt))) in
     over (stored_size row) (λ small. elim big [
@@ -200,29 +206,39 @@ recording_large rows identity big =
             (stored (Blob identity ∷ Int (next_rowid rows) ∷ []) (omega arith) (omega arith) (blob_whole identity, (number_whole (next_rowid rows), tt)) (omega (arith, small)))
         | inr other ↦ elim other [
           | inl is ↦ absurd (let apart : ◌≡◌ {A = ℕ} 2 0 = sym (ap (λ (i : Index). i.table) is) ∙ entry.2 in omega (arith, apart))
-          | inr never ↦ absurd never
+          | inr further ↦ absurd (let far = (all_has IsOtherIndex o.indexes entry.0 (recursion_from_All _ _ elsewhere) further).1 in omega (arith, far, entry.2))
         ]
       ]
     ])
 
-insert_record_alone : IsAlone both_schema insert_record_text 4
+insert_record_alone : (o : Others) → IsAlone (schema_with o) insert_record_text 4
 unfolding understood everything
-insert_record_alone = record { whole = omega arith; inputs = refl; plain = (refl, refl) }
+insert_record_alone o = record { whole = omega arith; inputs = refl; plain = (refl, refl) }
 
-insert_recording_alone : IsAlone both_schema insert_recording_text 1
+insert_recording_alone : (o : Others) → IsAlone (schema_with o) insert_recording_text 1
 unfolding understood everything
-insert_recording_alone = record { whole = omega arith; inputs = refl; plain = (refl, refl) }
+insert_recording_alone o = record { whole = omega arith; inputs = refl; plain = (refl, refl) }
 
-pub record_unadded : (old new : State) (n start : ℤ) (samples block : List ℕ) (r : Result ℕ Error) → IsInside old → Executes insert_record_text (cells n start samples block) old new r → IfErr r (IsUnadded records (cells n start samples block) old new)
-record_unadded old new n start samples block (Ok count) inside h = tt
-record_unadded old new n start samples block (Err e) inside h =
-    let news : edit_of old.now.trees records [] Chosen 0 ((Null ∷ cells n start samples block) ∷ []) ≡ one_row old.now.trees records (cells n start samples block) = rw (cast_null, cast_int n, cast_int start) refl in
-    row_unadded insert_record_text (cells n start samples block) (cells n start samples block) old new 1 record_terms 5 records inside.schema insert_record_is.0 insert_record_alone refl refl refl news (λ olds news. refl) (record_large (old.now.trees 2) n start samples block) e h
+-- what a connection shows while it is open refers as it must
+refers_open : (s : State) → IsLive s → IsTrue s.is_open → Refers AllKeys s.now.schema s.now.trees
+refers_open s live opened = refers_if_sound s.now.schema s.now.trees (live opened).0
 
-pub recording_unadded : (old new : State) (identity : List ℕ) (e : Error) → IsInside old → Executes insert_recording_text (Blob identity ∷ []) old new (Err e) → IsUnadded recording (named_cells identity) old new e
-recording_unadded old new identity e inside h =
-    let news : edit_of old.now.trees recording [] Chosen 0 ((Null ∷ named_cells identity) ∷ []) ≡ one_row old.now.trees recording (named_cells identity) = rw cast_null refl in
-    row_unadded insert_recording_text (Blob identity ∷ []) (named_cells identity) old new 0 recording_terms 3 recording inside.schema insert_recording_is.0 insert_recording_alone refl refl refl news (λ olds news. refl) (recording_large (old.now.trees 0) identity) e h
+obeys_open : (s : State) → IsLive s → IsTrue s.is_open → Obeys s.now.schema s.now.trees
+obeys_open s live opened = (live opened).0.obeys
+
+pub record_unadded : (old new : State) (n start : ℤ) (samples block : List ℕ) (r : Result ℕ Error) → IsLive old → IsInside old → Executes insert_record_text (cells n start samples block) old new r → IfErr r (IsUnadded records (cells n start samples block) old new)
+record_unadded old new n start samples block (Ok count) live inside h = tt
+record_unadded old new n start samples block (Err e) live inside h =
+    let has = inside.schema in
+    let params = cells n start samples block in
+    row_unadded insert_record_text params params old new 1 record_terms 5 records has (insert_record_is has.others).0 (insert_record_alone has.others) refl (omega arith) refl (obeys_open old live) refl refl (record_makes n start samples block old.now.trees)
+    (λ opened w. record_refers old.now.schema has old.step_limit n start samples block old.now.trees w (refers_open old live opened)) (record_large has.others has.indexes (old.now.trees 2) n start samples block) e h
+
+pub recording_unadded : (old new : State) (identity : List ℕ) (e : Error) → IsLive old → IsInside old → Executes insert_recording_text (Blob identity ∷ []) old new (Err e) → IsUnadded recording (named_cells identity) old new e
+recording_unadded old new identity e live inside h =
+    let has = inside.schema in
+    row_unadded insert_recording_text (Blob identity ∷ []) (named_cells identity) old new 0 recording_terms 3 recording has (insert_recording_is has.others).0 (insert_recording_alone has.others) refl (omega arith) refl (obeys_open old live) refl refl (recording_makes identity old.now.trees)
+    (λ opened w. recording_refers old.now.schema has old.step_limit identity old.now.trees w (refers_open old live opened)) (recording_large has.others has.indexes (old.now.trees 0) identity) e h
 
 -- ---- a table
 
@@ -288,16 +304,16 @@ nothing_at_any_place old e (inl (is, inr ends)) = absurd (elim ends.0 [ inl k �
 nothing_at_any_place old e (inr named) = absurd (elim named.2 [ inl k ↦ cc | inr k ↦ cc ])
 
 -- the text makes a table, or does nothing
-module _ (sql : List ℕ) (old new : State) (schema : Schema) (has : old.now.schema ≡ schema) (alone : IsAlone schema sql 0) (e : Error) (h : Executes sql [] old new (Err e)) where
+module _ (sql : List ℕ) (old new : State) (schema : Schema) (has : old.now.schema ≡ schema) (lacks : ¬ HasBoth old.now.schema) (alone : IsAlone schema sql 0) (e : Error) (h : Executes sql [] old new (Err e)) where
   unmade_as : (command : Command) → command_of (understood schema sql) ≡ command → (is_query command || (true && (is_pragma command || false))) ≡ false → ¬ IsMisplaced old command e
-      → (IsWrite command × Does old.step_limit (mode_of old) [] old.now (statement_of sql (understood schema sql)) None command (Err (Some e)) → IsAltered e)
+      → (IsWrite command × Does old.step_limit (mode_of old) [] old.now (statement_of sql (understood schema sql)) None command (Err (Some e)) × IsUnchanged old new → IsAltered e)
       → ¬ Does old.step_limit (mode_of old) [] old.now (statement_of sql (understood schema sql)) None command (Err None) → IsUnmade old new e
   unmade_as command is dumb anywhere rule small = elim (turned_down sql [] old new schema has command is alone dumb e h) [
     | inl it ↦ table.stopped it.0
     | inr down ↦ elim down [
       | inl place ↦ absurd (anywhere place.0)
       | inr rest ↦ elim rest [
-        | inl ruled ↦ let it = rule ruled in table.against_rule it.0 it.1
+        | inl ruled ↦ let it = rule ruled in table.against_rule it.0 it.1 lacks
         | inr fails ↦ elim (stopped_or old new _ e fails) [ inl it ↦ table.stopped it | inr large ↦ absurd (small large.1) ]
       ]
     ]
@@ -318,30 +334,20 @@ recording_alone_1 : IsAlone one_schema create_recording_text 0
 unfolding understood everything
 recording_alone_1 = record { whole = omega arith; inputs = refl; plain = (refl, refl) }
 
-recording_alone_2 : IsAlone both_schema create_recording_text 0
-unfolding understood everything
-recording_alone_2 = record { whole = omega arith; inputs = refl; plain = (refl, refl) }
-
 records_alone : IsAlone one_schema create_records_text 0
 unfolding understood everything
 records_alone = record { whole = omega arith; inputs = refl; plain = (refl, refl) }
 
-records_alone_2 : IsAlone both_schema create_records_text 0
-unfolding understood everything
-records_alone_2 = record { whole = omega arith; inputs = refl; plain = (refl, refl) }
-
-pub first_unmade : (old new : State) (r : Result ℕ Error) → IsOurs old.now → Executes create_recording_text [] old new r → IfErr r (IsUnmade old new)
+pub first_unmade : (old new : State) (r : Result ℕ Error) → (old.now.schema ≡ no_schema) ⊎ (old.now.schema ≡ one_schema) → Executes create_recording_text [] old new r → IfErr r (IsUnmade old new)
 first_unmade old new (Ok count) ours h = tt
-first_unmade old new (Err e) (inl none) h = unmade create_recording_text old new no_schema none recording_alone e h create_recording_is.0 recording_short
-first_unmade old new (Err e) (inr (inl one)) h = undone create_recording_text old new one_schema one recording_alone_1 e h recording_there.0
-first_unmade old new (Err e) (inr (inr both)) h = undone create_recording_text old new both_schema both recording_alone_2 e h recording_there_2.0
+first_unmade old new (Err e) (inl none) h = unmade create_recording_text old new no_schema none (none_not_both old.now.schema none) recording_alone e h create_recording_is.0 recording_short
+first_unmade old new (Err e) (inr one) h = undone create_recording_text old new one_schema one (one_not_both old.now.schema one) recording_alone_1 e h recording_there.0
 
-pub second_unmade : (old new : State) (r : Result ℕ Error) → (old.now.schema ≡ one_schema) ⊎ (old.now.schema ≡ both_schema) → Executes create_records_text [] old new r → IfErr r (IsUnmade old new)
-second_unmade old new (Ok count) ours h = tt
-second_unmade old new (Err e) (inl one) h = unmade create_records_text old new one_schema one records_alone e h create_records_is.0 records_short
-second_unmade old new (Err e) (inr both) h = undone create_records_text old new both_schema both records_alone_2 e h records_there.0
+pub second_unmade : (old new : State) (r : Result ℕ Error) → old.now.schema ≡ one_schema → Executes create_records_text [] old new r → IfErr r (IsUnmade old new)
+second_unmade old new (Ok count) one h = tt
+second_unmade old new (Err e) one h = unmade create_records_text old new one_schema one (one_not_both old.now.schema one) records_alone e h create_records_is.0 records_short
 
 -- the second table is not made
-pub unmade_since : (old mid new : State) (P Q : Trees → Type 0) (e : Error) → Survives old mid P → Survives mid new Q → HasCleanDisk new → IsUnmade mid new e → IsUnmade old new e
-unmade_since old mid new P Q e one two clean (table.stopped it) = table.stopped (stopped_since old mid new P e one (omega (arith, two.clean)) two.counts it)
-unmade_since old mid new P Q e one two clean (table.against_rule rule is) = table.against_rule rule is
+pub unmade_since : (old mid new : State) (P Q : Trees → Type 0) (e : Error) → ¬ HasBoth old.now.schema → Survives old mid P → Survives mid new Q → HasCleanDisk new → IsUnmade mid new e → IsUnmade old new e
+unmade_since old mid new P Q e lacks one two clean (table.stopped it) = table.stopped (stopped_since old mid new P e one (omega (arith, two.clean)) two.counts it)
+unmade_since old mid new P Q e lacks one two clean (table.against_rule rule is mid_lacks) = table.against_rule rule is lacks

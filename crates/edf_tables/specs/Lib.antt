@@ -1,5 +1,6 @@
 pub mod Cells
 pub mod Made
+pub mod Others
 pub mod Recordings
 pub mod Records
 pub mod Row

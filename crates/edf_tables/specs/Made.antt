@@ -5,28 +5,22 @@ use Rattle.sqlite.specs.Schema.{Schema}
 use Rattle.sqlite.specs.Effect.{Database, IsDatabase}
 use Rattle.edf_schema.specs.Columns.{stored_recordings, stored_records}
 use Rattle.sqlite.specs.State.{State}
-use Rattle.edf_tables.specs.Schema.{no_schema, one_schema, both_schema, AreOurs}
+use Rattle.edf_tables.specs.Schema.{no_schema, one_schema, both_schema, HasBoth, AreOurs}
 
--- a file with neither table, with the first or with both, and with nothing else
+-- a file with neither table and nothing else, with the first alone, or with both
 abbrev pub IsOurs : Database → Type 0
 IsOurs db = AreOurs db.schema
 
--- the first table is there, with the rows that it had, and the second where it was
+-- `recording` is there alone, with the rows that it had
 pub data HasFirst (old new : Database) : Type 0 where
   made_first : old.schema ≡ no_schema → new.schema ≡ one_schema → stored_recordings new.trees ≡ [] → HasFirst old new
-  kept_one : old.schema ≡ one_schema → new ≡ old → HasFirst old new
-  kept_both : old.schema ≡ both_schema → new ≡ old → HasFirst old new
+  kept_first : old.schema ≡ one_schema → new ≡ old → HasFirst old new
 
--- both tables are there
-pub data HasSecond (old new : Database) : Type 0 where
-  made_second : old.schema ≡ one_schema → new.schema ≡ both_schema → stored_recordings new.trees ≡ stored_recordings old.trees → stored_records new.trees ≡ [] → HasSecond old new
-  kept_second : old.schema ≡ both_schema → new ≡ old → HasSecond old new
-
--- both tables are there, with the rows that they had
+-- both tables are there, with the rows that they had, and what comes after them
 pub data HasTables (old new : Database) : Type 0 where
   from_none : old.schema ≡ no_schema → new.schema ≡ both_schema → stored_recordings new.trees ≡ [] → stored_records new.trees ≡ [] → HasTables old new
   from_one : old.schema ≡ one_schema → new.schema ≡ both_schema → stored_recordings new.trees ≡ stored_recordings old.trees → stored_records new.trees ≡ [] → HasTables old new
-  from_both : old.schema ≡ both_schema → new ≡ old → HasTables old new
+  from_both : HasBoth old.schema → new ≡ old → HasTables old new
 
 -- the file is as it was, or missing tables are made, the first or both, and its rows are those that it had
 abbrev pub KeepsTables : Database → Database → Type 0
@@ -34,11 +28,12 @@ KeepsTables old new = (new ≡ old) ⊎ (HasFirst old new ⊎ HasTables old new)
 
 -- What stays while the connection is open, whatever was answered. What is committed is as it was, or
 -- outside a transaction missing tables are made in it. What is shown is as it was, missing tables made,
--- or it is what is committed, as where a transaction was undone.
+-- or, as where a transaction was undone, it is what is committed, and none is open. No transaction has begun.
 pub record KeepsFile (old new : State) : Type 0 where
   pub was_open : IsTrue new.is_open → IsTrue old.is_open
   pub committed : IsTrue new.is_open → (new.committed ≡ old.committed) ⊎ ((old.in_transaction ≡ false) × KeepsTables old.now new.committed)
-  pub shown : IsTrue new.is_open → KeepsTables old.now new.now ⊎ (new.now ≡ new.committed)
+  pub shown : IsTrue new.is_open → KeepsTables old.now new.now ⊎ ((new.now ≡ new.committed) × (new.in_transaction ≡ false))
+  pub mode : IsTrue new.in_transaction → IsTrue old.in_transaction
 
 -- the trees are those of a file with these tables
 abbrev pub AreOf : Schema → Trees → Type 0

@@ -9,7 +9,7 @@ use Rattle.sqlite_value.specs.Order.{value_cmp}
 use Rattle.sqlite_trees.specs.Tree.{IsAscending}
 use Rattle.sqlite_keyed.specs.Lists.{sort_by}
 use Rattle.edf_schema.specs.Columns.{stored_recordings, stored_id, stored_identity, identity_order}
-use Rattle.edf_tables.specs.Schema.{both_schema}
+use Rattle.edf_tables.specs.Schema.{HasBoth}
 
 -- the rows with this identity
 abbrev pub named : List ℕ → List Row → List Row
@@ -30,5 +30,5 @@ shown_recording row = stored_id row ∷ stored_identity row ∷ []
 
 -- the tables are there, and no two recordings have one identity
 pub record AreNamedApart (s : State) : Type 0 where
-  pub schema : s.now.schema ≡ both_schema
+  pub schema : HasBoth s.now.schema
   pub apart : IsAscending (λ a b. identity_order a b ≡ Less) (by_identity (stored_recordings s.now.trees))

@@ -9,7 +9,7 @@ use Rattle.sqlite_value.specs.Order.{value_cmp}
 use Rattle.sqlite_trees.specs.Tree.{IsAscending}
 use Rattle.sqlite_keyed.specs.Lists.{sort_by}
 use Rattle.edf_schema.specs.Columns.{stored_records, stored_start, stored_samples, stored_block, start_order, is_of}
-use Rattle.edf_tables.specs.Schema.{both_schema}
+use Rattle.edf_tables.specs.Schema.{HasBoth}
 
 -- the rows of a recording, by their starts
 abbrev pub records_of : ℤ → List Row → List Row
@@ -34,5 +34,5 @@ shown_record row = stored_start row ∷ stored_samples row ∷ stored_block row 
 
 -- the tables are there, and no two records of this recording start together
 pub record IsReady (recording : ℤ) (s : State) : Type 0 where
-  pub schema : s.now.schema ≡ both_schema
+  pub schema : HasBoth s.now.schema
   pub rising : HaveRisingStarts (records_of recording (stored_records s.now.trees))

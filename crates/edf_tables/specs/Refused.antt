@@ -13,7 +13,7 @@ use Rattle.sqlite_rules.specs.declared.error.Refusal.{Refusal}
 use Rattle.sqlite_rules.specs.Edit.{IsRefused}
 use Rattle.sqlite_catalog.specs.declared.error.Refusal as alter
 use Rattle.sqlite.specs.State.{State, IsUnchanged, IsRolledBack, is_disk_error}
-use Rattle.edf_tables.specs.Schema.{both_schema}
+use Rattle.edf_tables.specs.Schema.{both_schema, HasBoth}
 use Rattle.edf_tables.specs.Row.{new_row, one_row, stored_size}
 
 -- one more failure of the disk was counted, unless the count is the most that a `u64` holds
@@ -38,17 +38,17 @@ pub data IsTurnRefused (is_inside : Bool) (old new : State) (e : Error) : Type 0
   out_of_turn : e ≡ SqliteFailure TransactionState → old.in_transaction ≡ is_inside → IsTurnRefused is_inside old new e
 
 -- these cells in a table are refused for these, or since the row is larger than the 10^9 bytes that
--- `sqlite` stores, the steps that it may take ran out, or the row breaks this rule of the table
+-- `sqlite` stores, the steps that it may take ran out, or the row breaks this rule of our tables, whatever is beside them
 pub data IsUnadded (table : Table) (cells : Row) (old new : State) (e : Error) : Type 0 where
   stopped : IsSystemFailure old new e → IsUnadded table cells old new e
   too_big : e ≡ SqliteFailure TooBig → 10 ^ 9 < stored_size (new_row (old.now.trees table.tree) cells) → IsUnadded table cells old new e
   limited : e ≡ SqliteFailure OperationInterrupted → IsSome old.step_limit → IsUnadded table cells old new e
   against_rule : (rule : Refusal) → e ≡ edit_error rule → IsRefused both_schema Enforced old.now.trees (one_row old.now.trees table cells) rule → IsUnadded table cells old new e
 
--- a table is refused for these, or since a rule of the schema refuses it
+-- a table that is missing is refused for these, or since a rule of the schema refuses it
 pub data IsUnmade (old new : State) (e : Error) : Type 0 where
   stopped : IsSystemFailure old new e → IsUnmade old new e
-  against_rule : (rule : alter.Refusal) → e ≡ alter_error rule → IsUnmade old new e
+  against_rule : (rule : alter.Refusal) → e ≡ alter_error rule → ¬ HasBoth old.now.schema → IsUnmade old new e
 
 -- a cell cannot be read as the value that is asked for, or memory ran out
 abbrev pub IsCellRefused : Error → Type 0

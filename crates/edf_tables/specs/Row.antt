@@ -10,7 +10,8 @@ use Rattle.sqlite_trees.specs.Tree.{put_row}
 use Rattle.sqlite_rules.specs.Edit.{next_rowid, is_taken}
 use Rattle.sqlite.specs.State.{State, Shows}
 use Rattle.edf_schema.specs.Columns.{stored_recordings, stored_records}
-use Rattle.edf_tables.specs.Schema.{both_schema}
+use Rattle.edf_tables.specs.Schema.{HasBoth}
+use Rattle.edf_tables.specs.Others.{KeepsOthers}
 
 -- the cells with the rowid that is taken for a new row
 abbrev pub new_row : List Row → Row → Row
@@ -37,12 +38,13 @@ named_cells identity = Null ∷ Blob identity ∷ []
 
 -- the tables are there, and a transaction is open
 pub record IsInside (s : State) : Type 0 where
-  pub schema : s.now.schema ≡ both_schema
+  pub schema : HasBoth s.now.schema
   pub mode : IsTrue s.in_transaction
 
 -- in the transaction there is one record more, and all else is as it was
 pub record HasRecord (old new : State) (cells : Row) : Type 0 where
-  pub schema : new.now.schema ≡ both_schema
+  pub schema : HasBoth new.now.schema
+  pub others : KeepsOthers old.now new.now
   pub recordings : stored_recordings new.now.trees ≡ stored_recordings old.now.trees
   pub records : stored_records new.now.trees ≡ added (stored_records old.now.trees) cells
   pub fresh : is_taken (stored_records old.now.trees) (new_row (stored_records old.now.trees) cells) ≡ false
@@ -50,7 +52,8 @@ pub record HasRecord (old new : State) (cells : Row) : Type 0 where
 
 -- in the transaction there is one recording more, and all else is as it was
 pub record HasRecording (old new : State) (cells : Row) : Type 0 where
-  pub schema : new.now.schema ≡ both_schema
+  pub schema : HasBoth new.now.schema
+  pub others : KeepsOthers old.now new.now
   pub recordings : stored_recordings new.now.trees ≡ added (stored_recordings old.now.trees) cells
   pub fresh : is_taken (stored_recordings old.now.trees) (new_row (stored_recordings old.now.trees) cells) ≡ false
   pub records : stored_records new.now.trees ≡ stored_records old.now.trees

@@ -1,14 +1,14 @@
 -- What a statement does to the connection that it runs on. But for the crash, it is said of disks that return what was written.
-use Rattle.std.specs.Prelude.{◌≡◌, Result, IfOk, IfErr, OnOk, OnErr}
+use Rattle.std.specs.Prelude.{Result, IfOk, IfErr, OnOk, OnErr}
 use Rattle.sqlite_trees.specs.declared.store.Store.{Ghosts}
 use Rattle.sqlite_trees.specs.Tree.{Trees}
 use Rattle.sqlite.specs.Held.{Held, state}
 use Rattle.sqlite.specs.State.{State, HasCleanDisk, Survives, KeepsCommit, IsUnchanged}
-use Rattle.edf_tables.specs.Schema.{both_schema}
+use Rattle.edf_tables.specs.Schema.{HasBoth}
 
 -- both tables are there
 abbrev pub HasBothTables : State → Type 0
-HasBothTables s = s.now.schema ≡ both_schema
+HasBothTables s = HasBoth s.now.schema
 
 module _ {S : Type 0} (g : Ghosts S) where
   -- the rows of each table, as the connection shows them
@@ -33,7 +33,7 @@ module _ {S : Type 0} (g : Ghosts S) where
 
   -- a call that is done changed nothing
   abbrev pub OnlyReads : {X E : Type 0} → Held S → Held S → Result X E → Type 0
-  OnlyReads old new result = HasCleanDisk (state g new) → OnOk result (IsUnchanged (state g old) (state g new))
+  OnlyReads old new result = Leaves old new result IsUnchanged
 
   -- a call fails for such a reason alone
   abbrev pub FailsAs : {X E : Type 0} → Held S → Held S → Result X E → (State → State → E → Type 0) → Type 0
@@ -45,7 +45,7 @@ module _ {S : Type 0} (g : Ghosts S) where
 
   -- what is committed stays where the call fails
   abbrev pub KeepsCommittedOnErr : {X E : Type 0} → Held S → Held S → Result X E → Type 0
-  KeepsCommittedOnErr old new result = HasCleanDisk (state g new) → OnErr result (KeepsCommit (state g old) (state g new))
+  KeepsCommittedOnErr old new result = LeavesOnErr old new result KeepsCommit
 
   -- a crash in the call leaves nothing but what a crash before it could leave
   abbrev pub IsCrashSafe : Held S → Held S → Type 0

@@ -1,24 +1,26 @@
 //! The two tables.
 
-ghost use Rattle.std.specs.Prelude.{◌≡◌, ◌⊎◌, []};
+ghost use Rattle.std.specs.Prelude.{◌≡◌, ◌⊎◌, [], Ok};
 ghost use Rattle.sqlite.specs.Held.{state};
 ghost use Rattle.sqlite.specs.State.{Survives};
 ghost use Rattle.edf_schema.specs.Columns.{stored_recordings, stored_records};
-ghost use Rattle.edf_tables.specs.Schema.{no_schema, one_schema, both_schema};
-ghost use Rattle.edf_tables.specs.Made.{IsOurs, AreOf, HasFirst, HasSecond, HasTables};
+ghost use Rattle.edf_tables.specs.Schema.{no_schema, one_schema, both_schema, HasBoth};
+ghost use Rattle.edf_tables.specs.Made.{IsOurs, AreOf, HasFirst, HasTables};
 ghost use Rattle.edf_tables.specs.Made.{KeepsFile, IsMadeOf};
 ghost use Rattle.edf_tables.specs.Refused.{IsUnmade};
 ghost use Rattle.edf_tables.specs.Statement.{IfClean, Leaves, FailsAs, KeepsCommittedOnErr};
 
+use edf_schema::has_both;
 use sqlite::{Alter, Connection, Error};
 
-/// Makes the table `recording` where it is missing. The number is `sqlite`'s count of changed rows,
+/// Makes the table `recording` where it is missing, in a file that has nothing else. The number is `sqlite`'s count of changed rows,
 /// and nothing is promised of it.
 ///
 /// # Errors
 /// `sqlite`'s; nothing is committed then. A crash leaves the table as it was, or made.
-pub fn create_recording<S: Alter>(conn: &mut Connection<S>) -> Result<usize, Error>
-    requires { IfClean S.Store conn.old (λ s. IsOurs s.now) }
+fn create_recording<S: Alter>(conn: &mut Connection<S>) -> Result<usize, Error>
+    requires { IfClean S.Store conn.old (λ s.
+        (s.now.schema ≡ no_schema) ⊎ (s.now.schema ≡ one_schema)) }
     ensures made { Leaves S.Store conn.old conn.new result (λ old new. HasFirst old.now new.now) }
     ensures why { FailsAs S.Store conn.old conn.new result IsUnmade }
     ensures refused { KeepsCommittedOnErr S.Store conn.old conn.new result }
@@ -36,15 +38,13 @@ pub fn create_recording<S: Alter>(conn: &mut Connection<S>) -> Result<usize, Err
     )
 }
 
-/// Makes the table `record` where it is missing and `recording` is there. Of the number nothing is
-/// promised, as above.
+/// Makes the table `record` where `recording` is alone. Of the number nothing is promised, as above.
 ///
 /// # Errors
 /// `sqlite`'s; nothing is committed then. A crash leaves the table as it was, or made.
-pub fn create_records<S: Alter>(conn: &mut Connection<S>) -> Result<usize, Error>
-    requires { IfClean S.Store conn.old (λ s.
-        (s.now.schema ≡ one_schema) ⊎ (s.now.schema ≡ both_schema)) }
-    ensures made { Leaves S.Store conn.old conn.new result (λ old new. HasSecond old.now new.now) }
+fn create_records<S: Alter>(conn: &mut Connection<S>) -> Result<usize, Error>
+    requires { IfClean S.Store conn.old (λ s. s.now.schema ≡ one_schema) }
+    ensures made { Leaves S.Store conn.old conn.new result (λ old new. HasTables old.now new.now) }
     ensures why { FailsAs S.Store conn.old conn.new result IsUnmade }
     ensures refused { KeepsCommittedOnErr S.Store conn.old conn.new result }
     ensures stays { IfClean S.Store conn.new (KeepsFile (state S.Store conn.old)) }
@@ -63,7 +63,8 @@ pub fn create_records<S: Alter>(conn: &mut Connection<S>) -> Result<usize, Error
     )
 }
 
-/// Makes both tables where they are missing.
+/// Makes both tables where they are missing. Where both are there, nothing is done, whatever comes
+/// after them.
 ///
 /// # Errors
 /// `sqlite`'s; the committed rows stay, an open transaction may be undone, and the first table may
@@ -71,6 +72,8 @@ pub fn create_records<S: Alter>(conn: &mut Connection<S>) -> Result<usize, Error
 #[tactic(auto, using(crate::proofs::Tables::after_first, crate::proofs::Tables::both_made, crate::proofs::Tables::first_survives, crate::proofs::Tables::second_survives))]
 pub fn create_tables<S: Alter>(conn: &mut Connection<S>) -> Result<(), Error>
     requires { IfClean S.Store conn.old (λ s. IsOurs s.now) }
+    ensures there { HasBoth (state S.Store conn.old).now.schema →
+        (result ≡ Ok tt) × (conn.new ≡ conn.old) }
     ensures made { Leaves S.Store conn.old conn.new result (λ old new. HasTables old.now new.now) }
     ensures why { FailsAs S.Store conn.old conn.new result IsUnmade }
     ensures stays { IfClean S.Store conn.new (KeepsFile (state S.Store conn.old)) }
@@ -79,6 +82,9 @@ pub fn create_tables<S: Alter>(conn: &mut Connection<S>) -> Result<(), Error>
     ensures survives { Survives (state S.Store conn.old) (state S.Store conn.new)
         (IsMadeOf (state S.Store conn.old).now) }
 {
+    if has_both(conn.schema()) {
+        return Ok(());
+    }
     create_recording(conn)?;
     create_records(conn)?;
     Ok(())

@@ -8,12 +8,12 @@
 //! by the statement, a limit of steps, a transaction that is open or is not, a rule, or a size:
 //! clause `why` of each.
 //!
-//! - [`create_tables`], [`create_recording`], [`create_records`]: the tables, made where they are
-//!   missing.
+//! - [`create_tables`]: the tables, made where they are missing.
 //! - [`begin`], [`commit`], [`roll_back`]: a transaction.
 //! - [`insert_recording`], [`insert_record`]: one row more.
 //! - [`near_rows`], [`page_rows`], [`count_rows`], [`first_start`], [`next_start`], [`last_start`]:
 //!   the records of one recording, as [`RecordRow`].
+//! - [`obey`]: that the rows obey the rules of their schema.
 //! - [`select_recording`], [`identities`], [`recordings`], [`count_all_rows`]: all recordings.
 #![tactic(auto)]
 
@@ -24,9 +24,9 @@ mod row;
 mod transaction;
 mod write;
 
-pub use create::{create_recording, create_records, create_tables};
+pub use create::create_tables;
 pub use list::{count_all_rows, identities, recordings, select_recording};
 pub use records::{count_rows, first_start, last_start, near_rows, next_start, page_rows};
-pub use row::RecordRow;
+pub use row::{RecordRow, obey};
 pub use transaction::{begin, commit, roll_back};
 pub use write::{insert_record, insert_recording};

@@ -10,6 +10,7 @@ ghost use Rattle.edf_tables.specs.Refused.{IsUnadded};
 ghost use Rattle.edf_tables.specs.Statement.{tables, IfClean, Gives, Leaves, FailsAs};
 ghost use Rattle.edf_tables.specs.Statement.{KeepsCommittedOnErr, IsCrashSafe};
 
+use crate::row::obey;
 use sqlite::{Alter, Connection, Error, params};
 
 /// Adds a row to `recording`, and answers its id.
@@ -27,6 +28,7 @@ pub fn insert_recording<S: Alter>(conn: &mut Connection<S>, identity: &[u8]) -> 
     ensures refused { KeepsCommittedOnErr S.Store conn.old conn.new result }
     ensures survives { IsCrashSafe S.Store conn.old conn.new }
 {
+    obey(conn);
     conn.execute(
         "INSERT INTO recording (identity) VALUES (?1)",
         params![identity],
@@ -55,6 +57,7 @@ pub fn insert_record<S: Alter>(
     ensures refused { KeepsCommittedOnErr S.Store conn.old conn.new result }
     ensures survives { IsCrashSafe S.Store conn.old conn.new }
 {
+    obey(conn);
     conn.execute(
         "INSERT INTO record VALUES (?1, ?2, ?3, ?4)",
         params![recording, start, samples, block],

@@ -103,7 +103,8 @@ const FOREIGN: &[(&str, u8)] = &[
         "INSERT INTO record SELECT recording, 541727990500000000, x'0100FFFF', x'2B3534313732373939302E35141400' FROM record",
         45,
     ),
-    ("CREATE TABLE another (x)", 45),
+    ("CREATE TABLE another (x)", 0),
+    ("CREATE INDEX by_block ON record (block)", 45),
 ];
 
 #[test]

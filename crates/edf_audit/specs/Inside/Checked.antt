@@ -1,5 +1,5 @@
 -- What reading leaves of a connection, and what a row of the table of recordings tells.
-use Rattle.std.specs.Prelude.{◌≡◌, ◌⊎◌, [], ◌∷◌, ℕ, Option, Some, None, Contains, length, IsTrue}
+use Rattle.std.specs.Prelude.{◌≡◌, ◌⊎◌, [], ◌∷◌, ℕ, false, Option, Some, None, Contains, length, IsTrue}
 use Rattle.sqlite.specs.Order.{Row}
 use Rattle.sqlite.specs.Tree.{Trees}
 use Rattle.sqlite.specs.State.{State, KeepsCommit}
@@ -15,10 +15,11 @@ pub record KeepsRows (old new : State) : Type 0 where
   pub mode : new.in_transaction ≡ old.in_transaction
   pub stays : IsTrue old.is_open → IsTrue new.is_open
 
--- nothing was committed, and what is shown is as it was, or it is what is committed, as where a transaction was undone
+-- nothing was committed and no transaction began; what is shown is as it was, or a transaction was undone, and it is what is committed
 pub record KeepsShown (old new : State) : Type 0 where
   pub commit : KeepsCommit old new
-  pub shown : IsTrue new.is_open → (new.now ≡ old.now) ⊎ (new.now ≡ new.committed)
+  pub shown : IsTrue new.is_open → (new.now ≡ old.now) ⊎ ((new.now ≡ new.committed) × (new.in_transaction ≡ false))
+  pub mode : IsTrue new.in_transaction → IsTrue old.in_transaction
 
 -- what the check reads of a row
 abbrev pub first_two : Row → Row

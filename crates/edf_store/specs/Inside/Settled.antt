@@ -4,7 +4,7 @@ use Rattle.sqlite_trees.specs.declared.store.Store.{Ghosts}
 use Rattle.sqlite.specs.State.{State, HasCleanDisk}
 use Rattle.edf_header.specs.Key.{Key}
 use Rattle.edf_holdings.specs.Holdings.{Holdings}
-use Rattle.edf_tables.specs.Schema.{both_schema}
+use Rattle.edf_tables.specs.Schema.{HasBoth}
 use Rattle.edf_rows.specs.Rows.{IsThere, AreKept}
 use Rattle.edf_store.specs.Held.{StoreModel, at}
 
@@ -13,7 +13,7 @@ pub record IsSettled (cap : ℕ) (s : State) : Type 0 where
   pub is_open : IsTrue s.is_open
   pub idle : s.in_transaction ≡ false
   pub settled : s.now ≡ s.committed
-  pub schema : s.now.schema ≡ both_schema
+  pub schema : HasBoth s.now.schema
   pub holdings : (h : Holdings) × AreKept cap s.now.trees h
 
 abbrev pub IsAtRest : {S : Type 0} → Ghosts S → StoreModel S → Type 0

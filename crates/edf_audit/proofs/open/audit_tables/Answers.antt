@@ -4,8 +4,12 @@ use Rattle.sqlite.specs.Held.{state}
 use Rattle.sqlite.specs.State.{HasCleanDisk}
 use Rattle.edf_audit.specs.Refused.{IsUnaudited}
 use Rattle.edf_audit.specs.Refused.IsUnaudited.{unmade}
+use Rattle.edf_tables.proofs.File.{tables_both}
 use Rattle.edf_audit.proofs.Shown.{file_checked}
 use Rattle.edf_audit.proofs.open.audit_tables.Goals as goal
+
+pub check_all-requires-clause-schema : goal.check_all-requires-clause-schema
+check_all-requires-clause-schema g c clean = tables_both _ _ (c.in_ok-create_tables.ensures.made clean)
 
 pub returns-in_err-create_tables-clause-why : goal.returns-in_err-create_tables-clause-why
 returns-in_err-create_tables-clause-why g c clean =

@@ -1,4 +1,4 @@
-use Rattle.std.proofs.Common.{rules, inl, inr, map, [], ◌∷◌, ◌≡◌, refl, ap, subst, ◌∙◌, arith, w64}
+use Rattle.std.proofs.Common.{rules, inl, inr, map, [], ◌∷◌, ◌≡◌, refl, sym, ap, subst, ◌∙◌, arith, w64}
 use Rattle.std.proofs.lemmas.Int.{to_z-of_z}
 use Rattle.std.proofs.lemmas.Result.{err_from_is_err_and}
 use Rattle.sqlite.specs.Effect.{Database}
@@ -7,6 +7,7 @@ use Rattle.sqlite.specs.declared.types.Value.TheVariants.{Int}
 use Rattle.sqlite.specs.Held.{Held, state}
 use Rattle.sqlite.specs.State.{HasCleanDisk, Survives, IsUnchanged}
 use Rattle.sqlite.proofs.Callers.{begun_plain, unchanged_then}
+use Rattle.edf_tables.specs.Schema.{HasBoth}
 use Rattle.edf_tables.proofs.AloneTexts.{walk_alone, walk_taken}
 use Rattle.edf_tables.proofs.Refusals.{query_unread, unread_since}
 use Rattle.edf_tables.specs.Refused.{IsUnread}
@@ -188,7 +189,7 @@ returns-in_err-row-clause-why g c clean =
     let end : now ≡ c.conn-in_err-row-1.given.0 = search rules in
     let late : HasCleanDisk (state g.S.Store now) = search rules in
     let early : HasCleanDisk (state g.S.Store was) = omega (arith, moved.survives.clean, late) in
-    let there = ap (λ (b : Database). b.schema) (inv.same early).0.now_is ∙ c.requires.schema (omega (arith, inv.crash.clean, early)) in
+    let there = subst (λ (b : Database). HasBoth b.schema) (sym (inv.same early).0.now_is) (c.requires.schema (omega (arith, inv.crash.clean, early))) in
     let stands = rw (to_z-of_z w64 c.args.recording c.ranges.recording) at (inv.stands early) in
     let failed = (rw c.in_err-row.was at (moved.err late)) walk_text (Int c.args.recording ∷ []) (map record_cells stands.records) stands.given in
     let unread = query_unread walk_text _ _ walk_is (Int c.args.recording ∷ []) (state g.S.Store was) (state g.S.Store now) c.in_err-row.field-0.0 there walk_alone (walk_taken c.args.recording) failed in

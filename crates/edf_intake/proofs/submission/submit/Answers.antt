@@ -22,7 +22,7 @@ returns-in_ok-commit-in-Ok-clause-submitted g c =
     let to : Source = record { left = g.R.Input.remaining c.take_fragment.new.input; failed = g.R.Input.failures c.take_fragment.new.input } in
     subst (λ (s : StoreModel g.row.S.Denot). Accepts g.S.Store c.args.store.now s from to c.in-Ok.receipt) same
     (accepts g.S.Store c.args.store.now c.in_ok-transaction.transaction.store.now c.take_fragment.new.transaction.store.now from to c.in_ok-transaction.ensures.stays c.in_ok-transaction.ensures.sees c.in-Ok.ensures.stays
-    c.commit.new.self.0 c.in-Ok.receipt c.in-Ok.ensures.taken c.commit.ensures.cap c.in_ok-commit-in-Ok.ensures.committed c.in_ok-commit-in-Ok.ensures.is_open c.commit.ensures.survives)
+    c.commit.new.self.0 c.in-Ok.receipt c.in-Ok.ensures.taken c.commit.ensures.cap c.in_ok-commit-in-Ok.ensures.committed c.commit.ensures.others c.in_ok-commit-in-Ok.ensures.is_open c.commit.ensures.survives)
 
 pub returns-in_err-commit-in-Ok-clause-cap : goal.returns-in_err-commit-in-Ok-clause-cap
 returns-in_err-commit-in-Ok-clause-cap g c =
@@ -40,7 +40,7 @@ returns-in_err-commit-in-Ok-clause-submitted g c =
     (subst (λ (s : StoreModel g.row.S.Denot). IsSubmitted g.S.Store c.args.store.now s from to (Err told.0)) same
     (refused_by g.S.Store c.args.store.now c.commit.new.self.0 from to fault told.0 told.2
     (stops_at_commit g.S.Store c.args.store.now c.in_ok-transaction.transaction.store.now c.take_fragment.new.transaction.store.now from to c.in_ok-transaction.ensures.stays c.in_ok-transaction.ensures.sees c.in-Ok.ensures.stays
-    c.commit.new.self.0 c.in-Ok.receipt c.in-Ok.ensures.taken c.commit.ensures.cap c.in_err-commit-in-Ok.ensures.refused c.commit.ensures.survives fault c.in_err-commit-in-Ok.ensures.told)
+    c.commit.new.self.0 c.in-Ok.receipt c.in-Ok.ensures.taken c.commit.ensures.cap c.in_err-commit-in-Ok.ensures.refused c.commit.ensures.others c.commit.ensures.survives fault c.in_err-commit-in-Ok.ensures.told)
     (inr c.in_err-commit-in-Ok.ensures.told) (λ clean. c.in_err-commit-in-Ok.ensures.told)))
 
 pub returns-in_err-commit-in-Ok-clause-busy : goal.returns-in_err-commit-in-Ok-clause-busy

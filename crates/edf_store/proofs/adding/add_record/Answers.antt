@@ -5,6 +5,7 @@ use Rattle.sqlite.specs.State.{HasCleanDisk}
 use Rattle.edf_tal.specs.Canonical.{block_text}
 use Rattle.edf_tables.specs.Row.{cells, HasRecord}
 use Rattle.edf_tables.proofs.Held.{record_keeps}
+use Rattle.edf_store.proofs.Readiness.{stays_so}
 use Rattle.edf_store.proofs.Decoding.{start_fits}
 use Rattle.edf_store.proofs.Held.{still_sound}
 use Rattle.edf_store.proofs.Steps.{added_in, none_added}
@@ -33,3 +34,10 @@ returns-clause-added g c =
 
 pub returns-clause-only : goal.returns-clause-only
 returns-clause-only g c = rw (← c.store.view_is) (none_added (state g.S.Store c.store.inside.conn) (state g.S.Store c.insert_record.new.conn) _ c.in_ok-insert_record.ensures.added)
+
+pub returns-in_err-insert_record-clause-stays : goal.returns-in_err-insert_record-clause-stays
+returns-in_err-insert_record-clause-stays g c = rw (← c.store.view_is) (stays_so g.S.Store c.store.inside.cap c.store.inside.conn c.insert_record.new.conn c.insert_record.ensures.survives c.in_err-insert_record.ensures.refused)
+
+pub returns-clause-stays : goal.returns-clause-stays
+returns-clause-stays g c =
+    rw (← c.store.view_is) (stays_so g.S.Store c.store.inside.cap c.store.inside.conn c.insert_record.new.conn c.insert_record.ensures.survives (λ clean. record_keeps (state g.S.Store c.store.inside.conn) (state g.S.Store c.insert_record.new.conn) _ (c.in_ok-insert_record.ensures.added clean)))

@@ -3,6 +3,8 @@ use Rattle.std.proofs.lemmas.Int.{to_z-of_z}
 use Rattle.sqlite.specs.Held.{state}
 use Rattle.sqlite.specs.State.{HasCleanDisk}
 use Rattle.sqlite_exec.proofs.MarkLemmas.{if_ok_then}
+use Rattle.edf_tables.proofs.Commits.{quiet_then}
+use Rattle.edf_tables.proofs.Keeping.{keeps_then}
 use Rattle.edf_store.proofs.Readiness.{stays_so, three_survive, three_keep}
 use Rattle.edf_store.proofs.Summaries.{ready_at, still_ready, summary_read, bounds_read}
 use Rattle.edf_store.proofs.KeysRead.{if_refused}
@@ -35,6 +37,16 @@ last_start-requires g c =
           rw (to_z-of_z w64 c.args.id c.ranges.id)
           (still_ready b d c.args.id (c.in_ok-first.ensures.same clean) (still_ready a b c.args.id (c.in_ok-count.ensures.same clean_b) (ready_at c.store.inside.cap a c.args.id (there was_clean).0 (settled was_clean) (there was_clean).1)));
     }
+
+pub returns-in_err-first-clause-stays : goal.returns-in_err-first-clause-stays
+returns-in_err-first-clause-stays g c =
+    let a = state g.S.Store c.store.inside.conn in
+    let b = state g.S.Store c.count_rows.new.conn in
+    let d = state g.S.Store c.first_start.new.conn in
+    rw (← c.store.view_is)
+    (stays_so g.S.Store c.store.inside.cap c.store.inside.conn c.first_start.new.conn
+    (quiet_then a b d _ c.count_rows.ensures.survives c.first_start.ensures.survives)
+    (λ clean. keeps_then a b d (c.count_rows.ensures.kept (omega (arith, c.first_start.ensures.survives.clean))) (c.first_start.ensures.kept clean)))
 
 pub returns-in_err-last-clause-stays : goal.returns-in_err-last-clause-stays
 returns-in_err-last-clause-stays g c =

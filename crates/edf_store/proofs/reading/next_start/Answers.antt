@@ -4,7 +4,7 @@ use Rattle.sqlite.specs.Held.{state}
 use Rattle.sqlite_exec.proofs.MarkLemmas.{if_ok_then}
 use Rattle.edf_store.specs.declared.fault.StoreFault.TheVariants as fault
 use Rattle.edf_store.proofs.Decoding.{nat_fits}
-use Rattle.edf_store.proofs.Held.{still_sound, still_held, sees_on}
+use Rattle.edf_store.proofs.Held.{still_sound, still_held, still_others, sees_on}
 use Rattle.edf_store.proofs.Steps.{ready_in, none_made}
 use Rattle.edf_store.proofs.KeysRead.{if_refused}
 use Rattle.edf_store.proofs.Faults.{foreign_is}
@@ -27,6 +27,7 @@ pub returns-in_err-next-clause-stays : goal.returns-in_err-next-clause-stays
 returns-in_err-next-clause-stays g c = rw (← c.store.view_is) (record {
   cap = refl;
   holdings = still_held c.store.inside.cap (state g.S.Store c.store.inside.conn) (state g.S.Store c.next_start.new.conn) _ c.next_start.ensures.survives c.next_start.ensures.kept;
+  others = still_others (state g.S.Store c.store.inside.conn) (state g.S.Store c.next_start.new.conn) c.next_start.ensures.survives c.next_start.ensures.kept;
   crash = c.next_start.ensures.survives;
 })
 
@@ -34,6 +35,7 @@ pub returns-clause-stays : goal.returns-clause-stays
 returns-clause-stays g c = rw (← c.store.view_is) (record {
   cap = refl;
   holdings = still_held c.store.inside.cap (state g.S.Store c.store.inside.conn) (state g.S.Store c.next_start.new.conn) _ c.next_start.ensures.survives c.next_start.ensures.kept;
+  others = still_others (state g.S.Store c.store.inside.conn) (state g.S.Store c.next_start.new.conn) c.next_start.ensures.survives c.next_start.ensures.kept;
   crash = c.next_start.ensures.survives;
 })
 

@@ -4,7 +4,7 @@ use Rattle.sqlite.specs.Held.{state}
 use Rattle.edf_holdings.specs.Clash.{near_of}
 use Rattle.edf_store.proofs.Decoding.{nat_fits, fits_sub}
 use Rattle.edf_header.proofs.Cited.{key-duration-bound}
-use Rattle.edf_store.proofs.Held.{still_sound, still_held, sees_on}
+use Rattle.edf_store.proofs.Held.{still_sound, still_held, still_others, sees_on}
 use Rattle.edf_store.proofs.Steps.{ready_in, near_is, two_near, sound_near, none_made, if_ok}
 use Rattle.edf_store.proofs.Faults.{refused_by, unfailed_by, caused_by}
 use Rattle.edf_store.proofs.Near.{near_shown}
@@ -47,6 +47,7 @@ pub returns-in_err-rows-clause-stays : goal.returns-in_err-rows-clause-stays
 returns-in_err-rows-clause-stays g c = rw (← c.store.view_is) (record {
   cap = refl;
   holdings = still_held c.store.inside.cap (state g.S.Store c.store.inside.conn) (state g.S.Store c.near_rows.new.conn) _ c.near_rows.ensures.survives c.near_rows.ensures.kept;
+  others = still_others (state g.S.Store c.store.inside.conn) (state g.S.Store c.near_rows.new.conn) c.near_rows.ensures.survives c.near_rows.ensures.kept;
   crash = c.near_rows.ensures.survives;
 })
 
@@ -54,6 +55,7 @@ pub returns-clause-stays : goal.returns-clause-stays
 returns-clause-stays g c = rw (← c.store.view_is) (record {
   cap = refl;
   holdings = still_held c.store.inside.cap (state g.S.Store c.store.inside.conn) (state g.S.Store c.near_rows.new.conn) _ c.near_rows.ensures.survives c.near_rows.ensures.kept;
+  others = still_others (state g.S.Store c.store.inside.conn) (state g.S.Store c.near_rows.new.conn) c.near_rows.ensures.survives c.near_rows.ensures.kept;
   crash = c.near_rows.ensures.survives;
 })
 

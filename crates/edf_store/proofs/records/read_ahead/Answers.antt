@@ -4,6 +4,7 @@ use Rattle.sqlite.specs.Held.{state}
 use Rattle.sqlite.specs.State.{HasCleanDisk}
 use Rattle.edf_tables.specs.declared.row.RecordRow.{RecordRow}
 use Rattle.edf_store.specs.declared.progress.Progress.{Progress}
+use Rattle.edf_store.proofs.Readiness.{stays_so}
 use Rattle.edf_store.proofs.Walks.{ShowFirst, ready_behind, still_behind, page_next, page_behind, none_next}
 use Rattle.edf_store.proofs.records.read_ahead.Goals as goal
 
@@ -11,6 +12,9 @@ pub page_rows-requires : goal.page_rows-requires
 page_rows-requires g c =
     let ready = rw (← c.store.view_is) at c.requires.ready in
     record { ready = λ clean. rw (to_z-of_z w64 c.args.recording c.ranges.recording) (ready_behind c.store.inside.cap (state g.S.Store c.store.inside.conn) c.args.recording c.args.after.now clean ready) }
+
+pub returns-clause-stays : goal.returns-clause-stays
+returns-clause-stays g c = rw (← c.store.view_is) (stays_so g.S.Store c.store.inside.cap c.store.inside.conn c.page_rows.new.conn c.page_rows.ensures.survives c.page_rows.ensures.kept)
 
 pub returns-clause-ahead : goal.returns-clause-ahead
 returns-clause-ahead g c =
@@ -40,3 +44,6 @@ returns-clause-last g c clean =
     let same : c.from_vec.result.items ≡ c.in_ok-rows.rows.items = c.from_vec.ensures.items in
     rw (← c.store.view_is) (λ h k n behind none.
     none_next c.store.inside.cap a c.args.recording c.args.after.now h k n (behind was_clean) c.in_ok-rows.rows.items shown (sym same ∙ none))
+
+pub returns-in_err-rows-clause-stays : goal.returns-in_err-rows-clause-stays
+returns-in_err-rows-clause-stays g c = rw (← c.store.view_is) (stays_so g.S.Store c.store.inside.cap c.store.inside.conn c.page_rows.new.conn c.page_rows.ensures.survives c.page_rows.ensures.kept)

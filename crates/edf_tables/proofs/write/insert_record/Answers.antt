@@ -19,9 +19,9 @@ returns-clause-refused g c clean = write_refused _ _ (state g.S.Store c.args.con
 
 pub returns-clause-survives : goal.returns-clause-survives
 returns-clause-survives g c =
-    insert_survives (state g.S.Store c.args.conn.now) (state g.S.Store c.execute.new.self) insert_record_text _ _ _ insert_record_is.0 insert_record_is.1 (λ clean. let was = c.requires clean in (was.schema, was.mode)) c.execute.ensures.survives
+    insert_survives (state g.S.Store c.args.conn.now) (state g.S.Store c.execute.new.self) insert_record_text _ _ _ insert_record_is (λ clean. let was = c.requires clean in (was.schema, was.mode)) c.execute.ensures.survives
 
 pub returns-clause-why : goal.returns-clause-why
 returns-clause-why g c clean =
-    record_unadded (state g.S.Store c.args.conn.now) (state g.S.Store c.execute.new.self) c.args.recording c.args.start c.args.samples.now c.args.block.now c.execute.result (c.requires (omega (arith, c.execute.ensures.survives.clean)))
+    record_unadded (state g.S.Store c.args.conn.now) (state g.S.Store c.execute.new.self) c.args.recording c.args.start c.args.samples.now c.args.block.now c.execute.result c.obey.ensures (c.requires (omega (arith, c.execute.ensures.survives.clean)))
     (rw (c.params-to_sql.ensures ∙ ap Int (to_z-of_z w64 c.args.recording c.ranges.recording), c.params-to_sql-2.ensures ∙ ap Int (to_z-of_z w64 c.args.start c.ranges.start), c.params-to_sql-3.ensures, c.params-to_sql-4.ensures) at (c.execute.ensures.runs clean))

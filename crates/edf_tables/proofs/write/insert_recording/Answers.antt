@@ -18,17 +18,17 @@ returns-clause-added g c clean =
 
 pub returns-clause-survives : goal.returns-clause-survives
 returns-clause-survives g c =
-    insert_survives (state g.S.Store c.args.conn.now) (state g.S.Store c.execute.new.self) insert_recording_text _ _ _ insert_recording_is.0 insert_recording_is.1 (λ clean. let was = c.requires clean in (was.schema, was.mode)) c.execute.ensures.survives
+    insert_survives (state g.S.Store c.args.conn.now) (state g.S.Store c.execute.new.self) insert_recording_text _ _ _ insert_recording_is (λ clean. let was = c.requires clean in (was.schema, was.mode)) c.execute.ensures.survives
 
 pub returns-in_err-execute-clause-survives : goal.returns-in_err-execute-clause-survives
 returns-in_err-execute-clause-survives g c =
-    insert_survives (state g.S.Store c.args.conn.now) (state g.S.Store c.execute.new.self) insert_recording_text _ _ _ insert_recording_is.0 insert_recording_is.1 (λ clean. let was = c.requires clean in (was.schema, was.mode)) c.execute.ensures.survives
+    insert_survives (state g.S.Store c.args.conn.now) (state g.S.Store c.execute.new.self) insert_recording_text _ _ _ insert_recording_is (λ clean. let was = c.requires clean in (was.schema, was.mode)) c.execute.ensures.survives
 
 pub returns-in_err-execute-clause-refused : goal.returns-in_err-execute-clause-refused
 returns-in_err-execute-clause-refused g c clean = on_err c.from_residual.result (write_refused _ _ (state g.S.Store c.args.conn.now) (state g.S.Store c.execute.new.self) _ (c.in_err-execute.ensures.runs clean))
 
 pub returns-in_err-execute-clause-why : goal.returns-in_err-execute-clause-why
 returns-in_err-execute-clause-why g c clean =
-    let why = recording_unadded (state g.S.Store c.args.conn.now) (state g.S.Store c.execute.new.self) c.args.identity.now _ (c.requires (omega (arith, c.execute.ensures.survives.clean))) (rw c.params-to_sql.ensures at (c.in_err-execute.ensures.runs clean)) in
+    let why = recording_unadded (state g.S.Store c.args.conn.now) (state g.S.Store c.execute.new.self) c.args.identity.now _ c.obey.ensures (c.requires (omega (arith, c.execute.ensures.survives.clean))) (rw c.params-to_sql.ensures at (c.in_err-execute.ensures.runs clean)) in
     let told = err_from_is_err_and c.from_residual.result c.from_residual.ensures.1 in
     rw (told.1, told.2) why

@@ -1,7 +1,12 @@
 use Rattle.std.proofs.Common.{refl, inl, inr, sym, ◌∙◌}
 use Rattle.std.proofs.lemmas.Result.{err_from_is_err_and}
-use Rattle.edf_store.proofs.Opening.{opened}
+use Rattle.sqlite.specs.Held.{state}
+use Rattle.edf_store.proofs.Opening.{opened, sound_opened}
 use Rattle.edf_store.proofs.store.Store.open.Goals as goal
+
+pub invariant_of-result : goal.invariant_of-result
+invariant_of-result g c =
+    sound_opened c.args.cap (state g.S.Store c.args.conn) (state g.S.Store c.audit.new.conn) c.requires.cap_from c.requires.cap_to (λ clean. rw c.if-kept.true at (c.in_ok-kept.ensures.answers clean))
 
 pub returns-in_err-kept-clause-given_up : goal.returns-in_err-kept-clause-given_up
 returns-in_err-kept-clause-given_up g c =
