@@ -8,7 +8,8 @@ use sqlite_std_file::{OpenError, Unknown};
 
 const BUSY: &str = "another program has it open; run this again when that has ended";
 
-const OTHER_TABLES: &str = "a database with other tables than a store's; it was left as it is";
+const OTHER_TABLES: &str =
+    "its tables are not a store's, or have an index or a trigger; it was left as it is";
 
 const OTHER_ROWS: &str = "its rows are such as no submissions leave; put it aside, as it is";
 

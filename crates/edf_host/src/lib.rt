@@ -51,8 +51,22 @@ fn run_over<S: Alter>(
     )
 }
 
-/// Runs a command over the file of the store that it names. For a person it prints where that is
-/// made, and why it is refused.
+/// Whether the command makes a store where its path names no file.
+fn makes_store(command: &ParsedCommand) -> bool {
+    match command {
+        ParsedCommand::Take { store: _, files: _ } => true,
+        _ => false,
+    }
+}
+
+/// Whether SQLite reads the path as more than a file's name, and refuses it.
+fn is_address(path: &str) -> bool {
+    path.starts_with("file:")
+}
+
+/// Runs a command over the file of the store that it names. Where there is no such file, `take`
+/// makes it, and the others find an empty store and leave none. For a person it prints which of
+/// these it was, and why a store is refused.
 fn run_on_file(
     rt: &HostRuntime,
     terminal: &Terminal<'_>,
@@ -61,7 +75,11 @@ fn run_on_file(
     inputs: &mut Files<'_>,
     streams: &mut Streams<'_>,
 ) -> Status {
-    let is_new = terminal.is_there() && is_missing(rt, path);
+    let is_new = is_missing(rt, path) && !is_address(path);
+    if is_new && !makes_store(command) {
+        terminal.say(path, "no such file");
+        return run_in_memory(rt, command, inputs, streams);
+    }
     let mut store = match open_file(rt, path) {
         Ok(store) => store,
         Err(refused) => {

@@ -1,6 +1,7 @@
 //! The lines of commands, and how they end.
 
 use crate::stage::plain_story;
+use edf_arguments::VERSION;
 use std::alloc::Global;
 
 /// Each line of words, and what it writes.
@@ -60,7 +61,6 @@ const STORIES: &[(&str, &str)] = &[
         "write two.edf 4294967295",
         "err: no run 4294967295\nstatus 1\n",
     ),
-    ("--version", "edfruns 1.0.0\nstatus 0\n"),
     (
         "write - 1",
         "err: error: FILE is read twice, which standard input can't be: write it to a file first\n\n\
@@ -85,6 +85,18 @@ fn commands_write_their_lines(rt: HostRuntime) {
         };
         assert_eq!(rt; told.as_str(), wanted, "{line}");
     }
+}
+
+/// What is printed where a line asks for the version.
+fn version(alloc: Global) -> Option<String> {
+    format!(in alloc; "edfruns {VERSION}\nstatus 0\n").ok()
+}
+
+#[test]
+fn the_version_is_told_in_a_line(rt: HostRuntime) {
+    let want = version(rt.alloc());
+    assert!(rt; want.is_some());
+    assert_eq!(rt; plain_story(rt.alloc(), "--version"), want);
 }
 
 /// Whether no number of a run is refused as words that ask for nothing.
