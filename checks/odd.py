@@ -52,17 +52,51 @@ MADE = (
     ("the second of our tables alone", TABLES[1:], "E45"),
     ("our tables in the other order", TABLES[::-1], "E45"),
     ("our tables behind one that was dropped later", ("CREATE TABLE t (x)", *TABLES, "DROP TABLE t"), "E45"),
-    ("our tables beside another", (*TABLES, "CREATE TABLE t (x)"), "E45"),
-    ("our tables behind ANALYZE", (*TABLES, "ANALYZE"), "E45"),
+    ("the first of our tables, and another", (TABLES[0], "CREATE TABLE t (x)"), "E45"),
+    ("a view alone", ("CREATE VIEW v AS SELECT 1",), "E45"),
+    ("ANALYZE of nothing", ("ANALYZE",), "E45"),
+    ("a virtual table after ours", (*TABLES, "CREATE VIRTUAL TABLE t USING fts5 (x)"), "E42"),
+    ("a table after ours with a foreign key and a trigger", (*TABLES, "CREATE TABLE t (x REFERENCES recording (id))",
+                                                             "CREATE TRIGGER kept AFTER DELETE ON t BEGIN SELECT 1; END"), "E42"),
+)
+
+# What another tool may do beside our tables, and on them
+LAB = "CREATE TABLE lab (id INTEGER PRIMARY KEY, text TEXT UNIQUE, of INTEGER REFERENCES recording (id))"
+FILLED = "INSERT INTO lab VALUES (1, 'seen by a nurse', 1), (2, 'for the report', NULL)"
+BESIDE = (
+    ("ANALYZE", ("ANALYZE",)),
+    ("a view", ("CREATE VIEW starts AS SELECT start FROM record",)),
+    ("a table with an index, a foreign key and rows", (LAB, FILLED, "CREATE INDEX by_of ON lab (of)")),
+    ("a table WITHOUT ROWID", ("CREATE TABLE lab (k TEXT PRIMARY KEY, v) WITHOUT ROWID", "INSERT INTO lab VALUES ('a', 1)")),
+    ("a table with a trigger of its own", ("CREATE TABLE lab (x)", "INSERT INTO lab VALUES (1)",
+                                           "CREATE TRIGGER kept AFTER DELETE ON lab BEGIN SELECT 1; END")),
+    ("a table, a view, ANALYZE and VACUUM", (LAB, FILLED, "CREATE VIEW v AS SELECT text FROM lab", "ANALYZE", "VACUUM")),
+    ("VACUUM", ("VACUUM",)),
+    ("journal_mode=delete", ("PRAGMA journal_mode=delete",)),
+)
+ON_OURS = (
+    "CREATE INDEX by_block ON record (block)",
+    "CREATE TRIGGER kept BEFORE DELETE ON record BEGIN SELECT RAISE(ABORT, 'kept'); END",
+    "CREATE TRIGGER Kept AFTER INSERT ON Recording BEGIN SELECT 1; END",
+    "ALTER TABLE recording RENAME COLUMN identity TO name",
 )
 
 
 def changed(store: Path, *statements: str) -> None:
-    connection = sqlite3.connect(store)
+    connection = sqlite3.connect(store, isolation_level=None)
     for statement in statements:
-        connection.execute(statement)
-    connection.commit()
+        connection.executescript(statement)
     connection.close()
+
+
+def others_of(store: Path) -> list:
+    """All that is not in our two tables: the list of objects, and each other table's rows."""
+    connection = sqlite3.connect(store)
+    objects = connection.execute("SELECT type, name, tbl_name, sql FROM sqlite_schema ORDER BY rowid").fetchall()
+    names = [name for kind, name, _, _ in objects if kind == "table" and name not in ("recording", "record")]
+    found = [objects] + [connection.execute(f"SELECT * FROM {name}").fetchall() for name in names]
+    connection.close()
+    return found
 
 
 def bytes_of(path: Path) -> bytes:
@@ -151,6 +185,40 @@ def foreign(odd: Odd) -> None:
     odd.check("a recording without a date that begins after 2084", "E45")
 
 
+def goes_on(odd: Odd, what: str) -> None:
+    """The store opens, takes a file and exports, and what is beside its tables stays."""
+    before, (first, second) = others_of(odd.store), (edf.small_files()[name] for name in ("Q", "P5"))
+    (odd.folder / "b.edf").write_bytes(second)
+    plain = model.Store()
+    lines = [plain.take(first), plain.take(second)]
+    odd.check(what, "")
+    took = subprocess.run([odd.program, "take", odd.store, odd.folder / "b.edf"], capture_output=True, check=False)
+    exports = [subprocess.run([odd.program, "export", odd.store, str(place)], capture_output=True, check=False).stdout
+               for place in range(1, len(plain.keys()) + 1)]
+    wanted = [plain.export(place) for place in range(1, len(plain.keys()) + 1)]
+    odd.done += 1
+    if took.stdout.decode() != f"{odd.folder / 'b.edf'} {lines[1]}\n" or exports != wanted or others_of(odd.store) != before:
+        odd.wrong += 1
+        print(f"{what}: {took.stdout!r} {took.stderr!r}, exports {exports == wanted}, others {others_of(odd.store) == before}")
+
+
+def beside(odd: Odd) -> None:
+    for what, statements in BESIDE:
+        changed(odd.held(), *statements)
+        goes_on(odd, what)
+    for what, command in ((".dump into a new file", "sqlite3 s.db .dump | sqlite3 new.db"),
+                          (".backup", "sqlite3 s.db '.backup new.db'")):
+        changed(odd.held(), LAB, FILLED, "ANALYZE")
+        subprocess.run(command, shell=True, cwd=odd.folder, check=True)
+        for name in ("s.db-wal", "s.db-shm"):
+            (odd.folder / name).unlink(missing_ok=True)
+        (odd.folder / "new.db").replace(odd.store)
+        goes_on(odd, what)
+    for statement in ON_OURS:
+        changed(odd.held(), statement)
+        odd.check(statement, "E45")
+
+
 def many_rows(odd: Odd) -> None:
     lines = []
     key = model.read(edf.small_files()["Q"])[0].to_bytes()
@@ -178,12 +246,13 @@ def many_rows(odd: Odd) -> None:
 
 def main() -> None:
     program, _ = measure.program(sys.argv[1:])
-    measure.need("/usr/bin/time")
+    measure.need("/usr/bin/time", "sqlite3")
     with measure.scratch() as name:
         odd = Odd(program, Path(name))
         no_stores(odd)
         made(odd)
         foreign(odd)
+        beside(odd)
         many_rows(odd)
     print(f"{odd.done} files, {odd.wrong} answered otherwise than wanted")
     sys.exit(1 if odd.wrong else 0)

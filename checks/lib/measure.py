@@ -13,11 +13,11 @@ LIB = Path(__file__).resolve().parent
 TOP = LIB.parent.parent
 
 
-def program(words: list, name: str = "edfstore") -> tuple:
+def program(words: list, name: str = "edfstore", option: str = "--program") -> tuple:
     """The program to run, and the words left: the word after `--program`, or the one that `bin/edfstore` runs, or another of bin/."""
     words = list(words)
-    if "--program" in words:
-        at = words.index("--program")
+    if option in words:
+        at = words.index(option)
         given = Path(words[at + 1]).resolve()
         del words[at:at + 2]
         return given, words

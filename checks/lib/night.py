@@ -27,6 +27,7 @@ class Night:
     start: datetime = datetime(2002, 3, 2, 22, 30)
     annotation_samples: int = 57
     limits: tuple = ("-440", "510", "-2048", "2047")        # physical and digital minimum and maximum
+    patient: str = "P7 F 02-MAY-1951 X"
 
     @property
     def record_bytes(self) -> int:
@@ -42,8 +43,8 @@ class Night:
                           digital_maximum=digital_high, samples=str(size)) for n, size in enumerate(self.samples)]
         day = start.strftime("%d-%b-%Y").upper()
         return Header((*signals, annotations_signal(self.annotation_samples)), start.strftime("%d.%m.%y"),
-                      start.strftime("%H.%M.%S"), recording=f"Startdate {day} N1 T3 REC5", reserved=reserved, count=str(count),
-                      duration=str(self.seconds)).to_bytes()
+                      start.strftime("%H.%M.%S"), self.patient, f"Startdate {day} N1 T3 REC5", reserved, str(count),
+                      str(self.seconds)).to_bytes()
 
     def pool(self) -> bytes:
         return random.Random(self.seed).randbytes(POOL_BYTES + self.record_bytes)

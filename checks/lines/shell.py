@@ -78,10 +78,14 @@ def pipes(checks: Checks) -> None:
 def stores(checks: Checks) -> None:
     begun(checks, "stores", held=True)
     refused = "store refused E42 Store\n"
-    checks.shell("edfstore list none/s.db", err=refused, status=3)
+    checks.shell("edfstore take none/s.db a.edf", err=refused, status=3)
+    checks.shell("edfstore list none/s.db; edfstore list typo.db; ls none typo.db* 2> /dev/null", status=2)
+    checks.shell("edfstore export typo.db 1", err="no recording at place 1\n", status=1)
+    checks.shell("ls typo.db* 2> /dev/null", status=2)
     checks.shell("mkdir folder; edfstore take folder a.edf", err=refused, status=3)
     checks.shell("cp a.edf before.edf; edfstore list a.edf", err=refused, status=3)
-    checks.shell("cmp before.edf a.edf && edfstore export '' 1", err=refused, status=3)
+    checks.shell("cmp before.edf a.edf && edfstore export '' 1", err="no recording at place 1\n", status=1)
+    checks.shell("edfstore take '' a.edf", err=refused, status=3)
     checks.shell("cp s.db copy.db; edfstore list copy.db", ONE)
     checks.shell("edfstore take :memory: a.edf p.edf a.edf", f"a.edf {NEW}p.edf {NEW}a.edf {KNOWN}")
     checks.shell("edfstore export s.db 1 | edfstore take other.db -; edfstore export other.db 1 | cmp - a.edf", f"- {NEW}")

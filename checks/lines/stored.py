@@ -1,11 +1,13 @@
 #!/usr/bin/env python3
 """The files of the programs' stored runs, which the gate runs: compared with those made here, and run; or written anew.
 
-    checks/lines/stored.py [--program PATH] [--write]       --write: writes stdin, stdout and data/ of the three crates
+    checks/lines/stored.py [--program PATH] [--edfruns PATH] [--write]
 
-PATH is edfstore; edfruns is the one that bin/edfruns runs. What goes in is built field by field; what must come out is written below by
-hand, and compared with the plain model. Of the program's own making is only the store that `list` and `export` are given: the identity, start and samples of each row of it are
-compared with the model. It needs no SQLite but Python's.
+--write writes stdin, stdout and data/ of the three crates. PATH is edfstore; edfruns is the one
+that bin/edfruns runs where it is left out. What goes in is built field by field; what must come
+out is written below by hand, and compared with the plain model. Of the program's own making is
+only the store that `list` and `export` are given: the identity, start and samples of each row of
+it are compared with the model. It needs no SQLite but Python's.
 """
 import shutil
 import sqlite3
@@ -172,7 +174,7 @@ def run(program: Path, crate: Path, folder: Path) -> bool:
 
 def main() -> None:
     program, words = measure.program(sys.argv[1:])
-    runs, _ = measure.program([], "edfruns")
+    runs, words = measure.program(words, "edfruns", "--edfruns")
     is_writing = measure.flag(words, "--write")
     by_model()
     with measure.scratch() as name:

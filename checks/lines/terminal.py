@@ -19,6 +19,7 @@ from checks import Checks  # noqa: E402
 
 Q = edf.small_files()["Q"]
 MADE = "no such file; made a new, empty store\n"
+MISSING = "no such file\n"
 WIPED = "\r" + 60 * " " + "\r"
 NONE = "no such file or directory"
 STORE = "store refused E42 Store\n"
@@ -56,10 +57,11 @@ def begun(checks: Checks, case: str) -> None:
 
 
 def new_stores(checks: Checks) -> None:
-    begun(checks, "a path that is not there makes a store")
-    on_terminal(checks, "list typo.db", err=f"typo.db: {MADE}")
-    on_terminal(checks, "list typo.db")
-    on_terminal(checks, "export other.db 1", err=f"other.db: {MADE}no recording at place 1\n", status=1)
+    begun(checks, "a path that is not there makes a store for take alone")
+    on_terminal(checks, "list typo.db", err=f"typo.db: {MISSING}")
+    on_terminal(checks, "list typo.db", err=f"typo.db: {MISSING}")
+    on_terminal(checks, "list none/typo.db", err=f"none/typo.db: {MISSING}")
+    on_terminal(checks, "export other.db 1", err=f"other.db: {MISSING}no recording at place 1\n", status=1)
     on_terminal(checks, "take third.db a.edf", "a.edf accepted new=1 known=0\n",
                 f"third.db: {MADE}\rfile 1 of 1, 0 MB read{WIPED}")
     on_terminal(checks, "take :memory: a.edf", "a.edf accepted new=1 known=0\n", f"\rfile 1 of 1, 0 MB read{WIPED}")
@@ -81,13 +83,13 @@ def causes(checks: Checks) -> None:
     begun(checks, "why a store is refused")
     (checks.folder / "folder").mkdir()
     no_file = "not a plain file, but a directory, a device or a linked file"
-    for path, cause in (("none/s.db", NONE), ("a.edf/s.db", "a directory of its path is a file"),
+    for path, cause in (("a.edf/s.db", "a directory of its path is a file"),
                         ("folder", no_file), ("/dev/full", no_file), ("a.edf", "not a database, or none that can be read here"),
                         ("file:s.db", "a path that begins with 'file:' is written './file:'")):
         on_terminal(checks, f"list {path}", err=f"{STORE}{path}: {cause}\n", status=3)
     checks.shell("sqlite3 other.db 'CREATE TABLE night (a)'")
     on_terminal(checks, "list other.db", status=3,
-                err="store refused E45 Foreign\nother.db: a database with other tables than a store's; it was left as it is\n")
+                err="store refused E45 Foreign\nother.db: its tables are not a store's, or have an index or a trigger; it was left as it is\n")
     checks.shell("cp s.db rows.db; sqlite3 rows.db 'UPDATE record SET start = start + 1'")
     on_terminal(checks, "list rows.db", status=3,
                 err="store refused E45 Foreign\nrows.db: its rows are such as no submissions leave; put it aside, as it is\n")

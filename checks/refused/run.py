@@ -1,14 +1,16 @@
 #!/usr/bin/env python3
 """Refuses each allocation of `edfstore` in turn, and then each read, write and sync, and looks at what is answered and held.
 
-    checks/refused/run.py [--program PATH]
+    checks/refused/run.py [--program PATH] [STEP]
 
-A library that is loaded before the C library refuses the first call, the second and so on, alone or with all that follow, until a
-run meets no refusal: of a `take` of two files into a new store, of `list` and `export` of a store of both, and of a `convert`. The
-first of the files, which `convert` is given too, is of unknown count and has two annotations signals. A run ends with status 0 and
-all that is wanted, or with status 3 and a front of it, in whole lines where no write was refused; what was accepted is held, and
-what could not be read is not; and without refusals both files are then taken or known, and the export is that of the plain model.
-It stops with status 1 at the first loss.
+A library that is loaded before the C library refuses the first call, the second and so on, or
+every STEPth from the first on, alone or with all that follow, until a run meets no refusal: of a
+`take` of two files into a new store, of `list` and `export` of a store of both, and of a
+`convert`. The first of the files, which `convert` is given too, is of unknown count and has two
+annotations signals. A run ends with status 0 and all that is wanted, or with status 3 and a front
+of it, in whole lines where no write was refused; what was accepted is held, and what could not be
+read is not; and without refusals both files are then taken or known, and the export is that of the
+plain model. It stops with status 1 at the first loss.
 """
 import collections
 import os
@@ -162,17 +164,18 @@ def orders(bench: Bench) -> dict:
 
 
 def main() -> None:
-    program, _ = measure.program(sys.argv[1:])
+    program, words = measure.program(sys.argv[1:])
+    step = int(words[0]) if words else 1
     with measure.scratch() as name:
         bench = Bench(program, Path(name))
         for kind in REFUSALS:
             for order, tried in orders(bench).items():
                 counts = []
                 for every in (False, True):
-                    nth = 1
-                    while tried(Refusal(kind, nth, every)):
-                        nth += 1
-                    counts.append(nth - 1)
+                    met = 0
+                    while tried(Refusal(kind, 1 + met * step, every)):
+                        met += 1
+                    counts.append(met)
                 print(f"{kind}, {order}: {counts[0]} calls refused alone, {counts[1]} with all that follow", flush=True)
         for (kind, order, answer), count in sorted(bench.answers.items(), key=str):
             print(f"{kind}, {order}: {answer} {count} times")

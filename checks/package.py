@@ -1,0 +1,273 @@
+#!/usr/bin/env python3
+"""Makes the Debian package of the released programs, looks at it, and installs it on a bare Debian.
+
+    checks/package.py [--bare FOLDER] [PACKAGE]
+
+bin/package makes it twice, in two places, times, time zones and languages, and both must have the
+same bytes; PACKAGE is looked at instead of these where it is named. It has the released programs,
+both man pages, the documents and the examples, and less than MOST bytes; `lintian` tells no error,
+and `man` no warning of the installed pages. As root and with debootstrap it is installed by `dpkg
+-i` on a Debian of the least packages, run there and removed again. FOLDER is such a Debian; else
+one is made, which takes minutes and the network, and is gone at the end. Without root or
+debootstrap it is unpacked here, `ldd` tells what it lacks, and it is run here: the last lines say
+which of the ways was taken.
+
+Three controls must fail: a package without its copyright file has an error by lintian, one that
+needs a library that is not there and one with a byte changed are not installed. It needs dpkg-deb,
+lintian, man and readelf.
+"""
+import os
+import shutil
+import subprocess
+import sys
+from pathlib import Path
+
+sys.path.insert(0, str(Path(__file__).resolve().parent / "lib"))
+import measure  # noqa: E402
+import model  # noqa: E402
+import runs  # noqa: E402
+from checks import Checks  # noqa: E402
+
+MOST = 1_200_000
+SUITE = "bookworm"
+PROGRAMS = ("edfstore", "edfruns")
+SHARED = "usr/share/doc/edfstore"
+EXAMPLES = ("edflib.edf", "one-record.edf")
+DOCUMENTS = ("README.md", "copyright", "changelog.gz", "docs/FORMAT.md", "docs/REFUSALS.md",
+             "docs/RELIABILITY.md", "docs/READERS.md", *(f"examples/{name}" for name in EXAMPLES))
+EARLIER = 946_684_800       # a time of files, which must not be seen
+
+
+def ran(*words, **options) -> subprocess.CompletedProcess:
+    return subprocess.run([str(word) for word in words], stdin=subprocess.DEVNULL,
+                          capture_output=True, text=True, check=False, **options)
+
+
+def done(*words, **options) -> str:
+    """What it wrote; the script ends where it failed."""
+    it = ran(*words, **options)
+    if it.returncode:
+        line = " ".join(map(str, words))
+        sys.exit(f"{line} ended with status {it.returncode}\n{it.stdout}{it.stderr}")
+    return it.stdout
+
+
+def programs(folder: Path) -> Path:
+    """A folder with the released programs."""
+    folder.mkdir()
+    for name in PROGRAMS:
+        shutil.copy(measure.program([], name)[0], folder)
+    return folder
+
+
+def made(checks: Checks, folder: Path) -> Path:
+    """The package, made twice."""
+    given, packages = programs(folder / "programs"), []
+    places = ({"TZ": "UTC", "LC_ALL": "C"},
+              {"TZ": "Pacific/Auckland", "LANG": "de_DE.UTF-8", "LC_ALL": ""})
+    for nth, added in enumerate(places):
+        target = folder / f"made-{nth}"
+        for name in PROGRAMS:
+            os.utime(given / name, (EARLIER * (nth + 1), EARLIER))
+        line, mask = 'umask "$1"; "$0/bin/package" "$2" "$3"', ("022", "077")[nth]
+        done("bash", "-c", line, measure.TOP, mask, given, target,
+             env={**os.environ, **added}, cwd=(folder, "/")[nth])
+        packages += list(target.iterdir())
+    checks.begin("the package")
+    checks.same("it is made twice, with the same name", packages[1].name, packages[0].name)
+    checks.same("it has the same bytes, made twice",
+                packages[1].read_bytes() == packages[0].read_bytes(), True)
+    released = measure.TOP / "release" / packages[0].name
+    same = released.is_file() and released.read_bytes() == packages[0].read_bytes()
+    has = "has" if same else "does NOT have"
+    print(f"release/{released.name} {has} the bytes of the one made here")
+    return packages[0]
+
+
+def rendered(checks: Checks, name: str, root: Path) -> None:
+    """The man page below that folder, as `man` shows it."""
+    read = ran("man", "--warnings", "-l", root / f"usr/share/man/man1/{name}.1.gz")
+    checks.same(f"man {name}: status and warnings", (read.returncode, read.stderr), (0, ""))
+    checks.same(f"man {name}: its head and size",
+                (read.stdout.startswith(f"{name.upper()}(1)"), len(read.stdout) > 1000),
+                (True, True))
+
+
+def contents(checks: Checks, package: Path, folder: Path) -> Path:
+    """The package, unpacked."""
+    root = folder / "unpacked"
+    done("dpkg-deb", "-x", package, root)
+    size = package.stat().st_size
+    needs = done("dpkg-deb", "-f", package, "Depends").strip()
+    print(f"{package.name}: {size:,} bytes, needs {needs}")
+    checks.begin("what the package has")
+    checks.same(f"less than {MOST:,} bytes", size < MOST, True)
+    version = done("dpkg-deb", "-f", package, "Version").strip()
+    for name in PROGRAMS:
+        program = root / "usr/bin" / name
+        checks.same(f"{name} has the released bytes",
+                    program.read_bytes() == measure.program([], name)[0].read_bytes(), True)
+        checks.same(f"{name} --version", done(program, "--version"), f"{name} {version}\n")
+        page = done("zcat", root / f"usr/share/man/man1/{name}.1.gz")
+        checks.same(f"{name}.1", page == (measure.TOP / f"docs/{name}.1").read_text(), True)
+        rendered(checks, name, root)
+    missing = [name for name in DOCUMENTS if not (root / SHARED / name).is_file()]
+    checks.same("documents that it lacks", missing, [])
+    changelog = done("zcat", root / SHARED / "changelog.gz")
+    checks.same("the changelog's version", changelog.split(")")[0], f"edfstore ({version}")
+    return root
+
+
+def tags(package: Path) -> list:
+    """What lintian tells, but notes; `E:` is an error."""
+    told = ran("lintian", "--fail-on", "none", package)
+    if told.returncode:
+        sys.exit(f"lintian ended with status {told.returncode}\n{told.stdout}{told.stderr}")
+    return [line for line in told.stdout.splitlines() if not line.startswith("N:")]
+
+
+def errors(lines: list) -> list:
+    return [line for line in lines if line.startswith("E:")]
+
+
+def changed(name: str, change, package: Path, folder: Path) -> Path:
+    """The package of that name, which is this one after `change` of its folder."""
+    root = folder / name
+    done("dpkg-deb", "-R", package, root)
+    change(root)
+    target = folder / f"{name}.deb"
+    done("dpkg-deb", "--root-owner-group", "--build", root, target)
+    return target
+
+
+def without_copyright(root: Path) -> None:
+    (root / SHARED / "copyright").unlink()
+
+
+def of_another_library(root: Path) -> None:
+    control = root / "DEBIAN/control"
+    control.write_text(control.read_text().replace("Depends: ", "Depends: edfstore-of-no-name, "))
+
+
+def with_a_byte_changed(package: Path, folder: Path) -> Path:
+    data = bytearray(package.read_bytes())
+    data[len(data) // 2] ^= 1
+    target = folder / "with-a-byte-changed.deb"
+    target.write_bytes(data)
+    return target
+
+
+def by_lintian(checks: Checks, package: Path, folder: Path) -> None:
+    told = tags(package)
+    print(f"lintian: {len(errors(told))} errors" + "".join(f"\n  {line}" for line in told))
+    checks.begin("lintian")
+    checks.same("errors", errors(told), [])
+    wrong = errors(tags(changed("without-copyright", without_copyright, package, folder)))
+    checks.same("control: the errors of a package without its copyright file have this one",
+                "E: edfstore: no-copyright-file" in wrong, True)
+
+
+def run_there(checks: Checks, where: str, run, folder: Path) -> None:
+    """Both programs on the examples, by `run`, which runs words in a folder of that place."""
+    checks.begin(where)
+    held, examples = model.Store(), measure.TOP / "examples"
+    files = [(examples / name).read_bytes() for name in EXAMPLES]
+    there = examples if where == "here" else f"/{SHARED}/examples"
+    paths = [f"{there}/{name}" for name in EXAMPLES]
+    lines = "".join(f"{path} {held.take(data)}\n" for path, data in zip(paths, files))
+    checks.compare("edfstore take", run("edfstore", "take", "night.db", *paths), lines, "", 0)
+    checks.compare("edfstore list", run("edfstore", "list", "night.db"), held.lines(), "", 0)
+    for place in range(1, len(held.held) + 1):
+        export = run("edfstore", "export", "night.db", str(place))
+        checks.compare(f"edfstore export {place}", export, held.export(place), "", 0)
+    made_of = runs.read_runs(files[0])
+    checks.compare("edfruns list", run("edfruns", "list", paths[0]), runs.lines(made_of), "", 0)
+    checks.compare("edfruns write", run("edfruns", "write", paths[0], "1"),
+                   made_of[0].to_bytes(), "", 0)
+    checks.compare("edfruns split", run("edfruns", "split", paths[0], "part"),
+                   runs.split_lines("part", made_of), "", 0)
+    checks.same("the file of split", (folder / "part-1.edf").read_bytes(), made_of[0].to_bytes())
+    picture = run("edfruns", "picture", paths[0])
+    checks.same("edfruns picture", (picture.stdout[:4], picture.stderr, picture.returncode),
+                (b"<svg", b"", 0))
+
+
+def on_a_bare_debian(checks: Checks, package: Path, folder: Path, bare: Path) -> None:
+    system = folder / "system"
+    if bare:
+        done("cp", "-a", bare, system)
+    else:
+        done("debootstrap", "--variant=minbase", SUITE, system)
+    release = (system / "etc/debian_version").read_text().strip()
+    count = len(done("chroot", system, "dpkg-query", "-W").splitlines())
+
+    def inside(*words, **options) -> subprocess.CompletedProcess:
+        place = {"PATH": "/usr/sbin:/usr/bin:/sbin:/bin", "DEBIAN_FRONTEND": "noninteractive"}
+        return subprocess.run(["chroot", system, *words], stdin=subprocess.DEVNULL,
+                              capture_output=True, check=False, env=place, **options)
+
+    def at_home(*words) -> subprocess.CompletedProcess:
+        return inside("sh", "-c", 'cd /root/night && exec "$@"', "sh", *words)
+
+    def install(path: Path) -> int:
+        shutil.copy(path, system / "tmp/given.deb")
+        return inside("dpkg", "-i", "/tmp/given.deb").returncode
+
+    checks.begin("a bare Debian")
+    for other in (changed("of-another-library", of_another_library, package, folder),
+                  with_a_byte_changed(package, folder)):
+        checks.same(f"control: {other.stem} is refused", install(other) != 0, True)
+        inside("dpkg", "--purge", "--force-all", "edfstore")
+    installed = [*(f"usr/bin/{name}" for name in PROGRAMS), SHARED]
+    checks.same("nothing is there", [name for name in installed if (system / name).exists()], [])
+    checks.same("dpkg -i", install(package), 0)
+    checks.same("dpkg --verify", inside("dpkg", "--verify", "edfstore").stdout, b"")
+    (system / "root/night").mkdir()
+    run_there(checks, "a bare Debian", at_home, system / "root/night")
+    for name in PROGRAMS:
+        rendered(checks, name, system)
+    checks.same("dpkg -P", inside("dpkg", "-P", "edfstore").returncode, 0)
+    checks.same("what is left", [name for name in installed if (system / name).exists()], [])
+    print(f"installed by dpkg -i on a bare Debian {release} of {count} packages "
+          f"({'given' if bare else 'made by debootstrap'}), run there and removed")
+
+
+def here(checks: Checks, root: Path, folder: Path) -> None:
+    place = folder / "here"
+    place.mkdir()
+
+    def run(name, *words) -> subprocess.CompletedProcess:
+        return subprocess.run([root / "usr/bin" / name, *words], stdin=subprocess.DEVNULL,
+                              capture_output=True, check=False, cwd=place)
+
+    checks.begin("here")
+    for name in PROGRAMS:
+        told = done("ldd", root / "usr/bin" / name)
+        checks.same(f"ldd {name}", ("libc.so.6" in told, "not found" in told), (True, False))
+    run_there(checks, "here", run, place)
+    print("unpacked and run here, with this system's libraries; not installed on a bare Debian")
+
+
+def main() -> None:
+    words = sys.argv[1:]
+    bare = None
+    if "--bare" in words:
+        at = words.index("--bare")
+        bare = Path(words[at + 1]).resolve()
+        del words[at:at + 2]
+    measure.need("dpkg-deb", "lintian", "man", "readelf")
+    with measure.scratch() as name:
+        folder, cases = Path(name), Path(name) / "cases"
+        cases.mkdir()
+        checks = Checks(Path("edfstore"), cases)
+        package = Path(words[0]).resolve() if words else made(checks, folder)
+        root = contents(checks, package, folder)
+        by_lintian(checks, package, folder)
+        if os.geteuid() == 0 and (bare or shutil.which("debootstrap")):
+            on_a_bare_debian(checks, package, folder, bare)
+        else:
+            here(checks, root, folder)
+    checks.end()
+
+
+main()

@@ -1,0 +1,213 @@
+#!/usr/bin/env python3
+"""Runs the first commands of a fresh clone, and the comparison of a program with the released one.
+
+    checks/released.py
+
+It clones the state that is committed here, which must be a released one, and needs git, tar and
+xz; no toolchain is on the path. In the clone `bin/edfstore` and `bin/edfruns` answer within
+SECONDS, and as the plain model does. Then a small script is the toolchain's command `rt`: it tells
+the build that release/TOOLCHAIN names, and `rt ci` does nothing, or fails. With the released
+programs where a build leaves them `bin/compare` and `.ci/run` end with status 0. They end with
+another status where one byte of a program is changed, and `.ci/run` where `rt ci` fails; where the
+sources or the toolchain are others, or no program is there, a line says so. Where dpkg-deb is here
+`bin/release` of these programs writes the same release twice, and `bin/release --documents` too; a
+line says whether it is the committed one.
+"""
+import os
+import shutil
+import subprocess
+import sys
+import time
+from pathlib import Path
+
+sys.path.insert(0, str(Path(__file__).resolve().parent / "lib"))
+import measure  # noqa: E402
+import model  # noqa: E402
+import runs  # noqa: E402
+from checks import Checks  # noqa: E402
+
+SECONDS = 2.0
+TIMES = 3       # clones at most, since others may use the machine
+EXAMPLES = ("examples/edflib.edf", "examples/one-record.edf")
+PROGRAMS = ("edfstore", "edfruns")
+SAME = "release: {}, as it was proved here, has the released bytes\n"
+OTHER = "release: {}, as it was proved here, does NOT have the released bytes\n"
+NONE = ("release: no {} lies here to compare: rt ci kept what an earlier run on this machine "
+        "proved and ran\n")
+OTHER_SOURCES = "release: made from other sources than these; bin/release makes it anew\n"
+NO_TOOLCHAIN = ("bin/build: this takes the toolchain of release/TOOLCHAIN, whose command 'rt' is "
+                "not on the path\n")
+STUB = """#!/bin/sh
+case $1 in
+  version) echo "{told}" ;;
+  ci) exit {status} ;;
+  *) echo "the toolchain was asked for: $*" >&2; exit 9 ;;
+esac
+"""
+
+
+class Clones:
+    def __init__(self, folder: Path):
+        self.folder, self.tools, self.stub = folder, folder / "tools", folder / "stub"
+        self.count = 0
+        self.tools.mkdir()
+        self.stub.mkdir()
+        for place in os.environ["PATH"].split(os.pathsep):
+            for tool in Path(place).iterdir() if Path(place).is_dir() else ():
+                if tool.name != "rt" and not (self.tools / tool.name).is_symlink():
+                    (self.tools / tool.name).symlink_to(tool)
+
+    def fresh(self) -> Path:
+        """A clone in which nothing was run."""
+        self.count += 1
+        clone = self.folder / f"clone-{self.count}"
+        subprocess.run(["git", "clone", "-q", measure.TOP, clone], check=True)
+        return clone
+
+    def toolchain(self, told: str, status: int = 0) -> None:
+        """The command `rt` from here on, which tells this build."""
+        (self.stub / "rt").write_text(STUB.format(told=told, status=status))
+        (self.stub / "rt").chmod(0o755)
+
+    def ran(self, clone: Path, *words: str) -> subprocess.CompletedProcess:
+        path = f"{self.stub}:{self.tools}" if (self.stub / "rt").exists() else str(self.tools)
+        return subprocess.run(words, cwd=clone, env={**os.environ, "PATH": path},
+                              stdin=subprocess.DEVNULL, capture_output=True, check=False)
+
+    def timed(self, clone: Path, *words: str) -> tuple:
+        """The run, and its seconds."""
+        begun = time.perf_counter()
+        return self.ran(clone, *words), time.perf_counter() - begun
+
+
+def first_commands(checks: Checks, clones: Clones) -> None:
+    """Each of these is the first command of its clone."""
+    checks.begin("a fresh clone without the toolchain")
+    checks.same("a toolchain on the path",
+                clones.ran(clones.folder, "bash", "-c", "command -v rt").stdout, b"")
+    held = model.Store()
+    files = [measure.TOP.joinpath(name).read_bytes() for name in EXAMPLES]
+    lines = "".join(f"{name} {held.take(data)}\n" for name, data in zip(EXAMPLES, files))
+    told = runs.lines(runs.read_runs(files[0]))
+    taken = ("edfstore", "take", "night.db", *EXAMPLES), lines, ["night.db", "night.db-wal"]
+    for words, out, made in (taken, (("edfruns", "list", EXAMPLES[0]), told, [])):
+        for _ in range(TIMES):
+            clone = clones.fresh()
+            done, seconds = clones.timed(clone, f"bin/{words[0]}", *words[1:])
+            checks.compare(" ".join(words), done, out, "", 0)
+            if seconds <= SECONDS:
+                break
+        print(f"bin/{words[0]}: {seconds:.2f} s to the end of the first command")
+        checks.same(f"bin/{words[0]} within {SECONDS} s", seconds <= SECONDS, True)
+        checks.compare("what git says of the clone", clones.ran(clone, "git", "status", "--short"),
+                       "".join(f"?? {name}\n" for name in made), "", 0)
+    change_a_source(clone)
+    checks.compare("bin/edfstore where a source is another",
+                   clones.ran(clone, "bin/edfstore", "--version"), "", NO_TOOLCHAIN, 3)
+
+
+def change_a_source(clone: Path) -> None:
+    with open(clone / "crates/edf_time/src/lib.rt", "a", encoding="utf-8") as source:
+        source.write("// another\n")
+
+
+def built(clones: Clones) -> Path:
+    """A clone with the released programs where `rt ci` leaves what it built."""
+    clone = clones.fresh()
+    for name in PROGRAMS:
+        told = clones.ran(clone, "bash", "-c", f". bin/common.sh && released_program {name}").stdout
+        target = clone / "crates" / name / "out" / name
+        target.parent.mkdir()
+        shutil.copy(told.decode().strip(), target)
+    return clone
+
+
+def compared(checks: Checks, clones: Clones, what: str, clone: Path, out: str) -> None:
+    """`bin/compare` writes this, and `.ci/run` writes it last; both end with status 0."""
+    checks.compare(f"bin/compare, {what}", clones.ran(clone, "bin/compare"), out, "", 0)
+    gate = clones.ran(clone, ".ci/run")
+    checks.same(f".ci/run, {what}: the status", gate.returncode, 0)
+    checks.same(f".ci/run, {what}: the last lines", gate.stdout.decode()[-len(out):], out)
+
+
+def release_of(clone: Path) -> dict:
+    files = [path for path in (clone / "release").iterdir() if path.is_file()]
+    return {path.name: path.read_bytes() for path in files}
+
+
+def written_again(checks: Checks, clones: Clones, clone: Path) -> None:
+    """The release, written by the scripts of the clone from the same programs and documents."""
+    committed, written = release_of(clone), []
+    for words in (("bin/release",), ("bin/release",), ("bin/release", "--documents")):
+        checks.same(f"{' '.join(words)}: the status", clones.ran(clone, *words).returncode, 0)
+        written.append(release_of(clone))
+    checks.same("the release has the same bytes", written[1:] == written[:1] * 2, True)
+    checks.same("its files", [sorted(path.rpartition(".")[2] for path in written[0])],
+                [["SHA256SUMS", "SOURCES", "TOOLCHAIN", "deb", "xz"]])
+    for name in ("SOURCES", "TOOLCHAIN"):
+        checks.same(name, written[0][name], committed[name])
+    print("bin/release writes the committed release" if written[0] == committed else
+          "bin/release writes another release than the committed one: the documents are others")
+    page = clone / "docs/edfstore.1"
+    page.write_text(page.read_text() + ".\\\" another\n")
+    checks.same("bin/release --documents: the status",
+                clones.ran(clone, "bin/release", "--documents").returncode, 0)
+    last = release_of(clone)
+    checks.same("with another page both archives are others",
+                sorted(name for name in last if last[name] != written[0][name]),
+                sorted(name for name in last if name not in ("SOURCES", "TOOLCHAIN")))
+    checks.compare("with another page bin/compare", clones.ran(clone, "bin/compare"),
+                   "".join(map(SAME.format, PROGRAMS)), "", 0)
+
+
+def comparison(checks: Checks, clones: Clones) -> None:
+    checks.begin("the comparison with the release")
+    toolchain = (measure.TOP / "release/TOOLCHAIN").read_text().strip()
+    clones.toolchain(toolchain)
+    compared(checks, clones, "no programs", clones.fresh(), "".join(map(NONE.format, PROGRAMS)))
+    clone = built(clones)
+    compared(checks, clones, "the released programs", clone, "".join(map(SAME.format, PROGRAMS)))
+    if shutil.which("dpkg-deb"):
+        written_again(checks, clones, clone)
+    for name in PROGRAMS:
+        program = clone / "crates" / name / "out" / name
+        data = bytearray(program.read_bytes())
+        data[len(data) // 2] ^= 1
+        program.write_bytes(data)
+        told = "".join((OTHER if it == name else SAME).format(it) for it in PROGRAMS)
+        done = clones.ran(clone, "bin/compare")
+        lines = done.stdout.decode().splitlines(keepends=True)
+        ours = "".join(line for line in lines if line.startswith("release:"))
+        others = [line for line in lines if not line.startswith("release:")]
+        case = f"a byte of {name} is changed"
+        checks.same(f"bin/compare, {case}", (ours, done.returncode), (told, 1))
+        place = f" differ: byte {len(data) // 2 + 1},"
+        checks.same(f"which byte, {case}", [place in line for line in others], [True])
+        checks.same(f".ci/run, {case}", clones.ran(clone, ".ci/run").returncode, 1)
+        data[len(data) // 2] ^= 1
+        program.write_bytes(data)
+    clones.toolchain(f"{toolchain} and another")
+    compared(checks, clones, "another toolchain", clone,
+             f"release: made by another toolchain: {toolchain}\n")
+    clones.toolchain(toolchain, status=1)
+    checks.same(".ci/run, a gate that fails", clones.ran(clone, ".ci/run").returncode, 1)
+    clones.toolchain(toolchain)
+    change_a_source(clone)
+    compared(checks, clones, "other sources", clone, OTHER_SOURCES)
+
+
+def main() -> None:
+    measure.need("git", "tar", "xz")
+    with measure.scratch() as name:
+        folder, cases = Path(name) / "clones", Path(name) / "cases"
+        folder.mkdir()
+        cases.mkdir()
+        clones, checks = Clones(folder), Checks(Path("edfstore"), cases)
+        if clones.ran(clones.fresh(), "bash", "-c", ". bin/common.sh && is_released").returncode:
+            sys.exit("the state that is committed here is no released one: bin/release makes it so")
+        first_commands(checks, clones)
+        comparison(checks, clones)
+    checks.end()
+
+
+main()
