@@ -54,21 +54,25 @@ is_released() {
   [ -f "$release/SOURCES" ] && [ "$(cat "$release/SOURCES")" = "$(sources_digest)" ]
 }
 
-# The one archive that SHA256SUMS names.
+# The one archive of programs that SHA256SUMS names; the other is a Debian package.
 released_archive() {
   sed -n 's/^[0-9a-f]*  \(.*\.tar\.xz\)$/\1/p' "$release/SHA256SUMS"
 }
 
-# Unpacks the released programs, once, and tells the path of $1. The archive must have the sum that SHA256SUMS says.
+# Unpacks the released programs, once, and tells the path of $1. The archive must have the sum that
+# SHA256SUMS says.
 released_program() {
   local archive sum folder
   archive=$(released_archive)
-  sum=$(cut -d ' ' -f 1 "$release/SHA256SUMS")
+  sum=$(sed -n "s/  $archive\$//p" "$release/SHA256SUMS")
   folder=$release/out/$sum
   if [ ! -x "$folder/$1" ]; then
-    (cd "$release" && sha256sum --quiet -c SHA256SUMS >&2) || return 1
+    (cd "$release" && echo "$sum  $archive" | sha256sum --quiet -c >&2) || return 1
     mkdir -p "$release/out" && local new && new=$(mktemp -d "$release/out/new.XXXXXX") || return 1
-    if ! tar -xJf "$release/$archive" -C "$new" --strip-components=1; then rm -rf "$new"; return 1; fi
+    if ! tar -xJf "$release/$archive" -C "$new" --strip-components=1; then
+      rm -rf "$new"
+      return 1
+    fi
     # Another run may have been first: then its folder stays.
     mv -T "$new" "$folder" 2>/dev/null || rm -rf "$new"
   fi
