@@ -99,18 +99,9 @@ def kind(data: bytes) -> str:
     return " and ".join(["of unknown count"] * (data[236:244] == b"-1      ") + ["with several annotations signals"] * several)
 
 
-def option(words: list, name: str, other: str) -> str:
-    if name not in words:
-        return other
-    at = words.index(name)
-    value = words[at + 1]
-    del words[at:at + 2]
-    return value
-
-
 def main() -> None:
     program, words = measure.program(sys.argv[1:])
-    seed, keep = option(words, "--seed", "1"), option(words, "--keep", "")
+    seed, keep = measure.value_of(words, "--seed", "1"), measure.value_of(words, "--keep", "")
     count = int(words[0]) if words else 2_000
     if "TMPDIR" not in os.environ and Path("/dev/shm").is_dir():
         os.environ["TMPDIR"] = "/dev/shm"       # a sync a file costs nothing there

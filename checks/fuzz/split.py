@@ -91,18 +91,9 @@ def checked(program: Path, folder: Path, data: bytes, chance: random.Random) -> 
     return f"of {len(made)} run{'s' * (len(made) > 1)}"
 
 
-def option(words: list, name: str, other: str) -> str:
-    if name not in words:
-        return other
-    at = words.index(name)
-    value = words[at + 1]
-    del words[at:at + 2]
-    return value
-
-
 def main() -> None:
     program, words = measure.program(sys.argv[1:], "edfruns")
-    seed = option(words, "--seed", "1")
+    seed = measure.value_of(words, "--seed", "1")
     count = int(words[0]) if words else 1_000
     kinds, begun, done = collections.Counter(), time.perf_counter(), 0
     folder = Path(tempfile.mkdtemp(prefix="edfruns-fuzz-"))

@@ -13,14 +13,22 @@ LIB = Path(__file__).resolve().parent
 TOP = LIB.parent.parent
 
 
+def value_of(words: list, name: str, other: str) -> str:
+    """The word after this one, both of which are taken out; the other, where it is not there."""
+    if name not in words:
+        return other
+    at = words.index(name)
+    value = words[at + 1]
+    del words[at:at + 2]
+    return value
+
+
 def program(words: list, name: str = "edfstore", option: str = "--program") -> tuple:
     """The program to run, and the words left: the word after `--program`, or the one that `bin/edfstore` runs, or another of bin/."""
     words = list(words)
-    if option in words:
-        at = words.index(option)
-        given = Path(words[at + 1]).resolve()
-        del words[at:at + 2]
-        return given, words
+    given = value_of(words, option, "")
+    if given:
+        return Path(given).resolve(), words
     script = '. "$0/bin/common.sh" && chosen_program "$1"'
     chosen = subprocess.run(["bash", "-c", script, TOP, name], stdout=subprocess.PIPE, text=True, check=False)
     if chosen.returncode:

@@ -323,20 +323,13 @@ def controlled(pool) -> list:
     return counts
 
 
-def option(words: list, name: str, otherwise):
-    if name not in words:
-        return otherwise
-    at = words.index(name)
-    number = int(words[at + 1])
-    del words[at:at + 2]
-    return number
-
-
 def main() -> None:
     global BENCH
     measure.need("cc")
     program, words = measure.program(sys.argv[1:])
-    seed, only = option(words, "--seed", 1), option(words, "--only", None)
+    seed = int(measure.value_of(words, "--seed", "1"))
+    only = measure.value_of(words, "--only", "")
+    only = int(only) if only else None
     numbers = range(int(words[0]) if words else 1_000) if only is None else [only]
     forking = multiprocessing.get_context("fork")
     with measure.scratch() as name:
