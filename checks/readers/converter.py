@@ -1,0 +1,109 @@
+#!/usr/bin/python3
+"""What EDFbrowser's tool "Convert EDF+D to EDF+C" keeps of the annotations and samples of exports,
+beside `edfruns split`.
+
+    checks/readers/converter.py
+
+Of two nights with gaps, one of 28,800 data records of 1 s with an annotation or two in every
+seventh, one of 960 of 30 s with two annotations in each, the canonical file is given to both. Told
+is how many annotations are in any of the files that were made, with onset, duration and text, and
+how many are there but for the end of their text. The script ends with status 1 where `edfruns
+split` loses one, or another sample is in a file of either.
+
+It needs what `of_runs.py` needs of EDFbrowser, and so Debian's own python3.
+"""
+import subprocess
+import sys
+from collections import Counter
+from pathlib import Path
+
+sys.path.insert(0, str(Path(__file__).resolve().parent.parent / "lib"))
+import edfbrowser  # noqa: E402
+import gapped  # noqa: E402
+import measure  # noqa: E402
+import model  # noqa: E402
+
+SECOND = gapped.SECOND
+STAGES = ("W", "N1", "N2", "N3", "R")
+
+
+class Scored(gapped.GappedNight):
+    """A sleep stage and an event in each data record."""
+
+    def block(self, nth: int, first: int) -> bytes:
+        start, stage = self.start_of(nth), STAGES[nth % len(STAGES)]
+        notes = (gapped.Note(0, self.seconds * SECOND, f"Sleep stage {stage}"),
+                 gapped.Note(7 * SECOND // 2, 10 * SECOND, "Hypopnea"))
+        lists = [gapped.keeping(gapped.onset(start)), *(note.to_bytes(start) for note in notes)]
+        return b"".join(lists).ljust(2 * self.annotation_samples, b"\0")
+
+
+NIGHTS = (("1 s", gapped.NIGHT),
+          ("30 s", Scored(records=960, seconds=30, samples=(3000, 3000, 750),
+                          limits=gapped.NIGHT.limits,
+                          gaps=((300, 1200 * SECOND), (700, 45 * SECOND)))))
+
+
+def told_by(paths: list) -> tuple:
+    """The annotations of all files, each with its instant, and the samples of each instant."""
+    records = [record for path in paths for record in model.read(path.read_bytes())[1]]
+    return (Counter(note for record in records for note in record.notes),
+            {record.start: record.samples for record in records})
+
+
+def cut(wanted: Counter, got: Counter) -> int:
+    """How many of the wanted that are not there have the front of their text there."""
+    missing, others = wanted - got, Counter(got - wanted)
+    found = 0
+    for at, duration, text in missing.elements():
+        front = next((note for note in others if note[:2] == (at, duration) and others[note]
+                      and text.startswith(note[2])), None)
+        if front:
+            others[front] -= 1
+            found += 1
+    return found
+
+
+def line(name: str, tool: str, whole: tuple, made: list) -> tuple:
+    notes, samples = whole
+    got, got_samples = told_by(made)
+    count = notes.total()
+    kept, fronts = (notes & got).total(), cut(notes, got)
+    same = sum(samples[start] == got_samples.get(start) for start in samples)
+    return (name, tool, len(made), f"{same:,} of {len(samples):,}", f"{kept:,} of {count:,}",
+            f"{fronts:,}", f"{count - kept - fronts:,}")
+
+
+def canonical(night, folder: Path) -> Path:
+    store, _ = measure.program([])
+    folder.mkdir()
+    given = night.whole(folder / "given.edf")
+    measure.run([store, "convert", given], out=folder / "export.edf")
+    return folder / "export.edf"
+
+
+def main() -> None:
+    measure.need(*edfbrowser.NEEDED)
+    runs, _ = measure.program([], "edfruns")
+    lines = []
+    with measure.scratch() as name:
+        browser = edfbrowser.Browser(Path(name))
+        try:
+            for number, (kind, night) in enumerate(NIGHTS):
+                path = canonical(night, Path(name) / str(number))
+                whole = told_by([path])
+                measure.run([runs, "split", path, path.parent / "run"])
+                split = sorted(path.parent.glob("run-*.edf"))
+                lines.append(line(kind, "edfruns split", whole, split))
+                lines.append(line(kind, browser.name, whole, browser.converted(path)))
+        finally:
+            browser.end()
+    measure.table(("data records of", "by", "files", "data records with their samples",
+                   "annotations as submitted", "with a cut text", "missing"), lines)
+    subprocess.run(["dpkg-query", "-W", "edfbrowser"], check=False)
+    ours = lines[::2]
+    good = all(one[3].split(" of ")[0] == one[3].split(" of ")[1] for one in lines)
+    sys.exit(0 if good and all(one[5:] == ("0", "0") for one in ours) else 1)
+
+
+main()

@@ -1,0 +1,177 @@
+#!/usr/bin/env python3
+"""What the program can't notice, or answers by a refusal that stays: the things that README and
+docs/RELIABILITY.md warn of, as they are.
+
+    checks/warned.py [--program PATH] [BITS]    100 bits of each file if left out
+
+A file of count -1 that is still being written; a recorder's clock that is set back, by two seconds
+or an hour, between two of its files; a bit that flips in a store or in an export. Answers to the
+first two are worked out by hand. Of the bits it tells how many were noticed, and by what; that a
+flipped sample is not noticed, and what a user can do about it, is compared.
+"""
+import random
+import shutil
+import subprocess
+import sys
+from collections import Counter
+from datetime import datetime, timedelta
+from pathlib import Path
+
+sys.path.insert(0, str(Path(__file__).resolve().parent / "lib"))
+import edf  # noqa: E402
+import measure  # noqa: E402
+from checks import Checks  # noqa: E402
+from edf import Header, Signal, keeping  # noqa: E402
+
+BEGUN = datetime(2002, 10, 27, 1, 0)
+SIGNALS = (Signal(samples="20"), edf.annotations_signal(20))
+WIDE = (Signal(samples="1000"), Signal("ECG", samples="1000"), edf.annotations_signal(30))
+
+
+def header(clock: datetime, count: int, duration: int = 1, signals=SIGNALS) -> Header:
+    day = clock.strftime("%d-%b-%Y").upper()
+    return Header(signals, clock.strftime("%d.%m.%y"), clock.strftime("%H.%M.%S"),
+                  recording=f"Startdate {day} N1 T3 REC5", reserved="EDF+C", count=str(count),
+                  duration=str(duration))
+
+
+def records(first: int, count: int, duration: int = 1) -> list:
+    """Data records of other samples each, by their number since the recording began."""
+    return [(random.Random(first + n).randbytes(40), keeping(f"+{n * duration}"))
+            for n in range(count)]
+
+
+def still_written(checks: Checks) -> None:
+    checks.begin("a file of count -1 that is still being written")
+    head = header(BEGUN, -1)
+    whole = edf.fragment(head, records(0, 10))
+    record = len(edf.data_record(head, *records(0, 1)[0]))
+    front = len(head.to_bytes())
+    checks.file("now.edf", whole[:front + 4 * record])
+    checks.run("take", "a.db", "now.edf", out="now.edf accepted new=4 known=0\n")
+    checks.file("now.edf", whole[:front + 6 * record + 1])
+    checks.run("take", "a.db", "now.edf", out="now.edf refused E21 CutRecord record=7\n", status=1)
+    checks.file("now.edf", whole)
+    checks.run("take", "a.db", "now.edf", out="now.edf accepted new=6 known=4\n")
+
+
+def files(checks: Checks, count: int, duration: int, back: timedelta, before: int) -> list:
+    """Files of ten minutes each; from the file after `before` on the clock is set back."""
+    names = [f"{n + 1}.edf" for n in range(count)]
+    each = 600 // duration
+    for n, name in enumerate(names):
+        clock = BEGUN + timedelta(minutes=10 * n) - (back if n >= before else timedelta())
+        head = header(clock, each, duration)
+        checks.file(name, edf.fragment(head, records(n * each, each, duration)))
+    return names
+
+
+def answers(names: list, each: int, refused: dict) -> str:
+    return "".join(f"{name} " + (f"refused {refused[name]}\n" if name in refused
+                                 else f"accepted new={each} known=0\n") for name in names)
+
+
+def clock_set_back(checks: Checks) -> None:
+    two, hour = timedelta(seconds=2), timedelta(hours=1)
+    checks.begin("two seconds back after the third of six files")
+    names = files(checks, 6, 1, two, 3)
+    refused = {"4.edf": "E31 Differs start=2002-10-27T01:29:58"}
+    checks.run("take", "a.db", *names, out=answers(names, 600, refused), status=1)
+    checks.run("take", "a.db", "4.edf", out=answers(["4.edf"], 600, refused), status=1)
+    checks.run("list", "a.db", out="1 records=3000 first=2002-10-27T01:00:00 patient=P7 "
+               "investigation=N1\n")
+    checks.run("take", "other.db", "4.edf", out="4.edf accepted new=600 known=0\n")
+    checks.begin("the same of data records of 30 s")
+    names = files(checks, 6, 30, two, 3)
+    refused = {"4.edf": "E30 Overlap start=2002-10-27T01:29:58 stored=2002-10-27T01:29:30"}
+    checks.run("take", "a.db", *names, out=answers(names, 20, refused), status=1)
+    checks.begin("an hour back after the twelfth of 24 files: the export has no gap")
+    names = files(checks, 24, 1, hour, 12)
+    refused = {f"{13 + n}.edf": f"E31 Differs start=2002-10-27T02:{n}0:00" for n in range(6)}
+    checks.run("take", "a.db", *names, out=answers(names, 600, refused), status=1)
+    checks.run("list", "a.db", out="1 records=10800 first=2002-10-27T01:00:00 patient=P7 "
+               "investigation=N1\n")
+
+
+def ran(checks: Checks, *words: str) -> subprocess.CompletedProcess:
+    return subprocess.run([checks.program, *words], cwd=checks.folder, capture_output=True,
+                          check=False)
+
+
+def flipped(data: bytes, at: int, bit: int) -> bytes:
+    return data[:at] + bytes([data[at] ^ 1 << bit]) + data[at + 1:]
+
+
+def wide_night(checks: Checks) -> tuple:
+    """A store of 60 data records, its bytes and its export."""
+    head = header(BEGUN, 60, signals=WIDE)
+    rows = [(random.Random(n).randbytes(4000), keeping(f"+{n}") + edf.tal(f"+{n}.25", "Spindle"))
+            for n in range(60)]
+    checks.file("night.edf", edf.fragment(head, rows))
+    checks.run("take", "night.db", "night.edf", out="night.edf accepted new=60 known=0\n")
+    export = ran(checks, "export", "night.db", "1").stdout
+    checks.file("export.edf", export)
+    return checks.content("night.db"), export
+
+
+def put_store(checks: Checks, data: bytes) -> None:
+    checks.file("other.db", data)
+    shutil.copy(checks.folder / "night.db-wal", checks.folder / "other.db-wal")
+
+
+def one_sample(checks: Checks, store: bytes, export: bytes) -> None:
+    """The same sample's bit, in the store and in the export."""
+    samples = random.Random(0).randbytes(4000)
+    put_store(checks, flipped(store, store.index(samples[:64]) + 10, 2))
+    changed = flipped(export, export.index(samples[:64]) + 10, 2)
+    checks.run("list", "other.db", out=ran(checks, "list", "night.db").stdout)
+    checks.run("export", "other.db", "1", out=changed)
+    checks.file("changed.edf", changed)
+    checks.run("convert", "changed.edf", out=changed)
+    start = "E31 Differs start=2002-10-27T01:00:00"
+    checks.run("take", "night.db", "changed.edf", out=f"changed.edf refused {start}\n", status=1)
+    checks.run("take", "other.db", "night.edf", out=f"night.edf refused {start}\n", status=1)
+
+
+def outcome_of_store(checks: Checks, export: bytes) -> str:
+    told = ran(checks, "export", "other.db", "1")
+    if told.returncode:
+        return "refused " + told.stderr.decode().split()[2]
+    return "an export as before" if told.stdout == export else "another export, without a word"
+
+
+def outcome_of_export(checks: Checks, store: bytes) -> tuple:
+    converted = ran(checks, "convert", "other.edf")
+    put_store(checks, store)
+    line = ran(checks, "take", "other.db", "other.edf").stdout.decode().split()
+    return ("convert: " + ("taken, without a word" if converted.returncode == 0 else "refused"),
+            "take into its store: " + (" ".join(line[1:]) if line[1] == "accepted" else "refused"))
+
+
+def bits(checks: Checks, count: int) -> None:
+    checks.begin("a bit that flips")
+    store, export = wide_night(checks)
+    one_sample(checks, store, export)
+    chosen, found = random.Random(11), {"store": Counter(), "export": Counter()}
+    for _ in range(count):
+        put_store(checks, flipped(store, chosen.randrange(len(store)), chosen.randrange(8)))
+        found["store"][outcome_of_store(checks, export)] += 1
+        at, bit = chosen.randrange(len(export)), chosen.randrange(8)
+        checks.file("other.edf", flipped(export, at, bit))
+        found["export"].update(outcome_of_export(checks, store))
+    for name, counted in found.items():
+        print(f"{count} bits of the {name}, one at a time: " + "; ".join(
+            f"{times} {what}" for what, times in counted.most_common()))
+
+
+def main() -> None:
+    program, words = measure.program(sys.argv[1:])
+    with measure.scratch() as name:
+        checks = Checks(program, Path(name))
+        still_written(checks)
+        clock_set_back(checks)
+        bits(checks, int(words[0]) if words else 100)
+        checks.end()
+
+
+main()
