@@ -4,8 +4,8 @@ docs/RELIABILITY.md warn of, as they are.
 
     checks/warned.py [--program PATH] [BITS]    100 bits of each file if left out
 
-A file of count -1 that is still being written; a recorder's clock that is set back, by two seconds
-or an hour, between two of its files; a bit that flips in a store or in an export. Answers to the
+A file of count -1 that is still being written; a recorder's clock that is set while it records, by
+two seconds or an hour; a bit that flips in a store or in an export. Answers to the
 first two are worked out by hand. Of the bits it tells how many were noticed, and by what; that a
 flipped sample is not noticed, and what a user can do about it, is compared.
 """
@@ -20,6 +20,7 @@ from pathlib import Path
 sys.path.insert(0, str(Path(__file__).resolve().parent / "lib"))
 import edf  # noqa: E402
 import measure  # noqa: E402
+import runs  # noqa: E402
 from checks import Checks  # noqa: E402
 from edf import Header, Signal, keeping  # noqa: E402
 
@@ -71,26 +72,52 @@ def answers(names: list, each: int, refused: dict) -> str:
                                  else f"accepted new={each} known=0\n") for name in names)
 
 
-def clock_set_back(checks: Checks) -> None:
-    two, hour = timedelta(seconds=2), timedelta(hours=1)
+def stored(checks: Checks, *lines: str) -> None:
+    """Compares the runs of the export, by the model, with these lines of `edfruns list`."""
+    export = ran(checks, "export", "a.db", "1").stdout
+    wanted = "".join(f"{one}\n" for one in lines)
+    checks.same("the runs", runs.lines(runs.read_runs(export)), wanted)
+
+
+def two_seconds_back(checks: Checks) -> None:
     checks.begin("two seconds back after the third of six files")
-    names = files(checks, 6, 1, two, 3)
+    names = files(checks, 6, 1, timedelta(seconds=2), 3)
     refused = {"4.edf": "E31 Differs start=2002-10-27T01:29:58"}
     checks.run("take", "a.db", *names, out=answers(names, 600, refused), status=1)
     checks.run("take", "a.db", "4.edf", out=answers(["4.edf"], 600, refused), status=1)
-    checks.run("list", "a.db", out="1 records=3000 first=2002-10-27T01:00:00 patient=P7 "
-               "investigation=N1\n")
+    stored(checks, "1 records=1800 first=2002-10-27T01:00:00 seconds=1800 gap=598",
+           "2 records=1200 first=2002-10-27T01:39:58 seconds=1200")
     checks.run("take", "other.db", "4.edf", out="4.edf accepted new=600 known=0\n")
+    checks.file("card.edf", edf.fragment(header(BEGUN, 3600), records(0, 3600)))
+    card = {"card.edf": "E31 Differs start=2002-10-27T01:39:58"}
+    checks.run("take", "a.db", "card.edf", out=answers(["card.edf"], 3600, card), status=1)
+    late = {"3.edf": "E31 Differs start=2002-10-27T01:29:58"}
+    checks.run("take", "late.db", "4.edf", "3.edf", out=answers(["4.edf", "3.edf"], 600, late),
+               status=1)
     checks.begin("the same of data records of 30 s")
-    names = files(checks, 6, 30, two, 3)
+    names = files(checks, 6, 30, timedelta(seconds=2), 3)
     refused = {"4.edf": "E30 Overlap start=2002-10-27T01:29:58 stored=2002-10-27T01:29:30"}
     checks.run("take", "a.db", *names, out=answers(names, 20, refused), status=1)
-    checks.begin("an hour back after the twelfth of 24 files: the export has no gap")
-    names = files(checks, 24, 1, hour, 12)
+    stored(checks, "1 records=60 first=2002-10-27T01:00:00 seconds=1800 gap=598",
+           "2 records=40 first=2002-10-27T01:39:58 seconds=1200")
+
+
+def other_changes(checks: Checks) -> None:
+    checks.begin("an hour back after the twelfth of 24 files")
+    names = files(checks, 24, 1, timedelta(hours=1), 12)
     refused = {f"{13 + n}.edf": f"E31 Differs start=2002-10-27T02:{n}0:00" for n in range(6)}
     checks.run("take", "a.db", *names, out=answers(names, 600, refused), status=1)
-    checks.run("list", "a.db", out="1 records=10800 first=2002-10-27T01:00:00 patient=P7 "
-               "investigation=N1\n")
+    stored(checks, "1 records=10800 first=2002-10-27T01:00:00 seconds=10800")
+    checks.begin("two seconds forward after the first of two files")
+    names = files(checks, 2, 1, timedelta(seconds=-2), 1)
+    checks.run("take", "a.db", *names, out=answers(names, 600, {}))
+    stored(checks, "1 records=600 first=2002-10-27T01:00:00 seconds=600 gap=2",
+           "2 records=600 first=2002-10-27T01:10:02 seconds=600")
+    checks.begin("two seconds back inside a file, its onsets by the clock")
+    rows = [(samples, keeping(f"+{n if n < 5 else n - 2}"))
+            for n, (samples, _) in enumerate(records(0, 10))]
+    checks.file("night.edf", edf.fragment(header(BEGUN, 10), rows))
+    checks.run("take", "a.db", "night.edf", out="night.edf refused E27 Order record=6\n", status=1)
 
 
 def ran(checks: Checks, *words: str) -> subprocess.CompletedProcess:
@@ -145,7 +172,7 @@ def outcome_of_export(checks: Checks, store: bytes) -> tuple:
     put_store(checks, store)
     line = ran(checks, "take", "other.db", "other.edf").stdout.decode().split()
     return ("convert: " + ("taken, without a word" if converted.returncode == 0 else "refused"),
-            "take into its store: " + (" ".join(line[1:]) if line[1] == "accepted" else "refused"))
+            "take into its store: " + " ".join(line[1:] if line[1] == "accepted" else line[1:3]))
 
 
 def bits(checks: Checks, count: int) -> None:
@@ -169,7 +196,8 @@ def main() -> None:
     with measure.scratch() as name:
         checks = Checks(program, Path(name))
         still_written(checks)
-        clock_set_back(checks)
+        two_seconds_back(checks)
+        other_changes(checks)
         bits(checks, int(words[0]) if words else 100)
         checks.end()
 
