@@ -5,7 +5,7 @@ docs/RELIABILITY.md warn of, as they are.
     checks/warned.py [--program PATH] [BITS]    100 bits of each file if left out
 
 A file of count -1 that is still being written; a recorder's clock that is set while it records, by
-two seconds or an hour; a bit that flips in a store or in an export. Answers to the
+two seconds or an hour; a bit that flips in a store, its log or an export. Answers to the
 first two are worked out by hand. Of the bits it tells how many were noticed, and by what; that a
 flipped sample is not noticed, and what a user can do about it, is compared.
 """
@@ -13,6 +13,7 @@ import random
 import shutil
 import subprocess
 import sys
+import time
 from collections import Counter
 from datetime import datetime, timedelta
 from pathlib import Path
@@ -20,6 +21,7 @@ from pathlib import Path
 sys.path.insert(0, str(Path(__file__).resolve().parent / "lib"))
 import edf  # noqa: E402
 import measure  # noqa: E402
+import model  # noqa: E402
 import runs  # noqa: E402
 from checks import Checks  # noqa: E402
 from edf import Header, Signal, keeping  # noqa: E402
@@ -186,9 +188,57 @@ def bits(checks: Checks, count: int) -> None:
         at, bit = chosen.randrange(len(export)), chosen.randrange(8)
         checks.file("other.edf", flipped(export, at, bit))
         found["export"].update(outcome_of_export(checks, store))
-    for name, counted in found.items():
-        print(f"{count} bits of the {name}, one at a time: " + "; ".join(
-            f"{times} {what}" for what, times in counted.most_common()))
+    tell(f"{count} bits of a store of {len(store)} bytes", found["store"])
+    tell(f"{count} bits of its export of {len(export)} bytes", found["export"])
+
+
+def tell(what: str, found: Counter) -> None:
+    print(f"{what}, one at a time: "
+          + "; ".join(f"{times} {answer}" for answer, times in found.most_common() if times))
+
+
+def killed(checks: Checks) -> None:
+    """A store of four files, whose `take` is killed while it waits for a fifth."""
+    names = [f"{n}.edf" for n in range(4)]
+    for n, name in enumerate(names):
+        rows = [(random.Random(100 * n + at).randbytes(4000), keeping(f"+{at}"))
+                for at in range(10)]
+        head = header(BEGUN + timedelta(minutes=n), 10, signals=WIDE)
+        checks.file(name, edf.fragment(head, rows))
+    log = checks.folder / "night.db-wal"
+    with subprocess.Popen([checks.program, "take", "night.db", *names, "-"], cwd=checks.folder,
+                          stdin=subprocess.PIPE, stdout=subprocess.DEVNULL) as taking:
+        before = 0
+        while not before or log.stat().st_size != before:
+            before = log.stat().st_size if log.exists() else 0
+            time.sleep(1)
+        taking.kill()
+
+
+def outcome_of_log(checks: Checks, log: bytes, export: bytes) -> str:
+    for name, data in (("other.db", checks.content("night.db")), ("other.db-wal", log)):
+        checks.file(name, data)
+    told = ran(checks, "export", "other.db", "1").stdout
+    if told == export:
+        return "an export as before"
+    fewer = [] if not told else model.read(told)[1]
+    fits = fewer == model.read(export)[1][:len(fewer)]
+    return f"the first {len(fewer) // 10} files, without a word" if fits else "ANOTHER export"
+
+
+def bits_of_log(checks: Checks, count: int) -> None:
+    checks.begin("a bit that flips in the log of a take that was killed")
+    killed(checks)
+    log, chosen, found = checks.content("night.db-wal"), random.Random(3), Counter()
+    checks.file("copy.db", checks.content("night.db"))
+    checks.file("copy.db-wal", log)
+    export = ran(checks, "export", "copy.db", "1").stdout
+    checks.same("the data records held", len(model.read(export)[1]), 40)
+    for _ in range(count):
+        changed = flipped(log, chosen.randrange(len(log)), chosen.randrange(8))
+        found[outcome_of_log(checks, changed, export)] += 1
+    checks.same("other exports", found["ANOTHER export"], 0)
+    tell(f"{count} bits of a log of {len(log)} bytes", found)
 
 
 def main() -> None:
@@ -198,7 +248,9 @@ def main() -> None:
         still_written(checks)
         two_seconds_back(checks)
         other_changes(checks)
-        bits(checks, int(words[0]) if words else 100)
+        count = int(words[0]) if words else 100
+        bits(checks, count)
+        bits_of_log(checks, count)
         checks.end()
 
 
