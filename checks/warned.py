@@ -28,6 +28,7 @@ from edf import Header, Signal, keeping  # noqa: E402
 
 BEGUN = datetime(2002, 10, 27, 1, 0)
 SIGNALS = (Signal(samples="20"), edf.annotations_signal(20))
+FIRST_PAGE = 100        # a byte of a log's first page, behind its header and that page's own
 WIDE = (Signal(samples="1000"), Signal("ECG", samples="1000"), edf.annotations_signal(30))
 
 
@@ -215,9 +216,13 @@ def killed(checks: Checks) -> None:
         taking.kill()
 
 
-def outcome_of_log(checks: Checks, log: bytes, export: bytes) -> str:
+def put_log(checks: Checks, log: bytes) -> None:
     for name, data in (("other.db", checks.content("night.db")), ("other.db-wal", log)):
         checks.file(name, data)
+
+
+def outcome_of_log(checks: Checks, log: bytes, export: bytes) -> str:
+    put_log(checks, log)
     told = ran(checks, "export", "other.db", "1").stdout
     if told == export:
         return "an export as before"
@@ -238,6 +243,10 @@ def bits_of_log(checks: Checks, count: int) -> None:
         changed = flipped(log, chosen.randrange(len(log)), chosen.randrange(8))
         found[outcome_of_log(checks, changed, export)] += 1
     checks.same("other exports", found["ANOTHER export"], 0)
+    put_log(checks, flipped(log, FIRST_PAGE, 0))
+    again = "".join(f"{n}.edf accepted new=10 known=0\n" for n in range(4))
+    checks.run("take", "other.db", *(f"{n}.edf" for n in range(4)), out=again)
+    checks.run("export", "other.db", "1", out=export)
     tell(f"{count} bits of a log of {len(log)} bytes", found)
 
 
