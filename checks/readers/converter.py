@@ -2,7 +2,7 @@
 """What EDFbrowser's tool "Convert EDF+D to EDF+C" keeps of the annotations and samples of exports,
 beside `edfruns split`.
 
-    checks/readers/converter.py
+    checks/readers/converter.py [--program PATH] [--edfruns PATH]
 
 Of three nights with gaps the canonical file is given to both: of 28,800 data records of 1 s with an
 annotation or two in every seventh; of 960 of 30 s with a sleep stage in each; and of these with an
@@ -99,25 +99,25 @@ def is_all(told: str) -> bool:
     return found == count
 
 
-def canonical(night, folder: Path) -> Path:
-    store, _ = measure.program([])
+def canonical(edfstore: Path, night, folder: Path) -> Path:
     folder.mkdir()
     given = night.whole(folder / "given.edf")
-    measure.run([store, "convert", given], out=folder / "export.edf")
+    measure.run([edfstore, "convert", given], out=folder / "export.edf")
     return folder / "export.edf"
 
 
 def main() -> None:
     measure.need(*edfbrowser.NEEDED)
-    runs, _ = measure.program([], "edfruns")
+    edfstore, words = measure.program(sys.argv[1:])
+    edfruns, _ = measure.program(words, "edfruns", "--edfruns")
     lines = []
     with measure.scratch() as name:
         browser = edfbrowser.Browser(Path(name))
         try:
             for number, (kind, night) in enumerate(NIGHTS):
-                path = canonical(night, Path(name) / str(number))
+                path = canonical(edfstore, night, Path(name) / str(number))
                 whole = told_by([path])
-                measure.run([runs, "split", path, path.parent / "run"])
+                measure.run([edfruns, "split", path, path.parent / "run"])
                 split = sorted(path.parent.glob("run-*.edf"))
                 lines.append(line(kind, "edfruns split", whole, split))
                 lines.append(line(kind, browser.name, whole, browser.converted(path)))
