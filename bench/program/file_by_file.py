@@ -3,8 +3,8 @@
 
     bench/program/file_by_file.py [--program PATH]
 
-A night of 195 MB in 96 files of 300 data records of 1 s, in the order of time. They are taken into a
-new store one a call, then four, twelve and all 96 a call, and copied by `cat` with a sync a file.
+A night of 195 MB in 96 files of 300 data records of 1 s, in the order of time. They are taken into
+a new store one a call, then four, twelve and all 96 a call, and copied by `cat` with a sync a file.
 Told are seconds of processor, the system's among them, and by the clock; the store's size at each
 opening, summed; what the calls asked the system to read, the night's own files among it; the most
 memory of a call; the store in the end. Each call opens the store, which reads all of it, so each
