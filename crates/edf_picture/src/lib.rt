@@ -15,7 +15,6 @@
 mod bars;
 mod bins;
 mod drawing;
-mod escape;
 mod extent;
 mod heading;
 mod hypnogram;
