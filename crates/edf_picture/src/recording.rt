@@ -35,6 +35,15 @@ impl<'a> Recording<'a> {
         Extent::of(stretch, self.duration)
     }
 
+    /// The run that has the instant.
+    pub(crate) fn run_at(&self, at: u64) -> Option<Extent> {
+        let next = self
+            .stretches
+            .partition_point(|stretch| stretch.first.nanos() <= at);
+        let run = self.extent_of(self.stretches.get(next.checked_sub(1)?)?);
+        if run.has(at) { Some(run) } else { None }
+    }
+
     pub(crate) fn runs(&self) -> u64 {
         u64::try_from(self.stretches.len()).unwrap_or(u64::MAX)
     }
