@@ -234,10 +234,7 @@ fn tell_changes(sketch: &mut Sketch, count: i64, backwards: bool) -> Result<(), 
 
 /// How many changes are told, in which order, and whether some are left out. A day has 50 seconds
 /// for half a pixel, whose middle is an odd one.
-const CHANGES: &[(i64, bool, bool)] = &[
-    (32_768, false, false),
-    (32_769, true, true),
-];
+const CHANGES: &[(i64, bool, bool)] = &[(32_768, false, false), (32_769, true, true)];
 
 #[test]
 fn the_first_changes_of_stage_are_drawn(rt: HostRuntime) -> Result<(), Fail> {
@@ -245,12 +242,7 @@ fn the_first_changes_of_stage_are_drawn(rt: HostRuntime) -> Result<(), Fail> {
     for (count, backwards, lacks_some) in CHANGES.iter().copied() {
         let mut sketch = Sketch::new(alloc);
         tell_changes(&mut sketch, count, backwards)?;
-        let svg = drawn(
-            alloc,
-            &sketch,
-            b"P7",
-            &stretches(alloc, &[(0, 86_400)])?,
-        )?;
+        let svg = drawn(alloc, &sketch, b"P7", &stretches(alloc, &[(0, 86_400)])?)?;
         assert!(rt; svg.contains("<path class='s' d='M112 66H439.5'>"), "{count}");
         let told = svg.contains("(the first ones are drawn)");
         assert_eq!(rt; told, lacks_some, "{count}");
