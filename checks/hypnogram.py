@@ -85,6 +85,15 @@ def run_end(runs: list, at: int):
     return next((end for start, end in runs if start <= at < end), None)
 
 
+def seen_runs(runs: list) -> list:
+    """The runs, those as one between which is less than half a pixel."""
+    seen = [runs[0]]
+    for start, end in runs[1:]:
+        is_seen = start - seen[-1][1] >= runs[-1][1] // COLUMNS
+        seen.append((start, end) if is_seen else (seen.pop()[0], end))
+    return seen
+
+
 def spans_of(runs: list, told: list) -> list:
     """From when to when each stage holds, in time order; of those with one onset the last holds."""
     stages = sorted({stage.onset: stage for stage in told}.values(), key=lambda stage: stage.onset)
@@ -105,7 +114,7 @@ def spans_of(runs: list, told: list) -> list:
 
 def wanted(runs: list, told: list) -> list:
     """The height of the line in each half pixel, by the instant in its middle."""
-    spans, heights = spans_of(runs, told), []
+    spans, heights = spans_of(seen_runs(runs), told), []
     onsets = [start for start, _, _ in spans]
     for column in range(COLUMNS):
         middle = runs[-1][1] * (2 * column + 1) // (2 * COLUMNS)

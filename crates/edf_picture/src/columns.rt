@@ -12,6 +12,8 @@ const COLUMNS: u64 = ACROSS * 2;
 #[derive(Drop)]
 pub(crate) struct Columns<'a> {
     recording: Recording<'a>,
+    /// The runs, as one where the gap between them is narrower than a column.
+    runs: Vec<Extent>,
     /// The columns from the left on, up to where the stages are known.
     shown: Vec<Option<Stage>>,
     /// The last epoch, which ends at the next one at the latest.
@@ -28,12 +30,38 @@ pub(crate) fn list_columns(
 ) -> Result<Vec<Option<Stage>>, AllocError> {
     let mut columns = Columns {
         recording: *recording,
+        runs: list_runs(alloc, recording)?,
         shown: Vec::new(alloc),
         open: None,
         lengths: Lengths::None,
     };
     stages.show(&mut columns)?;
     Ok(columns.shown)
+}
+
+/// The runs, each with the next one where the gap between them is narrower than a column.
+fn list_runs(alloc: Global, recording: &Recording<'_>) -> Result<Vec<Extent>, AllocError> {
+    let column = recording.all.length() / COLUMNS;
+    let mut runs = Vec::new(alloc);
+    let mut open: Option<Extent> = None;
+    for stretch in recording.stretches {
+        let run = recording.extent_of(stretch);
+        open = Some(match open {
+            Some(before) if run.from.saturating_sub(before.to) < column => Extent {
+                from: before.from,
+                to: run.to,
+            },
+            Some(before) => {
+                runs.push(before)?;
+                run
+            }
+            None => run,
+        });
+    }
+    if let Some(last) = open {
+        runs.push(last)?;
+    }
+    Ok(runs)
 }
 
 impl Columns<'_> {
@@ -49,12 +77,19 @@ impl Columns<'_> {
         let Some(epoch) = self.open.take() else {
             return Ok(());
         };
-        let run = self.recording.run_at(epoch.onset);
+        let run = self.run_at(epoch.onset);
         let end = epoch.end(next, self.lengths.agreed());
         if let Some(length) = epoch.length(next, end, run) {
             self.lengths = self.lengths.and(length);
         }
         self.show(epoch, run.map_or(end, |run| end.min(run.to)))
+    }
+
+    /// The one of the runs that has the instant.
+    fn run_at(&self, at: u64) -> Option<Extent> {
+        let next = self.runs.partition_point(|run| run.from <= at);
+        let run = *self.runs.get(next.checked_sub(1)?)?;
+        if run.has(at) { Some(run) } else { None }
     }
 
     /// Shows an epoch up to its end, in the columns whose middle was recorded.
@@ -67,7 +102,7 @@ impl Columns<'_> {
             }
             let is_shown = epoch.onset <= middle
                 && epoch.stage != Stage::Untold
-                && self.recording.run_at(middle).is_some();
+                && self.recording.has_recorded(middle);
             self.shown
                 .push(if is_shown { Some(epoch.stage) } else { None })?;
         }

@@ -15,8 +15,9 @@
 //! without a duration holds until the next one's onset, but no longer than those before it, where
 //! two or more of them have a length and all lengths are the same; the last one holds 30 seconds
 //! where they don't agree. A length is a duration, or the time to the next one in the same run. A
-//! stage ends at a later one's onset, and at the end of the run that has its own onset. Nothing is
-//! drawn where nothing was recorded: half a pixel shows the stage at the instant in its middle.
+//! stage ends at a later one's onset, and at the end of the run that has its own; runs with a gap
+//! narrower than half a pixel between them count as one here. Nothing is drawn where nothing was
+//! recorded: half a pixel shows the stage at the instant in its middle, if that lies in a run.
 //!
 //! Every call returns, for any arguments; what a picture shows is tested.
 #![tactic(auto)]

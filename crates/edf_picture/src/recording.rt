@@ -35,13 +35,13 @@ impl<'a> Recording<'a> {
         Extent::of(stretch, self.duration)
     }
 
-    /// The run that has the instant.
-    pub(crate) fn run_at(&self, at: u64) -> Option<Extent> {
+    /// Whether a run has the instant.
+    pub(crate) fn has_recorded(&self, at: u64) -> bool {
         let next = self
             .stretches
             .partition_point(|stretch| stretch.first.nanos() <= at);
-        let run = self.extent_of(self.stretches.get(next.checked_sub(1)?)?);
-        if run.has(at) { Some(run) } else { None }
+        let run = self.stretches.get(next.saturating_sub(1));
+        run.is_some_and(|run| self.extent_of(run).has(at))
     }
 
     pub(crate) fn runs(&self) -> u64 {

@@ -159,6 +159,20 @@ const NIGHTS: &[Night] = &[
         "M112 12H212V66H312M312.5 12H412",
         "N3",
     ),
+    (
+        "a gap narrower than half a pixel ends no stage",
+        &[(0, 2_855), (2_856, 5_784)],
+        &[(0, 0, 144, "N2"), (4_320, 30, 144, "W")],
+        "M112 66H544V12H976",
+        "N3",
+    ),
+    (
+        "a gap of half a pixel ends a stage",
+        &[(0, 2_855), (2_860, 5_780)],
+        &[(0, 30, 288, "N2")],
+        "M112 66H397.5M400 66H976",
+        "N3",
+    ),
 ];
 
 /// The instant of a second of the recording.
