@@ -257,7 +257,10 @@ fn the_first_changes_of_stage_are_drawn(rt: HostRuntime) -> Result<(), Fail> {
         let mut sketch = Sketch::new(alloc);
         tell_changes(&mut sketch, count, backwards)?;
         let svg = drawn(alloc, &sketch, b"P7", &stretches(alloc, &[(0, 86_400)])?)?;
-        assert!(rt; svg.contains("<path class='s' d='M112 66H439.5'>"), "{count}");
+        assert!(rt;
+            svg.contains("<path class='s' d='M112 66H439.5'>"),
+            "{count}"
+        );
         let told = svg.contains("(the first ones are drawn)");
         assert_eq!(rt; told, lacks_some, "{count}");
     }
