@@ -2,7 +2,7 @@ use crate::bars::{write_data_row, write_folded_row, write_row_start};
 use crate::bins::Bins;
 use crate::extent::Stretch;
 use crate::heading::{Counts, Heading, Title};
-use crate::hypnogram::Hypnogram;
+use crate::hypnogram::{HEIGHT, Hypnogram};
 use crate::pixels::{LEFT, Pixels};
 use crate::recording::Recording;
 use crate::rows::{Row, list_rows, total_height};
@@ -87,7 +87,7 @@ impl Sketch {
             all,
             stages,
             outside: all.saturating_sub(inside),
-            lacks_stages: self.stages.is_full(),
+            lacks_stages: self.stages.lacks_some(),
         }
     }
 
@@ -106,7 +106,7 @@ impl Sketch {
         }
         drawn.open_group()?;
         hypnogram.write(&mut drawn.svg, alloc, recording, &self.stages)?;
-        drawn.close_group(hypnogram.height())
+        drawn.close_group(HEIGHT)
     }
 
     /// Draws the scale and the rows.

@@ -1,8 +1,8 @@
-use crate::escape::escaped;
 use crate::numbers::{counted, thousands};
 use crate::pixels::LEFT;
 use crate::recording::Recording;
 use crate::times::instant_label;
+use edf_markup::escaped;
 use std::alloc::{AllocError, Global};
 
 /// What the title names.

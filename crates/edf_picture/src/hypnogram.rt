@@ -1,9 +1,10 @@
+use crate::columns::list_columns;
 use crate::extent::Extent;
 use crate::labels::{Label, Labels};
 use crate::marks::{Mark, list_marks};
-use crate::pixels::{ACROSS, LEFT, Pixels, RIGHT};
+use crate::pixels::{LEFT, Pixels, RIGHT};
 use crate::recording::Recording;
-use crate::stages::{Epoch, Stage, Stages, stage_at};
+use crate::stages::{Stage, Stages};
 use crate::times::{DAY, HOUR, MINUTE, SECOND, clock_label, date_label};
 use std::alloc::{AllocError, Global};
 
@@ -11,7 +12,7 @@ use std::alloc::{AllocError, Global};
 #[derive(Clone, Copy)]
 pub(crate) struct Hypnogram {
     has_new_names: bool,
-    has_fourth: bool,
+    has_deep_number: bool,
 }
 
 /// The pixels between two stages.
@@ -20,8 +21,11 @@ const STEP: u64 = 18;
 /// The stage of Wake, in pixels below the top.
 const TOP: u64 = 12;
 
-/// Half pixels across.
-const COLUMNS: u64 = ACROSS * 2;
+/// The lowest stage.
+const FLOOR: u64 = TOP + 4 * STEP;
+
+/// Its height with the scale below it, in pixels.
+pub(crate) const HEIGHT: u64 = FLOOR + 56;
 
 impl Hypnogram {
     /// A hypnogram, where a stage is told.
@@ -31,29 +35,21 @@ impl Hypnogram {
         }
         Some(Hypnogram {
             has_new_names: stages.has_new_names,
-            has_fourth: stages.has_fourth,
+            has_deep_number: stages.has_deep_number,
         })
     }
 
-    /// The height of the lowest stage.
-    fn floor(self) -> u64 {
-        if self.has_fourth {
-            TOP + 5 * STEP
-        } else {
-            TOP + 4 * STEP
-        }
-    }
-
-    /// Its height with the scale below it, in pixels.
-    pub(crate) fn height(self) -> u64 {
-        self.floor().saturating_add(56)
-    }
-
-    fn names(self) -> [&'static str; 6] {
+    /// The names of the stages from above. Stages 3 and 4 are both N3.
+    fn names(self) -> [&'static str; 5] {
+        let deep = match (self.has_deep_number, self.has_new_names) {
+            (true, _) => "N3 (3, 4)",
+            (false, true) => "N3",
+            (false, false) => "3",
+        };
         if self.has_new_names {
-            ["W", "R", "N1", "N2", "N3", "4"]
+            ["W", "R", "N1", "N2", deep]
         } else {
-            ["W", "R", "1", "2", "3", "4"]
+            ["W", "R", "1", "2", deep]
         }
     }
 
@@ -68,11 +64,11 @@ impl Hypnogram {
         self.write_gaps(svg, alloc, recording)?;
         self.write_levels(svg)?;
         self.write_scale(svg, alloc, recording.all)?;
-        let epochs = stages.sorted(alloc)?;
+        let columns = list_columns(alloc, recording, stages)?;
         svg.push_str("<path class='q' d='")?;
-        write_steps(svg, &epochs, recording.all, Some(Stage::Rem))?;
+        write_steps(svg, &columns, Some(Stage::Rem))?;
         svg.push_str("'/><path class='s' d='")?;
-        write_steps(svg, &epochs, recording.all, None)?;
+        write_steps(svg, &columns, None)?;
         svg.push_str("'><title>Stages of sleep over the whole recording</title></path>")
     }
 
@@ -80,11 +76,9 @@ impl Hypnogram {
         let x = LEFT.saturating_sub(8);
         let mut y = TOP;
         for name in self.names() {
-            if y <= self.floor() {
-                let foot = y.saturating_add(4);
-                write!(svg, "<path class='l' d='M{LEFT} {y}H{RIGHT}'/>")?;
-                write!(svg, "<text class='e' x='{x}' y='{foot}'>{name}</text>")?;
-            }
+            let foot = y.saturating_add(4);
+            write!(svg, "<path class='l' d='M{LEFT} {y}H{RIGHT}'/>")?;
+            write!(svg, "<text class='e' x='{x}' y='{foot}'>{name}</text>")?;
             y = y.saturating_add(STEP);
         }
         Ok(())
@@ -96,7 +90,7 @@ impl Hypnogram {
         alloc: Global,
         recording: &Recording<'_>,
     ) -> Result<(), AllocError> {
-        let height = self.floor().saturating_add(6);
+        let height = FLOOR + 6;
         svg.push_str("<path class='h' d='")?;
         for mark in &list_marks(alloc, recording, recording.all)? {
             write_gap(svg, mark, recording.all, height)?;
@@ -112,10 +106,7 @@ impl Hypnogram {
             .checked_div(step)
             .unwrap_or(0)
             .min(from.saturating_add(20));
-        let (y, foot) = (
-            self.floor().saturating_add(6),
-            self.floor().saturating_add(12),
-        );
+        let (y, foot) = (FLOOR + 6, FLOOR + 12);
         let mut labels = Labels::new(alloc);
         for place in from..to.saturating_add(1) {
             let at = place.saturating_mul(step);
@@ -173,35 +164,33 @@ fn time_step(all: Extent) -> u64 {
 /// The height of a stage, in pixels below the top.
 fn level(stage: Stage) -> u64 {
     match stage {
-        Stage::Wake | Stage::Unknown => TOP,
+        Stage::Wake | Stage::Untold => TOP,
         Stage::Rem => TOP + STEP,
         Stage::One => TOP + 2 * STEP,
         Stage::Two => TOP + 3 * STEP,
-        Stage::Three => TOP + 4 * STEP,
-        Stage::Four => TOP + 5 * STEP,
+        Stage::Three => FLOOR,
     }
 }
 
-/// Writes the stages as a line of steps, or one stage alone.
+/// Writes the stages of the columns as a line of steps, or one stage alone.
 fn write_steps(
     svg: &mut String,
-    epochs: &[Epoch],
-    all: Extent,
+    columns: &[Option<Stage>],
     only: Option<Stage>,
 ) -> Result<(), AllocError> {
     let mut before = None;
-    for column in 0..COLUMNS {
-        let part = (all.length() / (2 * COLUMNS)).saturating_mul(column * 2 + 1);
-        let stage = stage_at(epochs, all.from.saturating_add(part));
-        let shown = if only.is_none() || only == stage {
-            stage
+    let mut column = 0u64;
+    for stage in columns {
+        let shown = if only.is_none() || only == *stage {
+            *stage
         } else {
             None
         };
         write_step(svg, column, before, shown)?;
         before = shown;
+        column = column.saturating_add(1);
     }
-    write_step(svg, COLUMNS, before, None)
+    write_step(svg, column, before, None)
 }
 
 /// Writes how the line goes on at a column.

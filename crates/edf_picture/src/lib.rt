@@ -7,15 +7,26 @@
 //! A row shows an hour, and from 36 hours on a day or more, so that at most 40 rows have data. Rows
 //! that lie in one gap are one thin row. Runs are bars, gaps are hatched, and annotations are ticks
 //! above the bars, taller where there are more. Runs and gaps too narrow to be told apart are drawn
-//! as one, and its title says how many there are. Stages of sleep are a hypnogram above the rows.
+//! as one, and its title says how many there are.
+//!
+//! Stages of sleep are a hypnogram above the rows. Texts `Sleep stage` with `W`, `N1`, `N2`, `N3`,
+//! `1`, `2`, `3`, `4`, `R` or `REM` name them; `3` and `4` are both N3, and `?` and `M` only end
+//! the stage before them. A stage holds from its onset for its duration, where that is not 0. One
+//! without a duration holds until the next one's onset, but no longer than those before it, where
+//! two or more of them have a length and all lengths are the same; the last one holds 30 seconds
+//! where they don't agree. A length is a duration, or the time to the next one in the same run. A
+//! stage ends at a later one's onset, and at the end of the run that has its own; runs with a gap
+//! narrower than half a pixel between them count as one here. Nothing is drawn where nothing was
+//! recorded: half a pixel shows the stage at the instant in its middle, if that lies in a run.
 //!
 //! Every call returns, for any arguments; what a picture shows is tested.
 #![tactic(auto)]
 
 mod bars;
 mod bins;
+mod columns;
 mod drawing;
-mod escape;
+mod epochs;
 mod extent;
 mod heading;
 mod hypnogram;

@@ -35,6 +35,15 @@ impl<'a> Recording<'a> {
         Extent::of(stretch, self.duration)
     }
 
+    /// Whether a run has the instant.
+    pub(crate) fn has_recorded(&self, at: u64) -> bool {
+        let next = self
+            .stretches
+            .partition_point(|stretch| stretch.first.nanos() <= at);
+        let run = self.stretches.get(next.saturating_sub(1));
+        run.is_some_and(|run| self.extent_of(run).has(at))
+    }
+
     pub(crate) fn runs(&self) -> u64 {
         u64::try_from(self.stretches.len()).unwrap_or(u64::MAX)
     }

@@ -1,5 +1,7 @@
-use crate::times::SECOND;
+use crate::columns::Columns;
+use crate::epochs::{Epoch, Series};
 use std::alloc::{AllocError, Global};
+use std::collections::BTreeMap;
 
 /// A stage of sleep.
 #[derive(Clone, Copy, PartialEq, Eq)]
@@ -8,76 +10,68 @@ pub(crate) enum Stage {
     Rem,
     One,
     Two,
+    /// The third and the fourth of the older names.
     Three,
-    Four,
-    /// An epoch that nobody could score.
-    Unknown,
+    /// No stage: nobody could tell it, or the sleeper moved.
+    Untold,
 }
 
-/// The stage that a standard text names, and whether by a name with an N (EDF+, standard texts).
+/// The stage that a text names, and whether by a name with an N (EDF+, standard texts).
 fn named_stage(text: &str) -> Option<(Stage, bool)> {
     match text.as_bytes() {
         b"Sleep stage W" => Some((Stage::Wake, false)),
-        b"Sleep stage R" => Some((Stage::Rem, false)),
+        b"Sleep stage R" | b"Sleep stage REM" => Some((Stage::Rem, false)),
         b"Sleep stage 1" => Some((Stage::One, false)),
         b"Sleep stage 2" => Some((Stage::Two, false)),
-        b"Sleep stage 3" => Some((Stage::Three, false)),
-        b"Sleep stage 4" => Some((Stage::Four, false)),
+        b"Sleep stage 3" | b"Sleep stage 4" => Some((Stage::Three, false)),
         b"Sleep stage N1" => Some((Stage::One, true)),
         b"Sleep stage N2" => Some((Stage::Two, true)),
         b"Sleep stage N3" => Some((Stage::Three, true)),
-        b"Sleep stage ?" => Some((Stage::Unknown, false)),
+        b"Sleep stage ?" | b"Sleep stage M" => Some((Stage::Untold, false)),
         _ => None,
     }
 }
 
-/// A time in one stage.
-#[derive(Clone, Copy)]
-pub(crate) struct Epoch {
-    pub(crate) from: u64,
-    /// Its end, or `None` where it lasts until the next one.
-    to: Option<u64>,
-    stage: Stage,
-}
-
-/// So many changes of the stage are kept.
-const EPOCHS: usize = 32_768;
-
-/// How long the last epoch lasts where that isn't told.
-const LAST: u64 = 30 * SECOND;
+/// So many changes of the stage are kept, the first ones.
+const CHANGES: usize = 32_768;
 
 /// The stages of a recording, in bounded memory.
 #[derive(Drop)]
 pub(crate) struct Stages {
-    epochs: Vec<Epoch>,
+    /// By the onset of their first epochs. Each ends before the next one begins.
+    series: BTreeMap<u64, Series>,
+    /// The onset from which on they are left out.
+    left_out: Option<u64>,
     /// Whether a stage is named with an N.
     pub(crate) has_new_names: bool,
-    /// Whether a fourth stage is named.
-    pub(crate) has_fourth: bool,
+    /// Whether a stage is named 3 or 4.
+    pub(crate) has_deep_number: bool,
 }
 
 impl Stages {
     pub(crate) fn new(alloc: Global) -> Stages {
         Stages {
-            epochs: Vec::new(alloc),
+            series: BTreeMap::new(alloc),
+            left_out: None,
             has_new_names: false,
-            has_fourth: false,
+            has_deep_number: false,
         }
     }
 
     pub(crate) fn is_empty(&self) -> bool {
-        self.epochs.is_empty()
+        self.series.is_empty()
     }
 
     /// Whether later ones were left out.
-    pub(crate) fn is_full(&self) -> bool {
-        self.epochs.len() >= EPOCHS
+    pub(crate) fn lacks_some(&self) -> bool {
+        self.left_out.is_some()
     }
 
-    /// Takes the stage that an annotation names, if it names one, and tells whether it does.
+    /// Takes the stage that an annotation names, if it names one, and tells whether it does. A
+    /// duration of 0 is none.
     pub(crate) fn add(
         &mut self,
-        from: u64,
+        onset: u64,
         duration: Option<u64>,
         text: &str,
     ) -> Result<bool, AllocError> {
@@ -85,57 +79,76 @@ impl Stages {
             return Ok(false);
         };
         self.has_new_names = self.has_new_names || is_new;
-        self.has_fourth = self.has_fourth || stage == Stage::Four;
-        let to = duration.map(|nanos| from.saturating_add(nanos));
-        self.add_epoch(Epoch { from, to, stage })?;
+        self.has_deep_number = self.has_deep_number || stage == Stage::Three && !is_new;
+        let duration = duration.filter(|nanos| *nanos > 0);
+        self.put(Epoch {
+            onset,
+            duration,
+            stage,
+        })?;
         Ok(true)
     }
 
-    /// Lengthens the last epoch where the stage goes on, else adds one.
-    fn add_epoch(&mut self, epoch: Epoch) -> Result<(), AllocError> {
-        if let Some(last) = self.epochs.last_mut() {
-            if last.goes_on(epoch) {
-                last.to = epoch.to;
-                return Ok(());
-            }
+    /// Puts an epoch to its place in time. Of those with one onset the last that is told counts.
+    fn put(&mut self, epoch: Epoch) -> Result<(), AllocError> {
+        if self.left_out.is_some_and(|onset| onset <= epoch.onset) {
+            return Ok(());
         }
-        if !self.is_full() {
-            self.epochs.push(epoch)?;
+        match self.begun(epoch.onset) {
+            Some(series) => self.put_into(series, epoch)?,
+            None => self.insert(Series::of(epoch))?,
         }
+        self.leave_out_last();
         Ok(())
     }
 
-    /// The epochs by their starts.
-    pub(crate) fn sorted(&self, alloc: Global) -> Result<Vec<Epoch>, AllocError> {
-        let mut epochs = Vec::from_slice(alloc, self.epochs.as_slice())?;
-        epochs.sort_by_key(|epoch| epoch.from)?;
-        Ok(epochs)
+    /// The last series that begins at the instant or before it.
+    fn begun(&self, at: u64) -> Option<Series> {
+        let (_, series) = self.series.range(..=at).next_back()?;
+        Some(*series)
     }
-}
 
-impl Epoch {
-    /// Whether the next epoch is more of the same.
-    fn goes_on(&self, next: Epoch) -> bool {
-        let touches = match self.to {
-            Some(to) => to == next.from,
-            None => self.from <= next.from,
-        };
-        touches && self.stage == next.stage
+    /// Puts an epoch behind the series, or between two epochs of it, or in place of one.
+    fn put_into(&mut self, series: Series, epoch: Epoch) -> Result<(), AllocError> {
+        if series.has(epoch) {
+            return Ok(());
+        }
+        if let Some(longer) = series.longer(epoch) {
+            return self.insert(longer);
+        }
+        if let Some(before) = series.before(epoch.onset) {
+            self.insert(before)?;
+        }
+        self.insert(Series::of(epoch))?;
+        match series.after(epoch.onset) {
+            Some(after) => self.insert(after),
+            None => Ok(()),
+        }
     }
-}
 
-/// The stage at an instant, of epochs in the order of their starts.
-pub(crate) fn stage_at(epochs: &[Epoch], at: u64) -> Option<Stage> {
-    let next = epochs.partition_point(|epoch| epoch.from <= at);
-    let epoch = epochs.get(next.checked_sub(1)?)?;
-    let to = match (epoch.to, epochs.get(next)) {
-        (Some(to), _) => to,
-        (None, Some(after)) => after.from,
-        (None, None) => epoch.from.saturating_add(LAST),
-    };
-    if at < to && epoch.stage != Stage::Unknown {
-        Some(epoch.stage)
-    } else {
-        None
+    fn insert(&mut self, series: Series) -> Result<(), AllocError> {
+        self.series.insert(series.epoch(0).onset, series)?;
+        Ok(())
+    }
+
+    /// Leaves the last ones out where there are too many. An epoch adds two at most.
+    fn leave_out_last(&mut self) {
+        for _ in 0..2 {
+            if self.series.len() > CHANGES {
+                if let Some((onset, _)) = self.series.pop_last() {
+                    self.left_out = Some(onset);
+                }
+            }
+        }
+    }
+
+    /// Shows the epochs in the columns, in the order of their onsets.
+    pub(crate) fn show(&self, columns: &mut Columns<'_>) -> Result<(), AllocError> {
+        for series in self.series.values() {
+            for before in 0..series.count() {
+                columns.begin(series.epoch(before))?;
+            }
+        }
+        columns.end(self.left_out)
     }
 }

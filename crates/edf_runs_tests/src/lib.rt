@@ -13,6 +13,7 @@
 //! - `memory`: memory that runs out, under each budget until one suffices.
 //! - `library`: the functions of `edf_runs`, each called once.
 //! - `picture`: what pictures say.
+//! - `hypnogram`: where pictures have which stage of sleep.
 #![tactic(auto)]
 
 #[cfg(test)]
@@ -21,6 +22,8 @@ mod faults;
 mod files;
 #[cfg(test)]
 mod folder;
+#[cfg(test)]
+mod hypnogram;
 #[cfg(test)]
 mod library;
 #[cfg(test)]

@@ -5,7 +5,7 @@ use edf_time::Instant;
 use std::alloc::{AllocError, Global};
 use std::test::Fail;
 
-const SECOND: u64 = 1_000_000_000;
+pub(crate) const SECOND: u64 = 1_000_000_000;
 
 const MINUTE: u64 = 60 * SECOND;
 
@@ -14,7 +14,7 @@ const HOUR: u64 = 60 * MINUTE;
 const DAY: u64 = 24 * HOUR;
 
 /// Data records of a second from an instant on, in nanoseconds.
-fn stretch(first: u64, records: u32) -> Option<Stretch> {
+pub(crate) fn stretch(first: u64, records: u32) -> Option<Stretch> {
     let later = u64::from(records).saturating_sub(1).saturating_mul(SECOND);
     Some(Stretch {
         first: Instant::at(first)?,
@@ -24,7 +24,7 @@ fn stretch(first: u64, records: u32) -> Option<Stretch> {
 }
 
 /// The picture of stretches under a patient's code, with the annotations of a sketch.
-fn drawn(
+pub(crate) fn drawn(
     alloc: Global,
     sketch: &Sketch,
     patient: &[u8],
