@@ -1,4 +1,3 @@
-pub mod Puts
 pub mod Texts
 pub mod Written
 pub mod Staying

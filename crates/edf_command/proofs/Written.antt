@@ -10,18 +10,8 @@ use Rattle.std.proofs.lemmas.Slice.Zip.{length-zip, get_or-zip}
 use Rattle.edf_intake.specs.Refusal.{Answer}
 use Rattle.edf_header.specs.Key.{Key}
 use Rattle.edf_holdings.specs.Holdings.{Holdings}
+use Rattle.edf_program.proofs.Parts.{lines-more, lines-split}
 use Rattle.edf_command.specs.Lines.{list_line, list_lines, first_list_lines, take_line, first_take_lines}
-
-pub lines-more : {X : Type 0} (f : X → List ℕ) (xs : List X) (i : ℕ) (d : X) → i < length xs
-    → flat_map f (take (i + 1) xs) ≡ flat_map f (take i xs) ++ f (get_or xs i d)
-lines-more f xs i d lt = ap (flat_map f) (take_more xs i d lt) ∙ sym (flat_map_more f [] (take i xs) (get_or xs i d))
-
-pub lines-split : {X : Type 0} (f : X → List ℕ) (xs : List X) (i : ℕ) (d : X) → i < length xs
-    → flat_map f xs ≡ flat_map f (take i xs) ++ (f (get_or xs i d) ++ flat_map f (drop (i + 1) xs))
-lines-split f xs i d lt =
-    ap (flat_map f) (sym (take-append-drop (i + 1) xs)) ∙ flat_map-append f (take (i + 1) xs) (drop (i + 1) xs)
-    ∙ ap (λ (l : List ℕ). l ++ flat_map f (drop (i + 1) xs)) (lines-more f xs i d lt)
-    ∙ append_assoc (flat_map f (take i xs)) (f (get_or xs i d)) (flat_map f (drop (i + 1) xs))
 
 module _ (spell : ℕ → List ℕ) (h : Holdings) where
   abbrev line_of : ℕ → Key → List ℕ

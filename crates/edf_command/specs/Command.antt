@@ -6,9 +6,9 @@ use Rattle.edf_arguments.specs.Arguments.{Asked, Text, AreValues, AskFor, AskFor
 use Rattle.edf_arguments.specs.Arguments.Asked.{take, list, export, convert}
 use Rattle.edf_arguments.specs.declared.parsed_command.ParsedCommand.{ParsedCommand}
 use Rattle.edf_command.specs.Lines.{command_memory_line}
-use Rattle.edf_command.specs.Output.{Growth, Gets, IsWritten}
-use Rattle.edf_command.specs.declared.status.Status.{Status}
-use Rattle.edf_command.specs.declared.status.Status.TheVariants.{Done, Usage, Trouble}
+use Rattle.edf_program.specs.Output.{Growth, Gets, IsWritten}
+use Rattle.edf_program.specs.declared.status.Status.{Status}
+use Rattle.edf_program.specs.declared.status.Status.TheVariants.{Done, Usage, Trouble}
 
 -- the path of a store's file; `:memory:` has none
 abbrev pub path_of : Text → Option Text

@@ -1,5 +1,5 @@
 -- The lines that the program writes, and its statuses: functions of names, answers and holdings. A line ends with byte 10.
-use Rattle.std.specs.Prelude.{ℕ, ◌+◌, ◌==◌, ◌&&◌, ◌||◌, Bool, nat_le, List, [], ◌∷◌, ◌++◌, length, take, codes, decimal, if◌then◌else◌, fold, Ok, Err}
+use Rattle.std.specs.Prelude.{ℕ, ◌+◌, List, [], ◌∷◌, ◌++◌, length, take, codes, decimal, fold, Ok, Err}
 use Rattle.std.specs.List.{flat_map, zip}
 use Rattle.edf_header.specs.Key.{Key, patient_code, investigation_code}
 use Rattle.edf_fragment.specs.Fragment.{DataRecord}
@@ -10,15 +10,9 @@ use Rattle.edf_intake.specs.declared.answer.Refusal.{Refusal}
 use Rattle.edf_export.specs.Export.{export_fault_number}
 use Rattle.edf_export.specs.declared.fault.ExportFault.{ExportFault}
 use Rattle.edf_command.specs.Refusals.{refusal_text, store_text, export_text}
-use Rattle.edf_command.specs.declared.status.Status.{Status}
-use Rattle.edf_command.specs.declared.status.Status.TheVariants.{Done, Refused, Usage, Trouble}
-
--- the number that the program ends with
-abbrev pub exit_code : Status → ℕ
-exit_code Done = 0
-exit_code Refused = 1
-exit_code Usage = 2
-exit_code Trouble = 3
+use Rattle.edf_program.specs.Status.{status_of_number}
+use Rattle.edf_program.specs.declared.status.Status.{Status}
+use Rattle.edf_program.specs.declared.status.Status.TheVariants.{Done, Refused, Trouble}
 
 -- ---- take
 
@@ -34,13 +28,6 @@ take_lines spell names answers = flat_map (λ p. take_line spell p.0 p.1) (zip n
 -- those of the first n answers
 abbrev pub first_take_lines : (ℕ → List ℕ) → List (List ℕ) → List Answer → ℕ → List ℕ
 first_take_lines spell names answers n = take_lines spell names (take n answers)
-
--- E40 to E43 and E45
-abbrev pub is_trouble : ℕ → Bool
-is_trouble n = (nat_le 40 n && nat_le n 43) || n == 45
-
-abbrev pub status_of_number : ℕ → Status
-status_of_number n = if is_trouble n then Trouble else Refused
 
 abbrev pub answer_status : Answer → Status
 answer_status (Ok receipt) = Done

@@ -20,10 +20,11 @@ use Rattle.edf_export.specs.declared.fault.ExportFault.TheVariants.{Store}
 use Rattle.edf_arguments.specs.Arguments.{Asked}
 use Rattle.edf_arguments.specs.Arguments.Asked.{take, list, export, convert}
 use Rattle.edf_command.specs.Refusals.{IsSpelling}
-use Rattle.edf_command.specs.Lines.{first_take_lines, take_status, take_memory_line, list_lines, first_list_lines, list_refused_line, no_recording_line, export_refused_line, export_status, refused_line, status_of_number, convert_memory_line}
-use Rattle.edf_command.specs.Output.{Growth, Gets, IsWritten, IsTold, AreTold, Explains}
-use Rattle.edf_command.specs.declared.status.Status.{Status}
-use Rattle.edf_command.specs.declared.status.Status.TheVariants.{Done, Refused, Trouble}
+use Rattle.edf_command.specs.Lines.{first_take_lines, take_status, take_memory_line, list_lines, first_list_lines, list_refused_line, no_recording_line, export_refused_line, export_status, refused_line, convert_memory_line}
+use Rattle.edf_program.specs.Status.{status_of_number}
+use Rattle.edf_program.specs.Output.{Growth, Gets, IsWritten, IsTold, AreTold, Explains}
+use Rattle.edf_program.specs.declared.status.Status.{Status}
+use Rattle.edf_program.specs.declared.status.Status.TheVariants.{Done, Refused, Trouble}
 
 -- each of the keys holds a record
 abbrev pub AreHeldBy : Holdings → List Key → Type 0

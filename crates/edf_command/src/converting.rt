@@ -2,16 +2,14 @@
 
 ghost use Rattle.std.specs.Prelude.{◌≡◌, ◌∷◌, [], ℕ, List};
 ghost use Rattle.edf_command.specs.Lines.{convert_memory_line};
-ghost use Rattle.edf_command.specs.Output.{growth, IsWritten};
+ghost use Rattle.edf_program.specs.Output.{growth, IsWritten};
 ghost use Rattle.edf_command.specs.Run.{IsConverted, HasOpened};
 
-use crate::output::{tell, tell_pair};
-use crate::running::Inputs;
 use crate::sending::send_recording;
-use crate::status::{Status, status_of_number};
 use crate::taking::refused_line;
 use edf_fragment::Output;
 use edf_intake::submit;
+use edf_program::{Inputs, Status, status_of_number, tell, tell_pair};
 use edf_store::Store;
 use sqlite::Alter;
 use std::alloc::Global;

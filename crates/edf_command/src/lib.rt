@@ -12,16 +12,14 @@
 
 mod converting;
 mod listing;
-mod output;
 mod program;
 mod refusal;
 mod running;
 mod sending;
-mod status;
 mod taking;
 
 pub use edf_arguments::{CommandFault, ParsedCommand, parse};
+pub use edf_program::{Inputs, Status};
 pub use program::{read_command, refuse_store, store_path};
 pub use refusal::refusal_text;
-pub use running::{Inputs, run};
-pub use status::Status;
+pub use running::run;

@@ -10,15 +10,14 @@ ghost use Rattle.edf_store.specs.Fault.{IsStoreRefusal};
 ghost use Rattle.edf_store.specs.Held.{at, Holds, Stays};
 ghost use Rattle.edf_store.specs.Listed.{IsSummary};
 ghost use Rattle.edf_command.specs.Lines.{list_line, first_list_lines, list_refused_line};
-ghost use Rattle.edf_command.specs.Output.{growth, Gets, IsLinePut, ArePut, IsWritten};
+ghost use Rattle.edf_program.specs.Output.{growth, Gets, IsLinePut, ArePut, IsWritten};
 ghost use Rattle.edf_command.specs.Refusals.{IsSpelling};
 ghost use Rattle.edf_command.specs.Run.{AreHeldBy, IsListed};
 
-use crate::output::{put_line, tell_bytes};
 use crate::refusal::{joined, spelled};
-use crate::status::Status;
 use edf_fragment::Output;
 use edf_header::Identity;
+use edf_program::{Status, put_line, tell_bytes};
 use edf_store::{Store, StoreFault, Summary};
 use sqlite::Alter;
 use std::alloc::{AllocError, Global};

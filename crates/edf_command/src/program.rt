@@ -4,12 +4,11 @@ ghost use Rattle.std.specs.Prelude.{◌≡◌, option_map};
 ghost use Rattle.edf_arguments.specs.Arguments.{meaning};
 ghost use Rattle.edf_command.specs.Command.{IsCommandRead, store_path};
 ghost use Rattle.edf_command.specs.Lines.{store_refused_line};
-ghost use Rattle.edf_command.specs.Output.{growth, IsWritten};
+ghost use Rattle.edf_program.specs.Output.{growth, IsWritten};
 
-use crate::output::tell_bytes;
-use crate::status::Status;
 use edf_arguments::{CommandFault, ParsedCommand, parse};
 use edf_fragment::Output;
+use edf_program::{Status, tell_bytes};
 use edf_store::StoreFault;
 use std::alloc::Global;
 

@@ -2,113 +2,13 @@
 
 ghost use Rattle.std.specs.Prelude.{◌≡◌, ℕ, ◌++◌, ◌∷◌, [], List, IfOk, codes, decimal};
 ghost use Rattle.std.specs.Prelude.{string_bytes};
-ghost use Rattle.edf_fragment.specs.Fault.{fragment_fault_number};
-ghost use Rattle.edf_header.specs.Fault.{header_fault_number};
-ghost use Rattle.edf_tal.specs.Block.{tal_fault_number};
-ghost use Rattle.edf_command.specs.Refusals.{IsSpelling, header_words, header_place, tal_details};
-ghost use Rattle.edf_command.specs.Refusals.{fragment_details, store_text, refusal_text};
-ghost use Rattle.edf_command.specs.Refusals.{place_text};
+ghost use Rattle.edf_command.specs.Refusals.{IsSpelling, store_text, refusal_text};
 
-use edf_fragment::FragmentFault;
-use edf_header::HeaderFault;
 use edf_intake::Refusal;
+use edf_program::fragment_fault_text;
 use edf_store::StoreFault;
-use edf_tal::TalFault;
 use edf_time::{Instant, instant_text};
 use std::alloc::{AllocError, Global};
-
-/// The name of a header's fault, and what comes before its place.
-fn header_words(fault: &HeaderFault) -> &'static str
-    ensures { result.now ≡ header_words fault.now }
-{
-    match fault {
-        HeaderFault::Cut => "Cut",
-        HeaderFault::Unprintable { .. } => "Unprintable offset=",
-        HeaderFault::Version => "Version",
-        HeaderFault::Patient => "Patient",
-        HeaderFault::Recording => "Recording",
-        HeaderFault::Startdate => "Startdate",
-        HeaderFault::Starttime => "Starttime",
-        HeaderFault::DatesDiffer => "DatesDiffer",
-        HeaderFault::NotPlus => "NotPlus",
-        HeaderFault::Count => "Count",
-        HeaderFault::Duration => "Duration",
-        HeaderFault::Signals => "Signals",
-        HeaderFault::HeaderBytes => "HeaderBytes",
-        HeaderFault::CutSignals => "CutSignals",
-        HeaderFault::UnprintableSignals { .. } => "UnprintableSignals offset=",
-        HeaderFault::Annotations => "Annotations",
-        HeaderFault::Physical { .. } => "Physical signal=",
-        HeaderFault::Digital { .. } => "Digital signal=",
-        HeaderFault::Samples { .. } => "Samples signal=",
-        HeaderFault::Size => "Size",
-        HeaderFault::Memory => "Memory",
-    }
-}
-
-/// The place that a header's fault names: an offset or a signal.
-fn header_place(fault: &HeaderFault) -> Option<usize>
-    ensures { result ≡ header_place fault.now }
-{
-    match fault {
-        HeaderFault::Unprintable { offset } => Some(*offset),
-        HeaderFault::UnprintableSignals { offset } => Some(*offset),
-        HeaderFault::Physical { signal } => Some(*signal as usize),
-        HeaderFault::Digital { signal } => Some(*signal as usize),
-        HeaderFault::Samples { signal } => Some(*signal as usize),
-        _ => None,
-    }
-}
-
-fn header_text(alloc: Global, fault: &HeaderFault) -> Result<String, AllocError>
-    ensures { IfOk result
-        (λ r. string_bytes r ≡ codes "E" ++ (decimal (header_fault_number fault.now)
-        ++ (codes " " ++ (header_words fault.now ++ place_text (header_place fault.now))))) }
-{
-    let number = fault.number();
-    let words = header_words(fault);
-    match header_place(fault) {
-        None => format!(in alloc; "E{number} {words}"),
-        Some(place) => format!(in alloc; "E{number} {words}{place}"),
-    }
-}
-
-fn tal_text(alloc: Global, nth: u32, fault: &TalFault) -> Result<String, AllocError>
-    ensures { IfOk result (λ r. string_bytes r
-        ≡ codes "E" ++ (decimal (tal_fault_number fault.now) ++ tal_details nth fault.now)) }
-{
-    let number = fault.number();
-    match fault {
-        TalFault::Tal { offset } => {
-            format!(in alloc; "E{number} Tal record={nth} offset={offset}")
-        }
-        TalFault::Text { offset } => {
-            format!(in alloc; "E{number} Text record={nth} offset={offset}")
-        }
-        TalFault::NotTimed => format!(in alloc; "E{number} NotTimed record={nth}"),
-        TalFault::FirstOnset => format!(in alloc; "E{number} FirstOnset record={nth}"),
-        TalFault::Window => format!(in alloc; "E{number} Window record={nth}"),
-        TalFault::Order => format!(in alloc; "E{number} Order record={nth}"),
-        TalFault::TooMany => format!(in alloc; "E{number} TooMany record={nth}"),
-        TalFault::Memory => format!(in alloc; "E{number} Memory"),
-    }
-}
-
-fn fragment_text(alloc: Global, fault: &FragmentFault) -> Result<String, AllocError>
-    ensures { IfOk result (λ r. string_bytes r
-        ≡ codes "E" ++ (decimal (fragment_fault_number fault.now) ++ fragment_details fault.now)) }
-{
-    let number = fault.number();
-    match fault {
-        FragmentFault::Header(fault) => header_text(alloc, fault),
-        FragmentFault::CutRecord { nth } => format!(in alloc; "E{number} CutRecord record={nth}"),
-        FragmentFault::Tal { nth, fault } => tal_text(alloc, *nth, fault),
-        FragmentFault::Trailing => format!(in alloc; "E{number} Trailing"),
-        FragmentFault::Read => format!(in alloc; "E{number} Read"),
-        FragmentFault::Memory => format!(in alloc; "E{number} Memory"),
-        FragmentFault::Failed => format!(in alloc; "E{number} Failed"),
-    }
-}
 
 fn store_text(alloc: Global, fault: &StoreFault) -> Result<String, AllocError>
     ensures { IfOk result (λ r. string_bytes r ≡ store_text fault.now) }
@@ -201,7 +101,7 @@ pub fn refusal_text(alloc: Global, refusal: &Refusal) -> Result<Vec<u8>, AllocEr
     let number = refusal.number();
     match refusal {
         Refusal::Form(fault) => {
-            let text = fragment_text(alloc, fault)?;
+            let text = fragment_fault_text(alloc, fault)?;
             Ok(text.into_bytes())
         }
         Refusal::Overlap { start, stored } => {

@@ -1,47 +1,20 @@
 //! A command, run.
 
-ghost use Rattle.std.specs.Prelude.{◌≡◌, ◌++◌, ◌∷◌, [], ℕ, List, Option, IfOk, MatchResult};
+ghost use Rattle.std.specs.Prelude.{◌≡◌, ℕ, List};
 ghost use Rattle.edf_arguments.specs.Arguments.{meaning};
-ghost use Rattle.edf_command.specs.Output.{growth};
+ghost use Rattle.edf_program.specs.Output.{growth};
 ghost use Rattle.edf_command.specs.Run.{IsDone, HasOpened, files_of};
 
 use crate::converting::convert;
 use crate::listing::list;
 use crate::sending::send_place;
-use crate::status::Status;
 use crate::taking::take;
 use edf_arguments::ParsedCommand;
-use edf_fragment::{Input, Output};
+use edf_fragment::Output;
+use edf_program::{Inputs, Status};
 use edf_store::Store;
 use sqlite::Alter;
-use std::alloc::{AllocError, Global};
-
-/// What gives each name its reader.
-///
-/// Contracts speak of the bytes that a name stands for, where they are known: those of a file are
-/// not.
-pub trait Inputs {
-    /// The readers.
-    type Reader: Input + Drop;
-
-    // The bytes that a name stands for, where they are known.
-    ghost bytes: { Self → List ℕ → Option (List ℕ) };
-
-    // The names whose readers it gave, in turn.
-    ghost opened: { Self → List (List ℕ) };
-
-    /// A reader of just the bytes that the name stands for. A name that stands for nothing gives a
-    /// reader whose first read fails.
-    ///
-    /// # Errors
-    /// Where memory ran out. The name is then not among those opened.
-    fn open(&mut self, alloc: Global, name: &str) -> Result<Self::Reader, AllocError>
-        ensures reader { IfOk result (λ r. Self.Reader.remaining r ≡ bytes self.old name.now) }
-        ensures same { (other : List ℕ) → bytes self.new other ≡ bytes self.old other }
-        ensures names { MatchResult result
-            (λ _. opened self.new ≡ opened self.old ++ (name.now ∷ []))
-            (λ _. opened self.new ≡ opened self.old) };
-}
+use std::alloc::Global;
 
 /// Runs a command over a store, which is the one that the command names; for `Convert` it is an
 /// empty one.

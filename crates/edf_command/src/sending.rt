@@ -5,15 +5,14 @@ ghost use Rattle.sqlite.specs.State.{HasCleanDisk};
 ghost use Rattle.edf_holdings.specs.Holdings.{Holdings};
 ghost use Rattle.edf_store.specs.Held.{at, Holds, Stays};
 ghost use Rattle.edf_command.specs.Lines.{export_refused_line, export_status, no_recording_line};
-ghost use Rattle.edf_command.specs.Output.{growth, IsWritten};
+ghost use Rattle.edf_program.specs.Output.{growth, IsWritten};
 ghost use Rattle.edf_command.specs.Refusals.{store_text};
 ghost use Rattle.edf_command.specs.Run.{IsSent, TellsWrites, IsPlaceSent, at_place};
 
-use crate::output::{tell_bytes, tell_pair};
-use crate::status::{Status, status_of_number};
 use edf_export::{ExportFault, export};
 use edf_fragment::{Output, send};
 use edf_header::Identity;
+use edf_program::{Status, status_of_number, tell_bytes, tell_pair};
 use edf_store::{Store, StoreFault};
 use itoa::Buffer;
 use sqlite::Alter;

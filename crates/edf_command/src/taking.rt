@@ -3,17 +3,15 @@
 ghost use Rattle.std.specs.Prelude.{◌≡◌, ◌++◌, ◌∷◌, ℕ, [], List, IfOk, MatchResult, length, map};
 ghost use Rattle.std.specs.Prelude.{string_bytes, codes, decimal};
 ghost use Rattle.edf_command.specs.Lines.{answer_status, take_line, first_take_lines, take_status};
-ghost use Rattle.edf_command.specs.Lines.{status_of_number, worse};
+ghost use Rattle.edf_command.specs.Lines.{worse};
 ghost use Rattle.edf_command.specs.Refusals.{IsSpelling, refusal_text};
-ghost use Rattle.edf_command.specs.Output.{growth, ArePut};
+ghost use Rattle.edf_program.specs.Output.{growth, ArePut};
 ghost use Rattle.edf_command.specs.Run.{IsTaken, HasOpened, OpensFront};
 
-use crate::output::{put_line, tell_bytes};
 use crate::refusal::{joined, refusal_text};
-use crate::running::Inputs;
-use crate::status::{Status, status_of_number, worse};
 use edf_fragment::Output;
 use edf_intake::{Receipt, Refusal, submit_all};
+use edf_program::{Inputs, Status, put_line, status_of_number, tell_bytes};
 use edf_store::Store;
 use sqlite::Alter;
 use std::alloc::{AllocError, Global};
@@ -107,6 +105,17 @@ fn answer_status(answer: &Result<Receipt, Refusal>) -> Status
     match answer {
         Ok(_) => Status::Done,
         Err(refusal) => status_of_number(refusal.number()),
+    }
+}
+
+/// The worse of two: trouble, else a refusal.
+fn worse(status: Status, other: Status) -> Status
+    ensures { result ≡ worse status other }
+{
+    match (status, other) {
+        (Status::Done, other) => other,
+        (Status::Refused, Status::Trouble) => Status::Trouble,
+        (status, _) => status,
     }
 }
 

@@ -20,7 +20,8 @@ const CAP: u32 = 99_999_999;
 #[derive(Clone, Copy, Drop)]
 pub(crate) struct Refused {
     pub(crate) fault: StoreFault,
-    /// Whether the file was opened and has no tables but ours.
+    /// Whether the file was opened and has no table, the first of a store's two alone, or both and
+    /// perhaps others after them.
     pub(crate) has_our_tables: bool,
 }
 

@@ -46,19 +46,33 @@ fn picture_command<'a>(alloc: Global) -> Result<Command<'a>, AllocError> {
         .arg(wanted(alloc, "FILE", help::FILE_VALUE))
 }
 
+/// The program before it has its words.
+fn program<'a>(alloc: Global) -> Result<Command<'a>, AllocError> {
+    Ok(
+        Command::new(alloc, "edfruns")
+            .bin_name("edfruns")?
+            .version(VERSION)
+            .about(help::EDFRUNS)
+            .after_help(help::EDFRUNS_MORE)
+            .no_binary_name(true)
+            .subcommand_required(true),
+    )
+}
+
+/// The program with one word more.
+fn with_word<'a>(
+    program: Command<'a>,
+    word: Result<Command<'a>, AllocError>,
+) -> Result<Command<'a>, AllocError> {
+    program.subcommand(word?)
+}
+
 /// The program with its words `list`, `write`, `split` and `picture`.
 fn edfruns_command<'a>(alloc: Global) -> Result<Command<'a>, AllocError> {
-    Command::new(alloc, "edfruns")
-        .bin_name("edfruns")?
-        .version(VERSION)
-        .about(help::EDFRUNS)
-        .after_help(help::EDFRUNS_MORE)
-        .no_binary_name(true)
-        .subcommand_required(true)
-        .subcommand(list_command(alloc)?)?
-        .subcommand(write_command(alloc)?)?
-        .subcommand(split_command(alloc)?)?
-        .subcommand(picture_command(alloc)?)
+    let lists = with_word(program(alloc)?, list_command(alloc))?;
+    let writes = with_word(lists, write_command(alloc))?;
+    let splits = with_word(writes, split_command(alloc))?;
+    with_word(splits, picture_command(alloc))
 }
 
 /// What `clap` refused, by its kind and with its text.
@@ -73,9 +87,11 @@ fn fault_by(alloc: Global, error: &Error) -> CommandFault {
     }
 }
 
-/// Values that `clap` takes as text, but the program does not.
+/// Words that `clap` lets through, but the program does not.
 #[derive(Clone, Copy)]
 enum Mistake {
+    /// The first word is none of the program's.
+    NoCommand,
     /// The N of `write` is no number of a run.
     WriteNumber,
     /// The FILE of `write` is standard input.
@@ -87,19 +103,40 @@ enum Mistake {
 impl Mistake {
     /// Why, with the usage of the command.
     fn fault(self, alloc: Global) -> Result<CommandFault, AllocError> {
-        let (command, why) = match self {
-            Mistake::WriteNumber => (write_command(alloc)?, help::BAD_NUMBER),
-            Mistake::WriteStream => (write_command(alloc)?, help::READ_TWICE),
-            Mistake::SplitStream => (split_command(alloc)?, help::READ_TWICE),
-        };
-        let name = match self {
-            Mistake::SplitStream => "edfruns split",
-            _ => "edfruns write",
-        };
-        let mut command = command.bin_name(name)?;
-        let error = command.error(ErrorKind::ValueValidation, why)?;
-        Ok(fault_by(alloc, &error))
+        let missing = ErrorKind::MissingSubcommand;
+        let wrong = ErrorKind::ValueValidation;
+        match self {
+            Mistake::NoCommand => {
+                let command = edfruns_command(alloc);
+                fault_of(alloc, command, "edfruns", missing, help::NO_COMMAND)
+            }
+            Mistake::WriteNumber => {
+                let command = write_command(alloc);
+                fault_of(alloc, command, "edfruns write", wrong, help::BAD_NUMBER)
+            }
+            Mistake::WriteStream => {
+                let command = write_command(alloc);
+                fault_of(alloc, command, "edfruns write", wrong, help::READ_TWICE)
+            }
+            Mistake::SplitStream => {
+                let command = split_command(alloc);
+                fault_of(alloc, command, "edfruns split", wrong, help::READ_TWICE)
+            }
+        }
     }
+}
+
+/// Why a command of that name is refused, with its usage.
+fn fault_of(
+    alloc: Global,
+    command: Result<Command<'_>, AllocError>,
+    name: &str,
+    kind: ErrorKind,
+    why: &str,
+) -> Result<CommandFault, AllocError> {
+    let mut named = command?.bin_name(name)?;
+    let error = named.error(kind, why)?;
+    Ok(fault_by(alloc, &error))
 }
 
 /// The number that a text names: digits without a sign, from 1 to 4,294,967,295.
@@ -118,28 +155,65 @@ fn value_in<'a>(values: &ArgMatches<'a>, name: &str) -> &'a str {
     values.get_str(name).unwrap_or("")
 }
 
-/// What the words ask for, or the mistake in a value.
+fn write_in(
+    alloc: Global,
+    file: &str,
+    number: &str,
+) -> Result<Result<RunsCommand, Mistake>, AllocError> {
+    if file == "-" {
+        return Ok(Err(Mistake::WriteStream));
+    }
+    let Some(number) = read_number(number) else {
+        return Ok(Err(Mistake::WriteNumber));
+    };
+    let file = String::from_str(alloc, file)?;
+    Ok(Ok(RunsCommand::Write { file, number }))
+}
+
+fn split_in(
+    alloc: Global,
+    file: &str,
+    prefix: &str,
+) -> Result<Result<RunsCommand, Mistake>, AllocError> {
+    if file == "-" {
+        return Ok(Err(Mistake::SplitStream));
+    }
+    let file = String::from_str(alloc, file)?;
+    let prefix = String::from_str(alloc, prefix)?;
+    Ok(Ok(RunsCommand::Split { file, prefix }))
+}
+
+/// What `clap` found, as a command, or the mistake in it.
 fn command_in(
     alloc: Global,
-    word: &str,
-    values: &ArgMatches<'_>,
+    matches: &ArgMatches<'_>,
 ) -> Result<Result<RunsCommand, Mistake>, AllocError> {
+    let Some((word, values)) = matches.subcommand() else {
+        return Ok(Err(Mistake::NoCommand));
+    };
     let name = value_in(values, "FILE");
-    let file = String::from_str(alloc, name)?;
-    Ok(match word {
-        "list" => Ok(RunsCommand::List { file }),
-        "picture" => Ok(RunsCommand::Picture { file }),
-        "write" if name == "-" => Err(Mistake::WriteStream),
-        "write" => match read_number(value_in(values, "N")) {
-            Some(number) => Ok(RunsCommand::Write { file, number }),
-            None => Err(Mistake::WriteNumber),
-        },
-        _ if name == "-" => Err(Mistake::SplitStream),
-        _ => {
-            let prefix = String::from_str(alloc, value_in(values, "PREFIX"))?;
-            Ok(RunsCommand::Split { file, prefix })
+    match word {
+        "list" => {
+            let file = String::from_str(alloc, name)?;
+            Ok(Ok(RunsCommand::List { file }))
         }
-    })
+        "write" => write_in(alloc, name, value_in(values, "N")),
+        "split" => split_in(alloc, name, value_in(values, "PREFIX")),
+        "picture" => {
+            let file = String::from_str(alloc, name)?;
+            Ok(Ok(RunsCommand::Picture { file }))
+        }
+        _ => Ok(Err(Mistake::NoCommand)),
+    }
+}
+
+/// What the words ask for, or the mistake in them.
+fn read(alloc: Global, words: &[String]) -> Result<Result<RunsCommand, Mistake>, CommandFault> {
+    let mut command = edfruns_command(alloc)?;
+    match command.try_get_matches_from_mut(words) {
+        Ok(matches) => Ok(command_in(alloc, &matches)?),
+        Err(error) => Err(fault_by(alloc, &error)),
+    }
 }
 
 /// What the words after the program's name ask for.
@@ -153,16 +227,7 @@ fn command_in(
 /// `Help` where help or the version was asked for, `Usage` where the words ask for nothing that can
 /// be done, `Memory` where memory ran out.
 pub fn parse(alloc: Global, words: &[String]) -> Result<RunsCommand, CommandFault> {
-    let mut command = edfruns_command(alloc)?;
-    let matches = match command.try_get_matches_from_mut(words) {
-        Ok(matches) => matches,
-        Err(error) => return Err(fault_by(alloc, &error)),
-    };
-    let Some((word, values)) = matches.subcommand() else {
-        let error = command.error(ErrorKind::MissingSubcommand, "a command is wanted")?;
-        return Err(fault_by(alloc, &error));
-    };
-    match command_in(alloc, word, values)? {
+    match read(alloc, words)? {
         Ok(command) => Ok(command),
         Err(mistake) => Err(mistake.fault(alloc)?),
     }

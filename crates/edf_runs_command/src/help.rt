@@ -99,6 +99,9 @@ pub(crate) const NUMBER_VALUE: &str = "The run's number in the list, from 1";
 
 pub(crate) const PREFIX_VALUE: &str = "How the names of the new files begin, before -1.edf";
 
+/// Why words without a command are refused.
+pub(crate) const NO_COMMAND: &str = "a command is wanted: list, write, split or picture";
+
 /// Why an N is refused.
 pub(crate) const BAD_NUMBER: &str =
     "N is a run's number in the list, in digits, from 1 to 4294967295";

@@ -2,7 +2,7 @@
 //!
 //! - [`read_command`]: the words after the program's name, as a [`RunsCommand`]; help and usage are
 //!   written. [`parse`]: the words, read, and nothing else.
-//! - [`run_runs`]: one command, over what opens files (`edf_command`'s `Inputs`) and what makes them
+//! - [`run_runs`]: one command, over what opens files (`edf_program`'s `Inputs`) and what makes them
 //!   ([`Outputs`]).
 #![tactic(auto)]
 
@@ -11,7 +11,6 @@ mod help;
 mod lines;
 mod listing;
 mod naming;
-mod output;
 mod picturing;
 mod program;
 mod refusal;

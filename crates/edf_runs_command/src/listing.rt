@@ -3,8 +3,8 @@
 use crate::lines::run_line;
 use crate::refusal::refuse;
 use edf_canonical::{Buffer, flush, put};
-use edf_command::{Inputs, Status};
 use edf_fragment::{FragmentFault, Output};
+use edf_program::{Inputs, Status};
 use edf_runs::{Listing, list_runs};
 use std::alloc::Global;
 

@@ -4,10 +4,10 @@ ghost use Rattle.std.specs.Prelude.{◌≡◌};
 ghost use Rattle.edf_fragment.specs.Reading.{at_first};
 
 use crate::refusal::{refuse, refuse_run};
-use edf_command::{Inputs, Status};
 use edf_fragment::{FragmentFault, Input, OpenFragment, Output, Record, send};
 use edf_header::Identity;
 use edf_picture::{Sketch, Stretch, Title};
+use edf_program::{Inputs, Status};
 use edf_runs::{Run, WriteFault, add_record};
 use std::alloc::{AllocError, Global};
 

@@ -1,11 +1,10 @@
 //! What the program does with its words, before a command is run.
 
 use crate::arguments::parse;
-use crate::output::tell;
 use crate::runs_command::RunsCommand;
 use edf_arguments::CommandFault;
-use edf_command::Status;
 use edf_fragment::Output;
+use edf_program::{Status, tell_bytes};
 use std::alloc::Global;
 
 /// The command that the words after the program's name ask for.
@@ -21,11 +20,11 @@ pub fn read_command<O: Output, F: Output>(
 ) -> Result<RunsCommand, Status> {
     match parse(alloc, words) {
         Ok(command) => Ok(command),
-        Err(CommandFault::Help(text)) => Err(tell(out, &[text.as_bytes()], Status::Done)),
-        Err(CommandFault::Usage(text)) => Err(tell(err, &[text.as_bytes()], Status::Usage)),
+        Err(CommandFault::Help(text)) => Err(tell_bytes(out, text.as_bytes(), Status::Done)),
+        Err(CommandFault::Usage(text)) => Err(tell_bytes(err, text.as_bytes(), Status::Usage)),
         Err(CommandFault::Memory) => {
             let line = b"command refused E41 Memory\n";
-            Err(tell(err, &[line], Status::Trouble))
+            Err(tell_bytes(err, line, Status::Trouble))
         }
     }
 }

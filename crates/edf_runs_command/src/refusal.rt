@@ -1,9 +1,7 @@
 //! The lines why a command is not done.
 
-use crate::output::tell;
-use edf_command::{Status, refusal_text};
 use edf_fragment::{FragmentFault, Output};
-use edf_intake::Refusal;
+use edf_program::{Status, fragment_fault_text, status_of_number, tell_parts};
 use edf_runs::WriteFault;
 use itoa::Buffer;
 use std::alloc::Global;
@@ -11,7 +9,7 @@ use std::alloc::Global;
 /// Prints that a file is refused for want of memory. Printing takes none.
 pub(crate) fn refuse_memory<F: Output>(err: &mut F, file: &str) -> Status {
     let parts = [file.as_bytes(), b" refused E41 Memory\n".as_slice()];
-    tell(err, &parts, Status::Trouble)
+    tell_parts(err, &parts, Status::Trouble)
 }
 
 /// Prints why a file is refused, or can't be read.
@@ -21,14 +19,11 @@ pub(crate) fn refuse<F: Output>(
     fault: FragmentFault,
     err: &mut F,
 ) -> Status {
-    let status = match fault {
-        FragmentFault::Read | FragmentFault::Memory => Status::Trouble,
-        _ => Status::Refused,
-    };
-    match refusal_text(alloc, &Refusal::Form(fault)) {
+    let status = status_of_number(fault.number());
+    match fragment_fault_text(alloc, &fault) {
         Ok(text) => {
-            let parts = [file.as_bytes(), b" refused ", text.as_slice(), b"\n"];
-            tell(err, &parts, status)
+            let parts = [file.as_bytes(), b" refused ", text.as_bytes(), b"\n"];
+            tell_parts(err, &parts, status)
         }
         Err(_) => refuse_memory(err, file),
     }
@@ -43,7 +38,7 @@ fn refuse_undated<F: Output>(err: &mut F, number: usize) -> Status {
         digits.as_bytes(),
         b" starts after 2084, which a file without a date can't tell\n",
     ];
-    tell(err, &parts, Status::Refused)
+    tell_parts(err, &parts, Status::Refused)
 }
 
 /// Prints why the run of that number is not written. Printing takes no memory.
@@ -59,7 +54,7 @@ pub(crate) fn refuse_run<F: Output>(
         WriteFault::Memory => b" refused E41 Memory\n".as_slice(),
         WriteFault::Write => b" refused E43 Write\n".as_slice(),
     };
-    tell(err, &[file.as_bytes(), text], Status::Trouble)
+    tell_parts(err, &[file.as_bytes(), text], Status::Trouble)
 }
 
 /// Prints that there is no run of that number. Printing takes no memory.
@@ -67,5 +62,5 @@ pub(crate) fn tell_no_run<F: Output>(err: &mut F, number: u32) -> Status {
     let mut buffer = Buffer::new();
     let digits = buffer.format(number);
     let parts = [b"no run ".as_slice(), digits.as_bytes(), b"\n"];
-    tell(err, &parts, Status::Refused)
+    tell_parts(err, &parts, Status::Refused)
 }

@@ -5,8 +5,8 @@ use crate::picturing::picture;
 use crate::runs_command::RunsCommand;
 use crate::splitting::split;
 use crate::writing::write;
-use edf_command::{Inputs, Status};
 use edf_fragment::Output;
+use edf_program::{Inputs, Status};
 use std::alloc::Global;
 use std::io;
 

@@ -2,11 +2,10 @@
 
 use crate::listing::{listed, put_lines};
 use crate::naming::run_names;
-use crate::output::tell;
 use crate::refusal::{refuse, refuse_memory, refuse_run};
 use crate::running::Outputs;
-use edf_command::{Inputs, Status};
 use edf_fragment::{FragmentFault, Input, OpenFragment, Output};
+use edf_program::{Inputs, Status, tell_parts};
 use edf_runs::{Listing, WriteFault, reopen, write_run};
 use std::alloc::Global;
 
@@ -60,7 +59,7 @@ fn remove_made<P: Outputs, F: Output>(
     for name in names.iter().take(made) {
         if !outputs.remove(name.as_str()) {
             let parts = [name.as_bytes(), b" could not be removed\n".as_slice()];
-            answer = tell(err, &parts, Status::Trouble);
+            answer = tell_parts(err, &parts, Status::Trouble);
         }
     }
     answer
@@ -107,7 +106,7 @@ pub(crate) fn split<I: Inputs, P: Outputs, O: Output, F: Output>(
     for name in &names {
         if outputs.is_there(name.as_str()) {
             let parts = [name.as_bytes(), b" is there already; nothing was written\n"];
-            return tell(err, &parts, Status::Refused);
+            return tell_parts(err, &parts, Status::Refused);
         }
     }
     split_listed(alloc, file, &listing, &names, inputs, outputs, out, err)

@@ -2,8 +2,8 @@
 
 use crate::listing::listed;
 use crate::refusal::{refuse, refuse_run, tell_no_run};
-use edf_command::{Inputs, Status};
 use edf_fragment::Output;
+use edf_program::{Inputs, Status};
 use edf_runs::{Listing, Run, WriteFault, reopen, skip_run, write_run};
 use std::alloc::Global;
 

@@ -4,7 +4,7 @@ use crate::files::{file_named, first_run, two_gaps};
 use crate::folder::Folder;
 use crate::shelf::Shelf;
 use crate::stage::{story, told};
-use edf_command::Status;
+use edf_program::Status;
 use std::alloc::Global;
 
 /// The length of `two.edf`.

@@ -1,7 +1,7 @@
 //! The functions of `edf_runs`, each called once.
 
 use crate::files::{second_run, two_gaps};
-use edf_fragment::{Counted, OpenFragment};
+use edf_fragment::{Counted, Input, OpenFragment};
 use edf_runs::{Listing, Run, add_record, list_runs, reopen, skip_run, write_run};
 use edf_sample::{Sink, Source};
 use std::alloc::Global;
@@ -13,16 +13,25 @@ fn listed(alloc: Global) -> Option<Listing> {
     list_runs(alloc, &mut input).ok()
 }
 
+/// Reads the next data record, and adds it to the runs.
+fn gather_next<R: Input>(
+    fragment: &mut OpenFragment,
+    input: &mut R,
+    runs: &mut Vec<Run>,
+) -> Option<()> {
+    let data_record = fragment.next(input).ok()??;
+    let duration = fragment.header().identity().duration();
+    add_record(runs, &data_record, duration).ok()
+}
+
 /// The same, gathered by a caller that reads itself.
 fn gathered(alloc: Global) -> Option<Vec<Run>> {
     let bytes = two_gaps(alloc).ok()?;
     let mut input = Counted::new(Source::whole(&bytes, 100));
     let mut fragment = OpenFragment::read(alloc, &mut input).ok()?;
-    let duration = fragment.header().identity().duration();
     let mut runs = Vec::new(alloc);
     for _ in 0..6u8 {
-        let data_record = fragment.next(&mut input).ok()??;
-        add_record(&mut runs, &data_record, duration).ok()?;
+        gather_next(&mut fragment, &mut input, &mut runs)?;
     }
     Some(runs)
 }
@@ -45,18 +54,33 @@ fn runs_are_listed_and_gathered(rt: HostRuntime) {
     assert!(rt; gathered.is_some_and(|sizes| sizes.as_slice() == wanted.as_slice()));
 }
 
+/// A file that is read again, past its first run.
+fn past_first<R: Input>(alloc: Global, input: &mut R, listing: &Listing) -> Option<OpenFragment> {
+    let mut fragment = reopen(alloc, input, listing).ok()?;
+    skip_run(&mut fragment, input, listing.runs.first()?).ok()?;
+    Some(fragment)
+}
+
+/// Writes the file of the second run of a file that is read again, and answers its length.
+fn write_second<R: Input>(
+    alloc: Global,
+    input: &mut R,
+    listing: &Listing,
+    got: &mut Vec<u8>,
+) -> Option<u64> {
+    let mut fragment = past_first(alloc, input, listing)?;
+    let mut out = Counted::new(Sink::whole(got, 100));
+    let run = listing.runs.get(1)?;
+    write_run(alloc, &mut fragment, input, run, &mut out).ok()
+}
+
 /// The file of the second run, with its length as it was answered.
 fn second(alloc: Global) -> Option<(Vec<u8>, u64)> {
     let listing = listed(alloc)?;
     let bytes = two_gaps(alloc).ok()?;
-    let mut input = Counted::new(Source::whole(&bytes, 7));
-    let mut fragment = reopen(alloc, &mut input, &listing).ok()?;
-    skip_run(&mut fragment, &mut input, listing.runs.first()?).ok()?;
     let mut got = Vec::new(alloc);
-    let mut out = Counted::new(Sink::whole(&mut got, 100));
-    let run = listing.runs.get(1)?;
-    let len = write_run(alloc, &mut fragment, &mut input, run, &mut out).ok()?;
-    drop(out);
+    let mut input = Counted::new(Source::whole(&bytes, 7));
+    let len = write_second(alloc, &mut input, &listing, &mut got)?;
     Some((got, len))
 }
 

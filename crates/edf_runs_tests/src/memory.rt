@@ -4,8 +4,8 @@ ghost use Rattle.std.specs.Prelude.{None, map, string_bytes};
 
 use crate::files::two_gaps;
 use crate::folder::Folder;
-use edf_command::{Inputs, Status};
 use edf_fragment::Counted;
+use edf_program::{Inputs, Status};
 use edf_runs_command::{RunsCommand, run_runs};
 use edf_sample::{Scarce, Sink, Source};
 use std::alloc::{AllocError, Global};

@@ -2,8 +2,8 @@
 
 use crate::folder::Folder;
 use crate::shelf::Shelf;
-use edf_command::Status;
 use edf_fragment::Counted;
+use edf_program::Status;
 use edf_runs_command::{read_command, run_runs};
 use edf_sample::Sink;
 use std::alloc::Global;

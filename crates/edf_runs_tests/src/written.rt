@@ -4,7 +4,7 @@ use crate::files::{first_run, second_run, third_run};
 use crate::folder::Folder;
 use crate::shelf::Shelf;
 use crate::stage::told;
-use edf_command::Status;
+use edf_program::Status;
 use std::alloc::{AllocError, Global};
 
 /// Whether a line of words writes just this to standard output, and is done.

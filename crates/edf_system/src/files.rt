@@ -5,8 +5,8 @@ ghost use Rattle.std.specs.Prelude.{◌≡◌, None, map, string_bytes};
 
 use crate::cause::tell_unread;
 use crate::terminal::Terminal;
-use edf_command::Inputs;
 use edf_fragment::Counted;
+use edf_program::Inputs;
 use std::alloc::{AllocError, Global};
 use std::cell::RefCell;
 use std::fs::File;

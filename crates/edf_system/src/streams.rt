@@ -1,8 +1,8 @@
 //! The words after a program's name, and its standard streams.
 
 use crate::terminal::{Clearing, Terminal};
-use edf_command::Status;
 use edf_fragment::Counted;
+use edf_program::Status;
 use std::io::{ErrorKind, Stderr, Stdout};
 use std::{env, io};
 

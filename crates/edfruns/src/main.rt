@@ -5,8 +5,8 @@
 
 mod new_files;
 
-use edf_command::Status;
 use edf_fragment::Counted;
+use edf_program::Status;
 use edf_runs_command::{RunsCommand, read_command, run_runs};
 use edf_system::{Files, Streams, Terminal, refuse_words, words};
 use new_files::NewFiles;

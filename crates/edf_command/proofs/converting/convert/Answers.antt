@@ -1,9 +1,10 @@
 use Rattle.std.proofs.Common.{◌∙◌, ap, subst, refl, inl, inr}
 use Rattle.std.proofs.lemmas.Result.{IfOk-weaker}
-use Rattle.edf_command.specs.Lines.{refused_line, status_of_number}
-use Rattle.edf_command.specs.Output.{growth, IsTold}
-use Rattle.edf_command.specs.declared.status.Status.{Status}
-use Rattle.edf_command.proofs.Puts.{nothing-gets}
+use Rattle.edf_command.specs.Lines.{refused_line}
+use Rattle.edf_program.specs.Status.{status_of_number}
+use Rattle.edf_program.specs.Output.{growth, IsTold}
+use Rattle.edf_program.specs.declared.status.Status.{Status}
+use Rattle.edf_program.proofs.Puts.{nothing-gets}
 use Rattle.edf_command.proofs.converting.convert.Goals as goal
 
 pub returns-in_default-clause-converted : goal.returns-in_default-clause-converted

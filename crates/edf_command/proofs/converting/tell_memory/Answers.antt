@@ -1,6 +1,6 @@
 use Rattle.std.proofs.Common.{List, ℕ, ◌++◌, subst, codes}
-use Rattle.edf_command.specs.Output.{growth, IsWritten}
-use Rattle.edf_command.specs.declared.status.Status.TheVariants.{Trouble}
+use Rattle.edf_program.specs.Output.{growth, IsWritten}
+use Rattle.edf_program.specs.declared.status.Status.TheVariants.{Trouble}
 use Rattle.edf_command.proofs.converting.tell_memory.Goals as goal
 
 pub returns : goal.returns

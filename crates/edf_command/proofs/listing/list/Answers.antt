@@ -4,9 +4,9 @@ use Rattle.edf_holdings.proofs.KeyLists.{keys_are_one}
 use Rattle.edf_store.proofs.Readiness.{stays_then}
 use Rattle.edf_command.specs.Run.{AreHeldBy}
 use Rattle.edf_command.specs.Lines.{first_list_lines}
-use Rattle.edf_command.specs.Output.{growth, Gets, ArePut}
-use Rattle.edf_command.specs.declared.status.Status.TheVariants.{Done}
-use Rattle.edf_command.proofs.Puts.{nothing-gets, trouble-lines}
+use Rattle.edf_program.specs.Output.{growth, Gets, ArePut}
+use Rattle.edf_program.specs.declared.status.Status.TheVariants.{Done}
+use Rattle.edf_program.proofs.Puts.{nothing-gets, trouble-lines}
 use Rattle.edf_command.proofs.Staying.{was-clean, is-refusal}
 use Rattle.edf_command.proofs.listing.list.Goals as goal
 

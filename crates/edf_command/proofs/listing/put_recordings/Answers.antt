@@ -4,8 +4,8 @@ use Rattle.std.proofs.lemmas.List.{take_all}
 use Rattle.std.proofs.lemmas.Result.{err_from_is_err_and}
 use Rattle.edf_store.proofs.Readiness.{stays_then}
 use Rattle.edf_command.specs.Lines.{list_line, list_lines, first_list_lines}
-use Rattle.edf_command.specs.Output.{growth, Gets, IsLinePut}
-use Rattle.edf_command.proofs.Puts.{nothing-gets, gets-behind, gets-no_more, stops-behind}
+use Rattle.edf_program.specs.Output.{growth, Gets, IsLinePut}
+use Rattle.edf_program.proofs.Puts.{nothing-gets, gets-behind, gets-no_more, stops-behind}
 use Rattle.edf_command.proofs.Staying.{stays-same, was-clean}
 use Rattle.edf_command.proofs.Written.{listed-next, listed-past}
 use Rattle.edf_command.proofs.listing.put_recordings.Goals as goal

@@ -1,6 +1,6 @@
 use Rattle.std.proofs.Common.{◌∙◌, List, ℕ, subst}
-use Rattle.edf_command.specs.Output.{growth, IsWritten}
-use Rattle.edf_command.specs.declared.status.Status.TheVariants.{Trouble}
+use Rattle.edf_program.specs.Output.{growth, IsWritten}
+use Rattle.edf_program.specs.declared.status.Status.TheVariants.{Trouble}
 use Rattle.edf_command.proofs.listing.tell_refusal.Goals as goal
 
 pub returns : goal.returns

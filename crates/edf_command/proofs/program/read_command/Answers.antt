@@ -1,5 +1,5 @@
 use Rattle.std.proofs.Common.{inl, inr}
-use Rattle.edf_command.proofs.Puts.{nothing-gets}
+use Rattle.edf_program.proofs.Puts.{nothing-gets}
 use Rattle.edf_command.proofs.program.read_command.Goals as goal
 
 pub returns-in-Ok : goal.returns-in-Ok

@@ -1,7 +1,7 @@
 use Rattle.std.proofs.Common.{List, ℕ, sym, subst}
 use Rattle.edf_arguments.specs.Arguments.{meaning}
 use Rattle.edf_arguments.specs.declared.parsed_command.ParsedCommand.{ParsedCommand}
-use Rattle.edf_command.specs.Output.{growth}
+use Rattle.edf_program.specs.Output.{growth}
 use Rattle.edf_command.specs.Run.{IsDone, IsConverted}
 use Rattle.edf_command.proofs.running.run.Goals as goal
 

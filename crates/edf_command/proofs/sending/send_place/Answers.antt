@@ -5,10 +5,10 @@ use Rattle.edf_store.proofs.Readiness.{stays_then}
 use Rattle.edf_command.specs.Run.{at_place}
 use Rattle.edf_export.specs.declared.fault.ExportFault.TheVariants.{Store}
 use Rattle.edf_command.specs.Lines.{no_recording_line}
-use Rattle.edf_command.specs.Output.{growth, Explains}
-use Rattle.edf_command.specs.declared.status.Status.TheVariants.{Refused}
+use Rattle.edf_program.specs.Output.{growth, Explains}
+use Rattle.edf_program.specs.declared.status.Status.TheVariants.{Refused}
 use Rattle.edf_command.proofs.Staying.{was-clean, is-refusal}
-use Rattle.edf_command.proofs.Puts.{nothing-gets}
+use Rattle.edf_program.proofs.Puts.{nothing-gets}
 use Rattle.edf_command.proofs.sending.send_place.Goals as goal
 
 pub returns-in-Err : goal.returns-in-Err

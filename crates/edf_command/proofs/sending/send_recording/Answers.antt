@@ -1,5 +1,5 @@
 use Rattle.std.proofs.Common.{refl, inl, inr}
-use Rattle.edf_command.proofs.Puts.{nothing-gets}
+use Rattle.edf_program.proofs.Puts.{nothing-gets}
 use Rattle.edf_command.proofs.sending.send_recording.Goals as goal
 
 pub returns-in-Ok-clause-sent : goal.returns-in-Ok-clause-sent

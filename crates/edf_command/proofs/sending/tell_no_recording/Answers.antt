@@ -1,7 +1,7 @@
 use Rattle.std.proofs.Common.{List, ℕ, ◌++◌, ◌∷◌, [], subst, codes, ◌∙◌}
-use Rattle.edf_command.specs.Output.{IsWritten}
-use Rattle.edf_command.specs.declared.status.Status.TheVariants.{Refused}
-use Rattle.edf_command.proofs.Puts.{grown, put-sent, written-behind, cut-before}
+use Rattle.edf_program.specs.Output.{IsWritten}
+use Rattle.edf_program.specs.declared.status.Status.TheVariants.{Refused}
+use Rattle.edf_program.proofs.Puts.{grown, put-sent, written-behind, cut-before}
 use Rattle.edf_command.proofs.sending.tell_no_recording.Goals as goal
 
 pub returns-then-send : goal.returns-then-send

@@ -1,7 +1,8 @@
 use Rattle.std.proofs.Common.{◌∙◌, List, ℕ, ap, subst}
-use Rattle.edf_command.specs.Lines.{export_refused_line, status_of_number}
-use Rattle.edf_command.specs.Output.{growth, IsWritten}
-use Rattle.edf_command.specs.declared.status.Status.{Status}
+use Rattle.edf_command.specs.Lines.{export_refused_line}
+use Rattle.edf_program.specs.Status.{status_of_number}
+use Rattle.edf_program.specs.Output.{growth, IsWritten}
+use Rattle.edf_program.specs.declared.status.Status.{Status}
 use Rattle.edf_command.proofs.sending.tell_refusal.Goals as goal
 
 pub returns : goal.returns

@@ -4,8 +4,8 @@ use Rattle.std.proofs.lemmas.Result.{IfOk-weaker}
 use Rattle.std.proofs.lemmas.Slice.Zip.{zip_turn, zip_end}
 use Rattle.std.specs.List.{flat_map}
 use Rattle.edf_command.specs.Lines.{take_line, first_take_lines}
-use Rattle.edf_command.specs.Output.{growth, Gets}
-use Rattle.edf_command.proofs.Puts.{grown, nothing-gets, gets-behind, stops-behind}
+use Rattle.edf_program.specs.Output.{growth, Gets}
+use Rattle.edf_program.proofs.Puts.{grown, nothing-gets, gets-behind, stops-behind}
 use Rattle.edf_command.proofs.Written.{pairs, pair_line, length-pairs, first-pairs, all-pairs, taken-more, first-split}
 use Rattle.edf_command.proofs.taking.put_answers.Goals as goal
 

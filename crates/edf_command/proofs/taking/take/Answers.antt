@@ -4,8 +4,8 @@ use Rattle.std.proofs.lemmas.Simd.{map-map}
 use Rattle.edf_intake.specs.Refusal.{Answer}
 use Rattle.edf_intake.specs.Source.{Source}
 use Rattle.edf_command.specs.Lines.{first_take_lines, take_status}
-use Rattle.edf_command.specs.Output.{growth, ArePut}
-use Rattle.edf_command.proofs.Puts.{nothing-gets, trouble-lines}
+use Rattle.edf_program.specs.Output.{growth, ArePut}
+use Rattle.edf_program.proofs.Puts.{nothing-gets, trouble-lines}
 use Rattle.edf_command.proofs.taking.take.Goals as goal
 
 pub returns-in_default-clause-taken : goal.returns-in_default-clause-taken

@@ -7,9 +7,9 @@ use Rattle.std.proofs.KnownBytes.{Appends-nil, Appends-trans}
 use Rattle.std.specs.Bool.{MatchBool}
 use Rattle.std.specs.Io.KnownBytes.{Appends}
 use Rattle.edf_fragment.specs.Failures.{one_more}
-use Rattle.edf_command.specs.Output.{Growth, Gets, GetsFront, LacksText, IsPut, IsLinePut, IsWritten, IsTold, AreTold}
-use Rattle.edf_command.specs.declared.status.Status.{Status}
-use Rattle.edf_command.specs.declared.status.Status.TheVariants.{Trouble}
+use Rattle.edf_program.specs.Output.{Growth, Gets, GetsFront, LacksText, IsPut, IsLinePut, IsWritten, IsTold, AreTold}
+use Rattle.edf_program.specs.declared.status.Status.{Status}
+use Rattle.edf_program.specs.declared.status.Status.TheVariants.{Trouble}
 
 -- what a writer got, by the values before and after
 abbrev pub grown : Option (List ℕ) → ℕ → Option (List ℕ) → ℕ → Growth

@@ -5,8 +5,8 @@ use Rattle.std.specs.Io.KnownBytes.{Appends}
 use Rattle.edf_fragment.specs.Failures.{one_more}
 use Rattle.edf_fragment.specs.declared.streams.Output.{Ghosts}
 use Rattle.edf_canonical.specs.Output.{WritesFront}
-use Rattle.edf_command.specs.declared.status.Status.{Status}
-use Rattle.edf_command.specs.declared.status.Status.TheVariants.{Trouble}
+use Rattle.edf_program.specs.declared.status.Status.{Status}
+use Rattle.edf_program.specs.declared.status.Status.TheVariants.{Trouble}
 
 -- what a writer holds before and after, where that is known, and how many of its writes failed or took nothing
 pub record Growth : Type 0 where

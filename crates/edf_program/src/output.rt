@@ -1,7 +1,8 @@
 //! Writing lines.
 
 ghost use Rattle.std.specs.Prelude.{◌≡◌, ◌++◌, ℕ, [], List, false, IfOk, MatchResult};
-ghost use Rattle.edf_command.specs.Output.{growth, Gets, IsPut, IsLinePut, IsWritten, IsTold};
+ghost use Rattle.std.specs.List.{flat_map};
+ghost use Rattle.edf_program.specs.Output.{growth, Gets, IsPut, IsLinePut, IsWritten, IsTold};
 
 use crate::status::Status;
 use edf_fragment::{Output, send};
@@ -9,7 +10,7 @@ use std::alloc::AllocError;
 
 /// Writes a line, and answers whether it was written whole. One for whose text memory was refused
 /// is not written.
-pub(crate) fn put_line<W: Output>(out: &mut W, line: Result<Vec<u8>, AllocError>) -> bool
+pub fn put_line<W: Output>(out: &mut W, line: Result<Vec<u8>, AllocError>) -> bool
     ensures line { let w = growth W.Output out.old out.new in
         MatchResult line (λ l. IsPut w l.items result) (λ _. Gets w [] × (result ≡ false)) }
     ensures put { (text : List ℕ) → IfOk line (λ l. l.items ≡ text) →
@@ -22,7 +23,7 @@ pub(crate) fn put_line<W: Output>(out: &mut W, line: Result<Vec<u8>, AllocError>
 }
 
 /// Writes bytes and answers a status; trouble where they are not written whole.
-pub(crate) fn tell_bytes<W: Output>(out: &mut W, bytes: &[u8], status: Status) -> Status
+pub fn tell_bytes<W: Output>(out: &mut W, bytes: &[u8], status: Status) -> Status
     ensures { IsWritten (growth W.Output out.old out.new) bytes.now status result }
 {
     if send(out, bytes) {
@@ -33,7 +34,7 @@ pub(crate) fn tell_bytes<W: Output>(out: &mut W, bytes: &[u8], status: Status) -
 }
 
 /// Writes bytes in two parts and answers a status; trouble where they are not written whole.
-pub(crate) fn tell_pair<W: Output>(
+pub fn tell_pair<W: Output>(
     out: &mut W,
     first: &[u8],
     second: &[u8],
@@ -49,7 +50,7 @@ pub(crate) fn tell_pair<W: Output>(
 }
 
 /// Writes a line and answers a status; trouble where it is not written whole.
-pub(crate) fn tell<W: Output>(
+pub fn tell<W: Output>(
     out: &mut W,
     line: Result<Vec<u8>, AllocError>,
     status: Status,
@@ -64,4 +65,18 @@ pub(crate) fn tell<W: Output>(
     } else {
         Status::Trouble
     }
+}
+
+/// Writes the parts of a text one after another and answers a status; trouble where they are not
+/// written whole. It takes no memory.
+pub fn tell_parts<W: Output>(out: &mut W, parts: &[&[u8]], status: Status) -> Status
+    ensures { IsWritten (growth W.Output out.old out.new) (flat_map (λ part. part.now) parts.now)
+        status result }
+{
+    for part in parts {
+        if !send(out, part) {
+            return Status::Trouble;
+        }
+    }
+    status
 }

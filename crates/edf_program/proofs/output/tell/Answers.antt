@@ -1,8 +1,8 @@
 use Rattle.std.proofs.Common.{ℕ, Vec, Global}
-use Rattle.edf_command.specs.Output.{growth}
-use Rattle.edf_command.specs.declared.status.Status.TheVariants.{Trouble}
-use Rattle.edf_command.proofs.Puts.{line-told, told-whole, told-trouble}
-use Rattle.edf_command.proofs.output.tell.Goals as goal
+use Rattle.edf_program.specs.Output.{growth}
+use Rattle.edf_program.specs.declared.status.Status.TheVariants.{Trouble}
+use Rattle.edf_program.proofs.Puts.{line-told, told-whole, told-trouble}
+use Rattle.edf_program.proofs.output.tell.Goals as goal
 
 pub returns-then-put_line : goal.returns-then-put_line
 returns-then-put_line g c =

@@ -1,5 +1,5 @@
-use Rattle.edf_command.proofs.Puts.{put-sent, written-behind, cut-before}
-use Rattle.edf_command.proofs.output.tell_pair.Goals as goal
+use Rattle.edf_program.proofs.Puts.{put-sent, written-behind, cut-before}
+use Rattle.edf_program.proofs.output.tell_pair.Goals as goal
 
 pub returns-then-send : goal.returns-then-send
 returns-then-send g c =

@@ -1,18 +1,19 @@
 //! How a command ends.
 
 ghost use Rattle.std.specs.Prelude.{◌≡◌};
-ghost use Rattle.edf_command.specs.Lines.{exit_code, status_of_number, worse};
+ghost use Rattle.edf_program.specs.Status.{exit_code, status_of_number};
 
 /// How a command ends.
 #[derive(Clone, Copy, Debug, PartialEq, Eq, Drop)]
 pub enum Status {
     /// All was done.
     Done,
-    /// A file was refused, or no recording has the place.
+    /// A file was refused; or no recording or run is where the words say, or a file is there that
+    /// was to be made.
     Refused,
     /// The words ask for nothing that can be done.
     Usage,
-    /// E40 to E43 or E45 was met, or a line could not be written.
+    /// E40 to E43 or E45 was met, or a line could not be written, or a file not removed.
     Trouble,
 }
 
@@ -31,22 +32,11 @@ impl Status {
 }
 
 /// The status where a refusal of this number was met.
-pub(crate) fn status_of_number(number: u8) -> Status
+pub fn status_of_number(number: u8) -> Status
     ensures { result ≡ status_of_number number }
 {
     match number {
         40..=43 | 45 => Status::Trouble,
         _ => Status::Refused,
-    }
-}
-
-/// The worse of two: trouble, else a refusal.
-pub(crate) fn worse(status: Status, other: Status) -> Status
-    ensures { result ≡ worse status other }
-{
-    match (status, other) {
-        (Status::Done, other) => other,
-        (Status::Refused, Status::Trouble) => Status::Trouble,
-        (status, _) => status,
     }
 }

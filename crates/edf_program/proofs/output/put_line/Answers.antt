@@ -1,7 +1,7 @@
 use Rattle.std.proofs.Common.{List, ℕ, Vec, Global, false, subst, refl}
-use Rattle.edf_command.specs.Output.{IsPut}
-use Rattle.edf_command.proofs.Puts.{grown, put-sent, nothing-gets, line-put, IsPutBy}
-use Rattle.edf_command.proofs.output.put_line.Goals as goal
+use Rattle.edf_program.specs.Output.{IsPut}
+use Rattle.edf_program.proofs.Puts.{grown, put-sent, nothing-gets, line-put, IsPutBy}
+use Rattle.edf_program.proofs.output.put_line.Goals as goal
 
 pub returns-in-Ok : goal.returns-in-Ok
 returns-in-Ok g c =
