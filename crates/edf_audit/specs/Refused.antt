@@ -12,7 +12,8 @@ pub data IsUnchecked (old new : State) (e : Error) : Type 0 where
   untold : IsUntold old new e → IsUnchecked old new e
   too_many : e ≡ SqliteFailure IntegerOverflow → 9223372036854775807 ≤ length (stored_records old.now.trees) → IsUnchecked old new e
 
--- the file is not checked: a table is not made, a transaction was open before the call, or the rows are not checked
+-- the file is not checked: a table is not made, a transaction was open before the call, or the rows
+-- are not checked
 pub data IsUnaudited (old new : State) (e : Error) : Type 0 where
   unmade : IsUnmade old new e → IsUnaudited old new e
   inside : e ≡ SqliteFailure TransactionState → IsTrue old.in_transaction → IsUnaudited old new e

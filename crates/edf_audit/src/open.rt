@@ -44,9 +44,10 @@ fn audit_tables<S: Alter>(alloc: Global, conn: &mut Connection<S>, cap: u32) -> 
 /// Whether a file is one that submissions under the cap leave; if its tables are ours, those that
 /// are missing are made.
 ///
-/// A file with any other table, index or view, or with other columns under our names, is left as it
-/// is. Whatever is answered, the committed rows stay, and what is shown stays or an open
-/// transaction is undone: clause `stays`.
+/// They are ours in a file with nothing, with the first alone, or with both first and in their
+/// order, where what comes after them has trees of its own and is no index and no trigger on them.
+/// Any other file is left as it is. Whatever is answered, the committed rows stay, and what is
+/// shown stays or an open transaction is undone: clause `stays`.
 ///
 /// # Errors
 /// `sqlite`'s; the committed rows stay, an open transaction may be undone, and tables may have been

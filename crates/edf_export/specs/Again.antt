@@ -8,15 +8,17 @@ use Rattle.edf_holdings.specs.Free.{IsFree, SameRecords}
 use Rattle.edf_holdings.specs.Laws.{AreSoundTold}
 use Rattle.edf_canonical.specs.File.{IsCanonicalFile}
 
--- the file of a key's records tells just them; the holdings answer it as accepted with nothing new, and where nothing is held
--- it is accepted with every record new, and is the file of what is then held
+-- the file of a key's records tells just them; the holdings answer it as accepted with nothing new,
+-- and where nothing is held it is accepted with every record new, and is the file of what is then
+-- held
 pub record IsAcceptedAgain (cap : ℕ) (h : Holdings) (k : Key) (file : List ℕ) : Type 0 where
   pub tells : Tells file (Fragment k (h k))
   pub known : reply cap h (Fragment k (h k)) ≡ Accepted k 0 (length (h k))
   pub new : reply cap nothing_held (Fragment k (h k)) ≡ Accepted k (length (h k)) 0
   pub again : IsCanonicalFile file k (after_one cap nothing_held (Fragment k (h k)) k)
 
--- two lists that are free of conflicts and hold the same records, however cut, ordered or repeated, leave what has the same file
+-- two lists that are free of conflicts and hold the same records, however cut, ordered or repeated,
+-- leave what has the same file
 abbrev pub ExportAlike : Type 0
 ExportAlike = (cap : ℕ) (h : Holdings) (tolds others : List Told) → IsSound cap h → AreSoundTold tolds → AreSoundTold others →
     IsFree cap h tolds → IsFree cap h others → SameRecords tolds others →

@@ -11,7 +11,8 @@ use Rattle.edf_canonical.specs.Output.{WritesFront}
 use Rattle.edf_export.specs.declared.fault.ExportFault.{ExportFault}
 use Rattle.edf_export.specs.declared.fault.ExportFault.TheVariants.{NoRecording, Store, Memory, Write}
 
--- the canonical file of the records went out, of which no other bytes are one, and this is its length
+-- the canonical file of the records went out, of which no other bytes are one, and this is its
+-- length
 pub record IsExported (before after : Option (List ℕ)) (k : Key) (records : List DataRecord) (len : ℕ) : Type 0 where
   pub file : List ℕ
   pub canonical : IsCanonicalFile file k records
@@ -25,7 +26,8 @@ pub record StopsInFile (before after : Option (List ℕ)) (k : Key) (records : L
   pub canonical : IsCanonicalFile file k records
   pub wrote : WritesFront before after file
 
--- of each canonical file that the records have, and they have one at most, a front went out; nothing where there is no record
+-- of each canonical file that the records have, and they have one at most, a front went out;
+-- nothing where there is no record
 abbrev pub StaysInFile : Option (List ℕ) → Option (List ℕ) → Key → List DataRecord → Type 0
 StaysInFile before after k [] = Keeps before after
 StaysInFile before after k (r ∷ rs) = (file : List ℕ) → IsCanonicalFile file k (r ∷ rs) → WritesFront before after file

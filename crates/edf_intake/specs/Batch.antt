@@ -1,5 +1,5 @@
--- What a list of submissions answers, and what it leaves: first the plain case, where each answer tells a reply; then every case,
--- input by input; and last what a crash may leave.
+-- What a list of submissions answers, and what it leaves: first the plain case, where each answer
+-- tells a reply; then every case, input by input; and last what a crash may leave.
 use Rattle.std.specs.Prelude.{◌≡◌, ◌⊎◌, ℕ, List, [], ◌∷◌, ◌++◌, map, Option, Some, None, Err}
 use Rattle.std.specs.List.{AllByRecursion, AllZip}
 use Rattle.sqlite_trees.specs.declared.store.Store.{Ghosts}
@@ -20,15 +20,16 @@ abbrev pub WillTell : Source → Told → Type 0
 WillTell from told = (bytes : List ℕ) × (from.left ≡ Some bytes) × Tells bytes told
 
 module _ {S : Type 0} (g : Ghosts S) (old new : StoreModel S) where
-  -- the plain case: where the inputs tell these and each answer tells a reply, the answers are the replies to the list, and what is
-  -- held then is what the list leaves
+  -- the plain case: where the inputs tell these and each answer tells a reply, the answers are the
+  -- replies to the list, and what is held then is what the list leaves
   abbrev pub AnswersAll : List Source → List Answer → Type 0
   AnswersAll froms answers = (tolds : List Told) (given : List Reply) →
       AllZip WillTell froms tolds →
       map reply_told answers ≡ map Some given → (h : Holdings) → Holds g old h →
       (HasCleanDisk (at g new) → given ≡ replies old.cap h tolds) × Holds g new (after old.cap h tolds)
 
--- one input's turn: how it was found and left, its answer, and what it told: nothing, where the answer was E40 to E42 or E45
+-- one input's turn: how it was found and left, its answer, and what it told: nothing, where the
+-- answer was E40 to E42 or E45
 pub record Turn : Type 0 where
   pub from : Source
   pub to : Source
@@ -55,7 +56,8 @@ MayBeAnswered (Fragment key records) (Form fault) = ⊥
 MayBeAnswered (Fragment key records) (Accepted k new known) = k ≡ key
 MayBeAnswered (Fragment key records) answer = Unit {0}
 
--- the input was read as its answer says: it told this, and the answer tells a reply; or neither tells anything
+-- the input was read as its answer says: it told this, and the answer tells a reply; or neither
+-- tells anything
 abbrev pub GoesWith : Turn → Option Told → Option Reply → Type 0
 GoesWith t (Some told) (Some answer) = Hears t.from t.to told × MayBeAnswered told answer
 GoesWith t None None = (FailsToRead t.from t.to ⊎ IsStopped t.answer) × ReadsFront t.from t.to
@@ -69,12 +71,14 @@ abbrev pub IsOwnRefusal : {S : Type 0} → Ghosts S → StoreModel S → Answer 
 IsOwnRefusal g new (Err (refusal.Store fault)) = IsRefusal g new fault
 IsOwnRefusal g new answer = Unit {0}
 
--- the next input's answer is E41 or E42, and the rows stand for what is held with that submitted which it tells
+-- the next input's answer is E41 or E42, and the rows stand for what is held with that submitted
+-- which it tells
 abbrev pub AreUnended : ℕ → Holdings → List Turn → Trees → Type 0
 AreUnended cap h [] rows = ⊥
 AreUnended cap h (t ∷ ts) rows = IsInDoubt t.answer × ((told : Told) × Hears t.from t.to told × AreKept cap rows (after_one cap h told))
 
--- what a crash may leave: rows that stand for what some first inputs leave, or for that and the next
+-- what a crash may leave: rows that stand for what some first inputs leave, or for that and the
+-- next
 pub record AreLeftBy (cap : ℕ) (h : Holdings) (turns : List Turn) (rows : Trees) : Type 0 where
   pub before : List Turn
   pub behind : List Turn
@@ -82,8 +86,9 @@ pub record AreLeftBy (cap : ℕ) (h : Holdings) (turns : List Turn) (rows : Tree
   pub stand : AreKept cap rows (after cap h (told_in before)) ⊎ AreUnended cap (after cap h (told_in before)) behind rows
 
 module _ {S : Type 0} (g : Ghosts S) (old new : StoreModel S) where
-  -- every case: the inputs were submitted in turn. Those answered E40 to E42 or E45 add nothing; the others are answered and leave
-  -- what they would without those; a crash leaves what it could leave before, or what some first inputs leave
+  -- every case: the inputs were submitted in turn. Those answered E40 to E42 or E45 add nothing;
+  -- the others are answered and leave what they would without those; a crash leaves what it could
+  -- leave before, or what some first inputs leave
   pub record AreSubmitted (froms tos : List Source) (answers : List Answer) : Type 0 where
     pub turns : List Turn
     pub froms_are : map (λ (t : Turn). t.from) turns ≡ froms
@@ -96,7 +101,8 @@ module _ {S : Type 0} (g : Ghosts S) (old new : StoreModel S) where
     pub others : KeepsCommittedOthers (at g old) (at g new)
     pub crash : Survives (at g old) (at g new) (λ rows. (h : Holdings) → Holds g old h → AreLeftBy old.cap h turns rows)
 
--- after the last input no transaction is open, as its answer says; without inputs the store is as it was
+-- after the last input no transaction is open, as its answer says; without inputs the store is as
+-- it was
 abbrev pub AreEnded : {S : Type 0} → Ghosts S → StoreModel S → StoreModel S → List Answer → Type 0
 AreEnded g old new [] = new ≡ old
 AreEnded g old new (answer ∷ []) = IsEnded g new answer

@@ -11,7 +11,8 @@ use Rattle.edf_fragment.specs.declared.advance.Progress.{Progress}
 use Rattle.edf_fragment.specs.declared.fault.FragmentFault.{FragmentFault}
 use Rattle.edf_fragment.specs.declared.fault.FragmentFault.TheVariants.{Read, Memory, Failed}
 
--- an input: the bytes that it has left, where these are known, and how many reads of it failed so far
+-- an input: the bytes that it has left, where these are known, and how many reads of it failed so
+-- far
 pub record Source : Type 0 where
   pub left : Option (List ℕ)
   pub failed : ℕ
@@ -70,7 +71,8 @@ module _ (from to : Source) where
     pub is_fault : IsFragmentFault from.left to.left Memory
     pub counted : NoReadFailed
 
-  -- how far the input was read where memory ran out or the store refused: not at all; a header and some data records; up to
-  -- where memory ran out; as far as an answer needs that the store then kept from being told
+  -- how far the input was read where memory ran out or the store refused: not at all; a header and
+  -- some data records; up to where memory ran out; as far as an answer needs that the store then
+  -- kept from being told
   abbrev pub ReadsFront : Type 0
   ReadsFront = (to ≡ from) ⊎ (ReadsSome ⊎ (LacksMemory ⊎ (FailsToRead ⊎ ((told : Told) × Hears told))))

@@ -1,5 +1,5 @@
--- What a submission answers, and what it leaves. Each case says what the input told and what is answered, then what is held after
--- the call, and last what a crash in it may leave.
+-- What a submission answers, and what it leaves. Each case says what the input told and what is
+-- answered, then what is held after the call, and last what a crash in it may leave.
 use Rattle.std.specs.Prelude.{◌≡◌, ◌≢◌, ◌⊎◌, false, List, None, Ok, Err, IsTrue}
 use Rattle.sqlite_trees.specs.declared.store.Store.{Ghosts}
 use Rattle.sqlite_trees.specs.Tree.{Trees}
@@ -19,7 +19,8 @@ use Rattle.edf_intake.specs.Source.{Source, Hears, ReadsWhole, FailsToRead, Read
 use Rattle.edf_intake.specs.declared.answer.Receipt.{Receipt}
 use Rattle.edf_intake.specs.declared.answer.Refusal.TheVariants as refusal
 
--- the store refused, E42 or E45: out of memory is a refusal of its own, E41, and on a clean disk it is not E45
+-- the store refused, E42 or E45: out of memory is a refusal of its own, E41, and on a clean disk it
+-- is not E45
 pub record IsRefusal {S : Type 0} (g : Ghosts S) (new : StoreModel S) (fault : StoreFault) : Type 0 where
   pub other : fault ≢ store.Memory
   pub told : (fault ≡ store.Foreign) ⊎ IsStoreRefusal fault
@@ -34,8 +35,8 @@ module _ {S : Type 0} (g : Ghosts S) (old new : StoreModel S) where
   abbrev pub AreLeft : Told → Trees → Type 0
   AreLeft told rows = (h : Holdings) → Holds g old h → AreKept old.cap rows (after_one old.cap h told)
 
-  -- what is told was submitted: the store holds what that leaves, with what was beside it, and is open; a crash leaves what it
-  -- could leave before, or that
+  -- what is told was submitted: the store holds what that leaves, with what was beside it, and is
+  -- open; a crash leaves what it could leave before, or that
   pub record Leaves (told : Told) : Type 0 where
     pub cap : new.cap ≡ old.cap
     pub holdings : (h : Holdings) → Holds g old h → Holds g new (after_one old.cap h told)
@@ -43,7 +44,8 @@ module _ {S : Type 0} (g : Ghosts S) (old new : StoreModel S) where
     pub is_open : HasCleanDisk (at g new) → IsTrue (at g new).is_open
     pub crash : Survives (at g old) (at g new) (AreLeft told)
 
-  -- what is held stays, and what is beside it; yet after a crash the store may hold what is told too
+  -- what is held stays, and what is beside it; yet after a crash the store may hold what is told
+  -- too
   pub record MayLeave (told : Told) : Type 0 where
     pub cap : new.cap ≡ old.cap
     pub holdings : (h : Holdings) → Holds g old h → Holds g new h
@@ -58,8 +60,8 @@ module _ {S : Type 0} (g : Ghosts S) (old new : StoreModel S) where
       pub reply_is : RepliesWith (Fragment receipt.identity records) (Accepted receipt.identity receipt.new receipt.known)
       pub leaves : Leaves (Fragment receipt.identity records)
 
-    -- the input tells this, and this is how it is refused; what is held stays, and a crash leaves what it
-    -- could leave before
+    -- the input tells this, and this is how it is refused; what is held stays, and a crash leaves
+    -- what it could leave before
     pub record Refuses (told : Told) (answer : Reply) : Type 0 where
       pub read : Hears from to told
       pub reply_is : RepliesWith told answer
@@ -73,8 +75,8 @@ module _ {S : Type 0} (g : Ghosts S) (old new : StoreModel S) where
       pub read : FailsToRead from to
       pub stays : Stays g old new
 
-    -- memory ran out or the store refused; what is held stays. Only after E41 and E42, and where the whole input was read and
-    -- told a fragment, may a crash leave that it was submitted
+    -- memory ran out or the store refused; what is held stays. Only after E41 and E42, and where
+    -- the whole input was read and told a fragment, may a crash leave that it was submitted
     abbrev pub StopsThere : Answer → Type 0
     StopsThere answer = (Stays g old new × ReadsFront from to)
         ⊎ (IsInDoubt answer × ((key : Key) × (records : List DataRecord) × ReadsWhole from to key records × MayLeave (Fragment key records)))

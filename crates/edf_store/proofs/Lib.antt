@@ -1,3 +1,4 @@
+pub mod Begun
 pub mod Decoding
 pub mod Faults
 pub mod Found

@@ -36,14 +36,15 @@ pub record IsSoundStore (cap : ℕ) (s : State) : Type 0 where
   pub schema : HasCleanDisk s → IsTrue s.is_open → HasBoth s.committed.schema
   pub holdings : HasCleanDisk s → IsTrue s.is_open → (h : Holdings) × AreKept cap s.committed.trees h
 
--- what is committed beside our two tables is as it was, where the connection is still open after the call; what a crash in the
--- call may leave has it too
+-- what is committed beside our two tables is as it was, where the connection is still open after
+-- the call; what a crash in the call may leave has it too
 pub record KeepsCommittedOthers (old new : State) : Type 0 where
   pub was_open : HasCleanDisk new → IsTrue new.is_open → IsTrue old.is_open
   pub others : HasCleanDisk new → IsTrue new.is_open → KeepsOthers old.committed new.committed
   pub crash : Survives old new (λ rows. IsTrue old.is_open × KeepsTrees old.committed.schema old.committed.trees rows)
 
--- a call leaves the holdings as they are, and what is beside them; a crash in it leaves nothing but what it could leave before
+-- a call leaves the holdings as they are, and what is beside them; a crash in it leaves nothing but
+-- what it could leave before
 pub record Stays {S : Type 0} (g : Ghosts S) (old new : StoreModel S) : Type 0 where
   pub cap : new.cap ≡ old.cap
   pub holdings : (h : Holdings) → Holds g old h → Holds g new h

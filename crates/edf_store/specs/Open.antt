@@ -12,8 +12,8 @@ use Rattle.edf_store.specs.Fault.{IsStoreRefusal}
 use Rattle.edf_store.specs.declared.fault.StoreFault.{StoreFault}
 use Rattle.edf_store.specs.declared.fault.StoreFault.TheVariants.{Foreign}
 
--- the store has the rows that were there, which stand for holdings, and no transaction is open; a crash leaves missing tables
--- made, and the rows as they were
+-- the store has the rows that were there, which stand for holdings, and no transaction is open; a
+-- crash leaves missing tables made, and the rows as they were
 pub record IsOpened {S : Type 0} (g : Ghosts S) (conn : Held S) (store : StoreModel S) : Type 0 where
   pub is_open : HasCleanDisk (at g store) → IsTrue (at g store).is_open
   pub idle : HasCleanDisk (at g store) → (at g store).in_transaction ≡ false
@@ -23,8 +23,8 @@ pub record IsOpened {S : Type 0} (g : Ghosts S) (conn : Held S) (store : StoreMo
   pub crash : Survives (state g conn) (at g store) (IsMadeOf (state g conn).now)
 
 -- the connection is given up somewhere. Where its disk is clean there, its rows are as they were,
--- whatever the refusal is; E45 tells that the file was foreign, and tables of ours are made where they
--- were missing; a crash leaves the same as above
+-- whatever the refusal is; E45 tells that the file was foreign, and tables of ours are made where
+-- they were missing; a crash leaves the same as above
 pub record IsGivenUp {S : Type 0} (g : Ghosts S) (conn : Held S) (cap : ℕ) (fault : StoreFault) : Type 0 where
   pub end : Held S
   pub told : (fault ≡ Foreign) ⊎ IsStoreRefusal fault

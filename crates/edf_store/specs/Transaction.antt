@@ -14,7 +14,8 @@ use Rattle.edf_tables.specs.Others.{KeepsOthers}
 use Rattle.edf_rows.specs.Rows.{IsThere, StandFor, AreKept}
 use Rattle.edf_store.specs.Held.{StoreModel, at}
 
--- a transaction is open, and its rows stand for these sound holdings; what is beside them is as the last commit left it
+-- a transaction is open, and its rows stand for these sound holdings; what is beside them is as the
+-- last commit left it
 pub record IsTransactionOf (cap : ℕ) (s : State) (h : Holdings) : Type 0 where
   pub is_open : IsTrue s.is_open
   pub inside : IsInside s
@@ -68,8 +69,9 @@ IsCountIn cap s id count = (h : Holdings) (k : Key) → AreSeen cap s h → IsUn
 abbrev pub TellsRoomIn : ℕ → State → ℤ → ℕ → Bool → Type 0
 TellsRoomIn cap s id more answer = (h : Holdings) (k : Key) → AreSeen cap s h → IsUnder s id k → answer ≡ nat_le (length (h k) + more) cap
 
--- there is a place for the record: none is near it, there are fewer than the cap, and where the recording holds none, it may
--- start with the record (one that holds some has a date or began before 2085, as sound holdings do)
+-- there is a place for the record: none is near it, there are fewer than the cap, and where the
+-- recording holds none, it may start with the record (one that holds some has a date or began
+-- before 2085, as sound holdings do)
 pub record HasPlace (cap : ℕ) (k : Key) (r : DataRecord) (h : Holdings) : Type 0 where
   pub none_near : near_of (duration_of k.duration) r.start (h k) ≡ []
   pub few : length (h k) < cap

@@ -16,9 +16,9 @@ use Rattle.edf_store.specs.declared.progress.Progress.{Progress}
 abbrev pub starts_later : ℤ → DataRecord → Bool
 starts_later after r = is_gt (int_cmp (pos r.start) after)
 
--- no transaction is open, and the recording is the key's in these holdings. The first n of its records are given; those that
--- start after `after.start`, which is -1 before the first, come next, and the rows that were read ahead show the first of them.
--- Without a recording none is left
+-- no transaction is open, and the recording is the key's in these holdings. The first n of its
+-- records are given; those that start after `after.start`, which is -1 before the first, come next,
+-- and the rows that were read ahead show the first of them. Without a recording none is left
 pub record IsWalkAfter (cap : ℕ) (s : State) (recording : Option ℤ) (after : Progress) (h : Holdings) (k : Key) (n : ℕ) : Type 0 where
   pub is_open : IsTrue s.is_open
   pub idle : s.in_transaction ≡ false

@@ -103,12 +103,13 @@ impl<S: Alter + Drop> Store<S> {
     /// No recording has, or will have, more than `cap` data records; `cap` is 1 to 99,999,999.
     ///
     /// # Errors
-    /// `Foreign` (E45) where the file's schema is not one that this call leaves or completes (it
-    /// has any other table, index or view, other columns under our names, or our tables in another
-    /// order), or where it has rows that submissions do not leave under this cap; else `Memory`
-    /// (E41) or `Store` (E42). The connection is given up. Its rows are as they were, by clause
-    /// `stays` of `edf_audit::audit`, and where no other table was there, a missing one may have
-    /// been made.
+    /// `Foreign` (E45) where the file's schema is not one that this call leaves or completes, or
+    /// where it has rows that submissions do not leave under this cap; else `Memory` (E41) or
+    /// `Store` (E42). It leaves our two tables where they come first, in their order, and what
+    /// comes after them has trees of its own and is no index and no trigger on them; it completes a
+    /// file with nothing, or with the first table alone. The connection is given up. Its rows are
+    /// as they were, by clause `stays` of `edf_audit::audit`, and in a file to complete, a missing
+    /// table may have been made.
     pub fn open(alloc: Global, mut conn: Connection<S>, cap: u32) -> Result<Store<S>, StoreFault>
         requires cap_from { 1 ≤ cap }
         requires cap_to { cap ≤ 99_999_999 }

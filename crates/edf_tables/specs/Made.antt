@@ -22,13 +22,15 @@ pub data HasTables (old new : Database) : Type 0 where
   from_one : old.schema ≡ one_schema → new.schema ≡ both_schema → stored_recordings new.trees ≡ stored_recordings old.trees → stored_records new.trees ≡ [] → HasTables old new
   from_both : HasBoth old.schema → new ≡ old → HasTables old new
 
--- the file is as it was, or missing tables are made, the first or both, and its rows are those that it had
+-- the file is as it was, or missing tables are made, the first or both, and its rows are those that
+-- it had
 abbrev pub KeepsTables : Database → Database → Type 0
 KeepsTables old new = (new ≡ old) ⊎ (HasFirst old new ⊎ HasTables old new)
 
--- What stays while the connection is open, whatever was answered. What is committed is as it was, or
--- outside a transaction missing tables are made in it. What is shown is as it was, missing tables made,
--- or, as where a transaction was undone, it is what is committed, and none is open. No transaction has begun.
+-- What stays while the connection is open, whatever was answered. What is committed is as it was,
+-- or outside a transaction missing tables are made in it. What is shown is as it was, missing
+-- tables made, or, as where a transaction was undone, it is what is committed, and none is open. No
+-- transaction has begun.
 pub record KeepsFile (old new : State) : Type 0 where
   pub was_open : IsTrue new.is_open → IsTrue old.is_open
   pub committed : IsTrue new.is_open → (new.committed ≡ old.committed) ⊎ ((old.in_transaction ≡ false) × KeepsTables old.now new.committed)

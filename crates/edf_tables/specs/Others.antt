@@ -11,8 +11,9 @@ use Rattle.edf_tables.specs.Schema.{recording, records}
 abbrev pub other_rows : Database → List (List Row)
 other_rows db = map (λ t. db.trees t.tree) (drop 2 db.schema.tables)
 
--- each tree is as it was but for those of our two tables and of indexes: so are the rows of every other table, also of one that
--- SQLite's port keeps unread, and the list of tables, indexes, views and triggers with their texts
+-- each tree is as it was but for those of our two tables and of indexes: so are the rows of every
+-- other table, also of one that SQLite's port keeps unread, and the list of tables, indexes, views
+-- and triggers with their texts
 abbrev pub KeepsTrees : Schema → Trees → Trees → Type 0
 KeepsTrees schema old new = (tree : ℕ) → tree ≢ recording.tree → tree ≢ records.tree → IsNoIndex schema tree → new tree ≡ old tree
 

@@ -20,7 +20,8 @@ use Rattle.edf_tables.specs.Row.{new_row, one_row, stored_size}
 abbrev pub HasFailed : State → State → Type 0
 HasFailed old new = min (old.faults + 1) (2 ^ 64 - 1) ≤ new.faults
 
--- memory ran out; the disk failed; or the connection was shut, before the call or since by a failure of the disk
+-- memory ran out; the disk failed; or the connection was shut, before the call or since by a
+-- failure of the disk
 pub data IsSystemFailure (old new : State) (e : Error) : Type 0 where
   no_memory : e ≡ SqliteFailure OutOfMemory → IsSystemFailure old new e
   disk_failed : IsTrue (is_disk_error e) → HasFailed old new → IsSystemFailure old new e
@@ -38,7 +39,8 @@ pub data IsTurnRefused (is_inside : Bool) (old new : State) (e : Error) : Type 0
   out_of_turn : e ≡ SqliteFailure TransactionState → old.in_transaction ≡ is_inside → IsTurnRefused is_inside old new e
 
 -- these cells in a table are refused for these, or since the row is larger than the 10^9 bytes that
--- `sqlite` stores, the steps that it may take ran out, or the row breaks this rule of our tables, whatever is beside them
+-- `sqlite` stores, the steps that it may take ran out, or the row breaks this rule of our tables,
+-- whatever is beside them
 pub data IsUnadded (table : Table) (cells : Row) (old new : State) (e : Error) : Type 0 where
   stopped : IsSystemFailure old new e → IsUnadded table cells old new e
   too_big : e ≡ SqliteFailure TooBig → 10 ^ 9 < stored_size (new_row (old.now.trees table.tree) cells) → IsUnadded table cells old new e

@@ -24,7 +24,8 @@ added rows cells = put_row (new_row rows cells) rows
 abbrev pub one_row : Trees → Table → Row → Edit
 one_row trees table cells = record { table = table; gone = []; news = new_row (trees table.tree) cells ∷ [] }
 
--- the bytes that a row takes at most: those of its cells, and 18 for the type and the number of each
+-- the bytes that a row takes at most: those of its cells, and 18 for the type and the number of
+-- each
 abbrev pub stored_size : Row → ℕ
 stored_size row = sum_by (λ v. 18 + length (bytes v)) row
 

@@ -1,4 +1,5 @@
--- What a statement does to the connection that it runs on. But for the crash, it is said of disks that return what was written.
+-- What a statement does to the connection that it runs on. But for the crash, it is said of disks
+-- that return what was written.
 use Rattle.std.specs.Prelude.{Result, IfOk, IfErr, OnOk, OnErr}
 use Rattle.sqlite_trees.specs.declared.store.Store.{Ghosts}
 use Rattle.sqlite_trees.specs.Tree.{Trees}

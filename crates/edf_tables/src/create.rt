@@ -13,8 +13,8 @@ ghost use Rattle.edf_tables.specs.Statement.{IfClean, Leaves, FailsAs, KeepsComm
 use edf_schema::has_both;
 use sqlite::{Alter, Connection, Error};
 
-/// Makes the table `recording` where it is missing, in a file that has nothing else. The number is `sqlite`'s count of changed rows,
-/// and nothing is promised of it.
+/// Makes the table `recording` where it is missing, in a file that has nothing else. The number is
+/// `sqlite`'s count of changed rows, and nothing is promised of it.
 ///
 /// # Errors
 /// `sqlite`'s; nothing is committed then. A crash leaves the table as it was, or made.
@@ -38,7 +38,8 @@ fn create_recording<S: Alter>(conn: &mut Connection<S>) -> Result<usize, Error>
     )
 }
 
-/// Makes the table `record` where `recording` is alone. Of the number nothing is promised, as above.
+/// Makes the table `record` where `recording` is alone. Of the number nothing is promised, as
+/// above.
 ///
 /// # Errors
 /// `sqlite`'s; nothing is committed then. A crash leaves the table as it was, or made.

@@ -15,7 +15,8 @@ pub record KeepsRows (old new : State) : Type 0 where
   pub mode : new.in_transaction ≡ old.in_transaction
   pub stays : IsTrue old.is_open → IsTrue new.is_open
 
--- nothing was committed and no transaction began; what is shown is as it was, or a transaction was undone, and it is what is committed
+-- nothing was committed and no transaction began; while the connection is open, what is shown is as
+-- it was, or, as where a transaction was undone, it is what is committed, and none is open
 pub record KeepsShown (old new : State) : Type 0 where
   pub commit : KeepsCommit old new
   pub shown : IsTrue new.is_open → (new.now ≡ old.now) ⊎ ((new.now ≡ new.committed) × (new.in_transaction ≡ false))

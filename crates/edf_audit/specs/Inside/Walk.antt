@@ -64,7 +64,8 @@ pub data IsRowRefused (last : Option ℕ) (row : Row) (e : Error) : Type 0 where
 abbrev pub IsWrong : Key → Option ℕ → Row → Type 0
 IsWrong k last row = IsBadRow k row ⊎ (IsNear k last row ⊎ IsLateFirst k last row)
 
--- sound records, a duration apart, with which the recording may begin, at least one and at most the cap
+-- sound records, a duration apart, with which the recording may begin, at least one and at most the
+-- cap
 pub record HasSound (cap : ℕ) (k : Key) (rows : List Row) (count : ℕ) : Type 0 where
   pub records : List DataRecord
   pub shown : rows ≡ map record_cells records

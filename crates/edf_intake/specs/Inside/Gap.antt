@@ -8,7 +8,8 @@ use Rattle.edf_store.specs.Held.{StoreModel}
 use Rattle.edf_store.specs.Transaction.{Sees}
 use Rattle.edf_intake.specs.declared.gap.Gap.{Gap}
 
--- the start is not between the gap's ends: it is the first or earlier, or the second or later. Without a second the gap does not end
+-- the start is not between the gap's ends: it is the first or earlier, or the second or later.
+-- Without a second the gap does not end
 abbrev pub IsOutside : Gap → ℕ → Type 0
 IsOutside gap start = (start ≤ gap.from) ⊎ IsSomeAnd gap.until (λ until. until ≤ start)
 

@@ -27,7 +27,8 @@ abbrev pub refusal_of : StoreFault → Refusal
 refusal_of store.Memory = Memory
 refusal_of fault = Refused fault
 
--- inside a transaction the store refuses with E41, with E42 and its cause, or with E45, which a clean disk never gives
+-- inside a transaction the store refuses with E41, with E42 and its cause, or with E45, which a
+-- clean disk never gives
 pub record IsRefusedInside {S : Type 0} (g : Ghosts S) (new : StoreModel S) (fault : StoreFault) : Type 0 where
   pub told : (fault ≡ store.Foreign) ⊎ IsStoreRefusal fault
   pub caused : fault ≢ store.Store None

@@ -1,4 +1,5 @@
--- What one data record of a fragment meets in the store, and what all that were read so far have met.
+-- What one data record of a fragment meets in the store, and what all that were read so far have
+-- met.
 use Rattle.std.specs.Prelude.{◌≡◌, ◌⊎◌, ℕ, ◌+◌, ◌<◌, ◌≤◌, true, List, [], ◌∷◌, length, Some, None, MatchOption}
 use Rattle.sqlite_trees.specs.declared.store.Store.{Ghosts}
 use Rattle.edf_field.specs.Number.{duration_of}

@@ -1,5 +1,6 @@
 use Rattle.sqlite.specs.Held.{state}
-use Rattle.edf_store.proofs.Held.{committed_others, refused_others}
+use Rattle.edf_store.proofs.Begun.{refused_told, refused_caused}
+use Rattle.edf_store.proofs.Held.{still_sound, committed_others, refused_others}
 use Rattle.edf_store.proofs.Steps.{committed_held, committed_sound, seen_survives}
 use Rattle.edf_store.proofs.ending.commit_all.Goals as goal
 
@@ -7,6 +8,24 @@ pub returns-in_err-commit-clause-survives : goal.returns-in_err-commit-clause-su
 returns-in_err-commit-clause-survives g c =
     let whole = rw (← c.store.view_is) at c.requires.whole in
     rw (← c.store.view_is) (seen_survives c.store.inside.cap (state g.S.Store c.store.inside.conn) (state g.S.Store c.commit.new.conn) c.commit.ensures.survives whole)
+
+pub returns-in_err-commit-clause-told : goal.returns-in_err-commit-clause-told
+returns-in_err-commit-clause-told g c = refused_told _ c.from_residual.result c.from_residual.ensures.1
+
+pub returns-in_err-commit-clause-caused : goal.returns-in_err-commit-clause-caused
+returns-in_err-commit-clause-caused g c = refused_caused _ c.from_residual.result c.from_residual.ensures.1
+
+pub returns-in_err-commit-clause-ended : goal.returns-in_err-commit-clause-ended
+returns-in_err-commit-clause-ended g c = c.commit.ensures.ended
+
+pub returns-clause-ended : goal.returns-clause-ended
+returns-clause-ended g c = c.commit.ensures.ended
+
+pub returns-clause-is_open : goal.returns-clause-is_open
+returns-clause-is_open g c clean = (c.in_ok-commit.ensures.committed clean).is_open
+
+pub invariant_of-store : goal.invariant_of-store
+invariant_of-store g c = still_sound c.store.inside.cap (state g.S.Store c.store.inside.conn) (state g.S.Store c.commit.new.conn) _ c.commit.ensures.survives c.in_err-commit.ensures.refused c.store.invariant
 
 pub invariant_of-store-2 : goal.invariant_of-store-2
 invariant_of-store-2 g c =

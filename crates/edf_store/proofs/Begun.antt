@@ -1,0 +1,52 @@
+-- What a transaction sees as it begins, what a call that does nothing leaves, and the refusals that
+-- an error of `sqlite`'s becomes.
+use Rattle.std.proofs.Common.{◌≡◌, ◌≢◌, ℕ, true, IsTrue, refl, sym, subst, subst₂, ◌∙◌, arith, Result, IfErr, IsErrAnd, None}
+use Rattle.std.proofs.lemmas.Result.{err_from_is_err_and}
+use Rattle.sqlite_trees.specs.declared.store.Store.{Ghosts}
+use Rattle.sqlite.specs.Tree.{Trees}
+use Rattle.sqlite.specs.Effect.{Database}
+use Rattle.sqlite.specs.declared.error.Error.{Error}
+use Rattle.sqlite.specs.State.{State, HasCleanDisk, Survives, Shows}
+use Rattle.edf_holdings.specs.Holdings.{Holdings}
+use Rattle.edf_rows.specs.Rows.{StandFor}
+use Rattle.edf_tables.specs.Schema.{HasBoth}
+use Rattle.edf_tables.specs.Others.{KeepsOthers}
+use Rattle.edf_tables.proofs.Commits.{survives_same}
+use Rattle.edf_tables.proofs.Others.{others_same}
+use Rattle.edf_store.specs.declared.fault.StoreFault.{StoreFault}
+use Rattle.edf_store.specs.declared.fault.StoreFault.TheVariants.{Store}
+use Rattle.edf_store.specs.Fault.{IsStoreRefusal, IsRefusalOf}
+use Rattle.edf_store.specs.Held.{StoreModel, at, AreHeld, IsSoundStore, Stays}
+use Rattle.edf_store.specs.Transaction.{AreSeen, SeesSome}
+use Rattle.edf_store.proofs.Held.{others_committed_same}
+
+module _ (cap : ℕ) (old new : State) (P : Trees → Type 0) (s : Survives old new P) (shows : HasCleanDisk new → Shows old new old.now old.committed true)
+    (settled : IsTrue old.is_open → old.now ≡ old.committed) (sound : IsSoundStore cap old) where
+  -- it sees what is held
+  pub begun_sees : (h : Holdings) → AreHeld cap old h → AreSeen cap new h
+  begun_sees h held clean =
+      let begun = shows clean in
+      let was : HasCleanDisk old = omega (arith, s.clean) in
+      let kept = held was begun.was_open in
+      let same : new.now ≡ old.committed = begun.now_is ∙ settled begun.was_open in
+      record {
+        is_open = begun.is_open;
+        inside = record { schema = subst (λ (d : Database). HasBoth d.schema) (sym same) (sound.schema was begun.was_open); mode = begun.mode };
+        stand = subst (λ (d : Database). StandFor d.trees h) (sym same) kept.stand;
+        sound = kept.sound;
+        others = subst₂ KeepsOthers (sym begun.committed_is) (sym same) (others_same old.committed);
+      }
+
+  pub begun_runs : SeesSome cap new
+  begun_runs clean =
+      let had = sound.holdings (omega (arith, s.clean)) (shows clean).was_open in
+      (had.0, begun_sees had.0 (λ _ _. had.1) clean)
+
+pub stays_same : {S : Type 0} (g : Ghosts S) (store : StoreModel S) → Stays g store store
+stays_same g store = record { cap = refl; holdings = λ h held. held; others = others_committed_same (at g store); crash = survives_same (at g store) _ }
+
+pub refused_told : {A : Type 0} (e : Error) (r : Result A StoreFault) → IsErrAnd r (IsRefusalOf e) → IfErr r IsStoreRefusal
+refused_told e r h = let p = err_from_is_err_and r h in rw p.1 p.2.told
+
+pub refused_caused : {A : Type 0} (e : Error) (r : Result A StoreFault) → IsErrAnd r (IsRefusalOf e) → IfErr r (λ e. e ≢ Store None)
+refused_caused e r h = let p = err_from_is_err_and r h in rw p.1 p.2.caused
