@@ -5,8 +5,8 @@ use Rattle.edf_header.specs.Key.{MayStart}
 use Rattle.edf_store.specs.Held.{at, Stays}
 use Rattle.edf_store.specs.Transaction.{SeesOn, EachHasRecordIn, IsAddedIn, MayTakeIn, AreNearIn, IsCountIn}
 use Rattle.edf_store.proofs.Whole.{whole_but, still_but, whole_added}
-use Rattle.edf_store_tests.proofs.Rooms.{may_take}
-use Rattle.edf_store_tests.proofs.adding.fill.Goals as goal
+use Rattle.edf_tests.proofs.Rooms.{may_take}
+use Rattle.edf_tests.proofs.adding.fill.Goals as goal
 
 pub near-requires-clause-recording : goal.near-requires-clause-recording
 near-requires-clause-recording g c = (c.args.identity.now, c.in_ok-before.ensures.same.ids c.in_ok-id.id.row c.args.identity.now c.in_ok-id.ensures.found, c.duration.ensures.value)

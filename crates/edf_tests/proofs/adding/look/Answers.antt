@@ -3,7 +3,7 @@ use Rattle.sqlite.specs.State.{HasCleanDisk}
 use Rattle.edf_store.specs.Held.{at, Stays}
 use Rattle.edf_store.specs.Transaction.{SeesOn, EachHasRecordIn}
 use Rattle.edf_store.proofs.Whole.{still_whole}
-use Rattle.edf_store_tests.proofs.adding.look.Goals as goal
+use Rattle.edf_tests.proofs.adding.look.Goals as goal
 
 pub near-requires-clause-recording : goal.near-requires-clause-recording
 near-requires-clause-recording g c = (c.args.identity.now, c.in_ok-after.ensures.same.ids c.args.id.row c.args.identity.now c.requires.recording, c.duration.ensures.value)

@@ -4,10 +4,8 @@ use edf_fragment::Record;
 use edf_header::Identity;
 use edf_rows::{block_of, check_row, record_from, start_of};
 use edf_sample::named;
-use edf_tal::Note;
 use edf_time::Instant;
 use std::alloc::Global;
-use std::test::Fail;
 
 /// 2002-03-02 23:59:50.
 const START: i64 = 541_727_990_000_000_000;
@@ -46,27 +44,55 @@ fn is_a_row(alloc: Global, start: i64, samples: &[u8], block: &[u8]) -> Option<b
     }
 }
 
-#[test]
-fn a_row_is_read_as_it_was_written(rt: HostRuntime) -> Result<(), Fail> {
-    let record = record_read(rt.alloc(), FOUR, TWO).ok_or("a data record")?;
-    assert_eq!(rt; start_of(record.start()), START);
-    assert_eq!(rt; record.samples(), FOUR);
-    assert_eq!(rt; record.notes().len(), 2);
-    let turn = record.notes().get(1).ok_or("an annotation")?;
-    assert_eq!(rt; turn.text(), "Turn");
-    assert_eq!(rt; turn.onset().nanos(), 541_727_990_500_000_000);
-    assert_eq!(rt; block_of(rt.alloc(), &record)?.as_slice(), TWO);
-    Ok(())
+/// Of a data record: its start as a row has it, its second annotation with its onset in nanoseconds,
+/// and whether it has these samples and is written as this block.
+fn told(
+    alloc: Global,
+    record: &Record,
+    samples: &[u8],
+    block: &[u8],
+) -> Option<(i64, String, u64, bool)> {
+    let turn = record.notes().get(1)?;
+    let text = String::from_str(alloc, turn.text()).ok()?;
+    let written = block_of(alloc, record).ok()?;
+    let same = record.samples() == samples && written.as_slice() == block;
+    Some((start_of(record.start()), text, turn.onset().nanos(), same))
+}
+
+/// The same of a row of two annotations, and how many of them are read.
+fn told_of_two(alloc: Global) -> Option<((i64, String, u64, bool), usize)> {
+    match record_read(alloc, FOUR, TWO) {
+        Some(record) => Some((told(alloc, &record, FOUR, TWO)?, record.notes().len())),
+        None => None,
+    }
 }
 
 #[test]
-fn a_record_without_annotations_has_a_block(rt: HostRuntime) -> Result<(), Fail> {
-    let start = Instant::at(541_727_990_000_000_000).ok_or("an instant")?;
-    let notes: Vec<Note> = Vec::new(rt.alloc());
-    let samples = Vec::from_slice(rt.alloc(), FOUR)?;
-    let record = Record::new(start, samples, notes).ok_or("a data record")?;
-    assert_eq!(rt; block_of(rt.alloc(), &record)?.as_slice(), BLOCK);
-    Ok(())
+fn a_row_is_read_as_it_was_written(rt: HostRuntime) {
+    let Some((read, count)) = told_of_two(rt.alloc()) else {
+        panic!(rt; "no data record, or none of two annotations");
+    };
+    let (start, text, onset, same) = read;
+    assert_eq!(rt;
+        (start, onset, same),
+        (START, 541_727_990_500_000_000, true)
+    );
+    assert_eq!(rt; text.as_str(), "Turn");
+    assert_eq!(rt; count, 2);
+}
+
+/// The block of a data record without annotations.
+fn block_without(alloc: Global) -> Option<Vec<u8>> {
+    let start = Instant::at(541_727_990_000_000_000)?;
+    let samples = Vec::from_slice(alloc, FOUR).ok()?;
+    let record = Record::new(start, samples, Vec::new(alloc))?;
+    block_of(alloc, &record).ok()
+}
+
+#[test]
+fn a_record_without_annotations_has_a_block(rt: HostRuntime) {
+    let block = block_without(rt.alloc());
+    assert_eq!(rt; block.as_deref(), Some(BLOCK));
 }
 
 /// A start, a block, and whether they are a row of a data record.
@@ -83,12 +109,11 @@ const STARTS: &[(i64, &[u8], bool)] = &[
 ];
 
 #[test]
-fn a_start_is_that_of_the_block_and_inside_the_window(rt: HostRuntime) -> Result<(), Fail> {
+fn a_start_is_that_of_the_block_and_inside_the_window(rt: HostRuntime) {
     for (start, block, good) in STARTS.iter().copied() {
         let told = is_a_row(rt.alloc(), start, FOUR, block);
         assert_eq!(rt; told, Some(good), "{start}");
     }
-    Ok(())
 }
 
 /// The samples of a row, and whether it is that of a data record.
@@ -100,12 +125,11 @@ const SAMPLES: &[(&[u8], bool)] = &[
 ];
 
 #[test]
-fn a_row_has_as_many_samples_as_the_identity_says(rt: HostRuntime) -> Result<(), Fail> {
+fn a_row_has_as_many_samples_as_the_identity_says(rt: HostRuntime) {
     for (samples, good) in SAMPLES.iter().copied() {
         let told = is_a_row(rt.alloc(), START, samples, BLOCK);
         assert_eq!(rt; told, Some(good), "{samples:?}");
     }
-    Ok(())
 }
 
 /// A block, and whether it is spelled as it would be written.
@@ -127,10 +151,9 @@ const SPELLINGS: &[(&[u8], bool)] = &[
 ];
 
 #[test]
-fn a_block_is_spelled_as_it_would_be_written(rt: HostRuntime) -> Result<(), Fail> {
+fn a_block_is_spelled_as_it_would_be_written(rt: HostRuntime) {
     for (block, good) in SPELLINGS.iter().copied() {
         let told = is_a_row(rt.alloc(), START, FOUR, block);
         assert_eq!(rt; told, Some(good), "{block:?}");
     }
-    Ok(())
 }

@@ -2,21 +2,21 @@
 //! memory.
 
 use crate::adding::{has_room, near, next_start, put};
+use crate::disk::lend;
+use crate::held::{CAP, empty_store};
+use crate::run::{opened, store_of};
 use edf_fragment::{Counted, OpenFragment, Record};
 use edf_header::Identity;
 use edf_sample::Source;
 use edf_sample::named::{file_p5, file_q};
 use edf_store::{Store, StoreFault};
 use edf_time::Instant;
-use sqlite::{Alter, Connection, FileStore, Files, MemStore, Options};
-use sqlite_disk::Memory;
+use sqlite::{Alter, Connection, Files};
+use sqlite_disk::{Disk, Memory};
 use std::alloc::Global;
 
 /// 2002-03-02 23:59:50, where file Q starts, in nanoseconds after 1985-01-01 00:00:00.
 const START: u64 = 541_727_990_000_000_000;
-
-/// The program's cap.
-const CAP: u32 = 99_999_999;
 
 /// An instant, by the half seconds after the start of file Q.
 fn instant(halves: i8) -> Option<Instant> {
@@ -38,45 +38,6 @@ fn record_behind(alloc: Global, halves: i8) -> Option<Record> {
     Record::new(instant(halves)?, samples, Vec::new(alloc))
 }
 
-/// The store of a connection that is in no transaction.
-fn store_over<S: Alter + Drop>(alloc: Global, conn: Connection<S>) -> Option<Store<S>> {
-    if !conn.is_autocommit() {
-        return None;
-    }
-    Store::open(alloc, conn, CAP).ok()
-}
-
-fn in_memory(alloc: Global) -> Option<Store<MemStore>> {
-    store_over(alloc, Connection::open_in_memory(alloc).ok()?)
-}
-
-fn on_disk(alloc: Global, files: Files<Memory>) -> Option<Store<FileStore<Memory>>> {
-    if !files.may_be_used() {
-        return None;
-    }
-    match Connection::open_files(alloc, files, Options::new(1)) {
-        Ok(conn) => store_over(alloc, conn),
-        Err(_) => None,
-    }
-}
-
-fn empty_files(alloc: Global) -> Files<Memory> {
-    Files {
-        log: Memory::new(alloc),
-        db: Memory::new(alloc),
-    }
-}
-
-fn closed(store: Store<FileStore<Memory>>) -> Option<Files<Memory>> {
-    match store.into_connection().close_files() {
-        Ok(files) => Some(files),
-        Err((_, store)) => {
-            drop(store.close());
-            None
-        }
-    }
-}
-
 /// A recording, and two of its data records.
 #[derive(Drop)]
 struct Two {
@@ -85,10 +46,10 @@ struct Two {
     second: Record,
 }
 
-/// Q's data record and one that touches it.
-fn two_that_touch(alloc: Global) -> Option<Two> {
+/// Q's data record and one that starts `halves` half seconds after it.
+fn two_apart(alloc: Global, halves: i8) -> Option<Two> {
     let (identity, first) = first_of(alloc, &file_q(alloc).ok()?)?;
-    let second = record_behind(alloc, 2)?;
+    let second = record_behind(alloc, halves)?;
     Some(Two {
         identity,
         first,
@@ -232,28 +193,41 @@ fn told_near<S: Alter>(store: &mut Store<S>, two: &Two) -> Option<Option<i8>> {
     Some(None)
 }
 
-fn keep_in<S: Alter + Drop>(store: Store<S>, two: &Two) -> (Option<Kept>, Store<S>) {
-    let mut store = store;
-    (keep_two(&mut store, two), store)
-}
-
-fn near_in<S: Alter + Drop>(store: Store<S>, two: &Two) -> Option<Option<i8>> {
-    let mut store = store;
-    told_near(&mut store, two)
+/// The same of a store that is spent, and its connection.
+fn keep_in<S: Alter + Drop>(mut store: Store<S>, two: &Two) -> (Option<Kept>, Connection<S>) {
+    let kept = keep_two(&mut store, two);
+    (kept, store.into_connection())
 }
 
 fn kept_in_memory(alloc: Global) -> Option<(Kept, Option<i8>)> {
-    let two = two_that_touch(alloc)?;
-    let (kept, store) = keep_in(in_memory(alloc)?, &two);
-    let near = near_in(store, &two)?;
-    Some((kept?, near))
+    let two = two_apart(alloc, 2)?;
+    let mut store = empty_store(alloc, CAP)?;
+    let kept = keep_two(&mut store, &two)?;
+    Some((kept, told_near(&mut store, &two)?))
 }
 
-fn kept_on_disk(alloc: Global) -> Option<(Kept, Option<i8>)> {
-    let two = two_that_touch(alloc)?;
-    let (kept, store) = keep_in(on_disk(alloc, empty_files(alloc))?, &two);
-    let near = near_in(on_disk(alloc, closed(store)?)?, &two)?;
-    Some((kept?, near))
+/// The same of disks, and whether they were closed.
+fn keep_by<D: Disk + Drop>(alloc: Global, disks: Files<D>, two: &Two) -> Option<(Kept, bool)> {
+    let (kept, conn) = keep_in(opened(alloc, disks, 1000)?, two);
+    let is_closed = conn.close().is_ok();
+    Some((kept?, is_closed))
+}
+
+fn near_in<S: Alter + Drop>(mut store: Store<S>, two: &Two) -> Option<Option<i8>> {
+    told_near(&mut store, two)
+}
+
+fn near_by<D: Disk + Drop>(alloc: Global, disks: Files<D>, two: &Two) -> Option<Option<i8>> {
+    near_in(opened(alloc, disks, 1000)?, two)
+}
+
+fn kept_on_disk(alloc: Global) -> Option<((Kept, bool), Option<i8>)> {
+    let mut log = Memory::new(alloc);
+    let mut db = Memory::new(alloc);
+    let two = two_apart(alloc, 2)?;
+    let kept = keep_by(alloc, lend(&mut log, &mut db), &two)?;
+    let near = near_by(alloc, lend(&mut log, &mut db), &two)?;
+    Some((kept, near))
 }
 
 #[test]
@@ -263,18 +237,7 @@ fn two_records_that_touch_are_kept_in_memory(rt: HostRuntime) {
 
 #[test]
 fn two_records_that_touch_are_there_when_a_disk_is_opened_again(rt: HostRuntime) {
-    assert_eq!(rt; kept_on_disk(rt.alloc()), Some((KEPT, None)));
-}
-
-/// A cap of a few data records.
-const FEW: u32 = 5;
-
-fn with_few(alloc: Global) -> Option<Store<MemStore>> {
-    let conn = Connection::open_in_memory(alloc).ok()?;
-    if !conn.is_autocommit() {
-        return None;
-    }
-    Store::open(alloc, conn, FEW).ok()
+    assert_eq!(rt; kept_on_disk(rt.alloc()), Some(((KEPT, true), None)));
 }
 
 /// Whether a recording has room for as many data records as the cap leaves, and for one more:
@@ -304,25 +267,24 @@ fn room_for<S: Alter>(
     Some((fits, fits_more))
 }
 
-/// What is told of room as Q's data record is kept, and one `halves` half seconds after it.
-fn rooms<S: Alter>(alloc: Global, store: &mut Store<S>, halves: i8) -> Option<Room> {
-    let (identity, first) = first_of(alloc, &file_q(alloc).ok()?)?;
-    let later = record_behind(alloc, halves)?;
-    let of_none = room_for(store, &identity, 5)?;
-    put(store, &identity, &first, true).ok()?;
-    let of_one = room_for(store, &identity, 4)?;
-    put(store, &identity, &later, true).ok()?;
+/// What a store whose recordings have five data records at most tells of room as the two are kept.
+fn rooms<S: Alter>(store: &mut Store<S>, two: &Two) -> Option<Room> {
+    let of_none = room_for(store, &two.identity, 5)?;
+    put(store, &two.identity, &two.first, true).ok()?;
+    let of_one = room_for(store, &two.identity, 4)?;
+    put(store, &two.identity, &two.second, true).ok()?;
     Some(Room {
         of_none,
         of_one,
-        of_two: room_for(store, &identity, 3)?,
-        most: has_room(store, &identity, u32::MAX).ok()?,
+        of_two: room_for(store, &two.identity, 3)?,
+        most: has_room(store, &two.identity, u32::MAX).ok()?,
     })
 }
 
 fn told_rooms(alloc: Global, halves: i8) -> Option<Room> {
-    let mut store = with_few(alloc)?;
-    rooms(alloc, &mut store, halves)
+    let two = two_apart(alloc, halves)?;
+    let mut store = empty_store(alloc, 5)?;
+    rooms(&mut store, &two)
 }
 
 #[test]
@@ -417,26 +379,43 @@ fn told_of_walks<S: Alter>(
     })
 }
 
-/// P5's record is kept and then Q's, which starts earlier.
-fn walk<S: Alter>(alloc: Global, store: &mut Store<S>) -> Option<Walked> {
-    let (identity, later) = first_of(alloc, &file_p5(alloc).ok()?)?;
-    let (same, first) = first_of(alloc, &file_q(alloc).ok()?)?;
-    put(store, &identity, &later, true).ok()?;
-    put(store, &same, &first, true).ok()?;
-    told_of_walks(store, &identity, &first, &later)
+/// Q's data record and that of P5, which starts 15 seconds later.
+fn q_and_p5(alloc: Global) -> Option<Two> {
+    let (identity, first) = first_of(alloc, &file_q(alloc).ok()?)?;
+    let (_, second) = first_of(alloc, &file_p5(alloc).ok()?)?;
+    Some(Two {
+        identity,
+        first,
+        second,
+    })
 }
 
-fn walk_in<S: Alter + Drop>(alloc: Global, store: Store<S>) -> Option<Walked> {
-    let mut store = store;
-    walk(alloc, &mut store)
+/// The later one is kept first.
+fn walk<S: Alter>(store: &mut Store<S>, two: &Two) -> Option<Walked> {
+    put(store, &two.identity, &two.second, true).ok()?;
+    put(store, &two.identity, &two.first, true).ok()?;
+    told_of_walks(store, &two.identity, &two.first, &two.second)
 }
 
 fn walked_in_memory(alloc: Global) -> Option<Walked> {
-    walk_in(alloc, in_memory(alloc)?)
+    let two = q_and_p5(alloc)?;
+    let mut store = empty_store(alloc, CAP)?;
+    walk(&mut store, &two)
+}
+
+fn walk_in<S: Alter + Drop>(mut store: Store<S>, two: &Two) -> Option<Walked> {
+    walk(&mut store, two)
+}
+
+fn walk_by<D: Disk + Drop>(alloc: Global, disks: Files<D>, two: &Two) -> Option<Walked> {
+    walk_in(opened(alloc, disks, 1000)?, two)
 }
 
 fn walked_on_disk(alloc: Global) -> Option<Walked> {
-    walk_in(alloc, on_disk(alloc, empty_files(alloc))?)
+    let mut log = Memory::new(alloc);
+    let mut db = Memory::new(alloc);
+    let two = q_and_p5(alloc)?;
+    walk_by(alloc, lend(&mut log, &mut db), &two)
 }
 
 #[test]
@@ -458,25 +437,37 @@ const BESIDE: &str = "CREATE TABLE note (id INTEGER PRIMARY KEY, text TEXT NOT N
 
 const NOTES: &str = "SELECT group_concat(id || ' ' || text || ' ' || coalesce(of, 0)) FROM note";
 
-/// Adds a data record of Q's identity to a store that is opened over the connection; how many
-/// there were before and are then, and the connection.
+/// Adds a data record to a store that is opened over the connection; how many there were before and
+/// are then, and the connection.
 fn added_over<S: Alter + Drop>(
     alloc: Global,
     conn: Connection<S>,
-    halves: i8,
+    identity: &Identity,
+    data_record: &Record,
 ) -> Option<((u32, u32), Connection<S>)> {
-    let mut store = store_over(alloc, conn)?;
-    let (identity, _) = first_of(alloc, file_q(alloc).ok()?.as_slice())?;
-    let seen = put(&mut store, &identity, &record_behind(alloc, halves)?, true).ok()?;
-    Some(((seen.before, seen.after), store.into_connection()))
+    let mut store = store_of(alloc, conn)?;
+    let seen = counted(&mut store, identity, data_record);
+    Some((seen?, store.into_connection()))
+}
+
+/// How many data records there were before one is added, and how many are there then.
+fn counted<S: Alter>(
+    store: &mut Store<S>,
+    identity: &Identity,
+    data_record: &Record,
+) -> Option<(u32, u32)> {
+    let seen = put(store, identity, data_record, true).ok()?;
+    Some((seen.before, seen.after))
 }
 
 /// What is told of a data record that is added to a store which another tool put a table into, and
 /// what that table has then.
 fn added_beside(alloc: Global) -> Option<((u32, u32), String)> {
-    let (_, mut conn) = added_over(alloc, Connection::open_in_memory(alloc).ok()?, 0)?;
+    let two = two_apart(alloc, 2)?;
+    let conn = Connection::open_in_memory(alloc).ok()?;
+    let (_, mut conn) = added_over(alloc, conn, &two.identity, &two.first)?;
     conn.execute_batch(BESIDE).ok()?;
-    let (seen, mut conn) = added_over(alloc, conn, 2)?;
+    let (seen, mut conn) = added_over(alloc, conn, &two.identity, &two.second)?;
     Some((seen, conn.query_row(NOTES, &[]).ok()?.get(0).ok()?))
 }
 
