@@ -108,11 +108,7 @@ fn play_command(
 }
 
 /// Plays a line that is neither a title nor the program's words.
-fn play_over(
-    rt: &HostRuntime,
-    store: &mut Option<Store<MemStore>>,
-    line: &str,
-) -> io::Result<()> {
+fn play_over(rt: &HostRuntime, store: &mut Option<Store<MemStore>>, line: &str) -> io::Result<()> {
     if let Some(cap) = line.strip_prefix("store ") {
         *store = empty_store(rt.alloc(), cap);
         return Ok(());
