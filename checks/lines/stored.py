@@ -5,9 +5,12 @@
 
 --write writes stdin, stdout and data/ of the three crates. PATH is edfstore; edfruns is the one
 that bin/edfruns runs where it is left out. What goes in is built field by field; what must come
-out is written below by hand, and compared with the plain model. Of the program's own making is
-only the store that `list` and `export` are given: the identity, start and samples of each row of
-it are compared with the model. It needs no SQLite but Python's.
+out is written by hand, below and in lib/stories.py, and compared with the plain model. Of the
+program's own making is only the store held.db: the identity, start and samples of each row of it
+are compared with the model. It needs no SQLite but Python's.
+
+The stories are played by edfstore too, over a new file for each store. Those of a store with
+another cap than its own are left to the gate.
 """
 import shutil
 import sqlite3
@@ -19,6 +22,8 @@ sys.path.insert(0, str(Path(__file__).resolve().parent.parent / "lib"))
 import edf  # noqa: E402
 import measure  # noqa: E402
 import model  # noqa: E402
+import named  # noqa: E402
+import stories  # noqa: E402
 
 CRATES = measure.TOP / "crates"
 FILES = edf.small_files()
@@ -26,7 +31,7 @@ Q, P5, R9, K, U = (FILES[letter] for letter in ("Q", "P5", "R9", "K", "U"))
 MARCH_3 = {"startdate": "03.03.02", "recording": "Startdate 03-MAR-2002 N1 T3 REC5"}
 HOUR = 3610     # seconds from Q's start to one in the morning
 MANY = 600
-ORDERS = ("list held.db", "export held.db 2", "convert cut.edf", "export held.db 0")     # of edfstore_stored_run, behind its words
+STORED = "edfstore_stored_run"
 
 
 def nap() -> bytes:
@@ -101,13 +106,26 @@ def store(program: Path, folder: Path) -> bytes:
     return (folder / "night.db").read_bytes()
 
 
-def files_of(held: bytes) -> dict:
+def of_the_program() -> list:
+    """Words of the program over files, each with what it writes to standard output and its status."""
+    return [("list held.db", LISTED, 0), ("export held.db 2", exported(), 0), ("convert cut.edf", b"", 1), ("export held.db 0", b"", 2)]
+
+
+def orders_of(script: stories.Script) -> tuple:
+    """The file `orders` of edfstore_stored_run, and what is written for it."""
+    lines = [("# the program by other words, over stores that are files", b"")]
+    lines += [(f"edfstore {words}", out + f"status {status}\n".encode()) for words, out, status in of_the_program()]
+    lines += [(order, "".join(f"{line}\n" for line in told).encode()) for order, told in script.lines]
+    return "".join(f"{order}\n" for order, _ in lines).encode(), b"".join(order.encode() + b"\n" + out for order, out in lines)
+
+
+def files_of(held: bytes, script: stories.Script) -> dict:
     """Every stored file by its path."""
-    orders = b"".join((TAKEN, LISTED, b"status 0\n", exported(), b"status 0\n", b"status 1\n", b"status 2\n"))
-    return {"edfstore/stdin": Q, "edfstore/stdout": Q, "edfstore_stored_run/data/held.db": held, "edfstore_stored_run/data/cut.edf": Q[:-1],
-            "edfstore_stored_run/data/a.edf": Q, "edfstore_stored_run/data/b.edf": FILES["half"], "edfstore_stored_run/data/card.edf": card(),
-            "edfstore_stored_run/stdin": long_spelling(), "edfstore_stored_run/stdout": orders,
-            "edfruns/stdin": b"", "edfruns/data/two_gaps.edf": two_gaps(), "edfruns/stdout": RUNS}
+    orders, told = orders_of(script)
+    data = script.files | {"held.db": held, "a.edf": Q, "b.edf": FILES["half"], "card.edf": card(), "orders": orders}
+    return {f"{STORED}/data/{name}": content for name, content in data.items()} | {
+        "edfstore/stdin": Q, "edfstore/stdout": Q, f"{STORED}/stdin": long_spelling(), f"{STORED}/stdout": TAKEN + told,
+        "edfruns/stdin": b"", "edfruns/data/two_gaps.edf": two_gaps(), "edfruns/stdout": RUNS}
 
 
 def by_model() -> None:
@@ -163,13 +181,43 @@ def run(program: Path, crate: Path, folder: Path) -> bool:
     words, given, wanted, status = (
         (crate / name).read_bytes() if (crate / name).exists() else b"" for name in ("args", "stdin", "stdout", "status"))
     told, ends = call(program, words.decode().splitlines(), given, room)
-    if crate.name == "edfstore_stored_run":
-        for order in ORDERS:
-            out, end = call(program, order.split(), b"", room)
-            told += out + f"status {end}\n".encode()
+    if crate.name == STORED:
+        told, wanted = told.splitlines(), TAKEN.splitlines()
+        for order, out, end in of_the_program():
+            told.append(call(program, order.split(), b"", room))
+            wanted.append((out, end))
     is_well = told == wanted and ends == int(status or 0)
     print(f"{crate.name} {'ran, and wrote what it must' if is_well else 'FAILED'}")
     return is_well
+
+
+def played(program: Path, order: str, room: Path, nth: int) -> list:
+    """The lines of a command of a story, over the nth store."""
+    words, _, name = order.partition(" = ")
+    given = [f"{nth}.db" if word == "night.db" else word for word in words.split()]
+    ran = subprocess.run([program, *given], stdin=subprocess.DEVNULL, capture_output=True, cwd=room, check=False)
+    out = ran.stdout.decode("latin-1")
+    if name:
+        is_that = ran.stdout == (room / name).read_bytes()
+        out = f"{'just' if is_that else 'not'} {name}, {len(ran.stdout)} bytes\n"
+    err = f"err: {ran.stderr.decode()}" if ran.stderr else ""
+    return [*(out + err).splitlines(), f"status {ran.returncode}"]
+
+
+def play(program: Path, script: stories.Script, room: Path) -> bool:
+    """Whether the program writes what it must in each story of its own cap."""
+    nth, is_asked, wrong, done = 0, False, 0, 0
+    for order, wanted in script.lines:
+        if order.startswith("store "):
+            nth, is_asked = nth + 1, order == f"store {stories.MOST}"
+        elif is_asked and not order.startswith("#"):
+            told = played(program, order, room, nth)
+            done += 1
+            if told != list(wanted):
+                wrong += 1
+                print(f"{order}: {told}\n  by hand: {list(wanted)}")
+    print(f"{done} commands of stories, {wrong} wrong")
+    return not wrong
 
 
 def main() -> None:
@@ -177,10 +225,12 @@ def main() -> None:
     runs, words = measure.program(words, "edfruns", "--edfruns")
     is_writing = measure.flag(words, "--write")
     by_model()
+    script = stories.script(named.files())
     with measure.scratch() as name:
         folder = Path(name)
-        files = files_of(store(program, folder))
+        files = files_of(store(program, folder), script)
         if is_writing:
+            shutil.rmtree(CRATES / STORED / "data", ignore_errors=True)
             for path, data in files.items():
                 (CRATES / path).parent.mkdir(parents=True, exist_ok=True)
                 (CRATES / path).write_bytes(data)
@@ -189,6 +239,7 @@ def main() -> None:
             print(f"{path} is not what is made here")
         ran = [run(program, crate, folder) for crate in sorted(CRATES.glob("edfstore*"))]
         ran.append(run(runs, CRATES / "edfruns", folder))
+        ran.append(play(program, script, folder / STORED))
     sys.exit(0 if all(ran) and not others else 1)
 
 

@@ -1,9 +1,9 @@
 //! Lists that break off and are sent again from their front.
 
 use crate::cuts::{fragments, shuffled};
-use crate::intake::{added, exported, picked, take};
+use crate::held::{empty_store, held};
+use crate::intake::{added, picked, take};
 use crate::night::{Chance, file_of, night};
-use crate::stage::empty_store;
 use std::alloc::Global;
 
 /// The first half of a file's bytes, and none of no file.
@@ -21,10 +21,10 @@ fn ends_alike(alloc: Global, files: &[&[u8]], sent: usize, canonical: &[u8]) -> 
     let front = take(alloc, &mut store, files.get(..sent)?)?;
     let cut = take(alloc, &mut store, &[half(files.get(sent))?])?;
     let all = take(alloc, &mut store, files)?;
-    let held = exported(alloc, &mut store)?;
+    let (_, bytes) = held(alloc, &mut store)?;
     let accepted = added(front.as_slice()).is_some() && added(all.as_slice()).is_some();
     let refused = added(cut.as_slice()).is_none();
-    Some(accepted && refused && held.as_slice() == canonical)
+    Some(accepted && refused && bytes.as_slice() == canonical)
 }
 
 /// Whether a night's list ends alike, wherever it broke off.

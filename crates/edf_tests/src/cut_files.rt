@@ -1,11 +1,14 @@
-//! Files that are cut at every byte.
+//! Files that are cut at every byte, and a text of the most bytes and one of a byte more.
 
-use crate::held::{holds_q, store_of_q, taken};
+use crate::held::{CAP, empty_store, holds, holds_q, store_of_q, taken, told};
+use crate::intake::Answer;
 use edf_fragment::FragmentFault;
 use edf_header::HeaderFault;
 use edf_intake::Refusal;
-use edf_sample::named::{file_q, file_u, file_v};
-use std::alloc::Global;
+use edf_sample::named::{file_k, file_q, file_u, file_v};
+use edf_sample::{file, patched, q};
+use edf_tal::TalFault;
+use std::alloc::{AllocError, Global};
 
 /// The fault of a file that is cut to `len` bytes, where its header and its first data record end
 /// there.
@@ -23,7 +26,13 @@ fn cut_to(len: usize, header: usize, first: usize) -> FragmentFault {
 
 /// The least length to which a file may be cut without being refused so by a store of Q that keeps
 /// Q alone.
-fn refused_cuts(alloc: Global, bytes: &[u8], header: usize, first: usize) -> Option<usize> {
+fn refused_cuts(
+    alloc: Global,
+    bytes: Result<Vec<u8>, AllocError>,
+    header: usize,
+    first: usize,
+) -> Option<usize> {
+    let bytes = bytes.ok()?;
     let mut store = store_of_q(alloc)?;
     for len in 0..bytes.len() {
         let refusal = Refusal::Form(cut_to(len, header, first));
@@ -37,25 +46,76 @@ fn refused_cuts(alloc: Global, bytes: &[u8], header: usize, first: usize) -> Opt
     Some(bytes.len())
 }
 
-fn refused_cuts_of_q(alloc: Global) -> Option<usize> {
-    refused_cuts(alloc, &file_q(alloc).ok()?, 768, 778)
-}
-
-fn refused_cuts_of_u(alloc: Global) -> Option<usize> {
-    refused_cuts(alloc, &file_u(alloc).ok()?, 768, 886)
-}
-
-fn refused_cuts_of_v(alloc: Global) -> Option<usize> {
-    refused_cuts(alloc, &file_v(alloc).ok()?, 1_024, 1_050)
-}
-
 #[test]
 fn a_file_that_is_cut_anywhere_is_refused_by_what_is_cut(rt: HostRuntime) {
-    assert_eq!(rt; refused_cuts_of_q(rt.alloc()), Some(778));
-    assert_eq!(rt; refused_cuts_of_u(rt.alloc()), Some(1_004));
+    let q = refused_cuts(rt.alloc(), file_q(rt.alloc()), 768, 778);
+    assert_eq!(rt; q, Some(778));
+    let u = refused_cuts(rt.alloc(), file_u(rt.alloc()), 768, 886);
+    assert_eq!(rt; u, Some(1_004));
+    let of_two_annotations_signals = refused_cuts(rt.alloc(), file_v(rt.alloc()), 1_024, 1_050);
+    assert_eq!(rt; of_two_annotations_signals, Some(1_050));
+}
+
+/// What a store is to answer the first `len` bytes of K without its count, where it was sent each
+/// shorter front before.
+fn answer_of_front(len: usize) -> Answer {
+    match len {
+        778 => Ok((1, 0)),
+        788 => Ok((1, 1)),
+        798 => Ok((1, 2)),
+        789.. => Err(Refusal::Form(FragmentFault::CutRecord { nth: 3 })),
+        _ => Err(Refusal::Form(cut_to(len, 768, 778))),
+    }
+}
+
+/// How many fronts of that file, each a byte longer, are answered so; and whether the canonical
+/// file of K is held then.
+fn grows(alloc: Global) -> Option<(usize, bool)> {
+    let card = file_k(alloc).ok()?;
+    let bytes = patched(alloc, &card, 236, b"-1").ok()?;
+    let mut store = empty_store(alloc, CAP)?;
+    for len in 0..=bytes.len() {
+        if taken(alloc, &mut store, bytes.get(..len)?) != answer_of_front(len) {
+            return Some((len, false));
+        }
+    }
+    let wanted = patched(alloc, &card, 196, b"D").ok()?;
+    Some((bytes.len(), holds(alloc, &mut store, 3, &wanted)))
 }
 
 #[test]
-fn a_file_of_two_annotations_signals_is_refused_so_too(rt: HostRuntime) {
-    assert_eq!(rt; refused_cuts_of_v(rt.alloc()), Some(1_050));
+fn a_file_that_grows_is_taken_record_by_record(rt: HostRuntime) {
+    assert_eq!(rt; grows(rt.alloc()), Some((798, true)));
+}
+
+/// One data record with one annotation, whose text has `len` bytes, in a block of `samples`
+/// samples.
+fn long_text(alloc: Global, len: usize, samples: &str) -> Option<Vec<u8>> {
+    let text = vec![in alloc; b'a'; len].ok()?;
+    let header = q().annotations_samples(samples);
+    let begin = b"\x01\0\xff\xff+0\x14\x14\0+0\x14";
+    file(alloc, &header, &[begin, &text, b"\x14\0"]).ok()
+}
+
+/// What an empty store answers a text of the most bytes that a data record may have.
+fn told_of_longest(alloc: Global) -> Option<Answer> {
+    let bytes = long_text(alloc, 1_000_000, "500005")?;
+    Some(taken(alloc, &mut empty_store(alloc, CAP)?, &bytes))
+}
+
+/// What a store of Q answers a text of one byte more, and whether it keeps Q alone.
+fn told_of_too_long(alloc: Global) -> Option<(Answer, bool)> {
+    let mut bytes = long_text(alloc, 1_000_001, "500006")?;
+    bytes.push(0).ok()?;
+    told(alloc, &bytes)
+}
+
+#[test]
+fn a_text_is_accepted_up_to_a_million_bytes(rt: HostRuntime) {
+    assert_eq!(rt; told_of_longest(rt.alloc()), Some(Ok((1, 0))));
+    let many = Refusal::Form(FragmentFault::Tal {
+        nth: 1,
+        fault: TalFault::TooMany,
+    });
+    assert_eq!(rt; told_of_too_long(rt.alloc()), Some((Err(many), true)));
 }

@@ -1,9 +1,9 @@
 //! Files that hold what no submissions leave, on a disk.
 
 use crate::disk::lend;
-use crate::late::late;
 use crate::run::{connected, opened, submitted_to};
 use edf_sample::named::{file_p5, file_q};
+use edf_sample::{file, q};
 use edf_store::Store;
 use sqlite::{Alter, Connection, Files};
 use sqlite_disk::{Disk, Memory};
@@ -129,31 +129,42 @@ fn a_recording_above_the_cap_is_foreign(rt: HostRuntime) {
     }
 }
 
-/// The same of a store of files that are named.
-fn named_behind(alloc: Global, names: &str, sql: &str) -> Option<(u8, bool)> {
-    let mut files = Vec::new(alloc);
-    for name in names.split_whitespace() {
-        files.push(late(alloc, name)?).ok()?;
-    }
+/// Two data records on both sides of the end of 2084, the first in its last second.
+fn into_2085(alloc: Global, recording: &'static str) -> Option<Vec<u8>> {
+    let header = q()
+        .recording(recording)
+        .start("31.12.84", "23.59.59")
+        .count("2");
+    let first = b"\x01\0\xff\xff+0\x14\x14\0\0";
+    let second = b"\x02\0\xff\xff+1\x14\x14\0\0";
+    file(alloc, &header, &[first, second]).ok()
+}
+
+/// The same of a store of these two.
+fn into_2085_behind(alloc: Global, recording: &'static str, sql: &str) -> Option<(u8, bool)> {
+    let files = vec![in alloc; into_2085(alloc, recording)?].ok()?;
     opened_behind(alloc, files.as_slice(), sql, 9)
 }
 
-/// Files of one recording on both sides of the end of 2084, what is done to the store, and the
-/// number of the refusal.
+const DATED: &str = "Startdate 31-DEC-2084 N1 T3 REC5";
+
+const UNDATED: &str = "Startdate X N1 T3 REC5";
+
+/// The recording field of the two, what is done to the store, and the number of the refusal.
 const LATE: &[(&str, &str, u8)] = &[
-    ("undated_into_2085.edf", "", 0),
+    (UNDATED, "", 0),
     (
-        "undated_into_2085.edf",
+        UNDATED,
         "DELETE FROM record WHERE start >= 3155760000000000000",
         0,
     ),
     (
-        "undated_into_2085.edf",
+        UNDATED,
         "DELETE FROM record WHERE start < 3155760000000000000",
         45,
     ),
     (
-        "end_of_2084.edf first_of_2085.edf",
+        DATED,
         "DELETE FROM record WHERE start < 3155760000000000000",
         0,
     ),
@@ -161,8 +172,8 @@ const LATE: &[(&str, &str, u8)] = &[
 
 #[test]
 fn a_recording_without_a_date_that_begins_after_2084_is_foreign(rt: HostRuntime) {
-    for (names, sql, number) in LATE.iter().copied() {
-        let told = named_behind(rt.alloc(), names, sql);
-        assert_eq!(rt; told, Some((number, true)), "{names} {sql}");
+    for (recording, sql, number) in LATE.iter().copied() {
+        let told = into_2085_behind(rt.alloc(), recording, sql);
+        assert_eq!(rt; told, Some((number, true)), "{recording} {sql}");
     }
 }

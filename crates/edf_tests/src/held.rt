@@ -1,8 +1,7 @@
 //! Stores, what they answer and what they hold.
 
-use crate::files::q_and_p5;
 use crate::intake::Answer;
-use crate::stage::{CAP, empty_store};
+use crate::three_files::q_and_p5;
 use edf_export::export;
 use edf_fragment::{Counted, Input};
 use edf_header::Identity;
@@ -10,8 +9,20 @@ use edf_intake::submit;
 use edf_sample::named::{file_p5, file_q};
 use edf_sample::{Sink, Source};
 use edf_store::Store;
-use sqlite::{Alter, MemStore};
+use sqlite::{Alter, Connection, MemStore};
 use std::alloc::Global;
+
+/// The program's cap.
+pub(crate) const CAP: u32 = 99_999_999;
+
+/// An empty store.
+pub(crate) fn empty_store(alloc: Global, cap: u32) -> Option<Store<MemStore>> {
+    if cap == 0 || cap > CAP {
+        return None;
+    }
+    let conn = Connection::open_in_memory(alloc).ok()?;
+    Store::open(alloc, conn, cap).ok()
+}
 
 pub(crate) fn submitted<S: Alter, R: Input>(
     alloc: Global,

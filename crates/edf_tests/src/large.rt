@@ -1,8 +1,7 @@
 //! A recording whose data records are longer than the buffer of an export: two of 136,002 bytes
 //! each.
 
-use crate::held::taken;
-use crate::stage::{CAP, empty_store};
+use crate::held::{CAP, empty_store, taken};
 use edf_sample::{file, q};
 use edf_store::Store;
 use sqlite::MemStore;

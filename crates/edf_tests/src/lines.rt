@@ -2,9 +2,8 @@
 
 ghost use Rattle.std.specs.Prelude.{None, map, string_bytes};
 
-use crate::files::q_and_p5;
-use crate::held::{holds_both, store_of_both};
-use crate::stage::{CAP, empty_store};
+use crate::held::{CAP, empty_store, holds_both, store_of_both};
+use crate::three_files::q_and_p5;
 use edf_command::{Inputs, ParsedCommand, Status, run};
 use edf_fragment::Counted;
 use edf_sample::named::{file_p5, file_q};

@@ -1,10 +1,9 @@
 //! Memory that runs out, under each budget until one suffices.
 
-use crate::held::{held, holds, holds_both, store_of_both, submitted, taken};
+use crate::held::{CAP, empty_store, held, holds, holds_both, store_of_both, submitted, taken};
 use crate::intake::Answer;
 use crate::large::{large_file, store_of_large};
 use crate::lines::{LINES, Room, Said, Shelf, ran, silence, take_both};
-use crate::stage::{CAP, empty_store};
 use edf_command::Status;
 use edf_export::{ExportFault, export};
 use edf_fragment::Counted;

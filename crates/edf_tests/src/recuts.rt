@@ -1,9 +1,9 @@
 //! Nights, cut and sent as if by chance, end as the whole night.
 
 use crate::cuts::{fragments, shuffled};
-use crate::intake::{added, exported, picked, take};
+use crate::held::{empty_store, holds};
+use crate::intake::{added, picked, take};
 use crate::night::{Chance, Second, file_of, night, turn};
-use crate::stage::empty_store;
 use std::alloc::Global;
 
 /// Whether the fragments of these data records, each sent once or more, are all accepted, add just
@@ -14,9 +14,8 @@ fn end_as(alloc: Global, chance: &mut Chance, records: &[Second], file: &[u8]) -
     let list = picked(alloc, files.as_slice(), order.as_slice())?;
     let mut store = empty_store(alloc, 20)?;
     let answers = take(alloc, &mut store, list.as_slice())?;
-    let count = added(answers.as_slice())? as usize;
-    let held = exported(alloc, &mut store)?;
-    Some(count == records.len() && held.as_slice() == file)
+    let count = added(answers.as_slice())?;
+    Some(count as usize == records.len() && holds(alloc, &mut store, count, file))
 }
 
 /// Whether the fragments of a night leave the canonical file of the whole night.

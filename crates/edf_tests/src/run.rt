@@ -67,7 +67,7 @@ pub(crate) fn connected<D: Disk + Drop>(
 }
 
 /// The store of a connection that is in no transaction.
-fn store_of<S: Alter + Drop>(alloc: Global, conn: Connection<S>) -> Option<Store<S>> {
+pub(crate) fn store_of<S: Alter + Drop>(alloc: Global, conn: Connection<S>) -> Option<Store<S>> {
     if !conn.is_autocommit() {
         return None;
     }

@@ -1,8 +1,7 @@
 //! The log stops at each of its calls in turn, and then the database file.
 
-use crate::held::{held, taken};
+use crate::held::{CAP, empty_store, held, taken};
 use crate::run::{Stop, run};
-use crate::stage::{CAP, empty_store};
 use crate::three_files::three_files;
 use std::alloc::Global;
 use std::process::Abort;

@@ -1,6 +1,5 @@
 //! Three files of one recording, and its canonical file after each.
 
-use crate::files::{P5_BEHIND_Q, q_and_p5};
 use edf_sample::named::{file_k, file_p5, file_q};
 use edf_sample::{file, q};
 use std::alloc::{AllocError, Global};
@@ -12,6 +11,19 @@ pub(crate) struct Night {
     pub(crate) exports: Vec<Vec<u8>>,
 }
 
+/// What fills a block of annotations of 32 bytes.
+const EMPTY: &[u8] = &[0; 32];
+
+/// The data record of P5, 15 seconds after Q's: the annotations have lists of their own.
+const P5_BEHIND_Q: &[u8] = b"\x02\0\xfe\xff+15\x14\x14\0+15.5\x14Snore\x14\0+15.5\x14Turn\x14\0\0";
+
+/// The canonical file of Q and P5: 840 bytes.
+pub(crate) fn q_and_p5(alloc: Global) -> Option<Vec<u8>> {
+    let header = q().count("2").annotations_samples("16");
+    let first = b"\x01\0\xff\xff+0\x14\x14\0";
+    file(alloc, &header, &[first, &EMPTY[5..], P5_BEHIND_Q]).ok()
+}
+
 /// P5's file with its onsets spelled as short as they can be, which saves a sample of annotations.
 fn after_p5(alloc: Global) -> Result<Vec<u8>, AllocError> {
     let header = q()
@@ -21,9 +33,6 @@ fn after_p5(alloc: Global) -> Result<Vec<u8>, AllocError> {
     let record = b"\x02\x00\xfe\xff+0\x14\x14\0+0.5\x14Snore\x14\0+0.5\x14Turn\x14\0";
     file(alloc, &header, &[record])
 }
-
-/// What fills a block of annotations of 32 bytes.
-const EMPTY: &[u8] = &[0; 32];
 
 fn after_k(alloc: Global) -> Result<Vec<u8>, AllocError> {
     let header = q().count("5").annotations_samples("16");

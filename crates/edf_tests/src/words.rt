@@ -1,17 +1,23 @@
 //! Words after the program's name, read as a command or told why not.
 
-use crate::stage;
 use edf_arguments::VERSION;
-use edf_command::{CommandFault, ParsedCommand, parse, store_path};
+use edf_command::{CommandFault, ParsedCommand, parse, read_command, store_path};
+use edf_fragment::Counted;
+use edf_sample::Sink;
 use std::alloc::{AllocError, Global};
 
-/// The command of a line's words and its values, or which fault they have, with its text.
-fn answer(alloc: Global, line: &str) -> Result<String, AllocError> {
+/// The words of a line.
+fn words(alloc: Global, line: &str) -> Result<Vec<String>, AllocError> {
     let mut words = Vec::new(alloc);
     for word in line.split_whitespace() {
         words.push(String::from_str(alloc, word)?)?;
     }
-    match parse(alloc, words.as_slice()) {
+    Ok(words)
+}
+
+/// The command of a line's words and its values, or which fault they have, with its text.
+fn answer(alloc: Global, line: &str) -> Result<String, AllocError> {
+    match parse(alloc, words(alloc, line)?.as_slice()) {
         Ok(ParsedCommand::Take { store, files }) => format!(in alloc; "take {store} {files:?}"),
         Ok(ParsedCommand::List { store }) => format!(in alloc; "list {store}"),
         Ok(ParsedCommand::Export { store, place }) => format!(in alloc; "export {store} {place}"),
@@ -54,7 +60,7 @@ fn words_that_ask_for_something_are_its_command(rt: HostRuntime) {
 
 /// Whether a line's command names a store of this path.
 fn has_path(alloc: Global, line: &str, path: Option<&str>) -> Option<bool> {
-    let words = stage::words(alloc, line)?;
+    let words = words(alloc, line).ok()?;
     let command = parse(alloc, words.as_slice()).ok()?;
     Some(store_path(&command) == path)
 }
@@ -137,5 +143,51 @@ fn words_that_ask_for_help_or_for_nothing_are_told_so(rt: HostRuntime) {
     for (line, begin, text) in TOLD.iter().copied() {
         let told = shows(rt.alloc(), line, begin, text);
         assert_eq!(rt; told, Some(true), "at {line}");
+    }
+}
+
+/// The status of a line of words that ask for nothing, and what was written to standard output and
+/// to standard error.
+fn ended(alloc: Global, line: &str) -> Option<(u8, String, String)> {
+    let words = words(alloc, line).ok()?;
+    let (mut out_bytes, mut err_bytes) = (Vec::new(alloc), Vec::new(alloc));
+    let mut out = Counted::new(Sink::whole(&mut out_bytes, 100));
+    let mut err = Counted::new(Sink::whole(&mut err_bytes, 100));
+    let status = read_command(alloc, words.as_slice(), &mut out, &mut err).err();
+    drop((out, err));
+    let out = String::from_utf8(out_bytes).ok()?;
+    Some((status?.code(), out, String::from_utf8(err_bytes).ok()?))
+}
+
+/// The same, and whether something was written to the two.
+fn ended_at(alloc: Global, line: &str) -> Option<(u8, bool, bool)> {
+    let (code, out, err) = ended(alloc, line)?;
+    Some((code, !out.is_empty(), !err.is_empty()))
+}
+
+#[test]
+fn words_that_ask_for_nothing_are_usage_on_standard_error(rt: HostRuntime) {
+    for (line, ends) in [
+        ("export night.db 0", (2u8, false, true)),
+        ("take night.db", (2, false, true)),
+        ("--help", (0, true, false)),
+        ("--version", (0, true, false)),
+    ] {
+        assert_eq!(rt; ended_at(rt.alloc(), line), Some(ends), "{line}");
+    }
+}
+
+/// How a line ends that asks for the version.
+fn ended_with_version(alloc: Global) -> Option<(u8, String, String)> {
+    let line = format!(in alloc; "edfstore {VERSION}\n").ok()?;
+    Some((0, line, String::new(alloc)))
+}
+
+#[test]
+fn the_version_goes_to_standard_output(rt: HostRuntime) {
+    let want = ended_with_version(rt.alloc());
+    assert!(rt; want.is_some());
+    for line in ["--version", "-V"] {
+        assert_eq!(rt; ended(rt.alloc(), line), want, "{line}");
     }
 }

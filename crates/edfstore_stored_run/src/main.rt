@@ -1,19 +1,26 @@
-//! The program `edfstore`, run, and then commands of it, one after another: after what each writes
-//! to standard output comes a line with its status.
+//! The program `edfstore`, run, and then what the file `orders` asks for, a line each:
+//!
+//! - `# TEXT`: a title, of the lines after it;
+//! - `store N`: an empty store in memory, whose recordings have N data records at most;
+//! - `edfstore WORDS`: the program by these words, over stores that are files;
+//! - other words: a command over the store in memory. After ` = NAME` it is told whether standard
+//!   output has just the bytes of that file, in place of the bytes.
+//!
+//! Each line is written out. After a command comes what it writes: to standard output, and to
+//! standard error behind `err: `, if it is over the store in memory; then a line with its status.
 #![tactic(auto)]
 
+use edf_command::{Status, read_command, run};
+use edf_fragment::Counted;
 use edf_host::{run_program, run_words};
-use std::alloc::AllocError;
-use std::io;
+use edf_sample::Sink;
+use edf_store::Store;
+use edf_system::{Files, Terminal};
+use sqlite::{Connection, MemStore};
+use std::alloc::{AllocError, Global};
+use std::io::Write;
 use std::process::ExitCode;
-
-/// The words of each command.
-const ORDERS: &[&str] = &[
-    "list held.db",
-    "export held.db 2",
-    "convert cut.edf",
-    "export held.db 0",
-];
+use std::{fs, io};
 
 /// The words of a line.
 fn words_of(rt: &HostRuntime, line: &str) -> Result<Vec<String>, AllocError> {
@@ -24,18 +31,114 @@ fn words_of(rt: &HostRuntime, line: &str) -> Result<Vec<String>, AllocError> {
     Ok(words)
 }
 
-fn run_commands(rt: &HostRuntime) -> io::Result<()> {
-    for line in ORDERS.iter().copied() {
-        let words = words_of(rt, line)?;
-        let status = run_words(rt, words.as_slice());
-        println!(rt; "status {}", status.code())?;
+/// Runs the program by words.
+fn run_line(rt: &HostRuntime, line: &str) -> io::Result<()> {
+    let words = words_of(rt, line)?;
+    let status = run_words(rt, words.as_slice());
+    println!(rt; "status {}", status.code())
+}
+
+/// An empty store.
+fn empty_store(alloc: Global, cap: &str) -> Option<Store<MemStore>> {
+    let cap = cap.parse::<u32>().ok()?;
+    if cap == 0 || cap > 99_999_999 {
+        return None;
+    }
+    let conn = Connection::open_in_memory(alloc).ok()?;
+    Store::open(alloc, conn, cap).ok()
+}
+
+/// What a command wrote, and how it ended.
+#[derive(Drop)]
+struct Outcome {
+    out: Vec<u8>,
+    err: Vec<u8>,
+    status: Status,
+}
+
+/// Does what words ask for, over a store.
+fn told(rt: &HostRuntime, store: &mut Store<MemStore>, words: &[String]) -> Outcome {
+    let terminal = Terminal::new(rt, "file", 0);
+    let mut inputs = Files::new(rt, &terminal);
+    let mut out_bytes = Vec::new(rt.alloc());
+    let mut err_bytes = Vec::new(rt.alloc());
+    let mut out = Counted::new(Sink::whole(&mut out_bytes, 1_000));
+    let mut err = Counted::new(Sink::whole(&mut err_bytes, 1_000));
+    let status = match read_command(rt.alloc(), words, &mut out, &mut err) {
+        Ok(command) => run(rt.alloc(), &command, store, &mut inputs, &mut out, &mut err),
+        Err(status) => status,
+    };
+    drop((out, err));
+    Outcome {
+        out: out_bytes,
+        err: err_bytes,
+        status,
+    }
+}
+
+/// Writes out what a command wrote, or whether that is the file of a name.
+fn tell_out(rt: &HostRuntime, out: &[u8], name: Option<&str>) -> io::Result<()> {
+    let Some(name) = name else {
+        return rt.stdout().write_all(out);
+    };
+    let wanted = fs::read(rt, name)?;
+    let len = out.len();
+    if wanted.as_slice() == out {
+        println!(rt; "just {name}, {len} bytes")
+    } else {
+        println!(rt; "not {name}, {len} bytes")
+    }
+}
+
+/// Plays a command over a store, with the name of the file that it is to write.
+fn play_command(
+    rt: &HostRuntime,
+    store: &mut Store<MemStore>,
+    line: &str,
+    name: Option<&str>,
+) -> io::Result<()> {
+    let words = words_of(rt, line)?;
+    let told = told(rt, store, words.as_slice());
+    tell_out(rt, told.out.as_slice(), name)?;
+    if !told.err.is_empty() {
+        print!(rt; "err: ")?;
+        rt.stdout().write_all(told.err.as_slice())?;
+    }
+    println!(rt; "status {}", told.status.code())
+}
+
+/// Plays a line that is neither a title nor the program's words.
+fn play_over(rt: &HostRuntime, store: &mut Option<Store<MemStore>>, line: &str) -> io::Result<()> {
+    if let Some(cap) = line.strip_prefix("store ") {
+        *store = empty_store(rt.alloc(), cap);
+        return Ok(());
+    }
+    let Some(store) = store else {
+        return println!(rt; "no store");
+    };
+    match line.split_once(" = ") {
+        Some((command, name)) => play_command(rt, store, command, Some(name)),
+        None => play_command(rt, store, line, None),
+    }
+}
+
+fn play_all(rt: &HostRuntime) -> io::Result<()> {
+    let orders = fs::read_to_string(rt, "orders")?;
+    let mut store = None;
+    for line in orders.as_str().lines() {
+        println!(rt; "{line}")?;
+        if let Some(words) = line.strip_prefix("edfstore ") {
+            run_line(rt, words)?;
+        } else if !line.starts_with('#') {
+            play_over(rt, &mut store, line)?;
+        }
     }
     Ok(())
 }
 
 fn main(rt: HostRuntime) -> ExitCode {
     let status = run_program(&rt);
-    match run_commands(&rt) {
+    match play_all(&rt) {
         Ok(()) => status,
         Err(_) => ExitCode::FAILURE,
     }

@@ -1,0 +1,23 @@
+use Rattle.std.proofs.Common.{◌≡◌, ℕ, arith, sym, subst, ◌∙◌}
+use Rattle.sqlite.specs.State.{HasCleanDisk}
+use Rattle.edf_store.specs.Held.{at, Stays}
+use Rattle.edf_store.specs.Transaction.{SeesOn, EachHasRecordIn}
+use Rattle.edf_store.proofs.Whole.{still_whole}
+use Rattle.edf_tests.proofs.adding.look.Goals as goal
+
+pub near-requires-clause-recording : goal.near-requires-clause-recording
+near-requires-clause-recording g c = (c.args.identity.now, c.in_ok-after.ensures.same.ids c.args.id.row c.args.identity.now c.requires.recording, c.duration.ensures.value)
+
+pub returns-clause-whole : goal.returns-clause-whole
+returns-clause-whole g c =
+    let a = at g.S.Store c.args.tx.now.store.now in
+    let b = at g.S.Store c.count.new.self.store.now in
+    let d = at g.S.Store c.near.new.self.store.now in
+    let cap = c.args.tx.now.store.now.cap in
+    let cap_b = c.count.ensures.stays.cap in
+    let cap_d = c.near.ensures.stays.cap ∙ cap_b in
+    let ab = subst (λ n. SeesOn n a b) cap_b c.in_ok-after.ensures.same in
+    let bd = subst (λ n. SeesOn n b d) cap_d c.in_ok-near.ensures.same in
+    subst (λ n. EachHasRecordIn n d) (sym cap_d)
+    (still_whole cap b d (λ clean. omega (arith, c.near.ensures.stays.crash.clean, clean)) ab.running bd c.in_ok-near.ensures.only
+    (still_whole cap a b (λ clean. omega (arith, c.count.ensures.stays.crash.clean, clean)) c.requires.running ab c.in_ok-after.ensures.only c.requires.whole))
