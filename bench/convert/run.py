@@ -1,11 +1,13 @@
 #!/usr/bin/env python3
-"""Converts a night of about 195 MB by `edfstore`, by `cat` and by the plain C program, and prints ratios.
+"""Converts a night of about 195 MB by `edfstore`, by `cat` and by the plain C program, and prints
+ratios.
 
     bench/convert/run.py [RUNS]          best of RUNS runs of each, 7 if left out
 
-Each is run twice: from a file to a file, and from a pipe to a pipe. From file to file `cat` lets the kernel copy, and no byte
-passes through it; from pipe to pipe all three read and write. The outputs of both converters are compared byte for byte.
-It needs cc and the built program (bin/edfstore builds it).
+Each is run twice: from a file to a file, and from a pipe to a pipe. From file to file `cat` lets
+the kernel copy, and no byte passes through it; from pipe to pipe all three read and write. The
+outputs of both converters are compared byte for byte. It needs cc and the built program
+(bin/edfstore builds it).
 """
 import filecmp
 import os
@@ -55,7 +57,8 @@ def from_pipe(command: list, source: Path) -> float:
 def report(title: str, best: dict) -> None:
     print(title)
     for name, seconds in best.items():
-        print(f"  {name:10} {seconds:6.3f} s   {seconds / best['cat']:5.2f} x cat   {seconds / best['plain C']:5.2f} x plain C")
+        print(f"  {name:10} {seconds:6.3f} s   {seconds / best['cat']:5.2f} x cat   "
+              f"{seconds / best['plain C']:5.2f} x plain C")
 
 
 def main() -> None:

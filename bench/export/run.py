@@ -1,12 +1,14 @@
 #!/usr/bin/env python3
-"""Exports a night, and ten, by `edfstore export` and by plain C over SQLite from the same store file, and prints ratios.
+"""Exports a night, and ten, by `edfstore export` and by plain C over SQLite from the same store
+file, and prints ratios.
 
     bench/export/run.py [--program PATH] [--short] [RUNS]      best of RUNS runs of each, 5 if left out; --short: no ten nights
 
-`edfstore` opens the store, which reads and checks all of it, and then exports; `list` does the first and next to nothing of the
-second, so export less list is the time of the export. The C program (bench/store/plain.c) walks the same rows once for the
-lengths of the blocks and once to write the same bytes; `cat` copies the export. All write to files. The two exports are compared
-byte for byte. It needs cc, libsqlite3-dev and time; about 8 GB in TMPDIR.
+`edfstore` opens the store, which reads and checks all of it, and then exports; `list` does the
+first and next to nothing of the second, so export less list is the time of the export. The C
+program (bench/store/plain.c) walks the same rows once for the lengths of the blocks and once to
+write the same bytes; `cat` copies the export. All write to files. The two exports are compared byte
+for byte. It needs cc, libsqlite3-dev and time; about 8 GB in TMPDIR.
 """
 import filecmp
 import sys
@@ -48,16 +50,20 @@ def report(found: dict) -> None:
     lines = []
     for title, one in found.items():
         alone = one["export"].seconds - one["list"].seconds
-        lines.append((title, measure.mb(one["bytes"]), f"{one['list'].seconds:.3f} s", f"{one['export'].seconds:.3f} s",
-                      f"{alone:.3f} s", f"{one['plain C'].seconds:.3f} s", f"{alone / one['plain C'].seconds:.2f}",
+        lines.append((title, measure.mb(one["bytes"]), f"{one['list'].seconds:.3f} s",
+                      f"{one['export'].seconds:.3f} s", f"{alone:.3f} s",
+                      f"{one['plain C'].seconds:.3f} s", f"{alone / one['plain C'].seconds:.2f}",
                       f"{one['cat'].seconds:.3f} s", f"{alone / one['cat'].seconds:.2f}"))
-    measure.table(("", "export", "list", "export", "export less list", "plain C", "/ plain C", "cat", "/ cat"), lines)
+    measure.table(("", "export", "list", "export", "export less list", "plain C", "/ plain C",
+                   "cat", "/ cat"), lines)
     lines = []
     for title, one in found.items():
         lines.append((title, measure.mb(one["list"].peak), measure.mb(one["export"].peak),
-                      measure.mb(one["export"].peak - one["list"].peak), measure.mb(one["plain C"].peak),
-                      f"{one['open in C'].seconds:.3f} s", f"{one['list'].seconds / one['open in C'].seconds:.2f}"))
-    measure.table(("", "peak of list", "peak of export", "more than list", "peak of C", "checked open in C", "list / it"), lines)
+                      measure.mb(one["export"].peak - one["list"].peak),
+                      measure.mb(one["plain C"].peak), f"{one['open in C'].seconds:.3f} s",
+                      f"{one['list'].seconds / one['open in C'].seconds:.2f}"))
+    measure.table(("", "peak of list", "peak of export", "more than list", "peak of C",
+                   "checked open in C", "list / it"), lines)
 
 
 def filled(program, folder: Path, name: str, kinds: list) -> Path:
@@ -78,16 +84,19 @@ def main() -> None:
     runs = int(words[0]) if words else 5
     with measure.scratch() as name:
         folder = Path(name)
-        plain = measure.compiled(Path(__file__).parent.parent / "store" / "plain.c", folder, "-lsqlite3")
+        plain = measure.compiled(Path(__file__).parent.parent / "store" / "plain.c", folder,
+                                 "-lsqlite3")
         print(f"best of {runs} runs, {measure.machine()}\n")
         nights = {"a night, 28,800 records of 6.7 kB": [night.CLINIC],
                   "a night, 960 records of 200 kB": [night.LONG_RECORDS]}
         if not is_short:
-            nights["ten nights of 28,800 records"] = [night.Night(fragments=48).next_night(number) for number in range(10)]
+            nights["ten nights of 28,800 records"] = [night.Night(fragments=48).next_night(number)
+                                                      for number in range(10)]
         found = {}
         for title, kinds in nights.items():
             store = filled(program, folder, "held.db", kinds)
-            found[title] = measured(program, plain, store, folder, runs if len(kinds) == 1 else max(1, runs // 2))
+            found[title] = measured(program, plain, store, folder,
+                                    runs if len(kinds) == 1 else max(1, runs // 2))
             measure.remove_store(store)
         report(found)
         if not is_short:

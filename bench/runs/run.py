@@ -1,13 +1,17 @@
 #!/usr/bin/env python3
-"""The words of `edfruns` by the clock against `cat`, with their peak memory, and by the instructions that they take.
+"""The words of `edfruns` by the clock against `cat`, with their peak memory, and by the
+instructions that they take.
 
     bench/runs/run.py [--program PATH] [--short] [RUNS]     best of RUNS runs of each, 3 if left out; --short: of 12.8 MB
 
-A night of 195 MB: its card, which is one run, and the same night with three gaps, which is four. `list` and `picture` read once,
-`write` and `split` twice. Each word is run from a file, right after a `cat` of that file: into another file for `write` and `split`, which
-write as much, and to /dev/null for the others. `list` and `picture` read a pipe too, right after a `cat` between pipes. From file to file
-`cat` lets the kernel copy, and no byte passes through it; between pipes it reads and writes. What is written is compared with the plain model's, but for the picture. Then the same words on a night of 7,200
-records of 1.7 kB, whose instructions callgrind counts. It needs time and valgrind; about 1.5 GB in TMPDIR.
+A night of 195 MB: its card, which is one run, and the same night with three gaps, which is four.
+`list` and `picture` read once, `write` and `split` twice. Each word is run from a file, right after
+a `cat` of that file: into another file for `write` and `split`, which write as much, and to
+/dev/null for the others. `list` and `picture` read a pipe too, right after a `cat` between pipes.
+From file to file `cat` lets the kernel copy, and no byte passes through it; between pipes it reads
+and writes. What is written is compared with the plain model's, but for the picture. Then the same
+words on a night of 7,200 records of 1.7 kB, whose instructions callgrind counts. It needs time and
+valgrind; about 1.5 GB in TMPDIR.
 """
 import os
 import subprocess
@@ -39,8 +43,9 @@ class Line:
         self.processor, self.peak = min(self.processor, done.processor), max(self.peak, done.peak)
 
     def cells(self) -> tuple:
-        return (self.word, f"{self.seconds:.3f} s", f"{self.processor:.3f} s" if self.peak else "", f"{self.copied:.3f} s",
-                f"{self.seconds / self.copied:.2f}", measure.mb(self.peak) if self.peak else "")
+        return (self.word, f"{self.seconds:.3f} s", f"{self.processor:.3f} s" if self.peak else "",
+                f"{self.copied:.3f} s", f"{self.seconds / self.copied:.2f}",
+                measure.mb(self.peak) if self.peak else "")
 
 
 def piped(command: list, source: Path) -> float:
@@ -58,7 +63,8 @@ def piped(command: list, source: Path) -> float:
     return time.perf_counter() - begun
 
 
-# The words that write as much as they read: their `cat` writes a file too, and that of the others nothing.
+# The words that write as much as they read: their `cat` writes a file too, and that of the others
+# nothing.
 COPIES = ("write", "split")
 
 
@@ -66,7 +72,8 @@ def words_of(name: str, path: Path, folder: Path) -> dict:
     """Each word's command without the program, and the file for its standard output."""
     return {f"list, {name}": (["list", path], folder / f"{name}.txt"),
             f"write 1, {name}": (["write", path, "1"], folder / f"{name}-one.edf"),
-            f"split, {name}": (["split", path, folder / f"{name}-run"], folder / f"{name}-split.txt"),
+            f"split, {name}": (["split", path, folder / f"{name}-run"],
+                               folder / f"{name}-split.txt"),
             f"picture, {name}": (["picture", path], folder / f"{name}.svg")}
 
 
@@ -82,9 +89,11 @@ def one_round(program, files: dict, folder: Path, best: dict) -> None:
             if words[0] == "split":
                 cleared(folder, name)
             measure.settle()
-            copied = measure.run(["cat", path], out=folder / "copy" if words[0] in COPIES else Path("/dev/null"))
+            copied = measure.run(["cat", path],
+                                 out=folder / "copy" if words[0] in COPIES else Path("/dev/null"))
             measure.settle()
-            best.setdefault(word, Line(word)).add(measure.run([program, *words], out=out), copied.seconds)
+            best.setdefault(word, Line(word)).add(measure.run([program, *words], out=out),
+                                                  copied.seconds)
         for word in ("list", "picture"):
             line = best.setdefault(f"{word} -, {name}", Line(f"{word} -, {name}"))
             line.copied = min(line.copied, piped(["cat"], path))
@@ -96,10 +105,13 @@ def compared(files: dict, folder: Path) -> None:
     for name, path in files.items():
         made = runs.read_runs(path.read_bytes())
         wanted = [run.to_bytes() for run in made]
-        same = ((folder / f"{name}.txt").read_text() == runs.lines(made), (folder / f"{name}-one.edf").read_bytes() == wanted[0],
-                [(folder / part).read_bytes() for part in runs.split_names(f"{name}-run", made)] == wanted)
+        same = ((folder / f"{name}.txt").read_text() == runs.lines(made),
+                (folder / f"{name}-one.edf").read_bytes() == wanted[0],
+                [(folder / part).read_bytes() for part in runs.split_names(f"{name}-run", made)] ==
+                wanted)
         if not all(same):
-            sys.exit(f"{name}: lines, the first run and the files of the split are as the model's: {same}")
+            sys.exit(f"{name}: lines, the first run and the files of the split are as the model's: "
+                     f"{same}")
 
 
 def counted(program, folder: Path) -> None:
@@ -111,17 +123,21 @@ def counted(program, folder: Path) -> None:
             if words[0] == "split":
                 cleared(folder, name)
             number = measure.instructions([program, *words], out)
-            lines.append((word, f"{number / 1e6:.1f} million", f"{number // night.SHORT.records:,}", f"{number / path.stat().st_size:.1f}"))
-    print(f"instructions on a night of {night.SHORT.records:,} records, {measure.mb(path.stat().st_size)}")
+            lines.append((word, f"{number / 1e6:.1f} million", f"{number // night.SHORT.records:,}",
+                          f"{number / path.stat().st_size:.1f}"))
+    print(f"instructions on a night of {night.SHORT.records:,} records, "
+          f"{measure.mb(path.stat().st_size)}")
     measure.table(("", "instructions", "a record", "a byte"), lines)
 
 
 def nights(folder: Path, kind: night.Night, prefix: str = "") -> dict:
     """A night as its card and with three gaps."""
     third = kind.records // 4
-    gaps = ((third, 1_200 * gapped.SECOND), (2 * third, 600 * gapped.SECOND + gapped.SECOND // 4), (3 * third, 7 * gapped.SECOND))
+    gaps = ((third, 1_200 * gapped.SECOND), (2 * third, 600 * gapped.SECOND + gapped.SECOND // 4),
+            (3 * third, 7 * gapped.SECOND))
     parted = gapped.GappedNight(records=kind.records, samples=kind.samples, gaps=gaps)
-    return {f"{prefix}card": kind.card(folder / f"{prefix}card.edf"), f"{prefix}gaps": parted.whole(folder / f"{prefix}gaps.edf")}
+    return {f"{prefix}card": kind.card(folder / f"{prefix}card.edf"),
+            f"{prefix}gaps": parted.whole(folder / f"{prefix}gaps.edf")}
 
 
 def verdict(best: dict) -> None:
@@ -144,8 +160,10 @@ def main() -> None:
         for _ in range(rounds):
             one_round(program, files, folder, best)
         compared(files, folder)
-        print(f"a night of {measure.mb(files['card'].stat().st_size)}, best of {rounds} runs, {measure.machine()}\n")
-        measure.table(("", "`edfruns`", "processor", "`cat`", "/ `cat`", "peak"), [line.cells() for line in best.values()])
+        print(f"a night of {measure.mb(files['card'].stat().st_size)}, best of {rounds} runs, "
+              f"{measure.machine()}\n")
+        measure.table(("", "`edfruns`", "processor", "`cat`", "/ `cat`", "peak"),
+                      [line.cells() for line in best.values()])
         verdict(best)
         counted(program, folder)
 

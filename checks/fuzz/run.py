@@ -1,14 +1,17 @@
 #!/usr/bin/env python3
-"""Gives random files to `edfstore take` and checks each line, the list and every export against a plain model.
+"""Gives random files to `edfstore take` and checks each line, the list and every export against a
+plain model.
 
     checks/fuzz/run.py [--program PATH] [--seed SEED] [--keep FOLDER] [CASES]        2,000 cases if left out
 
-The files (cases.py) are fragments of a few recordings, cut and spelled at random, in any order and with repeats, about half of
-them broken: fields, blocks, cuts, bytes. Half of them don't tell how many data records they have, or have several annotations
-signals. 200 come in one `take` on a new store, in two runs, so that the store is opened with rows. Checked are the line and status
-of each, the lines of `list`, and every export byte for byte; that the whole list sent again changes nothing; and that each export
-is accepted by an empty store and written again unchanged. The model (checks/lib/model.py) was written from docs/FORMAT.md and
-docs/REFUSALS.md, apart from the program. The batch that fails first is kept in FOLDER.
+The files (cases.py) are fragments of a few recordings, cut and spelled at random, in any order and
+with repeats, about half of them broken: fields, blocks, cuts, bytes. Half of them don't tell how
+many data records they have, or have several annotations signals. 200 come in one `take` on a new
+store, in two runs, so that the store is opened with rows. Checked are the line and status of each,
+the lines of `list`, and every export byte for byte; that the whole list sent again changes nothing;
+and that each export is accepted by an empty store and written again unchanged. The model
+(checks/lib/model.py) was written from docs/FORMAT.md and docs/REFUSALS.md, apart from the program.
+The batch that fails first is kept in FOLDER.
 """
 import collections
 import os
@@ -33,7 +36,8 @@ class Wrong(Exception):
 
 
 def ran(program: Path, folder: Path, *words: str) -> subprocess.CompletedProcess:
-    return subprocess.run([program, *words], cwd=folder, capture_output=True, stdin=subprocess.DEVNULL, check=False)
+    return subprocess.run([program, *words], cwd=folder, capture_output=True,
+                          stdin=subprocess.DEVNULL, check=False)
 
 
 def compare(what: str, got, wanted) -> None:
@@ -48,7 +52,8 @@ def take(program: Path, folder: Path, names: list, files: list, store: model.Sto
     for name, line, answer in zip(names, told, answers):
         compare(name, line, f"{name} {answer}")
     compare("how many lines", len(told), len(names))
-    compare("status of take", done.returncode, 1 if any(answer.startswith("refused") for answer in answers) else 0)
+    compare("status of take", done.returncode,
+            1 if any(answer.startswith("refused") for answer in answers) else 0)
     compare("standard error of take", done.stderr, b"")
     return answers
 
@@ -57,7 +62,8 @@ def exports(program: Path, folder: Path, store: model.Store) -> None:
     done = ran(program, folder, "list", "s.db")
     compare("the list", done.stdout.decode(), store.lines())
     for place in range(1, len(store.held) + 1):
-        compare(f"export at place {place}", ran(program, folder, "export", "s.db", str(place)).stdout, store.export(place))
+        compare(f"export at place {place}",
+                ran(program, folder, "export", "s.db", str(place)).stdout, store.export(place))
 
 
 def again(program: Path, folder: Path, store: model.Store) -> None:
@@ -65,7 +71,8 @@ def again(program: Path, folder: Path, store: model.Store) -> None:
     for place in range(1, len(store.held) + 1):
         given = store.export(place)
         (folder / "export.edf").write_bytes(given)
-        compare(f"convert of export {place}", ran(program, folder, "convert", "export.edf").stdout, given)
+        compare(f"convert of export {place}", ran(program, folder, "convert", "export.edf").stdout,
+                given)
 
 
 def check(program: Path, folder: Path, files: list, is_long: bool) -> list:
@@ -80,7 +87,8 @@ def check(program: Path, folder: Path, files: list, is_long: bool) -> list:
     if is_long:
         held = {key: list(records) for key, (_, records) in store.held.items()}
         take(program, folder, names, files, store)
-        compare("holdings after all was sent again", {key: list(records) for key, (_, records) in store.held.items()}, held)
+        compare("holdings after all was sent again",
+                {key: list(records) for key, (_, records) in store.held.items()}, held)
         exports(program, folder, store)
         again(program, folder, store)
     return answers
@@ -96,7 +104,8 @@ def kind(data: bytes) -> str:
     signals = data[252:256].strip()
     ends = 256 + 16 * int(signals) if signals.isdigit() else 0
     several = sum(data[at:at + 16] == ANNOTATIONS_LABEL.encode() for at in range(256, ends, 16)) > 1
-    return " and ".join(["of unknown count"] * (data[236:244] == b"-1      ") + ["with several annotations signals"] * several)
+    return " and ".join(["of unknown count"] * (data[236:244] == b"-1      ") +
+                        ["with several annotations signals"] * several)
 
 
 def main() -> None:
@@ -120,12 +129,15 @@ def main() -> None:
                 sys.exit(1)
             done += len(files)
             kinds.update(map(kind, files))
-            seen.update(" ".join(answer.split()[:2]) if answer.startswith("refused") else answer.split()[0] for answer in answers)
-    print(f"{done} files in {time.perf_counter() - begun:.0f} s, seed {seed}: every line, list and export as the model has it")
+            seen.update(" ".join(answer.split()[:2]) if answer.startswith("refused")
+                        else answer.split()[0] for answer in answers)
+    print(f"{done} files in {time.perf_counter() - begun:.0f} s, seed {seed}: every line, list and "
+          "export as the model has it")
     print(", ".join(f"{number} {text}" for text, number in sorted(kinds.items()) if text))
     accepted = seen.pop("accepted")
     print(f"accepted {accepted} ({accepted / done:.0%}); refused:",
-          ", ".join(f"{text.split()[1]} {seen[text]}" for text in sorted(seen, key=lambda text: int(text.split()[1][1:]))))
+          ", ".join(f"{text.split()[1]} {seen[text]}"
+                    for text in sorted(seen, key=lambda text: int(text.split()[1][1:]))))
 
 
 main()

@@ -1,12 +1,14 @@
 #!/usr/bin/env python3
-"""Gives random files to `edfruns list`, `write` and `split` and checks each line, file and status against a plain model.
+"""Gives random files to `edfruns list`, `write` and `split` and checks each line, file and status
+against a plain model.
 
     checks/fuzz/split.py [--program PATH] [--seed SEED] [CASES]        1,000 cases if left out
 
-The files are those of fuzz/run.py (cases.py), about half of them broken. Of each, `list` from standard input is what the model has; of a
-file with runs, `write` writes the first, the last and one between as the model has them, and every eighth is split too. Then the model's
-store takes the runs' files in any order, some twice, and must accept each and export the canonical file of the whole. The first that
-fails is left in the folder that is named.
+The files are those of fuzz/run.py (cases.py), about half of them broken. Of each, `list` from
+standard input is what the model has; of a file with runs, `write` writes the first, the last and
+one between as the model has them, and every eighth is split too. Then the model's store takes the
+runs' files in any order, some twice, and must accept each and export the canonical file of the
+whole. The first that fails is left in the folder that is named.
 """
 import collections
 import random
@@ -36,7 +38,8 @@ def compare(what: str, got, wanted) -> None:
 
 
 def ran(program: Path, folder: Path, *words: str, given: bytes = b"") -> tuple:
-    done = subprocess.run([program, *words], cwd=folder, input=given, capture_output=True, check=False)
+    done = subprocess.run([program, *words], cwd=folder, input=given, capture_output=True,
+                          check=False)
     return done.stdout, done.stderr, done.returncode
 
 
@@ -54,7 +57,8 @@ def written(program: Path, folder: Path, made: list, chance: random.Random) -> N
 
 def was_split(program: Path, folder: Path, made: list) -> None:
     names = runs.split_names("part", made)
-    compare("split", ran(program, folder, "split", "a.edf", "part"), (runs.split_lines("part", made).encode(), b"", 0))
+    compare("split", ran(program, folder, "split", "a.edf", "part"),
+            (runs.split_lines("part", made).encode(), b"", 0))
     compare("the files of split", {path.name: path.read_bytes() for path in folder.glob("part-*")},
             {name: run.to_bytes() for name, run in zip(names, made)})
     for name in names:
@@ -79,10 +83,13 @@ def checked(program: Path, folder: Path, data: bytes, chance: random.Random) -> 
     try:
         made = runs.read_runs(data)
     except model.Refused as fault:
-        compare("list", ran(program, folder, "list", "-", given=data), (b"", f"- refused {fault}\n".encode(), 1))
-        compare("write", ran(program, folder, "write", "a.edf", "1"), (b"", f"a.edf refused {fault}\n".encode(), 1))
+        compare("list", ran(program, folder, "list", "-", given=data),
+                (b"", f"- refused {fault}\n".encode(), 1))
+        compare("write", ran(program, folder, "write", "a.edf", "1"),
+                (b"", f"a.edf refused {fault}\n".encode(), 1))
         return "refused"
-    compare("list", ran(program, folder, "list", "-", given=data), (runs.lines(made).encode(), b"", 0))
+    compare("list", ran(program, folder, "list", "-", given=data),
+            (runs.lines(made).encode(), b"", 0))
     written(program, folder, made, chance)
     if not any(map(is_undated, made)):
         taken_back(data, made, chance)
@@ -107,8 +114,11 @@ def main() -> None:
             done += 1
     (folder / "a.edf").unlink()
     folder.rmdir()
-    print(f"{done} files in {time.perf_counter() - begun:.0f} s, seed {seed}: every line and file as the model has it")
-    print(", ".join(f"{number} {text}" for text, number in sorted(kinds.items(), key=lambda each: (len(each[0]), each[0]))))
+    print(f"{done} files in {time.perf_counter() - begun:.0f} s, seed {seed}: every line and file "
+          "as the model has it")
+    print(", ".join(f"{number} {text}"
+                    for text, number in sorted(kinds.items(),
+                                               key=lambda each: (len(each[0]), each[0]))))
 
 
 main()

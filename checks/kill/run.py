@@ -1,13 +1,16 @@
 #!/usr/bin/env python3
-"""Stops `edfstore take` at random moments, fills its disk and cuts its files while they are read, and looks at what is held.
+"""Stops `edfstore take` at random moments, fills its disk and cuts its files while they are read,
+and looks at what is held.
 
     checks/kill/run.py [--program PATH] [--seed SEED] [STOPS]       1,000 stops if left out
 
-A short night of two hours, 40 fragments, is taken and killed (SIGKILL) at a random moment, and taken again from the front, until
-all of it is held; then a new store begins. After each stop `list` opens the store, and its export is that of the first p files, p
-at least what was held before and at least the files whose `accepted` was read. A whole store's export is that of a run without
-stops. Then the same night on a tmpfs too small for it (as root; left out otherwise), fragments that shrink while they are read,
-and two `take`s on one store at once. What is expected comes from the plain model. It stops with status 1 at the first loss.
+A short night of two hours, 40 fragments, is taken and killed (SIGKILL) at a random moment, and
+taken again from the front, until all of it is held; then a new store begins. After each stop `list`
+opens the store, and its export is that of the first p files, p at least what was held before and at
+least the files whose `accepted` was read. A whole store's export is that of a run without stops.
+Then the same night on a tmpfs too small for it (as root; left out otherwise), fragments that shrink
+while they are read, and two `take`s on one store at once. What is expected comes from the plain
+model. It stops with status 1 at the first loss.
 """
 import collections
 import hashlib
@@ -47,7 +50,8 @@ class Bench:
             self.fronts.append(digest(held.export(1)))
 
     def ran(self, *words) -> subprocess.CompletedProcess:
-        return subprocess.run([self.program, *map(str, words)], capture_output=True, stdin=subprocess.DEVNULL, check=False)
+        return subprocess.run([self.program, *map(str, words)], capture_output=True,
+                              stdin=subprocess.DEVNULL, check=False)
 
     def count(self, told: bytes) -> None:
         """Counts the refusals that were told, by number."""
@@ -66,13 +70,15 @@ class Bench:
         export = self.ran("export", store, 1)
         if export.returncode:
             lost(f"export ended with status {export.returncode}: {export.stderr!r}")
-        wanted = b"1 records=%d " % int(export.stdout[236:244])     # the number of data records that the header tells
+        # the number of data records that the header tells
+        wanted = b"1 records=%d " % int(export.stdout[236:244])
         if not listed.stdout.startswith(wanted) or listed.stdout.count(b"\n") != 1:
             lost(f"the list is {listed.stdout!r}, wanted {wanted!r} and so on")
         return export.stdout
 
     def front(self, store: Path) -> int:
-        """How many files from the front the store holds; the bench ends where it holds anything else."""
+        """How many files from the front the store holds; the bench ends where it holds anything
+        else."""
         found = digest(self.exported(store))
         if found not in self.fronts:
             lost("the export is not that of a front of the list")
@@ -80,9 +86,10 @@ class Bench:
 
 
 def stopped(bench: Bench, store: Path, delay: float) -> tuple:
-    """Starts a take and kills it; whether it was killed in time, and how many `accepted` were read."""
-    child = subprocess.Popen([bench.program, "take", store, *bench.parts], stdout=subprocess.PIPE, stderr=subprocess.PIPE,
-                             stdin=subprocess.DEVNULL)
+    """Starts a take and kills it; whether it was killed in time, and how many `accepted` were
+    read."""
+    child = subprocess.Popen([bench.program, "take", store, *bench.parts], stdout=subprocess.PIPE,
+                             stderr=subprocess.PIPE, stdin=subprocess.DEVNULL)
     time.sleep(delay)
     child.kill()
     out, err = child.communicate()
@@ -111,15 +118,18 @@ def stops(bench: Bench, wanted: int) -> None:
         if front == len(bench.parts):
             measure.remove_store(store)
             rounds, before = rounds + 1, 0
-    print(f"{count} stops of a run of {whole:.2f} s; {rounds} stores were filled in the end, each with the export of a run without "
-          f"stops; after a stop {len(fronts)} different fronts of the list were held, {again} times the one before")
+    print(f"{count} stops of a run of {whole:.2f} s; {rounds} stores were filled in the end, each "
+          f"with the export of a run without stops; after a stop {len(fronts)} different fronts "
+          f"of the list were held, {again} times the one before")
 
 
 def full_disk(bench: Bench, megabytes: int) -> None:
     """The night onto a file system that is too small for it, which then grows."""
     place = bench.folder / "small"
     place.mkdir(exist_ok=True)
-    done = subprocess.run(["mount", "-t", "tmpfs", "-o", f"size={megabytes}m", "edfstore-bench", place], capture_output=True, check=False)
+    done = subprocess.run(
+        ["mount", "-t", "tmpfs", "-o", f"size={megabytes}m", "edfstore-bench", place],
+        capture_output=True, check=False)
     if done.returncode:
         print("a full disk: left out, since this user may not mount a tmpfs")
         return
@@ -136,20 +146,23 @@ def full_disk(bench: Bench, megabytes: int) -> None:
                     held.take(part.read_bytes())
             if lines and b"store refused" not in told.stderr:
                 listed = bench.ran("list", store)
-                if listed.returncode == 0 and digest(bench.exported(store)) != digest(held.export(1) if held.held else b""):
+                if listed.returncode == 0 and digest(bench.exported(store)) != digest(
+                        held.export(1) if held.held else b""):
                     lost("on a full disk the export is not that of the accepted files")
         subprocess.run(["mount", "-o", f"remount,size={20 * megabytes + 200}m", place], check=True)
         told = bench.ran("take", store, *bench.parts)
         if told.returncode or bench.front(store) != len(bench.parts):
             lost(f"after room was made: {told.stdout[-300:]!r} {told.stderr!r}")
-        print(f"a disk of {megabytes} MB, taken 3 times: {dict(answers)}; each file whole or not at all, and all of them once there was room")
+        print(f"a disk of {megabytes} MB, taken 3 times: {dict(answers)}; each file whole or not "
+              "at all, and all of them once there was room")
     finally:
         subprocess.run(["umount", place], check=True)
 
 
 def shrinking(bench: Bench, times: int) -> None:
     """A card that loses its end while it is read: accepted whole, or refused as cut."""
-    card, given, store = NIGHT.card(bench.folder / "card.edf"), bench.folder / "given.edf", bench.folder / "s.db"
+    card, given, store = NIGHT.card(
+        bench.folder / "card.edf"), bench.folder / "given.edf", bench.folder / "s.db"
     data, answers, whole = card.read_bytes(), collections.Counter(), None
     for _ in range(times):
         given.write_bytes(data)
@@ -159,7 +172,8 @@ def shrinking(bench: Bench, times: int) -> None:
         whole = whole or time.perf_counter() - begun
         measure.remove_store(store)
         size = bench.rng.randrange(len(data))
-        cut = threading.Timer(bench.rng.uniform(0, whole) * bench.rng.random(), os.truncate, (given, size))
+        cut = threading.Timer(bench.rng.uniform(0, whole) * bench.rng.random(), os.truncate,
+                              (given, size))
         cut.start()
         told = bench.ran("take", store, given)
         cut.join()
@@ -178,8 +192,9 @@ def at_once(bench: Bench, times: int) -> None:
     store, answers = bench.folder / "s.db", collections.Counter()
     for _ in range(times):
         measure.remove_store(store)
-        children = [subprocess.Popen([bench.program, "take", store, *bench.parts[side::2]], stdout=subprocess.PIPE,
-                                     stderr=subprocess.PIPE, stdin=subprocess.DEVNULL) for side in (0, 1)]
+        children = [subprocess.Popen([bench.program, "take", store, *bench.parts[side::2]],
+                                     stdout=subprocess.PIPE, stderr=subprocess.PIPE,
+                                     stdin=subprocess.DEVNULL) for side in (0, 1)]
         held, names = model.Store(), {str(part): part for part in bench.parts}
         for child in children:
             out, err = child.communicate()
@@ -189,12 +204,15 @@ def at_once(bench: Bench, times: int) -> None:
                 answers[answer.split(" new=")[0]] += 1
                 if answer.startswith("accepted"):
                     held.take(names[name].read_bytes())
-            answers.update(line.split(" ", 1)[0] + " " + line.split(" ", 1)[1] for line in err.decode().splitlines())
+            answers.update(line.split(" ", 1)[0] + " " + line.split(" ", 1)[1]
+                           for line in err.decode().splitlines())
         if digest(bench.exported(store)) != digest(held.export(1) if held.held else b""):
             lost("two takes at once: the export is not that of the accepted files")
-        if bench.ran("take", store, *bench.parts).returncode or bench.front(store) != len(bench.parts):
+        if bench.ran("take", store, *bench.parts).returncode or bench.front(store) != len(
+                bench.parts):
             lost("two takes at once: the list taken again isn't whole")
-    print(f"two takes on one store at once, {times} times: {dict(answers)}; what was accepted is held, and all of it after one more take")
+    print(f"two takes on one store at once, {times} times: {dict(answers)}; what was accepted is "
+          "held, and all of it after one more take")
 
 
 def main() -> None:

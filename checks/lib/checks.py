@@ -1,4 +1,5 @@
-"""Runs the program on words or shell lines and compares its output, its errors and its status with what is wanted."""
+"""Runs the program on words or shell lines and compares its output, its errors and its status with
+what is wanted."""
 import os
 import shutil
 import signal
@@ -33,14 +34,17 @@ class Checks:
 
     def run(self, *words: str, given: bytes = b"", out="", err="", status: int = 0) -> None:
         """Runs the words in the case's folder; `err=None` is any text at all but none."""
-        ran = subprocess.run([self.program, *words], input=given, capture_output=True, cwd=self.folder, check=False)
+        ran = subprocess.run([self.program, *words], input=given, capture_output=True,
+                             cwd=self.folder, check=False)
         self.compare(f"{self.name} {' '.join(words)}", ran, out, err, status)
 
     def shell(self, line: str, out="", err="", status: int = 0) -> None:
         """Runs a line of the shell, in which the program has its name."""
         words = ["bash", "-c", f'{self.name}() {{ "$PROGRAM" "$@"; }}; {line}']
-        with subprocess.Popen(words, stdout=subprocess.PIPE, stderr=subprocess.PIPE, stdin=subprocess.DEVNULL, cwd=self.folder,
-                              env={**os.environ, "PROGRAM": str(self.program)}, start_new_session=True) as child:
+        with subprocess.Popen(words, stdout=subprocess.PIPE, stderr=subprocess.PIPE,
+                              stdin=subprocess.DEVNULL, cwd=self.folder,
+                              env={**os.environ, "PROGRAM": str(self.program)},
+                              start_new_session=True) as child:
             try:
                 told = child.communicate(timeout=SECONDS)
             except subprocess.TimeoutExpired:
@@ -55,7 +59,8 @@ class Checks:
         if ran.stdout != wanted:
             wrong.append(f"standard output was {ran.stdout[:300]!r}, wanted {wanted[:300]!r}")
         if (not ran.stderr) if err is None else (ran.stderr != err.encode()):
-            wrong.append(f"standard error was {ran.stderr[:300]!r}, wanted {'some text' if err is None else err!r}")
+            wrong.append(f"standard error was {ran.stderr[:300]!r}, wanted "
+                         f"{'some text' if err is None else err!r}")
         if ran.returncode != status:
             wrong.append(f"the status was {ran.returncode}, wanted {status}")
         self.done += 1

@@ -24,13 +24,15 @@ def value_of(words: list, name: str, other: str) -> str:
 
 
 def program(words: list, name: str = "edfstore", option: str = "--program") -> tuple:
-    """The program to run, and the words left: the word after `--program`, or the one that `bin/edfstore` runs, or another of bin/."""
+    """The program to run, and the words left: the word after `--program`, or the one that
+    `bin/edfstore` runs, or another of bin/."""
     words = list(words)
     given = value_of(words, option, "")
     if given:
         return Path(given).resolve(), words
     script = '. "$0/bin/common.sh" && chosen_program "$1"'
-    chosen = subprocess.run(["bash", "-c", script, TOP, name], stdout=subprocess.PIPE, text=True, check=False)
+    chosen = subprocess.run(["bash", "-c", script, TOP, name], stdout=subprocess.PIPE, text=True,
+                            check=False)
     if chosen.returncode:
         sys.exit(f"bin/{name} has no program to run")
     return Path(chosen.stdout.strip()), words
@@ -66,13 +68,15 @@ class Run:
 
 
 def run(command: list, out: Path = None, given: Path = None, statuses=(0,)) -> Run:
-    """Runs to the end. `time` stands between, so that the peak is the program's and not this script's."""
+    """Runs to the end. `time` stands between, so that the peak is the program's and not this
+    script's."""
     with tempfile.NamedTemporaryFile() as told, tempfile.TemporaryFile() as kept, tempfile.TemporaryFile() as errors:
         into = open(out, "wb") if out else kept
         source = open(given, "rb") if given else subprocess.DEVNULL
         begun = time.perf_counter()
-        done = subprocess.run(["/usr/bin/time", "-q", "-o", told.name, "-f", "%M %U %S", *map(str, command)], stdin=source, stdout=into,
-                              stderr=errors, check=False)
+        done = subprocess.run(
+            ["/usr/bin/time", "-q", "-o", told.name, "-f", "%M %U %S", *map(str, command)],
+            stdin=source, stdout=into, stderr=errors, check=False)
         seconds = time.perf_counter() - begun
         if out:
             into.close()
@@ -81,7 +85,8 @@ def run(command: list, out: Path = None, given: Path = None, statuses=(0,)) -> R
         kept.seek(0)
         errors.seek(0)
         peak, *processor = told.read().split()[-3:]
-        answer = Run(seconds, sum(map(float, processor)), 1024 * int(peak), done.returncode, kept.read(), errors.read())
+        answer = Run(seconds, sum(map(float, processor)), 1024 * int(peak), done.returncode,
+                     kept.read(), errors.read())
     if statuses is not None and answer.status not in statuses:
         sys.exit(f"{' '.join(map(str, command))[:300]}\nended with status {answer.status}\n"
                  f"{answer.err.decode(errors='replace')[:1000]}")
@@ -89,14 +94,18 @@ def run(command: list, out: Path = None, given: Path = None, statuses=(0,)) -> R
 
 
 def instructions(command: list, out: Path, given: Path = None) -> int:
-    """The instructions that a run takes, counted by callgrind: the same whatever else the machine does."""
-    with tempfile.NamedTemporaryFile("r") as told, open(given or os.devnull, "rb") as source, open(out, "wb") as into:
-        counted = ["valgrind", "--tool=callgrind", "--callgrind-out-file=/dev/null", f"--log-file={told.name}", *map(str, command)]
-        done = subprocess.run(counted, stdin=source, stdout=into, stderr=subprocess.PIPE, check=False)
+    """The instructions that a run takes, counted by callgrind: the same whatever else the machine
+    does."""
+    with tempfile.NamedTemporaryFile("r") as told, open(given or os.devnull, "rb") as source, open(
+            out, "wb") as into:
+        counted = ["valgrind", "--tool=callgrind", "--callgrind-out-file=/dev/null",
+                   f"--log-file={told.name}", *map(str, command)]
+        done = subprocess.run(counted, stdin=source, stdout=into, stderr=subprocess.PIPE,
+                              check=False)
         collected = re.search(r"Collected : (\d+)", told.read())
     if done.returncode or not collected:
-        sys.exit(f"{' '.join(map(str, command))[:300]}\nended with status {done.returncode} under callgrind\n"
-                 f"{done.stderr.decode(errors='replace')[:1000]}")
+        sys.exit(f"{' '.join(map(str, command))[:300]}\nended with status {done.returncode} under "
+                 f"callgrind\n{done.stderr.decode(errors='replace')[:1000]}")
     return int(collected[1])
 
 
@@ -122,7 +131,8 @@ def copy_synced(parts: list, target: Path) -> float:
 
 
 def machine() -> str:
-    model = next((line.split(":")[1].strip() for line in open("/proc/cpuinfo") if line.startswith("model name")), "?")
+    model = next((line.split(":")[1].strip() for line in open("/proc/cpuinfo")
+                  if line.startswith("model name")), "?")
     one, five, _ = os.getloadavg()
     return f"{os.cpu_count()} processors ({model}), Linux {os.uname().release}, load {one:.1f} and {five:.1f} over 1 and 5 minutes"
 

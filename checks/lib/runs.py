@@ -1,5 +1,6 @@
-"""A plain model of `edfruns`, beside the one of `edfstore`: the runs of a file, the line of each and the file of each. A run is a longest
-stretch of data records each of which starts where the one before ends, to the nanosecond.
+"""A plain model of `edfruns`, beside the one of `edfstore`: the runs of a file, the line of each
+and the file of each. A run is a longest stretch of data records each of which starts where the one
+before ends, to the nanosecond.
 
     from runs import read_runs
     runs = read_runs(data)                      or model.Refused, with the first fault of the file
@@ -31,7 +32,8 @@ class Run:
 
     def line(self) -> str:
         gap = f" gap={model.shortest(self.gap).decode()}" if self.gap else ""
-        return (f"{self.number} records={len(self.records)} first={model.instant_text(self.first())} "
+        return (f"{self.number} records={len(self.records)} "
+                f"first={model.instant_text(self.first())} "
                 f"seconds={model.shortest(self.length()).decode()}{gap}\n")
 
     def to_bytes(self) -> bytes:
@@ -56,8 +58,10 @@ def read_runs(data: bytes) -> list:
     key, records = model.read(data)
     stretches = parted(key, records)
     nexts = [stretch[0].start for stretch in stretches[1:]]
-    gaps = [start - stretch[-1].start - key.duration() for stretch, start in zip(stretches, nexts)] + [0]
-    return [Run(number, key, tuple(stretch), gap) for number, (stretch, gap) in enumerate(zip(stretches, gaps), 1)]
+    gaps = [start - stretch[-1].start - key.duration()
+            for stretch, start in zip(stretches, nexts)] + [0]
+    return [Run(number, key, tuple(stretch), gap)
+            for number, (stretch, gap) in enumerate(zip(stretches, gaps), 1)]
 
 
 def lines(runs: list) -> str:

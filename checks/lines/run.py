@@ -3,7 +3,8 @@
 
     checks/lines/run.py [--program PATH]
 
-The files come from checks/lib/edf.py, field by field; what is expected is written below by hand. Nothing comes from the program.
+The files come from checks/lib/edf.py, field by field; what is expected is written below by hand.
+Nothing comes from the program.
 """
 import sys
 from pathlib import Path
@@ -29,16 +30,19 @@ def one_record_is_its_own_canonical_file(checks: Checks) -> None:
     checks.run("take", "night.db", "-", given=Q, out="- accepted new=1 known=0\n")
     checks.run("take", "night.db", "a.edf", out="a.edf accepted new=0 known=1\n")
     checks.run("export", "night.db", "1", out=Q)
-    checks.run("take", ":memory:", "a.edf", "a.edf", out="a.edf accepted new=1 known=0\na.edf accepted new=0 known=1\n")
+    checks.run("take", ":memory:", "a.edf", "a.edf",
+               out="a.edf accepted new=1 known=0\na.edf accepted new=0 known=1\n")
     checks.run("list", ":memory:")
 
 
 def two_records_cut_inside_the_second_leave_nothing(checks: Checks) -> None:
     checks.begin("two records, cut inside the second, leave nothing")
     header = edf.Header((edf.Signal(), edf.annotations_signal(3)), count="2")
-    whole = edf.fragment(header, [(b"\1\0\2\0", edf.keeping("+0")), (b"\3\0\4\0", edf.keeping("+1"))])
+    whole = edf.fragment(header,
+                         [(b"\1\0\2\0", edf.keeping("+0")), (b"\3\0\4\0", edf.keeping("+1"))])
     checks.file("cut.edf", whole[:-1])
-    checks.run("take", "night.db", "cut.edf", out="cut.edf refused E21 CutRecord record=2\n", status=1)
+    checks.run("take", "night.db", "cut.edf", out="cut.edf refused E21 CutRecord record=2\n",
+               status=1)
     checks.run("list", "night.db")
     checks.run("export", "night.db", "1", err="no recording at place 1\n", status=1)
 
@@ -47,24 +51,28 @@ def an_overlap_is_told_with_both_starts(checks: Checks) -> None:
     checks.begin("an overlap is told with both starts")
     checks.file("a.edf", Q)
     checks.file("b.edf", FILES["half"])
-    checks.run("take", "night.db", "a.edf", "b.edf", out=f"a.edf accepted new=1 known=0\nb.edf {OVERLAP}\n", status=1)
+    checks.run("take", "night.db", "a.edf", "b.edf",
+               out=f"a.edf accepted new=1 known=0\nb.edf {OVERLAP}\n", status=1)
     checks.run("list", "night.db", out="1 " + LINE.format(1))
     checks.run("export", "night.db", "1", out=Q)
     checks.run("export", "night.db", "2", err="no recording at place 2\n", status=1)
     for place in ("0", "-1", "+1", "4294967296", "one"):
         checks.run("export", "night.db", place, err=None, status=2)
-    checks.run("export", "night.db", "4294967295", err="no recording at place 4294967295\n", status=1)
+    checks.run("export", "night.db", "4294967295", err="no recording at place 4294967295\n",
+               status=1)
     checks.run("export", "night.db", "001", out=Q)
     changed = Q[:768] + b"\0" + Q[769:]
     checks.file("c.edf", changed)
-    checks.run("take", "night.db", "c.edf", out="c.edf refused E31 Differs start=2002-03-02T23:59:50\n", status=1)
+    checks.run("take", "night.db", "c.edf",
+               out="c.edf refused E31 Differs start=2002-03-02T23:59:50\n", status=1)
 
 
 def a_withheld_date_is_another_recording(checks: Checks) -> None:
     checks.begin("a withheld Startdate is another recording, listed behind the dated one")
     checks.file("x.edf", FILES["X"])
     checks.file("a.edf", Q)
-    checks.run("take", "night.db", "x.edf", "a.edf", out="x.edf accepted new=1 known=0\na.edf accepted new=1 known=0\n")
+    checks.run("take", "night.db", "x.edf", "a.edf",
+               out="x.edf accepted new=1 known=0\na.edf accepted new=1 known=0\n")
     checks.run("list", "night.db", out="1 " + LINE.format(1) + "2 " + LINE.format(1))
     checks.run("export", "night.db", "1", out=Q)
     checks.run("export", "night.db", "2", out=FILES["X"])
@@ -73,8 +81,8 @@ def a_withheld_date_is_another_recording(checks: Checks) -> None:
 def a_missing_file_is_trouble_and_the_next_is_taken(checks: Checks) -> None:
     checks.begin("a missing file is trouble, and the next file is taken")
     checks.file("a.edf", Q)
-    checks.run("take", "night.db", "missing.edf", "a.edf", out="missing.edf refused E40 Read\na.edf accepted new=1 known=0\n",
-               status=3)
+    checks.run("take", "night.db", "missing.edf", "a.edf",
+               out="missing.edf refused E40 Read\na.edf accepted new=1 known=0\n", status=3)
     checks.run("list", "night.db", out="1 " + LINE.format(1))
 
 
@@ -87,10 +95,14 @@ def a_refused_conversion_writes_nothing(checks: Checks) -> None:
 
 
 def a_file_cut_anywhere(checks: Checks) -> None:
-    """Every cut of two files into a store that holds Q, 200 files a run, and the store as before."""
+    """Every cut of two files into a store that holds Q, 200 files a run, and the store as
+    before."""
     checks.begin("a file cut anywhere")
-    answers = [("Q", n, "E1 Cut" if n < 256 else "E14 CutSignals" if n < 768 else "E21 CutRecord record=1") for n in range(778)]
-    answers += [("U", n, "E21 CutRecord record=1" if n < 886 else "E21 CutRecord record=2") for n in range(768, 1004)]
+    answers = [("Q", n,
+                "E1 Cut" if n < 256 else "E14 CutSignals" if n < 768 else "E21 CutRecord record=1")
+               for n in range(778)]
+    answers += [("U", n, "E21 CutRecord record=1" if n < 886 else "E21 CutRecord record=2")
+                for n in range(768, 1004)]
     checks.file("a.edf", Q)
     checks.run("take", "night.db", "a.edf", out="a.edf accepted new=1 known=0\n")
     for first in range(0, len(answers), 200):
@@ -98,26 +110,31 @@ def a_file_cut_anywhere(checks: Checks) -> None:
         for letter, n, _ in batch:
             checks.file(f"{letter}{n}", FILES[letter][:n])
         checks.run("take", "night.db", *(f"{letter}{n}" for letter, n, _ in batch),
-                   out="".join(f"{letter}{n} refused {text}\n" for letter, n, text in batch), status=1)
+                   out="".join(f"{letter}{n} refused {text}\n" for letter, n, text in batch),
+                   status=1)
     checks.run("export", "night.db", "1", out=Q)
     checks.run("list", "night.db", out="1 " + LINE.format(1))
 
 
 def a_file_of_unknown_count_cut_anywhere(checks: Checks) -> None:
-    """A file that doesn't tell how many data records it has ends where a record does, and nowhere else."""
+    """A file that doesn't tell how many data records it has ends where a record does, and nowhere
+    else."""
     checks.begin("a file of unknown count cut anywhere")
     data = FILES["U"][:236] + b"-1      " + FILES["U"][244:]
     answers = {n: "E1 Cut" if n < 256 else "E14 CutSignals" for n in range(0, 768, 64)}
-    answers |= {n: f"E21 CutRecord record={1 if n < 886 else 2}" for n in range(768, 1004) if n != 886} | {1005: "E21 CutRecord record=3"}
+    answers |= {n: f"E21 CutRecord record={1 if n < 886 else 2}" for n in range(768, 1004)
+                if n != 886} | {1005: "E21 CutRecord record=3"}
     for n in answers:
         checks.file(f"{n}", (data + b"\0")[:n])
-    checks.run("take", "night.db", *map(str, answers), out="".join(f"{n} refused {text}\n" for n, text in answers.items()), status=1)
+    checks.run("take", "night.db", *map(str, answers),
+               out="".join(f"{n} refused {text}\n" for n, text in answers.items()), status=1)
     checks.run("list", "night.db")
     checks.file("886", data[:886])
     checks.file("whole", data)
     checks.file("told", FILES["U"])
-    checks.run("take", "night.db", "886", "whole", "told", "whole", out="886 accepted new=1 known=0\nwhole accepted new=1 known=1\n"
-               "told accepted new=0 known=2\nwhole accepted new=0 known=2\n")
+    checks.run("take", "night.db", "886", "whole", "told", "whole",
+               out="886 accepted new=1 known=0\nwhole accepted new=1 known=1\ntold accepted new=0 "
+                   "known=2\nwhole accepted new=0 known=2\n")
     checks.run("export", "night.db", "1", out=canonical_u())
     checks.run("convert", "whole", out=canonical_u())
     checks.run(given=data, out=canonical_u())
@@ -133,64 +150,85 @@ def annotations_of_several_signals_are_one_list(checks: Checks) -> None:
     checks.file("export.edf", export)
     checks.file("a.edf", Q)
     checks.run("convert", "v.edf", out=export)
-    checks.run("take", "night.db", "v.edf", "export.edf", "a.edf", out="v.edf accepted new=1 known=0\nexport.edf accepted new=0 known=1\n"
-               "a.edf refused E31 Differs start=2002-03-02T23:59:50\n", status=1)
+    checks.run("take", "night.db", "v.edf", "export.edf", "a.edf",
+               out="v.edf accepted new=1 known=0\nexport.edf accepted new=0 known=1\na.edf refused "
+                   "E31 Differs start=2002-03-02T23:59:50\n", status=1)
     checks.run("export", "night.db", "1", out=export)
     for n in range(1024, 1050):
         checks.run(given=v[:n], err="- refused E21 CutRecord record=1\n", status=1)
     checks.run(given=v[:-1] + b"\1", err="- refused E22 Tal record=1 offset=18\n", status=1)
-    checks.run(given=v[:1024] + bytes(6) + v[1030:], err="- refused E24 NotTimed record=1\n", status=1)
+    checks.run(given=v[:1024] + bytes(6) + v[1030:], err="- refused E24 NotTimed record=1\n",
+               status=1)
     checks.run(given=v[:-16] + bytes(16), out=Q)
 
 
 def canonical_u() -> bytes:
-    header = edf.Header((edf.Signal(physical_minimum="-3276.8", physical_maximum="3276.7", digital_minimum="-32768",
-                                    digital_maximum="32767"), edf.annotations_signal(11)), starttime="22.00.00", patient="X X X X",
+    header = edf.Header((edf.Signal(physical_minimum="-3276.8", physical_maximum="3276.7",
+                                    digital_minimum="-32768", digital_maximum="32767"),
+                         edf.annotations_signal(11)), starttime="22.00.00", patient="X X X X",
                         recording="Startdate 02-MAR-2002 X X X", count="2")
-    return edf.fragment(header, [(b"\1\0\2\0", edf.keeping("+0") + edf.tal("+0.5", "Lights off")), (b"\3\0\4\0", edf.keeping("+1"))])
+    return edf.fragment(header,
+                        [(b"\1\0\2\0", edf.keeping("+0") + edf.tal("+0.5", "Lights off")),
+                         (b"\3\0\4\0", edf.keeping("+1"))])
 
 
 def five_files_make_one_night(checks: Checks) -> None:
     checks.begin("fragments, the card and a resend make one file")
     for name in ("N3", "N1", "K", "P5", "Q", "R9"):
         checks.file(name, FILES[name])
-    checks.run("take", "night.db", "N3", "N1", "K", "N1", out="N3 accepted new=1 known=0\nN1 accepted new=1 known=0\n"
-               "K accepted new=1 known=2\nN1 accepted new=0 known=1\n")
+    checks.run("take", "night.db", "N3", "N1", "K", "N1",
+               out="N3 accepted new=1 known=0\nN1 accepted new=1 known=0\nK accepted new=1 "
+                   "known=2\nN1 accepted new=0 known=1\n")
     canonical = bytearray(FILES["K"])
     canonical[196:197] = b"D"
     checks.run("export", "night.db", "1", out=bytes(canonical))
-    checks.run("take", "other.db", "P5", "Q", "R9", out="P5 accepted new=1 known=0\nQ accepted new=1 known=0\n"
-               "R9 accepted new=1 known=1\n")
+    checks.run("take", "other.db", "P5", "Q", "R9",
+               out="P5 accepted new=1 known=0\nQ accepted new=1 known=0\nR9 accepted new=1 "
+                   "known=1\n")
     header = edf.Header((edf.Signal(), edf.annotations_signal(16)), count="3")
     snore = edf.keeping("+15") + edf.tal("+15.5", "Snore") + edf.tal("+15.5", "Turn")
-    checks.run("export", "other.db", "1", out=edf.fragment(header, [
-        (b"\1\0\xff\xff", edf.keeping("+0")), (b"\3\0\xfd\xff", edf.keeping("+10")), (b"\2\0\xfe\xff", snore)]))
+    checks.run("export", "other.db", "1",
+               out=edf.fragment(header,
+                                [(b"\1\0\xff\xff", edf.keeping("+0")),
+                                 (b"\3\0\xfd\xff", edf.keeping("+10")), (b"\2\0\xfe\xff", snore)]))
     checks.file("U", FILES["U"])
     checks.run("convert", "U", out=canonical_u())
 
 
 def late(startdate: str, subfield: str, starttime: str = "23.59.50") -> bytes:
     """Q's data record from another start, with this Startdate subfield."""
-    header = edf.Header((edf.Signal(), edf.annotations_signal(3)), startdate, starttime, recording=f"Startdate {subfield} N1 T3 REC5")
+    header = edf.Header((edf.Signal(), edf.annotations_signal(3)), startdate, starttime,
+                        recording=f"Startdate {subfield} N1 T3 REC5")
     return edf.fragment(header, [(Q[768:772], edf.keeping("+0"))])
 
 
 def letters_are_the_year_of_a_startdate_after_2084(checks: Checks) -> None:
     checks.begin("the letters yy are the year of a startdate after 2084")
-    march, end, begin = late("02.03.yy", "02-MAR-2102"), late("31.12.84", "31-DEC-2084"), late("01.01.yy", "01-JAN-2085", "00.00.05")
+    march, end, begin = late("02.03.yy", "02-MAR-2102"), late("31.12.84", "31-DEC-2084"), late(
+        "01.01.yy", "01-JAN-2085", "00.00.05")
     checks.run(given=march, out=march)
-    for data, text in ((late("02.03.yy", "X"), "E6 Startdate"), (late("02.03.YY", "02-MAR-2102"), "E6 Startdate"),
-                       (late("02.03.yy", "02-MAR-2102", "24.00.00"), "E7 Starttime"), (late("02.03.yy", "03-MAR-2102"), "E8 DatesDiffer"),
-                       (late("02.03.yy", "02-MAR-2185"), "E8 DatesDiffer"), (late("02.03.02", "02-MAR-2102"), "E8 DatesDiffer")):
+    for data, text in ((late("02.03.yy", "X"), "E6 Startdate"),
+                       (late("02.03.YY", "02-MAR-2102"), "E6 Startdate"),
+                       (late("02.03.yy", "02-MAR-2102", "24.00.00"), "E7 Starttime"),
+                       (late("02.03.yy", "03-MAR-2102"), "E8 DatesDiffer"),
+                       (late("02.03.yy", "02-MAR-2185"), "E8 DatesDiffer"),
+                       (late("02.03.02", "02-MAR-2102"), "E8 DatesDiffer")):
         checks.run(given=data, err=f"- refused {text}\n", status=1)
     for name, data in (("march", march), ("end", end), ("begin", begin)):
         checks.file(name, data)
-    checks.run("take", "night.db", "march", "begin", out="march accepted new=1 known=0\nbegin accepted new=1 known=0\n")
-    checks.run("list", "night.db", out="1 records=2 first=2085-01-01T00:00:05 patient=P7 investigation=N1\n")
-    checks.run("take", "other.db", "begin", "end", out="begin accepted new=1 known=0\nend accepted new=1 known=0\n")
-    checks.run("list", "other.db", out="1 records=2 first=2084-12-31T23:59:50 patient=P7 investigation=N1\n")
-    header = edf.Header((edf.Signal(), edf.annotations_signal(3)), "31.12.84", recording="Startdate 31-DEC-2084 N1 T3 REC5", count="2")
-    checks.run("export", "other.db", "1", out=edf.fragment(header, [(Q[768:772], edf.keeping("+0")), (Q[768:772], edf.keeping("+15"))]))
+    checks.run("take", "night.db", "march", "begin",
+               out="march accepted new=1 known=0\nbegin accepted new=1 known=0\n")
+    checks.run("list", "night.db",
+               out="1 records=2 first=2085-01-01T00:00:05 patient=P7 investigation=N1\n")
+    checks.run("take", "other.db", "begin", "end",
+               out="begin accepted new=1 known=0\nend accepted new=1 known=0\n")
+    checks.run("list", "other.db",
+               out="1 records=2 first=2084-12-31T23:59:50 patient=P7 investigation=N1\n")
+    header = edf.Header((edf.Signal(), edf.annotations_signal(3)), "31.12.84",
+                        recording="Startdate 31-DEC-2084 N1 T3 REC5", count="2")
+    checks.run("export", "other.db", "1",
+               out=edf.fragment(
+                   header, [(Q[768:772], edf.keeping("+0")), (Q[768:772], edf.keeping("+15"))]))
 
 
 def version() -> str:
@@ -203,8 +241,8 @@ def words_that_ask_for_nothing(checks: Checks) -> None:
     checks.begin("words that ask for nothing are a usage fault, and help and the version are none")
     for flag in ("--version", "-V"):
         checks.run(flag, out=f"edfstore {version()}\n")
-    for words in (("list",), ("take", "night.db"), ("frob",), ("export", "night.db"), ("list", "-x"), ("convert",),
-                  ("list", "night.db", "more")):
+    for words in (("list",), ("take", "night.db"), ("frob",), ("export", "night.db"),
+                  ("list", "-x"), ("convert",), ("list", "night.db", "more")):
         checks.run(*words, err=None, status=2)
     if (checks.folder / "night.db").exists():
         checks.failed += 1
@@ -215,10 +253,13 @@ def main() -> None:
     program, _ = measure.program(sys.argv[1:])
     with measure.scratch() as name:
         checks = Checks(program, Path(name))
-        for case in (one_record_is_its_own_canonical_file, two_records_cut_inside_the_second_leave_nothing,
+        for case in (one_record_is_its_own_canonical_file,
+                     two_records_cut_inside_the_second_leave_nothing,
                      an_overlap_is_told_with_both_starts, a_withheld_date_is_another_recording,
-                     a_missing_file_is_trouble_and_the_next_is_taken, a_refused_conversion_writes_nothing, a_file_cut_anywhere,
-                     a_file_of_unknown_count_cut_anywhere, annotations_of_several_signals_are_one_list, five_files_make_one_night,
+                     a_missing_file_is_trouble_and_the_next_is_taken,
+                     a_refused_conversion_writes_nothing, a_file_cut_anywhere,
+                     a_file_of_unknown_count_cut_anywhere,
+                     annotations_of_several_signals_are_one_list, five_files_make_one_night,
                      letters_are_the_year_of_a_startdate_after_2084, words_that_ask_for_nothing):
             case(checks)
     checks.end()

@@ -1,12 +1,15 @@
 #!/usr/bin/python3
-"""Opens exports of a night by MNE, BioSig and EDFlib, and compares what they read with what was submitted, record by record.
+"""Opens exports of a night by MNE, BioSig and EDFlib, and compares what they read with what was
+submitted, record by record.
 
     checks/readers/run.py [--program PATH]
 
-A night of 28,800 records of 1 s and four signals is sent without four of its 96 fragments, which leaves a gap of twenty minutes,
-and exported; then the four come, and it is exported again. Of each export is told: whether the reader opens it, in how many records
-all samples are those submitted, for how many records it tells the right time, and how many annotations come with their time,
-duration and text. It needs Debian's python3-mne, biosig-tools, libedf-dev and cc, and so Debian's own python3.
+A night of 28,800 records of 1 s and four signals is sent without four of its 96 fragments, which
+leaves a gap of twenty minutes, and exported; then the four come, and it is exported again. Of each
+export is told: whether the reader opens it, in how many records all samples are those submitted,
+for how many records it tells the right time, and how many annotations come with their time,
+duration and text. It needs Debian's python3-mne, biosig-tools, libedf-dev and cc, and so Debian's
+own python3.
 """
 import subprocess
 import sys
@@ -25,7 +28,8 @@ MISSING = range(40, 44)
 
 
 class Submitted:
-    """What was submitted, by the plain model: the start of each record in seconds, its samples, the annotations."""
+    """What was submitted, by the plain model: the start of each record in seconds, its samples, the
+    annotations."""
 
     def __init__(self, files: list):
         records = {}
@@ -35,14 +39,17 @@ class Submitted:
         rising = [records[start] for start in sorted(records)]
         self.begin = rising[0].start
         self.starts = [(record.start - self.begin) / model.SECOND for record in rising]
-        samples = numpy.frombuffer(b"".join(record.samples for record in rising), "<i2").reshape(len(rising), -1)
+        samples = numpy.frombuffer(b"".join(record.samples for record in rising), "<i2").reshape(
+            len(rising), -1)
         edges = numpy.cumsum((0, *NIGHT.samples))
         self.signals = [samples[:, edges[n]:edges[n + 1]] for n in range(len(NIGHT.samples))]
-        self.notes = [((at - self.begin) / model.SECOND, (duration or 0) / model.SECOND, text.decode())
-                      for record in rising for at, duration, text in record.notes]
+        self.notes = [
+            ((at - self.begin) / model.SECOND, (duration or 0) / model.SECOND, text.decode())
+            for record in rising for at, duration, text in record.notes]
 
     def same_records(self, digital: list) -> int:
-        """Of how many records all samples are these, signal by signal in the order of the records."""
+        """Of how many records all samples are these, signal by signal in the order of the
+        records."""
         good = numpy.ones(len(self.starts), bool)
         for wanted, got in zip(self.signals, digital):
             if got.size != wanted.size:
@@ -55,8 +62,9 @@ class Submitted:
 
     def same_notes(self, notes: list) -> int:
         """How many annotations came with time and duration, to the millisecond, and text."""
-        wanted, got = (Counter((round(at, 3), round(duration, 3), text) for at, duration, text in each)
-                       for each in (self.notes, notes))
+        wanted, got = (
+            Counter((round(at, 3), round(duration, 3), text) for at, duration, text in each)
+            for each in (self.notes, notes))
         return (wanted & got).total()
 
 
@@ -69,12 +77,15 @@ def compare(title: str, path: Path, submitted: Submitted, folder: Path, probe: P
         except Exception as fault:
             lines.append((title, name, f"no: {type(fault).__name__}: {fault}"[:100], "", "", ""))
             continue
-        lines.append((title, name, "yes", f"{submitted.same_records(told.signals):,} of {records:,}",
-                      f"{submitted.right_times(told.times):,} of {records:,}", f"{submitted.same_notes(told.notes):,} of {notes:,}"))
+        lines.append((title, name, "yes",
+                      f"{submitted.same_records(told.signals):,} of {records:,}",
+                      f"{submitted.right_times(told.times):,} of {records:,}",
+                      f"{submitted.same_notes(told.notes):,} of {notes:,}"))
         for warning in told.warned:
             print(f"{title}, {name} warns: {warning}")
     answer = subprocess.run([probe, path], check=True, capture_output=True).stdout.decode().strip()
-    lines.append((title, "EDFlib", "yes" if answer.startswith("opened") else f"no: {answer}", "", "", ""))
+    lines.append(
+        (title, "EDFlib", "yes" if answer.startswith("opened") else f"no: {answer}", "", "", ""))
     return lines
 
 
@@ -87,14 +98,15 @@ def main() -> None:
         parts = NIGHT.parts(folder)
         sent = [part for n, part in enumerate(parts) if n not in MISSING]
         lines, store = [], folder / "s.db"
-        for title, files, told in (("a gap of 20 minutes", sent, sent), ("no gap", parts[MISSING[0]:MISSING[-1] + 1], parts)):
+        for title, files, told in (("a gap of 20 minutes", sent, sent),
+                                   ("no gap", parts[MISSING[0]:MISSING[-1] + 1], parts)):
             measure.run([program, "take", store, *files])
             export = folder / "export.edf"
             measure.run([program, "export", store, "1"], out=export)
             lines += compare(title, export, Submitted(told), folder, probe)
         print()
-        measure.table(("export", "reader", "opens", "records with the samples submitted", "records at the right time",
-                       "annotations with time, duration, text"), lines)
+        measure.table(("export", "reader", "opens", "records with the samples submitted",
+                       "records at the right time", "annotations with time, duration, text"), lines)
 
 
 main()

@@ -1,5 +1,6 @@
 #!/usr/bin/env python3
-"""Refuses each allocation of `edfstore` in turn, and then each read, write and sync, and looks at what is answered and held.
+"""Refuses each allocation of `edfstore` in turn, and then each read, write and sync, and looks at
+what is answered and held.
 
     checks/refused/run.py [--program PATH] [STEP]
 
@@ -28,9 +29,13 @@ import model  # noqa: E402
 
 def in_two_blocks() -> bytes:
     """The record of P5, its annotations in two signals, in a file of unknown count."""
-    header = edf.Header((edf.annotations_signal(9), edf.Signal(), edf.annotations_signal(6)), "03.03.02", "00.00.05",
-                        recording="Startdate 03-MAR-2002 N1 T3 REC5", count="-1")
-    return edf.fragment(header, [(bytes.fromhex("0200FEFF"), [edf.keeping("+0") + edf.tal("+0.50", "Snore"), edf.tal("+0.5", "Turn")])])
+    header = edf.Header((edf.annotations_signal(9), edf.Signal(), edf.annotations_signal(6)),
+                        "03.03.02", "00.00.05", recording="Startdate 03-MAR-2002 N1 T3 REC5",
+                        count="-1")
+    return edf.fragment(header,
+                        [(bytes.fromhex("0200FEFF"),
+                          [edf.keeping("+0") + edf.tal("+0.50", "Snore"),
+                           edf.tal("+0.5", "Turn")])])
 
 
 FILES = {"p5.edf": in_two_blocks(), "q.edf": edf.small_files()["Q"]}
@@ -82,30 +87,35 @@ class Bench:
         told = self.folder / "told"
         told.unlink(missing_ok=True)
         environment = refusal.environment(self.library, told) if refusal else None
-        done = subprocess.run([self.program, *words], cwd=self.folder, env=environment, input=given, capture_output=True,
-                              check=False, timeout=60)
+        done = subprocess.run([self.program, *words], cwd=self.folder, env=environment, input=given,
+                              capture_output=True, check=False, timeout=60)
         if done.returncode not in (0, 1, 2, 3):
-            lost(f"{words} under {refusal} ended with status {done.returncode}: {done.stderr[-300:]!r}")
+            lost(f"{words} under {refusal} ended with status {done.returncode}: "
+                 f"{done.stderr[-300:]!r}")
         return done, told.exists()
 
     def whole(self, words: tuple, wanted: bytes, given: bytes = b"") -> None:
         done, _ = self.ran(*words, given=given)
         if done.returncode or done.stdout != wanted or done.stderr:
-            lost(f"{words} without refusals: status {done.returncode}, {done.stdout[:300]!r}, {done.stderr!r}")
+            lost(f"{words} without refusals: status {done.returncode}, {done.stdout[:300]!r}, "
+                 f"{done.stderr!r}")
 
     def ends(self, words: tuple, done, refusal: Refusal, wanted: bytes) -> None:
         """The run wrote all that is wanted, or a front of it and ended with status 3."""
         fits = done.returncode == 0 and done.stdout == wanted and not done.stderr
-        front = done.returncode == 3 and wanted.startswith(done.stdout) and SAID[refusal.kind].match(done.stderr)
+        front = done.returncode == 3 and wanted.startswith(done.stdout) and SAID[
+            refusal.kind].match(done.stderr)
         if words[:1] == ("list",) and refusal.kind == "memory":
             front = front and (not done.stdout or done.stdout.endswith(b"\n"))
         if not fits and not front:
-            lost(f"{words} under {refusal}: status {done.returncode}, {done.stdout[-300:]!r}, {done.stderr!r}")
+            lost(f"{words} under {refusal}: status {done.returncode}, {done.stdout[-300:]!r}, "
+                 f"{done.stderr!r}")
         self.answers[(refusal.kind, words[0] if words else "convert", done.returncode)] += 1
 
 
 def answered(bench: Bench, done, refusal: Refusal) -> dict:
-    """What the lines of a `take` answer to each file that they name; a last line may be cut where a write was refused."""
+    """What the lines of a `take` answer to each file that they name; a last line may be cut where a
+    write was refused."""
     lines = done.stdout.decode().split("\n")
     if lines.pop() and refusal.kind == "memory":
         lost(f"take under {refusal} wrote a part of a line: {done.stdout!r}")
@@ -117,7 +127,8 @@ def answered(bench: Bench, done, refusal: Refusal) -> dict:
             lost(f"take under {refusal} answered {answer!r}")
     all_new = list(told.values()) == [NEW] * len(FILES)
     if done.returncode not in ((0, 3) if all_new and not done.stderr else (3,)):
-        lost(f"take under {refusal} ended with status {done.returncode}: {done.stdout!r} {done.stderr!r}")
+        lost(f"take under {refusal} ended with status {done.returncode}: {done.stdout!r} "
+             f"{done.stderr!r}")
     if not SAID[refusal.kind].match(done.stderr):
         lost(f"take under {refusal} said {done.stderr!r}")
     bench.answers.update((refusal.kind, "take", answer) for answer in told.values())
@@ -125,7 +136,8 @@ def answered(bench: Bench, done, refusal: Refusal) -> dict:
 
 
 def take(bench: Bench, refusal: Refusal) -> bool:
-    """Whether a call was refused of a `take` into a new store, which is then taken again without refusals."""
+    """Whether a call was refused of a `take` into a new store, which is then taken again without
+    refusals."""
     store = bench.folder / "s.db"
     measure.remove_store(store)
     done, met = bench.ran("take", store, *FILES, refusal=refusal)
@@ -137,13 +149,15 @@ def take(bench: Bench, refusal: Refusal) -> bool:
         if line not in {f"{name} {it}" for it in may}:
             lost(f"take under {refusal} answered {name} {answer!r}, and the next take {line!r}")
     if again.returncode or again.stdout.count(b"\n") != len(FILES):
-        lost(f"the take behind {refusal}: status {again.returncode}, {again.stdout!r}, {again.stderr!r}")
+        lost(f"the take behind {refusal}: status {again.returncode}, {again.stdout!r}, "
+             f"{again.stderr!r}")
     bench.whole(("export", store, "1"), bench.export)
     return met
 
 
 def read(bench: Bench, words: tuple, wanted: bytes, refusal: Refusal, given: bytes = b"") -> bool:
-    """Whether a call was refused of a command that changes nothing, which is then done without refusals."""
+    """Whether a call was refused of a command that changes nothing, which is then done without
+    refusals."""
     done, met = bench.ran(*words, refusal=refusal, given=given)
     bench.ends(words, done, refusal, wanted)
     bench.whole(words, wanted, given)
@@ -176,7 +190,8 @@ def main() -> None:
                     while tried(Refusal(kind, 1 + met * step, every)):
                         met += 1
                     counts.append(met)
-                print(f"{kind}, {order}: {counts[0]} calls refused alone, {counts[1]} with all that follow", flush=True)
+                print(f"{kind}, {order}: {counts[0]} calls refused alone, {counts[1]} with all "
+                      "that follow", flush=True)
         for (kind, order, answer), count in sorted(bench.answers.items(), key=str):
             print(f"{kind}, {order}: {answer} {count} times")
         print("0 lost, 0 in part")
