@@ -1,7 +1,9 @@
 #!/usr/bin/env python3
 """Takes a clinic night by `edfstore take` and by plain C over SQLite, and prints ratios.
 
-    bench/intake/run.py [--program PATH] [--short] [RUNS]      best of RUNS runs of each, 5 if left out; --short: no ten nights
+    bench/intake/run.py [--program PATH] [--short] [COUNT]
+
+Best of COUNT runs of each, 5 if left out; --short: no ten nights.
 
 A night of 195 MB comes as 96 fragments of five minutes, the last ten in reverse order; then every
 tenth is sent again; then the card comes, with the whole night. Each of the three is timed apart: a
@@ -19,9 +21,7 @@ import sys
 import time
 from pathlib import Path
 
-sys.path.insert(0, str(Path(__file__).resolve().parent.parent.parent / "checks" / "lib"))
-import measure  # noqa: E402
-import night  # noqa: E402
+from lib import arguments, measure, night
 
 # the resent fragments come so often in the timed run, since once is too short to time
 RESENDS = 5
@@ -41,10 +41,10 @@ def compare(folder: Path) -> None:
         sys.exit("the stores hold different rows")
 
 
-def take(command, store: Path, files: list) -> measure.Run:
+def take(command, store: Path, files: list) -> measure.Ran:
     measure.remove_store(store)
     measure.settle()
-    return measure.run([command, "take", store, *files])
+    return measure.timed(command, "take", store, *files)
 
 
 def phases(commands: dict, folder: Path, kind: night.Night, runs: int) -> dict:
@@ -136,20 +136,19 @@ def ten_nights(commands: dict, folder: Path) -> None:
 
 
 def main() -> None:
-    program, words = measure.program(sys.argv[1:])
+    parser = arguments.Parser(__doc__, count=5)
+    parser.add_argument("--short", action="store_true", help="no ten nights")
+    given = parser.read()
     measure.need("cc", "cat", "/usr/bin/time")
-    is_short = measure.flag(words, "--short")
-    runs = int(words[0]) if words else 5
     with measure.scratch() as name:
         folder = Path(name)
-        commands = {"edfstore": program,
-                    "plain C": measure.compiled(Path(__file__).parent.parent / "store" / "plain.c",
-                                                folder, "-lsqlite3")}
-        print(f"best of {runs} runs, {measure.machine()}\n")
-        report("a night of 28,800 records of 6.7 kB", *phases(commands, folder, night.CLINIC, runs))
-        report("a night of 960 records of 200 kB",
-               *phases(commands, folder, night.LONG_RECORDS, runs))
-        if not is_short:
+        plain = measure.compiled(arguments.TOP / "bench/store/plain.c", folder, "-lsqlite3")
+        commands = {"edfstore": given.program, "plain C": plain}
+        print(f"best of {given.count} runs, {measure.machine()}\n")
+        for title, kind in (("a night of 28,800 records of 6.7 kB", night.CLINIC),
+                            ("a night of 960 records of 200 kB", night.LONG_RECORDS)):
+            report(title, *phases(commands, folder, kind, given.count))
+        if not given.short:
             ten_nights(commands, folder)
 
 

@@ -9,8 +9,10 @@ import random
 from dataclasses import replace
 from datetime import datetime, timedelta
 
-from edf import ANNOTATIONS_LABEL, FIXED_WIDTHS, SIGNAL_WIDTHS, Header, Signal, annotations_signal, fragment, keeping
+from lib.edf import (ANNOTATIONS_LABEL, FIXED_WIDTHS, SIGNAL_WIDTHS, Header, Signal,
+                     annotations_signal, fragment, keeping)
 
+BATCH = 200
 SECOND = 10**9
 DAYS = (datetime(1985, 1, 1), datetime(1999, 12, 31, 23, 59, 58), datetime(2000, 2, 28, 23, 59, 59),
         datetime(2002, 3, 2, 22, 30), datetime(2023, 10, 29, 1, 59, 57),
@@ -211,8 +213,8 @@ class Recording:
         elif change == 2:
             notes = notes[1:] if notes else [self.note(at)]
         else:
-            notes = [(onset, 0 if span is None else None, text) for onset, span, text in notes] or [
-                self.note(at)]
+            turned = [(onset, 0 if span is None else None, text) for onset, span, text in notes]
+            notes = turned or [self.note(at)]
         changed[nth] = (at, samples, notes)
         return changed
 
@@ -246,12 +248,12 @@ def with_field(data: bytes, ns: int, rng: random.Random) -> bytes:
     """The file with one field of its header given another text."""
     if rng.random() < 0.5:
         which = rng.choice((0, 1, 2, 3, 4, 5, 6, 7, 7, 7, 8, 9))
-        at, width, text = sum(FIXED_WIDTHS[:which]), FIXED_WIDTHS[which], rng.choice(
-            FIXED_TEXTS[which])
+        at, width = sum(FIXED_WIDTHS[:which]), FIXED_WIDTHS[which]
+        text = rng.choice(FIXED_TEXTS[which])
     else:
         which = rng.choice((0, 1, 2, 3, 3, 4, 4, 5, 5, 6, 6, 7, 8, 8, 9))
-        at, width, text = column(ns, which, rng.randrange(ns)), SIGNAL_WIDTHS[which], rng.choice(
-            SIGNAL_TEXTS[which])
+        at, width = column(ns, which, rng.randrange(ns)), SIGNAL_WIDTHS[which]
+        text = rng.choice(SIGNAL_TEXTS[which])
     return data[:at] + text.encode("latin-1").ljust(width)[:width] + data[at + width:]
 
 
@@ -271,8 +273,8 @@ def with_dates(header: Header, rng: random.Random) -> Header:
 
 def odd_list(rng: random.Random) -> bytes:
     span = rng.choice(SPANS)
-    made = rng.choice(ONSETS).encode() + (b"" if span is None else b"\x15" +
-                                          span.encode()) + b"\x14"
+    made = rng.choice(ONSETS).encode()
+    made += (b"" if span is None else b"\x15" + span.encode()) + b"\x14"
     made += b"".join(rng.choice(TEXTS) + b"\x14" for _ in range(rng.choice((0, 1, 1, 2, 3))))
     return made + rng.choice((b"\0",) * 12 + (b"", b"\0\0", b"\x14", b"x\0"))
 
@@ -289,8 +291,8 @@ def odd_block(made: bytes, rng: random.Random) -> bytes:
         lists = made.split(b"\0")
         return b"\0".join(lists[:1] + [odd_list(rng).rstrip(b"\0")] + lists[1:])
     at = rng.randrange(len(made) + 1)
-    return made[:at] + bytes(
-        [rng.choice((0, 20, 21, 43, 45, 46, 48, 57, 255, rng.randrange(256)))]) + made[at + 1:]
+    byte = rng.choice((0, 20, 21, 43, 45, 46, 48, 57, 255, rng.randrange(256)))
+    return made[:at] + bytes([byte]) + made[at + 1:]
 
 
 def odd_in_two(made: list, rng: random.Random) -> list:
@@ -315,8 +317,8 @@ def odd_in_two(made: list, rng: random.Random) -> list:
         made[first], made[second] = odd_block(made[first], rng), odd_block(made[second], rng)
     elif change == 4:
         # a list that may go on in the next block, with no byte between where the record is alone
-        whole = keeping("+0") + rng.choice(
-            (b"+0\x14ab\x14\0", b"+0.50\x151\x14text\x14\0", b"+1\x14\x14\x14a\x14\0"))
+        whole = keeping("+0") + rng.choice((b"+0\x14ab\x14\0", b"+0.50\x151\x14text\x14\0",
+                                            b"+1\x14\x14\x14a\x14\0"))
         at = 2 * rng.randint(1, len(whole) // 2)
         made = [whole[:at], whole[at:], *[b""] * (len(made) - 2)]
     else:
@@ -425,8 +427,14 @@ def wide(rng: random.Random) -> bytes:
              (699_051, 699_051, 699_050), (699_051, 699_051, 699_051))
     ordinary = [Signal(samples=str(samples)) for samples in rng.choice(((2,), (2,), *edges))]
     noted = [annotations_signal(samples) for samples in rng.choice(((3,), *edges[2:]))]
-    return Header(placed(ordinary, noted, rng),
-                  count=rng.choice(("1", "-1"))).to_bytes() + rng.randbytes(rng.randrange(40))
+    header = Header(placed(ordinary, noted, rng), count=rng.choice(("1", "-1")))
+    return header.to_bytes() + rng.randbytes(rng.randrange(40))
+
+
+def batches(seed: str, count: int):
+    """So many files, in lists of a seed each."""
+    for nth in range((count + BATCH - 1) // BATCH):
+        yield batch(f"{seed}/{nth}", min(BATCH, count - nth * BATCH))
 
 
 def batch(seed: str, count: int) -> list:

@@ -5,8 +5,8 @@ and at both ends of the night these lie outside of their run too."""
 from dataclasses import dataclass
 from pathlib import Path
 
-import night
-from edf import keeping, tal
+from . import night
+from .edf import keeping, tal
 
 SECOND = 10**9
 

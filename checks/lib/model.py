@@ -3,10 +3,11 @@ wrong with a file, what a store answers to a list of files and then holds, what 
 exports. It is short and slow on purpose; it knows no store and no transaction, and nothing of it
 comes from the program.
 
-    from model import Store
-    store = Store(); store.take(data)           'accepted new=1 known=0' or 'refused E21 CutRecord record=1'
-    store.lines()                               the lines of `list`, as text
-    store.export(1)                             the canonical file of the recording at place 1, as bytes
+    from lib import model
+    store = model.Store()
+    store.take(data)        'accepted new=1 known=0' or 'refused E21 CutRecord record=1'
+    store.lines()           the lines of `list`, as text
+    store.export(1)         the canonical file of the recording at place 1, as bytes
 """
 import re
 import sys
@@ -15,13 +16,14 @@ from dataclasses import dataclass
 from datetime import date
 from fractions import Fraction
 
+from . import told
+
 sys.set_int_max_str_digits(0)        # an onset may be spelled with a million zeros
 
 SECOND = 10**9
 DAY = 86_400 * SECOND
 WINDOW = 73_049 * DAY                # 1985 to 2184
-# the days of 2085 to 2184, whose startdates have the letters yy for the year
-LETTERS = range(36_525, 73_049)
+LETTERS = range(36_525, 73_049)      # days of 2085 to 2184: their startdates have yy for the year
 EPOCH = date(1985, 1, 1).toordinal()
 ANNOTATIONS = b"EDF Annotations "
 UNKNOWN = b"-1      "                # the number of data records of a file that doesn't tell it
@@ -34,7 +36,8 @@ WHOLE = re.compile(rb"([0-9]+) *\Z")
 SIGNED = re.compile(rb"([+-]?[0-9]+) *\Z")
 DECIMAL = re.compile(rb"([0-9]+)(?:\.([0-9]+))? *\Z")
 PHYSICAL = re.compile(rb"([+-]?)([0-9]+)(?:\.([0-9]*))? *\Z")
-LIST = re.compile(rb"([+-])([0-9]+)(?:\.([0-9]+))?(?:\x15([0-9]+)(?:\.([0-9]+))?)?\x14((?:[^\x00\x14]*\x14)*)\x00")
+LIST = re.compile(rb"([+-])([0-9]+)(?:\.([0-9]+))?(?:\x15([0-9]+)(?:\.([0-9]+))?)?\x14"
+                  rb"((?:[^\x00\x14]*\x14)*)\x00")
 
 
 class Refused(Exception):
@@ -180,8 +183,8 @@ def recording(text: bytes):
 def is_annotations(row: tuple) -> bool:
     """Whether the fields of a signal that is labelled so are those of an annotations signal."""
     low, high = physical(row[3]), physical(row[4])
-    return signed(row[5]) == -32768 and signed(
-        row[6]) == 32767 and low is not None and high is not None and low != high
+    is_ranged = low is not None and high is not None and low != high
+    return is_ranged and signed(row[5]) == -32768 and signed(row[6]) == 32767
 
 
 def unprintable(part: bytes):
@@ -309,8 +312,8 @@ def read_lists(block: bytes, nth: int, front: int) -> list:
         for text in found[6].split(b"\x14")[:-1]:
             texts.append((place, text))
             place += len(text) + 1
-        lists.append(
-            (-onset if found[1] == b"-" else onset, None if found[4] is None else duration, texts))
+        lists.append((-onset if found[1] == b"-" else onset,
+                      None if found[4] is None else duration, texts))
         at = found.end()
     if block[at:].strip(b"\0"):
         raise Refused(f"E22 Tal record={nth} offset={front + at}")
@@ -380,8 +383,8 @@ def shortest(nanos: int) -> bytes:
 def civil(instant: int) -> tuple:
     day, rest = divmod(instant, DAY)
     seconds, fraction = divmod(rest, SECOND)
-    return date.fromordinal(EPOCH +
-                            day), seconds // 3600, seconds // 60 % 60, seconds % 60, fraction
+    named = date.fromordinal(EPOCH + day)
+    return named, seconds // 3600, seconds // 60 % 60, seconds % 60, fraction
 
 
 def instant_text(instant: int) -> str:
@@ -392,8 +395,8 @@ def instant_text(instant: int) -> str:
 
 def written_list(onset: int, duration, text: bytes) -> bytes:
     spelled = b"" if duration is None else b"\x15" + shortest(duration)
-    return (b"-" if onset < 0 else b"+") + shortest(
-        abs(onset)) + spelled + b"\x14" + text + b"\x14\0"
+    sign = b"-" if onset < 0 else b"+"
+    return sign + shortest(abs(onset)) + spelled + b"\x14" + text + b"\x14\0"
 
 
 def written_block(record: Record, base: int) -> bytes:
@@ -405,8 +408,8 @@ def canonical(key: Key, records: list) -> bytes:
     """The one canonical file of these records, which rise."""
     base = records[0].start // SECOND * SECOND
     day, hour, minute, second, _ = civil(base)
-    dated = b"%02d-%s-%04d" % (day.day, MONTHS[day.month - 1],
-                               day.year) if key.dated == b"D" else b"X"
+    named = b"%02d-%s-%04d" % (day.day, MONTHS[day.month - 1], day.year)
+    dated = named if key.dated == b"D" else b"X"
     year = b"yy" if base // DAY in LETTERS else b"%02d" % (day.year % 100)
     blocks = [written_block(record, base) for record in records]
     samples = (max(len(block) for block in blocks) + 1) // 2
@@ -439,21 +442,21 @@ class Store:
             key, records = read(data)
             new = self._new(key, records)
         except Refused as fault:
-            return f"refused {fault}"
+            return told.refused(str(fault))
         if new:
             starts, held = self.held.setdefault(key, ([], []))
             for record in new:
                 at = bisect_left(starts, record.start)
                 starts.insert(at, record.start)
                 held.insert(at, record)
-        return f"accepted new={len(new)} known={len(records) - len(new)}"
+        return told.accepted(len(new), len(records) - len(new))
 
     def _new(self, key: Key, records: list) -> list:
         starts, held = self.held.get(key, ([], []))
         new = []
         for record in records:
-            near = held[bisect_left(starts, record.start - key.duration() + 1):bisect_left(
-                            starts, record.start + key.duration())]
+            begin = bisect_left(starts, record.start - key.duration() + 1)
+            near = held[begin:bisect_left(starts, record.start + key.duration())]
             clashing = [stored for stored in near if stored != record]
             if clashing and clashing[0].start == record.start:
                 raise Refused(f"E31 Differs start={instant_text(record.start)}")
@@ -473,10 +476,8 @@ class Store:
         lines = []
         for place, key in enumerate(self.keys(), 1):
             starts, records = self.held[key]
-            patient, investigation = subfields(key.patient)[0].decode(), subfields(key.following)[
-                0].decode()
-            lines.append(f"{place} records={len(records)} first={instant_text(starts[0])} "
-                         f"patient={patient} investigation={investigation}\n")
+            codes = (subfields(text)[0].decode() for text in (key.patient, key.following))
+            lines.append(told.recording(place, len(records), instant_text(starts[0]), *codes))
         return "".join(lines)
 
     def export(self, place: int) -> bytes:

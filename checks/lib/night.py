@@ -12,7 +12,7 @@ from dataclasses import dataclass, replace
 from datetime import datetime, timedelta
 from pathlib import Path
 
-from edf import Header, Signal, annotations_signal, keeping, tal
+from .edf import Header, Signal, annotations_signal, keeping, tal
 
 POOL_BYTES = 8_388_608
 CLINIC_RATES = (256,) * 8 + (128,) * 8 + (64,) * 4

@@ -15,12 +15,10 @@ import subprocess
 import sys
 from pathlib import Path
 
-sys.path.insert(0, str(Path(__file__).resolve().parent.parent / "lib"))
-import edf  # noqa: E402
-import measure  # noqa: E402
-import model  # noqa: E402
+from lib import arguments, edf, measure, model
+from lib.checks import end
 
-CRATES = measure.TOP / "crates"
+CRATES = arguments.TOP / "crates"
 FILES = edf.small_files()
 Q, P5, R9, K, U = (FILES[letter] for letter in ("Q", "P5", "R9", "K", "U"))
 MARCH_3 = {"startdate": "03.03.02", "recording": "Startdate 03-MAR-2002 N1 T3 REC5"}
@@ -173,9 +171,10 @@ def run(program: Path, crate: Path, folder: Path) -> bool:
 
 
 def main() -> None:
-    program, words = measure.program(sys.argv[1:])
-    runs, words = measure.program(words, "edfruns", "--edfruns")
-    is_writing = measure.flag(words, "--write")
+    parser = arguments.Parser(__doc__, arguments.BOTH)
+    parser.add_argument("--write", action="store_true", help="write the files anew")
+    given = parser.read()
+    program, runs, is_writing = given.program, given.edfruns, given.write
     by_model()
     with measure.scratch() as name:
         folder = Path(name)
@@ -189,7 +188,7 @@ def main() -> None:
             print(f"{path} is not what is made here")
         ran = [run(program, crate, folder) for crate in sorted(CRATES.glob("edfstore*"))]
         ran.append(run(runs, CRATES / "edfruns", folder))
-    sys.exit(0 if all(ran) and not others else 1)
+    end(len(ran), len(others) + ran.count(False))
 
 
 main()

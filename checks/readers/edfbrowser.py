@@ -14,6 +14,7 @@ from datetime import datetime
 from pathlib import Path
 
 import reading
+from lib import measure
 from reading import numpy
 
 NEEDED = ("edfbrowser", "Xvfb", "xdotool", "xwininfo")
@@ -40,14 +41,14 @@ class Browser:
             pass_fds=[tells], stderr=subprocess.DEVNULL)
         os.close(tells)
         with os.fdopen(told) as number:
-            self.place = os.environ | {"DISPLAY": f":{number.readline().strip()}",
-                                       "HOME": str(self.folder), "QT_QPA_PLATFORM": "xcb",
-                                       "XDG_RUNTIME_DIR": str(self.folder), "LC_ALL": "C.UTF-8"}
+            self.place = {"DISPLAY": f":{number.readline().strip()}", "HOME": str(self.folder),
+                          "QT_QPA_PLATFORM": "xcb", "XDG_RUNTIME_DIR": str(self.folder),
+                          "LC_ALL": "C.UTF-8"}
         with socket.create_server(("127.0.0.1", 0)) as free:
             port = free.getsockname()[1]
-        self.program = subprocess.Popen(["edfbrowser", f"--rc-host-port={port}"], env=self.place,
-                                        cwd=self.folder, stderr=subprocess.DEVNULL,
-                                        stdout=subprocess.DEVNULL)
+        self.program = subprocess.Popen(
+            ["edfbrowser", f"--rc-host-port={port}"], env=os.environ | self.place, cwd=self.folder,
+            stderr=subprocess.DEVNULL, stdout=subprocess.DEVNULL)
         waited("the program", lambda: self._connects(port))
         self.name = "EDFbrowser " + self.asked("*IDN?").split(",")[1]
 
@@ -75,18 +76,18 @@ class Browser:
         """The windows of this title, the newest first. A window that ends while they are listed is
         a fault of xwininfo: it lists again."""
         for _ in range(20):
-            listed = subprocess.run(["xwininfo", "-root", "-tree"], env=self.place,
-                                    capture_output=True, text=True, check=False)
-            if listed.returncode == 0:
+            listed = measure.ran("xwininfo", "-root", "-tree", added=self.place)
+            if listed.status == 0:
                 break
             time.sleep(0.1)
         else:
             raise RuntimeError("the windows can't be listed")
-        return [line.split()[0] for line in listed.stdout.splitlines() if f'"{title}"' in line]
+        lines = listed.out.decode(errors="replace").splitlines()
+        return [line.split()[0] for line in lines if f'"{title}"' in line]
 
     def pressed(self, window: str, *keys: str) -> None:
-        subprocess.run(["xdotool", "windowfocus", "--sync", window, "key", "--delay", "60", *keys],
-                       env=self.place, check=True)
+        reading.written_by("xdotool", "windowfocus", "--sync", window, "key", "--delay", "60",
+                           *keys, added=self.place)
 
     def open(self, path: Path) -> str:
         """Opens the file alone, and tells the number of its error; 0 is none."""
@@ -128,9 +129,8 @@ def by_edfbrowser(path: Path, browser: Browser, samples: tuple) -> reading.Told:
     found = [line.split(",", 2) for line in notes.read_text("latin-1").splitlines()[1:]]
     for made in (copy, header, data, notes, copy.with_name(f"{path.stem}_signals.txt")):
         made.unlink()
-    return reading.Told(
-        reading.since_epoch(begun), signals, times,
-        [(float(onset), float(duration or 0), text) for onset, duration, text in found])
+    told = [(float(onset), float(duration or 0), text) for onset, duration, text in found]
+    return reading.Told(reading.since_epoch(begun), signals, times, told)
 
 
 def read_rows(data: Path, samples: tuple, records: int) -> tuple:

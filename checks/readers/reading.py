@@ -1,12 +1,13 @@
 """What other programs read of a file: MNE, BioSig and EDFlib. The signals are of 16 bits and a
 tenth of a microvolt a step."""
 import json
-import subprocess
 import sys
 import warnings
 from dataclasses import dataclass, field
 from datetime import datetime, timedelta
 from pathlib import Path
+
+from lib import measure
 
 try:
     import mne
@@ -40,6 +41,14 @@ def since_epoch(moment: datetime) -> float:
     return (moment - EPOCH).total_seconds()
 
 
+def written_by(*words, **options) -> str:
+    """What a reader writes of a file; a fault where it refuses it."""
+    ran = measure.ran(*words, **options)
+    if ran.status:
+        raise ValueError(ran.err.decode().strip() or f"status {ran.status}")
+    return ran.out.decode()
+
+
 def by_mne(path: Path, samples: tuple) -> Told:
     """A signal at a time, since MNE brings signals of several rates to the highest."""
     signals, warned = [], set()
@@ -67,12 +76,10 @@ def by_biosig(path: Path, folder: Path, samples: tuple) -> Told:
     """The same by `save2gdf`: samples as text, events as JSON. Where no event tells the start of
     each data record, they follow each other from the start of the recording on."""
     made = folder / "ascii.asc"
-    subprocess.run(["save2gdf", "-f=ASCII", path, made], check=True, stdout=subprocess.DEVNULL,
-                   stderr=subprocess.DEVNULL)
+    written_by("save2gdf", "-f=ASCII", path, made)
     signals = [digital(numpy.fromstring((folder / f"ascii.a{n + 1:02}").read_text(), sep="\n"))
                for n in range(len(samples))]
-    told = subprocess.run(["save2gdf", "-JSON", path], check=True,
-                          capture_output=True).stdout.decode()
+    told = written_by("save2gdf", "-JSON", path)
     said = json.loads(told[told.index("{"):], strict=False)
     begun, times, notes = stamp(said["StartOfRecording"]), [], []
     for event in said["EVENT"]:
@@ -90,10 +97,7 @@ def by_biosig(path: Path, folder: Path, samples: tuple) -> Told:
 def by_edflib(path: Path, folder: Path, samples: tuple, dump: Path) -> Told:
     """The same by dump.c, which is compiled to `dump`."""
     made = folder / "samples"
-    ran = subprocess.run([dump, path, made], capture_output=True, check=False)
-    if ran.returncode:
-        raise ValueError(ran.stderr.decode().strip())
-    head, *lines = ran.stdout.decode().splitlines()
+    head, *lines = written_by(dump, path, made).splitlines()
     count, begun, fraction, lasts = head.split(" ")
     edges = numpy.cumsum([int(count) * size for size in samples])
     parts = numpy.split(numpy.fromfile(made, numpy.int32), edges)
