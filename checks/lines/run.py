@@ -212,9 +212,11 @@ def letters_are_the_year_of_a_startdate_after_2084(checks: Checks) -> None:
 
 
 def version() -> str:
-    """The version, which one place of the repository has."""
-    text = (arguments.TOP / "crates/edf_arguments/src/help.rt").read_text()
-    return text.split('VERSION: &str = "')[1].split('"')[0]
+    """The version, which one place of the sources has."""
+    begin = 'pub const VERSION: &str = "'
+    texts = [path.read_text() for path in (arguments.TOP / "crates").glob("*/src/*.rt")]
+    found, = (text.split(begin)[1].split('"')[0] for text in texts if begin in text)
+    return found
 
 
 def words_that_ask_for_nothing(checks: Checks) -> None:
