@@ -150,6 +150,14 @@ def machine() -> str:
             f"load {one:.1f} and {five:.1f} over 1 and 5 minutes")
 
 
+def loop() -> float:
+    """The processor seconds of twenty million additions: more in a slow hour of the host."""
+    begun, count = time.process_time(), 0
+    while count < 20_000_000:
+        count += 1
+    return time.process_time() - begun
+
+
 def mb(count: float) -> str:
     return f"{count / 1e6:.1f} MB"
 

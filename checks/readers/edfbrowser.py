@@ -1,6 +1,6 @@
 """What EDFbrowser reads of a file, without a person or a display: it runs on a screen of Xvfb,
-opens the file over its remote control, and its tool "Export EDF/BDF to ASCII" is called by its
-keys.
+opens the file over its remote control, and its tools "Export EDF/BDF to ASCII" and "Convert EDF+D
+to EDF+C" are called by their keys.
 
 It needs edfbrowser, xvfb, xdotool and x11-utils. Only the programs that are started here are ended
 here.
@@ -20,6 +20,8 @@ from reading import numpy
 NEEDED = ("edfbrowser", "Xvfb", "xdotool", "xwininfo")
 PATIENCE = 120      # seconds for a window or a file
 DOWN_TO_ASCII = 6   # from the first of the menu of tools to this one
+DOWN_TO_CONTINUOUS = 18
+CONVERTER = "EDF+D/BDF+D to EDF+C/BDF+C converter"
 ERRORS = {"107": "discontinuous"}
 
 
@@ -109,6 +111,36 @@ class Browser:
             time.sleep(1)
             self.pressed(self.windows("Export to ASCII")[0], "Return")
         waited("the end of the export", lambda: not self.windows("Export to ASCII"))
+
+    def converted(self, path: Path) -> list:
+        """The files that the tool makes of an EDF+D file, beside it, in order. No file is open."""
+        self.sent("*RST")
+        waited("the window", lambda: self.windows("EDFbrowser"))
+        time.sleep(1)
+        down = ["Down"] * DOWN_TO_CONTINUOUS
+        self.pressed(self.windows("EDFbrowser")[0], "alt+o", *down, "Return")
+        for title in (CONVERTER, "Select inputfile"):
+            waited(f"the window {title}", lambda: self.windows(title))
+            time.sleep(1)
+            if title == CONVERTER:
+                self.pressed(self.windows(title)[0], "Return")
+        asking = self.windows("Select inputfile")[0]
+        reading.written_by("xdotool", "windowfocus", "--sync", asking, "type", "--delay", "40",
+                           path, added=self.place)
+        self.pressed(asking, "Return")
+        waited("the end of the conversion", lambda: self._is_at_rest(path))
+        self.pressed(self.windows(CONVERTER)[0], "Escape")
+        waited("the end of the tool", lambda: not self.windows(CONVERTER))
+        return self._made_of(path)
+
+    def _made_of(self, path: Path) -> list:
+        return sorted(path.parent.glob(f"{path.stem}_*.edf"))
+
+    def _is_at_rest(self, path: Path) -> bool:
+        """Whether the tool made files that did not grow in two seconds."""
+        before = [made.stat().st_size for made in self._made_of(path)]
+        time.sleep(2)
+        return bool(before) and before == [made.stat().st_size for made in self._made_of(path)]
 
 
 def by_edfbrowser(path: Path, browser: Browser, samples: tuple) -> reading.Told:

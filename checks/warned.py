@@ -1,0 +1,259 @@
+#!/usr/bin/env python3
+"""What the program can't notice, or answers by a refusal that stays: the things that README and
+docs/RELIABILITY.md warn of, as they are.
+
+    checks/warned.py [--program PATH] [COUNT]   100 bits of each file if left out
+
+A file of count -1 that is still being written; a recorder's clock that is set while it records, by
+two seconds or an hour; a bit that flips in a store, its log or an export. Answers to the
+first two are worked out by hand. Of the bits it tells how many were noticed, and by what; that a
+flipped sample is not noticed, and what a user can do about it, is compared.
+"""
+import random
+import shutil
+import subprocess
+import time
+from collections import Counter
+from datetime import datetime, timedelta
+from pathlib import Path
+
+from lib import arguments, edf, measure, model, runs, told
+from lib.checks import Checks
+from lib.edf import Header, Signal, keeping
+from lib.told import accepted, refused
+
+BEGUN = datetime(2002, 10, 27, 1, 0)
+SIGNALS = (Signal(samples="20"), edf.annotations_signal(20))
+FIRST_PAGE = 100        # a byte of a log's first page, behind its header and that page's own
+WIDE = (Signal(samples="1000"), Signal("ECG", samples="1000"), edf.annotations_signal(30))
+
+
+def header(clock: datetime, count: int, duration: int = 1, signals=SIGNALS) -> Header:
+    day = clock.strftime("%d-%b-%Y").upper()
+    return Header(signals, clock.strftime("%d.%m.%y"), clock.strftime("%H.%M.%S"),
+                  recording=f"Startdate {day} N1 T3 REC5", reserved="EDF+C", count=str(count),
+                  duration=str(duration))
+
+
+def records(first: int, count: int, duration: int = 1) -> list:
+    """Data records of other samples each, by their number since the recording began."""
+    return [(random.Random(first + n).randbytes(40), keeping(f"+{n * duration}"))
+            for n in range(count)]
+
+
+def still_written(checks: Checks) -> None:
+    checks.begin("a file of count -1 that is still being written")
+    head = header(BEGUN, -1)
+    whole = edf.fragment(head, records(0, 10))
+    record = len(edf.data_record(head, *records(0, 1)[0]))
+    front = len(head.to_bytes())
+    checks.file("now.edf", whole[:front + 4 * record])
+    checks.take("a.db", ("now.edf", accepted(4)))
+    checks.file("now.edf", whole[:front + 6 * record + 1])
+    checks.take("a.db", ("now.edf", refused("E21 CutRecord record=7")), status=1)
+    checks.file("now.edf", whole)
+    checks.take("a.db", ("now.edf", accepted(6, 4)))
+
+
+def files(checks: Checks, count: int, duration: int, back: timedelta, before: int) -> list:
+    """Files of ten minutes each; from the file after `before` on the clock is set back."""
+    names = [f"{n + 1}.edf" for n in range(count)]
+    each = 600 // duration
+    for n, name in enumerate(names):
+        clock = BEGUN + timedelta(minutes=10 * n) - (back if n >= before else timedelta())
+        head = header(clock, each, duration)
+        checks.file(name, edf.fragment(head, records(n * each, each, duration)))
+    return names
+
+
+def answers(names: list, each: int, faults: dict) -> str:
+    return told.lines(*((name, refused(faults[name]) if name in faults else accepted(each))
+                        for name in names))
+
+
+def stored(checks: Checks, *lines: str) -> None:
+    """Compares the runs of the export, by the model, with these lines of `edfruns list`."""
+    export = ran(checks, "export", "a.db", "1").out
+    wanted = "".join(f"{one}\n" for one in lines)
+    checks.same("the runs", runs.lines(runs.read_runs(export)), wanted)
+
+
+def two_seconds_back(checks: Checks) -> None:
+    checks.begin("two seconds back after the third of six files")
+    names = files(checks, 6, 1, timedelta(seconds=2), 3)
+    faults = {"4.edf": "E31 Differs start=2002-10-27T01:29:58"}
+    checks.run("take", "a.db", *names, out=answers(names, 600, faults), status=1)
+    checks.run("take", "a.db", "4.edf", out=answers(["4.edf"], 600, faults), status=1)
+    stored(checks, "1 records=1800 first=2002-10-27T01:00:00 seconds=1800 gap=598",
+           "2 records=1200 first=2002-10-27T01:39:58 seconds=1200")
+    checks.take("other.db", ("4.edf", accepted(600)))
+    checks.file("card.edf", edf.fragment(header(BEGUN, 3600), records(0, 3600)))
+    card = {"card.edf": "E31 Differs start=2002-10-27T01:39:58"}
+    checks.run("take", "a.db", "card.edf", out=answers(["card.edf"], 3600, card), status=1)
+    late = {"3.edf": "E31 Differs start=2002-10-27T01:29:58"}
+    checks.run("take", "late.db", "4.edf", "3.edf", out=answers(["4.edf", "3.edf"], 600, late),
+               status=1)
+    checks.begin("the same of data records of 30 s")
+    names = files(checks, 6, 30, timedelta(seconds=2), 3)
+    faults = {"4.edf": "E30 Overlap start=2002-10-27T01:29:58 stored=2002-10-27T01:29:30"}
+    checks.run("take", "a.db", *names, out=answers(names, 20, faults), status=1)
+    stored(checks, "1 records=60 first=2002-10-27T01:00:00 seconds=1800 gap=598",
+           "2 records=40 first=2002-10-27T01:39:58 seconds=1200")
+
+
+def other_changes(checks: Checks) -> None:
+    checks.begin("an hour back after the twelfth of 24 files")
+    names = files(checks, 24, 1, timedelta(hours=1), 12)
+    faults = {f"{13 + n}.edf": f"E31 Differs start=2002-10-27T02:{n}0:00" for n in range(6)}
+    checks.run("take", "a.db", *names, out=answers(names, 600, faults), status=1)
+    stored(checks, "1 records=10800 first=2002-10-27T01:00:00 seconds=10800")
+    checks.begin("two seconds forward after the first of two files")
+    names = files(checks, 2, 1, timedelta(seconds=-2), 1)
+    checks.run("take", "a.db", *names, out=answers(names, 600, {}))
+    stored(checks, "1 records=600 first=2002-10-27T01:00:00 seconds=600 gap=2",
+           "2 records=600 first=2002-10-27T01:10:02 seconds=600")
+    checks.begin("two seconds back inside a file, its onsets by the clock")
+    rows = [(samples, keeping(f"+{n if n < 5 else n - 2}"))
+            for n, (samples, _) in enumerate(records(0, 10))]
+    checks.file("night.edf", edf.fragment(header(BEGUN, 10), rows))
+    checks.take("a.db", ("night.edf", refused("E27 Order record=6")), status=1)
+
+
+def ran(checks: Checks, *words: str) -> measure.Ran:
+    return measure.ran(checks.program, *words, folder=checks.folder)
+
+
+def flipped(data: bytes, at: int, bit: int) -> bytes:
+    return data[:at] + bytes([data[at] ^ 1 << bit]) + data[at + 1:]
+
+
+def wide_night(checks: Checks) -> tuple:
+    """A store of 60 data records, its bytes and its export."""
+    head = header(BEGUN, 60, signals=WIDE)
+    rows = [(random.Random(n).randbytes(4000), keeping(f"+{n}") + edf.tal(f"+{n}.25", "Spindle"))
+            for n in range(60)]
+    checks.file("night.edf", edf.fragment(head, rows))
+    checks.take("night.db", ("night.edf", accepted(60)))
+    export = ran(checks, "export", "night.db", "1").out
+    checks.file("export.edf", export)
+    return checks.content("night.db"), export
+
+
+def put_store(checks: Checks, data: bytes) -> None:
+    checks.file("other.db", data)
+    shutil.copy(checks.folder / "night.db-wal", checks.folder / "other.db-wal")
+
+
+def one_sample(checks: Checks, store: bytes, export: bytes) -> None:
+    """The same sample's bit, in the store and in the export."""
+    samples = random.Random(0).randbytes(4000)
+    put_store(checks, flipped(store, store.index(samples[:64]) + 10, 2))
+    changed = flipped(export, export.index(samples[:64]) + 10, 2)
+    checks.run("list", "other.db", out=ran(checks, "list", "night.db").out)
+    checks.run("export", "other.db", "1", out=changed)
+    checks.file("changed.edf", changed)
+    checks.run("convert", "changed.edf", out=changed)
+    start = "E31 Differs start=2002-10-27T01:00:00"
+    checks.take("night.db", ("changed.edf", refused(start)), status=1)
+    checks.take("other.db", ("night.edf", refused(start)), status=1)
+
+
+def outcome_of_store(checks: Checks, export: bytes) -> str:
+    other = ran(checks, "export", "other.db", "1")
+    if other.status:
+        return "refused " + other.err.decode().split()[2]
+    return "an export as before" if other.out == export else "another export, without a word"
+
+
+def outcome_of_export(checks: Checks, store: bytes) -> tuple:
+    converted = ran(checks, "convert", "other.edf")
+    put_store(checks, store)
+    line = ran(checks, "take", "other.db", "other.edf").out.decode().split()
+    return ("convert: " + ("taken, without a word" if converted.status == 0 else "refused"),
+            "take into its store: " + " ".join(line[1:] if line[1] == "accepted" else line[1:3]))
+
+
+def bits(checks: Checks, count: int) -> None:
+    checks.begin("a bit that flips")
+    store, export = wide_night(checks)
+    one_sample(checks, store, export)
+    chosen, found = random.Random(11), {"store": Counter(), "export": Counter()}
+    for _ in range(count):
+        put_store(checks, flipped(store, chosen.randrange(len(store)), chosen.randrange(8)))
+        found["store"][outcome_of_store(checks, export)] += 1
+        at, bit = chosen.randrange(len(export)), chosen.randrange(8)
+        checks.file("other.edf", flipped(export, at, bit))
+        found["export"].update(outcome_of_export(checks, store))
+    tell(f"{count} bits of a store of {len(store)} bytes", found["store"])
+    tell(f"{count} bits of its export of {len(export)} bytes", found["export"])
+
+
+def tell(what: str, found: Counter) -> None:
+    print(f"{what}, one at a time: "
+          + "; ".join(f"{times} {answer}" for answer, times in found.most_common() if times))
+
+
+def killed(checks: Checks) -> None:
+    """A store of four files, whose `take` is killed while it waits for a fifth."""
+    names = [f"{n}.edf" for n in range(4)]
+    for n, name in enumerate(names):
+        rows = [(random.Random(100 * n + at).randbytes(4000), keeping(f"+{at}"))
+                for at in range(10)]
+        head = header(BEGUN + timedelta(minutes=n), 10, signals=WIDE)
+        checks.file(name, edf.fragment(head, rows))
+    log = checks.folder / "night.db-wal"
+    with subprocess.Popen([checks.program, "take", "night.db", *names, "-"], cwd=checks.folder,
+                          stdin=subprocess.PIPE, stdout=subprocess.DEVNULL) as taking:
+        before = 0
+        while not before or log.stat().st_size != before:
+            before = log.stat().st_size if log.exists() else 0
+            time.sleep(1)
+        taking.kill()
+
+
+def put_log(checks: Checks, log: bytes) -> None:
+    for name, data in (("other.db", checks.content("night.db")), ("other.db-wal", log)):
+        checks.file(name, data)
+
+
+def outcome_of_log(checks: Checks, log: bytes, export: bytes) -> str:
+    put_log(checks, log)
+    other = ran(checks, "export", "other.db", "1").out
+    if other == export:
+        return "an export as before"
+    fewer = [] if not other else model.read(other)[1]
+    fits = fewer == model.read(export)[1][:len(fewer)]
+    return f"the first {len(fewer) // 10} files, without a word" if fits else "ANOTHER export"
+
+
+def bits_of_log(checks: Checks, count: int) -> None:
+    checks.begin("a bit that flips in the log of a take that was killed")
+    killed(checks)
+    log, chosen, found = checks.content("night.db-wal"), random.Random(3), Counter()
+    checks.file("copy.db", checks.content("night.db"))
+    checks.file("copy.db-wal", log)
+    export = ran(checks, "export", "copy.db", "1").out
+    checks.same("the data records held", len(model.read(export)[1]), 40)
+    for _ in range(count):
+        changed = flipped(log, chosen.randrange(len(log)), chosen.randrange(8))
+        found[outcome_of_log(checks, changed, export)] += 1
+    checks.same("other exports", found["ANOTHER export"], 0)
+    put_log(checks, flipped(log, FIRST_PAGE, 0))
+    checks.take("other.db", *((f"{n}.edf", accepted(10)) for n in range(4)))
+    checks.run("export", "other.db", "1", out=export)
+    tell(f"{count} bits of a log of {len(log)} bytes", found)
+
+
+def main() -> None:
+    given = arguments.Parser(__doc__, count=100).read()
+    with measure.scratch() as name:
+        checks = Checks(given.program, Path(name))
+        still_written(checks)
+        two_seconds_back(checks)
+        other_changes(checks)
+        bits(checks, given.count)
+        bits_of_log(checks, given.count)
+    checks.end()
+
+
+main()
