@@ -22,8 +22,7 @@ from collections import defaultdict
 from dataclasses import dataclass
 from pathlib import Path
 
-sys.path.insert(0, str(Path(__file__).resolve().parents[1] / "checks/lib"))
-from measure import loop  # noqa: E402
+from lib.measure import loop
 
 PROOF, TESTS, EDITS, BUILDS, RUNS, ITSELF = KINDS = (
     "proof", "tests", "edits", "builds", "runs", "rt itself")

@@ -1,6 +1,7 @@
+# shellcheck shell=bash
 # What the scripts of this folder share: which sources the programs are made from, and their digest.
 top=$(cd "$(dirname "${BASH_SOURCE[0]}")/.." && pwd)
-programs="edfstore edfruns"
+programs=(edfstore edfruns)
 release=$top/release
 
 # Where the program $1 is when it was built here.
@@ -40,11 +41,13 @@ source_files() {
 
 # The SHA-256 of the names and the contents of those files, of all programs.
 sources_digest() {
-  (cd "$top" && source_files $programs | xargs -d '\n' sha256sum | sha256sum | cut -d ' ' -f 1)
+  (cd "$top" && source_files "${programs[@]}" | xargs -d '\n' sha256sum) |
+    sha256sum | cut -d ' ' -f 1
 }
 
 # Whether the program $1 was built here and no source of it is newer.
 is_fresh() {
+  # shellcheck disable=SC2016     # sh puts them in
   [ -x "$(built "$1")" ] && [ -z "$(cd "$top" && source_files "$1" |
     xargs -d '\n' sh -c 'find "$@" -newer "$0" -print -quit' "$(built "$1")")" ]
 }
@@ -79,8 +82,8 @@ released_program() {
   echo "$folder/$1"
 }
 
-# The path of the program $1 to run: the one that was built here, where no source is newer; else the released one, where the release
-# was made from these sources; else it is proved and built first.
+# The path of the program $1 to run: the one that was built here, where no source is newer; else the
+# released one, where the release was made from these sources; else it is proved and built first.
 chosen_program() {
   if is_fresh "$1"; then
     built "$1"

@@ -2,7 +2,7 @@
 """Draws random nights by `edfruns picture`, and compares the line of their stages of sleep with a
 plain model of the rule, half pixel by half pixel.
 
-    checks/hypnogram.py [NIGHTS] [--program PATH] [--seed SEED]     200 nights if left out
+    checks/hypnogram.py [--edfruns PATH] [--seed SEED] [COUNT]      200 nights if left out
 
 The nights have up to six runs, with gaps from a millisecond to hours. Their stages have durations
 or not, are told each half minute or where they change, in order or not, and may lie outside of all
@@ -11,16 +11,12 @@ runs. The first night that is drawn otherwise is left in the folder that is name
 import bisect
 import random
 import re
-import subprocess
-import sys
 import tempfile
 from dataclasses import dataclass
 from pathlib import Path
 
-sys.path.insert(0, str(Path(__file__).resolve().parent / "lib"))
-import edf  # noqa: E402
-import measure  # noqa: E402
-from gapped import SECOND, decimal, onset  # noqa: E402
+from lib import arguments, checks, edf, measure
+from lib.gapped import SECOND, decimal, onset
 
 LEFT, COLUMNS = 112, 1_728      # where the line begins, and how many half pixels it has
 HALF_MINUTE = 30 * SECOND
@@ -138,23 +134,23 @@ def line_of(picture: str) -> list:
 
 
 def main() -> None:
-    program, words = measure.program(sys.argv[1:], "edfruns")
-    seed = int(measure.value_of(words, "--seed", "1"))
-    count, folder = int(words[0]) if words else 200, Path(tempfile.mkdtemp(prefix="hypnogram-"))
+    parser = arguments.Parser(__doc__, ("edfruns",), count=200)
+    parser.add_argument("--seed", type=int, default=1, help="of the nights, 1 if left out")
+    given, folder = parser.read(), Path(tempfile.mkdtemp(prefix="hypnogram-"))
     path = folder / "night.edf"
-    for nth in range(count):
-        chance = random.Random(seed * 1_000_003 + nth)
+    for nth in range(given.count):
+        chance = random.Random(given.seed * 1_000_003 + nth)
         seconds = chance.choice((1, 10, 30, 60))
         runs = random_runs(chance, seconds)
         stages = random_stages(chance, runs[-1][1])
         path.write_bytes(file_of(runs, seconds, stages))
-        ran = subprocess.run([program, "picture", path], capture_output=True, check=False)
-        if ran.returncode or line_of(ran.stdout.decode()) != wanted(runs, stages):
-            print(f"{path}: night {nth} of seed {seed} is drawn otherwise\n{count} nights, 1 wrong")
-            sys.exit(1)
+        ran = measure.ran(given.edfruns, "picture", path)
+        if ran.status or line_of(ran.out.decode()) != wanted(runs, stages):
+            print(f"{path}: night {nth} of seed {given.seed} is drawn otherwise")
+            checks.end(nth + 1, 1)
     path.unlink()
     folder.rmdir()
-    print(f"{count} nights, 0 wrong")
+    checks.end(given.count, 0)
 
 
 main()

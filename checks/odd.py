@@ -1,29 +1,30 @@
 #!/usr/bin/env python3
-"""Files that are no stores, our tables made in other ways, foreign rows, and a store of a million rows, as the program meets them.
+"""Files that are no stores, our tables made in other ways, foreign rows, and a store of a million
+rows, as the program meets them.
 
     checks/odd.py [--program PATH]
 
-Each file is made by the system's SQLite or by hand, given to `list`, and must be answered with the number that stands beside it and
-left as it was, byte for byte. Then `list` of stores of 250,000, 500,000 and 1,000,000 rows: time and peak memory. It needs time.
+Each file is made by the system's SQLite or by hand, given to `list`, and must be answered with the
+number that stands beside it and left as it was, byte for byte. Then `list` of stores of 250,000,
+500,000 and 1,000,000 rows: time and peak memory. It needs time.
 """
 import os
 import shutil
 import sqlite3
-import subprocess
-import sys
 from pathlib import Path
 
-sys.path.insert(0, str(Path(__file__).resolve().parent / "lib"))
-import edf  # noqa: E402
-import measure  # noqa: E402
-import model  # noqa: E402
+from lib import arguments, edf, measure, model, told
+from lib.checks import end
 
-TABLES = ("CREATE TABLE IF NOT EXISTS recording (\n  id INTEGER PRIMARY KEY, identity BLOB NOT NULL UNIQUE) STRICT",
-          "CREATE TABLE IF NOT EXISTS record (\n  recording INTEGER NOT NULL, start INTEGER NOT NULL,\n"
-          "  samples BLOB NOT NULL, block BLOB NOT NULL,\n  PRIMARY KEY (recording, start)) STRICT")
+TABLES = ("CREATE TABLE IF NOT EXISTS recording (\n"
+          "  id INTEGER PRIMARY KEY, identity BLOB NOT NULL UNIQUE) STRICT",
+          "CREATE TABLE IF NOT EXISTS record (\n"
+          "  recording INTEGER NOT NULL, start INTEGER NOT NULL,\n"
+          "  samples BLOB NOT NULL, block BLOB NOT NULL,\n"
+          "  PRIMARY KEY (recording, start)) STRICT")
 INSERT = "INSERT INTO record (recording, start, samples, block) VALUES (?, ?, ?, ?)"
 
-# What another program may have done to a store that holds one record, and that no list of files does
+# What another program may have done to a store of one record, and no list of files does
 FOREIGN = (
     "INSERT INTO recording (identity) VALUES (x'00')",
     "DELETE FROM record",
@@ -36,41 +37,51 @@ FOREIGN = (
     "UPDATE record SET block = CAST(block || x'00' AS BLOB)",
     "UPDATE record SET recording = recording + 1",
     "UPDATE recording SET identity = CAST(identity || x'20' AS BLOB)",
-    "INSERT INTO record SELECT recording, 541727990500000000, samples, x'2B3534313732373939302E35141400' FROM record",
+    "INSERT INTO record SELECT recording, 541727990500000000, samples, "
+    "x'2B3534313732373939302E35141400' FROM record",
 )
 
 # Two data records of a recording without a date, on both sides of the end of 2084
-OVER_2084 = edf.fragment(edf.Header((edf.Signal(), edf.annotations_signal(3)), "31.12.84", "23.59.59",
-                                    recording="Startdate X N1 T3 REC5", count="2"),
-                         [(b"\1\0\2\0", edf.keeping("+0")), (b"\3\0\4\0", edf.keeping("+1"))])
+OVER_2084 = edf.fragment(
+    edf.Header((edf.Signal(), edf.annotations_signal(3)), "31.12.84", "23.59.59",
+               recording="Startdate X N1 T3 REC5", count="2"),
+    [(b"\1\0\2\0", edf.keeping("+0")), (b"\3\0\4\0", edf.keeping("+1"))])
 
 # How another program may have made our two tables, and what is answered then
 MADE = (
     ("our tables", TABLES, ""),
     ("the first of our tables alone", TABLES[:1], ""),
-    ("our tables behind one that was dropped before they were made", ("CREATE TABLE t (x)", "DROP TABLE t", *TABLES), ""),
+    ("our tables behind one that was dropped before they were made",
+     ("CREATE TABLE t (x)", "DROP TABLE t", *TABLES), ""),
     ("the second of our tables alone", TABLES[1:], "E45"),
     ("our tables in the other order", TABLES[::-1], "E45"),
-    ("our tables behind one that was dropped later", ("CREATE TABLE t (x)", *TABLES, "DROP TABLE t"), "E45"),
+    ("our tables behind one that was dropped later",
+     ("CREATE TABLE t (x)", *TABLES, "DROP TABLE t"), "E45"),
     ("the first of our tables, and another", (TABLES[0], "CREATE TABLE t (x)"), "E45"),
     ("a view alone", ("CREATE VIEW v AS SELECT 1",), "E45"),
     ("ANALYZE of nothing", ("ANALYZE",), "E45"),
     ("a virtual table after ours", (*TABLES, "CREATE VIRTUAL TABLE t USING fts5 (x)"), "E42"),
-    ("a table after ours with a foreign key and a trigger", (*TABLES, "CREATE TABLE t (x REFERENCES recording (id))",
-                                                             "CREATE TRIGGER kept AFTER DELETE ON t BEGIN SELECT 1; END"), "E42"),
+    ("a table after ours with a foreign key and a trigger",
+     (*TABLES, "CREATE TABLE t (x REFERENCES recording (id))",
+      "CREATE TRIGGER kept AFTER DELETE ON t BEGIN SELECT 1; END"), "E42"),
 )
 
 # What another tool may do beside our tables, and on them
-LAB = "CREATE TABLE lab (id INTEGER PRIMARY KEY, text TEXT UNIQUE, of INTEGER REFERENCES recording (id))"
+LAB = ("CREATE TABLE lab (id INTEGER PRIMARY KEY, text TEXT UNIQUE, "
+       "of INTEGER REFERENCES recording (id))")
 FILLED = "INSERT INTO lab VALUES (1, 'seen by a nurse', 1), (2, 'for the report', NULL)"
 BESIDE = (
     ("ANALYZE", ("ANALYZE",)),
     ("a view", ("CREATE VIEW starts AS SELECT start FROM record",)),
-    ("a table with an index, a foreign key and rows", (LAB, FILLED, "CREATE INDEX by_of ON lab (of)")),
-    ("a table WITHOUT ROWID", ("CREATE TABLE lab (k TEXT PRIMARY KEY, v) WITHOUT ROWID", "INSERT INTO lab VALUES ('a', 1)")),
-    ("a table with a trigger of its own", ("CREATE TABLE lab (x)", "INSERT INTO lab VALUES (1)",
-                                           "CREATE TRIGGER kept AFTER DELETE ON lab BEGIN SELECT 1; END")),
-    ("a table, a view, ANALYZE and VACUUM", (LAB, FILLED, "CREATE VIEW v AS SELECT text FROM lab", "ANALYZE", "VACUUM")),
+    ("a table with an index, a foreign key and rows",
+     (LAB, FILLED, "CREATE INDEX by_of ON lab (of)")),
+    ("a table WITHOUT ROWID",
+     ("CREATE TABLE lab (k TEXT PRIMARY KEY, v) WITHOUT ROWID", "INSERT INTO lab VALUES ('a', 1)")),
+    ("a table with a trigger of its own",
+     ("CREATE TABLE lab (x)", "INSERT INTO lab VALUES (1)",
+      "CREATE TRIGGER kept AFTER DELETE ON lab BEGIN SELECT 1; END")),
+    ("a table, a view, ANALYZE and VACUUM",
+     (LAB, FILLED, "CREATE VIEW v AS SELECT text FROM lab", "ANALYZE", "VACUUM")),
     ("VACUUM", ("VACUUM",)),
     ("journal_mode=delete", ("PRAGMA journal_mode=delete",)),
 )
@@ -92,8 +103,10 @@ def changed(store: Path, *statements: str) -> None:
 def others_of(store: Path) -> list:
     """All that is not in our two tables: the list of objects, and each other table's rows."""
     connection = sqlite3.connect(store)
-    objects = connection.execute("SELECT type, name, tbl_name, sql FROM sqlite_schema ORDER BY rowid").fetchall()
-    names = [name for kind, name, _, _ in objects if kind == "table" and name not in ("recording", "record")]
+    objects = connection.execute(
+        "SELECT type, name, tbl_name, sql FROM sqlite_schema ORDER BY rowid").fetchall()
+    names = [name for kind, name, _, _ in objects
+             if kind == "table" and name not in ("recording", "record")]
     found = [objects] + [connection.execute(f"SELECT * FROM {name}").fetchall() for name in names]
     connection.close()
     return found
@@ -105,7 +118,7 @@ def bytes_of(path: Path) -> bytes:
 
 class Odd:
     def __init__(self, program: Path, folder: Path):
-        self.program, self.folder, self.done, self.wrong = program, folder, 0, 0
+        self.program, self.folder, self.done, self.failed = program, folder, 0, 0
         self.store = folder / "s.db"
 
     def clean(self) -> None:
@@ -116,20 +129,22 @@ class Odd:
         """A store that holds this file, or one record."""
         self.clean()
         (self.folder / "a.edf").write_bytes(data or edf.small_files()["Q"])
-        subprocess.run([self.program, "take", self.store, self.folder / "a.edf"], check=True, stdout=subprocess.DEVNULL)
+        measure.done(self.program, "take", self.store, self.folder / "a.edf")
         return self.store
 
     def check(self, what: str, *wanted: str) -> None:
-        """`list` answers one of these numbers, or lists where the text is empty, and leaves the file."""
+        """`list` answers one of these numbers, or lists where the text is empty, and leaves the
+        file."""
         before = bytes_of(self.store)
-        ran = subprocess.run([self.program, "list", self.store], capture_output=True, check=False)
-        said = ran.stderr.decode().strip()
+        ran = measure.ran(self.program, "list", self.store)
+        said = ran.err.decode().strip()
         number = said.split()[2] if said.startswith("store refused") else said
+        is_kept = bytes_of(self.store) == before
         self.done += 1
-        if number not in wanted or (ran.returncode != (3 if number else 0)) or (number and bytes_of(self.store) != before):
-            self.wrong += 1
-            kept = "kept" if bytes_of(self.store) == before else "CHANGED"
-            print(f"{what}: {ran.stdout!r} {said!r} status {ran.returncode}, file {kept}; wanted {' or '.join(wanted)}")
+        if number not in wanted or ran.status != (3 if number else 0) or (number and not is_kept):
+            self.failed += 1
+            print(f"{what}: {ran}, file {'kept' if is_kept else 'CHANGED'}; "
+                  f"wanted {' or '.join(wanted)}")
 
 
 def no_stores(odd: Odd) -> None:
@@ -140,8 +155,9 @@ def no_stores(odd: Odd) -> None:
     odd.clean()
     odd.store.write_bytes(b"")
     odd.check("an empty file", "")
-    for what, given in (("a text", b"This is no database.\n" * 100), ("a file of zeros", bytes(8192)),
-                        ("an EDF file", edf.small_files()["Q"]), ("a store cut in its middle", data[:len(data) // 2]),
+    for what, given in (("a text", b"This is no database.\n" * 100),
+                        ("a file of zeros", bytes(8192)), ("an EDF file", edf.small_files()["Q"]),
+                        ("a store cut in its middle", data[:len(data) // 2]),
                         ("a store cut by a byte", data[:-1]),
                         ("a store whose first page is gone", bytes(4096) + data[4096:])):
         odd.clean()
@@ -157,8 +173,8 @@ def no_stores(odd: Odd) -> None:
     changed(odd.store, "CREATE TABLE other (a)", "INSERT INTO other VALUES (1)")
     odd.check("a database of another program", "E45")
     odd.clean()
-    changed(odd.store, "CREATE TABLE recording (id INTEGER PRIMARY KEY, name TEXT)", "CREATE TABLE record (a, b)",
-            "INSERT INTO record VALUES (1, 2)")
+    changed(odd.store, "CREATE TABLE recording (id INTEGER PRIMARY KEY, name TEXT)",
+            "CREATE TABLE record (a, b)", "INSERT INTO record VALUES (1, 2)")
     odd.check("our tables' names with other columns", "E45")
     odd.held()
     os.link(odd.store, odd.folder / "second.db")
@@ -187,19 +203,21 @@ def foreign(odd: Odd) -> None:
 
 def goes_on(odd: Odd, what: str) -> None:
     """The store opens, takes a file and exports, and what is beside its tables stays."""
-    before, (first, second) = others_of(odd.store), (edf.small_files()[name] for name in ("Q", "P5"))
-    (odd.folder / "b.edf").write_bytes(second)
+    before, files, given = others_of(odd.store), edf.small_files(), odd.folder / "b.edf"
+    given.write_bytes(files["P5"])
     plain = model.Store()
-    lines = [plain.take(first), plain.take(second)]
+    plain.take(files["Q"])
+    wanted = told.line(given, plain.take(files["P5"]))
     odd.check(what, "")
-    took = subprocess.run([odd.program, "take", odd.store, odd.folder / "b.edf"], capture_output=True, check=False)
-    exports = [subprocess.run([odd.program, "export", odd.store, str(place)], capture_output=True, check=False).stdout
-               for place in range(1, len(plain.keys()) + 1)]
-    wanted = [plain.export(place) for place in range(1, len(plain.keys()) + 1)]
+    took = measure.ran(odd.program, "take", odd.store, given)
+    places = range(1, len(plain.keys()) + 1)
+    same = (took.out.decode() == wanted, others_of(odd.store) == before,
+            *(measure.ran(odd.program, "export", odd.store, place).out == plain.export(place)
+              for place in places))
     odd.done += 1
-    if took.stdout.decode() != f"{odd.folder / 'b.edf'} {lines[1]}\n" or exports != wanted or others_of(odd.store) != before:
-        odd.wrong += 1
-        print(f"{what}: {took.stdout!r} {took.stderr!r}, exports {exports == wanted}, others {others_of(odd.store) == before}")
+    if not all(same):
+        odd.failed += 1
+        print(f"{what}: {took}; the line, the others and the exports are as wanted: {same}")
 
 
 def beside(odd: Odd) -> None:
@@ -209,7 +227,7 @@ def beside(odd: Odd) -> None:
     for what, command in ((".dump into a new file", "sqlite3 s.db .dump | sqlite3 new.db"),
                           (".backup", "sqlite3 s.db '.backup new.db'")):
         changed(odd.held(), LAB, FILLED, "ANALYZE")
-        subprocess.run(command, shell=True, cwd=odd.folder, check=True)
+        measure.done("bash", "-c", command, folder=odd.folder)
         for name in ("s.db-wal", "s.db-shm"):
             (odd.folder / name).unlink(missing_ok=True)
         (odd.folder / "new.db").replace(odd.store)
@@ -219,43 +237,47 @@ def beside(odd: Odd) -> None:
         odd.check(statement, "E45")
 
 
+def fill(store: Path, count: int) -> None:
+    """A store of so many rows, a data record a second."""
+    rows = ((1, second * 10**9, b"\1\0\2\0", b"+%d\x14\x14\0" % second)
+            for second in range(count))
+    connection = sqlite3.connect(store)
+    for table in TABLES:
+        connection.execute(table)
+    key = model.read(edf.small_files()["Q"])[0].to_bytes()
+    connection.execute("INSERT INTO recording VALUES (1, ?)", (key,))
+    connection.executemany(INSERT, rows)
+    connection.commit()
+    connection.close()
+
+
 def many_rows(odd: Odd) -> None:
     lines = []
-    key = model.read(edf.small_files()["Q"])[0].to_bytes()
     for count in (250_000, 500_000, 1_000_000):
         odd.clean()
-        connection = sqlite3.connect(odd.store)
-        for table in TABLES:
-            connection.execute(table)
-        connection.execute("INSERT INTO recording VALUES (1, ?)", (key,))
-        connection.executemany(INSERT, ((1, second * 10**9, b"\1\0\2\0", b"+%d\x14\x14\0" % second) for second in range(count)))
-        connection.commit()
-        connection.close()
+        fill(odd.store, count)
         size = odd.store.stat().st_size
-        listed = measure.run([odd.program, "list", odd.store])
+        listed = measure.timed(odd.program, "list", odd.store)
         if not listed.out.startswith(b"1 records=%d first=1985-01-01T00:00:00 " % count):
-            odd.wrong += 1
-            print(f"{count} rows: {listed.out!r} {listed.err!r}")
-        lines.append((f"{count:,} rows", measure.mb(size), f"{listed.seconds:.2f} s", measure.mb(listed.peak),
-                      f"{listed.peak / size:.2f}"))
-    changed(odd.store, "UPDATE record SET samples = x'00' WHERE start = (SELECT max(start) FROM record)")
+            odd.failed += 1
+            print(f"{count} rows: {listed}")
+        lines.append((f"{count:,} rows", measure.mb(size), f"{listed.seconds:.2f} s",
+                      measure.mb(listed.peak), f"{listed.peak / size:.2f}"))
+    changed(odd.store,
+            "UPDATE record SET samples = x'00' WHERE start = (SELECT max(start) FROM record)")
     odd.check("a million rows, the last of them foreign", "E45")
     print("list of a store of many rows")
     measure.table(("", "store", "list", "peak", "peak / store"), lines)
 
 
 def main() -> None:
-    program, _ = measure.program(sys.argv[1:])
+    given = arguments.Parser(__doc__).read()
     measure.need("/usr/bin/time", "sqlite3")
     with measure.scratch() as name:
-        odd = Odd(program, Path(name))
-        no_stores(odd)
-        made(odd)
-        foreign(odd)
-        beside(odd)
-        many_rows(odd)
-    print(f"{odd.done} files, {odd.wrong} answered otherwise than wanted")
-    sys.exit(1 if odd.wrong else 0)
+        odd = Odd(given.program, Path(name))
+        for case in (no_stores, made, foreign, beside, many_rows):
+            case(odd)
+    end(odd.done, odd.failed)
 
 
 main()

@@ -18,15 +18,10 @@ lintian, man and readelf.
 """
 import os
 import shutil
-import subprocess
-import sys
 from pathlib import Path
 
-sys.path.insert(0, str(Path(__file__).resolve().parent / "lib"))
-import measure  # noqa: E402
-import model  # noqa: E402
-import runs  # noqa: E402
-from checks import Checks  # noqa: E402
+from lib import arguments, measure, model, runs, told
+from lib.checks import Checks
 
 MOST = 1_200_000
 SUITE = "bookworm"
@@ -35,28 +30,20 @@ SHARED = "usr/share/doc/edfstore"
 EXAMPLES = ("edflib.edf", "one-record.edf")
 DOCUMENTS = ("README.md", "copyright", "changelog.gz", "docs/FORMAT.md", "docs/REFUSALS.md",
              "docs/RELIABILITY.md", "docs/READERS.md", *(f"examples/{name}" for name in EXAMPLES))
+PLACE = ("PATH=/usr/sbin:/usr/bin:/sbin:/bin", "DEBIAN_FRONTEND=noninteractive")
 EARLIER = 946_684_800       # a time of files, which must not be seen
 
 
-def ran(*words, **options) -> subprocess.CompletedProcess:
-    return subprocess.run([str(word) for word in words], stdin=subprocess.DEVNULL,
-                          capture_output=True, text=True, check=False, **options)
-
-
-def done(*words, **options) -> str:
-    """What it wrote; the script ends where it failed."""
-    it = ran(*words, **options)
-    if it.returncode:
-        line = " ".join(map(str, words))
-        sys.exit(f"{line} ended with status {it.returncode}\n{it.stdout}{it.stderr}")
-    return it.stdout
+def text(*words, **options) -> str:
+    """What a program wrote, as text; the script ends where it failed."""
+    return measure.done(*words, **options).out.decode()
 
 
 def programs(folder: Path) -> Path:
     """A folder with the released programs."""
     folder.mkdir()
     for name in PROGRAMS:
-        shutil.copy(measure.program([], name)[0], folder)
+        shutil.copy(arguments.chosen(name), folder)
     return folder
 
 
@@ -70,14 +57,14 @@ def made(checks: Checks, folder: Path) -> Path:
         for name in PROGRAMS:
             os.utime(given / name, (EARLIER * (nth + 1), EARLIER))
         line, mask = 'umask "$1"; "$0/bin/package" "$2" "$3"', ("022", "077")[nth]
-        done("bash", "-c", line, measure.TOP, mask, given, target,
-             env={**os.environ, **added}, cwd=(folder, "/")[nth])
+        measure.done("bash", "-c", line, arguments.TOP, mask, given, target, added=added,
+                     folder=(folder, "/")[nth])
         packages += list(target.iterdir())
     checks.begin("the package")
     checks.same("it is made twice, with the same name", packages[1].name, packages[0].name)
     checks.same("it has the same bytes, made twice",
                 packages[1].read_bytes() == packages[0].read_bytes(), True)
-    released = measure.TOP / "release" / packages[0].name
+    released = arguments.TOP / "release" / packages[0].name
     same = released.is_file() and released.read_bytes() == packages[0].read_bytes()
     has = "has" if same else "does NOT have"
     print(f"release/{released.name} {has} the bytes of the one made here")
@@ -86,44 +73,41 @@ def made(checks: Checks, folder: Path) -> Path:
 
 def rendered(checks: Checks, name: str, root: Path) -> None:
     """The man page below that folder, as `man` shows it."""
-    read = ran("man", "--warnings", "-l", root / f"usr/share/man/man1/{name}.1.gz")
-    checks.same(f"man {name}: status and warnings", (read.returncode, read.stderr), (0, ""))
-    checks.same(f"man {name}: its head and size",
-                (read.stdout.startswith(f"{name.upper()}(1)"), len(read.stdout) > 1000),
-                (True, True))
+    read = measure.ran("man", "--warnings", "-l", root / f"usr/share/man/man1/{name}.1.gz")
+    checks.same(f"man {name}: status and warnings", (read.status, read.err), (0, b""))
+    is_headed = read.out.startswith(f"{name.upper()}(1)".encode())
+    checks.same(f"man {name}: its head and size", (is_headed, len(read.out) > 1000), (True, True))
 
 
 def contents(checks: Checks, package: Path, folder: Path) -> Path:
     """The package, unpacked."""
     root = folder / "unpacked"
-    done("dpkg-deb", "-x", package, root)
+    measure.done("dpkg-deb", "-x", package, root)
     size = package.stat().st_size
-    needs = done("dpkg-deb", "-f", package, "Depends").strip()
+    needs = text("dpkg-deb", "-f", package, "Depends").strip()
     print(f"{package.name}: {size:,} bytes, needs {needs}")
     checks.begin("what the package has")
     checks.same(f"less than {MOST:,} bytes", size < MOST, True)
-    version = done("dpkg-deb", "-f", package, "Version").strip()
+    version = text("dpkg-deb", "-f", package, "Version").strip()
     for name in PROGRAMS:
         program = root / "usr/bin" / name
         checks.same(f"{name} has the released bytes",
-                    program.read_bytes() == measure.program([], name)[0].read_bytes(), True)
-        checks.same(f"{name} --version", done(program, "--version"), f"{name} {version}\n")
-        page = done("zcat", root / f"usr/share/man/man1/{name}.1.gz")
-        checks.same(f"{name}.1", page == (measure.TOP / f"docs/{name}.1").read_text(), True)
+                    program.read_bytes() == arguments.chosen(name).read_bytes(), True)
+        checks.same(f"{name} --version", text(program, "--version"), f"{name} {version}\n")
+        page = text("zcat", root / f"usr/share/man/man1/{name}.1.gz")
+        checks.same(f"{name}.1", page == (arguments.TOP / f"docs/{name}.1").read_text(), True)
         rendered(checks, name, root)
     missing = [name for name in DOCUMENTS if not (root / SHARED / name).is_file()]
     checks.same("documents that it lacks", missing, [])
-    changelog = done("zcat", root / SHARED / "changelog.gz")
+    changelog = text("zcat", root / SHARED / "changelog.gz")
     checks.same("the changelog's version", changelog.split(")")[0], f"edfstore ({version}")
     return root
 
 
 def tags(package: Path) -> list:
     """What lintian tells, but notes; `E:` is an error."""
-    told = ran("lintian", "--fail-on", "none", package)
-    if told.returncode:
-        sys.exit(f"lintian ended with status {told.returncode}\n{told.stdout}{told.stderr}")
-    return [line for line in told.stdout.splitlines() if not line.startswith("N:")]
+    lines = text("lintian", "--fail-on", "none", package).splitlines()
+    return [line for line in lines if not line.startswith("N:")]
 
 
 def errors(lines: list) -> list:
@@ -133,10 +117,10 @@ def errors(lines: list) -> list:
 def changed(name: str, change, package: Path, folder: Path) -> Path:
     """The package of that name, which is this one after `change` of its folder."""
     root = folder / name
-    done("dpkg-deb", "-R", package, root)
+    measure.done("dpkg-deb", "-R", package, root)
     change(root)
     target = folder / f"{name}.deb"
-    done("dpkg-deb", "--root-owner-group", "--build", root, target)
+    measure.done("dpkg-deb", "--root-owner-group", "--build", root, target)
     return target
 
 
@@ -158,10 +142,10 @@ def with_a_byte_changed(package: Path, folder: Path) -> Path:
 
 
 def by_lintian(checks: Checks, package: Path, folder: Path) -> None:
-    told = tags(package)
-    print(f"lintian: {len(errors(told))} errors" + "".join(f"\n  {line}" for line in told))
+    lines = tags(package)
+    print(f"lintian: {len(errors(lines))} errors" + "".join(f"\n  {line}" for line in lines))
     checks.begin("lintian")
-    checks.same("errors", errors(told), [])
+    checks.same("errors", errors(lines), [])
     wrong = errors(tags(changed("without-copyright", without_copyright, package, folder)))
     checks.same("control: the errors of a package without its copyright file have this one",
                 "E: edfstore: no-copyright-file" in wrong, True)
@@ -170,11 +154,11 @@ def by_lintian(checks: Checks, package: Path, folder: Path) -> None:
 def run_there(checks: Checks, where: str, run, folder: Path) -> None:
     """Both programs on the examples, by `run`, which runs words in a folder of that place."""
     checks.begin(where)
-    held, examples = model.Store(), measure.TOP / "examples"
+    held, examples = model.Store(), arguments.TOP / "examples"
     files = [(examples / name).read_bytes() for name in EXAMPLES]
     there = examples if where == "here" else f"/{SHARED}/examples"
     paths = [f"{there}/{name}" for name in EXAMPLES]
-    lines = "".join(f"{path} {held.take(data)}\n" for path, data in zip(paths, files))
+    lines = told.lines(*((path, held.take(data)) for path, data in zip(paths, files)))
     checks.compare("edfstore take", run("edfstore", "take", "night.db", *paths), lines, "", 0)
     checks.compare("edfstore list", run("edfstore", "list", "night.db"), held.lines(), "", 0)
     for place in range(1, len(held.held) + 1):
@@ -188,83 +172,89 @@ def run_there(checks: Checks, where: str, run, folder: Path) -> None:
                    runs.split_lines("part", made_of), "", 0)
     checks.same("the file of split", (folder / "part-1.edf").read_bytes(), made_of[0].to_bytes())
     picture = run("edfruns", "picture", paths[0])
-    checks.same("edfruns picture", (picture.stdout[:4], picture.stderr, picture.returncode),
+    checks.same("edfruns picture", (picture.out[:4], picture.err, picture.status),
                 (b"<svg", b"", 0))
 
 
-def on_a_bare_debian(checks: Checks, package: Path, folder: Path, bare: Path) -> None:
-    system = folder / "system"
-    if bare:
-        done("cp", "-a", bare, system)
-    else:
-        done("debootstrap", "--variant=minbase", SUITE, system)
-    release = (system / "etc/debian_version").read_text().strip()
-    count = len(done("chroot", system, "dpkg-query", "-W").splitlines())
+class Bare:
+    """A Debian of the least packages, in a folder of its own."""
 
-    def inside(*words, **options) -> subprocess.CompletedProcess:
-        place = {"PATH": "/usr/sbin:/usr/bin:/sbin:/bin", "DEBIAN_FRONTEND": "noninteractive"}
-        return subprocess.run(["chroot", system, *words], stdin=subprocess.DEVNULL,
-                              capture_output=True, check=False, env=place, **options)
+    def __init__(self, folder: Path, given):
+        self.root = folder
+        if given:
+            measure.done("cp", "-a", given, folder)
+        else:
+            measure.done("debootstrap", "--variant=minbase", SUITE, folder)
 
-    def at_home(*words) -> subprocess.CompletedProcess:
-        return inside("sh", "-c", 'cd /root/night && exec "$@"', "sh", *words)
+    def run(self, *words) -> measure.Ran:
+        """Runs words there, with the variables of a bare system."""
+        return measure.ran("chroot", self.root, "env", "-i", *PLACE, *words)
 
-    def install(path: Path) -> int:
-        shutil.copy(path, system / "tmp/given.deb")
-        return inside("dpkg", "-i", "/tmp/given.deb").returncode
+    def at_home(self, *words) -> measure.Ran:
+        return self.run("sh", "-c", 'cd /root/night && exec "$@"', "sh", *words)
 
+    def install(self, path: Path) -> int:
+        shutil.copy(path, self.root / "tmp/given.deb")
+        return self.run("dpkg", "-i", "/tmp/given.deb").status
+
+    def installed(self) -> list:
+        """What of the package is there."""
+        paths = (*(f"usr/bin/{name}" for name in PROGRAMS), SHARED)
+        return [path for path in paths if (self.root / path).exists()]
+
+
+def on_a_bare_debian(checks: Checks, package: Path, folder: Path, given) -> None:
+    bare = Bare(folder / "system", given)
+    release = (bare.root / "etc/debian_version").read_text().strip()
+    count = bare.run("dpkg-query", "-W").out.count(b"\n")
     checks.begin("a bare Debian")
     for other in (changed("of-another-library", of_another_library, package, folder),
                   with_a_byte_changed(package, folder)):
-        checks.same(f"control: {other.stem} is refused", install(other) != 0, True)
-        inside("dpkg", "--purge", "--force-all", "edfstore")
-    installed = [*(f"usr/bin/{name}" for name in PROGRAMS), SHARED]
-    checks.same("nothing is there", [name for name in installed if (system / name).exists()], [])
-    checks.same("dpkg -i", install(package), 0)
-    checks.same("dpkg --verify", inside("dpkg", "--verify", "edfstore").stdout, b"")
-    (system / "root/night").mkdir()
-    run_there(checks, "a bare Debian", at_home, system / "root/night")
+        checks.same(f"control: {other.stem} is refused", bare.install(other) != 0, True)
+        bare.run("dpkg", "--purge", "--force-all", "edfstore")
+    checks.same("nothing is there", bare.installed(), [])
+    checks.same("dpkg -i", bare.install(package), 0)
+    checks.same("dpkg --verify", bare.run("dpkg", "--verify", "edfstore").out, b"")
+    (bare.root / "root/night").mkdir()
+    run_there(checks, "a bare Debian", bare.at_home, bare.root / "root/night")
     for name in PROGRAMS:
-        rendered(checks, name, system)
-    checks.same("dpkg -P", inside("dpkg", "-P", "edfstore").returncode, 0)
-    checks.same("what is left", [name for name in installed if (system / name).exists()], [])
+        rendered(checks, name, bare.root)
+    checks.same("dpkg -P", bare.run("dpkg", "-P", "edfstore").status, 0)
+    checks.same("what is left", bare.installed(), [])
     print(f"installed by dpkg -i on a bare Debian {release} of {count} packages "
-          f"({'given' if bare else 'made by debootstrap'}), run there and removed")
+          f"({'given' if given else 'made by debootstrap'}), run there and removed")
 
 
 def here(checks: Checks, root: Path, folder: Path) -> None:
     place = folder / "here"
     place.mkdir()
 
-    def run(name, *words) -> subprocess.CompletedProcess:
-        return subprocess.run([root / "usr/bin" / name, *words], stdin=subprocess.DEVNULL,
-                              capture_output=True, check=False, cwd=place)
+    def run(name, *words) -> measure.Ran:
+        return measure.ran(root / "usr/bin" / name, *words, folder=place)
 
     checks.begin("here")
     for name in PROGRAMS:
-        told = done("ldd", root / "usr/bin" / name)
-        checks.same(f"ldd {name}", ("libc.so.6" in told, "not found" in told), (True, False))
+        needed = text("ldd", root / "usr/bin" / name)
+        checks.same(f"ldd {name}", ("libc.so.6" in needed, "not found" in needed), (True, False))
     run_there(checks, "here", run, place)
     print("unpacked and run here, with this system's libraries; not installed on a bare Debian")
 
 
 def main() -> None:
-    words = sys.argv[1:]
-    bare = None
-    if "--bare" in words:
-        at = words.index("--bare")
-        bare = Path(words[at + 1]).resolve()
-        del words[at:at + 2]
+    parser = arguments.Parser(__doc__, programs=())
+    parser.add_argument("--bare", type=arguments.path, metavar="FOLDER", help="a bare Debian")
+    parser.add_argument("package", nargs="?", type=arguments.path, help="made here if left out")
+    given = parser.read()
     measure.need("dpkg-deb", "lintian", "man", "readelf")
     with measure.scratch() as name:
         folder, cases = Path(name), Path(name) / "cases"
         cases.mkdir()
         checks = Checks(Path("edfstore"), cases)
-        package = Path(words[0]).resolve() if words else made(checks, folder)
+        package = given.package or made(checks, folder)
         root = contents(checks, package, folder)
         by_lintian(checks, package, folder)
-        if os.geteuid() == 0 and (bare or shutil.which("debootstrap")):
-            on_a_bare_debian(checks, package, folder, bare)
+        if os.geteuid() == 0 and (given.bare or shutil.which("debootstrap")):
+            on_a_bare_debian(checks, package, folder, given.bare)
         else:
             here(checks, root, folder)
     checks.end()

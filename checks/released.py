@@ -15,16 +15,11 @@ line says whether it is the committed one.
 """
 import os
 import shutil
-import subprocess
 import sys
-import time
 from pathlib import Path
 
-sys.path.insert(0, str(Path(__file__).resolve().parent / "lib"))
-import measure  # noqa: E402
-import model  # noqa: E402
-import runs  # noqa: E402
-from checks import Checks  # noqa: E402
+from lib import arguments, measure, model, runs, told
+from lib.checks import Checks
 
 SECONDS = 2.0
 TIMES = 3       # clones at most, since others may use the machine
@@ -61,44 +56,38 @@ class Clones:
         """A clone in which nothing was run."""
         self.count += 1
         clone = self.folder / f"clone-{self.count}"
-        subprocess.run(["git", "clone", "-q", measure.TOP, clone], check=True)
+        measure.done("git", "clone", "-q", arguments.TOP, clone)
         return clone
 
-    def toolchain(self, told: str, status: int = 0) -> None:
+    def toolchain(self, build: str, status: int = 0) -> None:
         """The command `rt` from here on, which tells this build."""
-        (self.stub / "rt").write_text(STUB.format(told=told, status=status))
+        (self.stub / "rt").write_text(STUB.format(told=build, status=status))
         (self.stub / "rt").chmod(0o755)
 
-    def ran(self, clone: Path, *words: str) -> subprocess.CompletedProcess:
+    def ran(self, clone: Path, *words: str) -> measure.Ran:
         path = f"{self.stub}:{self.tools}" if (self.stub / "rt").exists() else str(self.tools)
-        return subprocess.run(words, cwd=clone, env={**os.environ, "PATH": path},
-                              stdin=subprocess.DEVNULL, capture_output=True, check=False)
-
-    def timed(self, clone: Path, *words: str) -> tuple:
-        """The run, and its seconds."""
-        begun = time.perf_counter()
-        return self.ran(clone, *words), time.perf_counter() - begun
+        return measure.ran(*words, folder=clone, added={"PATH": path})
 
 
 def first_commands(checks: Checks, clones: Clones) -> None:
     """Each of these is the first command of its clone."""
     checks.begin("a fresh clone without the toolchain")
     checks.same("a toolchain on the path",
-                clones.ran(clones.folder, "bash", "-c", "command -v rt").stdout, b"")
+                clones.ran(clones.folder, "bash", "-c", "command -v rt").out, b"")
     held = model.Store()
-    files = [measure.TOP.joinpath(name).read_bytes() for name in EXAMPLES]
-    lines = "".join(f"{name} {held.take(data)}\n" for name, data in zip(EXAMPLES, files))
-    told = runs.lines(runs.read_runs(files[0]))
+    files = [arguments.TOP.joinpath(name).read_bytes() for name in EXAMPLES]
+    lines = told.lines(*((name, held.take(data)) for name, data in zip(EXAMPLES, files)))
+    listed = runs.lines(runs.read_runs(files[0]))
     taken = ("edfstore", "take", "night.db", *EXAMPLES), lines, ["night.db", "night.db-wal"]
-    for words, out, made in (taken, (("edfruns", "list", EXAMPLES[0]), told, [])):
+    for words, out, made in (taken, (("edfruns", "list", EXAMPLES[0]), listed, [])):
         for _ in range(TIMES):
             clone = clones.fresh()
-            done, seconds = clones.timed(clone, f"bin/{words[0]}", *words[1:])
-            checks.compare(" ".join(words), done, out, "", 0)
-            if seconds <= SECONDS:
+            ran = clones.ran(clone, f"bin/{words[0]}", *words[1:])
+            checks.compare(" ".join(words), ran, out, "", 0)
+            if ran.seconds <= SECONDS:
                 break
-        print(f"bin/{words[0]}: {seconds:.2f} s to the end of the first command")
-        checks.same(f"bin/{words[0]} within {SECONDS} s", seconds <= SECONDS, True)
+        print(f"bin/{words[0]}: {ran.seconds:.2f} s to the end of the first command")
+        checks.same(f"bin/{words[0]} within {SECONDS} s", ran.seconds <= SECONDS, True)
         checks.compare("what git says of the clone", clones.ran(clone, "git", "status", "--short"),
                        "".join(f"?? {name}\n" for name in made), "", 0)
     change_a_source(clone)
@@ -115,10 +104,10 @@ def built(clones: Clones) -> Path:
     """A clone with the released programs where `rt ci` leaves what it built."""
     clone = clones.fresh()
     for name in PROGRAMS:
-        told = clones.ran(clone, "bash", "-c", f". bin/common.sh && released_program {name}").stdout
+        line = f". bin/common.sh && released_program {name}"
         target = clone / "crates" / name / "out" / name
         target.parent.mkdir()
-        shutil.copy(told.decode().strip(), target)
+        shutil.copy(clones.ran(clone, "bash", "-c", line).out.decode().strip(), target)
     return clone
 
 
@@ -126,8 +115,8 @@ def compared(checks: Checks, clones: Clones, what: str, clone: Path, out: str) -
     """`bin/compare` writes this, and `.ci/run` writes it last; both end with status 0."""
     checks.compare(f"bin/compare, {what}", clones.ran(clone, "bin/compare"), out, "", 0)
     gate = clones.ran(clone, ".ci/run")
-    checks.same(f".ci/run, {what}: the status", gate.returncode, 0)
-    checks.same(f".ci/run, {what}: the last lines", gate.stdout.decode()[-len(out):], out)
+    checks.same(f".ci/run, {what}: the status", gate.status, 0)
+    checks.same(f".ci/run, {what}: the last lines", gate.out.decode()[-len(out):], out)
 
 
 def release_of(clone: Path) -> dict:
@@ -139,7 +128,7 @@ def written_again(checks: Checks, clones: Clones, clone: Path) -> None:
     """The release, written by the scripts of the clone from the same programs and documents."""
     committed, written = release_of(clone), []
     for words in (("bin/release",), ("bin/release",), ("bin/release", "--documents")):
-        checks.same(f"{' '.join(words)}: the status", clones.ran(clone, *words).returncode, 0)
+        checks.same(f"{' '.join(words)}: the status", clones.ran(clone, *words).status, 0)
         written.append(release_of(clone))
     checks.same("the release has the same bytes", written[1:] == written[:1] * 2, True)
     checks.same("its files", [sorted(path.rpartition(".")[2] for path in written[0])],
@@ -151,7 +140,7 @@ def written_again(checks: Checks, clones: Clones, clone: Path) -> None:
     page = clone / "docs/edfstore.1"
     page.write_text(page.read_text() + ".\\\" another\n")
     checks.same("bin/release --documents: the status",
-                clones.ran(clone, "bin/release", "--documents").returncode, 0)
+                clones.ran(clone, "bin/release", "--documents").status, 0)
     last = release_of(clone)
     checks.same("with another page both archives are others",
                 sorted(name for name in last if last[name] != written[0][name]),
@@ -160,9 +149,30 @@ def written_again(checks: Checks, clones: Clones, clone: Path) -> None:
                    "".join(map(SAME.format, PROGRAMS)), "", 0)
 
 
+def changed(checks: Checks, clones: Clones, clone: Path, name: str) -> None:
+    """The comparison where one byte of a program is another, which is put back."""
+    program = clone / "crates" / name / "out" / name
+    data = bytearray(program.read_bytes())
+    at = len(data) // 2
+    data[at] ^= 1
+    program.write_bytes(data)
+    wanted = "".join((OTHER if it == name else SAME).format(it) for it in PROGRAMS)
+    ran = clones.ran(clone, "bin/compare")
+    lines = ran.out.decode().splitlines(keepends=True)
+    ours = "".join(line for line in lines if line.startswith("release:"))
+    others = [line for line in lines if not line.startswith("release:")]
+    case = f"a byte of {name} is changed"
+    checks.same(f"bin/compare, {case}", (ours, ran.status), (wanted, 1))
+    checks.same(f"which byte, {case}", [f" differ: byte {at + 1}," in line for line in others],
+                [True])
+    checks.same(f".ci/run, {case}", clones.ran(clone, ".ci/run").status, 1)
+    data[at] ^= 1
+    program.write_bytes(data)
+
+
 def comparison(checks: Checks, clones: Clones) -> None:
     checks.begin("the comparison with the release")
-    toolchain = (measure.TOP / "release/TOOLCHAIN").read_text().strip()
+    toolchain = (arguments.TOP / "release/TOOLCHAIN").read_text().strip()
     clones.toolchain(toolchain)
     compared(checks, clones, "no programs", clones.fresh(), "".join(map(NONE.format, PROGRAMS)))
     clone = built(clones)
@@ -170,40 +180,26 @@ def comparison(checks: Checks, clones: Clones) -> None:
     if shutil.which("dpkg-deb"):
         written_again(checks, clones, clone)
     for name in PROGRAMS:
-        program = clone / "crates" / name / "out" / name
-        data = bytearray(program.read_bytes())
-        data[len(data) // 2] ^= 1
-        program.write_bytes(data)
-        told = "".join((OTHER if it == name else SAME).format(it) for it in PROGRAMS)
-        done = clones.ran(clone, "bin/compare")
-        lines = done.stdout.decode().splitlines(keepends=True)
-        ours = "".join(line for line in lines if line.startswith("release:"))
-        others = [line for line in lines if not line.startswith("release:")]
-        case = f"a byte of {name} is changed"
-        checks.same(f"bin/compare, {case}", (ours, done.returncode), (told, 1))
-        place = f" differ: byte {len(data) // 2 + 1},"
-        checks.same(f"which byte, {case}", [place in line for line in others], [True])
-        checks.same(f".ci/run, {case}", clones.ran(clone, ".ci/run").returncode, 1)
-        data[len(data) // 2] ^= 1
-        program.write_bytes(data)
+        changed(checks, clones, clone, name)
     clones.toolchain(f"{toolchain} and another")
     compared(checks, clones, "another toolchain", clone,
              f"release: made by another toolchain: {toolchain}\n")
     clones.toolchain(toolchain, status=1)
-    checks.same(".ci/run, a gate that fails", clones.ran(clone, ".ci/run").returncode, 1)
+    checks.same(".ci/run, a gate that fails", clones.ran(clone, ".ci/run").status, 1)
     clones.toolchain(toolchain)
     change_a_source(clone)
     compared(checks, clones, "other sources", clone, OTHER_SOURCES)
 
 
 def main() -> None:
+    arguments.Parser(__doc__, programs=()).read()
     measure.need("git", "tar", "xz")
     with measure.scratch() as name:
         folder, cases = Path(name) / "clones", Path(name) / "cases"
         folder.mkdir()
         cases.mkdir()
         clones, checks = Clones(folder), Checks(Path("edfstore"), cases)
-        if clones.ran(clones.fresh(), "bash", "-c", ". bin/common.sh && is_released").returncode:
+        if clones.ran(clones.fresh(), "bash", "-c", ". bin/common.sh && is_released").status:
             sys.exit("the state that is committed here is no released one: bin/release makes it so")
         first_commands(checks, clones)
         comparison(checks, clones)

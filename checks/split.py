@@ -1,30 +1,25 @@
 #!/usr/bin/env python3
-"""Checks `edfruns list`, `write` and `split`: lines, files and statuses on small files and on a night with three gaps.
+"""Checks `edfruns list`, `write` and `split`: lines, files and statuses on small files and on a
+night with three gaps.
 
-    checks/split.py [--program PATH] [--edfstore PATH]
+    checks/split.py [--program PATH] [--edfruns PATH]
 
-Without words it runs bin/edfruns and bin/edfstore. Small files are compared with lines written by hand; every file of a run with the plain
-model in checks/lib/runs.py, byte for byte. The files of a split go to `edfstore take` in several orders and with repeats, and the export is
-compared with `edfstore convert` of what was split.
+Without words it runs bin/edfstore and bin/edfruns. Small files are compared with lines written by
+hand; every file of a run with the plain model in checks/lib/runs.py, byte for byte. The files of a
+split go to `edfstore take` in several orders and with repeats, and the export is compared with
+`edfstore convert` of what was split.
 """
 import os
 import random
-import subprocess
-import sys
 from dataclasses import dataclass
 from pathlib import Path
 
-sys.path.insert(0, str(Path(__file__).resolve().parent / "lib"))
-import edf  # noqa: E402
-import gapped  # noqa: E402
-import measure  # noqa: E402
-import runs  # noqa: E402
-from by_hand import COUNT, DURATION, field, unknown  # noqa: E402
-from checks import Checks  # noqa: E402
+from lib import arguments, edf, gapped, measure, runs, told
+from lib.by_hand import COUNT, DURATION, field, unknown
+from lib.checks import Checks
 
 FILES = edf.small_files()
 DAY = 86_400
-THERE = "{} is there already; nothing was written\n"
 BLOCK = 24      # samples of the annotations signal of a small file
 
 
@@ -34,69 +29,92 @@ class Programs:
     edfstore: Path
 
     def takes(self, name: str, order: list, converted: bytes) -> None:
-        """A new store takes these files in this order, each whole, and its export is the conversion of the file that was split."""
+        """A new store takes these files in this order, each whole, and its export is the conversion
+        of the file that was split."""
         store = self.checks.folder / "order.db"
         measure.remove_store(store)
-        took = subprocess.run([self.edfstore, "take", store, *order], capture_output=True, cwd=self.checks.folder, check=False)
-        self.checks.same(f"{name}: take", (took.stdout.count(b" accepted new="), took.returncode, took.stderr), (len(order), 0, b""))
-        export = subprocess.run([self.edfstore, "export", store, "1"], capture_output=True, check=False).stdout
-        self.checks.same(f"{name}: export", export, converted)
+        took = self.ran("take", store, *order)
+        self.checks.same(f"{name}: take", (told.are_accepted(took.out), took.status, took.err),
+                         (len(order), 0, b""))
+        self.checks.same(f"{name}: export", self.ran("export", store, "1").out, converted)
+
+    def ran(self, *words) -> measure.Ran:
+        """What edfstore does in the case's folder."""
+        return measure.ran(self.edfstore, *words, folder=self.checks.folder)
 
     def converted(self, name: str) -> bytes:
-        return subprocess.run([self.edfstore, "convert", name], capture_output=True, cwd=self.checks.folder, check=False).stdout
+        return self.ran("convert", name).out
 
 
 def small(*onsets: str, starttime: str = "22.00.00", **fields) -> bytes:
     """A file of a data record at each onset, with samples of its own."""
-    header = edf.Header((edf.Signal(), edf.annotations_signal(BLOCK)), starttime=starttime, count=str(len(onsets)), **fields)
-    return edf.fragment(header, [((nth + 1).to_bytes(4, "little"), edf.keeping(onset)) for nth, onset in enumerate(onsets)])
+    header = edf.Header((edf.Signal(), edf.annotations_signal(BLOCK)), starttime=starttime,
+                        count=str(len(onsets)), **fields)
+    return edf.fragment(header, [(nth.to_bytes(4, "little"), edf.keeping(onset))
+                                 for nth, onset in enumerate(onsets, 1)])
 
 
 def noted(*records, **fields) -> bytes:
     """A file of data records, each an onset and its annotations."""
-    header = edf.Header((edf.Signal(), edf.annotations_signal(BLOCK)), starttime="22.00.00", count=str(len(records)), **fields)
-    return edf.fragment(header, [((nth + 1).to_bytes(4, "little"), edf.keeping(onset) + b"".join(notes))
-                                 for nth, (onset, *notes) in enumerate(records)])
+    header = edf.Header((edf.Signal(), edf.annotations_signal(BLOCK)), starttime="22.00.00",
+                        count=str(len(records)), **fields)
+    return edf.fragment(header, [(nth.to_bytes(4, "little"), edf.keeping(onset) + b"".join(notes))
+                                 for nth, (onset, *notes) in enumerate(records, 1)])
 
 
 def line(number: int, records: int, first: str, seconds: str, gap: str = "") -> str:
-    return f"{number} records={records} first=2002-03-{first} seconds={seconds}{f' gap={gap}' if gap else ''}\n"
+    """What `list` says of a run that starts on this day and time of March 2002."""
+    return told.run(number, records, f"2002-03-{first}", seconds, gap)
 
+
+OVER_2084 = (told.run(1, 1, "2084-12-31T23:59:50", "1", "14") +
+             told.run(2, 1, "2085-01-01T00:00:05", "1"))
 
 # A name, a file, and what `list` says of it, by hand.
 CASES = (
     ("one data record", FILES["Q"], line(1, 1, "02T23:59:50", "1")),
     ("records that touch", FILES["K"], line(1, 3, "03T01:00:00", "3")),
-    ("another order of signals, and a gap", FILES["R9"], line(1, 1, "03T00:00:00", "1", "4") + line(2, 1, "03T00:00:05", "1")),
+    ("another order of signals, and a gap", FILES["R9"],
+     line(1, 1, "03T00:00:00", "1", "4") + line(2, 1, "03T00:00:05", "1")),
     ("an unknown count", unknown(FILES["U"]), line(1, 2, "02T22:00:00", "2")),
     ("several annotations signals", FILES["V"], line(1, 1, "02T23:59:50", "1")),
-    ("EDF+C with a gap", small("+0", "+2", reserved="EDF+C"), line(1, 1, "02T22:00:00", "1", "1") + line(2, 1, "02T22:00:02", "1")),
+    ("EDF+C with a gap", small("+0", "+2", reserved="EDF+C"),
+     line(1, 1, "02T22:00:00", "1", "1") + line(2, 1, "02T22:00:02", "1")),
     ("a gap of a nanosecond", small("+0", "+1.000000001"),
      line(1, 1, "02T22:00:00", "1", "0.000000001") + line(2, 1, "02T22:00:01.000000001", "1")),
     ("a gap of a nanosecond that goes on", small("+0", "+1", "+2.000000001", "+3.000000001"),
      line(1, 2, "02T22:00:00", "2", "0.000000001") + line(2, 2, "02T22:00:02.000000001", "2")),
     ("a gap of a day", small("+0", f"+{1 + DAY}", f"+{2 + DAY}"),
      line(1, 1, "02T22:00:00", "1", "86400") + line(2, 2, "03T22:00:01", "2")),
-    ("a gap over midnight", small("+0", "+1", "+7200.5"), line(1, 2, "02T22:00:00", "2", "7198.5") + line(2, 1, "03T00:00:00.5", "1")),
-    ("a first onset of a quarter of a second", small("+0.25", "+1.25", "+2.25"), line(1, 3, "02T22:00:00.25", "3")),
+    ("a gap over midnight", small("+0", "+1", "+7200.5"),
+     line(1, 2, "02T22:00:00", "2", "7198.5") + line(2, 1, "03T00:00:00.5", "1")),
+    ("a first onset of a quarter of a second", small("+0.25", "+1.25", "+2.25"),
+     line(1, 3, "02T22:00:00.25", "3")),
     ("a first onset and a gap", small("+0.25", "+1.25", "+2.5"),
      line(1, 2, "02T22:00:00.25", "2", "0.25") + line(2, 1, "02T22:00:02.5", "1")),
     ("a duration that is no whole number", small("+0", "+0.1", "+0.2", "+0.301", duration="0.1"),
      line(1, 3, "02T22:00:00", "0.3", "0.001") + line(2, 1, "02T22:00:00.301", "0.1")),
-    ("a duration with zeros", small("+0", "+30", "+61", duration="30.000"), line(1, 2, "02T22:00:00", "60", "1") +
-     line(2, 1, "02T22:01:01", "30")),
-    ("onsets with zeros", small("+0.00", "+1.0", "+0002.5000"), line(1, 2, "02T22:00:00", "2", "0.5") + line(2, 1, "02T22:00:02.5", "1")),
-    ("annotations whose onset lies outside of their data record", noted(
-        ("+0", edf.tal("-30", "Before", duration="5")), ("+1", edf.tal("+90.5", "After")), ("+60", edf.tal("+0.5", "Earlier")),
-        ("+61", edf.tal("+61", "At it"), edf.tal("+62", "At the end"))),
+    ("a duration with zeros", small("+0", "+30", "+61", duration="30.000"),
+     line(1, 2, "02T22:00:00", "60", "1") + line(2, 1, "02T22:01:01", "30")),
+    ("onsets with zeros", small("+0.00", "+1.0", "+0002.5000"),
+     line(1, 2, "02T22:00:00", "2", "0.5") + line(2, 1, "02T22:00:02.5", "1")),
+    ("annotations whose onset lies outside of their data record",
+     noted(("+0", edf.tal("-30", "Before", duration="5")), ("+1", edf.tal("+90.5", "After")),
+           ("+60", edf.tal("+0.5", "Earlier")),
+           ("+61", edf.tal("+61", "At it"), edf.tal("+62", "At the end"))),
      line(1, 2, "02T22:00:00", "2", "58") + line(2, 2, "02T22:01:00", "2")),
-    ("longest blocks that differ", noted(("+0",), ("+1", edf.tal("+1", "A longer text")), ("+9",), ("+19", edf.tal("+19", "Short"))),
-     line(1, 2, "02T22:00:00", "2", "7") + line(2, 1, "02T22:00:09", "1", "9") + line(3, 1, "02T22:00:19", "1")),
-    ("the window's last year", small("+0", "+5", startdate="31.12.yy", starttime="23.59.50", recording="Startdate 31-DEC-2184 N1 T3 REC5"),
-     "1 records=1 first=2184-12-31T23:59:50 seconds=1 gap=4\n2 records=1 first=2184-12-31T23:59:55 seconds=1\n"),
-    ("a gap over the end of 2084", small("+0", "+15", startdate="31.12.84", starttime="23.59.50",
-                                        recording="Startdate 31-DEC-2084 N1 T3 REC5"),
-     "1 records=1 first=2084-12-31T23:59:50 seconds=1 gap=14\n2 records=1 first=2085-01-01T00:00:05 seconds=1\n"),
+    ("longest blocks that differ",
+     noted(("+0",), ("+1", edf.tal("+1", "A longer text")), ("+9",),
+           ("+19", edf.tal("+19", "Short"))),
+     line(1, 2, "02T22:00:00", "2", "7") + line(2, 1, "02T22:00:09", "1", "9") +
+     line(3, 1, "02T22:00:19", "1")),
+    ("the window's last year",
+     small("+0", "+5", startdate="31.12.yy", starttime="23.59.50",
+           recording="Startdate 31-DEC-2184 N1 T3 REC5"),
+     told.run(1, 1, "2184-12-31T23:59:50", "1", "4") + told.run(2, 1, "2184-12-31T23:59:55", "1")),
+    ("a gap over the end of 2084",
+     small("+0", "+15", startdate="31.12.84", starttime="23.59.50",
+           recording="Startdate 31-DEC-2084 N1 T3 REC5"), OVER_2084),
 )
 
 # A name, a file, and its refusal, by hand.
@@ -125,7 +143,7 @@ def files_of_each(programs: Programs, name: str, data: bytes, listed: str) -> No
     checks.run("list", "-", given=data, out=listed)
     for run in made:
         checks.run("write", "a.edf", str(run.number), out=run.to_bytes())
-    checks.run("write", "a.edf", str(len(made) + 1), err=f"no run {len(made) + 1}\n", status=1)
+    checks.run("write", "a.edf", str(len(made) + 1), err=told.no_run(len(made) + 1), status=1)
     names = runs.split_names("part", made)
     checks.run("split", "a.edf", "part", out=runs.split_lines("part", made))
     for part, run in zip(names, made):
@@ -150,13 +168,13 @@ def refused_files(programs: Programs) -> None:
     for name, data, fault in REFUSED:
         checks.begin(f"refused: {name}")
         checks.file("a.edf", data)
-        told = f"a.edf refused {fault}\n"
-        convert = subprocess.run([programs.edfstore, "convert", "a.edf"], cwd=checks.folder, capture_output=True, check=False)
-        checks.same("edfstore convert", (convert.stderr, convert.returncode), (told.encode(), 1))
-        for words in (("list", "a.edf"), ("write", "a.edf", "1"), ("write", "a.edf", "9"), ("split", "a.edf", "part"),
-                      ("picture", "a.edf")):
-            checks.run(*words, err=told, status=1)
-        checks.run("list", "-", given=data, err=told.replace("a.edf", "-", 1), status=1)
+        line = told.fault("a.edf", fault)
+        convert = programs.ran("convert", "a.edf")
+        checks.same("edfstore convert", (convert.err, convert.status), (line.encode(), 1))
+        for words in (("list", "a.edf"), ("write", "a.edf", "1"), ("write", "a.edf", "9"),
+                      ("split", "a.edf", "part"), ("picture", "a.edf")):
+            checks.run(*words, err=line, status=1)
+        checks.run("list", "-", given=data, err=told.fault("-", fault), status=1)
         checks.same("the files", checks.names(), ["a.edf"])
 
 
@@ -164,12 +182,14 @@ def words_that_ask_for_nothing(programs: Programs) -> None:
     checks = programs.checks
     checks.begin("words that ask for nothing")
     checks.file("a.edf", FILES["R9"])
-    for words in ((), ("write", "-", "1"), ("split", "-", "part"), ("list",), ("write", "a.edf"), ("split", "a.edf"), ("frob", "a.edf"),
-                  ("list", "a.edf", "more"), ("write", "a.edf", "1", "more"), ("list", "-x"),
-                  *(("write", "a.edf", number) for number in ("0", "-1", "+1", "one", "1.0", "4294967296", ""))):
+    for words in ((), ("write", "-", "1"), ("split", "-", "part"), ("list",), ("write", "a.edf"),
+                  ("split", "a.edf"), ("frob", "a.edf"), ("list", "a.edf", "more"),
+                  ("write", "a.edf", "1", "more"), ("list", "-x"),
+                  *(("write", "a.edf", number)
+                    for number in ("0", "-1", "+1", "one", "1.0", "4294967296", ""))):
         checks.run(*words, given=FILES["R9"], err=None, status=2)
     checks.run("write", "a.edf", "001", out=runs.read_runs(FILES["R9"])[0].to_bytes())
-    checks.run("write", "a.edf", "4294967295", err="no run 4294967295\n", status=1)
+    checks.run("write", "a.edf", "4294967295", err=told.no_run(4294967295), status=1)
     checks.same("the files", checks.names(), ["a.edf"])
 
 
@@ -177,12 +197,14 @@ def trouble(programs: Programs) -> None:
     """What is not there or can't be written."""
     checks = programs.checks
     checks.begin("trouble")
-    for words in (("list", "none.edf"), ("write", "none.edf", "1"), ("split", "none.edf", "part"), ("list", ".")):
-        checks.run(*words, err=f"{words[1]} refused E40 Read\n", status=3)
+    for words in (("list", "none.edf"), ("write", "none.edf", "1"), ("split", "none.edf", "part"),
+                  ("list", ".")):
+        checks.run(*words, err=told.line(words[1], told.UNREAD), status=3)
     checks.file("a.edf", FILES["R9"])
     checks.shell("edfruns list a.edf > /dev/full", status=3)
-    checks.shell("edfruns write a.edf 1 > /dev/full", err="a.edf refused E43 Write\n", status=3)
-    checks.shell("edfruns split a.edf none/part", err="a.edf refused E43 Write\n", status=3)
+    unwritten = told.line("a.edf", told.UNWRITTEN)
+    checks.shell("edfruns write a.edf 1 > /dev/full", err=unwritten, status=3)
+    checks.shell("edfruns split a.edf none/part", err=unwritten, status=3)
     checks.shell("edfruns split a.edf part > /dev/full", status=3)
     checks.same("the files", checks.names(), ["a.edf"])
 
@@ -194,43 +216,47 @@ def files_that_are_there(programs: Programs) -> None:
         checks.begin(f"{taken} is there")
         checks.file("a.edf", FILES["R9"])
         checks.file(taken, b"mine")
-        checks.run("split", "a.edf", "part", err=THERE.format(taken), status=1)
+        checks.run("split", "a.edf", "part", err=told.is_there(taken), status=1)
         checks.same(taken, checks.content(taken), b"mine")
         checks.same("the files", checks.names(), sorted(["a.edf", taken]))
         checks.run("split", "a.edf", "other", out=runs.split_lines("other", made))
-        checks.run("split", "a.edf", "other", err=THERE.format("other-1.edf"), status=1)
+        checks.run("split", "a.edf", "other", err=told.is_there("other-1.edf"), status=1)
         for name, run in zip(runs.split_names("other", made), made):
             checks.same(name, checks.content(name), run.to_bytes())
     checks.begin("a link that leads nowhere is there")
     checks.file("a.edf", FILES["R9"])
     (checks.folder / "part-2.edf").symlink_to("elsewhere")
-    checks.run("split", "a.edf", "part", err=THERE.format("part-2.edf"), status=1)
+    checks.run("split", "a.edf", "part", err=told.is_there("part-2.edf"), status=1)
     checks.same("the files", checks.names(), ["a.edf", "part-2.edf"])
 
 
 def a_file_that_changes(programs: Programs) -> None:
-    """A named pipe that gives another file when it is read again: the run that was listed does not come next, so the words are refused
-    as where a read fails, and no file is left."""
+    """A named pipe that gives another file when it is read again: the run that was listed does not
+    come next, so the words are refused as where a read fails, and no file is left."""
     checks, data = programs.checks, FILES["R9"]
     cut, later, longer = data[:-20], small("+0", "+9"), small("+0", "+1", "+5")
-    for name, second in (("cut", cut), ("with another start", later), ("with a longer run", longer), ("empty", b"")):
+    for name, second in (("cut", cut), ("with another start", later), ("with a longer run", longer),
+                         ("empty", b"")):
         checks.begin(f"a file that is {name} when it is read again")
         checks.file("a.edf", data if second in (cut, b"") else small("+0", "+5"))
         checks.file("b.edf", second)
         os.mkfifo(checks.folder / "f")
         feed = "(cat a.edf > f; sleep 0.5; cat b.edf > f) &"
-        checks.shell(f"{feed} edfruns write f 2 > out; s=$?; kill %1 2> /dev/null; exit $s", err="f refused E40 Read\n", status=3)
-        checks.shell(f"{feed} edfruns split f part; s=$?; kill %1 2> /dev/null; exit $s", err="f refused E40 Read\n", status=3)
+        for words in ("write f 2 > out", "split f part"):
+            checks.shell(f"{feed} edfruns {words}; s=$?; kill %1 2> /dev/null; exit $s",
+                         err=told.line("f", told.UNREAD), status=3)
         checks.same("the files", checks.names(), ["a.edf", "b.edf", "f", "out"])
 
 
 def a_thousand_runs(programs: Programs) -> None:
-    """A thousand runs of a data record, whose numbers have four digits, taken back in two orders as if by chance."""
+    """A thousand runs of a data record, whose numbers have four digits, taken back in two orders as
+    if by chance."""
     checks, data = programs.checks, small(*(f"+{3 * nth}" for nth in range(1_000)))
     made = runs.read_runs(data)
     checks.begin("a thousand runs")
     checks.file("a.edf", data)
-    checks.same("how many", (len(made), made[-1].line()), (1_000, line(1_000, 1, "02T22:49:57", "1")))
+    checks.same("how many", (len(made), made[-1].line()),
+                (1_000, line(1_000, 1, "02T22:49:57", "1")))
     checks.run("list", "a.edf", out=runs.lines(made))
     for number in (1, 2, 500, 999, 1_000):
         checks.run("write", "a.edf", str(number), out=made[number - 1].to_bytes())
@@ -238,7 +264,8 @@ def a_thousand_runs(programs: Programs) -> None:
     names = runs.split_names("part", made)
     checks.same("the first and the last", (names[0], names[-1]), ("part-0001.edf", "part-1000.edf"))
     checks.same("the files", checks.names(), sorted(["a.edf", *names]))
-    checks.same("each file", [checks.content(name) for name in names], [run.to_bytes() for run in made])
+    checks.same("each file", [checks.content(name) for name in names],
+                [run.to_bytes() for run in made])
     converted, chance = programs.converted("a.edf"), random.Random(1)
     for nth in range(2):
         chance.shuffle(names)
@@ -246,23 +273,24 @@ def a_thousand_runs(programs: Programs) -> None:
 
 
 def a_run_that_no_header_can_date(programs: Programs) -> None:
-    """A file without a date goes on after 2084, where the two digits of a year name no year: the run is listed, and not written."""
+    """A file without a date goes on after 2084, where the two digits of a year name no year: the
+    run is listed, and not written."""
     checks = programs.checks
-    data = small("+0", "+15", startdate="31.12.84", starttime="23.59.50", recording="Startdate X N1 T3 REC5")
+    data = small("+0", "+15", startdate="31.12.84", starttime="23.59.50",
+                 recording="Startdate X N1 T3 REC5")
     checks.begin("a run after 2084 in a file without a date")
     checks.file("a.edf", data)
-    checks.run("list", "a.edf", out="1 records=1 first=2084-12-31T23:59:50 seconds=1 gap=14\n"
-               "2 records=1 first=2085-01-01T00:00:05 seconds=1\n")
+    checks.run("list", "a.edf", out=OVER_2084)
     checks.run("write", "a.edf", "1", out=runs.read_runs(data)[0].to_bytes())
-    told = "run 2 starts after 2084, which a file without a date can't tell\n"
-    checks.run("write", "a.edf", "2", err=told, status=1)
-    checks.run("split", "a.edf", "part", err=told, status=1)
+    for words in (("write", "a.edf", "2"), ("split", "a.edf", "part")):
+        checks.run(*words, err=told.undated(2), status=1)
     checks.same("the files", checks.names(), ["a.edf"])
 
 
 def digits_of_the_names(programs: Programs) -> None:
     checks = programs.checks
-    for count, first in ((9, "part-1.edf"), (10, "part-01.edf"), (99, "part-01.edf"), (100, "part-001.edf")):
+    for count, first in ((9, "part-1.edf"), (10, "part-01.edf"), (99, "part-01.edf"),
+                         (100, "part-001.edf")):
         made = runs.read_runs(data := small(*(f"+{2 * nth}" for nth in range(count))))
         checks.begin(f"{count} runs")
         checks.file("a.edf", data)
@@ -276,8 +304,10 @@ def a_night_with_three_gaps(programs: Programs) -> None:
     checks.begin("a night with three gaps")
     data = gapped.NIGHT.whole(checks.folder / "night.edf").read_bytes()
     made = runs.read_runs(data)
-    listed = (line(1, 9_121, "02T22:30:00", "9121", "1200") + line(2, 9_135, "03T01:22:01", "9135", "600.25") +
-              line(3, 7_070, "03T04:04:16.25", "7070", "7.75") + line(4, 3_474, "03T06:02:14", "3474"))
+    listed = (line(1, 9_121, "02T22:30:00", "9121", "1200") +
+              line(2, 9_135, "03T01:22:01", "9135", "600.25") +
+              line(3, 7_070, "03T04:04:16.25", "7070", "7.75") +
+              line(4, 3_474, "03T06:02:14", "3474"))
     checks.same("the model's lines", runs.lines(made), listed)
     converted = programs.converted("night.edf")
     checks.file("export.edf", converted)
@@ -289,30 +319,22 @@ def a_night_with_three_gaps(programs: Programs) -> None:
             checks.run("write", name, str(run.number), out=run.to_bytes())
             checks.same(part, checks.content(part), run.to_bytes())
     one, two, three, four = runs.split_names("night.edf-run", made)
-    for order in ([one, two, three, four], [four, three, two, one], [three, one, four, two], [two, two, four, one, two, three, one],
-                  [one, "night.edf", three], [four, two, "export.edf", one, three]):
+    for order in ([one, two, three, four], [four, three, two, one], [three, one, four, two],
+                  [two, two, four, one, two, three, one], [one, "night.edf", three],
+                  [four, two, "export.edf", one, three]):
         programs.takes(" ".join(order), order, converted)
 
 
 def main() -> None:
-    edfstore, words = given(sys.argv[1:], "--edfstore")
-    program, _ = measure.program(words, "edfruns")
+    given = arguments.Parser(__doc__, arguments.BOTH).read()
     with measure.scratch() as name:
-        checks = Checks(program, Path(name), "edfruns")
-        programs = Programs(checks, edfstore or measure.program([])[0])
-        for case in (each_case, refused_files, words_that_ask_for_nothing, trouble, files_that_are_there,
-                     a_file_that_changes, a_run_that_no_header_can_date, digits_of_the_names,
-                     a_thousand_runs, a_night_with_three_gaps):
+        checks = Checks(given.edfruns, Path(name), "edfruns")
+        programs = Programs(checks, given.program)
+        for case in (each_case, refused_files, words_that_ask_for_nothing, trouble,
+                     files_that_are_there, a_file_that_changes, a_run_that_no_header_can_date,
+                     digits_of_the_names, a_thousand_runs, a_night_with_three_gaps):
             case(programs)
     checks.end()
-
-
-def given(words: list, name: str) -> tuple:
-    """The path after the word, or None, and the words left."""
-    if name not in words:
-        return None, list(words)
-    at = words.index(name)
-    return Path(words[at + 1]).resolve(), words[:at] + words[at + 2:]
 
 
 main()

@@ -2,7 +2,7 @@
 """What the program can't notice, or answers by a refusal that stays: the things that README and
 docs/RELIABILITY.md warn of, as they are.
 
-    checks/warned.py [--program PATH] [BITS]    100 bits of each file if left out
+    checks/warned.py [--program PATH] [COUNT]   100 bits of each file if left out
 
 A file of count -1 that is still being written; a recorder's clock that is set while it records, by
 two seconds or an hour; a bit that flips in a store, its log or an export. Answers to the
@@ -12,19 +12,15 @@ flipped sample is not noticed, and what a user can do about it, is compared.
 import random
 import shutil
 import subprocess
-import sys
 import time
 from collections import Counter
 from datetime import datetime, timedelta
 from pathlib import Path
 
-sys.path.insert(0, str(Path(__file__).resolve().parent / "lib"))
-import edf  # noqa: E402
-import measure  # noqa: E402
-import model  # noqa: E402
-import runs  # noqa: E402
-from checks import Checks  # noqa: E402
-from edf import Header, Signal, keeping  # noqa: E402
+from lib import arguments, edf, measure, model, runs, told
+from lib.checks import Checks
+from lib.edf import Header, Signal, keeping
+from lib.told import accepted, refused
 
 BEGUN = datetime(2002, 10, 27, 1, 0)
 SIGNALS = (Signal(samples="20"), edf.annotations_signal(20))
@@ -52,11 +48,11 @@ def still_written(checks: Checks) -> None:
     record = len(edf.data_record(head, *records(0, 1)[0]))
     front = len(head.to_bytes())
     checks.file("now.edf", whole[:front + 4 * record])
-    checks.run("take", "a.db", "now.edf", out="now.edf accepted new=4 known=0\n")
+    checks.take("a.db", ("now.edf", accepted(4)))
     checks.file("now.edf", whole[:front + 6 * record + 1])
-    checks.run("take", "a.db", "now.edf", out="now.edf refused E21 CutRecord record=7\n", status=1)
+    checks.take("a.db", ("now.edf", refused("E21 CutRecord record=7")), status=1)
     checks.file("now.edf", whole)
-    checks.run("take", "a.db", "now.edf", out="now.edf accepted new=6 known=4\n")
+    checks.take("a.db", ("now.edf", accepted(6, 4)))
 
 
 def files(checks: Checks, count: int, duration: int, back: timedelta, before: int) -> list:
@@ -70,14 +66,14 @@ def files(checks: Checks, count: int, duration: int, back: timedelta, before: in
     return names
 
 
-def answers(names: list, each: int, refused: dict) -> str:
-    return "".join(f"{name} " + (f"refused {refused[name]}\n" if name in refused
-                                 else f"accepted new={each} known=0\n") for name in names)
+def answers(names: list, each: int, faults: dict) -> str:
+    return told.lines(*((name, refused(faults[name]) if name in faults else accepted(each))
+                        for name in names))
 
 
 def stored(checks: Checks, *lines: str) -> None:
     """Compares the runs of the export, by the model, with these lines of `edfruns list`."""
-    export = ran(checks, "export", "a.db", "1").stdout
+    export = ran(checks, "export", "a.db", "1").out
     wanted = "".join(f"{one}\n" for one in lines)
     checks.same("the runs", runs.lines(runs.read_runs(export)), wanted)
 
@@ -85,12 +81,12 @@ def stored(checks: Checks, *lines: str) -> None:
 def two_seconds_back(checks: Checks) -> None:
     checks.begin("two seconds back after the third of six files")
     names = files(checks, 6, 1, timedelta(seconds=2), 3)
-    refused = {"4.edf": "E31 Differs start=2002-10-27T01:29:58"}
-    checks.run("take", "a.db", *names, out=answers(names, 600, refused), status=1)
-    checks.run("take", "a.db", "4.edf", out=answers(["4.edf"], 600, refused), status=1)
+    faults = {"4.edf": "E31 Differs start=2002-10-27T01:29:58"}
+    checks.run("take", "a.db", *names, out=answers(names, 600, faults), status=1)
+    checks.run("take", "a.db", "4.edf", out=answers(["4.edf"], 600, faults), status=1)
     stored(checks, "1 records=1800 first=2002-10-27T01:00:00 seconds=1800 gap=598",
            "2 records=1200 first=2002-10-27T01:39:58 seconds=1200")
-    checks.run("take", "other.db", "4.edf", out="4.edf accepted new=600 known=0\n")
+    checks.take("other.db", ("4.edf", accepted(600)))
     checks.file("card.edf", edf.fragment(header(BEGUN, 3600), records(0, 3600)))
     card = {"card.edf": "E31 Differs start=2002-10-27T01:39:58"}
     checks.run("take", "a.db", "card.edf", out=answers(["card.edf"], 3600, card), status=1)
@@ -99,8 +95,8 @@ def two_seconds_back(checks: Checks) -> None:
                status=1)
     checks.begin("the same of data records of 30 s")
     names = files(checks, 6, 30, timedelta(seconds=2), 3)
-    refused = {"4.edf": "E30 Overlap start=2002-10-27T01:29:58 stored=2002-10-27T01:29:30"}
-    checks.run("take", "a.db", *names, out=answers(names, 20, refused), status=1)
+    faults = {"4.edf": "E30 Overlap start=2002-10-27T01:29:58 stored=2002-10-27T01:29:30"}
+    checks.run("take", "a.db", *names, out=answers(names, 20, faults), status=1)
     stored(checks, "1 records=60 first=2002-10-27T01:00:00 seconds=1800 gap=598",
            "2 records=40 first=2002-10-27T01:39:58 seconds=1200")
 
@@ -108,8 +104,8 @@ def two_seconds_back(checks: Checks) -> None:
 def other_changes(checks: Checks) -> None:
     checks.begin("an hour back after the twelfth of 24 files")
     names = files(checks, 24, 1, timedelta(hours=1), 12)
-    refused = {f"{13 + n}.edf": f"E31 Differs start=2002-10-27T02:{n}0:00" for n in range(6)}
-    checks.run("take", "a.db", *names, out=answers(names, 600, refused), status=1)
+    faults = {f"{13 + n}.edf": f"E31 Differs start=2002-10-27T02:{n}0:00" for n in range(6)}
+    checks.run("take", "a.db", *names, out=answers(names, 600, faults), status=1)
     stored(checks, "1 records=10800 first=2002-10-27T01:00:00 seconds=10800")
     checks.begin("two seconds forward after the first of two files")
     names = files(checks, 2, 1, timedelta(seconds=-2), 1)
@@ -120,12 +116,11 @@ def other_changes(checks: Checks) -> None:
     rows = [(samples, keeping(f"+{n if n < 5 else n - 2}"))
             for n, (samples, _) in enumerate(records(0, 10))]
     checks.file("night.edf", edf.fragment(header(BEGUN, 10), rows))
-    checks.run("take", "a.db", "night.edf", out="night.edf refused E27 Order record=6\n", status=1)
+    checks.take("a.db", ("night.edf", refused("E27 Order record=6")), status=1)
 
 
-def ran(checks: Checks, *words: str) -> subprocess.CompletedProcess:
-    return subprocess.run([checks.program, *words], cwd=checks.folder, capture_output=True,
-                          check=False)
+def ran(checks: Checks, *words: str) -> measure.Ran:
+    return measure.ran(checks.program, *words, folder=checks.folder)
 
 
 def flipped(data: bytes, at: int, bit: int) -> bytes:
@@ -138,8 +133,8 @@ def wide_night(checks: Checks) -> tuple:
     rows = [(random.Random(n).randbytes(4000), keeping(f"+{n}") + edf.tal(f"+{n}.25", "Spindle"))
             for n in range(60)]
     checks.file("night.edf", edf.fragment(head, rows))
-    checks.run("take", "night.db", "night.edf", out="night.edf accepted new=60 known=0\n")
-    export = ran(checks, "export", "night.db", "1").stdout
+    checks.take("night.db", ("night.edf", accepted(60)))
+    export = ran(checks, "export", "night.db", "1").out
     checks.file("export.edf", export)
     return checks.content("night.db"), export
 
@@ -154,27 +149,27 @@ def one_sample(checks: Checks, store: bytes, export: bytes) -> None:
     samples = random.Random(0).randbytes(4000)
     put_store(checks, flipped(store, store.index(samples[:64]) + 10, 2))
     changed = flipped(export, export.index(samples[:64]) + 10, 2)
-    checks.run("list", "other.db", out=ran(checks, "list", "night.db").stdout)
+    checks.run("list", "other.db", out=ran(checks, "list", "night.db").out)
     checks.run("export", "other.db", "1", out=changed)
     checks.file("changed.edf", changed)
     checks.run("convert", "changed.edf", out=changed)
     start = "E31 Differs start=2002-10-27T01:00:00"
-    checks.run("take", "night.db", "changed.edf", out=f"changed.edf refused {start}\n", status=1)
-    checks.run("take", "other.db", "night.edf", out=f"night.edf refused {start}\n", status=1)
+    checks.take("night.db", ("changed.edf", refused(start)), status=1)
+    checks.take("other.db", ("night.edf", refused(start)), status=1)
 
 
 def outcome_of_store(checks: Checks, export: bytes) -> str:
-    told = ran(checks, "export", "other.db", "1")
-    if told.returncode:
-        return "refused " + told.stderr.decode().split()[2]
-    return "an export as before" if told.stdout == export else "another export, without a word"
+    other = ran(checks, "export", "other.db", "1")
+    if other.status:
+        return "refused " + other.err.decode().split()[2]
+    return "an export as before" if other.out == export else "another export, without a word"
 
 
 def outcome_of_export(checks: Checks, store: bytes) -> tuple:
     converted = ran(checks, "convert", "other.edf")
     put_store(checks, store)
-    line = ran(checks, "take", "other.db", "other.edf").stdout.decode().split()
-    return ("convert: " + ("taken, without a word" if converted.returncode == 0 else "refused"),
+    line = ran(checks, "take", "other.db", "other.edf").out.decode().split()
+    return ("convert: " + ("taken, without a word" if converted.status == 0 else "refused"),
             "take into its store: " + " ".join(line[1:] if line[1] == "accepted" else line[1:3]))
 
 
@@ -223,10 +218,10 @@ def put_log(checks: Checks, log: bytes) -> None:
 
 def outcome_of_log(checks: Checks, log: bytes, export: bytes) -> str:
     put_log(checks, log)
-    told = ran(checks, "export", "other.db", "1").stdout
-    if told == export:
+    other = ran(checks, "export", "other.db", "1").out
+    if other == export:
         return "an export as before"
-    fewer = [] if not told else model.read(told)[1]
+    fewer = [] if not other else model.read(other)[1]
     fits = fewer == model.read(export)[1][:len(fewer)]
     return f"the first {len(fewer) // 10} files, without a word" if fits else "ANOTHER export"
 
@@ -237,30 +232,28 @@ def bits_of_log(checks: Checks, count: int) -> None:
     log, chosen, found = checks.content("night.db-wal"), random.Random(3), Counter()
     checks.file("copy.db", checks.content("night.db"))
     checks.file("copy.db-wal", log)
-    export = ran(checks, "export", "copy.db", "1").stdout
+    export = ran(checks, "export", "copy.db", "1").out
     checks.same("the data records held", len(model.read(export)[1]), 40)
     for _ in range(count):
         changed = flipped(log, chosen.randrange(len(log)), chosen.randrange(8))
         found[outcome_of_log(checks, changed, export)] += 1
     checks.same("other exports", found["ANOTHER export"], 0)
     put_log(checks, flipped(log, FIRST_PAGE, 0))
-    again = "".join(f"{n}.edf accepted new=10 known=0\n" for n in range(4))
-    checks.run("take", "other.db", *(f"{n}.edf" for n in range(4)), out=again)
+    checks.take("other.db", *((f"{n}.edf", accepted(10)) for n in range(4)))
     checks.run("export", "other.db", "1", out=export)
     tell(f"{count} bits of a log of {len(log)} bytes", found)
 
 
 def main() -> None:
-    program, words = measure.program(sys.argv[1:])
+    given = arguments.Parser(__doc__, count=100).read()
     with measure.scratch() as name:
-        checks = Checks(program, Path(name))
+        checks = Checks(given.program, Path(name))
         still_written(checks)
         two_seconds_back(checks)
         other_changes(checks)
-        count = int(words[0]) if words else 100
-        bits(checks, count)
-        bits_of_log(checks, count)
-        checks.end()
+        bits(checks, given.count)
+        bits_of_log(checks, given.count)
+    checks.end()
 
 
 main()

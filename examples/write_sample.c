@@ -1,7 +1,7 @@
-/* Writes a short EDF+ recording with EDFlib: eight data records of one second, an EEG and a respiration signal, and
-   annotations with and without a duration.
+/* Writes a short EDF+ recording with EDFlib: eight data records of one second, an EEG and a
+   respiration signal, and annotations with and without a duration.
 
-   cc write_sample.c -o write_sample -ledf && ./write_sample edflib.edf                                             */
+   cc write_sample.c -o write_sample -ledf && ./write_sample edflib.edf */
 #include <edflib.h>
 #include <math.h>
 #include <stdio.h>
@@ -14,11 +14,7 @@ static int refused(int answer, const char *what) {
   return 1;
 }
 
-int main(int argc, char **argv) {
-  if (argc != 2) return fprintf(stderr, "usage: write_sample FILE\n"), 2;
-  int file = edfopen_file_writeonly(argv[1], EDFLIB_FILETYPE_EDFPLUS, 2);
-  if (refused(file, "open")) return 1;
-
+static void write_header(int file) {
   edf_set_startdatetime(file, 2023, 11, 4, 22, 58, 30);
   edf_set_patientcode(file, "S-0117");
   edf_set_gender(file, 0);
@@ -44,13 +40,21 @@ int main(int argc, char **argv) {
   }
   edf_set_prefilter(file, 0, "HP:0.1Hz LP:75Hz");
   edf_set_transducer(file, 0, "AgAgCl electrode");
+}
+
+int main(int argc, char **argv) {
+  if (argc != 2) return fprintf(stderr, "usage: write_sample FILE\n"), 2;
+  int file = edfopen_file_writeonly(argv[1], EDFLIB_FILETYPE_EDFPLUS, 2);
+  if (refused(file, "open")) return 1;
+  write_header(file);
 
   for (int second = 0; second < RECORDS; second++) {
     int eeg[EEG_RATE], respiration[RESPIRATION_RATE];
     for (int i = 0; i < EEG_RATE; i++)
       eeg[i] = (int)lround(600 * sin(2 * M_PI * 10 * i / EEG_RATE) + 20 * second);
     for (int i = 0; i < RESPIRATION_RATE; i++)
-      respiration[i] = (int)lround(900 * sin(2 * M_PI * (second + (double)i / RESPIRATION_RATE) / 4));
+      respiration[i] =
+          (int)lround(900 * sin(2 * M_PI * (second + (double)i / RESPIRATION_RATE) / 4));
     if (refused(edfwrite_digital_samples(file, eeg), "write")) return 1;
     if (refused(edfwrite_digital_samples(file, respiration), "write")) return 1;
   }

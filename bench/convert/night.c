@@ -1,5 +1,6 @@
-/* Writes a night to standard output: 8 hours of EDF+C in data records of one second, 20 signals of 64 to 256 Hz, an
-   annotation in every seventh record. The samples are pseudo-random, the same each time. About 195 MB. */
+/* Writes a night to standard output: 8 hours of EDF+C in data records of one second, 20 signals of
+   64 to 256 Hz, an annotation in every seventh record. The samples are pseudo-random, the same each
+   time. About 195 MB. */
 #include <stdint.h>
 #include <stdio.h>
 #include <stdlib.h>
@@ -23,8 +24,10 @@ static void signal_field(int signal, int which) {
   char label[17];
   int is_annotations = signal == SIGNALS;
   snprintf(label, sizeof label, "EEG channel %d", signal + 1);
-  const char *ordinary[10] = {label, "AgAgCl electrode", "uV", "-440", "510", "-2048", "2047", "HP:0.1Hz LP:75Hz", "", ""};
-  const char *annotations[10] = {"EDF Annotations ", "", "", "-1", "1", "-32768", "32767", "", "", ""};
+  const char *ordinary[10] = {label,  "AgAgCl electrode", "uV", "-440", "510", "-2048",
+                              "2047", "HP:0.1Hz LP:75Hz", "",   ""};
+  const char *annotations[10] = {"EDF Annotations ", "",      "", "-1", "1",
+                                 "-32768",           "32767", "", "",   ""};
   if (which == 8)
     number(is_annotations ? BLOCK_SAMPLES : rate(signal), WIDTHS[which]);
   else

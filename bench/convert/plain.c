@@ -1,11 +1,16 @@
-/* A plain reader and writer of the same bytes as `edfstore < in > out`, for comparison: one EDF+ file from standard input,
-   its canonical EDF+D file to standard output. It trusts its input: few of the refusals are here. */
+/* A plain reader and writer of the same bytes as `edfstore < in > out`, for comparison: one EDF+
+   file from standard input, its canonical EDF+D file to standard output. It trusts its input: few
+   of the refusals are here. */
 #include <stdint.h>
 #include <stdio.h>
 #include <stdlib.h>
 #include <string.h>
 
-typedef struct { int64_t onset, duration; char *text; int len; } Annotation;   /* nanoseconds; -1 is no duration */
+typedef struct {
+  int64_t onset, duration;
+  char *text;
+  int len;
+} Annotation; /* nanoseconds; -1 is no duration */
 typedef struct { int64_t start; char *samples; Annotation *list; int count; } Record;
 
 static const int64_t SECOND = 1000000000;
@@ -15,7 +20,11 @@ static void fail(const char *why) { fprintf(stderr, "%s\n", why); exit(1); }
 
 static void need(void *to, size_t bytes) { if (fread(to, 1, bytes, stdin) != bytes) fail("cut"); }
 
-static void *memory(size_t bytes) { void *p = malloc(bytes ? bytes : 1); if (!p) fail("memory"); return p; }
+static void *memory(size_t bytes) {
+  void *p = malloc(bytes ? bytes : 1);
+  if (!p) fail("memory");
+  return p;
+}
 
 static int number(const char *field, int width) {
   char text[16] = {0};
@@ -49,7 +58,8 @@ static void read_block(const char *p, const char *end, Record *r) {
         r->start = onset;
         first = 0;
       } else {
-        if (r->count == room) r->list = realloc(r->list, (room = room ? 2 * room : 4) * sizeof *r->list);
+        if (r->count == room)
+          r->list = realloc(r->list, (room = room ? 2 * room : 4) * sizeof *r->list);
         Annotation *a = &r->list[r->count++];
         *a = (Annotation){onset, duration, memory(text_end - p), (int)(text_end - p)};
         memcpy(a->text, p, a->len);
@@ -89,60 +99,80 @@ static int write_block(char *to, const Record *r, int64_t base) {
   return at - to;
 }
 
+/* A file: its header, and the place of its annotations signal, whose bytes are not in `ordinary` */
+typedef struct {
+  char fixed[256], *signals;
+  int ns, count, annotations, before, block, ordinary;
+  Record *records;
+} File;
+
+static void read_header(File *f) {
+  need(f->fixed, 256);
+  f->ns = number(f->fixed + 252, 4), f->count = number(f->fixed + 236, 8);
+  f->signals = memory(256 * f->ns);
+  need(f->signals, 256 * f->ns);
+  int all = 0;
+  f->annotations = -1;
+  for (int i = 0; i < f->ns; i++) {
+    int samples = number(f->signals + 216 * f->ns + 8 * i, 8);
+    if (!memcmp(f->signals + 16 * i, "EDF Annotations ", 16))
+      f->annotations = i, f->before = 2 * all, f->block = 2 * samples;
+    all += samples;
+  }
+  if (f->annotations < 0) fail("no annotations signal");
+  f->ordinary = 2 * all - f->block;
+}
+
+static void read_records(File *f) {
+  f->records = memory(f->count * sizeof *f->records);
+  char *bytes = memory(f->block + 1);
+  for (int i = 0; i < f->count; i++) {
+    Record *r = &f->records[i];
+    r->samples = memory(f->ordinary);
+    need(r->samples, f->before);
+    need(bytes, f->block);
+    need(r->samples + f->before, f->ordinary - f->before);
+    bytes[f->block] = 0;
+    read_block(bytes, bytes + f->block, r);
+  }
+  if (getchar() != EOF) fail("trailing");
+}
+
+/* The files of the bench begin in a whole second, so the header's start stays. */
+static void write_header(File *f, int samples) {
+  char text[16];
+  memcpy(f->fixed + 192, "EDF+D                                       ", 44);
+  snprintf(text, sizeof text, "%-8d", f->count);
+  memcpy(f->fixed + 236, text, 8);
+  fwrite(f->fixed, 1, 256, stdout);
+  snprintf(text, sizeof text, "%d", samples);
+  const char *row[10] = {"EDF Annotations ", "", "", "-1", "1", "-32768", "32767", "", text, ""};
+  for (int c = 0, at = 0; c < 10; at += f->ns * WIDTHS[c], c++) {
+    for (int i = 0; i < f->ns; i++)
+      if (i != f->annotations) fwrite(f->signals + at + i * WIDTHS[c], 1, WIDTHS[c], stdout);
+    printf("%-*s", WIDTHS[c], row[c]);
+  }
+}
+
 int main(void) {
   static char in_buffer[1 << 16], out_buffer[1 << 16];
   setvbuf(stdin, in_buffer, _IOFBF, sizeof in_buffer);
   setvbuf(stdout, out_buffer, _IOFBF, sizeof out_buffer);
-  char fixed[256];
-  need(fixed, 256);
-  int ns = number(fixed + 252, 4), count = number(fixed + 236, 8);
-  char *signals = memory(256 * ns);
-  need(signals, 256 * ns);
-  int annotations = -1, before = 0, block = 0, all = 0;
-  for (int i = 0; i < ns; i++) {
-    int samples = number(signals + 216 * ns + 8 * i, 8);
-    if (!memcmp(signals + 16 * i, "EDF Annotations ", 16)) annotations = i, before = 2 * all, block = 2 * samples;
-    all += samples;
-  }
-  if (annotations < 0) fail("no annotations signal");
-  int size = 2 * all, ordinary = size - block;
-  Record *records = memory(count * sizeof *records);
-  char *bytes = memory(block + 1);
-  for (int i = 0; i < count; i++) {
-    records[i].samples = memory(ordinary);
-    need(records[i].samples, before);
-    need(bytes, block);
-    need(records[i].samples + before, ordinary - before);
-    bytes[block] = 0;
-    read_block(bytes, bytes + block, &records[i]);
-  }
-  if (getchar() != EOF) fail("trailing");
-
-  /* The files of the bench begin in a whole second, so the header's start stays. */
+  File f;
+  read_header(&f);
+  read_records(&f);
   char *text = memory(1500000);
   int longest = 0;
-  for (int i = 0; i < count; i++) {
-    int len = write_block(text, &records[i], 0);
+  for (int i = 0; i < f.count; i++) {
+    int len = write_block(text, &f.records[i], 0);
     if (len > longest) longest = len;
   }
   int samples = (longest + 1) / 2;
-  memcpy(fixed + 192, "EDF+D                                       ", 44);
-  char digits[16];
-  snprintf(digits, sizeof digits, "%-8d", count);
-  memcpy(fixed + 236, digits, 8);
-  fwrite(fixed, 1, 256, stdout);
-  char samples_text[16];
-  snprintf(samples_text, sizeof samples_text, "%d", samples);
-  const char *row[10] = {"EDF Annotations ", "", "", "-1", "1", "-32768", "32767", "", samples_text, ""};
-  for (int f = 0, at = 0; f < 10; at += ns * WIDTHS[f], f++) {
-    for (int i = 0; i < ns; i++)
-      if (i != annotations) fwrite(signals + at + i * WIDTHS[f], 1, WIDTHS[f], stdout);
-    printf("%-*s", WIDTHS[f], row[f]);
-  }
-  for (int i = 0; i < count; i++) {
-    int len = write_block(text, &records[i], 0);
+  write_header(&f, samples);
+  for (int i = 0; i < f.count; i++) {
+    int len = write_block(text, &f.records[i], 0);
     memset(text + len, 0, 2 * samples - len);
-    fwrite(records[i].samples, 1, ordinary, stdout);
+    fwrite(f.records[i].samples, 1, f.ordinary, stdout);
     fwrite(text, 1, 2 * samples, stdout);
   }
   return fflush(stdout) != 0;

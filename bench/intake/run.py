@@ -1,14 +1,18 @@
 #!/usr/bin/env python3
 """Takes a clinic night by `edfstore take` and by plain C over SQLite, and prints ratios.
 
-    bench/intake/run.py [--program PATH] [--short] [RUNS]      best of RUNS runs of each, 5 if left out; --short: no ten nights
+    bench/intake/run.py [--program PATH] [--short] [COUNT]
 
-A night of 195 MB comes as 96 fragments of five minutes, the last ten in reverse order; then every tenth is sent again; then the
-card comes, with the whole night. Each of the three is timed apart: a run with it less a run without it, each on a new store, so
-that no opening of a store is in it. Beside the C program (bench/store/plain.c: same tables, statements, rows and transactions)
-stands `cat` of the same files with a sync a file. Then ten nights in one `take`, a tenth at a time, by the growth of the store's
-file. 'At work' is the ratio of processor seconds, which other programs disturb less. The rows of both stores are compared. It
-needs cc, libsqlite3-dev and time; about 5 GB in TMPDIR.
+Best of COUNT runs of each, 5 if left out; --short: no ten nights.
+
+A night of 195 MB comes as 96 fragments of five minutes, the last ten in reverse order; then every
+tenth is sent again; then the card comes, with the whole night. Each of the three is timed apart: a
+run with it less a run without it, each on a new store, so that no opening of a store is in it.
+Beside the C program (bench/store/plain.c: same tables, statements, rows and transactions) stands
+`cat` of the same files with a sync a file. Then ten nights in one `take`, a tenth at a time, by the
+growth of the store's file. 'At work' is the ratio of processor seconds, which other programs
+disturb less. The rows of both stores are compared. It needs cc, libsqlite3-dev and time; about 5 GB
+in TMPDIR.
 """
 import sqlite3
 import statistics
@@ -17,29 +21,30 @@ import sys
 import time
 from pathlib import Path
 
-sys.path.insert(0, str(Path(__file__).resolve().parent.parent.parent / "checks" / "lib"))
-import measure  # noqa: E402
-import night  # noqa: E402
+from lib import arguments, measure, night
 
-RESENDS = 5     # the resent fragments come so often in the timed run, since once is too short to time
+# the resent fragments come so often in the timed run, since once is too short to time
+RESENDS = 5
 
 
 def rows(store: Path):
     """Every row of the store, by the identity of its recording."""
     with sqlite3.connect(store) as held:
-        yield from held.execute("SELECT identity, start, samples, block FROM record JOIN recording ON recording.id = recording "
-                                "ORDER BY identity, start")
+        yield from held.execute("SELECT identity, start, samples, block FROM record JOIN recording "
+                                "ON recording.id = recording ORDER BY identity, start")
 
 
 def compare(folder: Path) -> None:
-    if any(ours != theirs for ours, theirs in zip(rows(folder / "edfstore.db"), rows(folder / "plain C.db"), strict=True)):
+    if any(ours != theirs
+           for ours, theirs in zip(rows(folder / "edfstore.db"), rows(folder / "plain C.db"),
+                                   strict=True)):
         sys.exit("the stores hold different rows")
 
 
-def take(command, store: Path, files: list) -> measure.Run:
+def take(command, store: Path, files: list) -> measure.Ran:
     measure.remove_store(store)
     measure.settle()
-    return measure.run([command, "take", store, *files])
+    return measure.timed(command, "take", store, *files)
 
 
 def phases(commands: dict, folder: Path, kind: night.Night, runs: int) -> dict:
@@ -71,7 +76,8 @@ def phases(commands: dict, folder: Path, kind: night.Night, runs: int) -> dict:
 
 def apart_of(best: dict) -> dict:
     """Each of the three lists without the fragments that came before it."""
-    return {name: {"fragments": times["fragments"], "resent": (times["resent"] - times["fragments"]) / RESENDS,
+    return {name: {"fragments": times["fragments"],
+                   "resent": (times["resent"] - times["fragments"]) / RESENDS,
                    "card": times["card"] - times["fragments"]} for name, times in best.items()}
 
 
@@ -83,10 +89,13 @@ def report(title: str, best: dict, work: dict, peaks: dict, copied: dict) -> Non
     for phase in ("fragments", "resent", "card"):
         ours, theirs = apart["edfstore"][phase], apart["plain C"][phase]
         at_work = processor["edfstore"][phase] / max(processor["plain C"][phase], 0.001)
-        lines.append((phase, f"{ours:.3f} s", f"{theirs:.3f} s", f"{copied[phase]:.3f} s", f"{ours / theirs:.2f}", f"{at_work:.2f}",
-                      f"{ours / copied[phase]:.2f}", measure.mb(peaks["edfstore"][phase]), measure.mb(peaks["plain C"][phase])))
-    measure.table(("", "edfstore", "plain C", "cat, a sync a file", "/ plain C", "at work", "/ cat", "peak", "peak of C"), lines)
-    print(f"the card, all of it known, against the fragments: {apart['edfstore']['card'] / apart['edfstore']['fragments']:.2f}\n")
+        lines.append((phase, f"{ours:.3f} s", f"{theirs:.3f} s", f"{copied[phase]:.3f} s",
+                      f"{ours / theirs:.2f}", f"{at_work:.2f}", f"{ours / copied[phase]:.2f}",
+                      measure.mb(peaks["edfstore"][phase]), measure.mb(peaks["plain C"][phase])))
+    measure.table(("", "edfstore", "plain C", "cat, a sync a file", "/ plain C", "at work", "/ cat",
+                   "peak", "peak of C"), lines)
+    print("the card, all of it known, against the fragments: "
+          f"{apart['edfstore']['card'] / apart['edfstore']['fragments']:.2f}\n")
 
 
 def tenths(command, store: Path, files: list) -> tuple:
@@ -94,8 +103,8 @@ def tenths(command, store: Path, files: list) -> tuple:
     measure.remove_store(store)
     measure.settle()
     seen, begun = [(0.0, 0)], time.perf_counter()
-    child = subprocess.Popen(["/usr/bin/time", "-f", "%M", command, "take", store, *files], stdout=subprocess.DEVNULL,
-                             stderr=subprocess.PIPE)
+    child = subprocess.Popen(["/usr/bin/time", "-f", "%M", command, "take", store, *files],
+                             stdout=subprocess.DEVNULL, stderr=subprocess.PIPE)
     while child.poll() is None:
         time.sleep(0.005)
         size = store.stat().st_size if store.exists() else 0
@@ -117,26 +126,29 @@ def ten_nights(commands: dict, folder: Path) -> None:
     lines = []
     for name, command in commands.items():
         each, whole, peak = tenths(command, folder / f"{name}.db", files)
-        lines.append((name, f"{whole:.2f} s", f"{each[0]:.2f} s", f"{statistics.median(each):.2f} s", f"{each[-1]:.2f} s",
+        lines.append((name, f"{whole:.2f} s", f"{each[0]:.2f} s",
+                      f"{statistics.median(each):.2f} s", f"{each[-1]:.2f} s",
                       f"{each[-1] / statistics.median(each):.2f}", measure.mb(peak)))
     compare(folder)
     print("ten nights in one take, 480 files")
-    measure.table(("", "all", "first tenth", "median tenth", "last tenth", "last / median", "peak"), lines)
+    measure.table(("", "all", "first tenth", "median tenth", "last tenth", "last / median", "peak"),
+                  lines)
 
 
 def main() -> None:
-    program, words = measure.program(sys.argv[1:])
+    parser = arguments.Parser(__doc__, count=5)
+    parser.add_argument("--short", action="store_true", help="no ten nights")
+    given = parser.read()
     measure.need("cc", "cat", "/usr/bin/time")
-    is_short = measure.flag(words, "--short")
-    runs = int(words[0]) if words else 5
     with measure.scratch() as name:
         folder = Path(name)
-        commands = {"edfstore": program,
-                    "plain C": measure.compiled(Path(__file__).parent.parent / "store" / "plain.c", folder, "-lsqlite3")}
-        print(f"best of {runs} runs, {measure.machine()}\n")
-        report("a night of 28,800 records of 6.7 kB", *phases(commands, folder, night.CLINIC, runs))
-        report("a night of 960 records of 200 kB", *phases(commands, folder, night.LONG_RECORDS, runs))
-        if not is_short:
+        plain = measure.compiled(arguments.TOP / "bench/store/plain.c", folder, "-lsqlite3")
+        commands = {"edfstore": given.program, "plain C": plain}
+        print(f"best of {given.count} runs, {measure.machine()}\n")
+        for title, kind in (("a night of 28,800 records of 6.7 kB", night.CLINIC),
+                            ("a night of 960 records of 200 kB", night.LONG_RECORDS)):
+            report(title, *phases(commands, folder, kind, given.count))
+        if not given.short:
             ten_nights(commands, folder)
 
 

@@ -19,9 +19,7 @@ import time
 from dataclasses import dataclass
 from pathlib import Path
 
-sys.path.insert(0, str(Path(__file__).resolve().parent.parent.parent / "checks" / "lib"))
-import measure  # noqa: E402
-import night  # noqa: E402
+from lib import arguments, measure, night, told
 
 FILES_A_CALL = (1, 4, 12, 96)
 QUARTERS = 4
@@ -44,15 +42,15 @@ class Cost:
 def so_far() -> Cost:
     """A process that was waited for adds what it read to what this one did."""
     used = resource.getrusage(resource.RUSAGE_CHILDREN)
-    told = dict(line.split(": ") for line in Path("/proc/self/io").read_text("ascii").splitlines())
-    return Cost(time.perf_counter(), used.ru_utime + used.ru_stime, int(told["rchar"]))
+    io = dict(line.split(": ") for line in Path("/proc/self/io").read_text("ascii").splitlines())
+    return Cost(time.perf_counter(), used.ru_utime + used.ru_stime, int(io["rchar"]))
 
 
 def taken(program, store: Path, parts: list) -> Cost:
     """One call, which must accept all that it is given."""
     opened, begun = size(store), so_far()
-    done = measure.run([program, "take", store, *parts])
-    if done.out.count(b" accepted new=300 known=0\n") != len(parts):
+    done = measure.timed(program, "take", store, *parts)
+    if done.out.decode() != told.lines(*((part, told.accepted(300)) for part in parts)):
         sys.exit("a file was not accepted with 300 new data records")
     return so_far().since(begun, opened, done.peak)
 
@@ -91,7 +89,7 @@ def each_way(program, parts: list, folder: Path) -> tuple:
         costs[files] = [taken(program, store, given) for given in calls]
         sizes[files] = size(store)
         exports.append(folder / f"by-{files}.edf")
-        measure.run([program, "export", store, "1"], out=exports[-1])
+        measure.done(program, "export", store, "1", out=exports[-1])
         if not filecmp.cmp(exports[0], exports[-1], shallow=False):
             sys.exit("the exports differ")
         measure.remove_store(store)
@@ -117,7 +115,7 @@ def report(parts: list, costs: dict, sizes: dict, by_cat: Cost) -> None:
 
 
 def main() -> None:
-    program, _ = measure.program(sys.argv[1:])
+    given = arguments.Parser(__doc__).read()
     measure.need("cat", "/usr/bin/time")
     with measure.scratch() as name:
         folder = Path(name)
@@ -125,7 +123,7 @@ def main() -> None:
         before = measure.loop()
         by_cat = copied(parts, folder / "copy")
         (folder / "copy").unlink()
-        costs, sizes = each_way(program, parts, folder)
+        costs, sizes = each_way(given.program, parts, folder)
         night_bytes = sum(path.stat().st_size for path in parts)
         print(f"a night of {measure.mb(night_bytes)} in {len(parts)} files, {measure.machine()}, "
               f"the loop {before:.1f} and {measure.loop():.1f} s\n")

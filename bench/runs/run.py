@@ -1,26 +1,26 @@
 #!/usr/bin/env python3
-"""The words of `edfruns` by the clock against `cat`, with their peak memory, and by the instructions that they take.
+"""The words of `edfruns` by the clock against `cat`, with their peak memory, and by the
+instructions that they take.
 
-    bench/runs/run.py [--program PATH] [--short] [RUNS]     best of RUNS runs of each, 3 if left out; --short: of 12.8 MB
+    bench/runs/run.py [--edfruns PATH] [--short] [COUNT]
 
-A night of 195 MB: its card, which is one run, and the same night with three gaps, which is four. `list` and `picture` read once,
-`write` and `split` twice. Each word is run from a file, right after a `cat` of that file: into another file for `write` and `split`, which
-write as much, and to /dev/null for the others. `list` and `picture` read a pipe too, right after a `cat` between pipes. From file to file
-`cat` lets the kernel copy, and no byte passes through it; between pipes it reads and writes. What is written is compared with the plain model's, but for the picture. Then the same words on a night of 7,200
-records of 1.7 kB, whose instructions callgrind counts. It needs time and valgrind; about 1.5 GB in TMPDIR.
+Best of COUNT runs of each, 3 if left out; --short: a night of 12.8 MB.
+
+A night of 195 MB: its card, which is one run, and the same night with three gaps, which is four.
+`list` and `picture` read once, `write` and `split` twice. Each word is run from a file, right after
+a `cat` of that file: into another file for `write` and `split`, which write as much, and to
+/dev/null for the others. `list` and `picture` read a pipe too, right after a `cat` between pipes.
+From file to file `cat` lets the kernel copy, and no byte passes through it; between pipes it reads
+and writes. What is written is compared with the plain model's, but for the picture. Then the same
+words on a night of 7,200 records of 1.7 kB, whose instructions callgrind counts. It needs time and
+valgrind; about 1.5 GB in TMPDIR.
 """
 import os
-import subprocess
 import sys
-import time
 from dataclasses import dataclass
 from pathlib import Path
 
-sys.path.insert(0, str(Path(__file__).resolve().parent.parent.parent / "checks" / "lib"))
-import gapped  # noqa: E402
-import measure  # noqa: E402
-import night  # noqa: E402
-import runs  # noqa: E402
+from lib import arguments, gapped, measure, night, runs
 
 LIST_MOST, WRITE_MOST, PEAK_MOST = 1.5, 3.0, 16_000_000     # what is wanted
 
@@ -34,31 +34,18 @@ class Line:
     copied: float = float("inf")
     peak: int = 0
 
-    def add(self, done: measure.Run, copied: float) -> None:
+    def add(self, done: measure.Ran, copied: float) -> None:
         self.seconds, self.copied = min(self.seconds, done.seconds), min(self.copied, copied)
         self.processor, self.peak = min(self.processor, done.processor), max(self.peak, done.peak)
 
     def cells(self) -> tuple:
-        return (self.word, f"{self.seconds:.3f} s", f"{self.processor:.3f} s" if self.peak else "", f"{self.copied:.3f} s",
-                f"{self.seconds / self.copied:.2f}", measure.mb(self.peak) if self.peak else "")
+        return (self.word, f"{self.seconds:.3f} s", f"{self.processor:.3f} s" if self.peak else "",
+                f"{self.copied:.3f} s", f"{self.seconds / self.copied:.2f}",
+                measure.mb(self.peak) if self.peak else "")
 
 
-def piped(command: list, source: Path) -> float:
-    """Seconds of the command between two `cat`."""
-    begun = time.perf_counter()
-    with open(source, "rb") as given, open(os.devnull, "wb") as nothing:
-        before = subprocess.Popen(["cat"], stdin=given, stdout=subprocess.PIPE)
-        middle = subprocess.Popen(command, stdin=before.stdout, stdout=subprocess.PIPE)
-        before.stdout.close()
-        after = subprocess.Popen(["cat"], stdin=middle.stdout, stdout=nothing)
-        middle.stdout.close()
-        for child in (before, middle, after):
-            if child.wait():
-                sys.exit(f"{child.args[0]} ended with status {child.returncode}")
-    return time.perf_counter() - begun
-
-
-# The words that write as much as they read: their `cat` writes a file too, and that of the others nothing.
+# The words that write as much as they read: their `cat` writes a file too, and that of the others
+# nothing.
 COPIES = ("write", "split")
 
 
@@ -66,7 +53,8 @@ def words_of(name: str, path: Path, folder: Path) -> dict:
     """Each word's command without the program, and the file for its standard output."""
     return {f"list, {name}": (["list", path], folder / f"{name}.txt"),
             f"write 1, {name}": (["write", path, "1"], folder / f"{name}-one.edf"),
-            f"split, {name}": (["split", path, folder / f"{name}-run"], folder / f"{name}-split.txt"),
+            f"split, {name}": (["split", path, folder / f"{name}-run"],
+                               folder / f"{name}-split.txt"),
             f"picture, {name}": (["picture", path], folder / f"{name}.svg")}
 
 
@@ -82,13 +70,15 @@ def one_round(program, files: dict, folder: Path, best: dict) -> None:
             if words[0] == "split":
                 cleared(folder, name)
             measure.settle()
-            copied = measure.run(["cat", path], out=folder / "copy" if words[0] in COPIES else Path("/dev/null"))
+            copy = folder / "copy" if words[0] in COPIES else os.devnull
+            copied = measure.timed("cat", path, out=copy)
             measure.settle()
-            best.setdefault(word, Line(word)).add(measure.run([program, *words], out=out), copied.seconds)
+            done = measure.timed(program, *words, out=out)
+            best.setdefault(word, Line(word)).add(done, copied.seconds)
         for word in ("list", "picture"):
             line = best.setdefault(f"{word} -, {name}", Line(f"{word} -, {name}"))
-            line.copied = min(line.copied, piped(["cat"], path))
-            line.seconds = min(line.seconds, piped([program, word, "-"], path))
+            line.copied = min(line.copied, measure.piped("cat", source=path))
+            line.seconds = min(line.seconds, measure.piped(program, word, "-", source=path))
 
 
 def compared(files: dict, folder: Path) -> None:
@@ -96,10 +86,13 @@ def compared(files: dict, folder: Path) -> None:
     for name, path in files.items():
         made = runs.read_runs(path.read_bytes())
         wanted = [run.to_bytes() for run in made]
-        same = ((folder / f"{name}.txt").read_text() == runs.lines(made), (folder / f"{name}-one.edf").read_bytes() == wanted[0],
-                [(folder / part).read_bytes() for part in runs.split_names(f"{name}-run", made)] == wanted)
+        same = ((folder / f"{name}.txt").read_text() == runs.lines(made),
+                (folder / f"{name}-one.edf").read_bytes() == wanted[0],
+                [(folder / part).read_bytes() for part in runs.split_names(f"{name}-run", made)] ==
+                wanted)
         if not all(same):
-            sys.exit(f"{name}: lines, the first run and the files of the split are as the model's: {same}")
+            sys.exit(f"{name}: lines, the first run and the files of the split are as the model's: "
+                     f"{same}")
 
 
 def counted(program, folder: Path) -> None:
@@ -110,18 +103,22 @@ def counted(program, folder: Path) -> None:
         for word, (words, out) in words_of(name, path, folder).items():
             if words[0] == "split":
                 cleared(folder, name)
-            number = measure.instructions([program, *words], out)
-            lines.append((word, f"{number / 1e6:.1f} million", f"{number // night.SHORT.records:,}", f"{number / path.stat().st_size:.1f}"))
-    print(f"instructions on a night of {night.SHORT.records:,} records, {measure.mb(path.stat().st_size)}")
+            number = measure.instructions(program, *words, out=out)
+            lines.append((word, f"{number / 1e6:.1f} million", f"{number // night.SHORT.records:,}",
+                          f"{number / path.stat().st_size:.1f}"))
+    print(f"instructions on a night of {night.SHORT.records:,} records, "
+          f"{measure.mb(path.stat().st_size)}")
     measure.table(("", "instructions", "a record", "a byte"), lines)
 
 
 def nights(folder: Path, kind: night.Night, prefix: str = "") -> dict:
     """A night as its card and with three gaps."""
     third = kind.records // 4
-    gaps = ((third, 1_200 * gapped.SECOND), (2 * third, 600 * gapped.SECOND + gapped.SECOND // 4), (3 * third, 7 * gapped.SECOND))
+    gaps = ((third, 1_200 * gapped.SECOND), (2 * third, 600 * gapped.SECOND + gapped.SECOND // 4),
+            (3 * third, 7 * gapped.SECOND))
     parted = gapped.GappedNight(records=kind.records, samples=kind.samples, gaps=gaps)
-    return {f"{prefix}card": kind.card(folder / f"{prefix}card.edf"), f"{prefix}gaps": parted.whole(folder / f"{prefix}gaps.edf")}
+    return {f"{prefix}card": kind.card(folder / f"{prefix}card.edf"),
+            f"{prefix}gaps": parted.whole(folder / f"{prefix}gaps.edf")}
 
 
 def verdict(best: dict) -> None:
@@ -134,20 +131,22 @@ def verdict(best: dict) -> None:
 
 
 def main() -> None:
-    program, words = measure.program(sys.argv[1:], "edfruns")
+    parser = arguments.Parser(__doc__, ("edfruns",), count=3)
+    parser.add_argument("--short", action="store_true", help="a night of 12.8 MB")
+    given = parser.read()
     measure.need("cat", "/usr/bin/time", "valgrind")
-    kind = night.SHORT if measure.flag(words, "--short") else night.CLINIC
-    rounds = int(words[0]) if words else 3
     with measure.scratch() as name:
         folder = Path(name)
-        files, best = nights(folder, kind), {}
-        for _ in range(rounds):
-            one_round(program, files, folder, best)
+        files, best = nights(folder, night.SHORT if given.short else night.CLINIC), {}
+        for _ in range(given.count):
+            one_round(given.edfruns, files, folder, best)
         compared(files, folder)
-        print(f"a night of {measure.mb(files['card'].stat().st_size)}, best of {rounds} runs, {measure.machine()}\n")
-        measure.table(("", "`edfruns`", "processor", "`cat`", "/ `cat`", "peak"), [line.cells() for line in best.values()])
+        print(f"a night of {measure.mb(files['card'].stat().st_size)}, best of {given.count} runs, "
+              f"{measure.machine()}\n")
+        measure.table(("", "`edfruns`", "processor", "`cat`", "/ `cat`", "peak"),
+                      [line.cells() for line in best.values()])
         verdict(best)
-        counted(program, folder)
+        counted(given.edfruns, folder)
 
 
 main()

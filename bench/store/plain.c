@@ -1,19 +1,28 @@
-/* The store's work in plain C over the system's SQLite (write-ahead log, synchronous FULL), for comparison: the same tables,
-   statements and rows as `edfstore` keeps. It trusts its input: none of the refusals is here.
+/* The store's work in plain C over the system's SQLite (write-ahead log, synchronous FULL), for
+   comparison: the same tables, statements and rows as `edfstore` keeps. It trusts its input: none
+   of the refusals is here.
 
-     plain take STORE FILE...    a transaction a file; a record is looked for by a range of starts and inserted where it is new
-     plain open STORE            opens, checks each page (integrity_check) and walks every row once, looking at each block
+     plain take STORE FILE...    a transaction a file; a record is looked for by a range of starts
+                                 and inserted where it is new
+     plain open STORE            opens, checks each page (integrity_check) and walks every row once,
+                                 looking at each block
      plain walk STORE            the recording's rows in order, every byte of them touched
      plain lengths STORE         the same rows, the lengths of their canonical blocks alone
-     plain export STORE          two walks: the lengths of the blocks, then the canonical file to standard output
-     plain convert               one file from standard input through a store in memory to standard output                    */
+     plain export STORE          two walks: the lengths of the blocks, then the canonical file to
+                                 standard output
+     plain convert               one file from standard input through a store in memory to standard
+                                 output */
 #include <sqlite3.h>
 #include <stdint.h>
 #include <stdio.h>
 #include <stdlib.h>
 #include <string.h>
 
-typedef struct { int64_t onset, duration; const char *text; int len; } Annotation;   /* nanoseconds; -1 is no duration */
+typedef struct {
+  int64_t onset, duration;
+  const char *text;
+  int len;
+} Annotation; /* nanoseconds; -1 is no duration */
 typedef struct { int64_t start; Annotation *list; int count, room; } Notes;
 typedef struct {
   char identity[158 + 256 * 640];
@@ -25,8 +34,15 @@ static const int64_t SECOND = 1000000000;
 static const int WIDTHS[10] = {16, 80, 8, 8, 8, 8, 8, 80, 8, 32};
 static sqlite3 *db;
 
-static void fail(const char *why) { fprintf(stderr, "%s: %s\n", why, db ? sqlite3_errmsg(db) : ""); exit(1); }
-static void *memory(size_t bytes) { void *p = malloc(bytes ? bytes : 1); if (!p) fail("memory"); return p; }
+static void fail(const char *why) {
+  fprintf(stderr, "%s: %s\n", why, db ? sqlite3_errmsg(db) : "");
+  exit(1);
+}
+static void *memory(size_t bytes) {
+  void *p = malloc(bytes ? bytes : 1);
+  if (!p) fail("memory");
+  return p;
+}
 
 static int number(const char *field, int width) {
   char text[16] = {0};
@@ -37,7 +53,8 @@ static int number(const char *field, int width) {
 /* days from 1985-01-01 */
 static int64_t day(int y, int m, int d) {
   y -= m <= 2;
-  int64_t era = y / 400, of_era = y - era * 400, of_year = (153 * (m + (m > 2 ? -3 : 9)) + 2) / 5 + d - 1;
+  int64_t era = y / 400, of_era = y - era * 400,
+          of_year = (153 * (m + (m > 2 ? -3 : 9)) + 2) / 5 + d - 1;
   return era * 146097 + of_era * 365 + of_era / 4 - of_era / 100 + of_year - 719468 - 5479;
 }
 
@@ -68,7 +85,8 @@ static void read_block(const char *p, const char *end, int64_t base, Notes *note
         first = 0;
       } else {
         if (notes->count == notes->room)
-          notes->list = realloc(notes->list, (notes->room = notes->room ? 2 * notes->room : 16) * sizeof *notes->list);
+          notes->list = realloc(notes->list, (notes->room = notes->room ? 2 * notes->room : 16) *
+                                                 sizeof *notes->list);
         notes->list[notes->count++] = (Annotation){onset, duration, p, (int)(text_end - p)};
       }
       p = text_end + 1;
@@ -120,8 +138,10 @@ static void open_store(const char *path) {
   if (sqlite3_open(path, &db)) fail("open");
   run("PRAGMA journal_mode = WAL");
   run("PRAGMA synchronous = FULL");
-  run("CREATE TABLE IF NOT EXISTS recording (id INTEGER PRIMARY KEY, identity BLOB NOT NULL UNIQUE) STRICT");
-  run("CREATE TABLE IF NOT EXISTS record (recording INTEGER NOT NULL, start INTEGER NOT NULL, samples BLOB NOT NULL, "
+  run("CREATE TABLE IF NOT EXISTS recording (id INTEGER PRIMARY KEY, "
+      "identity BLOB NOT NULL UNIQUE) STRICT");
+  run("CREATE TABLE IF NOT EXISTS record (recording INTEGER NOT NULL, start INTEGER NOT NULL, "
+      "samples BLOB NOT NULL, "
       "block BLOB NOT NULL, PRIMARY KEY (recording, start)) STRICT");
 }
 
@@ -139,18 +159,20 @@ static int64_t recording(const Layout *l) {
   return sqlite3_last_insert_rowid(db);
 }
 
-static int is_stored(int64_t id, const Layout *l, int64_t start, const char *samples, const char *block, int len) {
+static int is_stored(int64_t id, const Layout *l, int64_t start, const char *samples,
+                     const char *block, int len) {
   static sqlite3_stmt *near;
   if (!near)
-    near = prepared("SELECT start, samples, block FROM record WHERE recording = ?1 AND start > ?2 AND start < ?3 ORDER BY start");
+    near = prepared("SELECT start, samples, block FROM record "
+                    "WHERE recording = ?1 AND start > ?2 AND start < ?3 ORDER BY start");
   sqlite3_bind_int64(near, 1, id);
   sqlite3_bind_int64(near, 2, start - l->duration);
   sqlite3_bind_int64(near, 3, start + l->duration);
   int known = 0;
   while (sqlite3_step(near) == SQLITE_ROW) {
     if (sqlite3_column_int64(near, 0) != start || sqlite3_column_bytes(near, 1) != l->ordinary ||
-        memcmp(sqlite3_column_blob(near, 1), samples, l->ordinary) || sqlite3_column_bytes(near, 2) != len ||
-        memcmp(sqlite3_column_blob(near, 2), block, len))
+        memcmp(sqlite3_column_blob(near, 1), samples, l->ordinary) ||
+        sqlite3_column_bytes(near, 2) != len || memcmp(sqlite3_column_blob(near, 2), block, len))
       fail("clash");
     known = 1;
   }
@@ -158,9 +180,12 @@ static int is_stored(int64_t id, const Layout *l, int64_t start, const char *sam
   return known;
 }
 
-static void add(int64_t id, const Layout *l, int64_t start, const char *samples, const char *block, int len) {
+static void add(int64_t id, const Layout *l, int64_t start, const char *samples, const char *block,
+                int len) {
   static sqlite3_stmt *insert;
-  if (!insert) insert = prepared("INSERT INTO record (recording, start, samples, block) VALUES (?1, ?2, ?3, ?4)");
+  if (!insert)
+    insert = prepared(
+        "INSERT INTO record (recording, start, samples, block) VALUES (?1, ?2, ?3, ?4)");
   sqlite3_bind_int64(insert, 1, id);
   sqlite3_bind_int64(insert, 2, start);
   sqlite3_bind_blob(insert, 3, samples, l->ordinary, SQLITE_STATIC);
@@ -171,7 +196,9 @@ static void add(int64_t id, const Layout *l, int64_t start, const char *samples,
 
 /* Files */
 
-static void need(void *to, size_t bytes, FILE *from) { if (fread(to, 1, bytes, from) != bytes) fail("cut"); }
+static void need(void *to, size_t bytes, FILE *from) {
+  if (fread(to, 1, bytes, from) != bytes) fail("cut");
+}
 
 static int month(const char *name) {
   static const char *names = "JANFEBMARAPRMAYJUNJULAUGSEPOCTNOVDEC";
@@ -186,21 +213,24 @@ static void read_header(Layout *l, FILE *from) {
   l->ns = number(fixed + 252, 4), l->count = number(fixed + 236, 8);
   const char *field = fixed + 244;
   l->duration = decimal(&field);
-  const char *date = fixed + 98, *time = fixed + 176;                       /* "Startdate dd-MMM-yyyy" */
-  l->start = SECOND * (86400 * day(number(date + 7, 4), month(date + 3), number(date, 2)) + 3600 * number(time, 2) +
-                       60 * number(time + 3, 2) + number(time + 6, 2));
+  const char *date = fixed + 98, *time = fixed + 176; /* "Startdate dd-MMM-yyyy" */
+  l->start = SECOND * (86400 * day(number(date + 7, 4), month(date + 3), number(date, 2)) +
+                       3600 * number(time, 2) + 60 * number(time + 3, 2) + number(time + 6, 2));
   char *id = l->identity;
   memset(id, ' ', 158);
-  memcpy(id, fixed + 8, 80), id[80] = 'D', memcpy(id + 81, fixed + 109, 59), memcpy(id + 150, fixed + 244, 8);
+  memcpy(id, fixed + 8, 80), id[80] = 'D';
+  memcpy(id + 81, fixed + 109, 59), memcpy(id + 150, fixed + 244, 8);
   char *part = memory(256 * l->ns), *row = id + 158;
   need(part, 256 * l->ns, from);
   int all = 0;
   l->annotations = -1;
   for (int i = 0; i < l->ns; i++) {
     int samples = number(part + 216 * l->ns + 8 * i, 8);
-    if (!memcmp(part + 16 * i, "EDF Annotations ", 16)) l->annotations = i, l->before = 2 * all, l->block = 2 * samples;
+    if (!memcmp(part + 16 * i, "EDF Annotations ", 16))
+      l->annotations = i, l->before = 2 * all, l->block = 2 * samples;
     else
-      for (int f = 0, at = 0; f < 10; at += l->ns * WIDTHS[f], row += WIDTHS[f], f++) memcpy(row, part + at + i * WIDTHS[f], WIDTHS[f]);
+      for (int f = 0, at = 0; f < 10; at += l->ns * WIDTHS[f], row += WIDTHS[f], f++)
+        memcpy(row, part + at + i * WIDTHS[f], WIDTHS[f]);
     all += samples;
   }
   free(part);
@@ -213,13 +243,15 @@ static void take_file(FILE *from, const char *name) {
   static Layout l;
   static Notes notes;
   read_header(&l, from);
-  char *samples = memory(l.ordinary), *bytes = memory(l.block + 1), *block = memory(4 * l.block + 1500000);
+  char *samples = memory(l.ordinary), *bytes = memory(l.block + 1),
+       *block = memory(4 * l.block + 1500000);
   int new = 0, known = 0;
   bytes[l.block] = 0;
   run("BEGIN IMMEDIATE");
   int64_t id = recording(&l);
   for (int i = 0; i < l.count; i++) {
-    need(samples, l.before, from), need(bytes, l.block, from), need(samples + l.before, l.ordinary - l.before, from);
+    need(samples, l.before, from), need(bytes, l.block, from);
+    need(samples + l.before, l.ordinary - l.before, from);
     read_block(bytes, bytes + l.block, l.start, &notes);
     int len = write_block(block, &notes, 0);
     if (is_stored(id, &l, notes.start, samples, block, len)) known++;
@@ -243,11 +275,17 @@ static void take(int count, char **names) {
 
 /* Walks */
 
-static const char *ROWS = "SELECT start, samples, block FROM record WHERE recording = (SELECT min(id) FROM recording) ORDER BY start";
+static const char *ROWS =
+    "SELECT start, samples, block FROM record "
+    "WHERE recording = (SELECT min(id) FROM recording) ORDER BY start";
 
 static void check_rows(void) {
-  sqlite3_stmt *pages = prepared("PRAGMA integrity_check"), *all = prepared("SELECT recording, start, samples, block FROM record ORDER BY recording, start");
-  if (sqlite3_step(pages) != SQLITE_ROW || strcmp((const char *)sqlite3_column_text(pages, 0), "ok")) fail("pages");
+  sqlite3_stmt *pages = prepared("PRAGMA integrity_check");
+  sqlite3_stmt *all = prepared("SELECT recording, start, samples, block FROM record "
+                               "ORDER BY recording, start");
+  if (sqlite3_step(pages) != SQLITE_ROW ||
+      strcmp((const char *)sqlite3_column_text(pages, 0), "ok"))
+    fail("pages");
   sqlite3_finalize(pages);
   Notes notes = {0};
   char *again = memory(1500000), *text = memory(1500001);
@@ -257,8 +295,8 @@ static void check_rows(void) {
     memcpy(text, sqlite3_column_blob(all, 3), len);
     text[len] = 0;
     read_block(text, text + len, 0, &notes);
-    if (sqlite3_column_bytes(all, 2) < 2 || notes.start != sqlite3_column_int64(all, 1) || write_block(again, &notes, 0) != len ||
-        memcmp(again, text, len))
+    if (sqlite3_column_bytes(all, 2) < 2 || notes.start != sqlite3_column_int64(all, 1) ||
+        write_block(again, &notes, 0) != len || memcmp(again, text, len))
       fail("foreign");
   }
   printf("%lld rows\n", (long long)rows);
@@ -275,7 +313,8 @@ static void walk(void) {
   printf("%llu\n", (unsigned long long)sum);
 }
 
-/* one walk over the rows: the longest canonical block, or the records written where `samples` is not 0 */
+/* one walk over the rows: the longest canonical block, or the records written where `samples` is
+ * not 0 */
 static int each_row(int samples, int64_t base) {
   static Notes notes;
   static char text[1500001], made[1500001];
@@ -298,9 +337,11 @@ static int each_row(int samples, int64_t base) {
 }
 
 static void civil(int64_t days, int *y, int *m, int *d) {
-  int64_t z = days + 719468 + 5479, era = z / 146097, e = z - era * 146097, yoe = (e - e / 1460 + e / 36524 - e / 146096) / 365;
+  int64_t z = days + 719468 + 5479, era = z / 146097, e = z - era * 146097,
+          yoe = (e - e / 1460 + e / 36524 - e / 146096) / 365;
   int64_t doy = e - (365 * yoe + yoe / 4 - yoe / 100), mp = (5 * doy + 2) / 153;
-  *d = doy - (153 * mp + 2) / 5 + 1, *m = mp < 10 ? mp + 3 : mp - 9, *y = yoe + era * 400 + (*m <= 2);
+  *d = doy - (153 * mp + 2) / 5 + 1, *m = mp < 10 ? mp + 3 : mp - 9,
+  *y = yoe + era * 400 + (*m <= 2);
 }
 
 static void write_header(const char *id, int bytes, int64_t base, int count, int samples) {
@@ -308,8 +349,8 @@ static void write_header(const char *id, int bytes, int64_t base, int count, int
   int y, m, d, ns = (bytes - 158) / 256 + 1, s = base / SECOND % 86400;
   civil(base / SECOND / 86400, &y, &m, &d);
   printf("0       %.80sStartdate %02d-%.3s-%04d%.59s", id, d, names + 3 * (m - 1), y, id + 81);
-  printf("%02d.%02d.%02d%02d.%02d.%02d%-8d%-44s%-8d%.8s%-4d", d, m, y % 100, s / 3600, s / 60 % 60, s % 60, 256 + 256 * ns, "EDF+D",
-         count, id + 150, ns);
+  printf("%02d.%02d.%02d%02d.%02d.%02d%-8d%-44s%-8d%.8s%-4d", d, m, y % 100, s / 3600, s / 60 % 60,
+         s % 60, 256 + 256 * ns, "EDF+D", count, id + 150, ns);
   char digits[16];
   snprintf(digits, sizeof digits, "%d", samples);
   const char *row[10] = {"EDF Annotations ", "", "", "-1", "1", "-32768", "32767", "", digits, ""};
@@ -320,12 +361,15 @@ static void write_header(const char *id, int bytes, int64_t base, int count, int
 }
 
 static void export_first(void) {
-  sqlite3_stmt *first = prepared("SELECT identity FROM recording WHERE id = (SELECT min(id) FROM recording)");
-  sqlite3_stmt *sum = prepared("SELECT count(*), min(start) FROM record WHERE recording = (SELECT min(id) FROM recording)");
+  sqlite3_stmt *first = prepared(
+      "SELECT identity FROM recording WHERE id = (SELECT min(id) FROM recording)");
+  sqlite3_stmt *sum = prepared(
+      "SELECT count(*), min(start) FROM record WHERE recording = (SELECT min(id) FROM recording)");
   if (sqlite3_step(first) != SQLITE_ROW || sqlite3_step(sum) != SQLITE_ROW) fail("no recording");
   int64_t base = sqlite3_column_int64(sum, 1) / SECOND * SECOND;
   int samples = (each_row(0, base) + 1) / 2;
-  write_header(sqlite3_column_blob(first, 0), sqlite3_column_bytes(first, 0), base, sqlite3_column_int(sum, 0), samples);
+  write_header(sqlite3_column_blob(first, 0), sqlite3_column_bytes(first, 0), base,
+               sqlite3_column_int(sum, 0), samples);
   each_row(samples, base);
   sqlite3_finalize(first), sqlite3_finalize(sum);
   if (fflush(stdout)) fail("write");
@@ -341,7 +385,10 @@ int main(int argc, char **argv) {
   static char out_buffer[1 << 16];
   setvbuf(stdout, out_buffer, _IOFBF, sizeof out_buffer);
   const char *word = argc > 1 ? argv[1] : "";
-  if (argc < 3 && strcmp(word, "convert")) return fprintf(stderr, "usage: plain take|open|walk|lengths|export STORE [FILE...], or plain convert\n"), 2;
+  if (argc < 3 && strcmp(word, "convert")) {
+    fprintf(stderr, "usage: plain take|open|walk|lengths|export STORE [FILE...], or convert\n");
+    return 2;
+  }
   open_store(strcmp(word, "convert") ? argv[2] : ":memory:");
   if (!strcmp(word, "take")) take(argc - 3, argv + 3);
   if (!strcmp(word, "open")) check_rows();

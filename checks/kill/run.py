@@ -1,176 +1,204 @@
 #!/usr/bin/env python3
-"""Stops `edfstore take` at random moments, fills its disk and cuts its files while they are read, and looks at what is held.
+"""Stops `edfstore take` at random moments, fills its disk and cuts its files while they are read,
+and looks at what is held.
 
-    checks/kill/run.py [--program PATH] [--seed SEED] [STOPS]       1,000 stops if left out
+    checks/kill/run.py [--program PATH] [--seed SEED] [COUNT]       1,000 stops if left out
 
-A short night of two hours, 40 fragments, is taken and killed (SIGKILL) at a random moment, and taken again from the front, until
-all of it is held; then a new store begins. After each stop `list` opens the store, and its export is that of the first p files, p
-at least what was held before and at least the files whose `accepted` was read. A whole store's export is that of a run without
-stops. Then the same night on a tmpfs too small for it (as root; left out otherwise), fragments that shrink while they are read,
-and two `take`s on one store at once. What is expected comes from the plain model. It stops with status 1 at the first loss.
+A short night of two hours, 40 fragments, is taken and killed (SIGKILL) at a random moment, and
+taken again from the front, until all of it is held; then a new store begins. After each stop `list`
+opens the store, and its export is that of the first p files, p at least what was held before and at
+least the files whose `accepted` was read. A whole store's export is that of a run without stops.
+Then the same night on a tmpfs too small for it (as root; left out otherwise), fragments that shrink
+while they are read, and two `take`s on one store at once. What is expected comes from the plain
+model. It stops with status 1 at the first loss.
 """
 import collections
 import hashlib
 import os
 import random
 import subprocess
-import sys
 import threading
 import time
 from pathlib import Path
 
-sys.path.insert(0, str(Path(__file__).resolve().parent.parent / "lib"))
-import measure  # noqa: E402
-import model  # noqa: E402
-import night  # noqa: E402
+from lib import arguments, measure, model, night, told
+from lib.checks import Lost, end
 
 NIGHT = night.Night(records=7_200, samples=(256, 256), fragments=40)
+CUT = {("refused", number) for number in ("E1", "E14", "E21")}
 
 
 def digest(data: bytes) -> str:
     return hashlib.sha256(data).hexdigest()
 
 
-def lost(why: str) -> None:
-    sys.exit(f"LOST OR IN PART: {why}")
+def export_of(held: model.Store) -> bytes:
+    """The export of the night; nothing where nothing is held."""
+    return held.export(1) if held.held else b""
 
 
 class Bench:
     def __init__(self, program: Path, folder: Path, rng: random.Random):
         self.program, self.folder, self.rng = program, folder, rng
         self.parts = NIGHT.parts(folder)
-        self.refusals = collections.Counter()
+        self.stops, self.refusals = 0, collections.Counter()
         held = model.Store()
         self.fronts = [digest(b"")]         # of the export of the first p files
         for part in self.parts:
             held.take(part.read_bytes())
             self.fronts.append(digest(held.export(1)))
 
-    def ran(self, *words) -> subprocess.CompletedProcess:
-        return subprocess.run([self.program, *map(str, words)], capture_output=True, stdin=subprocess.DEVNULL, check=False)
+    def ran(self, *words) -> measure.Ran:
+        return measure.ran(self.program, *words)
 
-    def count(self, told: bytes) -> None:
+    def count(self, lines: bytes) -> None:
         """Counts the refusals that were told, by number."""
-        for line in told.decode(errors="replace").splitlines():
+        for line in lines.decode(errors="replace").splitlines():
             if " refused " in line:
                 self.refusals[line.split(" refused ")[1].split()[0]] += 1
 
     def exported(self, store: Path) -> bytes:
         """The export, after the list; nothing where nothing is held."""
         listed = self.ran("list", store)
-        self.count(listed.stderr)
-        if listed.returncode or listed.stderr:
-            lost(f"list ended with status {listed.returncode}: {listed.stderr!r}")
-        if not listed.stdout:
+        self.count(listed.err)
+        if listed.status or listed.err:
+            raise Lost(f"list ended with status {listed.status}: {listed.err!r}")
+        if not listed.out:
             return b""
         export = self.ran("export", store, 1)
-        if export.returncode:
-            lost(f"export ended with status {export.returncode}: {export.stderr!r}")
-        wanted = b"1 records=%d " % int(export.stdout[236:244])     # the number of data records that the header tells
-        if not listed.stdout.startswith(wanted) or listed.stdout.count(b"\n") != 1:
-            lost(f"the list is {listed.stdout!r}, wanted {wanted!r} and so on")
-        return export.stdout
+        if export.status:
+            raise Lost(f"export ended with status {export.status}: {export.err!r}")
+        # the number of data records that the header tells
+        wanted = b"1 records=%d " % int(export.out[236:244])
+        if not listed.out.startswith(wanted) or listed.out.count(b"\n") != 1:
+            raise Lost(f"the list is {listed.out!r}, wanted {wanted!r} and so on")
+        return export.out
 
     def front(self, store: Path) -> int:
-        """How many files from the front the store holds; the bench ends where it holds anything else."""
+        """How many files from the front the store holds; the bench ends where it holds anything
+        else."""
         found = digest(self.exported(store))
         if found not in self.fronts:
-            lost("the export is not that of a front of the list")
+            raise Lost("the export is not that of a front of the list")
         return self.fronts.index(found)
 
 
 def stopped(bench: Bench, store: Path, delay: float) -> tuple:
-    """Starts a take and kills it; whether it was killed in time, and how many `accepted` were read."""
-    child = subprocess.Popen([bench.program, "take", store, *bench.parts], stdout=subprocess.PIPE, stderr=subprocess.PIPE,
-                             stdin=subprocess.DEVNULL)
+    """Starts a take and kills it; whether it was killed in time, and how many `accepted` were
+    read."""
+    child = subprocess.Popen([bench.program, "take", store, *bench.parts], stdout=subprocess.PIPE,
+                             stderr=subprocess.PIPE, stdin=subprocess.DEVNULL)
     time.sleep(delay)
     child.kill()
     out, err = child.communicate()
     bench.count(out + err)
-    return child.returncode == -9, out.count(b" accepted ")
+    return child.returncode == -9, told.are_accepted(out)
 
 
 def stops(bench: Bench, wanted: int) -> None:
     whole_store = bench.folder / "whole.db"
-    begun = time.perf_counter()
-    told = bench.ran("take", whole_store, *bench.parts)
-    whole = time.perf_counter() - begun
-    if told.returncode or bench.front(whole_store) != len(bench.parts):
-        lost("a run without stops isn't whole")
-    store, count, rounds, before, fronts, again = bench.folder / "s.db", 0, 0, 0, collections.Counter(), 0
-    while count < wanted:
-        delay = bench.rng.uniform(0, whole * bench.rng.choice((0.1, 0.5, 1.1)))
+    taken = bench.ran("take", whole_store, *bench.parts)
+    if taken.status or bench.front(whole_store) != len(bench.parts):
+        raise Lost("a run without stops isn't whole")
+    store, fronts = bench.folder / "s.db", collections.Counter()
+    rounds = before = again = 0
+    while bench.stops < wanted:
+        delay = bench.rng.uniform(0, taken.seconds * bench.rng.choice((0.1, 0.5, 1.1)))
         killed, accepted = stopped(bench, store, delay)
         front = bench.front(store)
         if front < max(before, accepted):
-            lost(f"{front} files are held, {before} were before and {accepted} were accepted")
-        count += killed
+            raise Lost(f"{front} files are held, {before} were before and {accepted} were accepted")
+        bench.stops += killed
         fronts[front] += killed
         again += killed and front == before
         before = front
         if front == len(bench.parts):
             measure.remove_store(store)
             rounds, before = rounds + 1, 0
-    print(f"{count} stops of a run of {whole:.2f} s; {rounds} stores were filled in the end, each with the export of a run without "
-          f"stops; after a stop {len(fronts)} different fronts of the list were held, {again} times the one before")
+    print(f"{bench.stops} stops of a run of {taken.seconds:.2f} s; {rounds} stores were filled in "
+          f"the end, each with the export of a run without stops; after a stop {len(fronts)} "
+          f"different fronts of the list were held, {again} times the one before")
+
+
+def filled(bench: Bench, store: Path, answers: collections.Counter) -> None:
+    """Takes the night onto a full disk, which holds what was accepted."""
+    taken = bench.ran("take", store, *bench.parts)
+    bench.count(taken.out + taken.err)
+    held, lines = model.Store(), taken.out.decode().splitlines()
+    for part, line in zip(bench.parts, lines):
+        answer = line.split(" ", 1)[1].split(" new=")[0]
+        answers[answer] += 1
+        if answer == "accepted":
+            held.take(part.read_bytes())
+    if not lines or b"store refused" in taken.err or bench.ran("list", store).status:
+        return
+    if bench.exported(store) != export_of(held):
+        raise Lost("on a full disk the export is not that of the accepted files")
 
 
 def full_disk(bench: Bench, megabytes: int) -> None:
     """The night onto a file system that is too small for it, which then grows."""
     place = bench.folder / "small"
     place.mkdir(exist_ok=True)
-    done = subprocess.run(["mount", "-t", "tmpfs", "-o", f"size={megabytes}m", "edfstore-bench", place], capture_output=True, check=False)
-    if done.returncode:
+    if measure.ran("mount", "-t", "tmpfs", "-o", f"size={megabytes}m", "edfstore-bench",
+                   place).status:
         print("a full disk: left out, since this user may not mount a tmpfs")
         return
     try:
         store, answers = place / "s.db", collections.Counter()
-        for nth in range(3):
-            told = bench.ran("take", store, *bench.parts)
-            bench.count(told.stdout + told.stderr)
-            lines = told.stdout.decode().splitlines()
-            answers.update(line.split(" ", 1)[1].split(" new=")[0] for line in lines)
-            held = model.Store()
-            for part, line in zip(bench.parts, lines):
-                if " accepted " in line:
-                    held.take(part.read_bytes())
-            if lines and b"store refused" not in told.stderr:
-                listed = bench.ran("list", store)
-                if listed.returncode == 0 and digest(bench.exported(store)) != digest(held.export(1) if held.held else b""):
-                    lost("on a full disk the export is not that of the accepted files")
-        subprocess.run(["mount", "-o", f"remount,size={20 * megabytes + 200}m", place], check=True)
-        told = bench.ran("take", store, *bench.parts)
-        if told.returncode or bench.front(store) != len(bench.parts):
-            lost(f"after room was made: {told.stdout[-300:]!r} {told.stderr!r}")
-        print(f"a disk of {megabytes} MB, taken 3 times: {dict(answers)}; each file whole or not at all, and all of them once there was room")
+        for _ in range(3):
+            filled(bench, store, answers)
+        measure.done("mount", "-o", f"remount,size={20 * megabytes + 200}m", place)
+        taken = bench.ran("take", store, *bench.parts)
+        if taken.status or bench.front(store) != len(bench.parts):
+            raise Lost(f"after room was made: {taken.out[-300:]!r} {taken.err!r}")
+        print(f"a disk of {megabytes} MB, taken 3 times: {dict(answers)}; each file whole or not "
+              "at all, and all of them once there was room")
     finally:
-        subprocess.run(["umount", place], check=True)
+        measure.done("umount", place)
 
 
 def shrinking(bench: Bench, times: int) -> None:
     """A card that loses its end while it is read: accepted whole, or refused as cut."""
-    card, given, store = NIGHT.card(bench.folder / "card.edf"), bench.folder / "given.edf", bench.folder / "s.db"
-    data, answers, whole = card.read_bytes(), collections.Counter(), None
+    card, given = NIGHT.card(bench.folder / "card.edf"), bench.folder / "given.edf"
+    data, answers, store = card.read_bytes(), collections.Counter(), bench.folder / "s.db"
+    measure.remove_store(store)
+    whole = bench.ran("take", store, card).seconds
     for _ in range(times):
         given.write_bytes(data)
         measure.remove_store(store)
-        begun = time.perf_counter()
-        bench.ran("take", store, given) if whole is None else None
-        whole = whole or time.perf_counter() - begun
-        measure.remove_store(store)
         size = bench.rng.randrange(len(data))
-        cut = threading.Timer(bench.rng.uniform(0, whole) * bench.rng.random(), os.truncate, (given, size))
+        cut = threading.Timer(bench.rng.uniform(0, whole) * bench.rng.random(), os.truncate,
+                              (given, size))
         cut.start()
-        told = bench.ran("take", store, given)
+        taken = bench.ran("take", store, given)
         cut.join()
-        bench.count(told.stdout + told.stderr)
-        answer = told.stdout.decode().split(" ", 1)[-1].split()
-        if len(answer) < 2 or (answer[0] != "accepted" and answer[1] not in ("E1", "E14", "E21")):
-            lost(f"a file that shrank was answered {told.stdout!r} {told.stderr!r}")
-        answers[answer[0] if answer[0] == "accepted" else answer[1]] += 1
-        if bench.front(store) != (len(bench.parts) if answer[0] == "accepted" else 0):
-            lost("a file that shrank is held in part")
+        bench.count(taken.out + taken.err)
+        _, word, fault = (taken.out.decode().split() + 3 * [""])[:3]
+        if word != "accepted" and (word, fault) not in CUT:
+            raise Lost(f"a file that shrank was answered {taken.out!r} {taken.err!r}")
+        answers[word if word == "accepted" else fault] += 1
+        if bench.front(store) != (len(bench.parts) if word == "accepted" else 0):
+            raise Lost("a file that shrank is held in part")
     print(f"a file that shrank while it was read, {times} times: {dict(answers)}, nothing in part")
+
+
+def both_at_once(bench: Bench, store: Path, answers: collections.Counter) -> model.Store:
+    """Two takes of half of the files each, and what they accepted."""
+    children = [subprocess.Popen([bench.program, "take", store, *bench.parts[side::2]],
+                                 stdout=subprocess.PIPE, stderr=subprocess.PIPE,
+                                 stdin=subprocess.DEVNULL) for side in (0, 1)]
+    held = model.Store()
+    for child in children:
+        out, err = child.communicate()
+        bench.count(out + err)
+        for line in out.decode().splitlines():
+            name, answer = line.split(" ", 1)
+            answers[answer.split(" new=")[0]] += 1
+            if answer.startswith("accepted"):
+                held.take(Path(name).read_bytes())
+        answers.update(err.decode().splitlines())
+    return held
 
 
 def at_once(bench: Bench, times: int) -> None:
@@ -178,42 +206,34 @@ def at_once(bench: Bench, times: int) -> None:
     store, answers = bench.folder / "s.db", collections.Counter()
     for _ in range(times):
         measure.remove_store(store)
-        children = [subprocess.Popen([bench.program, "take", store, *bench.parts[side::2]], stdout=subprocess.PIPE,
-                                     stderr=subprocess.PIPE, stdin=subprocess.DEVNULL) for side in (0, 1)]
-        held, names = model.Store(), {str(part): part for part in bench.parts}
-        for child in children:
-            out, err = child.communicate()
-            bench.count(out + err)
-            for line in out.decode().splitlines():
-                name, answer = line.split(" ", 1)
-                answers[answer.split(" new=")[0]] += 1
-                if answer.startswith("accepted"):
-                    held.take(names[name].read_bytes())
-            answers.update(line.split(" ", 1)[0] + " " + line.split(" ", 1)[1] for line in err.decode().splitlines())
-        if digest(bench.exported(store)) != digest(held.export(1) if held.held else b""):
-            lost("two takes at once: the export is not that of the accepted files")
-        if bench.ran("take", store, *bench.parts).returncode or bench.front(store) != len(bench.parts):
-            lost("two takes at once: the list taken again isn't whole")
-    print(f"two takes on one store at once, {times} times: {dict(answers)}; what was accepted is held, and all of it after one more take")
+        held = both_at_once(bench, store, answers)
+        if bench.exported(store) != export_of(held):
+            raise Lost("two takes at once: the export is not that of the accepted files")
+        taken = bench.ran("take", store, *bench.parts)
+        if taken.status or bench.front(store) != len(bench.parts):
+            raise Lost("two takes at once: the list taken again isn't whole")
+    print(f"two takes on one store at once, {times} times: {dict(answers)}; what was accepted is "
+          "held, and all of it after one more take")
 
 
 def main() -> None:
-    program, words = measure.program(sys.argv[1:])
-    seed = 1
-    if "--seed" in words:
-        at = words.index("--seed")
-        seed = int(words[at + 1])
-        del words[at:at + 2]
+    parser = arguments.Parser(__doc__, count=1_000)
+    parser.add_argument("--seed", type=int, default=1, help="of the moments, 1 if left out")
+    given = parser.read()
     with measure.scratch() as name:
-        bench = Bench(program, Path(name), random.Random(seed))
-        print(f"seed {seed}, {measure.machine()}")
-        count = int(words[0]) if words else 1_000
-        stops(bench, count)
-        measure.remove_store(bench.folder / "s.db")
-        full_disk(bench, 4)
-        shrinking(bench, max(5, count // 5))
-        at_once(bench, max(2, count // 20))
-        print("refusals told in all of it:", dict(bench.refusals) or "none", "\n0 lost, 0 in part")
+        bench = Bench(given.program, Path(name), random.Random(given.seed))
+        print(f"seed {given.seed}, {measure.machine()}")
+        try:
+            stops(bench, given.count)
+            measure.remove_store(bench.folder / "s.db")
+            full_disk(bench, 4)
+            shrinking(bench, max(5, given.count // 5))
+            at_once(bench, max(2, given.count // 20))
+        except Lost as why:
+            print(f"LOST OR IN PART: {why}")
+            end(bench.stops + 1, 1)
+    print("refusals told in all of it:", dict(bench.refusals) or "none")
+    end(bench.stops, 0)
 
 
 main()

@@ -1,17 +1,33 @@
-"""Small files built field by field, and the comparing of what they are answered with what was worked out by hand."""
-import subprocess
+"""Small files built field by field, and the comparing of what they are answered with what was
+worked out by hand."""
 import tempfile
 from pathlib import Path
 
-import model
-from edf import FIXED_WIDTHS, SIGNAL_WIDTHS, Header, Signal, annotations_signal, filled, fragment, keeping, tal
+from . import measure, model, told
+from .edf import (FIXED_WIDTHS, SIGNAL_WIDTHS, Header, Signal, annotations_signal, filled, fragment,
+                  keeping, small_files, tal)
 
 SAMPLES = b"\x01\x00\xff\xff"
 EMPTY = keeping("+0")                   # 5 bytes
 SNORE = tal("+0.5", "Snore")            # 12 bytes
 # The fields of the fixed part, and those of a signal
-VERSION, PATIENT, RECORDING, STARTDATE, STARTTIME, HEADER_BYTES, RESERVED, COUNT, DURATION, SIGNALS = range(10)
-LABEL, TRANSDUCER, DIMENSION, LOW, HIGH, DIGITAL_LOW, DIGITAL_HIGH, PREFILTERING, SIZE, REST = range(10)
+(VERSION, PATIENT, RECORDING, STARTDATE, STARTTIME, HEADER_BYTES, RESERVED, COUNT, DURATION,
+ SIGNALS) = range(10)
+(LABEL, TRANSDUCER, DIMENSION, LOW, HIGH, DIGITAL_LOW, DIGITAL_HIGH, PREFILTERING, SIZE,
+ REST) = range(10)
+
+FILES = small_files()
+Q, P5, R9, K, U, V, HALF, X, N1, N2, N3 = (
+    FILES[name] for name in ("Q", "P5", "R9", "K", "U", "V", "half", "X", "N1", "N2", "N3"))
+START = 541_727_990 * 10**9             # of Q and of most files here, 2002-03-02 23:59:50
+MARCH_3 = {"startdate": "03.03.02", "recording": "Startdate 03-MAR-2002 N1 T3 REC5"}
+LAST_SECOND = {"startdate": "31.12.yy", "starttime": "23.59.59",
+               "recording": "Startdate 31-DEC-2184 N1 T3 REC5"}
+
+# Answers in the short form of told.answer
+FIRST, KNOWN = "new=1 known=0", "new=0 known=1"
+DIFFERS = "E31 Differs start=2002-03-02T23:59:50"
+OVERLAPS = "E30 Overlap start=2002-03-02T23:59:50.5 stored=2002-03-02T23:59:50"
 
 
 # Files
@@ -23,7 +39,8 @@ def field(data: bytes, which: int, text) -> bytes:
 
 
 def column(data: bytes, which: int, signal: int, text) -> bytes:
-    """The file with another text in a field of a signal, counted from 1; the number of signals is that of the header."""
+    """The file with another text in a field of a signal, counted from 1; the number of signals is
+    that of the header."""
     ns = int(data[252:256])
     at = 256 + ns * sum(SIGNAL_WIDTHS[:which]) + (signal - 1) * SIGNAL_WIDTHS[which]
     return data[:at] + filled(text, SIGNAL_WIDTHS[which]) + data[at + SIGNAL_WIDTHS[which]:]
@@ -35,31 +52,37 @@ def unknown(data: bytes) -> bytes:
 
 
 def several(*records, order: str = "nEn", sizes=(), count: str = "", **fields) -> bytes:
-    """A file of records, each the list of its blocks. `order` has a letter a signal: n for annotations, E and F for ordinary ones of
-    2 samples and of 1. `sizes` are the samples of the annotations signals, else as few as hold the longest block of each. The samples
-    of a record begin as Q's."""
+    """A file of records, each the list of its blocks. `order` has a letter a signal: n for
+    annotations, E and F for ordinary ones of 2 samples and of 1. `sizes` are the samples of the
+    annotations signals, else as few as hold the longest block of each. The samples of a record
+    begin as Q's."""
     needed = sizes or [max(1, (max(map(len, made)) + 1) // 2) for made in zip(*records)]
     noted = iter(needed)
     kinds = {"E": Signal(), "F": Signal("EMG chin", samples="1")}
-    signals = tuple(annotations_signal(next(noted)) if letter == "n" else kinds[letter] for letter in order)
+    signals = tuple(annotations_signal(next(noted)) if letter == "n" else kinds[letter]
+                    for letter in order)
     samples = (SAMPLES + b"\x07\x00")[:4 * order.count("E") + 2 * order.count("F")]
-    return fragment(Header(signals, count=count or str(len(records)), **fields), [(samples, made) for made in records])
+    return fragment(Header(signals, count=count or str(len(records)), **fields),
+                    [(samples, made) for made in records])
 
 
 def canonical(*records, **fields) -> bytes:
-    """A file as exports are: one annotations signal, the last, with as few samples as hold the longest block."""
+    """A file as exports are: one annotations signal, the last, with as few samples as hold the
+    longest block."""
     most = max(len(block) for _, block in records)
-    return fragment(Header((Signal(), annotations_signal((most + 1) // 2)), count=str(len(records)), **fields), records)
+    signals = (Signal(), annotations_signal((most + 1) // 2))
+    return fragment(Header(signals, count=str(len(records)), **fields), records)
 
 
 def sized(ordinary, noted) -> bytes:
     """A header alone, with these samples of its signals."""
-    signals = [Signal(samples=str(size)) for size in ordinary] + [annotations_signal(size) for size in noted]
-    return Header(tuple(signals)).to_bytes()
+    signals = [Signal(samples=str(size)) for size in ordinary]
+    return Header((*signals, *map(annotations_signal, noted))).to_bytes()
 
 
 def many(count: int, keeps_time: bool = False) -> bytes:
-    """A list with so many annotations without text, behind the time-keeping one where it keeps time."""
+    """A list with so many annotations without text, behind the time-keeping one where it keeps
+    time."""
     return b"+0\x14" + b"\x14" * (count + keeps_time) + b"\0"
 
 
@@ -73,22 +96,24 @@ class Worked:
     """Compares, counts, and says what is wrong."""
 
     def __init__(self, program=None):
-        self.program, self.done, self.wrong = program, 0, 0
+        self.program, self.done, self.failed = program, 0, 0
 
     def same(self, what: str, got, wanted) -> None:
         self.done += 1
         if got != wanted:
-            self.wrong += 1
+            self.failed += 1
             print(f"{what}: {got!r:.300}\n  by hand: {wanted!r:.300}")
 
     def store(self, what: str, *given, exports=None, cap: int = 0) -> None:
         """A new store is given files in turn, each with its answer, and then has these exports."""
-        answers = [f"{'refused' if answer.startswith('E') else 'accepted'} {answer}" for _, answer in given]
+        answers = [told.answer(text) for _, text in given]
         store = model.Store(cap) if cap else model.Store()
         for nth, ((data, _), answer) in enumerate(zip(given, answers), 1):
             self.same(f"{what}, file {nth}", store.take(data), answer)
         if exports is not None:
-            self.same(f"{what}, exports", [store.export(place) for place in range(1, len(store.held) + 1)], list(exports))
+            self.same(f"{what}, exports",
+                      [store.export(place) for place in range(1, len(store.held) + 1)],
+                      list(exports))
         if self.program and not cap:
             self.ask(what, [data for data, _ in given], answers, exports)
 
@@ -96,15 +121,16 @@ class Worked:
         """The same of the program."""
         with tempfile.TemporaryDirectory(prefix="edfstore-worked-") as folder:
             def ran(*words) -> bytes:
-                return subprocess.run([self.program, *words], cwd=folder, capture_output=True, check=False).stdout
+                return measure.ran(self.program, *words, folder=folder).out
             names = [str(nth) for nth in range(1, len(files) + 1)]
             for name, data in zip(names, files):
                 Path(folder, name).write_bytes(data)
-            told = ran("take", "s.db", *names).decode().splitlines()
-            for name, line, answer in zip(names, told + [""] * len(names), answers):
-                self.same(f"the program: {what}, file {name}", line, f"{name} {answer}")
+            lines = ran("take", "s.db", *names).decode().splitlines(keepends=True)
+            for name, line, answer in zip(names, lines + [""] * len(names), answers):
+                self.same(f"the program: {what}, file {name}", line, told.line(name, answer))
             for place, export in enumerate(exports or (), 1):
-                self.same(f"the program: {what}, export {place}", ran("export", "s.db", str(place)), export)
+                self.same(f"the program: {what}, export {place}", ran("export", "s.db", str(place)),
+                          export)
 
     def each(self, what: str, *given) -> None:
         """Each file in a store of its own."""

@@ -1,17 +1,34 @@
-"""Runs the program on words or shell lines and compares its output, its errors and its status with what is wanted."""
-import os
+"""Runs the program on words or shell lines and compares its output, its errors and its status with
+what is wanted; and how every check ends."""
 import shutil
-import signal
-import subprocess
 import sys
 from pathlib import Path
+from typing import NoReturn
+
+from . import measure, told
 
 SECONDS = 60    # that a line of the shell may take
 
 
+class Lost(Exception):
+    """What a program lost, or answers otherwise than it must: there a check ends."""
+
+
+def compare(what: str, got, wanted) -> None:
+    if got != wanted:
+        raise Lost(f"{what}\n  the program: {got!r:.600}\n  the model:   {wanted!r:.600}")
+
+
+def end(tried: int, failed: int) -> NoReturn:
+    """The last line of a check, which checks/run reads, and its status."""
+    print(f"{tried} tried, {failed} failed")
+    sys.exit(0 if tried and not failed else 1)
+
+
 class Checks:
     def __init__(self, program: Path, folder: Path, name: str = "edfstore"):
-        self.program, self.folder, self.name, self.done, self.failed, self.case = program, folder, name, 0, 0, ""
+        self.program, self.folder, self.name = program, folder, name
+        self.done, self.failed, self.case = 0, 0, ""
 
     def begin(self, case: str) -> None:
         """A new case, with no files but its own."""
@@ -33,31 +50,31 @@ class Checks:
 
     def run(self, *words: str, given: bytes = b"", out="", err="", status: int = 0) -> None:
         """Runs the words in the case's folder; `err=None` is any text at all but none."""
-        ran = subprocess.run([self.program, *words], input=given, capture_output=True, cwd=self.folder, check=False)
+        ran = measure.ran(self.program, *words, given=given, folder=self.folder)
         self.compare(f"{self.name} {' '.join(words)}", ran, out, err, status)
+
+    def take(self, store: str, *pairs, given: bytes = b"", status: int = 0) -> None:
+        """Takes files, each of which has the answer beside its name."""
+        names = [name for name, _ in pairs]
+        self.run("take", store, *names, given=given, out=told.lines(*pairs), status=status)
 
     def shell(self, line: str, out="", err="", status: int = 0) -> None:
         """Runs a line of the shell, in which the program has its name."""
-        words = ["bash", "-c", f'{self.name}() {{ "$PROGRAM" "$@"; }}; {line}']
-        with subprocess.Popen(words, stdout=subprocess.PIPE, stderr=subprocess.PIPE, stdin=subprocess.DEVNULL, cwd=self.folder,
-                              env={**os.environ, "PROGRAM": str(self.program)}, start_new_session=True) as child:
-            try:
-                told = child.communicate(timeout=SECONDS)
-            except subprocess.TimeoutExpired:
-                os.killpg(child.pid, signal.SIGKILL)
-                told = child.communicate()
-            ran = subprocess.CompletedProcess(words, child.returncode, *told)
+        named = f'{self.name}() {{ "$PROGRAM" "$@"; }}; {line}'
+        ran = measure.ran("bash", "-c", named, folder=self.folder, most=SECONDS,
+                          added={"PROGRAM": str(self.program)})
         self.compare(line, ran, out, err, status)
 
-    def compare(self, line: str, ran: subprocess.CompletedProcess, out, err, status: int) -> None:
+    def compare(self, line: str, ran: measure.Ran, out, err, status: int) -> None:
         wanted = out if isinstance(out, bytes) else out.encode()
         wrong = []
-        if ran.stdout != wanted:
-            wrong.append(f"standard output was {ran.stdout[:300]!r}, wanted {wanted[:300]!r}")
-        if (not ran.stderr) if err is None else (ran.stderr != err.encode()):
-            wrong.append(f"standard error was {ran.stderr[:300]!r}, wanted {'some text' if err is None else err!r}")
-        if ran.returncode != status:
-            wrong.append(f"the status was {ran.returncode}, wanted {status}")
+        if ran.out != wanted:
+            wrong.append(f"standard output was {ran.out[:300]!r}, wanted {wanted[:300]!r}")
+        if (not ran.err) if err is None else (ran.err != err.encode()):
+            wrong.append(f"standard error was {ran.err[:300]!r}, "
+                         f"wanted {'some text' if err is None else err!r}")
+        if ran.status != status:
+            wrong.append(f"the status was {ran.status}, wanted {status}")
         self.done += 1
         if wrong:
             self.failed += 1
@@ -70,7 +87,5 @@ class Checks:
             self.failed += 1
             print(f"{self.case}: {what}\n  was {got!r:.300}, wanted {wanted!r:.300}")
 
-    def end(self) -> None:
-        """Says how many runs there were, and ends the script."""
-        print(f"{self.done} runs, {self.failed} failed")
-        sys.exit(1 if self.failed else 0)
+    def end(self) -> NoReturn:
+        end(self.done, self.failed)

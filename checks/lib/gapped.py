@@ -1,11 +1,12 @@
-"""A night with gaps, as one EDF+D file of a producer, for the checks of runs. The annotations are of all kinds that readers may treat
-each in its own way: with a duration and without, two in a data record, texts beyond ASCII, and some that lie outside of the data record
-that has them; beside a gap and at both ends of the night these lie outside of their run too."""
+"""A night with gaps, as one EDF+D file of a producer, for the checks of runs. The annotations are
+of all kinds that readers may treat each in its own way: with a duration and without, two in a data
+record, texts beyond ASCII, and some that lie outside of the data record that has them; beside a gap
+and at both ends of the night these lie outside of their run too."""
 from dataclasses import dataclass
 from pathlib import Path
 
-import night
-from edf import keeping, tal
+from . import night
+from .edf import keeping, tal
 
 SECOND = 10**9
 
@@ -28,7 +29,8 @@ class Note:
     text: str
 
     def to_bytes(self, start: int) -> bytes:
-        return tal(onset(start + self.after), self.text, duration=decimal(self.duration) if self.duration else "")
+        return tal(onset(start + self.after), self.text,
+                   duration=decimal(self.duration) if self.duration else "")
 
 
 # The annotations of every seventh data record, in turn.
@@ -41,7 +43,8 @@ TURNS = ((Note(SECOND // 4, 3 * SECOND // 2, "Spindle"),),
 
 @dataclass(frozen=True)
 class GappedNight(night.Night):
-    """`gaps` has, by the number of a data record from 0, the nanoseconds between it and the one before."""
+    """`gaps` has, by the number of a data record from 0, the nanoseconds between it and the one
+    before."""
     gaps: tuple = ()
 
     def start_of(self, nth: int) -> int:
@@ -57,10 +60,13 @@ class GappedNight(night.Night):
 
     def whole(self, path: Path) -> Path:
         pool = self.pool()
-        path.write_bytes(self.header(0, self.records, "EDF+D") + self.records_of(pool, range(self.records), 0))
+        path.write_bytes(self.header(0, self.records, "EDF+D") +
+                         self.records_of(pool, range(self.records), 0))
         return path
 
 
-# Three gaps: of twenty minutes, one after which a run begins at a quarter of a second, and a short one.
+# Three gaps: of twenty minutes, one after which a run begins at a quarter of a second, and a short
+# one.
 NIGHT = GappedNight(samples=(100, 100, 100, 25), limits=("-3276.8", "3276.7", "-32768", "32767"),
-                    gaps=((9_121, 1_200 * SECOND), (18_256, 600 * SECOND + SECOND // 4), (25_326, 7 * SECOND + 3 * SECOND // 4)))
+                    gaps=((9_121, 1_200 * SECOND), (18_256, 600 * SECOND + SECOND // 4),
+                          (25_326, 7 * SECOND + 3 * SECOND // 4)))

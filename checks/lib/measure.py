@@ -2,51 +2,27 @@
 import os
 import re
 import shutil
+import signal
 import subprocess
 import sys
 import tempfile
 import time
+from contextlib import ExitStack
 from dataclasses import dataclass
 from pathlib import Path
-
-LIB = Path(__file__).resolve().parent
-TOP = LIB.parent.parent
-
-
-def value_of(words: list, name: str, other: str) -> str:
-    """The word after this one, both of which are taken out; the other, where it is not there."""
-    if name not in words:
-        return other
-    at = words.index(name)
-    value = words[at + 1]
-    del words[at:at + 2]
-    return value
-
-
-def program(words: list, name: str = "edfstore", option: str = "--program") -> tuple:
-    """The program to run, and the words left: the word after `--program`, or the one that `bin/edfstore` runs, or another of bin/."""
-    words = list(words)
-    given = value_of(words, option, "")
-    if given:
-        return Path(given).resolve(), words
-    script = '. "$0/bin/common.sh" && chosen_program "$1"'
-    chosen = subprocess.run(["bash", "-c", script, TOP, name], stdout=subprocess.PIPE, text=True, check=False)
-    if chosen.returncode:
-        sys.exit(f"bin/{name} has no program to run")
-    return Path(chosen.stdout.strip()), words
-
-
-def flag(words: list, name: str) -> bool:
-    """Whether the word is there; it is taken out."""
-    if name not in words:
-        return False
-    words.remove(name)
-    return True
+from subprocess import PIPE
 
 
 def compiled(source: Path, folder: Path, *libraries: str) -> Path:
     target = folder / source.stem
-    subprocess.run(["cc", "-O3", "-o", target, source, *libraries], check=True)
+    done("cc", "-O3", "-o", target, source, *libraries)
+    return target
+
+
+def library(source: Path, folder: Path) -> Path:
+    """A library that is loaded before the C library."""
+    target = folder / f"{source.stem}.so"
+    done("cc", "-O2", "-shared", "-fPIC", "-o", target, source)
     return target
 
 
@@ -55,48 +31,93 @@ def scratch() -> tempfile.TemporaryDirectory:
     return tempfile.TemporaryDirectory(prefix="edfstore-checks-")
 
 
-@dataclass
-class Run:
-    seconds: float
-    processor: float    # seconds of it, the system's for it among them
-    peak: int           # bytes
+@dataclass(frozen=True)
+class Ran:
+    """How a program ended, and what it wrote."""
     status: int
     out: bytes
     err: bytes
+    seconds: float
+    peak: int = 0               # bytes of memory, where it is measured
+    processor: float = 0.0      # seconds of it, the system's for it among them
+
+    def __str__(self) -> str:
+        return f"status {self.status}, {self.out[-300:]!r}, {self.err[-300:]!r}"
 
 
-def run(command: list, out: Path = None, given: Path = None, statuses=(0,)) -> Run:
-    """Runs to the end. `time` stands between, so that the peak is the program's and not this script's."""
-    with tempfile.NamedTemporaryFile() as told, tempfile.TemporaryFile() as kept, tempfile.TemporaryFile() as errors:
-        into = open(out, "wb") if out else kept
-        source = open(given, "rb") if given else subprocess.DEVNULL
+def ran(*words, given=os.devnull, out: Path = None, err: int = PIPE, folder: Path = None,
+        added: dict = None, most: float = None, is_measured: bool = False) -> Ran:
+    """Runs a program to its end, in this folder and with these variables added. `given` is what it
+    reads from standard input: bytes, or a file by its path or number. `out` is the file that it
+    writes to, `err` the number of the one for errors. After `most` seconds it is killed, with all
+    that it started. Where it is measured, `time` stands between, so that the peak is the program's
+    and not this script's."""
+    data = given if isinstance(given, bytes) else None
+    with ExitStack() as closing:
+        kept = closing.enter_context(tempfile.NamedTemporaryFile("r")) if is_measured else None
+        clock = ["/usr/bin/time", "-q", "-o", kept.name, "-f", "%M %U %S"] if is_measured else []
+        source = given if data is None else PIPE
+        if isinstance(given, (str, Path)):
+            source = closing.enter_context(open(given, "rb"))
+        into = closing.enter_context(open(out, "wb")) if out else PIPE
         begun = time.perf_counter()
-        done = subprocess.run(["/usr/bin/time", "-q", "-o", told.name, "-f", "%M %U %S", *map(str, command)], stdin=source, stdout=into,
-                              stderr=errors, check=False)
+        child = closing.enter_context(subprocess.Popen(
+            [*clock, *map(str, words)], stdin=source, stdout=into, stderr=err, cwd=folder,
+            env={**os.environ, **(added or {})}, start_new_session=most is not None))
+        told, said = ended(child, data, most)
         seconds = time.perf_counter() - begun
-        if out:
-            into.close()
-        if given:
-            source.close()
-        kept.seek(0)
-        errors.seek(0)
-        peak, *processor = told.read().split()[-3:]
-        answer = Run(seconds, sum(map(float, processor)), 1024 * int(peak), done.returncode, kept.read(), errors.read())
-    if statuses is not None and answer.status not in statuses:
-        sys.exit(f"{' '.join(map(str, command))[:300]}\nended with status {answer.status}\n"
-                 f"{answer.err.decode(errors='replace')[:1000]}")
-    return answer
+        peak, *processor = kept.read().split()[-3:] if is_measured else (0,)
+    return Ran(child.returncode, told or b"", said or b"", seconds, 1024 * int(peak),
+               sum(map(float, processor)))
 
 
-def instructions(command: list, out: Path, given: Path = None) -> int:
-    """The instructions that a run takes, counted by callgrind: the same whatever else the machine does."""
-    with tempfile.NamedTemporaryFile("r") as told, open(given or os.devnull, "rb") as source, open(out, "wb") as into:
-        counted = ["valgrind", "--tool=callgrind", "--callgrind-out-file=/dev/null", f"--log-file={told.name}", *map(str, command)]
-        done = subprocess.run(counted, stdin=source, stdout=into, stderr=subprocess.PIPE, check=False)
+def ended(child: subprocess.Popen, data, most: float) -> tuple:
+    """What the process writes until it ends, or until it is killed after so many seconds."""
+    try:
+        return child.communicate(data, timeout=most)
+    except subprocess.TimeoutExpired:
+        os.killpg(child.pid, signal.SIGKILL)
+        return child.communicate()
+
+
+def done(*words, statuses=(0,), **options) -> Ran:
+    """The same; the script ends where the program ends with another status."""
+    it = ran(*words, **options)
+    if it.status not in statuses:
+        sys.exit(f"{' '.join(map(str, words))[:300]}\nended with status {it.status}\n"
+                 f"{(it.out + it.err).decode(errors='replace')[:1000]}")
+    return it
+
+
+def timed(*words, **options) -> Ran:
+    """The same, with its peak memory and the seconds of processor."""
+    return done(*words, is_measured=True, **options)
+
+
+def piped(*words, source: Path) -> float:
+    """Seconds of a program between two `cat`."""
+    begun = time.perf_counter()
+    with open(source, "rb") as given, open(os.devnull, "wb") as nothing:
+        before = subprocess.Popen(["cat"], stdin=given, stdout=PIPE)
+        middle = subprocess.Popen([*map(str, words)], stdin=before.stdout, stdout=PIPE)
+        before.stdout.close()
+        after = subprocess.Popen(["cat"], stdin=middle.stdout, stdout=nothing)
+        middle.stdout.close()
+        for child in (before, middle, after):
+            if child.wait():
+                sys.exit(f"{child.args[0]} ended with status {child.returncode}")
+    return time.perf_counter() - begun
+
+
+def instructions(*words, out: Path, given=os.devnull) -> int:
+    """The instructions that a run takes, counted by callgrind: the same whatever else the machine
+    does."""
+    with tempfile.NamedTemporaryFile("r") as told:
+        done("valgrind", "--tool=callgrind", "--callgrind-out-file=/dev/null",
+             f"--log-file={told.name}", *words, out=out, given=given)
         collected = re.search(r"Collected : (\d+)", told.read())
-    if done.returncode or not collected:
-        sys.exit(f"{' '.join(map(str, command))[:300]}\nended with status {done.returncode} under callgrind\n"
-                 f"{done.stderr.decode(errors='replace')[:1000]}")
+    if not collected:
+        sys.exit(f"callgrind counted nothing: {' '.join(map(str, words))[:300]}")
     return int(collected[1])
 
 
@@ -122,9 +143,19 @@ def copy_synced(parts: list, target: Path) -> float:
 
 
 def machine() -> str:
-    model = next((line.split(":")[1].strip() for line in open("/proc/cpuinfo") if line.startswith("model name")), "?")
+    model = next((line.split(":")[1].strip() for line in open("/proc/cpuinfo")
+                  if line.startswith("model name")), "?")
     one, five, _ = os.getloadavg()
-    return f"{os.cpu_count()} processors ({model}), Linux {os.uname().release}, load {one:.1f} and {five:.1f} over 1 and 5 minutes"
+    return (f"{os.cpu_count()} processors ({model}), Linux {os.uname().release}, "
+            f"load {one:.1f} and {five:.1f} over 1 and 5 minutes")
+
+
+def loop() -> float:
+    """The processor seconds of twenty million additions: more in a slow hour of the host."""
+    begun, count = time.process_time(), 0
+    while count < 20_000_000:
+        count += 1
+    return time.process_time() - begun
 
 
 def loop() -> float:

@@ -1,11 +1,13 @@
-"""A plain model of `edfstore`, written from docs/FORMAT.md and docs/REFUSALS.md alone: what is wrong with a file, what a store
-answers to a list of files and then holds, what it lists and exports. It is short and slow on purpose; it knows no store and no
-transaction, and nothing of it comes from the program.
+"""A plain model of `edfstore`, written from docs/FORMAT.md and docs/REFUSALS.md alone: what is
+wrong with a file, what a store answers to a list of files and then holds, what it lists and
+exports. It is short and slow on purpose; it knows no store and no transaction, and nothing of it
+comes from the program.
 
-    from model import Store
-    store = Store(); store.take(data)           'accepted new=1 known=0' or 'refused E21 CutRecord record=1'
-    store.lines()                               the lines of `list`, as text
-    store.export(1)                             the canonical file of the recording at place 1, as bytes
+    from lib import model
+    store = model.Store()
+    store.take(data)        'accepted new=1 known=0' or 'refused E21 CutRecord record=1'
+    store.lines()           the lines of `list`, as text
+    store.export(1)         the canonical file of the recording at place 1, as bytes
 """
 import re
 import sys
@@ -14,24 +16,28 @@ from dataclasses import dataclass
 from datetime import date
 from fractions import Fraction
 
+from . import told
+
 sys.set_int_max_str_digits(0)        # an onset may be spelled with a million zeros
 
 SECOND = 10**9
 DAY = 86_400 * SECOND
 WINDOW = 73_049 * DAY                # 1985 to 2184
-LETTERS = range(36_525, 73_049)      # the days of 2085 to 2184, whose startdates have the letters yy for the year
+LETTERS = range(36_525, 73_049)      # days of 2085 to 2184: their startdates have yy for the year
 EPOCH = date(1985, 1, 1).toordinal()
 ANNOTATIONS = b"EDF Annotations "
 UNKNOWN = b"-1      "                # the number of data records of a file that doesn't tell it
 MOST_RECORDS, MOST_BYTES, MOST_NOTES, MOST_TEXT = 99_999_999, 4_194_304, 10_000, 1_000_000
-MONTHS = (b"JAN", b"FEB", b"MAR", b"APR", b"MAY", b"JUN", b"JUL", b"AUG", b"SEP", b"OCT", b"NOV", b"DEC")
+MONTHS = (b"JAN", b"FEB", b"MAR", b"APR", b"MAY", b"JUN", b"JUL", b"AUG", b"SEP", b"OCT", b"NOV",
+          b"DEC")
 WIDTHS = (16, 80, 8, 8, 8, 8, 8, 80, 8, 32)
 
 WHOLE = re.compile(rb"([0-9]+) *\Z")
 SIGNED = re.compile(rb"([+-]?[0-9]+) *\Z")
 DECIMAL = re.compile(rb"([0-9]+)(?:\.([0-9]+))? *\Z")
 PHYSICAL = re.compile(rb"([+-]?)([0-9]+)(?:\.([0-9]*))? *\Z")
-LIST = re.compile(rb"([+-])([0-9]+)(?:\.([0-9]+))?(?:\x15([0-9]+)(?:\.([0-9]+))?)?\x14((?:[^\x00\x14]*\x14)*)\x00")
+LIST = re.compile(rb"([+-])([0-9]+)(?:\.([0-9]+))?(?:\x15([0-9]+)(?:\.([0-9]+))?)?\x14"
+                  rb"((?:[^\x00\x14]*\x14)*)\x00")
 
 
 class Refused(Exception):
@@ -73,7 +79,8 @@ def signed(text: bytes):
 
 
 def least_and_most(count: bytes):
-    """How few and how many data records a file of this count may have; None where it is no count."""
+    """How few and how many data records a file of this count may have; None where it is no
+    count."""
     if count == UNKNOWN:
         return 1, MOST_RECORDS
     number = whole(count)
@@ -103,8 +110,10 @@ def physical(text: bytes):
 
 
 def day_of(year: int, month: int, day: int):
-    """Days from 1985-01-01, in the Gregorian calendar carried backwards; None where there is no such day."""
-    cycles = 1 if year == 0 else 0          # Python's dates begin with the year 1; 400 years are 146,097 days
+    """Days from 1985-01-01, in the Gregorian calendar carried backwards; None where there is no
+    such day."""
+    # Python's dates begin with the year 1; 400 years are 146,097 days
+    cycles = 1 if year == 0 else 0
     try:
         return date(year + 400 * cycles, month, day).toordinal() - 146_097 * cycles - EPOCH
     except ValueError:
@@ -129,11 +138,12 @@ def start_date(text: bytes):
 def is_yearless(text: bytes) -> bool:
     """Whether the text is a day and a month of some year, with the letters yy for the year."""
     found = re.match(rb"([0-9]{2})\.([0-9]{2})\.yy\Z", text)
-    return bool(found) and day_of(2096, int(found[2]), int(found[1])) is not None       # a leap year
+    return bool(found) and day_of(2096, int(found[2]), int(found[1])) is not None    # a leap year
 
 
 def late_date(text: bytes, day: int):
-    """The day that a startdate with the letters yy names beside this day in the Startdate subfield; None where it is not that one."""
+    """The day that a startdate with the letters yy names beside this day in the Startdate subfield;
+    None where it is not that one."""
     if day not in LETTERS:
         return None
     named = date.fromordinal(EPOCH + day)
@@ -159,7 +169,8 @@ def is_patient(text: bytes) -> bool:
 
 
 def recording(text: bytes):
-    """The day or None, the letter, and what follows the Startdate subfield as 69 bytes; None where it is no such field."""
+    """The day or None, the letter, and what follows the Startdate subfield as 69 bytes; None where
+    it is no such field."""
     found = re.match(rb"Startdate ([^ ]+)( .*)\Z", text, re.DOTALL)
     if not found or len(subfields(found[2])) < 3:
         return None
@@ -172,7 +183,8 @@ def recording(text: bytes):
 def is_annotations(row: tuple) -> bool:
     """Whether the fields of a signal that is labelled so are those of an annotations signal."""
     low, high = physical(row[3]), physical(row[4])
-    return signed(row[5]) == -32768 and signed(row[6]) == 32767 and low is not None and high is not None and low != high
+    is_ranged = low is not None and high is not None and low != high
+    return is_ranged and signed(row[5]) == -32768 and signed(row[6]) == 32767
 
 
 def unprintable(part: bytes):
@@ -277,7 +289,8 @@ class Layout:
                 raise Refused(f"E18 Digital signal={i}")
 
     def parted(self, record: bytes) -> tuple:
-        """The ordinary sample bytes of a data record and the list of its annotations blocks, both in file order."""
+        """The ordinary sample bytes of a data record and the list of its annotations blocks, both
+        in file order."""
         samples, blocks, at = [], [], 0
         for is_block, size in self.parts:
             (blocks if is_block else samples).append(record[at:at + size])
@@ -286,8 +299,8 @@ class Layout:
 
 
 def read_lists(block: bytes, nth: int, front: int) -> list:
-    """The lists of a block: onset, duration or None, and the texts with their offsets. `front` is how many bytes the blocks before
-    it have, since offsets count over all blocks of a record."""
+    """The lists of a block: onset, duration or None, and the texts with their offsets. `front` is
+    how many bytes the blocks before it have, since offsets count over all blocks of a record."""
     lists, at = [], 0
     while at < len(block) and block[at]:
         found = LIST.match(block, at)
@@ -299,7 +312,8 @@ def read_lists(block: bytes, nth: int, front: int) -> list:
         for text in found[6].split(b"\x14")[:-1]:
             texts.append((place, text))
             place += len(text) + 1
-        lists.append((-onset if found[1] == b"-" else onset, None if found[4] is None else duration, texts))
+        lists.append((-onset if found[1] == b"-" else onset,
+                      None if found[4] is None else duration, texts))
         at = found.end()
     if block[at:].strip(b"\0"):
         raise Refused(f"E22 Tal record={nth} offset={front + at}")
@@ -316,8 +330,8 @@ def check_texts(lists: list, nth: int) -> None:
 
 
 def read_blocks(blocks: list, nth: int, layout: Layout, before) -> tuple:
-    """The start of the record, which its first block tells, and its annotations, those of all blocks in their order; `before` is
-    the start of the record before it, or None."""
+    """The start of the record, which its first block tells, and its annotations, those of all
+    blocks in their order; `before` is the start of the record before it, or None."""
     each, front = [], 0
     for block in blocks:
         each.append(read_lists(block, nth, front))
@@ -334,15 +348,16 @@ def read_blocks(blocks: list, nth: int, layout: Layout, before) -> tuple:
     start = layout.start + first[0][0]
     if before is not None and start < before + layout.duration:
         raise Refused(f"E27 Order record={nth}")
-    notes = tuple((layout.start + onset, duration, text) for onset, duration, texts in lists for _, text in texts)[1:]
+    notes = tuple((layout.start + onset, duration, text) for onset, duration, texts in lists
+                  for _, text in texts)[1:]
     if len(notes) > MOST_NOTES or sum(len(text) for _, _, text in notes) > MOST_TEXT:
         raise Refused(f"E28 TooMany record={nth}")
     return start, notes
 
 
 def read(data: bytes) -> tuple:
-    """The key and the records of a file, or `Refused` with its first fault. Where the file doesn't tell how many records it has, a
-    record behind the first is there where a byte of it is."""
+    """The key and the records of a file, or `Refused` with its first fault. Where the file doesn't
+    tell how many records it has, a record behind the first is there where a byte of it is."""
     layout = Layout(data)
     records, at, before = [], 256 + 256 * layout.ns, None
     while len(records) < layout.least or (at < len(data) and len(records) < layout.most):
@@ -368,7 +383,8 @@ def shortest(nanos: int) -> bytes:
 def civil(instant: int) -> tuple:
     day, rest = divmod(instant, DAY)
     seconds, fraction = divmod(rest, SECOND)
-    return date.fromordinal(EPOCH + day), seconds // 3600, seconds // 60 % 60, seconds % 60, fraction
+    named = date.fromordinal(EPOCH + day)
+    return named, seconds // 3600, seconds // 60 % 60, seconds % 60, fraction
 
 
 def instant_text(instant: int) -> str:
@@ -379,7 +395,8 @@ def instant_text(instant: int) -> str:
 
 def written_list(onset: int, duration, text: bytes) -> bytes:
     spelled = b"" if duration is None else b"\x15" + shortest(duration)
-    return (b"-" if onset < 0 else b"+") + shortest(abs(onset)) + spelled + b"\x14" + text + b"\x14\0"
+    sign = b"-" if onset < 0 else b"+"
+    return sign + shortest(abs(onset)) + spelled + b"\x14" + text + b"\x14\0"
 
 
 def written_block(record: Record, base: int) -> bytes:
@@ -391,20 +408,23 @@ def canonical(key: Key, records: list) -> bytes:
     """The one canonical file of these records, which rise."""
     base = records[0].start // SECOND * SECOND
     day, hour, minute, second, _ = civil(base)
-    dated = b"%02d-%s-%04d" % (day.day, MONTHS[day.month - 1], day.year) if key.dated == b"D" else b"X"
+    named = b"%02d-%s-%04d" % (day.day, MONTHS[day.month - 1], day.year)
+    dated = named if key.dated == b"D" else b"X"
     year = b"yy" if base // DAY in LETTERS else b"%02d" % (day.year % 100)
     blocks = [written_block(record, base) for record in records]
     samples = (max(len(block) for block in blocks) + 1) // 2
     notes = (ANNOTATIONS, b"", b"", b"-1", b"1", b"-32768", b"32767", b"", b"%d" % samples, b"")
     ns = len(key.rows) + 1
     fixed = b"".join((b"0       ", key.patient, (b"Startdate " + dated + key.following)[:80],
-                      b"%02d.%02d.%s" % (day.day, day.month, year), b"%02d.%02d.%02d" % (hour, minute, second),
-                      b"%-8d" % (256 + 256 * ns), b"EDF+D".ljust(44), b"%-8d" % len(records), key.duration_text, b"%-4d" % ns))
+                      b"%02d.%02d.%s" % (day.day, day.month, year),
+                      b"%02d.%02d.%02d" % (hour, minute, second), b"%-8d" % (256 + 256 * ns),
+                      b"EDF+D".ljust(44), b"%-8d" % len(records), key.duration_text, b"%-4d" % ns))
     part, at = [], 0
     for width, text in zip(WIDTHS, notes):
         part += [row[at:at + width] for row in key.rows] + [text.ljust(width)]
         at += width
-    body = [piece for record, block in zip(records, blocks) for piece in (record.samples, block.ljust(2 * samples, b"\0"))]
+    body = [piece for record, block in zip(records, blocks)
+            for piece in (record.samples, block.ljust(2 * samples, b"\0"))]
     return b"".join([fixed, *part, *body])
 
 
@@ -422,25 +442,27 @@ class Store:
             key, records = read(data)
             new = self._new(key, records)
         except Refused as fault:
-            return f"refused {fault}"
+            return told.refused(str(fault))
         if new:
             starts, held = self.held.setdefault(key, ([], []))
             for record in new:
                 at = bisect_left(starts, record.start)
                 starts.insert(at, record.start)
                 held.insert(at, record)
-        return f"accepted new={len(new)} known={len(records) - len(new)}"
+        return told.accepted(len(new), len(records) - len(new))
 
     def _new(self, key: Key, records: list) -> list:
         starts, held = self.held.get(key, ([], []))
         new = []
         for record in records:
-            near = held[bisect_left(starts, record.start - key.duration() + 1):bisect_left(starts, record.start + key.duration())]
+            begin = bisect_left(starts, record.start - key.duration() + 1)
+            near = held[begin:bisect_left(starts, record.start + key.duration())]
             clashing = [stored for stored in near if stored != record]
             if clashing and clashing[0].start == record.start:
                 raise Refused(f"E31 Differs start={instant_text(record.start)}")
             if clashing:
-                raise Refused(f"E30 Overlap start={instant_text(record.start)} stored={instant_text(clashing[0].start)}")
+                raise Refused(f"E30 Overlap start={instant_text(record.start)} "
+                              f"stored={instant_text(clashing[0].start)}")
             if not near:
                 new.append(record)
         if new and len(held) + len(new) > self.cap:
@@ -454,9 +476,8 @@ class Store:
         lines = []
         for place, key in enumerate(self.keys(), 1):
             starts, records = self.held[key]
-            patient, investigation = subfields(key.patient)[0].decode(), subfields(key.following)[0].decode()
-            lines.append(f"{place} records={len(records)} first={instant_text(starts[0])} "
-                         f"patient={patient} investigation={investigation}\n")
+            codes = (subfields(text)[0].decode() for text in (key.patient, key.following))
+            lines.append(told.recording(place, len(records), instant_text(starts[0]), *codes))
         return "".join(lines)
 
     def export(self, place: int) -> bytes:

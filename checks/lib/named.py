@@ -1,15 +1,20 @@
-"""The small files of the stories by their names, built field by field. But for those with letters for names, they are of Q's recording,
-cut and changed. Those that are exported are spelled as exports are.
+"""The small files of the stories by their names, built field by field. But for those with letters
+for names, they are of Q's recording, cut and changed. Those that are exported are spelled as
+exports are.
 """
-from by_hand import COUNT, HEADER_BYTES, LABEL, RECORDING, RESERVED, SIGNALS, SIZE, STARTDATE, STARTTIME, canonical, column, field
-from edf import Header, Signal, annotations_signal, fragment, keeping, small_files, tal
+from .by_hand import (COUNT, HEADER_BYTES, LABEL, RECORDING, RESERVED, SIGNALS, SIZE, STARTDATE,
+                      STARTTIME, canonical, column, field)
+from .edf import Header, Signal, annotations_signal, fragment, keeping, small_files, tal
 
 LETTERS = small_files()
 Q, K, U, V = (LETTERS[letter] for letter in "QKUV")
-ONE, TWO, THREE, FIVE, SIX = (bytes.fromhex(text) for text in ("0100FFFF", "0200FEFF", "0300FDFF", "05000000", "06000000"))
+ONE, TWO, THREE, FIVE, SIX = (
+    bytes.fromhex(text) for text in ("0100FFFF", "0200FEFF", "0300FDFF", "05000000", "06000000"))
 MARCH_3 = {"startdate": "03.03.02", "recording": "Startdate 03-MAR-2002 N1 T3 REC5"}
-LAST_SECOND = {"startdate": "31.12.yy", "starttime": "23.59.59", "recording": "Startdate 31-DEC-2184 N1 T3 REC5"}
-END_OF_2084 = {"startdate": "31.12.84", "starttime": "23.59.59", "recording": "Startdate 31-DEC-2084 N1 T3 REC5"}
+LAST_SECOND = {"startdate": "31.12.yy", "starttime": "23.59.59",
+               "recording": "Startdate 31-DEC-2184 N1 T3 REC5"}
+END_OF_2084 = {"startdate": "31.12.84", "starttime": "23.59.59",
+               "recording": "Startdate 31-DEC-2084 N1 T3 REC5"}
 UNDATED_END = END_OF_2084 | {"recording": "Startdate X N1 T3 REC5"}
 P5_BEHIND_Q = (TWO, keeping("+15") + tal("+15.5", "Snore") + tal("+15.5", "Turn"))
 
@@ -18,7 +23,8 @@ P5_BEHIND_Q = (TWO, keeping("+15") + tal("+15.5", "Snore") + tal("+15.5", "Turn"
 
 def evening(*records, samples: int = 3, **fields) -> bytes:
     """Data records of Q's recording from Q's start on, unless another is named."""
-    return fragment(Header((Signal(), annotations_signal(samples)), count=fields.pop("count", str(len(records))), **fields), records)
+    return fragment(Header((Signal(), annotations_signal(samples)),
+                           count=fields.pop("count", str(len(records))), **fields), records)
 
 
 def second(n: int) -> tuple:
@@ -32,7 +38,8 @@ def patched(data: bytes, at: int, text: bytes) -> bytes:
 
 def fitting() -> dict:
     """Files that are taken, most of them beside Q."""
-    small = {f"{letter.lower()}.edf": LETTERS[letter] for letter in ("Q", "P5", "R9", "N1", "N2", "N3", "K", "U", "V")}
+    small = {f"{letter.lower()}.edf": LETTERS[letter]
+             for letter in ("Q", "P5", "R9", "N1", "N2", "N3", "K", "U", "V")}
     return small | {
         "before.edf": evening((THREE, keeping("+0")), starttime="23.59.49"),
         "after.edf": evening((TWO, keeping("+0")), starttime="23.59.51"),
@@ -55,8 +62,10 @@ def refused() -> dict:
         "late.edf": patched(Q, 773, b"1"),
         "other.edf": patched(Q, 768, b"\0"),
         "no_such_hour.edf": field(Q, STARTTIME, "24.00.00"),
-        "past.edf": evening((ONE, keeping("+0.5")), (TWO, keeping("+1.5")), samples=4, **LAST_SECOND),
-        "half.edf": evening((FIVE, keeping("+0")), (SIX, keeping("+10.5")), samples=4, starttime="23.59.40"),
+        "past.edf": evening((ONE, keeping("+0.5")), (TWO, keeping("+1.5")), samples=4,
+                            **LAST_SECOND),
+        "half.edf": evening((FIVE, keeping("+0")), (SIX, keeping("+10.5")), samples=4,
+                            starttime="23.59.40"),
         "half_alone.edf": evening((FIVE, keeping("+0.5")), samples=4),
         "cut_second.edf": evening(one, two)[:781],
         "cut_third.edf": patched(evening(one, two, (THREE, keeping("+2"))), 768, b"\0")[:791],
@@ -69,12 +78,14 @@ def expected() -> dict:
     return {
         "q_and_p5.edf": canonical((ONE, keeping("+0")), P5_BEHIND_Q),
         "q_r9_and_p5.edf": canonical((ONE, keeping("+0")), (THREE, keeping("+10")), P5_BEHIND_Q),
-        "before_q_and_after.edf": canonical((THREE, keeping("+0")), (ONE, keeping("+1")), (TWO, keeping("+2")), starttime="23.59.49"),
+        "before_q_and_after.edf": canonical((THREE, keeping("+0")), (ONE, keeping("+1")),
+                                            (TWO, keeping("+2")), starttime="23.59.49"),
         "n1_and_n2.edf": canonical(second(0), second(1), starttime="01.00.00", **MARCH_3),
-        "n2_and_n3.edf": canonical((second(1)[0], keeping("+0")), (second(2)[0], keeping("+1")), starttime="01.00.01", **MARCH_3),
+        "n2_and_n3.edf": canonical((second(1)[0], keeping("+0")), (second(2)[0], keeping("+1")),
+                                   starttime="01.00.01", **MARCH_3),
         "canonical_k.edf": field(K, RESERVED, "EDF+D"),
-        "canonical_u.edf": column(field(U, RESERVED, "EDF+D"), SIZE, 2, "11")[:768]
-        + b"\1\0\2\0" + keeping("+0") + tal("+0.5", "Lights off") + b"\3\0\4\0" + keeping("+1").ljust(22, b"\0"),
+        "canonical_u.edf": column(field(U, RESERVED, "EDF+D"), SIZE, 2, "11")[:768] + b"\1\0\2\0" +
+        keeping("+0") + tal("+0.5", "Lights off") + b"\3\0\4\0" + keeping("+1").ljust(22, b"\0"),
         "canonical_v.edf": canonical((ONE, keeping("+0") + tal("+0.5", "Snore"))),
     }
 
@@ -103,25 +114,30 @@ def of_other_years() -> dict:
     """Files that start after 2084, and files that go on into these years."""
     start, later = (ONE, keeping("+0")), (TWO, keeping("+1"))
     of_2102 = {"startdate": "02.03.yy", "recording": "Startdate 02-MAR-2102 N1 T3 REC5"}
-    files = {name: field(field(field(Q, RECORDING, f"Startdate {day} N1 T3 REC5"), STARTDATE, date), STARTTIME, time)
-             for name, (day, date, time) in OF_OTHER_YEARS.items()}
+    files = {name: field(field(field(Q, RECORDING, f"Startdate {day} N1 T3 REC5"), STARTDATE, date),
+                         STARTTIME, time) for name, (day, date, time) in OF_OTHER_YEARS.items()}
     return files | {
         "half_of_2102.edf": evening((FIVE, keeping("+0.5")), samples=4, **of_2102),
         "last_nanosecond.edf": evening((ONE, keeping("+0.999999999")), samples=8, **LAST_SECOND),
         "nanosecond_past.edf": evening(start, later, **LAST_SECOND),
-        "annotation_past.edf": evening((ONE, keeping("+0") + tal("+1", "Turn")), samples=7, **LAST_SECOND),
-        "into_2085.edf": evening((ONE, keeping("+0.5")), (TWO, keeping("+1.5")), samples=4, **END_OF_2084),
+        "annotation_past.edf": evening((ONE, keeping("+0") + tal("+1", "Turn")), samples=7,
+                                       **LAST_SECOND),
+        "into_2085.edf": evening((ONE, keeping("+0.5")), (TWO, keeping("+1.5")), samples=4,
+                                 **END_OF_2084),
         "undated_into_2085.edf": evening(start, later, **UNDATED_END),
-        "undated_spelled_otherwise.edf": evening((ONE, keeping("-0.0")), (TWO, keeping("+01.00")), samples=9, reserved="EDF+C",
-                                                 **UNDATED_END),
-        "undated_end_of_2084.edf": evening((ONE, keeping("+0.999999999")), samples=8, **UNDATED_END),
-        "end_and_first.edf": evening(start, (ONE, keeping("+15")), **END_OF_2084 | {"starttime": "23.59.50"}),
+        "undated_spelled_otherwise.edf": evening((ONE, keeping("-0.0")), (TWO, keeping("+01.00")),
+                                                 samples=9, reserved="EDF+C", **UNDATED_END),
+        "undated_end_of_2084.edf": evening((ONE, keeping("+0.999999999")), samples=8,
+                                           **UNDATED_END),
+        "end_and_first.edf": evening(start, (ONE, keeping("+15")),
+                                     **END_OF_2084 | {"starttime": "23.59.50"}),
         "q_and_2102.edf": evening(start, (ONE, keeping("+3155673600")), samples=7),
     }
 
 
 def without_count(data: bytes, size: int, at: int = 0, text: bytes = b"") -> bytes:
-    """The front of a file that doesn't tell how many data records it has and has ten zeros more, with another text in it."""
+    """The front of a file that doesn't tell how many data records it has and has ten zeros more,
+    with another text in it."""
     return patched(field(data, COUNT, "-1") + bytes(10), at, text)[:size]
 
 
@@ -148,7 +164,8 @@ def uncounted() -> dict:
 def p5_in_blocks(first: bytes, later: bytes) -> bytes:
     """The data record of P5, its annotations in these blocks after the one that keeps time."""
     signals = (annotations_signal(3), annotations_signal(6), Signal(), annotations_signal(6))
-    return fragment(Header(signals, starttime="00.00.05", **MARCH_3), [(TWO, [keeping("+0"), first, later])])
+    return fragment(Header(signals, starttime="00.00.05", **MARCH_3),
+                    [(TWO, [keeping("+0"), first, later])])
 
 
 def several_signals() -> dict:
@@ -161,7 +178,8 @@ def several_signals() -> dict:
         "uncounted_v.edf": field(V, COUNT, "-1"),
         "p5_in_blocks.edf": p5_in_blocks(snore, turn),
         "p5_turned.edf": p5_in_blocks(turn, snore),
-        "too_large.edf": Header((annotations_signal(2_097_152), Signal(), annotations_signal(1))).to_bytes(),
+        "too_large.edf": Header(
+            (annotations_signal(2_097_152), Signal(), annotations_signal(1))).to_bytes(),
         "no_ordinary.edf": column(Q, LABEL, 1, "EDF Annotations "),
     }
 
@@ -175,10 +193,13 @@ def promising() -> dict:
         "signals_3.edf": field(Q, SIGNALS, "3"),
         "signals_640.edf": field(field(Q, SIGNALS, "640"), HEADER_BYTES, "164096"),
         "signals_641.edf": field(Q, SIGNALS, "641"),
-        "two_large_signals.edf": Header((Signal(samples="1048577"), Signal(samples="1048577"), annotations_signal(3))).to_bytes(),
+        "two_large_signals.edf": Header(
+            (Signal(samples="1048577"), Signal(samples="1048577"),
+             annotations_signal(3))).to_bytes(),
     }
 
 
 def files() -> dict:
     """Every file of the stories by its name."""
-    return fitting() | refused() | expected() | of_other_years() | uncounted() | several_signals() | promising()
+    return (fitting() | refused() | expected() | of_other_years() | uncounted() |
+            several_signals() | promising())

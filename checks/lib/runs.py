@@ -1,15 +1,17 @@
-"""A plain model of `edfruns`, beside the one of `edfstore`: the runs of a file, the line of each and the file of each. A run is a longest
-stretch of data records each of which starts where the one before ends, to the nanosecond.
+"""A plain model of `edfruns`, beside the one of `edfstore`: the runs of a file, the line of each
+and the file of each. A run is a longest stretch of data records each of which starts where the one
+before ends, to the nanosecond.
 
-    from runs import read_runs
-    runs = read_runs(data)                      or model.Refused, with the first fault of the file
-    runs[0].line()                              '1 records=3 first=2002-03-02T22:00:00 seconds=3 gap=0.5\\n'
-    runs[0].to_bytes()                          the run's file
-    split_lines("night", runs)                  what `split` prints; split_names("night", runs) are the files that it makes
+    from lib import runs
+    made = runs.read_runs(data)         or model.Refused, with the first fault of the file
+    made[0].line()                      its line, as text
+    made[0].to_bytes()                  its file
+    runs.split_lines("night", made)     what `split` prints
+    runs.split_names("night", made)     the files that it makes
 """
 from dataclasses import dataclass
 
-import model
+from . import model, told
 
 RESERVED = slice(192, 197)      # where a file says EDF+C or EDF+D
 
@@ -30,9 +32,9 @@ class Run:
         return len(self.records) * self.key.duration()
 
     def line(self) -> str:
-        gap = f" gap={model.shortest(self.gap).decode()}" if self.gap else ""
-        return (f"{self.number} records={len(self.records)} first={model.instant_text(self.first())} "
-                f"seconds={model.shortest(self.length()).decode()}{gap}\n")
+        seconds, gap = (model.shortest(nanos).decode() for nanos in (self.length(), self.gap))
+        return told.run(self.number, len(self.records), model.instant_text(self.first()), seconds,
+                        gap if self.gap else "")
 
     def to_bytes(self) -> bytes:
         """The canonical file of its data records, but that it is marked as one without a gap."""
@@ -56,8 +58,10 @@ def read_runs(data: bytes) -> list:
     key, records = model.read(data)
     stretches = parted(key, records)
     nexts = [stretch[0].start for stretch in stretches[1:]]
-    gaps = [start - stretch[-1].start - key.duration() for stretch, start in zip(stretches, nexts)] + [0]
-    return [Run(number, key, tuple(stretch), gap) for number, (stretch, gap) in enumerate(zip(stretches, gaps), 1)]
+    gaps = [start - stretch[-1].start - key.duration()
+            for stretch, start in zip(stretches, nexts)] + [0]
+    return [Run(number, key, tuple(stretch), gap)
+            for number, (stretch, gap) in enumerate(zip(stretches, gaps), 1)]
 
 
 def lines(runs: list) -> str:

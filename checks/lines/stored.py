@@ -1,5 +1,6 @@
 #!/usr/bin/env python3
-"""The files of the programs' stored runs, which the gate runs: compared with those made here, and run; or written anew.
+"""The files of the programs' stored runs, which the gate runs: compared with those made here, and
+run; or written anew.
 
     checks/lines/stored.py [--program PATH] [--edfruns PATH] [--write]
 
@@ -14,18 +15,13 @@ another cap than its own are left to the gate.
 """
 import shutil
 import sqlite3
-import subprocess
 import sys
 from pathlib import Path
 
-sys.path.insert(0, str(Path(__file__).resolve().parent.parent / "lib"))
-import edf  # noqa: E402
-import measure  # noqa: E402
-import model  # noqa: E402
-import named  # noqa: E402
-import stories  # noqa: E402
+from lib import arguments, edf, measure, model, named, stories, told
+from lib.checks import end
 
-CRATES = measure.TOP / "crates"
+CRATES = arguments.TOP / "crates"
 FILES = edf.small_files()
 Q, P5, R9, K, U = (FILES[letter] for letter in ("Q", "P5", "R9", "K", "U"))
 MARCH_3 = {"startdate": "03.03.02", "recording": "Startdate 03-MAR-2002 N1 T3 REC5"}
@@ -36,9 +32,13 @@ STORED = "edfstore_stored_run"
 
 def nap() -> bytes:
     """Two data records of half a second of another patient, with two ordinary signals."""
-    signals = (edf.Signal("EEG C3-A2", samples="4"), edf.annotations_signal(10), edf.Signal("EMG chin", samples="2"))
-    header = edf.Header(signals, "04.03.02", "13.00.00", "P12 M X Doe", "Startdate 04-MAR-2002 N4 T1 REC2", "EDF+C", "2", "0.5")
-    return edf.fragment(header, [(bytes(range(12)), edf.keeping("+0.25")), (bytes(range(12, 24)), edf.keeping("+0.75"))])
+    signals = (edf.Signal("EEG C3-A2", samples="4"), edf.annotations_signal(10),
+               edf.Signal("EMG chin", samples="2"))
+    header = edf.Header(signals, "04.03.02", "13.00.00", "P12 M X Doe",
+                        "Startdate 04-MAR-2002 N4 T1 REC2", "EDF+C", "2", "0.5")
+    return edf.fragment(
+        header,
+        [(bytes(range(12)), edf.keeping("+0.25")), (bytes(range(12, 24)), edf.keeping("+0.75"))])
 
 
 def sample_bytes(nth: int) -> bytes:
@@ -46,14 +46,18 @@ def sample_bytes(nth: int) -> bytes:
 
 
 def long_spelling() -> bytes:
-    """Ten minutes from one o'clock: annotations before the samples, texts in one list, with spare samples."""
-    blocks = [edf.keeping(f"+{n}.000") + (edf.tal(f"+{n}.50", "Snore", "Turn") if n % 7 == 0 else b"") for n in range(MANY)]
-    header = edf.Header((edf.annotations_signal(57), edf.Signal()), starttime="01.00.00", reserved="EDF+C", count=str(MANY), **MARCH_3)
+    """Ten minutes from one o'clock: annotations before the samples, texts in one list, with spare
+    samples."""
+    blocks = [edf.keeping(f"+{n}.000") +
+              (edf.tal(f"+{n}.50", "Snore", "Turn") if n % 7 == 0 else b"") for n in range(MANY)]
+    header = edf.Header((edf.annotations_signal(57), edf.Signal()), starttime="01.00.00",
+                        reserved="EDF+C", count=str(MANY), **MARCH_3)
     return edf.fragment(header, [(sample_bytes(n), block) for n, block in enumerate(blocks)])
 
 
 def card() -> bytes:
-    """The same and Q, from Q's start on: annotations behind the samples, a list a text, no more samples than needed."""
+    """The same and Q, from Q's start on: annotations behind the samples, a list a text, no more
+    samples than needed."""
     records = [(Q[768:772], edf.keeping("+0"))]
     for n in range(MANY):
         onset = HOUR + n
@@ -66,34 +70,33 @@ def card() -> bytes:
 def exported() -> bytes:
     """What P5, K, Q and R9 come to: six data records in the order of their starts, from Q's on."""
     snore = edf.keeping("+15") + edf.tal("+15.5", "Snore") + edf.tal("+15.5", "Turn")
-    records = [(Q[768:772], edf.keeping("+0")), (bytes.fromhex("0300FDFF"), edf.keeping("+10")), (bytes.fromhex("0200FEFF"), snore)]
+    records = [(Q[768:772], edf.keeping("+0")), (bytes.fromhex("0300FDFF"), edf.keeping("+10")),
+               (bytes.fromhex("0200FEFF"), snore)]
     records += [(bytes([n, 0, 0, 0]), edf.keeping(f"+{HOUR + n - 10}")) for n in (10, 11, 12)]
     return edf.fragment(edf.Header((edf.Signal(), edf.annotations_signal(16)), count="6"), records)
 
 
 def two_gaps() -> bytes:
-    """Six data records of a second, 0.25, 1.25, 2.25, 10.75, 11.75 and 3610 seconds after Q's start."""
-    blocks = [edf.keeping("+0.25"), edf.keeping("+1.25") + edf.tal("+1.5", "Snore"), edf.keeping("+2.25"), edf.keeping("+10.75"),
-              edf.keeping("+11.75"), edf.keeping("+3610") + edf.tal("+3610.5", "Turn", duration="0.5")]
+    """Six data records of a second, 0.25, 1.25, 2.25, 10.75, 11.75 and 3610 seconds after Q's
+    start."""
+    blocks = [edf.keeping("+0.25"), edf.keeping("+1.25") + edf.tal("+1.5", "Snore"),
+              edf.keeping("+2.25"), edf.keeping("+10.75"), edf.keeping("+11.75"),
+              edf.keeping("+3610") + edf.tal("+3610.5", "Turn", duration="0.5")]
     header = edf.Header((edf.Signal(), edf.annotations_signal(14)), count=str(len(blocks)))
-    return edf.fragment(header, [(bytes([n, 0, 0xff - n, 0xff]), block) for n, block in enumerate(blocks, 1)])
+    return edf.fragment(
+        header, [(bytes([n, 0, 0xff - n, 0xff]), block) for n, block in enumerate(blocks, 1)])
 
 
 HELD = (P5, K, U, Q, nap(), R9)
-LISTED = b"""1 records=2 first=2002-03-04T13:00:00.25 patient=P12 investigation=N4
-2 records=6 first=2002-03-02T23:59:50 patient=P7 investigation=N1
-3 records=2 first=2002-03-02T22:00:00 patient=X investigation=X
-"""
-TAKEN = b"""a.edf accepted new=1 known=0
-missing.edf refused E40 Read
-b.edf refused E30 Overlap start=2002-03-02T23:59:50.5 stored=2002-03-02T23:59:50
-- accepted new=600 known=0
-card.edf accepted new=0 known=601
-"""
-RUNS = b"""1 records=3 first=2002-03-02T23:59:50.25 seconds=3 gap=7.5
-2 records=2 first=2002-03-03T00:00:00.75 seconds=2 gap=3597.25
-3 records=1 first=2002-03-03T01:00:00 seconds=1
-"""
+LISTED = (told.recording(1, 2, "2002-03-04T13:00:00.25", "P12", "N4") +
+          told.recording(2, 6, "2002-03-02T23:59:50", "P7", "N1") +
+          told.recording(3, 2, "2002-03-02T22:00:00", "X", "X")).encode()
+OVERLAP = told.refused("E30 Overlap start=2002-03-02T23:59:50.5 stored=2002-03-02T23:59:50")
+TAKEN = told.lines(("a.edf", told.NEW), ("missing.edf", told.UNREAD), ("b.edf", OVERLAP),
+                   ("-", told.accepted(600)), ("card.edf", told.accepted(0, 601))).encode()
+RUNS = (told.run(1, 3, "2002-03-02T23:59:50.25", "3", "7.5") +
+        told.run(2, 2, "2002-03-03T00:00:00.75", "2", "3597.25") +
+        told.run(3, 1, "2002-03-03T01:00:00", "1")).encode()
 
 
 def store(program: Path, folder: Path) -> bytes:
@@ -102,30 +105,37 @@ def store(program: Path, folder: Path) -> bytes:
     for nth, data in enumerate(HELD):
         names.append(f"{nth}.edf")
         (folder / names[-1]).write_bytes(data)
-    subprocess.run([program, "take", "night.db", *names], cwd=folder, stdout=subprocess.DEVNULL, check=True)
+    measure.done(program, "take", "night.db", *names, folder=folder)
     return (folder / "night.db").read_bytes()
 
 
 def of_the_program() -> list:
-    """Words of the program over files, each with what it writes to standard output and its status."""
-    return [("list held.db", LISTED, 0), ("export held.db 2", exported(), 0), ("convert cut.edf", b"", 1), ("export held.db 0", b"", 2)]
+    """Words of the program over files, each with what it writes to standard output and its
+    status."""
+    return [("list held.db", LISTED, 0), ("export held.db 2", exported(), 0),
+            ("convert cut.edf", b"", 1), ("export held.db 0", b"", 2)]
 
 
 def orders_of(script: stories.Script) -> tuple:
     """The file `orders` of edfstore_stored_run, and what is written for it."""
     lines = [("# the program by other words, over stores that are files", b"")]
-    lines += [(f"edfstore {words}", out + f"status {status}\n".encode()) for words, out, status in of_the_program()]
-    lines += [(order, "".join(f"{line}\n" for line in told).encode()) for order, told in script.lines]
-    return "".join(f"{order}\n" for order, _ in lines).encode(), b"".join(order.encode() + b"\n" + out for order, out in lines)
+    lines += [(f"edfstore {words}", out + f"status {status}\n".encode())
+              for words, out, status in of_the_program()]
+    lines += [(order, "".join(f"{line}\n" for line in written).encode())
+              for order, written in script.lines]
+    return ("".join(f"{order}\n" for order, _ in lines).encode(),
+            b"".join(order.encode() + b"\n" + out for order, out in lines))
 
 
 def files_of(held: bytes, script: stories.Script) -> dict:
     """Every stored file by its path."""
-    orders, told = orders_of(script)
-    data = script.files | {"held.db": held, "a.edf": Q, "b.edf": FILES["half"], "card.edf": card(), "orders": orders}
+    orders, written = orders_of(script)
+    data = script.files | {"held.db": held, "a.edf": Q, "b.edf": FILES["half"], "card.edf": card(),
+                           "orders": orders}
     return {f"{STORED}/data/{name}": content for name, content in data.items()} | {
-        "edfstore/stdin": Q, "edfstore/stdout": Q, f"{STORED}/stdin": long_spelling(), f"{STORED}/stdout": TAKEN + told,
-        "edfruns/stdin": b"", "edfruns/data/two_gaps.edf": two_gaps(), "edfruns/stdout": RUNS}
+        "edfstore/stdin": Q, "edfstore/stdout": Q, f"{STORED}/stdin": long_spelling(),
+        f"{STORED}/stdout": TAKEN + written, "edfruns/stdin": b"",
+        "edfruns/data/two_gaps.edf": two_gaps(), "edfruns/stdout": RUNS}
 
 
 def by_model() -> None:
@@ -134,8 +144,10 @@ def by_model() -> None:
     for data in HELD:
         held.take(data)
     taken = model.Store()
-    named = (("a.edf", Q), ("missing.edf", None), ("b.edf", FILES["half"]), ("-", long_spelling()), ("card.edf", card()))
-    lines = "".join(f"{name} {taken.take(data) if data else 'refused E40 Read'}\n" for name, data in named)
+    named = (("a.edf", Q), ("missing.edf", None), ("b.edf", FILES["half"]), ("-", long_spelling()),
+             ("card.edf", card()))
+    lines = told.lines(*((name, taken.take(data) if data else told.UNREAD)
+                         for name, data in named))
     if held.lines().encode() != LISTED or held.export(2) != exported() or lines.encode() != TAKEN:
         sys.exit("the model answers otherwise")
 
@@ -146,8 +158,8 @@ def rows(path: Path, folder: Path) -> list:
     measure.remove_store(copy)
     shutil.copy(path, copy)
     with sqlite3.connect(copy) as held:
-        return list(held.execute("SELECT identity, start, samples FROM record JOIN recording ON recording.id = recording "
-                                 "ORDER BY identity, start"))
+        return list(held.execute("SELECT identity, start, samples FROM record JOIN recording ON "
+                                 "recording.id = recording ORDER BY identity, start"))
 
 
 def rows_by_model() -> list:
@@ -155,7 +167,8 @@ def rows_by_model() -> list:
     held = model.Store()
     for data in HELD:
         held.take(data)
-    return [(key.to_bytes(), record.start, record.samples) for key in held.keys() for record in held.held[key][1]]
+    return [(key.to_bytes(), record.start, record.samples) for key in held.keys()
+            for record in held.held[key][1]]
 
 
 def is_stored(path: str, wanted: bytes, folder: Path) -> bool:
@@ -163,13 +176,13 @@ def is_stored(path: str, wanted: bytes, folder: Path) -> bool:
     at = CRATES / path
     if not at.exists():
         return False
-    return rows(at, folder) == rows_by_model() if path.endswith(".db") else at.read_bytes() == wanted
+    return rows(at, folder) == rows_by_model() if at.suffix == ".db" else at.read_bytes() == wanted
 
 
 def call(program: Path, words: list, given: bytes, room: Path) -> tuple:
     """What the program writes to standard output, and its status."""
-    ran = subprocess.run([program, *words], input=given, capture_output=True, cwd=room, check=False)
-    return ran.stdout, ran.returncode
+    ran = measure.ran(program, *words, given=given, folder=room)
+    return ran.out, ran.status
 
 
 def run(program: Path, crate: Path, folder: Path) -> bool:
@@ -178,15 +191,15 @@ def run(program: Path, crate: Path, folder: Path) -> bool:
     room.mkdir()
     if (crate / "data").is_dir():
         shutil.copytree(crate / "data", room, dirs_exist_ok=True)
-    words, given, wanted, status = (
-        (crate / name).read_bytes() if (crate / name).exists() else b"" for name in ("args", "stdin", "stdout", "status"))
-    told, ends = call(program, words.decode().splitlines(), given, room)
+    words, given, wanted, status = ((crate / name).read_bytes() if (crate / name).exists() else b""
+                                    for name in ("args", "stdin", "stdout", "status"))
+    written, ends = call(program, words.decode().splitlines(), given, room)
     if crate.name == STORED:
-        told, wanted = told.splitlines(), TAKEN.splitlines()
-        for order, out, end in of_the_program():
-            told.append(call(program, order.split(), b"", room))
-            wanted.append((out, end))
-    is_well = told == wanted and ends == int(status or 0)
+        written, wanted = written.splitlines(), TAKEN.splitlines()
+        for order, out, last in of_the_program():
+            written.append(call(program, order.split(), b"", room))
+            wanted.append((out, last))
+    is_well = written == wanted and ends == int(status or 0)
     print(f"{crate.name} {'ran, and wrote what it must' if is_well else 'FAILED'}")
     return is_well
 
@@ -195,52 +208,57 @@ def played(program: Path, order: str, room: Path, nth: int) -> list:
     """The lines of a command of a story, over the nth store."""
     words, _, name = order.partition(" = ")
     given = [f"{nth}.db" if word == "night.db" else word for word in words.split()]
-    ran = subprocess.run([program, *given], stdin=subprocess.DEVNULL, capture_output=True, cwd=room, check=False)
-    out = ran.stdout.decode("latin-1")
+    ran = measure.ran(program, *given, folder=room)
+    out = ran.out.decode("latin-1")
     if name:
-        is_that = ran.stdout == (room / name).read_bytes()
-        out = f"{'just' if is_that else 'not'} {name}, {len(ran.stdout)} bytes\n"
-    err = f"err: {ran.stderr.decode()}" if ran.stderr else ""
-    return [*(out + err).splitlines(), f"status {ran.returncode}"]
+        is_that = ran.out == (room / name).read_bytes()
+        out = f"{'just' if is_that else 'not'} {name}, {len(ran.out)} bytes\n"
+    err = f"err: {ran.err.decode()}" if ran.err else ""
+    return [*(out + err).splitlines(), f"status {ran.status}"]
 
 
-def play(program: Path, script: stories.Script, room: Path) -> bool:
-    """Whether the program writes what it must in each story of its own cap."""
+def play(program: Path, script: stories.Script, room: Path) -> tuple:
+    """How many commands of the stories of its own cap the program was given, and how many it
+    answered otherwise than it must."""
     nth, is_asked, wrong, done = 0, False, 0, 0
     for order, wanted in script.lines:
         if order.startswith("store "):
             nth, is_asked = nth + 1, order == f"store {stories.MOST}"
         elif is_asked and not order.startswith("#"):
-            told = played(program, order, room, nth)
+            written = played(program, order, room, nth)
             done += 1
-            if told != list(wanted):
+            if written != list(wanted):
                 wrong += 1
-                print(f"{order}: {told}\n  by hand: {list(wanted)}")
-    print(f"{done} commands of stories, {wrong} wrong")
-    return not wrong
+                print(f"{order}: {written}\n  by hand: {list(wanted)}")
+    return done, wrong
+
+
+def write(files: dict) -> None:
+    """The stored files anew."""
+    shutil.rmtree(CRATES / STORED / "data", ignore_errors=True)
+    for path, data in files.items():
+        (CRATES / path).parent.mkdir(parents=True, exist_ok=True)
+        (CRATES / path).write_bytes(data)
 
 
 def main() -> None:
-    program, words = measure.program(sys.argv[1:])
-    runs, words = measure.program(words, "edfruns", "--edfruns")
-    is_writing = measure.flag(words, "--write")
+    parser = arguments.Parser(__doc__, arguments.BOTH)
+    parser.add_argument("--write", action="store_true", help="write the files anew")
+    given = parser.read()
     by_model()
     script = stories.script(named.files())
     with measure.scratch() as name:
         folder = Path(name)
-        files = files_of(store(program, folder), script)
-        if is_writing:
-            shutil.rmtree(CRATES / STORED / "data", ignore_errors=True)
-            for path, data in files.items():
-                (CRATES / path).parent.mkdir(parents=True, exist_ok=True)
-                (CRATES / path).write_bytes(data)
+        files = files_of(store(given.program, folder), script)
+        if given.write:
+            write(files)
         others = [path for path, wanted in files.items() if not is_stored(path, wanted, folder)]
         for path in others:
             print(f"{path} is not what is made here")
-        ran = [run(program, crate, folder) for crate in sorted(CRATES.glob("edfstore*"))]
-        ran.append(run(runs, CRATES / "edfruns", folder))
-        ran.append(play(program, script, folder / STORED))
-    sys.exit(0 if all(ran) and not others else 1)
+        ran = [run(given.program, crate, folder) for crate in sorted(CRATES.glob("edfstore*"))]
+        ran.append(run(given.edfruns, CRATES / "edfruns", folder))
+        done, wrong = play(given.program, script, folder / STORED)
+    end(len(ran) + done, len(others) + ran.count(False) + wrong)
 
 
 main()

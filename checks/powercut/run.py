@@ -1,7 +1,7 @@
 #!/usr/bin/env python3
 """Cuts the power of `edfstore take`, by the calls that it makes, and looks at what is held.
 
-    checks/powercut/run.py [STATES] [--program PATH] [--seed SEED] [--only N]
+    checks/powercut/run.py [--program PATH] [--seed SEED] [--only N] [COUNT]
 
 1,000 states if left out; needs `cc`. A night of thirty files is taken by the program, and its
 writes, syncs and changes of length are written down (`calls.c`, loaded before the C library): into
@@ -25,17 +25,13 @@ import itertools
 import multiprocessing
 import os
 import random
-import subprocess
-import sys
 import tempfile
 from dataclasses import dataclass, replace
 from pathlib import Path
 
-sys.path.insert(0, str(Path(__file__).resolve().parent.parent / "lib"))
-import disk  # noqa: E402
-import measure  # noqa: E402
-import model  # noqa: E402
-import night  # noqa: E402
+import disk
+from lib import arguments, measure, model, night, told
+from lib.checks import end
 
 # 30 data records a file; after about two thirds of the files the log is long enough to be copied.
 NIGHT = night.Night(records=900, samples=(1600, 1600), fragments=30)
@@ -62,9 +58,7 @@ class Found:
 class Bench:
     def __init__(self, program: Path, folder: Path, seed: int):
         self.program, self.folder, self.seed = program, folder, seed
-        self.library = folder / "calls.so"
-        source = Path(__file__).resolve().parent / "calls.c"
-        subprocess.run(["cc", "-O2", "-shared", "-fPIC", "-o", self.library, source], check=True)
+        self.library = measure.library(Path(__file__).resolve().parent / "calls.c", folder)
         self.parts = NIGHT.parts(folder)
         held, nothing = model.Store(), hashlib.sha256(b"").digest()
         self.lists, self.exports = [b""], [nothing]     # what is told of each front
@@ -77,13 +71,8 @@ class Bench:
     def chance(self, *words) -> random.Random:
         return random.Random(":".join(map(str, (self.seed, *words))))
 
-    def ran(self, *words, **added: str) -> subprocess.CompletedProcess:
-        words = [str(word) for word in (self.program, *words)]
-        try:
-            return subprocess.run(words, env={**os.environ, **added}, stdin=subprocess.DEVNULL,
-                                  capture_output=True, check=False, timeout=SECONDS)
-        except subprocess.TimeoutExpired:
-            return subprocess.CompletedProcess(words, -1, b"", b"no end")
+    def ran(self, *words, **added: str) -> measure.Ran:
+        return measure.ran(self.program, *words, added=added, most=SECONDS)
 
     def own_folder(self) -> Path:
         """The folder of this process."""
@@ -98,12 +87,12 @@ class Bench:
 
     def taken(self, what: str, pair) -> disk.Takes:
         """The calls of a take of the whole list over such a store."""
-        store, told = self.laid(pair), self.own_folder() / "calls"
-        done = self.ran("take", store, *self.parts, LD_PRELOAD=str(self.library), STORE=str(store),
-                        CALLS=str(told), ENTROPY=str(self.chance("entropy", what).getrandbits(63)))
-        if done.returncode or done.stdout.count(b" accepted ") != len(self.parts):
-            raise Unfit(f"{what}: status {done.returncode}, {done.stdout[-300:]!r} {done.stderr!r}")
-        takes = disk.Takes(what, tuple(pair), disk.read_calls(told))
+        store, calls = self.laid(pair), self.own_folder() / "calls"
+        ran = self.ran("take", store, *self.parts, LD_PRELOAD=str(self.library), STORE=str(store),
+                       CALLS=str(calls), ENTROPY=str(self.chance("entropy", what).getrandbits(63)))
+        if ran.status or told.are_accepted(ran.out) != len(self.parts):
+            raise Unfit(f"{what}: {ran}")
+        takes = disk.Takes(what, tuple(pair), disk.read_calls(calls))
         if takes.seen(len(takes.calls)) != read_pair(store):
             raise Unfit(f"{what}: the calls that were written down do not make the files there")
         return takes
@@ -113,21 +102,21 @@ class Bench:
         calls = takes.calls[takes.first:moment]
         names = {str(part).encode() for part in self.parts}
         opened = sum(call.letter == "i" and call.data in names for call in calls)
-        told = sum(call.data.count(b" accepted ") for call in calls if call.letter == "o")
-        return max(takes.least, opened - 1, told), told, max(takes.most, opened)
+        known = sum(told.are_accepted(call.data) for call in calls if call.letter == "o")
+        return max(takes.least, opened - 1, known), known, max(takes.most, opened)
 
     def front(self, store: Path, *orders: str) -> Found:
         """Which front `list` and `export` tell of, as they are ordered."""
         fronts = set()
         for order in orders:
-            done = self.ran(order, store, *(["1"] if order == "export" else []))
-            told, known, status = done.stdout, self.lists, 0
+            ran = self.ran(order, store, *(["1"] if order == "export" else []))
+            found, known, status = ran.out, self.lists, 0
             if order == "export":
-                told, known, status = hashlib.sha256(told).digest(), self.exports, int(not told)
-            if done.returncode != status or told not in known or (done.stderr and not status):
-                return Found(-1, f"no front: {order} ended with status {done.returncode}, "
-                             f"{done.stdout[:100]!r}, {done.stderr[-300:]!r}")
-            fronts.add(known.index(told))
+                found, known, status = hashlib.sha256(found).digest(), self.exports, int(not found)
+            if ran.status != status or found not in known or (ran.err and not status):
+                return Found(-1, f"no front: {order} ended with status {ran.status}, "
+                             f"{ran.out[:100]!r}, {ran.err[-300:]!r}")
+            fronts.add(known.index(found))
         if len(fronts) > 1:
             return Found(-1, f"no front: list and export tell {fronts}")
         return Found(fronts.pop())
@@ -137,13 +126,13 @@ class Bench:
 
     def taken_again(self, store: Path, front: int, begin: int) -> str:
         """What is wrong where the list is taken from a place that is not after the held front."""
-        done = self.ran("take", store, *self.parts[begin:])
-        records, wanted = NIGHT.records // NIGHT.fragments, ""
-        for nth in range(begin, len(self.parts)):
-            new, known = (0, records) if nth < front else (records, 0)
-            wanted += f"{self.parts[nth]} accepted new={new} known={known}\n"
-        if done.returncode or done.stderr or done.stdout.decode() != wanted:
-            return f"taken again: {done.returncode}, {done.stdout[:300]!r}, {done.stderr[-300:]!r}"
+        ran = self.ran("take", store, *self.parts[begin:])
+        records = NIGHT.records // NIGHT.fragments
+        answers = (told.accepted(*((0, records) if nth < front else (records, 0)))
+                   for nth in range(begin, len(self.parts)))
+        wanted = told.lines(*zip(self.parts[begin:], answers))
+        if ran.status or ran.err or ran.out.decode() != wanted:
+            return f"taken again: {ran}"
         found = self.front(store, "export", "list")
         if found.wrong or found.front == len(self.parts):
             return found.wrong
@@ -223,19 +212,19 @@ def state(number: int) -> tuple:
     moment, part = some_moment(takes, rng)
     files = takes.files(moment)
     pair = [file.torn(rng) for file in files]
-    past, told, opened = BENCH.done(takes, moment)
+    past, accepted, opened = BENCH.done(takes, moment)
     lost = least_left(which, takes.last_sync(moment))
     found = lost if lost.wrong else BENCH.judged(pair, max(past, lost.front), opened, rng)
     if found.wrong:
         place = f"{takes.what}, {moment} of {len(takes.calls)} calls, {part}"
         return None, (f"state {number}, {place}: {found.wrong}; {lost.front} files with all lost, "
-                      f"{past} gone past, {told} told, {opened} opened; "
+                      f"{past} gone past, {accepted} told, {opened} opened; "
                       f"{kept(number, pair)} has the two files")
     is_copied = part != "the opening" and bool(files[disk.STORE].versions)
     return {"take": takes.what.split(",")[0], "part": part, "front": found.front,
             "copied": is_copied, "lost": pair != [file.now for file in files],
             "missing": None in pair, "more": found.front > lost.front,
-            "fewer": found.front < told}, ""
+            "fewer": found.front < accepted}, ""
 
 
 def sector_lost(number: int) -> Found:
@@ -323,41 +312,59 @@ def controlled(pool) -> list:
     return counts
 
 
+def words() -> arguments.Parser:
+    parser = arguments.Parser(__doc__, count=1_000)
+    parser.add_argument("--seed", type=int, default=1, help="of the states, 1 if left out")
+    parser.add_argument("--only", type=int, metavar="N", help="this state alone")
+    return parser
+
+
+def takes(forking) -> list:
+    """The takes whose power is cut."""
+    first = [BENCH.taken("into no store", (None, None))]
+    BENCH.takes = first
+    with forking.Pool() as pool:
+        made = first + list(itertools.chain(*pool.map(taken_again, range(AGAIN))))
+    calls = first[0].calls
+    print(f"{len(made)} takes of {len(BENCH.parts)} files, the first of them with "
+          f"{sum(call.letter in 'wt' for call in calls)} writes and changes of length and "
+          f"{sum(call.letter in 'ds' for call in calls)} syncs", flush=True)
+    return made
+
+
+def judged(pool, numbers) -> int:
+    """Judges these states, and tells how many are wrong."""
+    counts, wrong = [], 0
+    for count, why in pool.imap_unordered(state, numbers):
+        if why:
+            wrong += 1
+            print(f"WRONG: {why}", flush=True)
+        else:
+            counts.append(count)
+    tell(counts)
+    return wrong
+
+
 def main() -> None:
     global BENCH
+    given = words().read()
     measure.need("cc")
-    program, words = measure.program(sys.argv[1:])
-    seed = int(measure.value_of(words, "--seed", "1"))
-    only = measure.value_of(words, "--only", "")
-    only = int(only) if only else None
-    numbers = range(int(words[0]) if words else 1_000) if only is None else [only]
+    numbers = range(given.count) if given.only is None else [given.only]
     forking = multiprocessing.get_context("fork")
     with measure.scratch() as name:
-        BENCH = Bench(program, Path(name).resolve(), seed)
-        print(f"seed {seed}, {measure.machine()}", flush=True)
+        BENCH = Bench(given.program, Path(name).resolve(), given.seed)
+        print(f"seed {given.seed}, {measure.machine()}", flush=True)
         try:
-            BENCH.takes = [BENCH.taken("into no store", (None, None))]
-            with forking.Pool() as pool:
-                BENCH.takes += itertools.chain(*pool.map(taken_again, range(AGAIN)))
+            BENCH.takes = takes(forking)
         except Unfit as why:
-            sys.exit(str(why))
-        calls = BENCH.takes[0].calls
-        print(f"{len(BENCH.takes)} takes of {len(BENCH.parts)} files, the first of them with "
-              f"{sum(call.letter in 'wt' for call in calls)} writes and changes of length and "
-              f"{sum(call.letter in 'ds' for call in calls)} syncs", flush=True)
+            print(why)
+            end(1, 1)
         with forking.Pool() as pool:
-            counts, wrong = [], 0
-            for count, why in pool.imap_unordered(state, numbers):
-                if why:
-                    wrong += 1
-                    print(f"WRONG: {why}", flush=True)
-                else:
-                    counts.append(count)
-            tell(counts)
+            wrong = judged(pool, numbers)
             found = controlled(pool)
     print(f"{len(numbers)} states, {wrong} wrong; the controls were found wrong in "
           f"{', '.join(map(str, found))} of {CONTROLLED} states each, as they must be in most")
-    sys.exit(1 if wrong or 2 * min(found) <= CONTROLLED else 0)
+    end(len(numbers), wrong + sum(2 * count <= CONTROLLED for count in found))
 
 
 main()

@@ -13,17 +13,13 @@ breaks a rule, or another sample is in a file of either.
 
 It needs what `of_runs.py` needs of EDFbrowser, and so Debian's own python3.
 """
-import subprocess
-import sys
 from collections import Counter
 from dataclasses import dataclass, replace
 from pathlib import Path
 
-sys.path.insert(0, str(Path(__file__).resolve().parent.parent / "lib"))
-import edfbrowser  # noqa: E402
-import gapped  # noqa: E402
-import measure  # noqa: E402
-import model  # noqa: E402
+import edfbrowser
+from lib import arguments, gapped, measure, model
+from lib.checks import end
 
 SECOND = gapped.SECOND
 STAGES = ("W", "N1", "N2", "N3", "R")
@@ -102,22 +98,21 @@ def is_all(told: str) -> bool:
 def canonical(edfstore: Path, night, folder: Path) -> Path:
     folder.mkdir()
     given = night.whole(folder / "given.edf")
-    measure.run([edfstore, "convert", given], out=folder / "export.edf")
+    measure.done(edfstore, "convert", given, out=folder / "export.edf")
     return folder / "export.edf"
 
 
 def main() -> None:
+    given = arguments.Parser(__doc__, arguments.BOTH).read()
     measure.need(*edfbrowser.NEEDED)
-    edfstore, words = measure.program(sys.argv[1:])
-    edfruns, _ = measure.program(words, "edfruns", "--edfruns")
     lines = []
     with measure.scratch() as name:
         browser = edfbrowser.Browser(Path(name))
         try:
             for number, (kind, night) in enumerate(NIGHTS):
-                path = canonical(edfstore, night, Path(name) / str(number))
+                path = canonical(given.program, night, Path(name) / str(number))
                 whole = told_by([path])
-                measure.run([edfruns, "split", path, path.parent / "run"])
+                measure.done(given.edfruns, "split", path, path.parent / "run")
                 split = sorted(path.parent.glob("run-*.edf"))
                 lines.append(line(kind, "edfruns split", whole, split))
                 lines.append(line(kind, browser.name, whole, browser.converted(path)))
@@ -126,10 +121,10 @@ def main() -> None:
     measure.table(("data records of", "by", "files that keep the rules",
                    "data records with their samples", "annotations as submitted", "with a cut text",
                    "missing"), lines)
-    subprocess.run(["dpkg-query", "-W", "edfbrowser"], check=False)
-    samples = all(is_all(one[3]) for one in lines)
-    split = all(is_all(one[2]) and one[5:] == ("0", "0") for one in lines[::2])
-    sys.exit(0 if samples and split else 1)
+    print(measure.ran("dpkg-query", "-W", "edfbrowser").out.decode())
+    wrong = [not is_all(one[3]) for one in lines]
+    wrong += [not is_all(one[2]) or one[5:] != ("0", "0") for one in lines[::2]]
+    end(len(lines), sum(wrong))
 
 
 main()

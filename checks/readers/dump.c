@@ -1,6 +1,7 @@
-/* Reads an EDF file by EDFlib: dump FILE SAMPLES. The digital samples go into the file SAMPLES, signal by signal, as 32-bit integers of
-   this machine; the rest is printed: how many data records there are, when the first starts, how many 100 ns one lasts, and then each
-   annotation's onset and duration, as EDFlib tells them, and its text. */
+/* Reads an EDF file by EDFlib: dump FILE SAMPLES. The digital samples go into the file SAMPLES,
+   signal by signal, as 32-bit integers of this machine; the rest is printed: how many data records
+   there are, when the first starts, how many 100 ns one lasts, and then each annotation's onset and
+   duration, as EDFlib tells them, and its text. */
 #include <edflib.h>
 #include <stdio.h>
 #include <stdlib.h>
@@ -9,7 +10,8 @@ static int write_samples(int handle, int signal, long long count, FILE *made) {
   int *samples = malloc(count * sizeof(int));
   if (!samples || edfread_digital_samples(handle, signal, (int)count, samples) != count ||
       fwrite(samples, sizeof(int), count, made) != (size_t)count) {
-    fprintf(stderr, "signal %d: not all of its %lld samples could be read and written\n", signal + 1, count);
+    fprintf(stderr, "signal %d: not all of its %lld samples could be read and written\n",
+            signal + 1, count);
     return 1;
   }
   free(samples);
@@ -30,8 +32,9 @@ int main(int argc, char **argv) {
   for (int signal = 0; signal < header.edfsignals; signal++)
     if (write_samples(handle, signal, header.signalparam[signal].smp_in_file, made)) return 1;
   if (fclose(made)) return 1;
-  printf("%lld %04d-%02d-%02dT%02d:%02d:%02d %lld %lld\n", header.datarecords_in_file, header.startdate_year, header.startdate_month,
-         header.startdate_day, header.starttime_hour, header.starttime_minute, header.starttime_second, header.starttime_subsecond,
+  printf("%lld %04d-%02d-%02dT%02d:%02d:%02d %lld %lld\n", header.datarecords_in_file,
+         header.startdate_year, header.startdate_month, header.startdate_day, header.starttime_hour,
+         header.starttime_minute, header.starttime_second, header.starttime_subsecond,
          header.datarecord_duration);
   for (long long at = 0; at < header.annotations_in_file; at++) {
     struct edf_annotation_struct note;

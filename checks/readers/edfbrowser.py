@@ -1,7 +1,9 @@
-"""What EDFbrowser reads of a file, without a person or a display: it runs on a screen of Xvfb, opens the file over its remote control,
-and its tools "Export EDF/BDF to ASCII" and "Convert EDF+D to EDF+C" are called by their keys.
+"""What EDFbrowser reads of a file, without a person or a display: it runs on a screen of Xvfb,
+opens the file over its remote control, and its tools "Export EDF/BDF to ASCII" and "Convert EDF+D
+to EDF+C" are called by their keys.
 
-It needs edfbrowser, xvfb, xdotool and x11-utils. Only the programs that are started here are ended here.
+It needs edfbrowser, xvfb, xdotool and x11-utils. Only the programs that are started here are ended
+here.
 """
 import os
 import shutil
@@ -12,6 +14,7 @@ from datetime import datetime
 from pathlib import Path
 
 import reading
+from lib import measure
 from reading import numpy
 
 NEEDED = ("edfbrowser", "Xvfb", "xdotool", "xwininfo")
@@ -35,16 +38,19 @@ class Browser:
         self.folder = folder / "edfbrowser"
         self.folder.mkdir()
         told, tells = os.pipe()
-        self.screen = subprocess.Popen(["Xvfb", "-displayfd", str(tells), "-screen", "0", "1280x900x24", "-nolisten", "tcp"],
-                                       pass_fds=[tells], stderr=subprocess.DEVNULL)
+        self.screen = subprocess.Popen(
+            ["Xvfb", "-displayfd", str(tells), "-screen", "0", "1280x900x24", "-nolisten", "tcp"],
+            pass_fds=[tells], stderr=subprocess.DEVNULL)
         os.close(tells)
         with os.fdopen(told) as number:
-            self.place = os.environ | {"DISPLAY": f":{number.readline().strip()}", "HOME": str(self.folder), "QT_QPA_PLATFORM": "xcb",
-                                       "XDG_RUNTIME_DIR": str(self.folder), "LC_ALL": "C.UTF-8"}
+            self.place = {"DISPLAY": f":{number.readline().strip()}", "HOME": str(self.folder),
+                          "QT_QPA_PLATFORM": "xcb", "XDG_RUNTIME_DIR": str(self.folder),
+                          "LC_ALL": "C.UTF-8"}
         with socket.create_server(("127.0.0.1", 0)) as free:
             port = free.getsockname()[1]
-        self.program = subprocess.Popen(["edfbrowser", f"--rc-host-port={port}"], env=self.place, cwd=self.folder,
-                                        stderr=subprocess.DEVNULL, stdout=subprocess.DEVNULL)
+        self.program = subprocess.Popen(
+            ["edfbrowser", f"--rc-host-port={port}"], env=os.environ | self.place, cwd=self.folder,
+            stderr=subprocess.DEVNULL, stdout=subprocess.DEVNULL)
         waited("the program", lambda: self._connects(port))
         self.name = "EDFbrowser " + self.asked("*IDN?").split(",")[1]
 
@@ -69,18 +75,21 @@ class Browser:
         return self.line.recv(4096).decode().strip()
 
     def windows(self, title: str) -> list:
-        """The windows of this title, the newest first. A window that ends while they are listed is a fault of xwininfo: it lists again."""
+        """The windows of this title, the newest first. A window that ends while they are listed is
+        a fault of xwininfo: it lists again."""
         for _ in range(20):
-            listed = subprocess.run(["xwininfo", "-root", "-tree"], env=self.place, capture_output=True, text=True, check=False)
-            if listed.returncode == 0:
+            listed = measure.ran("xwininfo", "-root", "-tree", added=self.place)
+            if listed.status == 0:
                 break
             time.sleep(0.1)
         else:
             raise RuntimeError("the windows can't be listed")
-        return [line.split()[0] for line in listed.stdout.splitlines() if f'"{title}"' in line]
+        lines = listed.out.decode(errors="replace").splitlines()
+        return [line.split()[0] for line in lines if f'"{title}"' in line]
 
     def pressed(self, window: str, *keys: str) -> None:
-        subprocess.run(["xdotool", "windowfocus", "--sync", window, "key", "--delay", "60", *keys], env=self.place, check=True)
+        reading.written_by("xdotool", "windowfocus", "--sync", window, "key", "--delay", "60",
+                           *keys, added=self.place)
 
     def open(self, path: Path) -> str:
         """Opens the file alone, and tells the number of its error; 0 is none."""
@@ -95,8 +104,10 @@ class Browser:
         waited("the window of the file", lambda: self.windows(title))
         time.sleep(1)
         self.pressed(self.windows(title)[0], "alt+o", *["Down"] * DOWN_TO_ASCII, "Return")
-        for windows in (1, 2):      # the tool's window, and the one that asks for the name of the file
-            waited("the window of the tool", lambda: len(self.windows("Export to ASCII")) == windows)
+        for windows in (1, 2):
+            # the tool's window, and the one that asks for the name of the file
+            waited("the window of the tool",
+                   lambda: len(self.windows("Export to ASCII")) == windows)
             time.sleep(1)
             self.pressed(self.windows("Export to ASCII")[0], "Return")
         waited("the end of the export", lambda: not self.windows("Export to ASCII"))
@@ -114,8 +125,8 @@ class Browser:
             if title == CONVERTER:
                 self.pressed(self.windows(title)[0], "Return")
         asking = self.windows("Select inputfile")[0]
-        subprocess.run(["xdotool", "windowfocus", "--sync", asking, "type", "--delay", "40", str(path)],
-                       env=self.place, check=True)
+        reading.written_by("xdotool", "windowfocus", "--sync", asking, "type", "--delay", "40",
+                           path, added=self.place)
         self.pressed(asking, "Return")
         waited("the end of the conversion", lambda: self._is_at_rest(path))
         self.pressed(self.windows(CONVERTER)[0], "Escape")
@@ -133,27 +144,30 @@ class Browser:
 
 
 def by_edfbrowser(path: Path, browser: Browser, samples: tuple) -> reading.Told:
-    """Samples, their times and annotations, as the tool writes them. It writes annotations in Latin-1 and cuts a text at a character
-    that is not in it, so texts are compared as far as they go."""
+    """Samples, their times and annotations, as the tool writes them. It writes annotations in
+    Latin-1 and cuts a text at a character that is not in it, so texts are compared as far as they
+    go."""
     copy = browser.folder / path.name
     shutil.copy(path, copy)
     error = browser.open(copy)
     if error != "0":
         raise ValueError(f"error {error}, {ERRORS.get(error, 'another')}")
     browser.exported(copy)
-    header, data, notes = (copy.with_name(f"{path.stem}_{part}.txt") for part in ("header", "data", "annotations"))
+    header, data, notes = (copy.with_name(f"{path.stem}_{part}.txt")
+                           for part in ("header", "data", "annotations"))
     fields = header.read_text("latin-1").splitlines()[1].split(",")
     begun = datetime.strptime(f"{fields[3]} {fields[4]}", "%d.%m.%y %H.%M.%S")
     signals, times = read_rows(data, samples, int(fields[7]))
     found = [line.split(",", 2) for line in notes.read_text("latin-1").splitlines()[1:]]
     for made in (copy, header, data, notes, copy.with_name(f"{path.stem}_signals.txt")):
         made.unlink()
-    return reading.Told(reading.since_epoch(begun), signals, times,
-                        [(float(onset), float(duration or 0), text) for onset, duration, text in found])
+    told = [(float(onset), float(duration or 0), text) for onset, duration, text in found]
+    return reading.Told(reading.since_epoch(begun), signals, times, told)
 
 
 def read_rows(data: Path, samples: tuple, records: int) -> tuple:
-    """Digital samples by signal, and the start of each data record; a row tells a time, and each signal that has a sample then."""
+    """Digital samples by signal, and the start of each data record; a row tells a time, and each
+    signal that has a sample then."""
     columns = [[] for _ in range(1 + len(samples))]
     with open(data, encoding="ascii") as rows:
         next(rows)

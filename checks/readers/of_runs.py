@@ -1,32 +1,29 @@
 #!/usr/bin/python3
-"""Opens the files of a night's runs by EDFlib, MNE, BioSig and EDFbrowser, and compares what they read with what was submitted: every
-sample, the time of every data record, every annotation.
+"""Opens the files of a night's runs by EDFlib, MNE, BioSig and EDFbrowser, and compares what they
+read with what was submitted: every sample, the time of every data record, every annotation.
 
-    checks/readers/of_runs.py [--program PATH | --model]
+    checks/readers/of_runs.py [--edfruns PATH | --model]
 
-A night of 28,800 data records of 1 s and four signals has three gaps. It is split by `edfruns split`; with --model the files come
-from the plain model in checks/lib/runs.py. The third run begins at a quarter of a second, and each run has annotations that lie or reach
-outside of it.
-The script ends with status 1 where a reader refuses a run's file, has another sample, tells a wrong time of a data record of a run that
-begins with a second, or an annotation that lies within such a run is not as submitted.
+A night of 28,800 data records of 1 s and four signals has three gaps. It is split by `edfruns
+split`; with --model the files come from the plain model in checks/lib/runs.py. The third run begins
+at a quarter of a second, and each run has annotations that lie or reach outside of it. The script
+ends with status 1 where a reader refuses a run's file, has another sample, tells a wrong time of a
+data record of a run that begins with a second, or an annotation that lies within such a run is not
+as submitted.
 
-It needs Debian's python3-mne, biosig-tools, libedf-dev, edfbrowser, xvfb, xdotool, x11-utils and cc, and so Debian's own python3.
+It needs Debian's python3-mne, biosig-tools, libedf-dev, edfbrowser, xvfb, xdotool, x11-utils and
+cc, and so Debian's own python3.
 """
-import subprocess
-import sys
 from collections import Counter
 from dataclasses import dataclass
 from itertools import takewhile
 from pathlib import Path
 
-sys.path.insert(0, str(Path(__file__).resolve().parent.parent / "lib"))
-import edfbrowser  # noqa: E402
-import gapped  # noqa: E402
-import measure  # noqa: E402
-import model  # noqa: E402
-import reading  # noqa: E402
-import runs  # noqa: E402
-from reading import numpy  # noqa: E402
+import edfbrowser
+import reading
+from lib import arguments, gapped, measure, model, runs
+from lib.checks import end
+from reading import numpy
 
 NIGHT = gapped.NIGHT
 PACKAGES = ("libedf1", "python3-mne", "biosig-tools", "edfbrowser")
@@ -43,8 +40,10 @@ class Part:
         return self.found == self.count and not self.late
 
     def __str__(self) -> str:
-        moved = f", {abs(self.late):g} s {'late' if self.late > 0 else 'early'}" if self.late else ""
-        return f"{self.found:,} of {self.count:,}{moved}"
+        counted = f"{self.found:,} of {self.count:,}"
+        if not self.late:
+            return counted
+        return f"{counted}, {abs(self.late):g} s {'late' if self.late > 0 else 'early'}"
 
 
 @dataclass
@@ -57,9 +56,11 @@ class Found:
     outside: Part       # annotations that lie or reach outside of the run, at the right time
 
     def is_good(self, run: runs.Run) -> bool:
-        """Whether it is as it is wanted: of a run that begins with a second all but what is outside, else the samples."""
-        wanted = (self.samples,) if run.first() % model.SECOND else (self.samples, self.times, self.within, self.over)
-        return all(part.is_all() for part in wanted)
+        """Whether it is as it is wanted: of a run that begins with a second all but what is
+        outside, else the samples."""
+        if run.first() % model.SECOND:
+            return self.samples.is_all()
+        return all(part.is_all() for part in (self.samples, self.times, self.within, self.over))
 
 
 def seconds(nanoseconds: int) -> float:
@@ -67,14 +68,16 @@ def seconds(nanoseconds: int) -> float:
 
 
 def best(run: runs.Run, count: int, found_at) -> Part:
-    """The most that `found_at` finds at the right time, or moved by the fraction of a second at which the run begins."""
+    """The most that `found_at` finds at the right time, or moved by the fraction of a second at
+    which the run begins."""
     fraction = seconds(run.first() % model.SECOND)
     parts = [Part(found_at(late), count, late) for late in (0.0, fraction, -fraction)]
     return max(parts, key=lambda part: part.found)
 
 
 def same_samples(run: runs.Run, told: reading.Told) -> Part:
-    rows = numpy.frombuffer(b"".join(record.samples for record in run.records), "<i2").reshape(len(run.records), -1)
+    samples = b"".join(record.samples for record in run.records)
+    rows = numpy.frombuffer(samples, "<i2").reshape(len(run.records), -1)
     edges, found = numpy.cumsum((0, *NIGHT.samples)), 0
     for n, got in enumerate(told.signals):
         wanted = rows[:, edges[n]:edges[n + 1]]
@@ -85,19 +88,25 @@ def same_samples(run: runs.Run, told: reading.Told) -> Part:
 
 def same_times(run: runs.Run, told: reading.Told) -> Part:
     def found_at(late: float) -> int:
-        return sum(abs(told.start + got - late - seconds(record.start)) < 0.001 for got, record in zip(told.times, run.records))
-    return best(run, len(run.records), found_at) if len(told.times) == len(run.records) else Part(0, len(run.records))
+        return sum(abs(told.start + got - late - seconds(record.start)) < 0.001
+                   for got, record in zip(told.times, run.records))
+    count = len(run.records)
+    return best(run, count, found_at) if len(told.times) == count else Part(0, count)
 
 
 def same_notes(run: runs.Run, wanted: list, told: list, shift: float) -> Part:
-    """How many annotations are there with onset and duration, to the millisecond, and text; `shift` is added to the onsets told."""
+    """How many annotations are there with onset and duration, to the millisecond, and text; `shift`
+    is added to the onsets told."""
     def counted(notes: list, shift: float) -> Counter:
-        return Counter((round(onset + shift, 3), round(duration, 3), text) for onset, duration, text in notes)
-    return best(run, len(wanted), lambda late: (counted(wanted, 0.0) & counted(told, shift - late)).total())
+        return Counter((round(onset + shift, 3), round(duration, 3), text)
+                       for onset, duration, text in notes)
+    return best(run, len(wanted),
+                lambda late: (counted(wanted, 0.0) & counted(told, shift - late)).total())
 
 
 def cut_to_latin(text: str) -> str:
-    """What EDFbrowser's export has of a text: nothing from the first character on that is not Latin-1."""
+    """What EDFbrowser's export has of a text: nothing from the first character on that is not
+    Latin-1."""
     return "".join(takewhile(lambda letter: ord(letter) < 256, text))
 
 
@@ -106,65 +115,77 @@ def found_in(run: runs.Run, told: reading.Told, is_latin: bool) -> Found:
     for onset, duration, text in (note for record in run.records for note in record.notes):
         is_within = begin <= onset and onset + (duration or 0) <= begin + run.length()
         kept = cut_to_latin(text.decode()) if is_latin else text.decode()
-        (within if is_within else outside).append((seconds(onset - begin), seconds(duration or 0), kept))
+        note = (seconds(onset - begin), seconds(duration or 0), kept)
+        (within if is_within else outside).append(note)
     shift = told.start - seconds(begin)
-    return Found(same_samples(run, told), same_times(run, told), same_notes(run, within, told.notes, shift),
-                 same_notes(run, within, told.notes, -told.times[0]), same_notes(run, outside, told.notes, shift))
+    return Found(same_samples(run, told), same_times(run, told),
+                 same_notes(run, within, told.notes, shift),
+                 same_notes(run, within, told.notes, -told.times[0]),
+                 same_notes(run, outside, told.notes, shift))
 
 
-def split(words: list, folder: Path) -> list:
+def split(given, folder: Path) -> list:
     """The runs by the model, each with its file."""
     whole = NIGHT.whole(folder / "night.edf")
     listed = runs.read_runs(whole.read_bytes())
     paths = [folder / name for name in runs.split_names("night", listed)]
-    if measure.flag(words, "--model"):
+    if given.model:
         for run, path in zip(listed, paths):
             path.write_bytes(run.to_bytes())
     else:
-        program, _ = measure.program(words, "edfruns")
-        measure.run([program, "split", whole, folder / "night"])
+        measure.done(given.edfruns or arguments.chosen("edfruns"), "split", whole, folder / "night")
     return list(zip(listed, paths))
 
 
 def lines_of(name: str, read, pairs: list) -> tuple:
-    """A line of the table for each run, and whether all is as it is wanted."""
-    lines, good = [], True
+    """A line of the table for each run, and how many runs are not as they are wanted."""
+    lines, failed = [], 0
     for run, path in pairs:
         try:
             told = read(path)
         except Exception as fault:
-            lines.append((name, run.number, f"no: {type(fault).__name__}: {fault}"[:100], "", "", "", "", ""))
-            good = False
+            lines.append((name, run.number, f"no: {type(fault).__name__}: {fault}"[:100], "", "",
+                          "", "", ""))
+            failed += 1
             continue
         found = found_in(run, told, name.startswith("EDFbrowser"))
-        lines.append((name, run.number, "yes", found.samples, found.times, found.within, found.over, found.outside))
-        good &= found.is_good(run)
+        lines.append((name, run.number, "yes", found.samples, found.times, found.within, found.over,
+                      found.outside))
+        failed += not found.is_good(run)
         for warning in told.warned:
             print(f"{name}, run {run.number} warns: {warning}")
-    return lines, good
+    return lines, failed
+
+
+def read_all(pairs: list, folder: Path) -> list:
+    """The lines of each reader, and how many runs it does not read as they are wanted."""
+    dump = measure.compiled(Path(__file__).parent / "dump.c", folder, "-ledf", "-lm")
+    samples, browser = NIGHT.samples, edfbrowser.Browser(folder)
+    try:
+        readers = (("EDFlib", lambda path: reading.by_edflib(path, folder, samples, dump)),
+                   (reading.MNE, lambda path: reading.by_mne(path, samples)),
+                   ("BioSig", lambda path: reading.by_biosig(path, folder, samples)),
+                   (browser.name, lambda path: edfbrowser.by_edfbrowser(path, browser, samples)))
+        return [lines_of(name, read, pairs) for name, read in readers]
+    finally:
+        browser.end()
 
 
 def main() -> None:
+    parser = arguments.Parser(__doc__, ("edfruns",))
+    parser.add_argument("--model", action="store_true", help="the model's files")
+    given = parser.parse_args()
     measure.need("cc", "save2gdf", *edfbrowser.NEEDED)
     with measure.scratch() as name:
-        folder = Path(name)
-        pairs = split(sys.argv[1:], folder)
-        dump = measure.compiled(Path(__file__).parent / "dump.c", folder, "-ledf", "-lm")
-        browser = edfbrowser.Browser(folder)
-        try:
-            readers = (("EDFlib", lambda path: reading.by_edflib(path, folder, NIGHT.samples, dump)),
-                       (reading.MNE, lambda path: reading.by_mne(path, NIGHT.samples)),
-                       ("BioSig", lambda path: reading.by_biosig(path, folder, NIGHT.samples)),
-                       (browser.name, lambda path: edfbrowser.by_edfbrowser(path, browser, NIGHT.samples)))
-            answers = [lines_of(name, read, pairs) for name, read in readers]
-        finally:
-            browser.end()
-        print(runs.lines([run for run, _ in pairs]))
-        measure.table(("reader", "run", "opens", "samples submitted", "data records at the right time", "annotations within the run",
-                       "the same over their samples", "annotations that lie or reach outside"),
-                      [line for lines, _ in answers for line in lines])
-        subprocess.run(["dpkg-query", "-W", *PACKAGES], check=False)
-    sys.exit(0 if all(good for _, good in answers) else 1)
+        pairs = split(given, Path(name))
+        answers = read_all(pairs, Path(name))
+    lines = [line for lines, _ in answers for line in lines]
+    print(runs.lines([run for run, _ in pairs]))
+    measure.table(("reader", "run", "opens", "samples submitted", "data records at the right time",
+                   "annotations within the run", "the same over their samples",
+                   "annotations that lie or reach outside"), lines)
+    print(measure.ran("dpkg-query", "-W", *PACKAGES).out.decode())
+    end(len(lines), sum(failed for _, failed in answers))
 
 
 main()

@@ -1,11 +1,13 @@
-"""What other programs read of a file: MNE, BioSig and EDFlib. The signals are of 16 bits and a tenth of a microvolt a step."""
+"""What other programs read of a file: MNE, BioSig and EDFlib. The signals are of 16 bits and a
+tenth of a microvolt a step."""
 import json
-import subprocess
 import sys
 import warnings
 from dataclasses import dataclass, field
 from datetime import datetime, timedelta
 from pathlib import Path
+
+from lib import measure
 
 try:
     import mne
@@ -21,8 +23,9 @@ MNE = "MNE " + mne.__version__
 
 @dataclass
 class Told:
-    """What a reader tells of a file: digital samples by signal, when it begins, the start of each data record, and each annotation's
-    onset, duration and text. Times are seconds; all but `start` count from there."""
+    """What a reader tells of a file: digital samples by signal, when it begins, the start of each
+    data record, and each annotation's onset, duration and text. Times are seconds; all but `start`
+    count from there."""
     start: float                # from 1985-01-01 00:00:00
     signals: list
     times: list
@@ -38,19 +41,29 @@ def since_epoch(moment: datetime) -> float:
     return (moment - EPOCH).total_seconds()
 
 
+def written_by(*words, **options) -> str:
+    """What a reader writes of a file; a fault where it refuses it."""
+    ran = measure.ran(*words, **options)
+    if ran.status:
+        raise ValueError(ran.err.decode().strip() or f"status {ran.status}")
+    return ran.out.decode()
+
+
 def by_mne(path: Path, samples: tuple) -> Told:
     """A signal at a time, since MNE brings signals of several rates to the highest."""
     signals, warned = [], set()
     with warnings.catch_warnings(record=True) as caught:
         warnings.simplefilter("always")
         for n in range(len(samples)):
-            raw = mne.io.read_raw_edf(path, include=[f"EEG channel {n + 1}"], preload=True, verbose="warning")
+            raw = mne.io.read_raw_edf(path, include=[f"EEG channel {n + 1}"], preload=True,
+                                      verbose="warning")
             signals.append(digital(raw.get_data()[0] * 1e6))
         warned.update(str(each.message) for each in caught)
     count = len(signals[0]) // samples[0]
     times = [raw.times[n * samples[-1]] for n in range(count)]
     notes = [(note["onset"], note["duration"], note["description"]) for note in raw.annotations]
-    return Told(since_epoch(raw.info["meas_date"].replace(tzinfo=None)), signals, times, notes, sorted(warned))
+    return Told(since_epoch(raw.info["meas_date"].replace(tzinfo=None)), signals, times, notes,
+                sorted(warned))
 
 
 def stamp(text: str) -> datetime:
@@ -60,12 +73,13 @@ def stamp(text: str) -> datetime:
 
 
 def by_biosig(path: Path, folder: Path, samples: tuple) -> Told:
-    """The same by `save2gdf`: samples as text, events as JSON. Where no event tells the start of each data record, they follow each
-    other from the start of the recording on."""
+    """The same by `save2gdf`: samples as text, events as JSON. Where no event tells the start of
+    each data record, they follow each other from the start of the recording on."""
     made = folder / "ascii.asc"
-    subprocess.run(["save2gdf", "-f=ASCII", path, made], check=True, stdout=subprocess.DEVNULL, stderr=subprocess.DEVNULL)
-    signals = [digital(numpy.fromstring((folder / f"ascii.a{n + 1:02}").read_text(), sep="\n")) for n in range(len(samples))]
-    told = subprocess.run(["save2gdf", "-JSON", path], check=True, capture_output=True).stdout.decode()
+    written_by("save2gdf", "-f=ASCII", path, made)
+    signals = [digital(numpy.fromstring((folder / f"ascii.a{n + 1:02}").read_text(), sep="\n"))
+               for n in range(len(samples))]
+    told = written_by("save2gdf", "-JSON", path)
     said = json.loads(told[told.index("{"):], strict=False)
     begun, times, notes = stamp(said["StartOfRecording"]), [], []
     for event in said["EVENT"]:
@@ -83,15 +97,13 @@ def by_biosig(path: Path, folder: Path, samples: tuple) -> Told:
 def by_edflib(path: Path, folder: Path, samples: tuple, dump: Path) -> Told:
     """The same by dump.c, which is compiled to `dump`."""
     made = folder / "samples"
-    ran = subprocess.run([dump, path, made], capture_output=True, check=False)
-    if ran.returncode:
-        raise ValueError(ran.stderr.decode().strip())
-    head, *lines = ran.stdout.decode().splitlines()
+    head, *lines = written_by(dump, path, made).splitlines()
     count, begun, fraction, lasts = head.split(" ")
     edges = numpy.cumsum([int(count) * size for size in samples])
     parts = numpy.split(numpy.fromfile(made, numpy.int32), edges)
     if parts.pop().size:
         raise ValueError("there are more samples than the data records have")
     notes = [line.split("\t", 2) for line in lines]
-    return Told(since_epoch(datetime.fromisoformat(begun)) + int(fraction) / 1e7, parts, [n * int(lasts) / 1e7 for n in range(int(count))],
+    return Told(since_epoch(datetime.fromisoformat(begun)) + int(fraction) / 1e7, parts,
+                [n * int(lasts) / 1e7 for n in range(int(count))],
                 [(int(onset) / 1e7, float(duration or 0), text) for onset, duration, text in notes])

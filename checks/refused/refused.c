@@ -1,7 +1,9 @@
-/* Refuses calls of the C library, to be loaded before it: the Nth of a kind, and with EVERY set each later one too.
- *
- * REFUSE is the kind, `memory` (malloc and realloc: none left) or `disk` (reads, writes, syncs and cuts: input/output error), a colon
- * and N. The file that TOLD names is made at the first refusal. */
+/* Refuses calls of the C library, to be loaded before it: the Nth of a kind, and with EVERY set
+   each later one too.
+
+   REFUSE is the kind, `memory` (malloc and realloc: none left) or `disk` (reads, writes, syncs and
+   cuts: input/output error), a colon and N. The file that TOLD names is made at the first refusal.
+*/
 #define _GNU_SOURCE
 #include <errno.h>
 #include <fcntl.h>
@@ -32,7 +34,8 @@ static int refused(const char *which) {
   if (strcmp(kind, which) != 0) return 0;
   count++;
   if (count < nth || (count > nth && !every)) return 0;
-  if (count == nth) syscall(SYS_close, syscall(SYS_openat, AT_FDCWD, told, O_CREAT | O_WRONLY, 0600));
+  if (count == nth)
+    syscall(SYS_close, syscall(SYS_openat, AT_FDCWD, told, O_CREAT | O_WRONLY, 0600));
   return 1;
 }
 
@@ -55,13 +58,25 @@ static long failed(void) {
 
 #define DISK(call) (refused("disk") ? failed() : (call))
 
-ssize_t read(int file, void *bytes, size_t size) { return DISK(syscall(SYS_read, file, bytes, size)); }
-ssize_t write(int file, const void *bytes, size_t size) { return DISK(syscall(SYS_write, file, bytes, size)); }
+ssize_t read(int file, void *bytes, size_t size) {
+  return DISK(syscall(SYS_read, file, bytes, size));
+}
+ssize_t write(int file, const void *bytes, size_t size) {
+  return DISK(syscall(SYS_write, file, bytes, size));
+}
 ssize_t __write(int file, const void *bytes, size_t size) { return write(file, bytes, size); }
-ssize_t pread(int file, void *bytes, size_t size, off_t at) { return DISK(syscall(SYS_pread64, file, bytes, size, at)); }
-ssize_t pwrite(int file, const void *bytes, size_t size, off_t at) { return DISK(syscall(SYS_pwrite64, file, bytes, size, at)); }
-ssize_t pread64(int file, void *bytes, size_t size, off64_t at) { return DISK(syscall(SYS_pread64, file, bytes, size, at)); }
-ssize_t pwrite64(int file, const void *bytes, size_t size, off64_t at) { return DISK(syscall(SYS_pwrite64, file, bytes, size, at)); }
+ssize_t pread(int file, void *bytes, size_t size, off_t at) {
+  return DISK(syscall(SYS_pread64, file, bytes, size, at));
+}
+ssize_t pwrite(int file, const void *bytes, size_t size, off_t at) {
+  return DISK(syscall(SYS_pwrite64, file, bytes, size, at));
+}
+ssize_t pread64(int file, void *bytes, size_t size, off64_t at) {
+  return DISK(syscall(SYS_pread64, file, bytes, size, at));
+}
+ssize_t pwrite64(int file, const void *bytes, size_t size, off64_t at) {
+  return DISK(syscall(SYS_pwrite64, file, bytes, size, at));
+}
 int fsync(int file) { return DISK(syscall(SYS_fsync, file)); }
 int fdatasync(int file) { return DISK(syscall(SYS_fdatasync, file)); }
 int ftruncate(int file, off_t size) { return DISK(syscall(SYS_ftruncate, file, size)); }

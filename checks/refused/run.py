@@ -1,10 +1,11 @@
 #!/usr/bin/env python3
-"""Refuses each allocation of `edfstore` in turn, and then each read, write and sync, and looks at what is answered and held.
+"""Refuses each allocation of `edfstore` in turn, and then each read, write and sync, and looks at
+what is answered and held.
 
-    checks/refused/run.py [--program PATH] [STEP]
+    checks/refused/run.py [--program PATH] [COUNT]
 
 A library that is loaded before the C library refuses the first call, the second and so on, or
-every STEPth from the first on, alone or with all that follow, until a run meets no refusal: of a
+every COUNTth from the first on, alone or with all that follow, until a run meets no refusal: of a
 `take` of two files into a new store, of `list` and `export` of a store of both, and of a
 `convert`. The first of the files, which `convert` is given too, is of unknown count and has two
 annotations signals. A run ends with status 0 and all that is wanted, or with status 3 and a front
@@ -13,39 +14,34 @@ read is not; and without refusals both files are then taken or known, and the ex
 plain model. It stops with status 1 at the first loss.
 """
 import collections
-import os
 import re
-import subprocess
-import sys
 from dataclasses import dataclass
 from pathlib import Path
 
-sys.path.insert(0, str(Path(__file__).resolve().parent.parent / "lib"))
-import edf  # noqa: E402
-import measure  # noqa: E402
-import model  # noqa: E402
+from lib import arguments, edf, measure, model, told
+from lib.checks import Lost, end
+from lib.told import KNOWN, NEW
 
 
 def in_two_blocks() -> bytes:
     """The record of P5, its annotations in two signals, in a file of unknown count."""
-    header = edf.Header((edf.annotations_signal(9), edf.Signal(), edf.annotations_signal(6)), "03.03.02", "00.00.05",
-                        recording="Startdate 03-MAR-2002 N1 T3 REC5", count="-1")
-    return edf.fragment(header, [(bytes.fromhex("0200FEFF"), [edf.keeping("+0") + edf.tal("+0.50", "Snore"), edf.tal("+0.5", "Turn")])])
+    header = edf.Header((edf.annotations_signal(9), edf.Signal(), edf.annotations_signal(6)),
+                        "03.03.02", "00.00.05", recording="Startdate 03-MAR-2002 N1 T3 REC5",
+                        count="-1")
+    blocks = [edf.keeping("+0") + edf.tal("+0.50", "Snore"), edf.tal("+0.5", "Turn")]
+    return edf.fragment(header, [(bytes.fromhex("0200FEFF"), blocks)])
 
 
 FILES = {"p5.edf": in_two_blocks(), "q.edf": edf.small_files()["Q"]}
-NEW, KNOWN = "accepted new=1 known=0", "accepted new=0 known=1"
 # Want of memory for a file's buffer is a failed read of it.
-REFUSALS = {"memory": {"E40 Read", "E41 Memory"}, "disk": {"E40 Read", "E42 Store"}}
+REFUSALS = {kind: {*map(told.refused, faults)} for kind, faults in
+            (("memory", ("E40 Read", "E41 Memory")), ("disk", ("E40 Read", "E42 Store")))}
 # What may stand on standard error of a run that was refused something.
 SAID = {
-    "memory": re.compile(rb"((command|take|list|store|export|-) refused (E40 Read|E41 Memory)\n)?\Z"),
+    "memory": re.compile(rb"((command|take|list|store|export|-) refused "
+                         rb"(E40 Read|E41 Memory)\n)?\Z"),
     "disk": re.compile(rb"((list|store|export|-) refused (E40 Read|E42 Store|E43 Write)\n)?\Z"),
 }
-
-
-def lost(why: str) -> None:
-    sys.exit(f"LOST OR IN PART: {why}")
 
 
 @dataclass(frozen=True)
@@ -55,17 +51,15 @@ class Refusal:
     nth: int
     every: bool
 
-    def environment(self, library: Path, told: Path) -> dict:
-        added = {"LD_PRELOAD": str(library), "REFUSE": f"{self.kind}:{self.nth}", "TOLD": str(told)}
-        return {**os.environ, **added, **({"EVERY": "1"} if self.every else {})}
+    def variables(self, library: Path, met: Path) -> dict:
+        added = {"LD_PRELOAD": str(library), "REFUSE": f"{self.kind}:{self.nth}", "TOLD": str(met)}
+        return {**added, "EVERY": "1"} if self.every else added
 
 
 class Bench:
     def __init__(self, program: Path, folder: Path):
         self.program, self.folder = program, folder
-        self.library = folder / "refused.so"
-        source = Path(__file__).resolve().parent / "refused.c"
-        subprocess.run(["cc", "-O2", "-shared", "-fPIC", "-o", self.library, source], check=True)
+        self.library = measure.library(Path(__file__).resolve().parent / "refused.c", folder)
         for name, data in FILES.items():
             (folder / name).write_bytes(data)
         whole = model.Store()
@@ -75,77 +69,81 @@ class Bench:
         alone = model.Store()
         alone.take(FILES["p5.edf"])
         self.converted = alone.export(1)
-        self.answers = collections.Counter()
+        self.tried, self.answers = 0, collections.Counter()
 
     def ran(self, *words, refusal: Refusal = None, given: bytes = b"") -> tuple:
         """The run, and whether a call of it was refused."""
-        told = self.folder / "told"
-        told.unlink(missing_ok=True)
-        environment = refusal.environment(self.library, told) if refusal else None
-        done = subprocess.run([self.program, *words], cwd=self.folder, env=environment, input=given, capture_output=True,
-                              check=False, timeout=60)
-        if done.returncode not in (0, 1, 2, 3):
-            lost(f"{words} under {refusal} ended with status {done.returncode}: {done.stderr[-300:]!r}")
-        return done, told.exists()
+        met = self.folder / "met"
+        met.unlink(missing_ok=True)
+        added = refusal.variables(self.library, met) if refusal else None
+        ran = measure.ran(self.program, *words, folder=self.folder, added=added, given=given,
+                          most=60)
+        if ran.status not in (0, 1, 2, 3):
+            raise Lost(f"{words} under {refusal}: {ran}")
+        return ran, met.exists()
 
     def whole(self, words: tuple, wanted: bytes, given: bytes = b"") -> None:
-        done, _ = self.ran(*words, given=given)
-        if done.returncode or done.stdout != wanted or done.stderr:
-            lost(f"{words} without refusals: status {done.returncode}, {done.stdout[:300]!r}, {done.stderr!r}")
+        ran, _ = self.ran(*words, given=given)
+        if ran.status or ran.out != wanted or ran.err:
+            raise Lost(f"{words} without refusals: {ran}")
 
-    def ends(self, words: tuple, done, refusal: Refusal, wanted: bytes) -> None:
+    def ends(self, words: tuple, ran: measure.Ran, refusal: Refusal, wanted: bytes) -> None:
         """The run wrote all that is wanted, or a front of it and ended with status 3."""
-        fits = done.returncode == 0 and done.stdout == wanted and not done.stderr
-        front = done.returncode == 3 and wanted.startswith(done.stdout) and SAID[refusal.kind].match(done.stderr)
+        fits = ran.status == 0 and ran.out == wanted and not ran.err
+        is_told = SAID[refusal.kind].match(ran.err)
+        front = ran.status == 3 and wanted.startswith(ran.out) and is_told
         if words[:1] == ("list",) and refusal.kind == "memory":
-            front = front and (not done.stdout or done.stdout.endswith(b"\n"))
+            front = front and (not ran.out or ran.out.endswith(b"\n"))
         if not fits and not front:
-            lost(f"{words} under {refusal}: status {done.returncode}, {done.stdout[-300:]!r}, {done.stderr!r}")
-        self.answers[(refusal.kind, words[0] if words else "convert", done.returncode)] += 1
+            raise Lost(f"{words} under {refusal}: {ran}")
+        self.answers[(refusal.kind, words[0] if words else "convert", ran.status)] += 1
 
 
-def answered(bench: Bench, done, refusal: Refusal) -> dict:
-    """What the lines of a `take` answer to each file that they name; a last line may be cut where a write was refused."""
-    lines = done.stdout.decode().split("\n")
+def answered(bench: Bench, ran: measure.Ran, refusal: Refusal) -> dict:
+    """What the lines of a `take` answer to each file that they name; a last line may be cut where a
+    write was refused."""
+    lines = ran.out.decode().split("\n")
     if lines.pop() and refusal.kind == "memory":
-        lost(f"take under {refusal} wrote a part of a line: {done.stdout!r}")
-    told = dict(line.split(" ", 1) for line in lines)
-    if list(told) != list(FILES)[:len(told)]:
-        lost(f"take under {refusal} named {list(told)}")
-    for answer in told.values():
-        if answer != NEW and answer.removeprefix("refused ") not in REFUSALS[refusal.kind]:
-            lost(f"take under {refusal} answered {answer!r}")
-    all_new = list(told.values()) == [NEW] * len(FILES)
-    if done.returncode not in ((0, 3) if all_new and not done.stderr else (3,)):
-        lost(f"take under {refusal} ended with status {done.returncode}: {done.stdout!r} {done.stderr!r}")
-    if not SAID[refusal.kind].match(done.stderr):
-        lost(f"take under {refusal} said {done.stderr!r}")
-    bench.answers.update((refusal.kind, "take", answer) for answer in told.values())
-    return told
+        raise Lost(f"take under {refusal} wrote a part of a line: {ran}")
+    answers = dict(line.split(" ", 1) for line in lines)
+    if list(answers) != list(FILES)[:len(answers)]:
+        raise Lost(f"take under {refusal} named {list(answers)}")
+    for answer in answers.values():
+        if answer != NEW and answer not in REFUSALS[refusal.kind]:
+            raise Lost(f"take under {refusal} answered {answer!r}")
+    all_new = list(answers.values()) == [NEW] * len(FILES)
+    if ran.status not in ((0, 3) if all_new and not ran.err else (3,)):
+        raise Lost(f"take under {refusal}: {ran}")
+    if not SAID[refusal.kind].match(ran.err):
+        raise Lost(f"take under {refusal} said {ran.err!r}")
+    bench.answers.update((refusal.kind, "take", answer) for answer in answers.values())
+    return answers
 
 
 def take(bench: Bench, refusal: Refusal) -> bool:
-    """Whether a call was refused of a `take` into a new store, which is then taken again without refusals."""
+    """Whether a call was refused of a `take` into a new store, which is then taken again without
+    refusals."""
     store = bench.folder / "s.db"
     measure.remove_store(store)
-    done, met = bench.ran("take", store, *FILES, refusal=refusal)
-    told = answered(bench, done, refusal)
+    ran, met = bench.ran("take", store, *FILES, refusal=refusal)
+    answers = answered(bench, ran, refusal)
     again, _ = bench.ran("take", store, *FILES)
-    for line, name in zip(again.stdout.decode().splitlines(), FILES):
-        answer = told.get(name)
-        may = {NEW: {KNOWN}, "refused E40 Read": {NEW}}.get(answer, {NEW, KNOWN})
-        if line not in {f"{name} {it}" for it in may}:
-            lost(f"take under {refusal} answered {name} {answer!r}, and the next take {line!r}")
-    if again.returncode or again.stdout.count(b"\n") != len(FILES):
-        lost(f"the take behind {refusal}: status {again.returncode}, {again.stdout!r}, {again.stderr!r}")
+    for line, name in zip(again.out.decode().splitlines(keepends=True), FILES):
+        may = {NEW: {KNOWN}, told.UNREAD: {NEW}}.get(answers.get(name), {NEW, KNOWN})
+        if line not in {told.line(name, it) for it in may}:
+            raise Lost(f"take under {refusal} answered {name} {answers.get(name)!r}, "
+                       f"and the next take {line!r}")
+    if again.status or again.out.count(b"\n") != len(FILES):
+        raise Lost(f"the take behind {refusal}: {again}")
     bench.whole(("export", store, "1"), bench.export)
     return met
 
 
 def read(bench: Bench, words: tuple, wanted: bytes, refusal: Refusal, given: bytes = b"") -> bool:
-    """Whether a call was refused of a command that changes nothing, which is then done without refusals."""
-    done, met = bench.ran(*words, refusal=refusal, given=given)
-    bench.ends(words, done, refusal, wanted)
+    """Whether a call was refused of a command that changes nothing, which is then done without
+    refusals."""
+    ran, met = bench.ran(*words, refusal=refusal, given=given)
+    bench.ends(words, ran, refusal, wanted)
     bench.whole(words, wanted, given)
     return met
 
@@ -153,8 +151,8 @@ def read(bench: Bench, words: tuple, wanted: bytes, refusal: Refusal, given: byt
 def orders(bench: Bench) -> dict:
     """Each order by its name, as what is done under a refusal and tells whether it was met."""
     full = bench.folder / "full.db"
-    if bench.ran("take", full, *FILES)[0].returncode:
-        lost("a take without refusals")
+    if bench.ran("take", full, *FILES)[0].status:
+        raise Lost("a take without refusals")
     return {
         "take": lambda refusal: take(bench, refusal),
         "list": lambda refusal: read(bench, ("list", full), bench.lines, refusal),
@@ -163,23 +161,34 @@ def orders(bench: Bench) -> dict:
     }
 
 
+def refused(bench: Bench, kind: str, step: int) -> None:
+    """Each order with calls of this kind refused, each in turn."""
+    for order, tried in orders(bench).items():
+        counts = []
+        for every in (False, True):
+            met = 0
+            while tried(Refusal(kind, 1 + met * step, every)):
+                met += 1
+                bench.tried += 1
+            counts.append(met)
+        print(f"{kind}, {order}: {counts[0]} calls refused alone, {counts[1]} with all that follow",
+              flush=True)
+
+
 def main() -> None:
-    program, words = measure.program(sys.argv[1:])
-    step = int(words[0]) if words else 1
+    given = arguments.Parser(__doc__, count=1).read()
+    measure.need("cc")
     with measure.scratch() as name:
-        bench = Bench(program, Path(name))
-        for kind in REFUSALS:
-            for order, tried in orders(bench).items():
-                counts = []
-                for every in (False, True):
-                    met = 0
-                    while tried(Refusal(kind, 1 + met * step, every)):
-                        met += 1
-                    counts.append(met)
-                print(f"{kind}, {order}: {counts[0]} calls refused alone, {counts[1]} with all that follow", flush=True)
-        for (kind, order, answer), count in sorted(bench.answers.items(), key=str):
-            print(f"{kind}, {order}: {answer} {count} times")
-        print("0 lost, 0 in part")
+        bench = Bench(given.program, Path(name))
+        try:
+            for kind in REFUSALS:
+                refused(bench, kind, given.count)
+        except Lost as why:
+            print(f"LOST OR IN PART: {why}")
+            end(bench.tried + 1, 1)
+    for (kind, order, answer), count in sorted(bench.answers.items(), key=str):
+        print(f"{kind}, {order}: {answer} {count} times")
+    end(bench.tried, 0)
 
 
 main()

@@ -1,8 +1,8 @@
 #!/usr/bin/env python3
 """Writes the files of this folder: a night of an oximeter as its card has it, card.edf, and as it
-was sent, part1.edf to part6.edf of 80 minutes each. It needs Python 3 and ../../checks/lib.
+was sent, part1.edf to part6.edf of 80 minutes each. It needs Python 3 and checks/lib.
 
-    examples/oximeter/write.py [FOLDER]     # this folder where none is named
+    PYTHONPATH=checks examples/oximeter/write.py [FOLDER]    # this folder where none is named
 
 EDF+C, 960 data records of 30 s: the saturation and the pulse once a second, and the sleep stage of
 each data record as an annotation."""
@@ -11,9 +11,7 @@ import sys
 from datetime import datetime, timedelta
 from pathlib import Path
 
-here = Path(__file__).resolve().parent
-sys.path.insert(0, str(here.parents[1] / "checks" / "lib"))
-from edf import Header, Signal, annotations_signal, fragment, keeping, tal
+from lib.edf import Header, Signal, annotations_signal, fragment, keeping, tal
 
 SECONDS, RECORDS, PARTS = 30, 960, 6
 START = datetime(2023, 11, 4, 22, 15)
@@ -60,7 +58,7 @@ def file_of(nths: range) -> bytes:
     return fragment(header, [(samples(nth), block(nth, nths[0])) for nth in nths])
 
 
-folder = Path(sys.argv[1]) if len(sys.argv) > 1 else here
+folder = Path(sys.argv[1]) if len(sys.argv) > 1 else Path(__file__).resolve().parent
 size = RECORDS // PARTS
 for part in range(PARTS):
     (folder / f"part{part + 1}.edf").write_bytes(file_of(range(size * part, size * (part + 1))))

@@ -1,0 +1,1 @@
+"""What checks/worked.py asks: small files, each beside its answer."""

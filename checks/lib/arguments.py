@@ -1,0 +1,53 @@
+"""The words of the scripts: the programs to run, and how often.
+
+    given = arguments.Parser(__doc__, count=1_000).read()
+    given.program, given.count
+
+A script whose words are more than these adds them before `read`, by `add_argument`.
+"""
+import argparse
+import subprocess
+import sys
+from pathlib import Path
+
+TOP = Path(__file__).resolve().parents[2]
+OPTIONS = {"edfstore": "program", "edfruns": "edfruns"}     # the option that names each program
+BOTH = tuple(OPTIONS)
+
+
+def path(word: str) -> Path:
+    return Path(word).resolve()
+
+
+def chosen(name: str) -> Path:
+    """The program that bin/edfstore or bin/edfruns runs."""
+    script = '. "$0/bin/common.sh" && chosen_program "$1"'
+    told = subprocess.run(["bash", "-c", script, TOP, name], stdout=subprocess.PIPE, text=True,
+                          check=False)
+    if told.returncode:
+        sys.exit(f"bin/{name} has no program to run")
+    return Path(told.stdout.strip())
+
+
+class Parser(argparse.ArgumentParser):
+    """Takes --program, which names edfstore, or --edfruns, or both, by the programs that the script
+    runs; and a count, where the script has one. Its help is the text at the script's head."""
+
+    def __init__(self, text: str, programs: tuple = ("edfstore",), count: int = 0):
+        super().__init__(prog=sys.argv[0], description=text, allow_abbrev=False,
+                         formatter_class=argparse.RawDescriptionHelpFormatter)
+        self.programs = programs
+        for name in programs:
+            self.add_argument(f"--{OPTIONS[name]}", metavar="PATH", type=path,
+                              help=f"{name}; the one that bin/{name} runs if left out")
+        if count:
+            self.add_argument("count", nargs="?", metavar="COUNT", type=int, default=count,
+                              help=f"how often, {count:,} if left out")
+
+    def read(self) -> argparse.Namespace:
+        """The words, with a program where none was named."""
+        given = self.parse_args()
+        for name in self.programs:
+            if not getattr(given, OPTIONS[name]):
+                setattr(given, OPTIONS[name], chosen(name))
+        return given
