@@ -158,14 +158,6 @@ def loop() -> float:
     return time.process_time() - begun
 
 
-def loop() -> float:
-    """The processor seconds of twenty million additions: more in a slow hour of the host."""
-    begun, count = time.process_time(), 0
-    while count < 20_000_000:
-        count += 1
-    return time.process_time() - begun
-
-
 def mb(count: float) -> str:
     return f"{count / 1e6:.1f} MB"
 

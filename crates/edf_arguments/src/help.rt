@@ -3,7 +3,7 @@
 
 /// What `edfstore --version` prints after the program's name. No other place of the repository has
 /// it.
-pub const VERSION: &str = "1.1.0";
+pub const VERSION: &str = "1.1.1";
 
 /// What `edfstore` is.
 pub(crate) const EDFSTORE: &str = "\
