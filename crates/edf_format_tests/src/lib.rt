@@ -1,51 +1,17 @@
 //! Tests of the crates below the store. They are in a crate of their own, so that none of those
-//! crates is proved once more for its tests.
+//! crates is proved once more for its tests. What is only a value or a text, a block or a file, and
+//! what it is answered, is a line of `edf_vectors`.
 //!
-//! By values from the standards' text:
-//!
-//! - `times`, `texts`: times and decimals, texts of header fields.
-//! - `fixed_parts`, `signal_parts`, `headers`, `identities`: headers and what they say of a
-//!   recording.
-//! - `startdates`: startdates of headers beside the Startdate subfield.
-//! - `blocks`, `several_blocks`: annotations blocks, by themselves and several of a data record.
-//!
-//! By small named files:
-//!
-//! - `one_by_one`, `wholes`: fragments, their data records read one at a time and all at once, in
-//!   pieces of any size.
-//! - `uncounted`, `several_signals`: fragments whose header does not count their data records, and
-//!   those of several annotations signals.
-//! - `records`: data records, compared with one another.
-//! - `stops`: reads and writes that fail, and what was read after a refusal.
+//! - `failing`: reads that fail, after how many bytes they may be; and that after a refusal a
+//!   reader only tells that it failed.
+//! - `stops`: how many reads there are, where the input ends or fails once and then goes on;
+//!   buffers that are filled, and writes that fail.
+//! - `words`: what a fault says.
 #![tactic(auto)]
 
 #[cfg(test)]
-mod blocks;
-#[cfg(test)]
-mod fixed_parts;
-#[cfg(test)]
-mod headers;
-#[cfg(test)]
-mod identities;
-#[cfg(test)]
-mod one_by_one;
-#[cfg(test)]
-mod records;
-#[cfg(test)]
-mod several_blocks;
-#[cfg(test)]
-mod several_signals;
-#[cfg(test)]
-mod signal_parts;
-#[cfg(test)]
-mod startdates;
+mod failing;
 #[cfg(test)]
 mod stops;
 #[cfg(test)]
-mod texts;
-#[cfg(test)]
-mod times;
-#[cfg(test)]
-mod uncounted;
-#[cfg(test)]
-mod wholes;
+mod words;

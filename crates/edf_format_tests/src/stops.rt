@@ -1,12 +1,14 @@
-//! Readers that end or fail once and then go on, after which nothing is read; and writers that
-//! fail.
+//! Readers that end or fail once and then go on, after which nothing is read; buffers that are
+//! filled; and writers that fail.
 
-use edf_fragment::{Counted, FragmentFault, FragmentReader, send};
+use crate::failing::bytes_of;
+use edf_fragment::{Counted, Filled, FragmentFault, FragmentReader, fill, read_fragment, send};
 use edf_header::HeaderFault;
 use edf_sample::named::file_q;
-use edf_sample::{Sink, StopsOnce, patched};
+use edf_sample::{Sink, Source, StopsOnce, patched};
 use edf_tal::TalFault;
 use std::alloc::Global;
+use std::io;
 
 /// Reads a fragment to its end or its fault, and once more.
 fn read_twice(alloc: Global, input: StopsOnce<'_>) -> Option<FragmentFault> {
@@ -31,8 +33,9 @@ fn read_twice(alloc: Global, input: StopsOnce<'_>) -> Option<FragmentFault> {
     None
 }
 
-/// The fault and the number of reads.
-pub(crate) fn drained(
+/// The fault and the number of reads of a fragment, one record after another, by a reader that
+/// gives one byte a read and ends or fails once after `stop` of them.
+fn drained(
     alloc: Global,
     bytes: &[u8],
     stop: usize,
@@ -43,31 +46,74 @@ pub(crate) fn drained(
     (told, reads)
 }
 
-/// The same of Q.
-fn drained_q(alloc: Global, stop: usize, fails: bool) -> Option<(Option<FragmentFault>, usize)> {
-    Some(drained(alloc, &file_q(alloc).ok()?, stop, fails))
+/// The same, read at once.
+fn drained_whole(
+    alloc: Global,
+    bytes: &[u8],
+    stop: usize,
+    fails: bool,
+) -> (Option<FragmentFault>, usize) {
+    let mut reads = 0;
+    let mut input = Counted::new(StopsOnce::new(bytes, stop, fails, &mut reads));
+    let told = read_fragment(alloc, &mut input).err();
+    drop(input);
+    (told, reads)
 }
 
-/// Where the input ends or fails, how many bytes are asked for, and the fault of an end.
-const ENDS: &[(usize, usize, FragmentFault)] = &[
-    (0, 1, FragmentFault::Header(HeaderFault::Cut)),
-    (255, 256, FragmentFault::Header(HeaderFault::Cut)),
-    (256, 257, FragmentFault::Header(HeaderFault::CutSignals)),
-    (767, 768, FragmentFault::Header(HeaderFault::CutSignals)),
-    (768, 769, FragmentFault::CutRecord { nth: 1 }),
-    (777, 778, FragmentFault::CutRecord { nth: 1 }),
+/// Both of a file, where they are the same.
+fn drained_both(
+    alloc: Global,
+    name: &str,
+    stop: usize,
+    fails: bool,
+) -> Option<(Option<FragmentFault>, usize)> {
+    let bytes = bytes_of(alloc, name)?;
+    let told = drained(alloc, &bytes, stop, fails);
+    if told == drained_whole(alloc, &bytes, stop, fails) {
+        Some(told)
+    } else {
+        None
+    }
+}
+
+/// A file, where it ends or fails, how many bytes are asked for, and the fault of an end.
+const ENDS: &[(&str, usize, usize, Option<FragmentFault>)] = &[
+    ("q", 0, 1, Some(FragmentFault::Header(HeaderFault::Cut))),
+    ("q", 255, 256, Some(FragmentFault::Header(HeaderFault::Cut))),
+    (
+        "q",
+        256,
+        257,
+        Some(FragmentFault::Header(HeaderFault::CutSignals)),
+    ),
+    (
+        "q",
+        767,
+        768,
+        Some(FragmentFault::Header(HeaderFault::CutSignals)),
+    ),
+    ("q", 768, 769, Some(FragmentFault::CutRecord { nth: 1 })),
+    ("q", 777, 778, Some(FragmentFault::CutRecord { nth: 1 })),
+    ("q", 778, 779, None),
+    ("k", 768, 769, Some(FragmentFault::CutRecord { nth: 1 })),
+    ("k", 777, 778, Some(FragmentFault::CutRecord { nth: 1 })),
+    ("k", 778, 779, None),
+    ("k", 779, 780, Some(FragmentFault::CutRecord { nth: 2 })),
+    ("k", 788, 789, None),
+    ("k", 789, 790, Some(FragmentFault::CutRecord { nth: 3 })),
+    ("k", 798, 799, None),
 ];
 
 #[test]
-fn nothing_is_read_behind_an_end_or_a_failed_read(rt: HostRuntime) {
-    let whole = drained_q(rt.alloc(), usize::MAX, false);
+fn nothing_is_read_after_an_end_or_a_failed_read(rt: HostRuntime) {
+    let whole = drained_both(rt.alloc(), "q", usize::MAX, false);
     assert_eq!(rt; whole, Some((None, 779)));
-    for (stop, reads, fault) in ENDS.iter().copied() {
-        let ended = drained_q(rt.alloc(), stop, false);
-        assert_eq!(rt; ended, Some((Some(fault), reads)), "{stop} bytes");
-        let failed = drained_q(rt.alloc(), stop, true);
+    for (name, stop, reads, fault) in ENDS.iter().copied() {
+        let ended = drained_both(rt.alloc(), name, stop, false);
+        assert_eq!(rt; ended, Some((fault, reads)), "{stop} bytes of {name}");
+        let failed = drained_both(rt.alloc(), name, stop, true);
         let read = Some(FragmentFault::Read);
-        assert_eq!(rt; failed, Some((read, reads)), "{stop} bytes");
+        assert_eq!(rt; failed, Some((read, reads)), "{stop} bytes of {name}");
     }
 }
 
@@ -112,11 +158,33 @@ const REFUSALS: &[(usize, &[u8], usize, FragmentFault)] = &[
 ];
 
 #[test]
-fn a_refusal_is_told_by_its_fault_and_nothing_is_read_behind_it(rt: HostRuntime) {
+fn a_refusal_is_told_by_its_fault_and_nothing_is_read_after_it(rt: HostRuntime) {
     for (at, text, reads, fault) in REFUSALS.iter().copied() {
         let told = drained_other(rt.alloc(), at, text);
         assert_eq!(rt; told, Some((Some(fault), reads)), "at {at}");
     }
+}
+
+/// What becomes of a buffer of five bytes, by reads of two bytes of `abcdefgh` that fail after
+/// `cut`, and the buffer.
+fn filled(bytes: &[u8], cut: usize) -> (Filled, [u8; 5]) {
+    let mut buffer = [b'.'; 5];
+    let kind = io::ErrorKind::Interrupted;
+    let told = fill(
+        &mut Counted::new(Source::failing(bytes, cut, kind)),
+        &mut buffer,
+    );
+    (told, buffer)
+}
+
+#[test]
+fn a_buffer_is_filled_or_the_input_ends_or_a_read_fails(rt: HostRuntime) {
+    let eight = b"abcdefgh".as_slice();
+    assert_eq!(rt; filled(eight, 8), (Filled::Full, *b"abcde"));
+    assert_eq!(rt; filled(eight, 5), (Filled::Full, *b"abcde"));
+    assert_eq!(rt; filled(b"abc", 8), (Filled::Cut { at: 3 }, *b"abc.."));
+    let (told, _) = filled(eight, 4);
+    assert_eq!(rt; told, Filled::Failed);
 }
 
 /// Whether the first 300 bytes of Q go into this much room, and whether just those went out for

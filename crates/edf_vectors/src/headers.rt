@@ -1,0 +1,153 @@
+//! Headers, and the identities of recordings.
+
+use crate::bases::{changed, counted};
+use crate::cells::fields;
+use edf_header::{Header, HeaderFault, Identity, read_fixed, read_signals, write_header};
+use edf_sample::named::identity_q;
+use edf_time::Instant;
+use std::alloc::Global;
+
+/// The widths of an identity of one ordinary signal.
+const IDENTITY: &[usize] = &[80, 1, 69, 8, 16, 80, 8, 8, 8, 8, 8, 80, 8, 32];
+
+/// The widths of a header of two signals.
+const HEADER: &[usize] = &[
+    8, 80, 80, 8, 8, 8, 44, 8, 8, 4, 16, 16, 80, 80, 8, 8, 8, 8, 8, 8, 8, 8, 8, 8, 80, 80, 8, 8,
+    32, 32,
+];
+
+fn fault(alloc: Global, fault: HeaderFault) -> Option<String> {
+    format!(in alloc; "E{} {fault:?}", fault.number()).ok()
+}
+
+/// How many signals a fixed part tells.
+pub(crate) fn fixed(alloc: Global, cells: &[Vec<u8>]) -> Option<String> {
+    let bytes = changed(alloc, cells)?;
+    match read_fixed(bytes.first_chunk::<256>()?) {
+        Ok(fixed) => format!(in alloc; "{} signals", fixed.signals()).ok(),
+        Err(told) => fault(alloc, told),
+    }
+}
+
+/// The first `most` bytes, or all where there are fewer.
+fn front(bytes: &[u8], most: usize) -> &[u8] {
+    bytes.get(..most).unwrap_or(bytes)
+}
+
+/// Reads a header, and nothing after it.
+fn read(alloc: Global, bytes: &[u8]) -> Option<Result<Header, HeaderFault>> {
+    let fixed = match read_fixed(bytes.first_chunk::<256>()?) {
+        Ok(fixed) => fixed,
+        Err(told) => return Some(Err(told)),
+    };
+    let signals = front(bytes.get(256..)?, 256 * fixed.signals());
+    if signals.len() > 256 * fixed.signals() {
+        return None;
+    }
+    Some(read_signals(alloc, fixed, signals))
+}
+
+/// The nanosecond at which a header starts, its count, whether its recording is dated, the duration
+/// of a data record; the bytes of the annotations blocks, of a data record and of ordinary samples.
+fn told(alloc: Global, header: &Header) -> Option<String> {
+    let start = header.start().nanos();
+    let count = header.count();
+    let identity = header.identity();
+    let dated = identity.dated();
+    let nanos = identity.duration();
+    let notes = header.block_bytes();
+    let all = header.record_bytes();
+    let own = identity.ordinary_bytes();
+    format!(in alloc;
+        "start {start} count {count:?} dated {dated} duration {nanos} bytes {notes} {all} {own}"
+    ).ok()
+}
+
+pub(crate) fn header(alloc: Global, cells: &[Vec<u8>]) -> Option<String> {
+    match read(alloc, &changed(alloc, cells)?)? {
+        Ok(header) => told(alloc, &header),
+        Err(told) => fault(alloc, told),
+    }
+}
+
+/// How many annotations blocks a data record has, and where each is, with its bytes.
+pub(crate) fn places(alloc: Global, cells: &[Vec<u8>]) -> Option<String> {
+    let header = read(alloc, &changed(alloc, cells)?)?.ok()?;
+    let mut text = format!(in alloc; "{}", header.blocks().len()).ok()?;
+    for block in header.blocks() {
+        let place = format!(in alloc; " {}:{}", block.at, block.bytes).ok()?;
+        text.push_str(place.as_str()).ok()?;
+    }
+    Some(text)
+}
+
+/// How many bytes an identity has, and the fields of all but the second ordinary signal on.
+fn spelled(alloc: Global, identity: &Identity) -> Option<String> {
+    let bytes = identity.to_bytes(alloc).ok()?;
+    let text = fields(alloc, &bytes, IDENTITY)?;
+    format!(in alloc; "{} {text}", bytes.len()).ok()
+}
+
+/// The identity that a header tells.
+pub(crate) fn identity_of(alloc: Global, cells: &[Vec<u8>]) -> Option<String> {
+    let header = read(alloc, &changed(alloc, cells)?)?.ok()?;
+    spelled(alloc, &header.into_identity())
+}
+
+/// What an identity tells, and whether it is that of Q.
+fn parts(alloc: Global, identity: &Identity) -> Option<String> {
+    let of_q = Identity::from_bytes(alloc, &identity_q(alloc).ok()?).ok()?;
+    let code = str::from_utf8(identity.patient_code()).ok()?;
+    let test = str::from_utf8(identity.investigation_code()).ok()?;
+    let nanos = identity.duration();
+    let signals = identity.signals();
+    let bytes = identity.ordinary_bytes();
+    let dated = identity.dated();
+    let same = of_q.same(identity);
+    format!(in alloc;
+        "{code} {test} duration {nanos} signals {signals} bytes {bytes} dated {dated} same {same}"
+    ).ok()
+}
+
+/// What the bytes of an identity tell.
+pub(crate) fn identity(alloc: Global, cells: &[Vec<u8>]) -> Option<String> {
+    match Identity::from_bytes(alloc, &changed(alloc, cells)?) {
+        Ok(identity) => parts(alloc, &identity),
+        Err(fault) => format!(in alloc; "{fault:?}").ok(),
+    }
+}
+
+/// The bytes of an identity, given back.
+pub(crate) fn bytes(alloc: Global, cells: &[Vec<u8>]) -> Option<String> {
+    spelled(
+        alloc,
+        &Identity::from_bytes(alloc, &changed(alloc, cells)?).ok()?,
+    )
+}
+
+/// Whether a recording may start at a nanosecond.
+pub(crate) fn may_start(alloc: Global, cells: &[Vec<u8>]) -> Option<String> {
+    let (nanos, bytes) = counted(alloc, cells)?;
+    let identity = Identity::from_bytes(alloc, &bytes).ok()?;
+    format!(in alloc; "{}", identity.may_start(Instant::at(nanos)?)).ok()
+}
+
+/// The canonical header of one data record that starts in a second, field by field, and the
+/// identity that it tells.
+pub(crate) fn canonical(alloc: Global, cells: &[Vec<u8>]) -> Option<String> {
+    let (second, bytes) = counted(alloc, cells)?;
+    let identity = Identity::from_bytes(alloc, &bytes).ok()?;
+    let start = Instant::at(second.wrapping_mul(1_000_000_000))?;
+    if !identity.may_start(start) {
+        return String::from_str(alloc, "may not start").ok();
+    }
+    let written = write_header(alloc, &identity, start, 1, 3).ok()?;
+    let text = fields(alloc, &written, HEADER)?;
+    let read = read(alloc, &written)?.ok()?;
+    format!(in alloc;
+        "{} {text} {}",
+        written.len(),
+        read.identity().same(&identity)
+    )
+    .ok()
+}
