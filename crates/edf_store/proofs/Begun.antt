@@ -14,7 +14,7 @@ use Rattle.edf_tables.specs.Others.{KeepsOthers}
 use Rattle.edf_tables.proofs.Commits.{survives_same}
 use Rattle.edf_tables.proofs.Others.{others_same}
 use Rattle.edf_store.specs.declared.fault.StoreFault.{StoreFault}
-use Rattle.edf_store.specs.declared.fault.StoreFault.TheVariants.{Store}
+use Rattle.edf_store.specs.declared.fault.StoreFault.TheVariants.{Store, Foreign, Failed}
 use Rattle.edf_store.specs.Fault.{IsStoreRefusal, IsRefusalOf}
 use Rattle.edf_store.specs.Held.{StoreModel, at, AreHeld, IsSoundStore, Stays}
 use Rattle.edf_store.specs.Transaction.{AreSeen, SeesSome}
@@ -45,8 +45,17 @@ module _ (cap : ℕ) (old new : State) (P : Trees → Type 0) (s : Survives old 
 pub stays_same : {S : Type 0} (g : Ghosts S) (store : StoreModel S) → Stays g store store
 stays_same g store = record { cap = refl; holdings = λ h held. held; others = others_committed_same (at g store); crash = survives_same (at g store) _ }
 
+pub refused_always : {A P : Type 0} (e : Error) (r : Result A StoreFault) → IsErrAnd r (IsRefusalOf e) → P → IfErr r (λ _. P)
+refused_always e r h p = let it = err_from_is_err_and r h in rw it.1 p
+
 pub refused_told : {A : Type 0} (e : Error) (r : Result A StoreFault) → IsErrAnd r (IsRefusalOf e) → IfErr r IsStoreRefusal
 refused_told e r h = let p = err_from_is_err_and r h in rw p.1 p.2.told
 
 pub refused_caused : {A : Type 0} (e : Error) (r : Result A StoreFault) → IsErrAnd r (IsRefusalOf e) → IfErr r (λ e. e ≢ Store None)
 refused_caused e r h = let p = err_from_is_err_and r h in rw p.1 p.2.caused
+
+pub refused_own : {A : Type 0} (e : Error) (r : Result A StoreFault) → IsErrAnd r (IsRefusalOf e) → IfErr r (λ e. e ≢ Foreign)
+refused_own e r h = let p = err_from_is_err_and r h in rw p.1 p.2.own
+
+pub refused_unfailed : {A : Type 0} (e : Error) (r : Result A StoreFault) → IsErrAnd r (IsRefusalOf e) → IfErr r (λ e. e ≢ Failed)
+refused_unfailed e r h = let p = err_from_is_err_and r h in rw p.1 p.2.unfailed

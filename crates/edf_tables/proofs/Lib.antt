@@ -13,6 +13,7 @@ pub mod QueryTexts
 pub mod Reading
 pub mod Refusals
 pub mod Rules
+pub mod SameText
 pub mod Schemas
 pub mod Shown
 pub mod Sorting

@@ -5,6 +5,7 @@ use Rattle.sqlite.specs.State.{HasCleanDisk}
 use Rattle.edf_tal.specs.Canonical.{block_text}
 use Rattle.edf_tables.specs.Row.{cells, HasRecord}
 use Rattle.edf_tables.proofs.Held.{record_keeps}
+use Rattle.edf_store.proofs.Begun.{stays_same, refused_told, refused_caused}
 use Rattle.edf_store.proofs.Readiness.{stays_so}
 use Rattle.edf_store.proofs.Decoding.{start_fits}
 use Rattle.edf_store.proofs.Held.{still_sound}
@@ -41,3 +42,12 @@ returns-in_err-insert_record-clause-stays g c = rw (← c.store.view_is) (stays_
 pub returns-clause-stays : goal.returns-clause-stays
 returns-clause-stays g c =
     rw (← c.store.view_is) (stays_so g.S.Store c.store.inside.cap c.store.inside.conn c.insert_record.new.conn c.insert_record.ensures.survives (λ clean. record_keeps (state g.S.Store c.store.inside.conn) (state g.S.Store c.insert_record.new.conn) _ (c.in_ok-insert_record.ensures.added clean)))
+
+pub returns-in_err-insert_record-clause-told : goal.returns-in_err-insert_record-clause-told
+returns-in_err-insert_record-clause-told g c = refused_told _ c.from_residual.result c.from_residual.ensures.1
+
+pub returns-in_err-insert_record-clause-caused : goal.returns-in_err-insert_record-clause-caused
+returns-in_err-insert_record-clause-caused g c = refused_caused _ c.from_residual.result c.from_residual.ensures.1
+
+pub returns-in_default-clause-stays : goal.returns-in_default-clause-stays
+returns-in_default-clause-stays g c = rw (← c.store.view_is) (stays_same g.S.Store _)

@@ -4,7 +4,7 @@ use Rattle.sqlite.specs.Held.{state}
 use Rattle.edf_header.specs.Key.{key_bytes}
 use Rattle.edf_tables.proofs.Commits.{quiet_then}
 use Rattle.edf_tables.proofs.Keeping.{keeps_then}
-use Rattle.edf_store.proofs.Begun.{refused_told, refused_caused}
+use Rattle.edf_store.proofs.Begun.{stays_same, refused_told, refused_caused}
 use Rattle.edf_store.proofs.Held.{still_sound, sees_on}
 use Rattle.edf_store.proofs.Readiness.{stays_so}
 use Rattle.edf_store.proofs.Steps.{found_in, made_under, made_sees, made_only, made_keeps, none_made}
@@ -129,3 +129,12 @@ returns-clause-stays g c =
     let again : c.as_slice-2.result.now ≡ c.as_slice.result.now = search rules in
     rw (← c.store.view_is) (stays_so g.S.Store c.store.inside.cap c.store.inside.conn c.insert_recording.new.conn (quiet_then a b d _ c.select_recording.ensures.survives c.insert_recording.ensures.survives)
     (made_keeps c.store.inside.cap a b c.in_ok-id-2.id k c.as_slice.result.now is c.signals.ensures.key c.select_recording.ensures.survives c.in_ok-id.ensures.same running d c.insert_recording.ensures.survives (λ clean. rw none at (c.in_ok-id.ensures.id clean)) (λ clean. rw again at (c.in_ok-id-2.ensures.added clean))))
+
+pub returns-in_err-id-2-clause-told : goal.returns-in_err-id-2-clause-told
+returns-in_err-id-2-clause-told g c = refused_told _ c.from_residual-in_err-id-2.result c.from_residual-in_err-id-2.ensures.1
+
+pub returns-in_err-id-2-clause-caused : goal.returns-in_err-id-2-clause-caused
+returns-in_err-id-2-clause-caused g c = refused_caused _ c.from_residual-in_err-id-2.result c.from_residual-in_err-id-2.ensures.1
+
+pub returns-in_default-clause-stays : goal.returns-in_default-clause-stays
+returns-in_default-clause-stays g c = rw (← c.store.view_is) (stays_same g.S.Store _)

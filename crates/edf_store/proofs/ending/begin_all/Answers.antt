@@ -1,7 +1,7 @@
 use Rattle.std.proofs.Common.{rules}
 use Rattle.sqlite.specs.Held.{state}
 use Rattle.edf_tables.proofs.Keeping.{shows_keeps}
-use Rattle.edf_store.proofs.Begun.{begun_sees, begun_runs, refused_told}
+use Rattle.edf_store.proofs.Begun.{stays_same, begun_sees, begun_runs, refused_told}
 use Rattle.edf_store.proofs.Held.{still_sound}
 use Rattle.edf_store.proofs.Readiness.{stays_so}
 use Rattle.edf_store.proofs.Steps.{whole_begun}
@@ -33,3 +33,6 @@ returns-clause-sees g c = rw (← c.store.view_is) (begun_sees c.store.inside.ca
 
 pub returns-clause-whole : goal.returns-clause-whole
 returns-clause-whole g c = whole_begun c.store.inside.cap (state g.S.Store c.store.inside.conn) (state g.S.Store c.begin.new.conn) _ c.begin.ensures.survives c.in_ok-begin.ensures.begun (c.is_autocommit.ensures.settled (search rules)) c.store.invariant
+
+pub returns-then-not-is_autocommit-clause-stays : goal.returns-then-not-is_autocommit-clause-stays
+returns-then-not-is_autocommit-clause-stays g c = rw (← c.store.view_is) (stays_same g.S.Store _)

@@ -1,6 +1,6 @@
 use Rattle.sqlite.specs.Held.{state}
-use Rattle.edf_store.proofs.Begun.{refused_told, refused_caused}
-use Rattle.edf_store.proofs.Held.{still_sound, committed_others, refused_others}
+use Rattle.edf_store.proofs.Begun.{refused_always, refused_told, refused_caused}
+use Rattle.edf_store.proofs.Held.{still_sound, still_held, committed_others, refused_others}
 use Rattle.edf_store.proofs.Steps.{committed_held, committed_sound, seen_survives}
 use Rattle.edf_store.proofs.ending.commit_all.Goals as goal
 
@@ -8,6 +8,11 @@ pub returns-in_err-commit-clause-survives : goal.returns-in_err-commit-clause-su
 returns-in_err-commit-clause-survives g c =
     let whole = rw (← c.store.view_is) at c.requires.whole in
     rw (← c.store.view_is) (seen_survives c.store.inside.cap (state g.S.Store c.store.inside.conn) (state g.S.Store c.commit.new.conn) c.commit.ensures.survives whole)
+
+pub returns-in_err-commit-clause-refused : goal.returns-in_err-commit-clause-refused
+returns-in_err-commit-clause-refused g c =
+    refused_always _ c.from_residual.result c.from_residual.ensures.1
+    (rw (← c.store.view_is) (still_held c.store.inside.cap (state g.S.Store c.store.inside.conn) (state g.S.Store c.commit.new.conn) _ c.commit.ensures.survives c.in_err-commit.ensures.refused))
 
 pub returns-in_err-commit-clause-told : goal.returns-in_err-commit-clause-told
 returns-in_err-commit-clause-told g c = refused_told _ c.from_residual.result c.from_residual.ensures.1

@@ -5,6 +5,8 @@ use Rattle.sqlite.specs.State.{HasCleanDisk}
 use Rattle.sqlite_exec.proofs.MarkLemmas.{if_ok_then}
 use Rattle.edf_tables.proofs.Commits.{quiet_then}
 use Rattle.edf_tables.proofs.Keeping.{keeps_then}
+use Rattle.edf_store.proofs.Begun.{refused_own, refused_unfailed, refused_caused}
+use Rattle.edf_store.proofs.Held.{still_sound}
 use Rattle.edf_store.proofs.Readiness.{stays_so, three_survive, three_keep}
 use Rattle.edf_store.proofs.Summaries.{ready_at, still_ready, summary_read, bounds_read}
 use Rattle.edf_store.proofs.KeysRead.{if_refused}
@@ -108,3 +110,68 @@ returns-clause-idle g c clean =
     let clean_b : HasCleanDisk b = omega (arith, c.first_start.ensures.survives.clean, clean_d) in
     let was_clean : HasCleanDisk a = omega (arith, c.count_rows.ensures.survives.clean, clean_b) in
     on_ok c.summary_from.result ((c.in_ok-last.ensures.same clean).0.mode ∙ ((c.in_ok-first.ensures.same clean_d).0.mode ∙ ((c.in_ok-count.ensures.same clean_b).0.mode ∙ (settled was_clean).idle)))
+
+pub invariant_of-store : goal.invariant_of-store
+invariant_of-store g c = still_sound c.store.inside.cap (state g.S.Store c.store.inside.conn) (state g.S.Store c.count_rows.new.conn) _ c.count_rows.ensures.survives c.count_rows.ensures.kept c.store.invariant
+
+pub invariant_of-store-in_err-first : goal.invariant_of-store-in_err-first
+invariant_of-store-in_err-first g c =
+    let a = state g.S.Store c.store.inside.conn in
+    let b = state g.S.Store c.count_rows.new.conn in
+    let d = state g.S.Store c.first_start.new.conn in
+    still_sound c.store.inside.cap a d _ (quiet_then a b d _ c.count_rows.ensures.survives c.first_start.ensures.survives)
+    (λ clean. keeps_then a b d (c.count_rows.ensures.kept (omega (arith, c.first_start.ensures.survives.clean))) (c.first_start.ensures.kept clean)) c.store.invariant
+
+pub invariant_of-store-in_err-last : goal.invariant_of-store-in_err-last
+invariant_of-store-in_err-last g c =
+    let a = state g.S.Store c.store.inside.conn in
+    let b = state g.S.Store c.count_rows.new.conn in
+    let d = state g.S.Store c.first_start.new.conn in
+    let e = state g.S.Store c.last_start.new.conn in
+    still_sound c.store.inside.cap a e _ (three_survive a b d e c.count_rows.ensures.survives c.first_start.ensures.survives c.last_start.ensures.survives c.count_rows.ensures.kept c.first_start.ensures.kept c.last_start.ensures.kept)
+    (three_keep a b d e c.count_rows.ensures.survives c.first_start.ensures.survives c.last_start.ensures.survives c.count_rows.ensures.kept c.first_start.ensures.kept c.last_start.ensures.kept) c.store.invariant
+
+pub invariant_of-store-2 : goal.invariant_of-store-2
+invariant_of-store-2 g c =
+    let a = state g.S.Store c.store.inside.conn in
+    let b = state g.S.Store c.count_rows.new.conn in
+    let d = state g.S.Store c.first_start.new.conn in
+    let e = state g.S.Store c.last_start.new.conn in
+    still_sound c.store.inside.cap a e _ (three_survive a b d e c.count_rows.ensures.survives c.first_start.ensures.survives c.last_start.ensures.survives c.count_rows.ensures.kept c.first_start.ensures.kept c.last_start.ensures.kept)
+    (three_keep a b d e c.count_rows.ensures.survives c.first_start.ensures.survives c.last_start.ensures.survives c.count_rows.ensures.kept c.first_start.ensures.kept c.last_start.ensures.kept) c.store.invariant
+
+pub returns-in_err-count-clause-stays : goal.returns-in_err-count-clause-stays
+returns-in_err-count-clause-stays g c = rw (← c.store.view_is) (stays_so g.S.Store c.store.inside.cap c.store.inside.conn c.count_rows.new.conn c.count_rows.ensures.survives c.count_rows.ensures.kept)
+
+pub returns-in_err-count-clause-own : goal.returns-in_err-count-clause-own
+returns-in_err-count-clause-own g c clean = refused_own _ c.from_residual.result c.from_residual.ensures.1
+
+pub returns-in_err-count-clause-unfailed : goal.returns-in_err-count-clause-unfailed
+returns-in_err-count-clause-unfailed g c = refused_unfailed _ c.from_residual.result c.from_residual.ensures.1
+
+pub returns-in_err-count-clause-caused : goal.returns-in_err-count-clause-caused
+returns-in_err-count-clause-caused g c = refused_caused _ c.from_residual.result c.from_residual.ensures.1
+
+pub returns-in_err-first-clause-own : goal.returns-in_err-first-clause-own
+returns-in_err-first-clause-own g c clean = refused_own _ c.from_residual-in_err-first.result c.from_residual-in_err-first.ensures.1
+
+pub returns-in_err-first-clause-unfailed : goal.returns-in_err-first-clause-unfailed
+returns-in_err-first-clause-unfailed g c = refused_unfailed _ c.from_residual-in_err-first.result c.from_residual-in_err-first.ensures.1
+
+pub returns-in_err-first-clause-caused : goal.returns-in_err-first-clause-caused
+returns-in_err-first-clause-caused g c = refused_caused _ c.from_residual-in_err-first.result c.from_residual-in_err-first.ensures.1
+
+pub returns-in_err-last-clause-own : goal.returns-in_err-last-clause-own
+returns-in_err-last-clause-own g c clean = refused_own _ c.from_residual-in_err-last.result c.from_residual-in_err-last.ensures.1
+
+pub returns-in_err-last-clause-unfailed : goal.returns-in_err-last-clause-unfailed
+returns-in_err-last-clause-unfailed g c = refused_unfailed _ c.from_residual-in_err-last.result c.from_residual-in_err-last.ensures.1
+
+pub returns-in_err-last-clause-caused : goal.returns-in_err-last-clause-caused
+returns-in_err-last-clause-caused g c = refused_caused _ c.from_residual-in_err-last.result c.from_residual-in_err-last.ensures.1
+
+pub returns-clause-unfailed : goal.returns-clause-unfailed
+returns-clause-unfailed g c = c.summary_from.ensures.unfailed
+
+pub returns-clause-caused : goal.returns-clause-caused
+returns-clause-caused g c = c.summary_from.ensures.caused
