@@ -1,4 +1,4 @@
--- How a command ends: the number that its program ends with, and what a refusal's number says of it.
+-- How a command ends: the number that its program ends with, and what a refusal's number says.
 use Rattle.std.specs.Prelude.{ℕ, ◌==◌, ◌&&◌, ◌||◌, Bool, nat_le, if◌then◌else◌}
 use Rattle.edf_program.specs.declared.status.Status.{Status}
 use Rattle.edf_program.specs.declared.status.Status.TheVariants.{Done, Refused, Usage, Trouble}

@@ -1,5 +1,5 @@
--- The texts of faults of form: `E`, the number, the name and the details, each after a space.
--- Numbers are decimal.
+-- Why a file was not read as a fragment, as text: `E`, the number, the name and the details, each
+-- after a space. Numbers are decimal.
 use Rattle.std.specs.Prelude.{ℕ, List, [], ◌++◌, Option, Some, None, codes, decimal}
 use Rattle.edf_header.specs.declared.fault.HeaderFault.{HeaderFault}
 use Rattle.edf_header.specs.declared.fault.HeaderFault.TheVariants as header
@@ -9,7 +9,7 @@ use Rattle.edf_fragment.specs.Fault.{fragment_fault_number}
 use Rattle.edf_fragment.specs.declared.fault.FragmentFault.{FragmentFault}
 use Rattle.edf_fragment.specs.declared.fault.FragmentFault.TheVariants as fragment
 
--- E1 to E20: the name, and what comes before the place
+-- E1 to E20, and want of memory: the name, and what comes before the place
 abbrev pub header_words : HeaderFault → List ℕ
 header_words header.Cut = codes "Cut"
 header_words (header.Unprintable offset) = codes "Unprintable offset="
@@ -46,7 +46,8 @@ abbrev pub place_text : Option ℕ → List ℕ
 place_text None = []
 place_text (Some place) = decimal place
 
--- E22 to E28, of the record that counts so from 1; offsets are in its block, from 0
+-- E22 to E28 of the nth data record, counted from 1, and want of memory; an offset counts from 0, in
+-- the record's annotations blocks, joined
 abbrev pub tal_details : ℕ → TalFault → List ℕ
 tal_details nth (tal.Tal offset) = codes " Tal record=" ++ (decimal nth ++ (codes " offset=" ++ decimal offset))
 tal_details nth (tal.Text offset) = codes " Text record=" ++ (decimal nth ++ (codes " offset=" ++ decimal offset))

@@ -1,12 +1,12 @@
-//! What the programs share that is no system: how a command ends, the readers that it is given, its
-//! lines, and the texts of faults of form. It has no store and opens no file.
+//! What both programs share that needs no operating system: how a command ends, the readers that it
+//! is given, its lines, and why a file was not read as a fragment. It has no store and opens no file.
 //!
 //! - [`Status`]: how a command ends, and the number that the program ends with;
 //!   [`status_of_number`]: by a refusal's number.
 //! - [`Inputs`]: what gives each name its reader.
-//! - [`put_line`], [`tell`], [`tell_bytes`], [`tell_pair`], [`tell_parts`]: lines, written whole or
-//!   told as trouble.
-//! - [`fragment_fault_text`]: why a file is no fragment, as a line has it.
+//! - [`put_line`]: writes a line, and answers whether it was written whole; [`tell`], [`tell_bytes`],
+//!   [`tell_pair`], [`tell_parts`]: the same, answered by a status.
+//! - [`fragment_fault_text`]: why a file was not read as a fragment, as a line has it.
 #![tactic(auto)]
 
 mod inputs;

@@ -8,8 +8,8 @@ use crate::status::Status;
 use edf_fragment::{Output, send};
 use std::alloc::AllocError;
 
-/// Writes a line, and answers whether it was written whole. One for whose text memory was refused
-/// is not written.
+/// Writes a line, which brings its own line feed, and answers whether it was written whole. One for
+/// whose text memory was refused is not written.
 pub fn put_line<W: Output>(out: &mut W, line: Result<Vec<u8>, AllocError>) -> bool
     ensures line { let w = growth W.Output out.old out.new in
         MatchResult line (λ l. IsPut w l.items result) (λ _. Gets w [] × (result ≡ false)) }
@@ -34,12 +34,7 @@ pub fn tell_bytes<W: Output>(out: &mut W, bytes: &[u8], status: Status) -> Statu
 }
 
 /// Writes bytes in two parts and answers a status; trouble where they are not written whole.
-pub fn tell_pair<W: Output>(
-    out: &mut W,
-    first: &[u8],
-    second: &[u8],
-    status: Status,
-) -> Status
+pub fn tell_pair<W: Output>(out: &mut W, first: &[u8], second: &[u8], status: Status) -> Status
     ensures { IsWritten (growth W.Output out.old out.new) (first.now ++ second.now) status result }
 {
     if send(out, first) {
@@ -49,12 +44,9 @@ pub fn tell_pair<W: Output>(
     }
 }
 
-/// Writes a line and answers a status; trouble where it is not written whole.
-pub fn tell<W: Output>(
-    out: &mut W,
-    line: Result<Vec<u8>, AllocError>,
-    status: Status,
-) -> Status
+/// Writes a line, which brings its own line feed, and answers a status; trouble where it is not
+/// written whole.
+pub fn tell<W: Output>(out: &mut W, line: Result<Vec<u8>, AllocError>, status: Status) -> Status
     ensures line { let w = growth W.Output out.old out.new in MatchResult line
         (λ l. IsWritten w l.items status result) (λ _. Gets w [] × (result ≡ Status.Trouble)) }
     ensures told { (text : List ℕ) → IfOk line (λ l. l.items ≡ text) →

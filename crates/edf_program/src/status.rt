@@ -8,12 +8,12 @@ ghost use Rattle.edf_program.specs.Status.{exit_code, status_of_number};
 pub enum Status {
     /// All was done.
     Done,
-    /// A file was refused; or no recording or run is where the words say, or a file is there that
-    /// was to be made.
+    /// A file was refused; or there is no such recording or run; or a file that was to be made is
+    /// there already.
     Refused,
     /// The words ask for nothing that can be done.
     Usage,
-    /// E40 to E43 or E45 was met, or a line could not be written, or a file not removed.
+    /// E40 to E43 or E45 was met, or a line could not be written, or a file could not be removed.
     Trouble,
 }
 
@@ -31,7 +31,8 @@ impl Status {
     }
 }
 
-/// The status where a refusal of this number was met.
+/// The status where a refusal of this number was met: `Trouble` for 40 to 43 and 45, `Refused` for
+/// every other number.
 pub fn status_of_number(number: u8) -> Status
     ensures { result ≡ status_of_number number }
 {

@@ -1,4 +1,4 @@
-//! The texts of faults of form.
+//! Why a file was not read as a fragment, as text.
 
 ghost use Rattle.std.specs.Prelude.{◌≡◌, ◌++◌, IfOk, codes, decimal, string_bytes};
 ghost use Rattle.edf_header.specs.Fault.{header_fault_number};
@@ -90,8 +90,9 @@ fn tal_text(alloc: Global, nth: u32, fault: &TalFault) -> Result<String, AllocEr
 
 /// The text of a fragment's fault: `E` and its number, its name, and its place where it has one.
 ///
-/// Data records and signals count from 1, offsets from 0. A refusal of a file for its form has this
-/// text.
+/// Data records and signals count from 1. An offset counts from 0: in the file for a header's fault
+/// (E2, E15), in the data record's blocks for a fault of these (E22, E23). A refusal of a file for its
+/// form has this text.
 ///
 /// # Errors
 /// Where memory runs out.
