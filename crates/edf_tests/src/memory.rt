@@ -4,6 +4,7 @@ use crate::held::{CAP, empty_store, held, holds, holds_both, store_of_both, subm
 use crate::intake::Answer;
 use crate::large::{large_file, store_of_large};
 use crate::lines::{LINES, Room, Said, Shelf, ran, silence, take_both};
+use crate::three_files::q_and_p5;
 use edf_command::Status;
 use edf_export::{ExportFault, export};
 use edf_fragment::Counted;
@@ -21,6 +22,8 @@ enum Trial {
     Submissions,
     /// The export of a file that is longer than its buffer.
     Export,
+    /// The export of P5 and Q.
+    SmallExport,
     /// N1 and N2 in one list.
     List,
     /// The command to take P5 and Q.
@@ -103,21 +106,25 @@ fn submit_under(alloc: Global, scarce: &mut Scarce, budget: usize) -> Option<Ser
     }
 }
 
-/// How the budget served under which an export of the large file was answered so and wrote this.
+/// How the budget served under which the export of a file was answered so and wrote this.
 fn served_export(answer: Result<u64, ExportFault>, got: &[u8], wanted: &[u8]) -> Option<Served> {
     match answer {
-        Ok(272_772) if got == wanted => Some(Served::Whole),
+        Ok(length) if length == wanted.len() as u64 && got == wanted => Some(Served::Whole),
         Err(fault) if fault.number() == 41 && got.is_empty() => Some(Served::Unbegun),
         Err(fault) if fault.number() == 41 && wanted.starts_with(got) => Some(Served::Short),
         _ => None,
     }
 }
 
-/// Exports two large data records under a budget, of which the second needs more memory: none of
-/// their file, a front of it, or all.
-fn export_under(alloc: Global, scarce: &mut Scarce, budget: usize) -> Option<Served> {
-    let wanted = large_file(alloc)?;
-    let mut store = store_of_large(alloc)?;
+/// Exports the two data records of a store under a budget: none of their file, a front of it, or
+/// all.
+fn export_under(
+    alloc: Global,
+    wanted: &[u8],
+    mut store: Store<MemStore>,
+    scarce: &mut Scarce,
+    budget: usize,
+) -> Option<Served> {
     let identity = store.identities().ok()?.pop()?;
     let mut got = Vec::with_capacity(alloc, 280_000).ok()?;
     if !scarce.leave(alloc, budget) {
@@ -127,8 +134,8 @@ fn export_under(alloc: Global, scarce: &mut Scarce, budget: usize) -> Option<Ser
     let answer = export(alloc, &mut store, &identity, &mut out);
     drop(out);
     scarce.ease();
-    if holds(alloc, &mut store, 2, &wanted) {
-        served_export(answer, &got, &wanted)
+    if holds(alloc, &mut store, 2, wanted) {
+        served_export(answer, &got, wanted)
     } else {
         None
     }
@@ -264,7 +271,24 @@ fn take_under(alloc: Global, scarce: &mut Scarce, budget: usize) -> Option<Serve
 fn tried(alloc: Global, trial: Trial, scarce: &mut Scarce, budget: usize) -> Option<Served> {
     match trial {
         Trial::Submissions => submit_under(alloc, scarce, budget),
-        Trial::Export => export_under(alloc, scarce, budget),
+        Trial::Export => {
+            export_under(
+                alloc,
+                &large_file(alloc)?,
+                store_of_large(alloc)?,
+                scarce,
+                budget,
+            )
+        }
+        Trial::SmallExport => {
+            export_under(
+                alloc,
+                &q_and_p5(alloc)?,
+                store_of_both(alloc)?,
+                scarce,
+                budget,
+            )
+        }
         Trial::List => list_under(alloc, scarce, budget),
         Trial::Command => take_under(alloc, scarce, budget),
     }
@@ -317,6 +341,12 @@ fn submissions_without_memory_leave_what_is_held_and_are_accepted_again(rt: Host
 fn an_export_without_memory_for_its_page_is_not_begun(rt: HostRuntime) {
     let told = tried_until_whole(rt.alloc(), Trial::Export);
     assert!(rt; matches!(told, Some((1.., 0, 0))), "{told:?}");
+}
+
+#[test]
+fn an_export_of_two_small_records_without_memory_is_a_front_of_the_file(rt: HostRuntime) {
+    let told = tried_until_whole(rt.alloc(), Trial::SmallExport);
+    assert!(rt; matches!(told, Some((1.., 0, _))), "{told:?}");
 }
 
 #[test]
