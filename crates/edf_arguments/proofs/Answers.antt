@@ -13,7 +13,7 @@ use Rattle.edf_arguments.specs.Inside.Commands.{edfstore_app}
 use Rattle.std.specs.Global.{Global}
 use Rattle.std.specs.Prelude.{String, string_bytes, suc}
 use Rattle.std.proofs.lemmas.List.{length-map}
-use Rattle.edf_arguments.specs.Arguments.{AreValues, AskForHelp, AskForNoHelp, AskForNothing, IsNoHelp, IsNoUsage, asked, texts}
+use Rattle.edf_arguments.specs.Arguments.{AreValues, AskForHelp, AskForNoHelp, AskForNothing, IsNoUsage, asked, texts}
 use Rattle.edf_arguments.specs.Inside.Matches.{asked_in}
 use Rattle.edf_arguments.proofs.Levels.{simple}
 use Rattle.edf_arguments.proofs.Told.{told}

@@ -1,14 +1,14 @@
 -- What `clap` answers where the words begin with what asks for help or for the version.
-use Rattle.std.proofs.Common.{◌≡◌, ◌∙◌, codes, false, refl, sym, ap, subst, List, [], ◌∷◌, inl, inr}
+use Rattle.std.proofs.Common.{◌≡◌, codes, false, refl, sym, subst, List, [], ◌∷◌, inl, inr}
 use Rattle.std.specs.Str.{chars}
 use Rattle.clap.specs.Walk.{Text, walked}
-use Rattle.clap.specs.Kinds.{Kinds, or_else}
-use Rattle.clap.specs.Faults.{defaults_fault, fault_of, flags_fault, walk_fault}
+use Rattle.clap.specs.Kinds.{Kinds}
+use Rattle.clap.specs.Faults.{fault_of, flags_fault, walk_fault}
 use Rattle.clap.specs.declared.error.kind.ErrorKind.{ErrorKind}
 use Rattle.clap.specs.declared.error.kind.ErrorKind.TheVariants as kind
 use Rattle.edf_arguments.specs.Inside.Commands.{edfstore_app}
 use Rattle.edf_arguments.specs.Inside.Faults.{is_mistake}
-use Rattle.edf_arguments.specs.Arguments.{BeginWithHelpFlag, BeginWithRequest, IsOneOf, commands, help_flags}
+use Rattle.edf_arguments.specs.Arguments.{BeginWithRequest, IsOneOf, commands, help_flags}
 use Rattle.edf_arguments.proofs.Told.{named_fault}
 
 -- the only kind is one of the two that are asked for

@@ -13,7 +13,7 @@ use crate::matches::parsed_command_in;
 use crate::parsed_command::ParsedCommand;
 use clap::Command;
 use clap::error::ErrorKind;
-use std::alloc::Global;
+use std::alloc::{AllocError, Global};
 
 /// What the words ask for. `None` where all is well but a PLACE, which `clap` takes as text.
 fn read<'a>(
@@ -35,6 +35,29 @@ fn read<'a>(
         Err(error) => return Err(fault_by(alloc, &error)),
     };
     Ok(parsed_command_in(alloc, &matches)?)
+}
+
+/// What some words ask for. `None` where all is well but a PLACE.
+fn read_words(alloc: Global, words: &[String]) -> Result<Option<ParsedCommand>, CommandFault>
+    requires some { 0 < length words.now }
+    ensures reads { AreValues words.now →
+        IfOk result (λ parsed. option_map meaning parsed ≡ asked (texts words.now)) }
+    ensures refuses { AreValues words.now →
+        IfErr result (λ fault. fault ≢ CommandFault.Memory → AskForNothing words.now) }
+    ensures usage { AskForNoHelp words.now → IfErr result IsNoHelp }
+    ensures help { AskForHelp words.now → IsErrAnd result IsNoUsage }
+{
+    let mut command = edfstore_command(alloc)?;
+    read(alloc, &mut command, words)
+}
+
+/// Why a PLACE is refused, with the usage of `export`.
+fn place_fault(alloc: Global) -> Result<CommandFault, AllocError>
+    ensures { IfOk result IsNoHelp }
+{
+    let mut export = export_command(alloc)?.bin_name("edfstore export")?;
+    let error = export.error(ErrorKind::ValueValidation, BAD_PLACE)?;
+    Ok(fault_by(alloc, &error))
 }
 
 /// What the words after the program's name ask for.
@@ -62,11 +85,8 @@ pub fn parse(alloc: Global, words: &[String]) -> Result<ParsedCommand, CommandFa
         let file = String::from_str(alloc, "-")?;
         return Ok(ParsedCommand::Convert { file });
     }
-    let mut command = edfstore_command(alloc)?;
-    if let Some(parsed) = read(alloc, &mut command, words)? {
-        return Ok(parsed);
+    match read_words(alloc, words)? {
+        Some(parsed) => Ok(parsed),
+        None => Err(place_fault(alloc)?),
     }
-    let mut export = export_command(alloc)?.bin_name("edfstore export")?;
-    let error = export.error(ErrorKind::ValueValidation, BAD_PLACE)?;
-    Err(fault_by(alloc, &error))
 }

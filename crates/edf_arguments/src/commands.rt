@@ -1,6 +1,7 @@
 //! The words of the program, as `clap` gets them.
 
 ghost use Rattle.std.specs.Prelude.{◌≡◌, false, IfOk};
+ghost use Rattle.clap.specs.Simple.{App, with_subcommand};
 ghost use Rattle.clap.specs.Words.{rule_of};
 ghost use Rattle.edf_arguments.specs.Inside.Commands.{Reads, convert_app, edfstore_app, export_app};
 ghost use Rattle.edf_arguments.specs.Inside.Commands.{list_app, take_app};
@@ -86,13 +87,23 @@ fn program<'a>(alloc: Global) -> Result<Command<'a>, AllocError>
     )
 }
 
+/// The program with one word more.
+fn with_word<'a>(
+    program: Command<'a>,
+    word: Result<Command<'a>, AllocError>,
+) -> Result<Command<'a>, AllocError>
+    ensures { (top sub : App) → Reads program.entry top → IfOk word.entry (λ c. Reads c sub) →
+        IfOk result (λ c. Reads c (with_subcommand top sub.top)) }
+{
+    program.subcommand(word?)
+}
+
 /// The program with its words `take`, `list`, `export` and `convert`.
 pub(crate) fn edfstore_command<'a>(alloc: Global) -> Result<Command<'a>, AllocError>
     ensures { IfOk result (λ c. Reads c edfstore_app) }
 {
-    program(alloc)?
-        .subcommand(take_command(alloc)?)?
-        .subcommand(list_command(alloc)?)?
-        .subcommand(export_command(alloc)?)?
-        .subcommand(convert_command(alloc)?)
+    let takes = with_word(program(alloc)?, take_command(alloc))?;
+    let lists = with_word(takes, list_command(alloc))?;
+    let exports = with_word(lists, export_command(alloc))?;
+    with_word(exports, convert_command(alloc))
 }
