@@ -34,7 +34,7 @@ impl Write for Ends<'_> {
 /// Where the writes of the large file end: its header; the first data record's samples, which go
 /// past the buffer, as much of its block as the buffer holds in pieces of 4,096 zeros, and the
 /// rest; the second's samples and its block, which both go past it.
-const ENDS: &[usize] = &[768, 70_768, 132_213, 136_770, 206_770, 272_772];
+const ENDS: &[usize] = &[768, 133_768, 195_213, 199_770, 332_770, 398_772];
 
 /// An export to a writer that takes all, and whether its writes ended just there.
 fn whole(alloc: Global) -> Option<(Sent, bool)> {
@@ -54,7 +54,7 @@ fn whole(alloc: Global) -> Option<(Sent, bool)> {
 
 #[test]
 fn a_file_longer_than_the_buffer_goes_out_whole_in_six_writes(rt: HostRuntime) {
-    assert_eq!(rt; whole(rt.alloc()), Some(((Ok(272_772), true), true)));
+    assert_eq!(rt; whole(rt.alloc()), Some(((Ok(398_772), true), true)));
 }
 
 /// An export to a writer that takes 1,000 bytes a write.
@@ -71,7 +71,7 @@ fn by_thousands(alloc: Global) -> Option<Sent> {
 
 #[test]
 fn a_file_longer_than_the_buffer_goes_out_whole_in_writes_of_a_thousand_bytes(rt: HostRuntime) {
-    assert_eq!(rt; by_thousands(rt.alloc()), Some((Ok(272_772), true)));
+    assert_eq!(rt; by_thousands(rt.alloc()), Some((Ok(398_772), true)));
 }
 
 /// Of the rooms from two bytes less than `end` to two more, the first for which an export does not
@@ -87,10 +87,10 @@ fn other_room(
 ) -> Option<usize> {
     for more in 0..5usize {
         let room = end.saturating_add(more).saturating_sub(2);
-        let answer = if room < 272_772 {
+        let answer = if room < 398_772 {
             Err(ExportFault::Write)
         } else {
-            Ok(272_772)
+            Ok(398_772)
         };
         if stopped(alloc, store, identity, wanted, room, full) != (answer, true) {
             return Some(room);

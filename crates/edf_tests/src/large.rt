@@ -1,5 +1,5 @@
-//! A recording whose data records are longer than the buffer of an export: two of 136,002 bytes
-//! each.
+//! A recording whose data records are longer than the buffer of an export: two of 199,002 bytes
+//! each. They have so many samples that a walk reads ahead none but the one that it gives next.
 
 use crate::held::{CAP, empty_store, taken};
 use edf_sample::{file, q};
@@ -7,9 +7,9 @@ use edf_store::Store;
 use sqlite::MemStore;
 use std::alloc::Global;
 
-/// The samples of a data record, 35,000 of two bytes each. No shift of them is like them.
+/// The samples of a data record, 66,500 of two bytes each. No shift of them is like them.
 fn push_samples(bytes: &mut Vec<u8>, number: u8) -> Option<()> {
-    for place in 0..70_000usize {
+    for place in 0..133_000usize {
         bytes.push(((place + number as usize) % 251) as u8).ok()?;
     }
     Some(())
@@ -54,12 +54,12 @@ fn file_of(alloc: Global, time: &str, count: &str, records: &[(u8, &str)]) -> Op
     let header = q()
         .start("02.03.02", time)
         .count(count)
-        .samples("35000")
+        .samples("66500")
         .annotations_samples("33001");
     file(alloc, &header, &[body.as_slice()]).ok()
 }
 
-/// The canonical file of both: 272,772 bytes.
+/// The canonical file of both: 398,772 bytes.
 pub(crate) fn large_file(alloc: Global) -> Option<Vec<u8>> {
     file_of(alloc, "23.59.50", "2", &[(0, "+0"), (1, "+1")])
 }

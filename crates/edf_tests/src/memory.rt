@@ -126,7 +126,7 @@ fn export_under(
     budget: usize,
 ) -> Option<Served> {
     let identity = store.identities().ok()?.pop()?;
-    let mut got = Vec::with_capacity(alloc, 280_000).ok()?;
+    let mut got = Vec::with_capacity(alloc, 400_000).ok()?;
     if !scarce.leave(alloc, budget) {
         return None;
     }
@@ -335,12 +335,12 @@ fn submissions_without_memory_leave_what_is_held_and_are_accepted_again(rt: Host
     assert!(rt; matches!(told, Some((0, 0, 100..))), "{told:?}");
 }
 
-/// A walk reads both data records ahead in one page, so memory runs out before a byte is written,
-/// or not at all.
+/// A walk reads the second data record when the first was written, so memory runs out before a byte
+/// is written or after some.
 #[test]
-fn an_export_without_memory_for_its_page_is_not_begun(rt: HostRuntime) {
+fn an_export_without_memory_is_not_begun_or_writes_a_front_of_its_file(rt: HostRuntime) {
     let told = tried_until_whole(rt.alloc(), Trial::Export);
-    assert!(rt; matches!(told, Some((1.., 0, 0))), "{told:?}");
+    assert!(rt; matches!(told, Some((1.., 0, 1..))), "{told:?}");
 }
 
 #[test]
