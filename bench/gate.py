@@ -26,6 +26,7 @@ from lib.measure import loop
 
 PROOF, TESTS, EDITS, BUILDS, RUNS, ITSELF = KINDS = (
     "proof", "tests", "edits", "builds", "runs", "rt itself")
+ANY = "(any)"           # the crate of what works on none, or on all
 TICK = os.sysconf("SC_CLK_TCK")
 
 
@@ -41,7 +42,7 @@ def value_after(words: list, name: str) -> str:
 
 def proved(words: list, folder: str) -> Work:
     """What the prover works on."""
-    crate = value_after(words, "--crate-name")
+    crate = value_after(words, "--crate-name") or ANY
     if "/rt-edit-" in folder:
         return Work(crate, EDITS)
     if "--test" in words:
@@ -57,10 +58,11 @@ def work_of(pid: str) -> Work:
         return proved(words, folder)
     room = next((word for word in [folder, *words] if "/rt-run-" in word), "")
     if room:
-        return Work(Path(words[0]).name if "/rt-run-" in words[0] else "(any)", RUNS)
+        name = Path(words[0]).name.removesuffix("_tests") if "/rt-run-" in words[0] else ANY
+        return Work(name, RUNS)
     if "/crates/" in folder:
         return Work(folder.partition("/crates/")[2].partition("/")[0], BUILDS)
-    return Work("(any)", ITSELF)
+    return Work(ANY, ITSELF)
 
 
 def processes() -> dict:
@@ -94,7 +96,7 @@ class Sampler:
             try:
                 self.works[pid, begun] = work_of(pid)
             except (OSError, IndexError):
-                self.works.setdefault((pid, begun), Work("(any)", ITSELF))
+                self.works.setdefault((pid, begun), Work(ANY, ITSELF))
 
     def by_work(self) -> dict:
         found = defaultdict(float)
