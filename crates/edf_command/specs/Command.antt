@@ -2,9 +2,9 @@
 use Rattle.std.specs.Prelude.{◌⊎◌, String, List, ℕ, [], Option, Some, None, Result, Ok, Err, codes, if◌then◌else◌}
 use Rattle.std.specs.Global.{Global}
 use Rattle.std.specs.Str.{bytes_eq}
-use Rattle.edf_arguments.specs.Arguments.{Asked, Text, AreValues, AskFor, AskForNothing}
-use Rattle.edf_arguments.specs.Arguments.Asked.{take, list, export, convert}
-use Rattle.edf_arguments.specs.declared.parsed_command.ParsedCommand.{ParsedCommand}
+use Rattle.edfstore_arguments.specs.Arguments.{Asked, Text, AreValues, AskFor, AskForNothing}
+use Rattle.edfstore_arguments.specs.Arguments.Asked.{take, list, export, convert}
+use Rattle.edfstore_arguments.specs.declared.order.Order.{Order}
 use Rattle.edf_command.specs.Lines.{command_memory_line}
 use Rattle.edf_program.specs.Output.{Growth, Gets, IsWritten}
 use Rattle.edf_program.specs.declared.status.Status.{Status}
@@ -32,6 +32,6 @@ module _ (out err : Growth) where
 
   -- the command that the words ask for, where no word begins with `-`, and nothing is written; or they ask for nothing; or there is no
   -- memory for them
-  abbrev pub IsCommandRead : List (String Global) → Result ParsedCommand Status → Type 0
+  abbrev pub IsCommandRead : List (String Global) → Result Order Status → Type 0
   IsCommandRead words (Ok command) = (AreValues words → AskFor words command) × Gets out [] × Gets err []
   IsCommandRead words (Err status) = ((AreValues words → AskForNothing words) × IsExplained status) ⊎ LacksCommandMemory status

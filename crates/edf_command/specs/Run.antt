@@ -17,8 +17,8 @@ use Rattle.edf_intake.specs.declared.answer.Refusal.{Refusal}
 use Rattle.edf_export.specs.Export.{IsExported, IsNotExported, CountsExportFault}
 use Rattle.edf_export.specs.declared.fault.ExportFault.{ExportFault}
 use Rattle.edf_export.specs.declared.fault.ExportFault.TheVariants.{Store}
-use Rattle.edf_arguments.specs.Arguments.{Asked}
-use Rattle.edf_arguments.specs.Arguments.Asked.{take, list, export, convert}
+use Rattle.edfstore_arguments.specs.Arguments.{Asked}
+use Rattle.edfstore_arguments.specs.Arguments.Asked.{take, list, export, convert}
 use Rattle.edf_command.specs.Refusals.{IsSpelling}
 use Rattle.edf_command.specs.Lines.{first_take_lines, take_status, take_memory_line, list_lines, first_list_lines, list_refused_line, no_recording_line, export_refused_line, export_status, refused_line, convert_memory_line}
 use Rattle.edf_program.specs.Status.{status_of_number}

@@ -5,7 +5,7 @@
 //! - [`store_path`], [`refuse_store`]: the store that a command names, and the line where it can't
 //!   be opened.
 //! - [`run`]: one command over its store and over what opens files ([`Inputs`]).
-//! - [`parse`], [`ParsedCommand`], [`CommandFault`]: the words, read, and nothing else.
+//! - [`parse`], [`Order`], [`CommandFault`]: the words, read, and nothing else.
 //! - [`Status`]: how it went, and the number that the program ends with.
 //! - [`refusal_text`]: a refusal, as a line has it.
 #![tactic(auto)]
@@ -18,8 +18,8 @@ mod running;
 mod sending;
 mod taking;
 
-pub use edf_arguments::{CommandFault, ParsedCommand, parse};
 pub use edf_program::{Inputs, Status};
+pub use edfstore_arguments::{CommandFault, Order, parse};
 pub use program::{read_command, refuse_store, store_path};
 pub use refusal::refusal_text;
 pub use running::run;

@@ -1,15 +1,15 @@
 //! What the program does with its words, before a command is run and where it can't be.
 
 ghost use Rattle.std.specs.Prelude.{◌≡◌, option_map};
-ghost use Rattle.edf_arguments.specs.Arguments.{meaning};
+ghost use Rattle.edfstore_arguments.specs.Arguments.{meaning};
 ghost use Rattle.edf_command.specs.Command.{IsCommandRead, store_path};
 ghost use Rattle.edf_command.specs.Lines.{store_refused_line};
 ghost use Rattle.edf_program.specs.Output.{growth, IsWritten};
 
-use edf_arguments::{CommandFault, ParsedCommand, parse};
 use edf_fragment::Output;
 use edf_program::{Status, tell_bytes};
 use edf_store::StoreFault;
+use edfstore_arguments::{CommandFault, Order, parse};
 use std::alloc::Global;
 
 /// The command that the words after the program's name ask for.
@@ -22,7 +22,7 @@ pub fn read_command<O: Output, F: Output>(
     words: &[String],
     out: &mut O,
     err: &mut F,
-) -> Result<ParsedCommand, Status>
+) -> Result<Order, Status>
     ensures { IsCommandRead (growth O.Output out.old out.new) (growth F.Output err.old err.new)
         words.now result }
 {
@@ -39,14 +39,14 @@ pub fn read_command<O: Output, F: Output>(
 
 /// The path of the store that a command names. There is none for `:memory:` and for `Convert`,
 /// which has an empty store in memory.
-pub fn store_path(command: &ParsedCommand) -> Option<&str>
+pub fn store_path(command: &Order) -> Option<&str>
     ensures { option_map (λ path. path.now) result ≡ store_path (meaning command.now) }
 {
     let store = match command {
-        ParsedCommand::Take { store, files: _ } => store,
-        ParsedCommand::List { store } => store,
-        ParsedCommand::Export { store, place: _ } => store,
-        ParsedCommand::Convert { file: _ } => return None,
+        Order::Take { store, files: _ } => store,
+        Order::List { store } => store,
+        Order::Export { store, place: _ } => store,
+        Order::Convert { file: _ } => return None,
     };
     if store.as_str() == ":memory:" {
         None

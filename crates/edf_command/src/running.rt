@@ -1,7 +1,7 @@
 //! A command, run.
 
 ghost use Rattle.std.specs.Prelude.{◌≡◌, ℕ, List};
-ghost use Rattle.edf_arguments.specs.Arguments.{meaning};
+ghost use Rattle.edfstore_arguments.specs.Arguments.{meaning};
 ghost use Rattle.edf_program.specs.Output.{growth};
 ghost use Rattle.edf_command.specs.Run.{IsDone, HasOpened, files_of};
 
@@ -9,10 +9,10 @@ use crate::converting::convert;
 use crate::listing::list;
 use crate::sending::send_place;
 use crate::taking::take;
-use edf_arguments::ParsedCommand;
 use edf_fragment::Output;
 use edf_program::{Inputs, Status};
 use edf_store::Store;
+use edfstore_arguments::Order;
 use sqlite::Alter;
 use std::alloc::Global;
 
@@ -25,7 +25,7 @@ use std::alloc::Global;
 /// follows it; a part of a line goes out only where a write failed.
 pub fn run<S: Alter, I: Inputs, O: Output, F: Output>(
     alloc: Global,
-    command: &ParsedCommand,
+    command: &Order,
     store: &mut Store<S>,
     inputs: &mut I,
     out: &mut O,
@@ -39,11 +39,11 @@ pub fn run<S: Alter, I: Inputs, O: Output, F: Output>(
     ensures same { (name : List ℕ) → I.bytes inputs.new name ≡ I.bytes inputs.old name }
 {
     match command {
-        ParsedCommand::Take { store: _, files } => {
+        Order::Take { store: _, files } => {
             take(alloc, files.as_slice(), store, inputs, out, err)
         }
-        ParsedCommand::List { store: _ } => list(alloc, store, out, err),
-        ParsedCommand::Export { store: _, place } => send_place(alloc, *place, store, out, err),
-        ParsedCommand::Convert { file } => convert(alloc, file.as_str(), store, inputs, out, err),
+        Order::List { store: _ } => list(alloc, store, out, err),
+        Order::Export { store: _, place } => send_place(alloc, *place, store, out, err),
+        Order::Convert { file } => convert(alloc, file.as_str(), store, inputs, out, err),
     }
 }

@@ -1,7 +1,7 @@
 //! What takes files in place of a disk.
 
 use edf_fragment::Counted;
-use edf_runs_command::Outputs;
+use edfruns_command::Outputs;
 use std::alloc::Global;
 use std::cell::RefCell;
 use std::io::{self, Write};

@@ -1,7 +1,7 @@
 //! The lines of commands, and how they end.
 
 use crate::stage::plain_story;
-use edf_arguments::VERSION;
+use edfstore_arguments::VERSION;
 use std::alloc::Global;
 
 /// Each line of words, and what it writes.

@@ -6,8 +6,8 @@ use crate::files::two_gaps;
 use crate::folder::Folder;
 use edf_fragment::Counted;
 use edf_program::{Inputs, Status};
-use edf_runs_command::{RunsCommand, run_runs};
 use edf_sample::{Scarce, Sink, Source};
+use edfruns_command::{RunsCommand, run_runs};
 use std::alloc::{AllocError, Global};
 
 /// One file, whatever the name.

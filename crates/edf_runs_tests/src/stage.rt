@@ -4,8 +4,8 @@ use crate::folder::Folder;
 use crate::shelf::Shelf;
 use edf_fragment::Counted;
 use edf_program::Status;
-use edf_runs_command::{read_command, run_runs};
 use edf_sample::Sink;
+use edfruns_command::{read_command, run_runs};
 use std::alloc::Global;
 
 /// What was written for one line of words, and how it ended.

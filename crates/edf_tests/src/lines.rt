@@ -4,7 +4,7 @@ ghost use Rattle.std.specs.Prelude.{None, map, string_bytes};
 
 use crate::held::{CAP, empty_store, holds_both, store_of_both};
 use crate::three_files::q_and_p5;
-use edf_command::{Inputs, ParsedCommand, Status, run};
+use edf_command::{Inputs, Order, Status, run};
 use edf_fragment::Counted;
 use edf_sample::named::{file_p5, file_q};
 use edf_sample::{Sink, Source};
@@ -46,12 +46,12 @@ impl<'a> Inputs for Shelf<'a> {
 }
 
 /// The command to take both.
-pub(crate) fn take_both(alloc: Global) -> Option<ParsedCommand> {
+pub(crate) fn take_both(alloc: Global) -> Option<Order> {
     let mut files = Vec::new(alloc);
     files.push(String::from_str(alloc, "p5.edf").ok()?).ok()?;
     files.push(String::from_str(alloc, "q.edf").ok()?).ok()?;
     let store = String::from_str(alloc, "night.db").ok()?;
-    Some(ParsedCommand::Take { store, files })
+    Some(Order::Take { store, files })
 }
 
 /// What that writes.
@@ -83,7 +83,7 @@ pub(crate) struct Room {
 /// Runs a command over a store and these files.
 pub(crate) fn ran(
     alloc: Global,
-    command: &ParsedCommand,
+    command: &Order,
     store: &mut Store<MemStore>,
     shelf: &mut Shelf<'_>,
     said: &mut Said,
@@ -121,12 +121,7 @@ fn files_are_taken_whose_lines_cannot_be_written(rt: HostRuntime) {
 }
 
 /// Runs a command over a store of P5 and Q.
-fn ran_over_both(
-    alloc: Global,
-    command: &ParsedCommand,
-    out: usize,
-    err: usize,
-) -> Option<(Status, Said)> {
+fn ran_over_both(alloc: Global, command: &Order, out: usize, err: usize) -> Option<(Status, Said)> {
     let mut shelf = Shelf::new(alloc, b"", b"");
     let mut store = store_of_both(alloc)?;
     let mut said = silence(alloc)?;
@@ -140,7 +135,7 @@ fn ran_over_both(
 /// went out, and nothing else.
 fn listed(alloc: Global, out: usize) -> Option<(Status, bool)> {
     let store = String::from_str(alloc, "night.db").ok()?;
-    let (status, said) = ran_over_both(alloc, &ParsedCommand::List { store }, out, 100)?;
+    let (status, said) = ran_over_both(alloc, &Order::List { store }, out, 100)?;
     let line = b"1 records=2 first=2002-03-02T23:59:50 patient=P7 investigation=N1\n";
     let front = said.out.as_slice() == line.get(..out)?;
     Some((status, front && said.err.is_empty()))
@@ -158,7 +153,7 @@ fn a_list_whose_line_cannot_be_written_is_trouble(rt: HostRuntime) {
 /// Exports the recording at a place with room for `out` and `err` bytes.
 fn sent(alloc: Global, place: u32, out: usize, err: usize) -> Option<(Status, Said)> {
     let store = String::from_str(alloc, "night.db").ok()?;
-    ran_over_both(alloc, &ParsedCommand::Export { store, place }, out, err)
+    ran_over_both(alloc, &Order::Export { store, place }, out, err)
 }
 
 /// The status where there is room for `out` bytes of the file, and whether just these went out, and

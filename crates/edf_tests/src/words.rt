@@ -1,9 +1,9 @@
 //! Words after the program's name, read as a command or told why not.
 
-use edf_arguments::VERSION;
-use edf_command::{CommandFault, ParsedCommand, parse, read_command, store_path};
+use edf_command::{CommandFault, Order, parse, read_command, store_path};
 use edf_fragment::Counted;
 use edf_sample::Sink;
+use edfstore_arguments::VERSION;
 use std::alloc::{AllocError, Global};
 
 /// The words of a line.
@@ -18,10 +18,10 @@ fn words(alloc: Global, line: &str) -> Result<Vec<String>, AllocError> {
 /// The command of a line's words and its values, or which fault they have, with its text.
 fn answer(alloc: Global, line: &str) -> Result<String, AllocError> {
     match parse(alloc, words(alloc, line)?.as_slice()) {
-        Ok(ParsedCommand::Take { store, files }) => format!(in alloc; "take {store} {files:?}"),
-        Ok(ParsedCommand::List { store }) => format!(in alloc; "list {store}"),
-        Ok(ParsedCommand::Export { store, place }) => format!(in alloc; "export {store} {place}"),
-        Ok(ParsedCommand::Convert { file }) => format!(in alloc; "convert {file}"),
+        Ok(Order::Take { store, files }) => format!(in alloc; "take {store} {files:?}"),
+        Ok(Order::List { store }) => format!(in alloc; "list {store}"),
+        Ok(Order::Export { store, place }) => format!(in alloc; "export {store} {place}"),
+        Ok(Order::Convert { file }) => format!(in alloc; "convert {file}"),
         Err(CommandFault::Help(text)) => format!(in alloc; "help: {text}"),
         Err(CommandFault::Usage(text)) => format!(in alloc; "usage: {text}"),
         Err(CommandFault::Memory) => format!(in alloc; "memory"),

@@ -1,5 +1,5 @@
 //! The program `edfruns`: lists the runs of a sleep recording, writes each as an EDF+C file, and
-//! draws a picture of it. What is read, written and answered is `edf_runs_command`'s; here the
+//! draws a picture of it. What is read, written and answered is `edfruns_command`'s; here the
 //! system is handed to it.
 #![tactic(auto)]
 
@@ -7,8 +7,8 @@ mod new_files;
 
 use edf_fragment::Counted;
 use edf_program::Status;
-use edf_runs_command::{RunsCommand, read_command, run_runs};
 use edf_system::{Files, Streams, Terminal, refuse_words, words};
+use edfruns_command::{RunsCommand, read_command, run_runs};
 use new_files::NewFiles;
 use std::process::ExitCode;
 

@@ -1,8 +1,8 @@
 //! Files that are made.
 
 use edf_fragment::Counted;
-use edf_runs_command::Outputs;
 use edf_system::{Terminal, tell_system_error};
+use edfruns_command::Outputs;
 use std::alloc::Global;
 use std::fs::{self, File, OpenOptions};
 use std::io::{self, Write};

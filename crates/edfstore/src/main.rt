@@ -1,8 +1,8 @@
 //! The program `edfstore`: takes, lists, exports and converts sleep recordings. What it does is
-//! `edf_host`'s.
+//! `edfstore_host`'s.
 #![tactic(auto)]
 
-use edf_host::run_program;
+use edfstore_host::run_program;
 use std::process::ExitCode;
 
 fn main(rt: HostRuntime) -> ExitCode {

@@ -12,10 +12,10 @@
 
 use edf_command::{Status, read_command, run};
 use edf_fragment::Counted;
-use edf_host::{run_program, run_words};
 use edf_sample::Sink;
 use edf_store::Store;
 use edf_system::{Files, Terminal};
+use edfstore_host::{run_program, run_words};
 use sqlite::{Connection, MemStore};
 use std::alloc::{AllocError, Global};
 use std::io::Write;

@@ -1,0 +1,150 @@
+//! The program `edfstore` over the system: its stores, beside the words, files and streams of
+//! `edf_system`.
+//!
+//! - [`run_program`]: what the program does. What is read, written and answered is `edf_command`'s;
+//!   here the system is handed to it.
+//! - [`run_words`]: the same by words that the caller has.
+#![tactic(auto)]
+
+mod cause;
+mod disk;
+
+use cause::{tell_error, tell_refused};
+use disk::{close_file, is_missing, open_file, open_memory};
+use edf_command::{Order, Status, read_command, refuse_store, run, store_path};
+use edf_fragment::Counted;
+use edf_store::Store;
+use edf_system::{Files, Streams, Terminal, refuse_words, words};
+use sqlite::Alter;
+use std::process::ExitCode;
+
+/// The command that words ask for, or the status where there is none.
+fn command_of(rt: &HostRuntime, words: &[String]) -> Result<Order, Status> {
+    let mut out = Counted::new(rt.stdout());
+    let mut err = Counted::new(rt.stderr());
+    read_command(rt.alloc(), words, &mut out, &mut err)
+}
+
+/// The terminal of a command, which shows a person how far `take` is.
+fn terminal_of<'rt>(rt: &'rt HostRuntime, command: &Order) -> Terminal<'rt> {
+    match command {
+        Order::Take { store: _, files } => Terminal::new(rt, "file", files.len()),
+        _ => Terminal::new(rt, "file", 0),
+    }
+}
+
+/// Runs a command over an open store.
+fn run_over<S: Alter>(
+    rt: &HostRuntime,
+    command: &Order,
+    store: &mut Store<S>,
+    inputs: &mut Files<'_>,
+    streams: &mut Streams<'_>,
+) -> Status {
+    run(
+        rt.alloc(),
+        command,
+        store,
+        inputs,
+        &mut streams.out,
+        &mut streams.err,
+    )
+}
+
+/// Whether the command makes a store where its path names no file.
+fn makes_store(command: &Order) -> bool {
+    match command {
+        Order::Take { store: _, files: _ } => true,
+        _ => false,
+    }
+}
+
+/// Whether SQLite reads the path as more than a file's name, and refuses it.
+fn is_address(path: &str) -> bool {
+    path.starts_with("file:")
+}
+
+/// Runs a command over the file of the store that it names. Where there is no such file, `take`
+/// makes it, and the others find an empty store and leave none. For a person it prints which of
+/// these it was, and why a store is refused.
+fn run_on_file(
+    rt: &HostRuntime,
+    terminal: &Terminal<'_>,
+    path: &str,
+    command: &Order,
+    inputs: &mut Files<'_>,
+    streams: &mut Streams<'_>,
+) -> Status {
+    let is_new = is_missing(rt, path) && !is_address(path);
+    if is_new && !makes_store(command) {
+        terminal.say(path, "no such file");
+        return run_in_memory(rt, command, inputs, streams);
+    }
+    let mut store = match open_file(rt, path) {
+        Ok(store) => store,
+        Err(refused) => {
+            let status = refuse_store(&refused.fault, &mut streams.err);
+            tell_refused(rt, terminal, path, &refused);
+            return status;
+        }
+    };
+    if is_new {
+        terminal.say(path, "no such file; made a new, empty store");
+    }
+    let status = run_over(rt, command, &mut store, inputs, streams);
+    if let Some(failure) = close_file(store)
+        && status == Status::Trouble
+        && terminal.is_there()
+    {
+        tell_error(rt, terminal, path, failure);
+    }
+    status
+}
+
+/// Runs a command over an empty store in memory.
+fn run_in_memory(
+    rt: &HostRuntime,
+    command: &Order,
+    inputs: &mut Files<'_>,
+    streams: &mut Streams<'_>,
+) -> Status {
+    match open_memory(rt.alloc()) {
+        Ok(mut store) => {
+            let status = run_over(rt, command, &mut store, inputs, streams);
+            drop(store.into_connection());
+            status
+        }
+        Err(fault) => refuse_store(&fault, &mut streams.err),
+    }
+}
+
+/// What the command asks for, done over the system's files and streams.
+fn run_command(rt: &HostRuntime, command: &Order) -> Status {
+    let terminal = terminal_of(rt, command);
+    let mut streams = Streams::new(rt, &terminal);
+    let mut inputs = Files::new(rt, &terminal);
+    let status = match store_path(command) {
+        Some(path) => run_on_file(rt, &terminal, path, command, &mut inputs, &mut streams),
+        None => run_in_memory(rt, command, &mut inputs, &mut streams),
+    };
+    terminal.wipe_progress();
+    status
+}
+
+/// Does what the words after the program's name ask for, and answers the status that the program
+/// ends with: 0 to 3.
+pub fn run_words(rt: &HostRuntime, words: &[String]) -> Status {
+    match command_of(rt, words) {
+        Ok(command) => run_command(rt, &command),
+        Err(status) => status,
+    }
+}
+
+/// Does what the program's words ask for, and answers the status that it ends with: 0 to 3.
+pub fn run_program(rt: &HostRuntime) -> ExitCode {
+    let status = match words(rt) {
+        Ok(words) => run_words(rt, words.as_slice()),
+        Err(error) => refuse_words(rt, &error),
+    };
+    ExitCode::from(status.code())
+}
