@@ -1,5 +1,7 @@
 -- What one row of the table of recordings tells.
-use Rattle.std.proofs.Common.{◌≡◌, ◌≢◌, ℕ, ◌<◌, ◌≤◌, ℤ, List, [], ◌∷◌, length, Option, Some, None, Contains, Ok, Err, Result, OnOk, IfOk, refl, sym, ap, subst, ◌∙◌, arith}
+use Rattle.std.proofs.Common.{◌≡◌, ◌≢◌, ℕ, ◌<◌, ◌≤◌, ℤ, List, [], ◌∷◌, length, Option, Some, None}
+use Rattle.std.proofs.Common.{Contains, Ok, Err, Result, OnOk, IfOk, refl, sym, ap, subst, ◌∙◌}
+use Rattle.std.proofs.Common.{arith}
 use Rattle.std.proofs.lemmas.List.{length-map, get_or_past}
 use Rattle.std.specs.List.{AllByRecursion}
 use Rattle.sqlite.specs.declared.types.Value.{Value}
@@ -12,7 +14,11 @@ use Rattle.sqlite_value.specs.Order.{column}
 use Rattle.edf_header.specs.Key.{Key, IsKey, key_bytes}
 use Rattle.edf_header.specs.Identity.{IsFirstKeyFault, IsCleanKey, place_in_order}
 use Rattle.edf_header.specs.declared.identity.IdentityFault.{IdentityFault}
-use Rattle.edf_header.specs.declared.identity.IdentityFault.TheVariants.{Length, Unprintable, Patient, Recording, Duration, Label, Physical, Digital, Samples, Size, Memory}
+use Rattle.edf_header.specs.declared.identity.IdentityFault.TheVariants.{Length, Unprintable}
+use Rattle.edf_header.specs.declared.identity.IdentityFault.TheVariants.{Patient, Recording}
+use Rattle.edf_header.specs.declared.identity.IdentityFault.TheVariants.{Duration, Label, Physical}
+use Rattle.edf_header.specs.declared.identity.IdentityFault.TheVariants.{Digital, Samples, Size}
+use Rattle.edf_header.specs.declared.identity.IdentityFault.TheVariants.{Memory}
 use Rattle.edf_field.specs.Number.{duration_of}
 use Rattle.edf_header.proofs.Faults.{key-clean}
 use Rattle.edf_holdings.proofs.Joining.{lasting}
@@ -23,24 +29,36 @@ use Rattle.edf_tables.proofs.Keeping.{same_left}
 use Rattle.edf_audit.specs.Inside.Walk.{ChecksRecords}
 use Rattle.edf_audit.specs.Inside.Checked.{KeepsRows, Checks}
 
-pub kept_if : {X E : Type 0} (r : Result X E) (a b : State) → OnOk r (IsUnchanged a b) → OnOk r (KeepsRows a b)
-kept_if (Ok x) a b h = record { now_is = h.0.now_is; commit = same_left a b h; mode = h.0.mode; stays = λ _. h.0.is_open }
+pub kept_if : {X E : Type 0} (r : Result X E) (a b : State) → OnOk r (IsUnchanged a b) →
+    OnOk r (KeepsRows a b)
+kept_if (Ok x) a b h = record {
+  now_is = h.0.now_is;
+  commit = same_left a b h;
+  mode = h.0.mode;
+  stays = λ _. h.0.is_open;
+}
 kept_if (Err e) a b h = tt
 
 all_any : (xs : List Row) → AllByRecursion (λ (x : Row). Unit {0}) xs
 all_any [] = tt
 all_any (x ∷ xs) = (tt, all_any xs)
 
-pub is_two : (trees : Trees) (row : Row) → Contains (recordings_in trees) row → row ≡ column row 0 ∷ column row 1 ∷ []
+pub is_two : (trees : Trees) (row : Row) → Contains (recordings_in trees) row →
+    row ≡ column row 0 ∷ column row 1 ∷ []
 is_two trees row c =
-    let it = mapped (λ r. column r 0 ∷ column r 2 ∷ []) (λ (x : Row). Unit {0}) (trees 0) row (all_any (trees 0)) c in
+    let it = mapped (λ r. column r 0 ∷ column r 2 ∷ []) (λ (x : Row). Unit {0}) (trees 0) row
+    (all_any (trees 0)) c in
     it.2 ∙ sym (ap (λ (r : Row). column r 0 ∷ column r 1 ∷ []) it.2)
 
-pub no_int : (cap : ℕ) (trees : Trees) (row : Row) → ((id : ℤ) → column row 0 ≢ Int id) → Checks cap trees row None
-no_int cap trees row none c = bad_recording row c (λ is. none is.id (ap (λ (r : Row). column r 0) is.cells))
+pub no_int : (cap : ℕ) (trees : Trees) (row : Row) → ((id : ℤ) → column row 0 ≢ Int id) →
+    Checks cap trees row None
+no_int cap trees row none c =
+    bad_recording row c (λ is. none is.id (ap (λ (r : Row). column r 0) is.cells))
 
-pub no_blob : (cap : ℕ) (trees : Trees) (row : Row) → ((bytes : List ℕ) → column row 1 ≢ Blob bytes) → Checks cap trees row None
-no_blob cap trees row none c = bad_recording row c (λ is. none (key_bytes is.key) (ap (λ (r : Row). column r 1) is.cells))
+pub no_blob : (cap : ℕ) (trees : Trees) (row : Row) →
+    ((bytes : List ℕ) → column row 1 ≢ Blob bytes) → Checks cap trees row None
+no_blob cap trees row none c =
+    bad_recording row c (λ is. none (key_bytes is.key) (ap (λ (r : Row). column r 1) is.cells))
 
 blob-bytes : (a b : List ℕ) → ◌≡◌ {A = Value} (Blob a) (Blob b) → a ≡ b
 blob-bytes a b h = cc
@@ -58,27 +76,49 @@ place-below (Samples signal) other = omega arith
 place-below Size other = omega arith
 place-below Memory other = absurd (other refl)
 
-pub no_key : (cap : ℕ) (trees : Trees) (row : Row) (bytes : List ℕ) (fault : IdentityFault) → column row 1 ≡ Blob bytes → IsFirstKeyFault bytes fault → fault ≢ Memory → Checks cap trees row None
+pub no_key : (cap : ℕ) (trees : Trees) (row : Row) (bytes : List ℕ) (fault : IdentityFault) →
+    column row 1 ≡ Blob bytes → IsFirstKeyFault bytes fault → fault ≢ Memory →
+    Checks cap trees row None
 no_key cap trees row bytes fault is first other c = bad_recording row c (λ has.
-    let same : key_bytes has.key ≡ bytes = blob-bytes (key_bytes has.key) bytes (sym (ap (λ (r : Row). column r 1) has.cells) ∙ is) in
+    let same : key_bytes has.key ≡ bytes =
+    blob-bytes (key_bytes has.key) bytes (sym (ap (λ (r : Row). column r 1) has.cells) ∙ is) in
     let clean = key-clean has.key has.is_key in
     subst (λ b. IsCleanKey b 11) same clean fault (place-below fault other) first.0)
 
 pub long : (k : Key) → IsKey k → 0 < duration_of k.duration
 long = lasting
 
-pub told : (cap : ℕ) (trees : Trees) (row : Row) (id : ℤ) (k : Key) (o : Option ℕ) → column row 0 ≡ Int id → column row 1 ≡ Blob (key_bytes k) → IsKey k → ChecksRecords cap k (records_in trees id) o → Checks cap trees row o
+pub told : (cap : ℕ) (trees : Trees) (row : Row) (id : ℤ) (k : Key) (o : Option ℕ) →
+    column row 0 ≡ Int id → column row 1 ≡ Blob (key_bytes k) → IsKey k →
+    ChecksRecords cap k (records_in trees id) o → Checks cap trees row o
 told cap trees row id k None first second key bad = λ c.
     let cells : row ≡ recording_cells id k = is_two trees row c ∙ (λ i. first i ∷ second i ∷ []) in
-    bad_records id k (record { row = subst (Contains (recordings_in trees)) cells c; key = key }) bad
+    bad_records id k (record { row = subst (Contains (recordings_in trees)) cells c; key = key })
+    bad
 told cap trees row id k (Some count) first second key has = λ c.
     let cells : row ≡ recording_cells id k = is_two trees row c ∙ (λ i. first i ∷ second i ∷ []) in (
-      record { id = id; key = k; records = has.records; cells = cells; is_key = key; sound = has.sound; begins = has.begins; shown = has.shown; some = has.some; few = has.few },
+      record {
+        id = id;
+        key = k;
+        records = has.records;
+        cells = cells;
+        is_key = key;
+        sound =
+            has.sound;
+        begins = has.begins;
+        shown = has.shown;
+        some = has.some;
+        few = has.few;
+      },
       has.count_is ∙ sym (ap length has.shown ∙ length-map has.records _),
     )
 
-pub told_if : (cap : ℕ) (trees : Trees) (row : Row) (id : ℤ) (k : Key) (bytes : List ℕ) (r : Result (Option ℕ) Error) → column row 0 ≡ Int id → column row 1 ≡ Blob bytes → key_bytes k ≡ bytes → IsKey k → IfOk r (ChecksRecords cap k (records_in trees id)) → IfOk r (Checks cap trees row)
-told_if cap trees row id k bytes (Ok o) first second same key h = told cap trees row id k o first (second ∙ ap Blob (sym same)) key h
+pub told_if : (cap : ℕ) (trees : Trees) (row : Row) (id : ℤ) (k : Key) (bytes : List ℕ)
+    (r : Result (Option ℕ) Error) → column row 0 ≡ Int id → column row 1 ≡ Blob bytes →
+    key_bytes k ≡ bytes → IsKey k → IfOk r (ChecksRecords cap k (records_in trees id)) →
+    IfOk r (Checks cap trees row)
+told_if cap trees row id k bytes (Ok o) first second same key h =
+    told cap trees row id k o first (second ∙ ap Blob (sym same)) key h
 told_if cap trees row id k bytes (Err e) first second same key h = tt
 
 past_null : (row : Row) (at : ℕ) → length row ≤ at → column row at ≡ Null
@@ -87,5 +127,6 @@ past_null row at h = get_or_past row at Null h
 pub not_int : (row : Row) (at : ℕ) → length row ≤ at → (id : ℤ) → column row at ≢ Int id
 not_int row at h id e = absurd (let n = past_null row at h in cc)
 
-pub not_blob : (row : Row) (at : ℕ) → length row ≤ at → (bytes : List ℕ) → column row at ≢ Blob bytes
+pub not_blob : (row : Row) (at : ℕ) → length row ≤ at → (bytes : List ℕ) →
+    column row at ≢ Blob bytes
 not_blob row at h bytes e = absurd (let n = past_null row at h in cc)

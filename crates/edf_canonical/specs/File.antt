@@ -1,5 +1,6 @@
 -- The canonical EDF+D file of a recording: the one file of its data records.
-use Rattle.std.specs.Prelude.{◌≡◌, ℕ, ◌-◌, ◌*◌, ◌/◌, ◌^◌, ◌≤◌, List, [], ◌∷◌, ◌++◌, length, replicate, All}
+use Rattle.std.specs.Prelude.{◌≡◌, ℕ, ◌-◌, ◌*◌, ◌/◌, ◌^◌, ◌≤◌, List, [], ◌∷◌, ◌++◌, length}
+use Rattle.std.specs.Prelude.{replicate, All}
 use Rattle.std.specs.List.{flat_map}
 use Rattle.edf_header.specs.Key.{Key}
 use Rattle.edf_header.specs.Canonical.{IsCanonicalHeader}
@@ -16,7 +17,8 @@ block_of file_start r = block_text file_start r.start r.annotations
 
 -- the block, and then zeros up to `size` bytes
 abbrev pub filled_block : ℕ → ℕ → DataRecord → List ℕ
-filled_block file_start size r = block_of file_start r ++ replicate (size - length (block_of file_start r)) 0
+filled_block file_start size r = block_of file_start r
+    ++ replicate (size - length (block_of file_start r)) 0
 
 -- a record: its ordinary samples, then its filled block
 abbrev pub record_text : ℕ → ℕ → DataRecord → List ℕ
@@ -24,10 +26,13 @@ record_text file_start size r = r.samples ++ filled_block file_start size r
 
 -- `samples` samples, two bytes each, hold the block of every record
 abbrev pub BlocksFit : ℕ → ℕ → List DataRecord → Type 0
-BlocksFit file_start samples records = All (λ r. length (block_of file_start r) ≤ 2 * samples) records
+BlocksFit file_start samples records =
+    All (λ r. length (block_of file_start r) ≤ 2 * samples) records
 
--- the bytes are laid out as the file of the records, which rise in time and of which `first` is the earliest
-pub record IsLaidOut (bytes : List ℕ) (k : Key) (first : DataRecord) (records : List DataRecord) : Type 0 where
+-- the bytes are laid out as the file of the records, which rise in time and of which `first` is the
+-- earliest
+pub record IsLaidOut (bytes : List ℕ) (k : Key) (first : DataRecord)
+    (records : List DataRecord) : Type 0 where
   pub samples : ℕ
   pub header : List ℕ
   pub is_header : IsCanonicalHeader header k first.start (length records) samples

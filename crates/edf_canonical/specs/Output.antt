@@ -1,4 +1,5 @@
--- What putting bytes out through a buffer does: at each answer, the writer's bytes grew by a front of what was to be put.
+-- What putting bytes out through a buffer does: at each answer, the writer's bytes grew by a front
+-- of what was to be put.
 use Rattle.std.specs.Prelude.{◌≡◌, ℕ, List, [], ◌++◌, Option, Result, MatchResult}
 use Rattle.std.specs.Io.KnownBytes.{Appends}
 use Rattle.edf_fragment.specs.Failures.{one_more}
@@ -10,7 +11,8 @@ use Rattle.edf_canonical.specs.declared.fault.OutputFault.TheVariants.{Write, Me
 abbrev pub most_held : ℕ
 most_held = 65_536
 
--- a writer and the buffer before it: what it holds, how many of its writes failed, what is held back
+-- a writer and the buffer before it: what it holds, how many of its writes failed, what is held
+-- back
 pub record Buffered : Type 0 where
   pub contents : Option (List ℕ)
   pub failures : ℕ
@@ -35,14 +37,16 @@ abbrev pub IsPutThrough : Buffered → Buffered → List ℕ → Result Unit Out
 IsPutThrough before after bytes result =
     MatchResult result
     (λ _. Writes before after bytes after.held × (after.failures ≡ before.failures))
-    (λ fault. ((left : List ℕ) × Writes before after bytes left) × CountsOutputFault before.failures after.failures fault)
+    (λ fault. ((left : List ℕ) × Writes before after bytes left)
+    × CountsOutputFault before.failures after.failures fault)
 
 -- all that was held back is written; or a front of it
 abbrev pub IsFlushed : Buffered → Buffered → Result Unit OutputFault → Type 0
 IsFlushed before after result =
     MatchResult result
     (λ _. Writes before after [] [] × (after.held ≡ []) × (after.failures ≡ before.failures))
-    (λ fault. ((left : List ℕ) × Writes before after [] left) × (fault ≡ Write) × (after.failures ≡ one_more before.failures))
+    (λ fault. ((left : List ℕ) × Writes before after [] left) × (fault ≡ Write)
+    × (after.failures ≡ one_more before.failures))
 
 -- a front of some bytes was written
 pub record WritesFront (before after : Option (List ℕ)) (bytes : List ℕ) : Type 0 where

@@ -13,6 +13,7 @@ opens-front before after files i e =
     record {
       front = map text (take i files);
       left = map text (drop i files);
-      parts = ap (map text) (sym (take-append-drop i files)) ∙ map-append text (take i files) (drop i files);
+      parts = ap (map text) (sym (take-append-drop i files))
+          ∙ map-append text (take i files) (drop i files);
       opened = e;
     }

@@ -10,10 +10,17 @@ use Rattle.edf_store.specs.declared.fault.StoreFault.{StoreFault}
 use Rattle.edf_store.specs.declared.fault.StoreFault.TheVariants.{Memory, Store, Foreign, Failed}
 
 pub stays-same : {S : Type 0} (g : Ghosts S) (a : StoreModel S) → Stays g a a
-stays-same g a = record { cap = refl; holdings = λ h held. held; others = others_committed_same (at g a); crash = survives_same (at g a) (λ _. ⊥) }
+stays-same g a = record {
+  cap = refl;
+  holdings = λ h held. held;
+  others =
+      others_committed_same (at g a);
+  crash = survives_same (at g a) (λ _. ⊥);
+}
 
 -- a disk that is clean now was clean before
-pub was-clean : {S : Type 0} (g : Ghosts S) (a b : StoreModel S) → Stays g a b → HasCleanDisk (at g b) → HasCleanDisk (at g a)
+pub was-clean : {S : Type 0} (g : Ghosts S) (a b : StoreModel S) → Stays g a b →
+    HasCleanDisk (at g b) → HasCleanDisk (at g a)
 was-clean g a b s clean = omega (arith, s.crash.clean)
 
 -- a fault that tells neither foreign rows nor an earlier fault is out of memory or a refusal

@@ -1,5 +1,6 @@
 -- What the program does with its words, before a command is run.
-use Rattle.std.specs.Prelude.{◌⊎◌, String, List, ℕ, [], Option, Some, None, Result, Ok, Err, codes, if◌then◌else◌}
+use Rattle.std.specs.Prelude.{◌⊎◌, String, List, ℕ, [], Option, Some, None, Result, Ok, Err, codes}
+use Rattle.std.specs.Prelude.{if◌then◌else◌}
 use Rattle.std.specs.Global.{Global}
 use Rattle.std.specs.Str.{bytes_eq}
 use Rattle.edfstore_arguments.specs.Arguments.{Asked, Text, AreValues, AskFor, AskForNothing}
@@ -14,7 +15,8 @@ use Rattle.edf_program.specs.declared.status.Status.TheVariants.{Done, Usage, Tr
 abbrev pub path_of : Text → Option Text
 path_of store = if bytes_eq store (codes ":memory:") then None else Some store
 
--- the path of the store that is asked for; `convert` has an empty store in memory, as `:memory:` is one
+-- the path of the store that is asked for; `convert` has an empty store in memory, as `:memory:` is
+-- one
 abbrev pub store_path : Asked → Option Text
 store_path (take store files) = path_of store
 store_path (list store) = path_of store
@@ -25,13 +27,16 @@ module _ (out err : Growth) where
   -- what `clap` says: help, or why nothing can be done
   pub record IsExplained (status : Status) : Type 0 where
     pub text : List ℕ
-    pub said : (IsWritten out text Done status × Gets err []) ⊎ (Gets out [] × IsWritten err text Usage status)
+    pub said : (IsWritten out text Done status × Gets err [])
+        ⊎ (Gets out [] × IsWritten err text Usage status)
 
   abbrev pub LacksCommandMemory : Status → Type 0
   LacksCommandMemory status = Gets out [] × IsWritten err command_memory_line Trouble status
 
-  -- the command that the words ask for, where no word begins with `-`, and nothing is written; or they ask for nothing; or there is no
-  -- memory for them
+  -- the command that the words ask for, where no word begins with `-`, and nothing is written; or
+  -- they ask for nothing; or there is no memory for them
   abbrev pub IsCommandRead : List (String Global) → Result Order Status → Type 0
-  IsCommandRead words (Ok command) = (AreValues words → AskFor words command) × Gets out [] × Gets err []
-  IsCommandRead words (Err status) = ((AreValues words → AskForNothing words) × IsExplained status) ⊎ LacksCommandMemory status
+  IsCommandRead words (Ok command) = (AreValues words → AskFor words command) × Gets out []
+      × Gets err []
+  IsCommandRead words (Err status) = ((AreValues words → AskForNothing words) × IsExplained status)
+      ⊎ LacksCommandMemory status

@@ -1,5 +1,7 @@
--- The lines that the program writes, and its statuses: functions of names, answers and holdings. A line ends with byte 10.
-use Rattle.std.specs.Prelude.{ℕ, ◌+◌, List, [], ◌∷◌, ◌++◌, length, take, codes, decimal, fold, Ok, Err}
+-- The lines that the program writes, and its statuses: functions of names, answers and holdings. A
+-- line ends with byte 10.
+use Rattle.std.specs.Prelude.{ℕ, ◌+◌, List, [], ◌∷◌, ◌++◌, length, take, codes, decimal, fold, Ok}
+use Rattle.std.specs.Prelude.{Err}
 use Rattle.std.specs.List.{flat_map, zip}
 use Rattle.edf_header.specs.Key.{Key, patient_code, investigation_code}
 use Rattle.edf_fragment.specs.Fragment.{DataRecord}
@@ -18,8 +20,11 @@ use Rattle.edf_program.specs.declared.status.Status.TheVariants.{Done, Refused, 
 
 -- `FILE accepted new=N known=K` or `FILE refused T`
 abbrev pub take_line : (ℕ → List ℕ) → List ℕ → Answer → List ℕ
-take_line spell name (Ok receipt) = name ++ (codes " accepted new=" ++ (decimal receipt.new ++ (codes " known=" ++ (decimal receipt.known ++ (10 ∷ [])))))
-take_line spell name (Err refusal) = name ++ (codes " refused " ++ (refusal_text spell refusal ++ (10 ∷ [])))
+take_line spell name (Ok receipt) = name
+    ++ (codes " accepted new=" ++ (decimal receipt.new
+    ++ (codes " known=" ++ (decimal receipt.known ++ (10 ∷ [])))))
+take_line spell name (Err refusal) = name
+    ++ (codes " refused " ++ (refusal_text spell refusal ++ (10 ∷ [])))
 
 -- a line a file, in the order of the words
 abbrev pub take_lines : (ℕ → List ℕ) → List (List ℕ) → List Answer → List ℕ
@@ -64,7 +69,8 @@ list_line spell place k records = decimal place ++ (codes " records=" ++ (decima
 -- a line a recording, whose places count on from this one
 abbrev pub list_lines : (ℕ → List ℕ) → Holdings → ℕ → List Key → List ℕ
 list_lines spell h place [] = []
-list_lines spell h place (k ∷ ks) = list_line spell place k (h k) ++ list_lines spell h (place + 1) ks
+list_lines spell h place (k ∷ ks) = list_line spell place k (h k)
+    ++ list_lines spell h (place + 1) ks
 
 -- those of the first n recordings
 abbrev pub first_list_lines : (ℕ → List ℕ) → Holdings → List Key → ℕ → List ℕ

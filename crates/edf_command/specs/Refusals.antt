@@ -27,15 +27,18 @@ store_details store.Failed = codes " Failed"
 -- a refusal for form has the text of its fault
 abbrev pub details : (ℕ → List ℕ) → Refusal → List ℕ
 details spell (refusal.Form fault) = fragment_details fault
-details spell (refusal.Overlap start stored) = codes " Overlap start=" ++ (spell start ++ (codes " stored=" ++ spell stored))
+details spell (refusal.Overlap start stored) = codes " Overlap start="
+    ++ (spell start ++ (codes " stored=" ++ spell stored))
 details spell (refusal.Differs start) = codes " Differs start=" ++ spell start
-details spell (refusal.Full held new cap) = codes " Full held=" ++ (decimal held ++ (codes " new=" ++ (decimal new ++ (codes " cap=" ++ decimal cap))))
+details spell (refusal.Full held new cap) = codes " Full held="
+    ++ (decimal held ++ (codes " new=" ++ (decimal new ++ (codes " cap=" ++ decimal cap))))
 details spell refusal.Read = codes " Read"
 details spell refusal.Memory = codes " Memory"
 details spell (refusal.Store fault) = store_details fault
 
 abbrev pub refusal_text : (ℕ → List ℕ) → Refusal → List ℕ
-refusal_text spell refused = codes "E" ++ (decimal (refusal_number refused) ++ details spell refused)
+refusal_text spell refused = codes "E"
+    ++ (decimal (refusal_number refused) ++ details spell refused)
 
 -- ---- outside a submission
 

@@ -1,5 +1,6 @@
 -- What a command does: what it writes, the status that it answers, and what it leaves in the store.
-use Rattle.std.specs.Prelude.{◌≡◌, ◌≢◌, ◌⊎◌, Contains, ℕ, zero, suc, List, [], ◌∷◌, ◌++◌, length, map, slice_get, Option, Some, None, Ok, Err}
+use Rattle.std.specs.Prelude.{◌≡◌, ◌≢◌, ◌⊎◌, Contains, ℕ, zero, suc, List, [], ◌∷◌, ◌++◌, length}
+use Rattle.std.specs.Prelude.{map, slice_get, Option, Some, None, Ok, Err}
 use Rattle.sqlite_trees.specs.declared.store.Store.{Ghosts}
 use Rattle.sqlite.specs.State.{HasCleanDisk}
 use Rattle.edf_header.specs.Key.{Key}
@@ -20,7 +21,10 @@ use Rattle.edf_export.specs.declared.fault.ExportFault.TheVariants.{Store}
 use Rattle.edfstore_arguments.specs.Arguments.{Asked}
 use Rattle.edfstore_arguments.specs.Arguments.Asked.{take, list, export, convert}
 use Rattle.edf_command.specs.Refusals.{IsSpelling}
-use Rattle.edf_command.specs.Lines.{first_take_lines, take_status, take_memory_line, list_lines, first_list_lines, list_refused_line, no_recording_line, export_refused_line, export_status, refused_line, convert_memory_line}
+use Rattle.edf_command.specs.Lines.{first_take_lines, take_status, take_memory_line, list_lines}
+use Rattle.edf_command.specs.Lines.{first_list_lines, list_refused_line, no_recording_line}
+use Rattle.edf_command.specs.Lines.{export_refused_line, export_status, refused_line}
+use Rattle.edf_command.specs.Lines.{convert_memory_line}
 use Rattle.edf_program.specs.Status.{status_of_number}
 use Rattle.edf_program.specs.Output.{Growth, Gets, IsWritten, IsTold, AreTold, Explains}
 use Rattle.edf_program.specs.declared.status.Status.{Status}
@@ -51,25 +55,30 @@ pub record OpensFront (before after names : List (List ℕ)) : Type 0 where
 
 -- just these were, each once, in their order; or, where memory ran out, just the first of them
 abbrev pub HasOpened : List (List ℕ) → List (List ℕ) → List (List ℕ) → Status → Type 0
-HasOpened before after names status = (after ≡ before ++ names) ⊎ (OpensFront before after names × (status ≡ Trouble))
+HasOpened before after names status = (after ≡ before ++ names)
+    ⊎ (OpensFront before after names × (status ≡ Trouble))
 
 module _ {S : Type 0} (g : Ghosts S) (old new : StoreModel S) (out err : Growth) where
   -- ---- take
 
   -- the files' bytes were submitted in turn, and each has its line
-  pub record TakesFiles (bytes : List ℕ → Option (List ℕ)) (names : List (List ℕ)) (status : Status) : Type 0 where
+  pub record TakesFiles (bytes : List ℕ → Option (List ℕ)) (names : List (List ℕ))
+      (status : Status) : Type 0 where
     pub froms : List Source
     pub tos : List Source
     pub answers : List Answer
     pub opened : map (λ (f : Source). f.left) froms ≡ map bytes names
     pub submitted : AreSubmitted g old new froms tos answers
     pub answered : AnswersAll g old new froms answers
-    pub said : (spell : ℕ → List ℕ) → IsSpelling spell → AreTold out (first_take_lines spell names answers) (length answers) (take_status answers) status
+    pub said : (spell : ℕ → List ℕ) → IsSpelling spell →
+        AreTold out (first_take_lines spell names answers) (length answers) (take_status answers)
+        status
     pub silent : Gets err []
 
   -- or there was no memory for the readers or the answers, and nothing was submitted
   abbrev pub IsTaken : (List ℕ → Option (List ℕ)) → List (List ℕ) → Status → Type 0
-  IsTaken bytes names status = TakesFiles bytes names status ⊎ ((new ≡ old) × Gets out [] × IsWritten err take_memory_line Trouble status)
+  IsTaken bytes names status = TakesFiles bytes names status
+      ⊎ ((new ≡ old) × Gets out [] × IsWritten err take_memory_line Trouble status)
 
   -- ---- list
 
@@ -77,7 +86,8 @@ module _ {S : Type 0} (g : Ghosts S) (old new : StoreModel S) (out err : Growth)
   pub record ListsAll (h : Holdings) (status : Status) : Type 0 where
     pub keys : List Key
     pub are_keys : AreKeysOf h keys
-    pub said : (spell : ℕ → List ℕ) → IsSpelling spell → AreTold out (first_list_lines spell h keys) (length keys) Done status
+    pub said : (spell : ℕ → List ℕ) → IsSpelling spell →
+        AreTold out (first_list_lines spell h keys) (length keys) Done status
     pub silent : Gets err []
 
   -- the store refused after some lines
@@ -95,20 +105,25 @@ module _ {S : Type 0} (g : Ghosts S) (old new : StoreModel S) (out err : Growth)
   TellsLines status =
       ((out.failed_after ≡ out.failed_before) × Gets err [] × (status ≡ Done))
       ⊎ ((Gets err [] × (status ≡ Trouble))
-      ⊎ ((fault : StoreFault) × (out.failed_after ≡ out.failed_before) × IsWritten err (list_refused_line fault) Trouble status))
+      ⊎ ((fault : StoreFault) × (out.failed_after ≡ out.failed_before)
+      × IsWritten err (list_refused_line fault) Trouble status))
 
   pub record IsListed (status : Status) : Type 0 where
     pub stays : Stays g old new
     pub told : TellsLines status
-    pub listed : HasCleanDisk (at g new) → (h : Holdings) → Holds g old h → ListsAll h status ⊎ StopsListing h status
+    pub listed : HasCleanDisk (at g new) → (h : Holdings) → Holds g old h → ListsAll h status
+        ⊎ StopsListing h status
 
   -- ---- export
 
-  -- the recording's canonical file went out; or a front of it and a line why, or a line alone; E43 exactly where a write failed
+  -- the recording's canonical file went out; or a front of it and a line why, or a line alone; E43
+  -- exactly where a write failed
   abbrev pub IsSent : Holdings → Key → Status → Type 0
   IsSent h k status =
-      (((len : ℕ) × IsExported out.before out.after k (h k) len) × (out.failed_after ≡ out.failed_before) × Gets err [] × (status ≡ Done))
-      ⊎ ((fault : ExportFault) × IsNotExported out.before out.after k (h k) fault × CountsExportFault out.failed_before out.failed_after fault
+      (((len : ℕ) × IsExported out.before out.after k (h k) len)
+      × (out.failed_after ≡ out.failed_before) × Gets err [] × (status ≡ Done))
+      ⊎ ((fault : ExportFault) × IsNotExported out.before out.after k (h k) fault
+      × CountsExportFault out.failed_before out.failed_after fault
       × IsWritten err (export_refused_line fault) (export_status fault) status)
 
   -- on any disk: it is done, nothing is printed on `err` and no write failed; or why not is
@@ -116,7 +131,8 @@ module _ {S : Type 0} (g : Ghosts S) (old new : StoreModel S) (out err : Growth)
   abbrev pub TellsWrites : Status → Type 0
   TellsWrites status =
       ((out.failed_after ≡ out.failed_before) × Gets err [] × (status ≡ Done))
-      ⊎ ((fault : ExportFault) × CountsExportFault out.failed_before out.failed_after fault × IsWritten err (export_refused_line fault) (export_status fault) status)
+      ⊎ ((fault : ExportFault) × CountsExportFault out.failed_before out.failed_after fault
+      × IsWritten err (export_refused_line fault) (export_status fault) status)
 
   -- the recording at this place of the list, from 1
   pub record SendsPlace (h : Holdings) (place : ℕ) (status : Status) : Type 0 where
@@ -137,7 +153,8 @@ module _ {S : Type 0} (g : Ghosts S) (old new : StoreModel S) (out err : Growth)
   pub record HasNoList (status : Status) : Type 0 where
     pub fault : StoreFault
     pub told : IsStoreRefusal fault
-    pub said : Explains out err (export_refused_line (Store fault)) (export_status (Store fault)) status
+    pub said : Explains out err (export_refused_line (Store fault)) (export_status (Store fault))
+        status
 
   pub record IsPlaceSent (place : ℕ) (status : Status) : Type 0 where
     pub stays : Stays g old new
@@ -155,7 +172,8 @@ module _ {S : Type 0} (g : Ghosts S) (old new : StoreModel S) (out err : Growth)
     pub opened : from.left ≡ bytes
     pub submitted : IsSubmitted g old new from to (Err refusal)
     pub said : (spell : ℕ → List ℕ) → IsSpelling spell →
-        Gets out [] × IsTold err (refused_line spell name refusal) (status_of_number (refusal_number refusal)) status
+        Gets out [] × IsTold err (refused_line spell name refusal)
+        (status_of_number (refusal_number refusal)) status
 
   -- it was accepted, and what its recording then holds went out
   pub record ConvertsFile (bytes : Option (List ℕ)) (status : Status) : Type 0 where
@@ -167,12 +185,14 @@ module _ {S : Type 0} (g : Ghosts S) (old new : StoreModel S) (out err : Growth)
     pub submitted : IsSubmitted g old mid from to (Ok receipt)
     pub stays : Stays g mid new
     pub told : TellsWrites status
-    pub sent : HasCleanDisk (at g new) → (h : Holdings) → Holds g mid h → IsSent h receipt.identity status
+    pub sent : HasCleanDisk (at g new) → (h : Holdings) → Holds g mid h →
+        IsSent h receipt.identity status
 
   -- or there was no memory for the reader
   abbrev pub IsConverted : Option (List ℕ) → List ℕ → Status → Type 0
   IsConverted bytes name status = ConvertsFile bytes status
-      ⊎ (RefusesFile bytes name status ⊎ ((new ≡ old) × Explains out err (convert_memory_line name) Trouble status))
+      ⊎ (RefusesFile bytes name status
+      ⊎ ((new ≡ old) × Explains out err (convert_memory_line name) Trouble status))
 
   -- ---- all four
 

@@ -12,6 +12,13 @@ keeps_same None = tt
 keeps_same (Some xs) = refl
 
 -- nothing went out
-pub none_out : (known : Option (List ℕ)) (k : Key) (records : List DataRecord) → StaysInFile known known k records
+pub none_out : (known : Option (List ℕ)) (k : Key) (records : List DataRecord) →
+    StaysInFile known known k records
 none_out known k [] = keeps_same known
-none_out known k (r ∷ rs) = λ file is. record { front = []; left = file; parts = refl; wrote = Appends-nil known }
+none_out known k (r ∷ rs) = λ file is. record {
+  front = [];
+  left = file;
+  parts = refl;
+  wrote =
+      Appends-nil known;
+}

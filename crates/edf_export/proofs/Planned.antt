@@ -16,31 +16,45 @@ use Rattle.edf_canonical.specs.Output.{WritesFront}
 use Rattle.edf_export.specs.Inside.Walks.{IsPlanOf, IsWritingFault}
 use Rattle.edf_export.specs.declared.plan.Plan.{Plan}
 use Rattle.edf_export.specs.declared.fault.ExportFault.{ExportFault}
-use Rattle.edf_export.specs.declared.fault.ExportFault.TheVariants.{NoRecording, Store, Memory, Write}
+use Rattle.edf_export.specs.declared.fault.ExportFault.TheVariants.{NoRecording, Store, Memory}
+use Rattle.edf_export.specs.declared.fault.ExportFault.TheVariants.{Write}
 use Rattle.edf_canonical.proofs.Files.{canonical, one-file}
 use Rattle.edf_canonical.proofs.Written.{laid-out, file-length}
 
 -- the file of a plan, its header given
 abbrev pub planned_text : List ℕ → Plan → List DataRecord → List ℕ
-planned_text header plan records = header ++ flat_map (record_text (second_of plan.first) (2 * plan.samples)) records
+planned_text header plan records = header
+    ++ flat_map (record_text (second_of plan.first) (2 * plan.samples)) records
 
-sound_sizes : (k : Key) (low : ℕ) (rs : List DataRecord) → AreSound k low rs → All (λ r. length r.samples ≡ 2 * samples_in_all k.signals) rs
+sound_sizes : (k : Key) (low : ℕ) (rs : List DataRecord) → AreSound k low rs →
+    All (λ r. length r.samples ≡ 2 * samples_in_all k.signals) rs
 sound_sizes k low [] are = All-nil (λ r. length r.samples ≡ 2 * samples_in_all k.signals)
 sound_sizes k low (r ∷ rs) (e, lower, more) =
-    All-cons (λ x. length x.samples ≡ 2 * samples_in_all k.signals) r rs e.samples_len (sound_sizes k (r.start + duration_of k.duration) rs more)
+    All-cons (λ x. length x.samples ≡ 2 * samples_in_all k.signals) r rs e.samples_len
+    (sound_sizes k (r.start + duration_of k.duration) rs more)
 
-pub planned_file : (k : Key) (records : List DataRecord) (plan : Plan) (header : List ℕ) → IsPlanOf k records plan
-    → IsCanonicalHeader header k plan.first plan.records plan.samples → IsCanonicalFile (planned_text header plan records) k records
-planned_file k [] plan header p is = absurd (let none : ◌≡◌ {A = Option ℕ} None (Some plan.first) = p.first in cc)
+pub planned_file : (k : Key) (records : List DataRecord) (plan : Plan) (header : List ℕ) →
+    IsPlanOf k records plan
+    → IsCanonicalHeader header k plan.first plan.records plan.samples →
+    IsCanonicalFile (planned_text header plan records) k records
+planned_file k [] plan header p is = absurd (let none : ◌≡◌ {A = Option ℕ} None (Some plan.first) =
+    p.first in cc)
 planned_file k (r ∷ rs) plan header p is =
-    let start : plan.first ≡ r.start = let same : ◌≡◌ {A = Option ℕ} (Some r.start) (Some plan.first) = p.first in cc in
-    let counted : IsCanonicalHeader header k plan.first (length (r ∷ rs)) plan.samples = subst (λ n. IsCanonicalHeader header k plan.first n plan.samples) p.count is in
-    let laid = laid-out k (r ∷ rs) r (second_of plan.first) plan.first plan.samples header start (ap second_of start) counted p.holds p.least in
-    canonical (planned_text header plan (r ∷ rs)) k r rs p.recording.key p.recording.begins p.recording.sound p.recording.few laid
+    let start : plan.first ≡ r.start =
+    let same : ◌≡◌ {A = Option ℕ} (Some r.start) (Some plan.first) = p.first in cc in
+    let counted : IsCanonicalHeader header k plan.first (length (r ∷ rs)) plan.samples =
+    subst (λ n. IsCanonicalHeader header k plan.first n plan.samples) p.count is in
+    let laid = laid-out k (r ∷ rs) r (second_of plan.first) plan.first plan.samples header start
+    (ap second_of start) counted p.holds p.least in
+    canonical (planned_text header plan (r ∷ rs)) k r rs p.recording.key p.recording.begins
+    p.recording.sound p.recording.few laid
 
-pub exported : (before after : Option (List ℕ)) (k : Key) (records : List DataRecord) (plan : Plan) (header : List ℕ) (len : ℕ) → IsPlanOf k records plan
-    → IsCanonicalHeader header k plan.first plan.records plan.samples → Appends before after (planned_text header plan records)
-    → len ≡ length header + plan.records * (2 * samples_in_all k.signals + 2 * plan.samples) → IsExported before after k records len
+pub exported : (before after : Option (List ℕ)) (k : Key) (records : List DataRecord) (plan : Plan)
+    (header : List ℕ) (len : ℕ) → IsPlanOf k records plan
+    → IsCanonicalHeader header k plan.first plan.records plan.samples →
+    Appends before after (planned_text header plan records)
+    → len ≡ length header + plan.records * (2 * samples_in_all k.signals + 2 * plan.samples) →
+    IsExported before after k records len
 exported before after k records plan header len p is wrote len-is =
     let file = planned_text header plan records in
     let c = planned_file k records plan header p is in
@@ -49,21 +63,39 @@ exported before after k records plan header len p is wrote len-is =
       canonical = c;
       only = λ other o. one-file other file k records o c;
       wrote = wrote;
-      len_is = len-is ∙ ap (λ n. length header + n * (2 * samples_in_all k.signals + 2 * plan.samples)) p.count
-          ∙ file-length header (second_of plan.first) (2 * plan.samples) (2 * samples_in_all k.signals) records (sound_sizes k 0 records p.recording.sound) p.holds;
+      len_is = len-is
+          ∙ ap (λ n. length header + n * (2 * samples_in_all k.signals + 2 * plan.samples)) p.count
+          ∙ file-length header (second_of plan.first) (2 * plan.samples)
+          (2 * samples_in_all k.signals) records (sound_sizes k 0 records p.recording.sound)
+          p.holds;
     }
 
 -- a front of the file goes no further than each canonical file
-stays_in : (before after : Option (List ℕ)) (k : Key) (records : List DataRecord) (file : List ℕ) → IsCanonicalFile file k records → WritesFront before after file
+stays_in : (before after : Option (List ℕ)) (k : Key) (records : List DataRecord) (file : List ℕ) →
+    IsCanonicalFile file k records → WritesFront before after file
     → StaysInFile before after k records
 stays_in before after k [] file c w = absurd c
-stays_in before after k (r ∷ rs) file c w = λ other o. subst (WritesFront before after) (one-file file other k (r ∷ rs) c o) w
+stays_in before after k (r ∷ rs) file c w =
+    λ other o. subst (WritesFront before after) (one-file file other k (r ∷ rs) c o) w
 
-pub stopped : (before after : Option (List ℕ)) (k : Key) (records : List DataRecord) (plan : Plan) (header : List ℕ) (fault : ExportFault) → IsPlanOf k records plan
-    → IsCanonicalHeader header k plan.first plan.records plan.samples → WritesFront before after (planned_text header plan records) → IsWritingFault fault
+pub stopped : (before after : Option (List ℕ)) (k : Key) (records : List DataRecord) (plan : Plan)
+    (header : List ℕ) (fault : ExportFault) → IsPlanOf k records plan
+    → IsCanonicalHeader header k plan.first plan.records plan.samples →
+    WritesFront before after (planned_text header plan records) → IsWritingFault fault
     → IsNotExported before after k records fault
 stopped before after k records plan header NoRecording p is w told = absurd told
-stopped before after k records plan header (Store fault) p is w told = (stays_in before after k records (planned_text header plan records) (planned_file k records plan header p is) w, told)
-stopped before after k records plan header Memory p is w told = stays_in before after k records (planned_text header plan records) (planned_file k records plan header p is) w
+stopped before after k records plan header (Store fault) p is w told = (
+  stays_in before after k records (planned_text header plan records)
+      (planned_file k records plan header p is) w,
+  told,
+)
+stopped before after k records plan header Memory p is w told =
+    stays_in before after k records (planned_text header plan records)
+    (planned_file k records plan header p is) w
 stopped before after k records plan header Write p is w told =
-    record { file = planned_text header plan records; canonical = planned_file k records plan header p is; wrote = w }
+    record {
+      file = planned_text header plan records;
+      canonical =
+          planned_file k records plan header p is;
+      wrote = w;
+    }

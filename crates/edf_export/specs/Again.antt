@@ -20,6 +20,8 @@ pub record IsAcceptedAgain (cap : ℕ) (h : Holdings) (k : Key) (file : List ℕ
 -- two lists that are free of conflicts and hold the same records, however cut, ordered or repeated,
 -- leave what has the same file
 abbrev pub ExportAlike : Type 0
-ExportAlike = (cap : ℕ) (h : Holdings) (tolds others : List Told) → IsSound cap h → AreSoundTold tolds → AreSoundTold others →
+ExportAlike = (cap : ℕ) (h : Holdings) (tolds others : List Told) → IsSound cap h →
+    AreSoundTold tolds → AreSoundTold others →
     IsFree cap h tolds → IsFree cap h others → SameRecords tolds others →
-    (k : Key) (file other : List ℕ) → IsCanonicalFile file k (after cap h tolds k) → IsCanonicalFile other k (after cap h others k) → file ≡ other
+    (k : Key) (file other : List ℕ) → IsCanonicalFile file k (after cap h tolds k) →
+    IsCanonicalFile other k (after cap h others k) → file ≡ other

@@ -9,11 +9,13 @@ use Rattle.edf_store.specs.Fault.{number, IsStoreRefusal}
 use Rattle.edf_canonical.specs.File.{IsCanonicalFile}
 use Rattle.edf_canonical.specs.Output.{WritesFront}
 use Rattle.edf_export.specs.declared.fault.ExportFault.{ExportFault}
-use Rattle.edf_export.specs.declared.fault.ExportFault.TheVariants.{NoRecording, Store, Memory, Write}
+use Rattle.edf_export.specs.declared.fault.ExportFault.TheVariants.{NoRecording, Store, Memory}
+use Rattle.edf_export.specs.declared.fault.ExportFault.TheVariants.{Write}
 
 -- the canonical file of the records went out, of which no other bytes are one, and this is its
 -- length
-pub record IsExported (before after : Option (List ℕ)) (k : Key) (records : List DataRecord) (len : ℕ) : Type 0 where
+pub record IsExported (before after : Option (List ℕ)) (k : Key) (records : List DataRecord)
+    (len : ℕ) : Type 0 where
   pub file : List ℕ
   pub canonical : IsCanonicalFile file k records
   pub only : (other : List ℕ) → IsCanonicalFile other k records → other ≡ file
@@ -21,7 +23,8 @@ pub record IsExported (before after : Option (List ℕ)) (k : Key) (records : Li
   pub len_is : len ≡ length file
 
 -- the records have a canonical file, of which a front went out
-pub record StopsInFile (before after : Option (List ℕ)) (k : Key) (records : List DataRecord) : Type 0 where
+pub record StopsInFile (before after : Option (List ℕ)) (k : Key) (records : List DataRecord) : Type
+    0 where
   pub file : List ℕ
   pub canonical : IsCanonicalFile file k records
   pub wrote : WritesFront before after file
@@ -30,14 +33,17 @@ pub record StopsInFile (before after : Option (List ℕ)) (k : Key) (records : L
 -- nothing where there is no record
 abbrev pub StaysInFile : Option (List ℕ) → Option (List ℕ) → Key → List DataRecord → Type 0
 StaysInFile before after k [] = Keeps before after
-StaysInFile before after k (r ∷ rs) = (file : List ℕ) → IsCanonicalFile file k (r ∷ rs) → WritesFront before after file
+StaysInFile before after k (r ∷ rs) = (file : List ℕ) → IsCanonicalFile file k (r ∷ rs) →
+    WritesFront before after file
 
 -- what went out before each refusal, and of what records: there are none where that is told, and
 -- some where a write failed; the store refuses since memory ran out or since `sqlite` refused, and
 -- never finds its rows foreign
-abbrev pub IsNotExported : Option (List ℕ) → Option (List ℕ) → Key → List DataRecord → ExportFault → Type 0
+abbrev pub IsNotExported : Option (List ℕ) → Option (List ℕ) → Key → List DataRecord → ExportFault →
+    Type 0
 IsNotExported before after k records NoRecording = (records ≡ []) × Keeps before after
-IsNotExported before after k records (Store fault) = StaysInFile before after k records × IsStoreRefusal fault
+IsNotExported before after k records (Store fault) = StaysInFile before after k records
+    × IsStoreRefusal fault
 IsNotExported before after k records Memory = StaysInFile before after k records
 IsNotExported before after k records Write = StopsInFile before after k records
 

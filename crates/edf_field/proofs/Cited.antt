@@ -3,8 +3,10 @@ use Rattle.std.proofs.Common.{◌≡◌, ℕ, ◌^◌, ◌≤◌, List, length}
 use Rattle.edf_field.specs.Number.{IsDuration, duration_of}
 use Rattle.edf_field.proofs.Durations as durations
 
-pub duration-value : (field : List ℕ) (nanos : ℕ) → IsDuration field nanos → nanos ≡ duration_of field
+pub duration-value : (field : List ℕ) (nanos : ℕ) → IsDuration field nanos →
+    nanos ≡ duration_of field
 duration-value = durations.duration-value
 
-pub duration-bound : (field : List ℕ) (nanos : ℕ) → length field ≤ 8 → IsDuration field nanos → nanos ≤ 10 ^ 17
+pub duration-bound : (field : List ℕ) (nanos : ℕ) → length field ≤ 8 → IsDuration field nanos →
+    nanos ≤ 10 ^ 17
 duration-bound = durations.duration-bound

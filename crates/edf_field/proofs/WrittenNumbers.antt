@@ -1,5 +1,6 @@
 -- A number that is written in digits is read from them, whatever spaces follow.
-use Rattle.std.proofs.Common.{◌≡◌, ℕ, zero, suc, ◌≤◌, List, [], ◌∷◌, ◌++◌, length, take, drop, true, refl, sym, ap, ◌∙◌, subst, arith}
+use Rattle.std.proofs.Common.{◌≡◌, ℕ, zero, suc, ◌≤◌, List, [], ◌∷◌, ◌++◌, length, take, drop, true}
+use Rattle.std.proofs.Common.{refl, sym, ap, ◌∙◌, subst, arith}
 use Rattle.std.specs.Char.{is_ascii_digit}
 use Rattle.std.specs.Str.Parse.{AllDigits, IsNumeral, digits_value}
 use Rattle.std.proofs.lemmas.Bool.Decides.{nat_tests}
@@ -23,13 +24,20 @@ digits-end (d ∷ ds) m all =
     let e : is_ascii_digit d ≡ true = digit-passes d b.0 b.1 in
     rw e (omega (arith, digits-end ds m all.1))
 
-pub numeral-number : (ds : List ℕ) (m n : ℕ) → IsNumeral 10 ds → digits_value 10 ds ≡ n → IsNumber (ds ++ spaces m) n
+pub numeral-number : (ds : List ℕ) (m n : ℕ) → IsNumeral 10 ds → digits_value 10 ds ≡ n →
+    IsNumber (ds ++ spaces m) n
 numeral-number ds m n (some, all) value =
     let t : List ℕ = ds ++ spaces m in
     let end : digits_len t ≡ length ds = digits-end ds m all in
-    let front : digits t ≡ ds = ap (λ (k : ℕ). take k t) end ∙ take_at ds (spaces m) (length ds) refl in
-    let rest : after_digits t ≡ spaces m = ap (λ (k : ℕ). drop k t) end ∙ drop_at ds (spaces m) (length ds) refl in
+    let front : digits t ≡ ds = ap (λ (k : ℕ). take k t) end
+    ∙ take_at ds (spaces m) (length ds) refl in
+    let rest : after_digits t ≡ spaces m = ap (λ (k : ℕ). drop k t) end
+    ∙ drop_at ds (spaces m) (length ds) refl in
     record {
-      whole = (omega arith, subst AreSpaces (sym rest) (All-replicate (λ (b : ℕ). b ≡ 32) m 32 refl));
+      whole = (
+        omega arith,
+        subst AreSpaces (sym rest)
+            (All-replicate (λ (b : ℕ). b ≡ 32) m 32 refl),
+      );
       value = sym value ∙ ap (digits_value 10) (sym front);
     }

@@ -1,5 +1,6 @@
 -- The grammar of number texts: a sign or none, digits, maybe a dot and digits, and spaces.
-use Rattle.std.specs.Prelude.{◌≡◌, ◌≢◌, ℕ, ◌+◌, ◌-◌, ◌*◌, ◌^◌, ◌<◌, ◌≤◌, Bool, false, List, [], ◌∷◌, ◌++◌, length, replicate, Option, Some, None, IsTrue, if◌then◌else◌, ℤ}
+use Rattle.std.specs.Prelude.{◌≡◌, ◌≢◌, ℕ, ◌+◌, ◌-◌, ◌*◌, ◌^◌, ◌<◌, ◌≤◌, Bool, false, List, [], ◌∷◌}
+use Rattle.std.specs.Prelude.{◌++◌, length, replicate, Option, Some, None, IsTrue, if◌then◌else◌, ℤ}
 use Rattle.std.specs.Option.{unwrap_or}
 use Rattle.std.specs.List.{AllByRecursion}
 use Rattle.std.specs.Char.{is_ascii_digit}
@@ -26,8 +27,10 @@ pub record IsSpelledAs (field whole part : List ℕ) : Type 0 where
   pub places_are : fraction_len field ≡ length part
   pub size_is : unscaled field ≡ digits_value 10 whole * 10 ^ length part + digits_value 10 part
 
--- a text is a sign or none, one digit or more, maybe a dot and zero or more digits, and then only spaces
-pub record IsNumberText (text : List ℕ) (sign : Option Bool) (whole : List ℕ) (point : Option (List ℕ)) : Type 0 where
+-- a text is a sign or none, one digit or more, maybe a dot and zero or more digits, and then only
+-- spaces
+pub record IsNumberText (text : List ℕ) (sign : Option Bool) (whole : List ℕ)
+    (point : Option (List ℕ)) : Type 0 where
   pub some : 0 < length whole
   pub whole_digits : AreDigits whole
   pub part_digits : AreDigits (unwrap_or point [])
@@ -36,7 +39,8 @@ pub record IsNumberText (text : List ℕ) (sign : Option Bool) (whole : List ℕ
 
 -- a whole number: no sign and no dot
 abbrev pub IsWholeText : List ℕ → ℕ → Type 0
-IsWholeText text n = (whole : List ℕ) × IsNumberText text None whole None × (n ≡ digits_value 10 whole)
+IsWholeText text n = (whole : List ℕ) × IsNumberText text None whole None
+    × (n ≡ digits_value 10 whole)
 
 -- only a minus makes it negative
 abbrev pub with_sign : Option Bool → ℕ → ℤ
@@ -44,7 +48,8 @@ with_sign sign n = signed (unwrap_or sign false) n
 
 -- a signed whole number: no dot
 abbrev pub IsSignedText : List ℕ → ℤ → Type 0
-IsSignedText text z = (sign : Option Bool) × (whole : List ℕ) × IsNumberText text sign whole None × (z ≡ with_sign sign (digits_value 10 whole))
+IsSignedText text z = (sign : Option Bool) × (whole : List ℕ) × IsNumberText text sign whole None
+    × (z ≡ with_sign sign (digits_value 10 whole))
 
 -- the digits of a decimal that is written to `at` places after its dot, zeros at the end
 abbrev pub filled : List ℕ → List ℕ → ℕ → List ℕ
@@ -71,7 +76,8 @@ pub record IsDurationText (text : List ℕ) (nanos : ℕ) : Type 0 where
   pub point : Option (List ℕ)
   pub number : IsNumberText text None whole point
   pub behind_dot : point ≢ Some []
-  pub value : nanos * 10 ^ length (unwrap_or point []) ≡ digits_value 10 (whole ++ unwrap_or point []) * 10 ^ 9
+  pub value : nanos * 10 ^ length (unwrap_or point []) ≡ digits_value 10 (whole
+      ++ unwrap_or point []) * 10 ^ 9
   pub some : 0 < nanos
 
 -- a decimal's digits: at most `wide` before its dot, and at most `at` after it

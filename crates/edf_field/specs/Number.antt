@@ -1,5 +1,6 @@
 -- The number texts of header fields: each is at the start of its field, and only spaces follow it.
-use Rattle.std.specs.Prelude.{◌≡◌, ◌≢◌, ℕ, ◌+◌, ◌*◌, ◌^◌, ◌<◌, ◌==◌, ◌||◌, Bool, not, List, [], length, take, drop, slice_index, All, ℤ, pos, neg_ℤ, if◌then◌else◌}
+use Rattle.std.specs.Prelude.{◌≡◌, ◌≢◌, ℕ, ◌+◌, ◌*◌, ◌^◌, ◌<◌, ◌==◌, ◌||◌, Bool, not, List, []}
+use Rattle.std.specs.Prelude.{length, take, drop, slice_index, All, ℤ, pos, neg_ℤ, if◌then◌else◌}
 use Rattle.std.specs.List.{prefix_len}
 use Rattle.std.specs.Char.{is_ascii_digit}
 use Rattle.std.specs.Str.Parse.{digits_value}
@@ -38,7 +39,8 @@ pub record IsNumber (text : List ℕ) (n : ℕ) : Type 0 where
 
 -- without the sign, where one is at the front
 abbrev pub unsigned : List ℕ → List ℕ
-unsigned text = if (slice_index text 0 == 43) || (slice_index text 0 == 45) then drop 1 text else text
+unsigned text = if (slice_index text 0 == 43) || (slice_index text 0 == 45) then drop 1 text
+    else text
 
 abbrev pub signed : Bool → ℕ → ℤ
 signed negative n = if negative then neg_ℤ (pos n) else pos n
@@ -59,14 +61,16 @@ after_fraction text = if slice_index text 0 == 46 then after_digits (drop 1 text
 
 -- a physical value: a sign or none, one digit or more, then maybe a dot and zero or more digits
 abbrev pub IsPhysical : List ℕ → Type 0
-IsPhysical text = (0 < digits_len (unsigned text)) × AreSpaces (after_fraction (after_digits (unsigned text)))
+IsPhysical text = (0 < digits_len (unsigned text))
+    × AreSpaces (after_fraction (after_digits (unsigned text)))
 
 -- how many digits are after its dot, and the number that all its digits write
 abbrev pub fraction_len : List ℕ → ℕ
 fraction_len text = length (fraction (after_digits (unsigned text)))
 
 abbrev pub unscaled : List ℕ → ℕ
-unscaled text = digits_value 10 (digits (unsigned text)) * 10 ^ fraction_len text + digits_value 10 (fraction (after_digits (unsigned text)))
+unscaled text = digits_value 10 (digits (unsigned text)) * 10 ^ fraction_len text + digits_value 10
+    (fraction (after_digits (unsigned text)))
 
 -- its value, `more` decimal places further on
 abbrev pub scaled : List ℕ → ℕ → ℤ
@@ -86,6 +90,8 @@ pub record IsDuration (text : List ℕ) (nanos : ℕ) : Type 0 where
   pub spaces : AreSpaces (drop (front_len text) text)
   pub some : 0 < nanos
 
--- the nanoseconds that the digits of a duration write; a law says that no duration has another value
+-- the nanoseconds that the digits of a duration write; a law says that no duration has another
+-- value
 abbrev pub duration_of : List ℕ → ℕ
-duration_of text = digits_value 10 (digits text) * 10 ^ 9 + decimal_places (10 ^ 8) (fraction (after_digits text))
+duration_of text = digits_value 10 (digits text) * 10 ^ 9 + decimal_places (10 ^ 8)
+    (fraction (after_digits text))

@@ -1,5 +1,6 @@
 -- The texts of header fields that name a patient and a recording.
-use Rattle.std.specs.Prelude.{◌≡◌, ℕ, ◌-◌, ◌≤◌, ◌⊎◌, ◌==◌, List, ◌∷◌, ◌++◌, length, take, drop, filter, replicate, codes, nat_lt, ℤ, Option, Some, None}
+use Rattle.std.specs.Prelude.{◌≡◌, ℕ, ◌-◌, ◌≤◌, ◌⊎◌, ◌==◌, List, ◌∷◌, ◌++◌, length, take, drop}
+use Rattle.std.specs.Prelude.{filter, replicate, codes, nat_lt, ℤ, Option, Some, None}
 use Rattle.std.specs.List.{slice_split}
 use Rattle.edf_time.specs.Civil.{IsIdDate}
 use Rattle.edf_field.specs.Number.{field}
@@ -37,12 +38,14 @@ pub record IsPatient (text : List ℕ) : Type 0 where
   pub is_sex : IsSex sex
   pub is_birthdate : IsBirthdate birthdate
 
--- what follows the Startdate subfield: a space, and at least investigation, technician and equipment code
+-- what follows the Startdate subfield: a space, and at least investigation, technician and
+-- equipment code
 pub record FollowsStartdate (after : List ℕ) : Type 0 where
   pub space : take 1 after ≡ codes " "
   pub codes_in : 3 ≤ length (subfields after)
 
--- `Startdate`, a space and the Startdate subfield, which is a day or X; after is the rest of the field
+-- `Startdate`, a space and the Startdate subfield, which is a day or X; after is the rest of the
+-- field
 abbrev pub IsStartdate : List ℕ → Option ℤ → List ℕ → Type 0
 IsStartdate text None after = (take 11 text ≡ codes "Startdate X") × (after ≡ drop 11 text)
 IsStartdate text (Some day) after =

@@ -1,8 +1,11 @@
 -- Fragments that were read, and the first fault of those that were not.
-use Rattle.std.proofs.Common.{◌≡◌, ℕ, ◌+◌, ◌≤◌, ◌⊎◌, inl, inr, List, [], ◌∷◌, ◌++◌, length, arith, refl, sym, ap, ◌∙◌, subst, append-nil, length-append, Option, Some, None, IfSome, Result, Ok, Err}
+use Rattle.std.proofs.Common.{◌≡◌, ℕ, ◌+◌, ◌≤◌, ◌⊎◌, inl, inr, List, [], ◌∷◌, ◌++◌, length, arith}
+use Rattle.std.proofs.Common.{refl, sym, ap, ◌∙◌, subst, append-nil, length-append, Option, Some}
+use Rattle.std.proofs.Common.{None, IfSome, Result, Ok, Err}
 use Rattle.std.specs.Io.KnownBytes.{Consumes}
 use Rattle.std.proofs.KnownBytes.{Consumes-trans, Consumes-nil}
-use Rattle.edf_header.specs.Header.{HeaderRecord, IsHeader, Layout, layout_of, least_records, most_records}
+use Rattle.edf_header.specs.Header.{HeaderRecord, IsHeader, Layout, layout_of, least_records}
+use Rattle.edf_header.specs.Header.{most_records}
 use Rattle.edf_header.specs.Fault.{IsHeaderFault}
 use Rattle.edf_header.specs.declared.fault.HeaderFault.{HeaderFault}
 use Rattle.edf_tal.specs.declared.place.Place.{Place}
@@ -10,23 +13,32 @@ use Rattle.edf_tal.specs.declared.place.Place.TheVariants.{First}
 use Rattle.edf_tal.specs.declared.place.TalFault.{TalFault}
 use Rattle.edf_tal.specs.Block.{IsBlocksFault}
 use Rattle.edf_fragment.specs.Fragment.{DataRecord, AreDataRecords, blocks, Spells}
-use Rattle.edf_fragment.specs.Fault.{ReadsUpTo, IsCutRecord, IsRefusedBlock, IsTrailing, IsFirstFault}
-use Rattle.edf_fragment.specs.Reading.{ReadsHeader, ReadsHeaderFault, IsOpenFault, EndsThere, EndsInRecord, RefusesBlock, FindsMore, IsNextFault, IsNext, at_first, progress_after, AnswersIn, IsAnswer}
-use Rattle.edf_fragment.specs.Whole.{HasRead, FailsAfterRecords, ReadsFragment, IsFirstWhereKnown, IsFragmentFault}
+use Rattle.edf_fragment.specs.Fault.{ReadsUpTo, IsCutRecord, IsRefusedBlock, IsTrailing}
+use Rattle.edf_fragment.specs.Fault.{IsFirstFault}
+use Rattle.edf_fragment.specs.Reading.{ReadsHeader, ReadsHeaderFault, IsOpenFault, EndsThere}
+use Rattle.edf_fragment.specs.Reading.{EndsInRecord, RefusesBlock, FindsMore, IsNextFault, IsNext}
+use Rattle.edf_fragment.specs.Reading.{at_first, progress_after, AnswersIn, IsAnswer}
+use Rattle.edf_fragment.specs.Whole.{HasRead, FailsAfterRecords, ReadsFragment, IsFirstWhereKnown}
+use Rattle.edf_fragment.specs.Whole.{IsFragmentFault}
 use Rattle.edf_fragment.specs.Inside.Steps.{ReadsRecords}
 use Rattle.edf_fragment.specs.declared.advance.Progress.{Progress}
 use Rattle.edf_fragment.specs.declared.advance.Status.{Status}
 use Rattle.edf_fragment.specs.declared.advance.Status.TheVariants.{Reading}
 use Rattle.edf_fragment.specs.declared.fault.FragmentFault.{FragmentFault}
-use Rattle.edf_fragment.specs.declared.fault.FragmentFault.TheVariants.{Header as BadHeader, CutRecord, Tal, Trailing, Read, Memory, Failed}
+use Rattle.edf_fragment.specs.declared.fault.FragmentFault.TheVariants.{Header as BadHeader}
+use Rattle.edf_fragment.specs.declared.fault.FragmentFault.TheVariants.{CutRecord, Tal, Trailing}
+use Rattle.edf_fragment.specs.declared.fault.FragmentFault.TheVariants.{Read, Memory, Failed}
 use Rattle.edf_header.proofs.Cited.{header-has-layout}
 use Rattle.edf_fragment.proofs.Layouts.{blocks-front}
-use Rattle.edf_fragment.proofs.Runs.{AreDataRecords-more, IsHeader-more, IsHeaderFault-more, reads_more}
+use Rattle.edf_fragment.proofs.Runs.{AreDataRecords-more, IsHeader-more, IsHeaderFault-more}
+use Rattle.edf_fragment.proofs.Runs.{reads_more}
 
 -- a header, and the data records after it
-pub fragment_read : (left mid rest : Option (List ℕ)) (l : Layout) (rs : List DataRecord) → ReadsHeader left mid l → ReadsRecords l mid rest rs → ReadsFragment left rest l rs
+pub fragment_read : (left mid rest : Option (List ℕ)) (l : Layout) (rs : List DataRecord) →
+    ReadsHeader left mid l → ReadsRecords l mid rest rs → ReadsFragment left rest l rs
 fragment_read left mid rest l rs a b =
-    let are = subst (λ (x : Layout). AreDataRecords x First b.bytes rs b.last []) a.layout_is b.are_records in
+    let are = subst (λ (x : Layout). AreDataRecords x First b.bytes rs b.last []) a.layout_is
+    b.are_records in
     let spells : Spells (a.bytes ++ b.bytes) l.key rs = record {
       header = a.header;
       rest = b.bytes;
@@ -47,24 +59,31 @@ fragment_read left mid rest l rs a b =
 
 -- ---- a refused header
 
-header_of_all : (left rest : Option (List ℕ)) (e : HeaderFault) → ReadsHeaderFault left rest e → IfSome left (λ all. IsHeaderFault all e)
+header_of_all : (left rest : Option (List ℕ)) (e : HeaderFault) → ReadsHeaderFault left rest e →
+    IfSome left (λ all. IsHeaderFault all e)
 header_of_all None rest e f = tt
 header_of_all (Some all) None e f = absurd f.read
-header_of_all (Some all) (Some more) e f = subst (λ (x : List ℕ). IsHeaderFault x e) (sym f.read) (IsHeaderFault-more f.bytes more e f.ended f.is_fault)
+header_of_all (Some all) (Some more) e f =
+    subst (λ (x : List ℕ). IsHeaderFault x e) (sym f.read)
+    (IsHeaderFault-more f.bytes more e f.ended f.is_fault)
 
-first_in_header : (left rest : Option (List ℕ)) (e : FragmentFault) → IsOpenFault left rest e → IsFirstWhereKnown left e
+first_in_header : (left rest : Option (List ℕ)) (e : FragmentFault) → IsOpenFault left rest e →
+    IsFirstWhereKnown left e
 first_in_header left rest (BadHeader e) f = header_of_all left rest e f
 first_in_header left rest Read f = tt
 first_in_header left rest Memory f = tt
 first_in_header left rest e f = absurd f
 
-pub open_refused : (left rest : Option (List ℕ)) (e : FragmentFault) → IsOpenFault left rest e → IsFragmentFault left rest e
+pub open_refused : (left rest : Option (List ℕ)) (e : FragmentFault) → IsOpenFault left rest e →
+    IsFragmentFault left rest e
 open_refused left rest e f = record { place = inl f; first = first_in_header left rest e f }
 
 -- ---- a fault after some data records
 
 -- the bytes of a header, those of the data records, and what is left
-abbrev up_to : (all one two a b : List ℕ) (h : HeaderRecord) (rs : List DataRecord) (p : Place) → all ≡ a ++ one → one ≡ b ++ two → IsHeader a h [] → AreDataRecords (layout_of h) First b rs p [] → ReadsUpTo all
+abbrev up_to : (all one two a b : List ℕ) (h : HeaderRecord) (rs : List DataRecord) (p : Place) →
+    all ≡ a ++ one → one ≡ b ++ two → IsHeader a h [] →
+    AreDataRecords (layout_of h) First b rs p [] → ReadsUpTo all
 up_to all one two a b h rs p first second is are = record {
   header = h;
   rest = one;
@@ -72,17 +91,22 @@ up_to all one two a b h rs p first second is are = record {
   last = p;
   left = two;
   is_header = subst (λ (x : List ℕ). IsHeader x h one) (sym first) (IsHeader-more a one h is);
-  are_records = subst (λ (x : List ℕ). AreDataRecords (layout_of h) First x rs p two) (sym second) (AreDataRecords-more (layout_of h) First p b [] two rs are);
+  are_records = subst (λ (x : List ℕ). AreDataRecords (layout_of h) First x rs p two) (sym second)
+      (AreDataRecords-more (layout_of h) First p b [] two rs are);
 }
 
-cut_of_all : (left mid two rest : Option (List ℕ)) (a b : List ℕ) (h : HeaderRecord) (rs : List DataRecord) (p : Progress) (nth : ℕ) → Consumes left mid a → Consumes mid two b
-    → IsHeader a h [] → AreDataRecords (layout_of h) First b rs p.place [] → p.given ≡ length rs → EndsInRecord (layout_of h) p two rest nth → IfSome left (λ all. IsCutRecord all nth)
+cut_of_all : (left mid two rest : Option (List ℕ)) (a b : List ℕ) (h : HeaderRecord)
+    (rs : List DataRecord) (p : Progress) (nth : ℕ) → Consumes left mid a → Consumes mid two b
+    → IsHeader a h [] → AreDataRecords (layout_of h) First b rs p.place [] → p.given ≡ length rs →
+    EndsInRecord (layout_of h) p two rest nth → IfSome left (λ all. IsCutRecord all nth)
 cut_of_all None mid two rest a b h rs p nth x y is are given f = tt
 cut_of_all (Some all) None two rest a b h rs p nth x y is are given f = absurd x
 cut_of_all (Some all) (Some one) None rest a b h rs p nth x y is are given f = absurd y
 cut_of_all (Some all) (Some one) (Some two) None a b h rs p nth x y is are given f = absurd f.read
 cut_of_all (Some all) (Some one) (Some two) (Some rest) a b h rs p nth x y is are given f =
-    let len : length two ≡ length f.bytes = ap (λ (l : List ℕ). length l) (f.read ∙ ap (λ (l : List ℕ). f.bytes ++ l) f.end ∙ append-nil f.bytes) in
+    let len : length two ≡ length f.bytes =
+    ap (λ (l : List ℕ). length l) (f.read ∙ ap (λ (l : List ℕ). f.bytes ++ l) f.end
+    ∙ append-nil f.bytes) in
     record {
       up_to = up_to all one two a b h rs p.place x y is are;
       is_nth = omega (arith, f.is_nth, given);
@@ -94,66 +118,94 @@ cut_of_all (Some all) (Some one) (Some two) (Some rest) a b h rs p nth x y is ar
       cut = omega (arith, f.cut, len);
     }
 
-block_of_all : (left mid two rest : Option (List ℕ)) (a b : List ℕ) (h : HeaderRecord) (rs : List DataRecord) (p : Progress) (nth : ℕ) (e : TalFault) → Consumes left mid a → Consumes mid two b
-    → IsHeader a h [] → AreDataRecords (layout_of h) First b rs p.place [] → p.given ≡ length rs → RefusesBlock (layout_of h) p two rest nth e → IfSome left (λ all. IsRefusedBlock all nth e)
+block_of_all : (left mid two rest : Option (List ℕ)) (a b : List ℕ) (h : HeaderRecord)
+    (rs : List DataRecord) (p : Progress) (nth : ℕ) (e : TalFault) → Consumes left mid a →
+    Consumes mid two b
+    → IsHeader a h [] → AreDataRecords (layout_of h) First b rs p.place [] → p.given ≡ length rs →
+    RefusesBlock (layout_of h) p two rest nth e → IfSome left (λ all. IsRefusedBlock all nth e)
 block_of_all None mid two rest a b h rs p nth e x y is are given f = tt
 block_of_all (Some all) None two rest a b h rs p nth e x y is are given f = absurd x
 block_of_all (Some all) (Some one) None rest a b h rs p nth e x y is are given f = absurd y
-block_of_all (Some all) (Some one) (Some two) None a b h rs p nth e x y is are given f = absurd f.read
+block_of_all (Some all) (Some one) (Some two) None a b h rs p nth e x y is are given f =
+    absurd f.read
 block_of_all (Some all) (Some one) (Some two) (Some rest) a b h rs p nth e x y is are given f =
     let l = layout_of h in
-    let len : length two ≡ length f.bytes + length rest = ap (λ (z : List ℕ). length z) f.read ∙ length-append f.bytes rest in
-    let same : blocks l two ≡ blocks l f.bytes = ap (blocks l) f.read ∙ blocks-front l f.bytes rest (header-has-layout a h [] is) (omega (arith, f.len)) in
+    let len : length two ≡ length f.bytes + length rest = ap (λ (z : List ℕ). length z) f.read
+    ∙ length-append f.bytes rest in
+    let same : blocks l two ≡ blocks l f.bytes = ap (blocks l) f.read
+    ∙ blocks-front l f.bytes rest (header-has-layout a h [] is) (omega (arith, f.len)) in
     record {
       up_to = up_to all one two a b h rs p.place x y is are;
       is_nth = omega (arith, f.is_nth, given);
       may_come = omega (arith, f.is_nth, f.may_come);
       whole = omega (arith, f.len, len);
-      refused = subst (λ (z : List (List ℕ)). IsBlocksFault z l.start p.place e) (sym same) f.refused;
+      refused = subst (λ (z : List (List ℕ)). IsBlocksFault z l.start p.place e) (sym same)
+          f.refused;
     }
 
-more_of_all : (left mid two rest : Option (List ℕ)) (a b : List ℕ) (h : HeaderRecord) (rs : List DataRecord) (p : Progress) → Consumes left mid a → Consumes mid two b
-    → IsHeader a h [] → AreDataRecords (layout_of h) First b rs p.place [] → p.given ≡ length rs → FindsMore (layout_of h) p two rest → IfSome left (λ all. IsTrailing all)
+more_of_all : (left mid two rest : Option (List ℕ)) (a b : List ℕ) (h : HeaderRecord)
+    (rs : List DataRecord) (p : Progress) → Consumes left mid a → Consumes mid two b
+    → IsHeader a h [] → AreDataRecords (layout_of h) First b rs p.place [] → p.given ≡ length rs →
+    FindsMore (layout_of h) p two rest → IfSome left (λ all. IsTrailing all)
 more_of_all None mid two rest a b h rs p x y is are given f = tt
 more_of_all (Some all) None two rest a b h rs p x y is are given f = absurd x
 more_of_all (Some all) (Some one) None rest a b h rs p x y is are given f = absurd y
 more_of_all (Some all) (Some one) (Some two) None a b h rs p x y is are given f = absurd f.read
 more_of_all (Some all) (Some one) (Some two) (Some rest) a b h rs p x y is are given f =
-    let len : length two ≡ 1 + length rest = ap (λ (z : List ℕ). length z) f.read ∙ length-append (f.byte ∷ []) rest in
+    let len : length two ≡ 1 + length rest = ap (λ (z : List ℕ). length z) f.read
+    ∙ length-append (f.byte ∷ []) rest in
     record {
       up_to = up_to all one two a b h rs p.place x y is are;
       all = sym given ∙ f.all;
       more = omega (arith, len);
     }
 
-behind_header : (left mid two rest : Option (List ℕ)) (a b : List ℕ) (h : HeaderRecord) (rs : List DataRecord) (p : Progress) (e : FragmentFault) → Consumes left mid a → Consumes mid two b
-    → IsHeader a h [] → AreDataRecords (layout_of h) First b rs p.place [] → p.given ≡ length rs → IsNextFault (layout_of h) p two rest e → IsFirstWhereKnown left e
-behind_header left mid two rest a b h rs p (CutRecord nth) x y is are given f = cut_of_all left mid two rest a b h rs p nth x y is are given f
-behind_header left mid two rest a b h rs p (Tal nth e) x y is are given f = block_of_all left mid two rest a b h rs p nth e x y is are given f
-behind_header left mid two rest a b h rs p Trailing x y is are given f = more_of_all left mid two rest a b h rs p x y is are given f
+behind_header : (left mid two rest : Option (List ℕ)) (a b : List ℕ) (h : HeaderRecord)
+    (rs : List DataRecord) (p : Progress) (e : FragmentFault) → Consumes left mid a →
+    Consumes mid two b
+    → IsHeader a h [] → AreDataRecords (layout_of h) First b rs p.place [] → p.given ≡ length rs →
+    IsNextFault (layout_of h) p two rest e → IsFirstWhereKnown left e
+behind_header left mid two rest a b h rs p (CutRecord nth) x y is are given f =
+    cut_of_all left mid two rest a b h rs p nth x y is are given f
+behind_header left mid two rest a b h rs p (Tal nth e) x y is are given f =
+    block_of_all left mid two rest a b h rs p nth e x y is are given f
+behind_header left mid two rest a b h rs p Trailing x y is are given f =
+    more_of_all left mid two rest a b h rs p x y is are given f
 behind_header left mid two rest a b h rs p Read x y is are given f = tt
 behind_header left mid two rest a b h rs p Memory x y is are given f = tt
 behind_header left mid two rest a b h rs p e x y is are given f = absurd f
 
-pub records_refused : (left mid rest : Option (List ℕ)) (l : Layout) (e : FragmentFault) → ReadsHeader left mid l → FailsAfterRecords l mid rest e → IsFragmentFault left rest e
+pub records_refused : (left mid rest : Option (List ℕ)) (l : Layout) (e : FragmentFault) →
+    ReadsHeader left mid l → FailsAfterRecords l mid rest e → IsFragmentFault left rest e
 records_refused left mid rest l e a b =
-    let are = subst (λ (x : Layout). AreDataRecords x First b.before.bytes b.records b.progress.place []) a.layout_is b.before.are_records in
-    let fault = subst (λ (x : Layout). IsNextFault x b.progress b.mid rest e) a.layout_is b.is_fault in
+    let are = subst (λ (x : Layout). AreDataRecords x First b.before.bytes b.records
+    b.progress.place []) a.layout_is b.before.are_records in
+    let fault = subst (λ (x : Layout). IsNextFault x b.progress b.mid rest e) a.layout_is
+    b.is_fault in
     record {
       place = inr (record { layout = l; mid = mid; header = a; behind = b });
-      first = behind_header left mid b.mid rest a.bytes b.before.bytes a.header b.records b.progress e a.read b.before.read a.is_header are b.before.given fault;
+      first = behind_header left mid b.mid rest a.bytes b.before.bytes a.header b.records b.progress
+          e a.read b.before.read a.is_header are b.before.given fault;
     }
 
 -- ---- step by step
 
 pub reads_none : (l : Layout) (left : Option (List ℕ)) → HasRead l left left [] at_first
-reads_none l left = record { bytes = []; read = Consumes-nil left; are_records = (refl, refl); given = refl; within = omega arith }
+reads_none l left = record {
+  bytes = [];
+  read = Consumes-nil left;
+  are_records = (refl, refl);
+  given = refl;
+  within = omega arith;
+}
 
-reads_end : (l : Layout) (left mid rest : Option (List ℕ)) (rs : List DataRecord) (p : Progress) → HasRead l left mid rs p → EndsThere l p mid rest → ReadsRecords l left rest rs
+reads_end : (l : Layout) (left mid rest : Option (List ℕ)) (rs : List DataRecord) (p : Progress) →
+    HasRead l left mid rs p → EndsThere l p mid rest → ReadsRecords l left rest rs
 reads_end l left mid rest rs p before ends = record {
   bytes = before.bytes;
   last = p.place;
-  read = subst (λ (x : List ℕ). Consumes left rest x) (append-nil before.bytes) (Consumes-trans left mid rest before.bytes [] before.read ends.read);
+  read = subst (λ (x : List ℕ). Consumes left rest x) (append-nil before.bytes)
+      (Consumes-trans left mid rest before.bytes [] before.read ends.read);
   end = ends.end;
   are_records = before.are_records;
   least = omega (arith, before.given, ends.least);
@@ -161,37 +213,50 @@ reads_end l left mid rest rs p before ends = record {
 }
 
 -- what a reader answers that goes on
-going : (l : Layout) (p q : Progress) (mid rest : Option (List ℕ)) (result : Result (Option DataRecord) FragmentFault) → p.status ≡ Reading → IsAnswer l p q mid rest result
+going : (l : Layout) (p q : Progress) (mid rest : Option (List ℕ))
+    (result : Result (Option DataRecord) FragmentFault) → p.status ≡ Reading →
+    IsAnswer l p q mid rest result
     → (q ≡ progress_after l p result) × IsNext l p mid rest result
-going l p q mid rest result on answer = subst (λ (s : Status). AnswersIn s l p q mid rest result) on answer
+going l p q mid rest result on answer =
+    subst (λ (s : Status). AnswersIn s l p q mid rest result) on answer
 
-pub one_more_read : (l : Layout) (left mid rest : Option (List ℕ)) (rs : List DataRecord) (p q : Progress) (r : DataRecord) → HasRead l left mid rs p → p.status ≡ Reading
-    → IsAnswer l p q mid rest (Ok (Some r)) → HasRead l left rest (rs ++ r ∷ []) q × (q.status ≡ Reading)
+pub one_more_read : (l : Layout) (left mid rest : Option (List ℕ)) (rs : List DataRecord)
+    (p q : Progress) (r : DataRecord) → HasRead l left mid rs p → p.status ≡ Reading
+    → IsAnswer l p q mid rest (Ok (Some r)) → HasRead l left rest (rs ++ r ∷ []) q
+    × (q.status ≡ Reading)
 one_more_read l left mid rest rs p q r before on answer =
-    let step = going l p q mid rest (Ok (Some r)) on answer in
-    (reads_more l left mid rest rs p q r before step.0 step.1, ap (λ (x : Progress). x.status) step.0)
+    let step = going l p q mid rest (Ok (Some r)) on answer in (
+      reads_more l left mid rest rs p q r before step.0 step.1,
+      ap (λ (x : Progress). x.status) step.0,
+    )
 
-pub all_read : (l : Layout) (left one two rest : Option (List ℕ)) (rs : List DataRecord) (p q : Progress) → ReadsHeader left one l → HasRead l one two rs p → p.status ≡ Reading
+pub all_read : (l : Layout) (left one two rest : Option (List ℕ)) (rs : List DataRecord)
+    (p q : Progress) → ReadsHeader left one l → HasRead l one two rs p → p.status ≡ Reading
     → IsAnswer l p q two rest (Ok None) → ReadsFragment left rest l rs
 all_read l left one two rest rs p q header before on answer =
     let step = going l p q two rest (Ok None) on answer in
     fragment_read left one rest l rs header (reads_end l one two rest rs p before step.1)
 
-pub refused_then : (l : Layout) (left one two rest : Option (List ℕ)) (rs : List DataRecord) (p q : Progress) (e : FragmentFault) → ReadsHeader left one l → HasRead l one two rs p
+pub refused_then : (l : Layout) (left one two rest : Option (List ℕ)) (rs : List DataRecord)
+    (p q : Progress) (e : FragmentFault) → ReadsHeader left one l → HasRead l one two rs p
     → p.status ≡ Reading → IsAnswer l p q two rest (Err e) → IsFragmentFault left rest e
 refused_then l left one two rest rs p q e header before on answer =
     let step = going l p q two rest (Err e) on answer in
-    records_refused left one rest l e header (record { mid = two; records = rs; progress = p; before = before; is_fault = step.1 })
+    records_refused left one rest l e header
+    (record { mid = two; records = rs; progress = p; before = before; is_fault = step.1 })
 
 -- ---- where the bytes are known
 
-pub fragment_of_all : (all : List ℕ) (rest : Option (List ℕ)) (l : Layout) (rs : List DataRecord) → ReadsFragment (Some all) rest l rs → Spells all l.key rs
+pub fragment_of_all : (all : List ℕ) (rest : Option (List ℕ)) (l : Layout) (rs : List DataRecord) →
+    ReadsFragment (Some all) rest l rs → Spells all l.key rs
 fragment_of_all all None l rs f = absurd f.read
 fragment_of_all all (Some rest) l rs f =
-    let same : all ≡ f.bytes = f.read ∙ ap (λ (x : List ℕ). f.bytes ++ x) f.end ∙ append-nil f.bytes in
+    let same : all ≡ f.bytes = f.read ∙ ap (λ (x : List ℕ). f.bytes ++ x) f.end
+    ∙ append-nil f.bytes in
     subst (λ (x : List ℕ). Spells x l.key rs) (sym same) f.spells
 
-told_of_all : (all : List ℕ) (e : FragmentFault) → IsFirstWhereKnown (Some all) e → (e ≡ Read) ⊎ ((e ≡ Memory) ⊎ IsFirstFault all e)
+told_of_all : (all : List ℕ) (e : FragmentFault) → IsFirstWhereKnown (Some all) e → (e ≡ Read)
+    ⊎ ((e ≡ Memory) ⊎ IsFirstFault all e)
 told_of_all all (BadHeader e) f = inr (inr f)
 told_of_all all (CutRecord nth) f = inr (inr f)
 told_of_all all (Tal nth e) f = inr (inr f)
@@ -200,5 +265,6 @@ told_of_all all Read f = inl refl
 told_of_all all Memory f = inr (inl refl)
 told_of_all all Failed f = absurd f
 
-pub fault_of_all : (all : List ℕ) (rest : Option (List ℕ)) (e : FragmentFault) → IsFragmentFault (Some all) rest e → (e ≡ Read) ⊎ ((e ≡ Memory) ⊎ IsFirstFault all e)
+pub fault_of_all : (all : List ℕ) (rest : Option (List ℕ)) (e : FragmentFault) →
+    IsFragmentFault (Some all) rest e → (e ≡ Read) ⊎ ((e ≡ Memory) ⊎ IsFirstFault all e)
 fault_of_all all rest e f = told_of_all all e f.first

@@ -1,13 +1,23 @@
 -- Data records, one after another, and fragments from their parts.
-use Rattle.std.proofs.Common.{◌≡◌, ℕ, ◌+◌, ◌*◌, ◌≤◌, ◌<◌, ◌⊎◌, inl, inr, List, [], ◌∷◌, ◌++◌, length, take, drop, arith, refl, sym, ap, ◌∙◌, subst, append_assoc, append-nil, length-append, Option, Some, Ok}
+use Rattle.std.proofs.Common.{◌≡◌, ℕ, ◌+◌, ◌*◌, ◌≤◌, ◌<◌, ◌⊎◌, inl, inr, List, [], ◌∷◌, ◌++◌}
+use Rattle.std.proofs.Common.{length, take, drop, arith, refl, sym, ap, ◌∙◌, subst, append_assoc}
+use Rattle.std.proofs.Common.{append-nil, length-append, Option, Some, Ok}
 use Rattle.std.proofs.lemmas.List.{take-append-le, length-take, length-drop}
 use Rattle.std.proofs.lemmas.Bool.{cases_lt}
 use Rattle.std.proofs.KnownBytes.{Consumes-trans}
 use Rattle.edf_field.specs.Number.{field, IsNumber}
 use Rattle.edf_header.specs.Header.{HeaderRecord, IsHeader, Layout}
-use Rattle.edf_header.specs.Fault.{FixedPartFails, SignalsFail, HasSignals, IsHeaderFault, IsFirst, IsClean, header_fault_number}
+use Rattle.edf_header.specs.Fault.{FixedPartFails, SignalsFail, HasSignals, IsHeaderFault, IsFirst}
+use Rattle.edf_header.specs.Fault.{IsClean, header_fault_number}
 use Rattle.edf_header.specs.declared.fault.HeaderFault.{HeaderFault}
-use Rattle.edf_header.specs.declared.fault.HeaderFault.TheVariants.{Cut, Unprintable, Version, Patient, Recording, Startdate, Starttime, DatesDiffer, NotPlus, Count, Duration, Signals, HeaderBytes, CutSignals, UnprintableSignals, Annotations, Physical, Digital, Samples, Size, Memory}
+use Rattle.edf_header.specs.declared.fault.HeaderFault.TheVariants.{Cut, Unprintable, Version}
+use Rattle.edf_header.specs.declared.fault.HeaderFault.TheVariants.{Patient, Recording, Startdate}
+use Rattle.edf_header.specs.declared.fault.HeaderFault.TheVariants.{Starttime, DatesDiffer, NotPlus}
+use Rattle.edf_header.specs.declared.fault.HeaderFault.TheVariants.{Count, Duration, Signals}
+use Rattle.edf_header.specs.declared.fault.HeaderFault.TheVariants.{HeaderBytes, CutSignals}
+use Rattle.edf_header.specs.declared.fault.HeaderFault.TheVariants.{UnprintableSignals, Annotations}
+use Rattle.edf_header.specs.declared.fault.HeaderFault.TheVariants.{Physical, Digital, Samples}
+use Rattle.edf_header.specs.declared.fault.HeaderFault.TheVariants.{Size, Memory}
 use Rattle.edf_tal.specs.declared.place.Place.{Place}
 use Rattle.edf_tal.specs.declared.place.Place.TheVariants.{First}
 use Rattle.edf_fragment.specs.Fragment.{DataRecord, IsDataRecord, AreDataRecords, place_after}
@@ -21,10 +31,13 @@ use Rattle.edf_fragment.proofs.HeaderParts.{field_front}
 -- ---- lists of data records
 
 -- one more record at the end
-pub AreDataRecords-snoc : (l : Layout) (p q : Place) (b front : List ℕ) (rs : List DataRecord) (r : DataRecord)
-    → AreDataRecords l p b rs q [] → IsDataRecord l q front r → AreDataRecords l p (b ++ front) (rs ++ r ∷ []) (place_after l r.start) []
+pub AreDataRecords-snoc : (l : Layout) (p q : Place) (b front : List ℕ) (rs : List DataRecord)
+    (r : DataRecord)
+    → AreDataRecords l p b rs q [] → IsDataRecord l q front r →
+    AreDataRecords l p (b ++ front) (rs ++ r ∷ []) (place_after l r.start) []
 AreDataRecords-snoc l p q b front [] r (place, rest) is =
-    let all : b ++ front ≡ front ++ [] = ap (λ (x : List ℕ). x ++ front) (sym rest) ∙ sym (append-nil front) in
+    let all : b ++ front ≡ front ++ [] = ap (λ (x : List ℕ). x ++ front) (sym rest)
+    ∙ sym (append-nil front) in
     (front, [], all, subst (λ (x : Place). IsDataRecord l x front r) place is, (refl, refl))
 AreDataRecords-snoc l p q b front (x ∷ rs) r (first, back, parts, one, more) is = (
   first,
@@ -37,7 +50,8 @@ AreDataRecords-snoc l p q b front (x ∷ rs) r (first, back, parts, one, more) i
 -- more bytes that are left
 pub AreDataRecords-more : (l : Layout) (p q : Place) (b rest more : List ℕ) (rs : List DataRecord)
     → AreDataRecords l p b rs q rest → AreDataRecords l p (b ++ more) rs q (rest ++ more)
-AreDataRecords-more l p q b rest more [] (place, same) = (place, ap (λ (x : List ℕ). x ++ more) same)
+AreDataRecords-more l p q b rest more [] (place, same) =
+    (place, ap (λ (x : List ℕ). x ++ more) same)
 AreDataRecords-more l p q b rest more (x ∷ rs) (first, back, parts, one, others) = (
   first,
   back ++ more,
@@ -48,11 +62,14 @@ AreDataRecords-more l p q b rest more (x ∷ rs) (first, back, parts, one, other
 
 -- ---- headers
 
-pub IsHeader-more : (b more : List ℕ) (h : HeaderRecord) → IsHeader b h [] → IsHeader (b ++ more) h more
+pub IsHeader-more : (b more : List ℕ) (h : HeaderRecord) → IsHeader b h [] →
+    IsHeader (b ++ more) h more
 IsHeader-more b more h is = record {
   first = is.first;
   second = is.second;
-  parts = ap (λ (x : List ℕ). x ++ more) (is.parts ∙ ap (λ (x : List ℕ). is.first ++ x) (append-nil is.second)) ∙ append_assoc is.first is.second more;
+  parts = ap (λ (x : List ℕ). x ++ more) (is.parts
+      ∙ ap (λ (x : List ℕ). is.first ++ x) (append-nil is.second))
+      ∙ append_assoc is.first is.second more;
   fixed = is.fixed;
   signals = is.signals;
 }
@@ -61,11 +78,15 @@ not-below : (a b : ℕ) → (a < b → ⊥) → b ≤ a
 not-below a b never = elim (cases_lt a b) [ inl low ↦ absurd (never low) | inr high ↦ high ]
 
 -- a fault of a fixed part that is there
-first-more : (b more : List ℕ) (e : HeaderFault) → 256 ≤ length b → IsFirst (FixedPartFails (take 256 b)) e → IsFirst (FixedPartFails (take 256 (b ++ more))) e
-first-more b more e enough first = subst (λ (x : List ℕ). IsFirst (FixedPartFails x) e) (sym (take-append-le 256 b more enough)) first
+first-more : (b more : List ℕ) (e : HeaderFault) → 256 ≤ length b →
+    IsFirst (FixedPartFails (take 256 b)) e → IsFirst (FixedPartFails (take 256 (b ++ more))) e
+first-more b more e enough first =
+    subst (λ (x : List ℕ). IsFirst (FixedPartFails x) e) (sym (take-append-le 256 b more enough))
+    first
 
 -- the place of a fault tells that 256 bytes are there
-enough-clean : (b : List ℕ) (n : ℕ) → 1 < n → IsClean (FixedPartFails (take 256 b)) n → 256 ≤ length b
+enough-clean : (b : List ℕ) (n : ℕ) → 1 < n → IsClean (FixedPartFails (take 256 b)) n →
+    256 ≤ length b
 enough-clean b n later clean =
     not-below (length b) 256 (λ low. clean Cut later (omega (arith, length-take 256 b)))
 
@@ -73,7 +94,8 @@ cut-or-later : (e : HeaderFault) → (e ≡ Cut) ⊎ (1 < header_fault_number e)
 cut-or-later Cut = inl refl
 cut-or-later e = inr (omega arith)
 
-signals-later : (s : List ℕ) (n : ℕ) (e : HeaderFault) → SignalsFail s n e → (e ≡ CutSignals) ⊎ (14 < header_fault_number e)
+signals-later : (s : List ℕ) (n : ℕ) (e : HeaderFault) → SignalsFail s n e → (e ≡ CutSignals)
+    ⊎ (14 < header_fault_number e)
 signals-later s n CutSignals fails = inl refl
 signals-later s n (UnprintableSignals at) fails = inr (omega arith)
 signals-later s n Annotations fails = inr (omega arith)
@@ -97,15 +119,19 @@ signals-later s n HeaderBytes fails = absurd fails
 signals-later s n Memory fails = absurd fails
 
 -- the fault of signals that are there
-second-more : (b more : List ℕ) (n : ℕ) (e : HeaderFault) → IsClean (FixedPartFails (take 256 b)) 14 → HasSignals b n → 14 < header_fault_number e
+second-more : (b more : List ℕ) (n : ℕ) (e : HeaderFault) →
+    IsClean (FixedPartFails (take 256 b)) 14 → HasSignals b n → 14 < header_fault_number e
     → IsFirst (SignalsFail (field b 256 (256 * n)) n) e → IsHeaderFault (b ++ more) e
 second-more b more n e clean has later first =
     let enough : 256 ≤ length b = enough-clean b 14 (omega arith) clean in
-    let there : 256 * n ≤ length (field b 256 (256 * n)) = not-below _ _ (first.1 CutSignals later) in
-    let all : 256 + 256 * n ≤ length b = omega (arith, length-take (256 * n) (drop 256 b), length-drop 256 b) in
+    let there : 256 * n ≤ length (field b 256 (256 * n)) =
+    not-below _ _ (first.1 CutSignals later) in
+    let all : 256 + 256 * n ≤ length b =
+    omega (arith, length-take (256 * n) (drop 256 b), length-drop 256 b) in
     let front : take 256 (b ++ more) ≡ take 256 b = take-append-le 256 b more enough in
     let count : field (b ++ more) 252 4 ≡ field b 252 4 = field_front b more 252 4 (omega arith) in
-    let signals : field (b ++ more) 256 (256 * n) ≡ field b 256 (256 * n) = field_front b more 256 (256 * n) all in
+    let signals : field (b ++ more) 256 (256 * n) ≡ field b 256 (256 * n) =
+    field_front b more 256 (256 * n) all in
     inr (
       n,
       subst (λ (x : List ℕ). IsClean (FixedPartFails x) 14) (sym front) clean,
@@ -113,17 +139,20 @@ second-more b more n e clean has later first =
       subst (λ (x : List ℕ). IsFirst (SignalsFail x n) e) (sym signals) first,
     )
 
-same-bytes : (b more : List ℕ) (e : HeaderFault) → more ≡ [] → IsHeaderFault b e → IsHeaderFault (b ++ more) e
+same-bytes : (b more : List ℕ) (e : HeaderFault) → more ≡ [] → IsHeaderFault b e →
+    IsHeaderFault (b ++ more) e
 same-bytes b more e none fault =
     let same : b ++ more ≡ b = ap (λ (x : List ℕ). b ++ x) none ∙ append-nil b in
     subst (λ (x : List ℕ). IsHeaderFault x e) (sym same) fault
 
 -- a fault of the front is that of all, where it is no cut, or nothing more is there
-pub IsHeaderFault-more : (b more : List ℕ) (e : HeaderFault) → ((e ≡ Cut) ⊎ (e ≡ CutSignals) → more ≡ []) → IsHeaderFault b e → IsHeaderFault (b ++ more) e
+pub IsHeaderFault-more : (b more : List ℕ) (e : HeaderFault) →
+    ((e ≡ Cut) ⊎ (e ≡ CutSignals) → more ≡ []) → IsHeaderFault b e → IsHeaderFault (b ++ more) e
 IsHeaderFault-more b more e none (inl first) =
     elim (cut-or-later e) [
       | inl cut ↦ same-bytes b more e (none (inl cut)) (inl first)
-      | inr later ↦ inl (first-more b more e (enough-clean b (header_fault_number e) later first.1) first)
+      | inr later ↦ inl (first-more b more e (enough-clean b (header_fault_number e) later first.1)
+          first)
     ]
 IsHeaderFault-more b more e none (inr (n, clean, has, first)) =
     elim (signals-later (field b 256 (256 * n)) n e first.0) [
@@ -134,22 +163,29 @@ IsHeaderFault-more b more e none (inr (n, clean, has, first)) =
 -- ---- reading on
 
 -- what a reader answers that goes on, with a record
-pub next_of : (l : Layout) (p q : Progress) (mid rest : Option (List ℕ)) (o : Option DataRecord) (r : DataRecord) → p.status ≡ Reading
-    → IsAnswer l p q mid rest (Ok o) → o ≡ Some r → (q ≡ progress_after l p (Ok (Some r))) × GivesRecord l p mid rest r
+pub next_of : (l : Layout) (p q : Progress) (mid rest : Option (List ℕ)) (o : Option DataRecord)
+    (r : DataRecord) → p.status ≡ Reading
+    → IsAnswer l p q mid rest (Ok o) → o ≡ Some r → (q ≡ progress_after l p (Ok (Some r)))
+    × GivesRecord l p mid rest r
 next_of l p q mid rest o r going answer is =
-    subst (λ (x : Option DataRecord). AnswersIn Reading l p q mid rest (Ok x)) is (subst (λ (s : Status). AnswersIn s l p q mid rest (Ok o)) going answer)
+    subst (λ (x : Option DataRecord). AnswersIn Reading l p q mid rest (Ok x)) is
+    (subst (λ (s : Status). AnswersIn s l p q mid rest (Ok o)) going answer)
 
 -- one more record was read
-pub reads_more : (l : Layout) (left mid rest : Option (List ℕ)) (rs : List DataRecord) (p q : Progress) (r : DataRecord) → HasRead l left mid rs p
-    → q ≡ progress_after l p (Ok (Some r)) → GivesRecord l p mid rest r → HasRead l left rest (rs ++ r ∷ []) q
+pub reads_more : (l : Layout) (left mid rest : Option (List ℕ)) (rs : List DataRecord)
+    (p q : Progress) (r : DataRecord) → HasRead l left mid rs p
+    → q ≡ progress_after l p (Ok (Some r)) → GivesRecord l p mid rest r →
+    HasRead l left rest (rs ++ r ∷ []) q
 reads_more l left mid rest rs p q r before is gives =
     let place : q.place ≡ place_after l r.start = ap (λ (x : Progress). x.place) is in
     let given : q.given ≡ p.given + 1 = ap (λ (x : Progress). x.given) is in
-    let more = AreDataRecords-snoc l First p.place before.bytes gives.bytes rs r before.are_records gives.is_record in
+    let more = AreDataRecords-snoc l First p.place before.bytes gives.bytes rs r before.are_records
+    gives.is_record in
     record {
       bytes = before.bytes ++ gives.bytes;
       read = Consumes-trans left mid rest before.bytes gives.bytes before.read gives.read;
-      are_records = subst (λ (x : Place). AreDataRecords l First (before.bytes ++ gives.bytes) (rs ++ r ∷ []) x []) (sym place) more;
+      are_records = subst (λ (x : Place). AreDataRecords l First (before.bytes ++ gives.bytes) (rs
+          ++ r ∷ []) x []) (sym place) more;
       given = omega (arith, before.given, length-append rs (r ∷ []));
       within = omega (arith, gives.may_come, given);
     }

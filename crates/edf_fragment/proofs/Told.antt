@@ -1,83 +1,159 @@
 -- Each list of bytes spells a fragment or has a first fault.
-use Rattle.std.proofs.Common.{◌≡◌, ℕ, zero, suc, ◌+◌, ◌≤◌, ◌<◌, ◌⊎◌, inl, inr, List, [], ◌∷◌, ◌++◌, length, take, drop, arith, refl, sym, ap, ◌∙◌, subst, length-append}
+use Rattle.std.proofs.Common.{◌≡◌, ℕ, zero, suc, ◌+◌, ◌≤◌, ◌<◌, ◌⊎◌, inl, inr, List, [], ◌∷◌, ◌++◌}
+use Rattle.std.proofs.Common.{length, take, drop, arith, refl, sym, ap, ◌∙◌, subst, length-append}
 use Rattle.std.proofs.lemmas.Bool.{cases_lt}
 use Rattle.std.proofs.lemmas.List.{length-take, take-append-drop}
 use Rattle.edf_header.specs.Key.{Key}
-use Rattle.edf_header.specs.Header.{HeaderRecord, IsHeader, Layout, layout_of, least_records, most_records}
+use Rattle.edf_header.specs.Header.{HeaderRecord, IsHeader, Layout, layout_of, least_records}
+use Rattle.edf_header.specs.Header.{most_records}
 use Rattle.edf_header.proofs.Cited.{header-or-fault, header-has-layout}
 use Rattle.edf_tal.specs.Tal.{Annotation}
 use Rattle.edf_tal.specs.Block.{AreRead}
 use Rattle.edf_tal.specs.declared.place.Place.{Place}
 use Rattle.edf_tal.specs.declared.place.Place.TheVariants.{First}
 use Rattle.edf_tal.proofs.Cited.{blocks-some-answer}
-use Rattle.edf_fragment.specs.Fragment.{DataRecord, IsDataRecord, AreDataRecords, place_after, blocks, ordinary_bytes, Spells}
+use Rattle.edf_fragment.specs.Fragment.{DataRecord, IsDataRecord, AreDataRecords, place_after}
+use Rattle.edf_fragment.specs.Fragment.{blocks, ordinary_bytes, Spells}
 use Rattle.edf_fragment.specs.Fault.{ReadsUpTo, IsFirstFault}
 use Rattle.edf_fragment.specs.declared.fault.FragmentFault.{FragmentFault}
-use Rattle.edf_fragment.specs.declared.fault.FragmentFault.TheVariants.{Header as BadHeader, CutRecord, Tal, Trailing}
+use Rattle.edf_fragment.specs.declared.fault.FragmentFault.TheVariants.{Header as BadHeader}
+use Rattle.edf_fragment.specs.declared.fault.FragmentFault.TheVariants.{CutRecord, Tal, Trailing}
 use Rattle.edf_fragment.specs.Told.{Told, Fragment, Fault, Tells}
 use Rattle.edf_fragment.proofs.Layouts.{least-most, blocks-front}
 use Rattle.edf_fragment.proofs.OneFragment.{one-fragment, spelled-no-fault, one-first-fault}
 
 -- one more data record, at the front of what is left
-AreDataRecords-next : (l : Layout) (p q : Place) (b left front back : List ℕ) (rs : List DataRecord) (r : DataRecord)
-    → AreDataRecords l p b rs q left → left ≡ front ++ back → IsDataRecord l q front r → AreDataRecords l p b (rs ++ r ∷ []) (place_after l r.start) back
-AreDataRecords-next l p q b left front back [] r (place, rest) parts is =
-    (front, back, sym rest ∙ parts, subst (λ (x : Place). IsDataRecord l x front r) place is, (refl, refl))
-AreDataRecords-next l p q b left front back (x ∷ rs) r (first, others, halves, one, more) parts is =
-    (first, others, halves, one, AreDataRecords-next l (place_after l x.start) q others left front back rs r more parts is)
+AreDataRecords-next : (l : Layout) (p q : Place) (b left front back : List ℕ) (rs : List DataRecord)
+    (r : DataRecord)
+    → AreDataRecords l p b rs q left → left ≡ front ++ back → IsDataRecord l q front r →
+    AreDataRecords l p b (rs ++ r ∷ []) (place_after l r.start) back
+AreDataRecords-next l p q b left front back [] r (place, rest) parts is = (
+  front,
+  back,
+  sym rest ∙ parts,
+  subst (λ (x : Place). IsDataRecord l x front r) place is,
+  (refl, refl),
+)
+AreDataRecords-next l p q b left front back (x ∷ rs) r (first, others, halves, one, more) parts is = (
+  first,
+  others,
+  halves,
+  one,
+  AreDataRecords-next l (place_after l x.start) q others left front
+      back rs r more parts is,
+)
 
 -- a key and data records, or a fault
 abbrev pub HasAnswer : List ℕ → Type 0
-HasAnswer b = ((k : Key) × (rs : List DataRecord) × Spells b k rs) ⊎ ((e : FragmentFault) × IsFirstFault b e)
+HasAnswer b = ((k : Key) × (rs : List DataRecord) × Spells b k rs)
+    ⊎ ((e : FragmentFault) × IsFirstFault b e)
 
 module _ (b : List ℕ) (h : HeaderRecord) (rest : List ℕ) (is : IsHeader b h rest) where
   -- so far
-  abbrev up-to : (rs : List DataRecord) (last : Place) (left : List ℕ) → AreDataRecords (layout_of h) First rest rs last left → ReadsUpTo b
-  up-to rs last left are = record { header = h; rest = rest; records = rs; last = last; left = left; is_header = is; are_records = are }
+  abbrev up-to : (rs : List DataRecord) (last : Place) (left : List ℕ) →
+      AreDataRecords (layout_of h) First rest rs last left → ReadsUpTo b
+  up-to rs last left are = record {
+    header = h;
+    rest = rest;
+    records = rs;
+    last = last;
+    left = left;
+    is_header = is;
+    are_records = are;
+  }
 
   -- nothing is left, and no more data records are wanted
-  ended : (rs : List DataRecord) (last : Place) → AreDataRecords (layout_of h) First rest rs last [] → least_records (layout_of h).count ≤ length rs
+  ended : (rs : List DataRecord) (last : Place) →
+      AreDataRecords (layout_of h) First rest rs last [] →
+      least_records (layout_of h).count ≤ length rs
       → length rs ≤ most_records (layout_of h).count → HasAnswer b
   ended rs last are least most =
-      inl ((layout_of h).key, rs, record { header = h; rest = rest; last = last; is_header = is; key = refl; are_records = are; least = least; most = most })
+      inl (
+        (layout_of h).key,
+        rs,
+        record {
+          header = h;
+          rest = rest;
+          last = last;
+          is_header = is;
+          key = refl;
+          are_records = are;
+          least = least;
+          most = most;
+        },
+      )
 
   -- no more data records may be there
-  at-end : (rs : List DataRecord) (last : Place) (left : List ℕ) → AreDataRecords (layout_of h) First rest rs last left → length rs ≡ most_records (layout_of h).count → HasAnswer b
-  at-end rs last [] are all = ended rs last are (omega (arith, all, least-most (layout_of h).count)) (omega (arith, all))
-  at-end rs last (x ∷ left) are all = inr (Trailing, record { up_to = up-to rs last (x ∷ left) are; all = all; more = omega arith })
+  at-end : (rs : List DataRecord) (last : Place) (left : List ℕ) →
+      AreDataRecords (layout_of h) First rest rs last left →
+      length rs ≡ most_records (layout_of h).count → HasAnswer b
+  at-end rs last [] are all = ended rs last are (omega (arith, all, least-most (layout_of h).count))
+      (omega (arith, all))
+  at-end rs last (x ∷ left) are all =
+      inr (Trailing, record { up_to = up-to rs last (x ∷ left) are; all = all; more = omega arith })
 
   -- too few bytes are left for a data record
-  at-cut : (rs : List DataRecord) (last : Place) (left : List ℕ) → AreDataRecords (layout_of h) First rest rs last left → length rs < most_records (layout_of h).count
+  at-cut : (rs : List DataRecord) (last : Place) (left : List ℕ) →
+      AreDataRecords (layout_of h) First rest rs last left →
+      length rs < most_records (layout_of h).count
       → length left < (layout_of h).record_bytes → HasAnswer b
   at-cut rs last [] are low cut =
       elim (cases_lt (length rs) (least_records (layout_of h).count)) [
         | inl wanted ↦
             inr (
               CutRecord (length rs + 1),
-              record { up_to = up-to rs last [] are; is_nth = refl; may_come = omega (arith, low); there = inl (omega (arith, wanted)); cut = cut },
+              record {
+                up_to = up-to rs last [] are;
+                is_nth = refl;
+                may_come = omega (arith, low);
+                there = inl (omega (arith, wanted));
+                cut = cut;
+              },
             )
         | inr enough ↦ ended rs last are enough (omega (arith, low))
       ]
   at-cut rs last (x ∷ left) are low cut =
       inr (
         CutRecord (length rs + 1),
-        record { up_to = up-to rs last (x ∷ left) are; is_nth = refl; may_come = omega (arith, low); there = inr (omega arith); cut = cut },
+        record {
+          up_to = up-to rs last (x ∷ left) are;
+          is_nth = refl;
+          may_come = omega (arith, low);
+          there = inr (omega arith);
+          cut = cut;
+        },
       )
 
   -- the data record at the front of enough bytes
-  next-record : (last : Place) (left : List ℕ) (start : ℕ) (list : List Annotation) → (layout_of h).record_bytes ≤ length left
+  next-record : (last : Place) (left : List ℕ) (start : ℕ) (list : List Annotation) →
+      (layout_of h).record_bytes ≤ length left
       → AreRead (blocks (layout_of h) left) (layout_of h).start last start list
-      → IsDataRecord (layout_of h) last (take (layout_of h).record_bytes left) (record { start = start; samples = ordinary_bytes (layout_of h) (take (layout_of h).record_bytes left); annotations = list })
+      → IsDataRecord (layout_of h) last (take (layout_of h).record_bytes left)
+      (record {
+        start = start;
+        samples =
+            ordinary_bytes (layout_of h) (take (layout_of h).record_bytes left);
+        annotations = list;
+      })
   next-record last left start list whole read =
       let l = layout_of h in
       let n = (layout_of h).record_bytes in
       let len : length (take n left) ≡ n = omega (arith, whole, length-take n left) in
       let parts : left ≡ take n left ++ drop n left = sym (take-append-drop n left) in
-      let same : blocks l left ≡ blocks l (take n left) = ap (blocks l) parts ∙ blocks-front l (take n left) (drop n left) (header-has-layout b h rest is) (omega (arith, len)) in
-      record { len = len; read = subst (λ (x : List (List ℕ)). AreRead x l.start last start list) same read; samples_are = refl }
+      let same : blocks l left ≡ blocks l (take n left) = ap (blocks l) parts
+      ∙ blocks-front l (take n left) (drop n left) (header-has-layout b h rest is)
+      (omega (arith, len)) in
+      record {
+        len = len;
+        read = subst (λ (x : List (List ℕ)). AreRead x l.start last start list)
+            same read;
+        samples_are = refl;
+      }
 
   -- what comes after some data records, where there may be n more
-  walk : (n : ℕ) (rs : List DataRecord) (last : Place) (left : List ℕ) → AreDataRecords (layout_of h) First rest rs last left → length rs + n ≡ most_records (layout_of h).count → HasAnswer b
+  walk : (n : ℕ) (rs : List DataRecord) (last : Place) (left : List ℕ) →
+      AreDataRecords (layout_of h) First rest rs last left →
+      length rs + n ≡ most_records (layout_of h).count → HasAnswer b
   walk zero rs last left are all = at-end rs last left are (omega (arith, all))
   walk (suc n) rs last left are all =
       elim (cases_lt (length left) (layout_of h).record_bytes) [
@@ -86,17 +162,35 @@ module _ (b : List ℕ) (h : HeaderRecord) (rest : List ℕ) (is : IsHeader b h 
           | inl r ↦
               let size = (layout_of h).record_bytes in
               let one = next-record last left r.0 r.1 whole r.2 in
-              let new : DataRecord = record { start = r.0; samples = ordinary_bytes (layout_of h) (take size left); annotations = r.1 } in
+              let new : DataRecord = record {
+                start = r.0;
+                samples =
+                    ordinary_bytes (layout_of h) (take size left);
+                annotations = r.1;
+              } in
               walk n (rs ++ new ∷ []) (place_after (layout_of h) r.0) (drop size left)
-              (AreDataRecords-next (layout_of h) First last rest left (take size left) (drop size left) rs new are (sym (take-append-drop size left)) one)
+              (AreDataRecords-next (layout_of h) First last rest left (take size left)
+              (drop size left) rs new are (sym (take-append-drop size left)) one)
               (omega (arith, all, length-append rs (new ∷ [])))
-          | inr f ↦ inr (Tal (length rs + 1) f.0, record { up_to = up-to rs last left are; is_nth = refl; may_come = omega (arith, all); whole = whole; refused = f.1 })
+          | inr f ↦ inr (
+            Tal (length rs + 1) f.0,
+            record {
+              up_to = up-to rs last left are;
+              is_nth = refl;
+              may_come = omega (arith, all);
+              whole = whole;
+              refused = f.1;
+            },
+          )
         ]
       ]
 
 some-answer : (b : List ℕ) → HasAnswer b
 some-answer b = elim (header-or-fault b) [
-  | inl h ↦ walk b h.0 h.1 h.2 (most_records (layout_of h.0).count) [] First h.1 (refl, refl) (omega arith)
+  | inl h ↦ walk b h.0 h.1 h.2 (most_records (layout_of h.0).count) [] First h.1 (
+    refl,
+    refl,
+  ) (omega arith)
   | inr f ↦ inr (BadHeader f.0, f.1)
 ]
 
@@ -110,7 +204,9 @@ some-telling b = elim (some-answer b) [
 pub one-telling : (b : List ℕ) (t u : Told) → Tells b t → Tells b u → t ≡ u
 one-telling b (Fragment k rs) (Fragment j ss) x y =
     let same = one-fragment b k j rs ss x y in
-    ap (λ (z : Key). Fragment z rs) same.key ∙ ap (λ (z : List DataRecord). Fragment j z) same.records
+    ap (λ (z : Key). Fragment z rs) same.key
+    ∙ ap (λ (z : List DataRecord). Fragment j z) same.records
 one-telling b (Fragment k rs) (Fault f) x y = absurd (spelled-no-fault b k rs f x y)
 one-telling b (Fault e) (Fragment j ss) x y = absurd (spelled-no-fault b j ss e y x)
-one-telling b (Fault e) (Fault f) x y = ap (λ (z : FragmentFault). Fault z) (one-first-fault b e f x y)
+one-telling b (Fault e) (Fault f) x y =
+    ap (λ (z : FragmentFault). Fault z) (one-first-fault b e f x y)

@@ -1,5 +1,6 @@
 -- The count of failed calls of a reader or a writer.
-use Rattle.std.specs.Prelude.{◌≡◌, ℕ, ◌+◌, ◌-◌, ◌^◌, ◌<◌, min, List, length, Result, MatchResult, zero, suc}
+use Rattle.std.specs.Prelude.{◌≡◌, ℕ, ◌+◌, ◌-◌, ◌^◌, ◌<◌, min, List, length, Result, MatchResult}
+use Rattle.std.specs.Prelude.{zero, suc}
 
 -- one more, up to the greatest count
 abbrev pub one_more : ℕ → ℕ
@@ -16,4 +17,5 @@ CountsTaken old new len (suc n) = new ≡ old
 
 -- and one that answers an error
 abbrev pub CountsWrite : {E : Type 0} → ℕ → ℕ → List ℕ → Result ℕ E → Type 0
-CountsWrite old new bytes result = MatchResult result (CountsTaken old new (length bytes)) (λ e. new ≡ one_more old)
+CountsWrite old new bytes result =
+    MatchResult result (CountsTaken old new (length bytes)) (λ e. new ≡ one_more old)

@@ -1,6 +1,7 @@
 -- When a fragment is refused: the first fault, in the order of header, data records, end.
 use Rattle.std.specs.Prelude.{◌≡◌, ℕ, ◌+◌, ◌≤◌, ◌<◌, ◌⊎◌, List, length}
-use Rattle.edf_header.specs.Header.{HeaderRecord, IsHeader, Layout, layout_of, least_records, most_records}
+use Rattle.edf_header.specs.Header.{HeaderRecord, IsHeader, Layout, layout_of, least_records}
+use Rattle.edf_header.specs.Header.{most_records}
 use Rattle.edf_header.specs.Fault.{IsHeaderFault, header_fault_number}
 use Rattle.edf_tal.specs.Block.{IsBlocksFault, tal_fault_number}
 use Rattle.edf_tal.specs.declared.place.Place.{Place}
@@ -8,7 +9,9 @@ use Rattle.edf_tal.specs.declared.place.Place.TheVariants.{First}
 use Rattle.edf_tal.specs.declared.place.TalFault.{TalFault}
 use Rattle.edf_fragment.specs.Fragment.{DataRecord, AreDataRecords, blocks}
 use Rattle.edf_fragment.specs.declared.fault.FragmentFault.{FragmentFault}
-use Rattle.edf_fragment.specs.declared.fault.FragmentFault.TheVariants.{Header as BadHeader, CutRecord, Tal, Trailing, Read, Memory, Failed}
+use Rattle.edf_fragment.specs.declared.fault.FragmentFault.TheVariants.{Header as BadHeader}
+use Rattle.edf_fragment.specs.declared.fault.FragmentFault.TheVariants.{CutRecord, Tal, Trailing}
+use Rattle.edf_fragment.specs.declared.fault.FragmentFault.TheVariants.{Read, Memory, Failed}
 
 -- a header, the data records before the fault, and what is left of the bytes
 pub record ReadsUpTo (bytes : List ℕ) : Type 0 where
@@ -28,8 +31,8 @@ layout u = layout_of u.header
 abbrev pub next_nth : {bytes : List ℕ} → ReadsUpTo bytes → ℕ
 next_nth u = length u.records + 1
 
--- the input ends inside a record, or before one that must come: each that the header counts, or, where its count is -1, the
--- first; any byte after it begins another
+-- the input ends inside a record, or before one that must come: each that the header counts, or,
+-- where its count is -1, the first; any byte after it begins another
 pub record IsCutRecord (bytes : List ℕ) (nth : ℕ) : Type 0 where
   pub up_to : ReadsUpTo bytes
   pub is_nth : nth ≡ next_nth up_to
@@ -43,7 +46,8 @@ pub record IsRefusedBlock (bytes : List ℕ) (nth : ℕ) (fault : TalFault) : Ty
   pub is_nth : nth ≡ next_nth up_to
   pub may_come : nth ≤ most_records (layout up_to).count
   pub whole : (layout up_to).record_bytes ≤ length up_to.left
-  pub refused : IsBlocksFault (blocks (layout up_to) up_to.left) (layout up_to).start up_to.last fault
+  pub refused : IsBlocksFault (blocks (layout up_to) up_to.left) (layout up_to).start up_to.last
+      fault
 
 -- bytes follow the last record that may come
 pub record IsTrailing (bytes : List ℕ) : Type 0 where

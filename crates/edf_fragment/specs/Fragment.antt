@@ -2,14 +2,16 @@
 use Rattle.std.specs.Prelude.{◌≡◌, ℕ, ◌+◌, ◌-◌, ◌≤◌, List, [], ◌∷◌, ◌++◌, length, map, drop}
 use Rattle.edf_field.specs.Number.{field, duration_of}
 use Rattle.edf_header.specs.Key.{Key}
-use Rattle.edf_header.specs.Header.{HeaderRecord, IsHeader, Layout, layout_of, least_records, most_records}
+use Rattle.edf_header.specs.Header.{HeaderRecord, IsHeader, Layout, layout_of, least_records}
+use Rattle.edf_header.specs.Header.{most_records}
 use Rattle.edf_header.specs.declared.header.Block.{Block}
 use Rattle.edf_tal.specs.Tal.{Annotation}
 use Rattle.edf_tal.specs.Block.{AreRead, IsWithinLimits}
 use Rattle.edf_tal.specs.declared.place.Place.{Place}
 use Rattle.edf_tal.specs.declared.place.Place.TheVariants.{First, After}
 
--- a data record: its start in nanoseconds, its ordinary sample bytes in signal order, its list of annotations
+-- a data record: its start in nanoseconds, its ordinary sample bytes in signal order, its list of
+-- annotations
 pub record DataRecord : Type 0 where
   pub start : ℕ
   pub samples : List ℕ
@@ -34,10 +36,11 @@ abbrev pub ordinary_bytes : Layout → List ℕ → List ℕ
 ordinary_bytes l bytes = outside 0 l.blocks bytes
 
 -- the bytes are the data record, which is at this place
-pub record IsDataRecord (l : Layout) (place : Place) (bytes : List ℕ) (r : DataRecord) : Type 0 where
-  pub len : length bytes ≡ l.record_bytes
-  pub read : AreRead (blocks l bytes) l.start place r.start r.annotations
-  pub samples_are : r.samples ≡ ordinary_bytes l bytes
+pub record IsDataRecord (l : Layout) (place : Place) (bytes : List ℕ) (r : DataRecord) : Type 0
+  where
+    pub len : length bytes ≡ l.record_bytes
+    pub read : AreRead (blocks l bytes) l.start place r.start r.annotations
+    pub samples_are : r.samples ≡ ordinary_bytes l bytes
 
 -- the place of the record after one that starts there
 abbrev pub place_after : Layout → ℕ → Place
@@ -51,8 +54,8 @@ AreDataRecords l place bytes (r ∷ rs) last rest =
     (front : List ℕ) × (back : List ℕ) × (bytes ≡ front ++ back) × IsDataRecord l place front r
     × AreDataRecords l (place_after l r.start) back rs last rest
 
--- the bytes spell a key and a list of data records, as many as the header says, or, where its count is -1, 1 to 99,999,999;
--- and nothing follows them
+-- the bytes spell a key and a list of data records, as many as the header says, or, where its count
+-- is -1, 1 to 99,999,999; and nothing follows them
 pub record Spells (bytes : List ℕ) (k : Key) (records : List DataRecord) : Type 0 where
   pub header : HeaderRecord
   pub rest : List ℕ

@@ -9,8 +9,8 @@ use Rattle.edf_tal.specs.Tal.{IsAnnotation}
 use Rattle.edf_tal.specs.Block.{IsWithinLimits}
 use Rattle.edf_fragment.specs.Fragment.{DataRecord, IsWithinSize}
 
--- a data record in memory: within the limits, with a start in the window, and annotations that each have an onset and a
--- duration in the window and a text of UTF-8 that a TAL can hold
+-- a data record in memory: within the limits, with a start in the window, and annotations that each
+-- have an onset and a duration in the window and a text of UTF-8 that a TAL can hold
 pub record IsValidRecord (r : DataRecord) : Type 0 where
   pub size : IsWithinSize r
   pub start : r.start < window
@@ -26,7 +26,8 @@ pub record IsSoundRecord (k : Key) (r : DataRecord) : Type 0 where
 -- records that start from `low` on, each at least a duration of a data record after the one before
 abbrev pub AreSound : Key → ℕ → List DataRecord → Type 0
 AreSound k low [] = Unit {0}
-AreSound k low (r ∷ rs) = IsSoundRecord k r × (low ≤ r.start) × AreSound k (r.start + duration_of k.duration) rs
+AreSound k low (r ∷ rs) = IsSoundRecord k r × (low ≤ r.start)
+    × AreSound k (r.start + duration_of k.duration) rs
 
 -- of the records, which rise in time, the earliest is one with which the key's recording may start
 abbrev pub MayBegin : Key → List DataRecord → Type 0

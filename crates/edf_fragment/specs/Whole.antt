@@ -11,7 +11,8 @@ use Rattle.edf_fragment.specs.declared.fault.FragmentFault.{FragmentFault}
 use Rattle.edf_fragment.specs.declared.fault.FragmentFault.TheVariants.{Read, Memory, Failed}
 
 -- the whole input was read, and spells these records under a header that says this
-pub record ReadsFragment (left rest : Option (List ℕ)) (layout : Layout) (records : List DataRecord) : Type 0 where
+pub record ReadsFragment (left rest : Option (List ℕ)) (layout : Layout)
+    (records : List DataRecord) : Type 0 where
   pub bytes : List ℕ
   pub read : Consumes left rest bytes
   pub end : IsAtEnd rest
@@ -19,7 +20,8 @@ pub record ReadsFragment (left rest : Option (List ℕ)) (layout : Layout) (reco
   pub layout_is : layout ≡ layout_of spells.header
 
 -- these data records were read, and the next one's place is that of this progress
-pub record HasRead (l : Layout) (left rest : Option (List ℕ)) (records : List DataRecord) (p : Progress) : Type 0 where
+pub record HasRead (l : Layout) (left rest : Option (List ℕ)) (records : List DataRecord)
+    (p : Progress) : Type 0 where
   pub bytes : List ℕ
   pub read : Consumes left rest bytes
   pub are_records : AreDataRecords l First bytes records p.place []
@@ -27,7 +29,8 @@ pub record HasRead (l : Layout) (left rest : Option (List ℕ)) (records : List 
   pub within : p.given ≤ most_records l.count
 
 -- some data records were read, and then came the fault
-pub record FailsAfterRecords (l : Layout) (left rest : Option (List ℕ)) (fault : FragmentFault) : Type 0 where
+pub record FailsAfterRecords (l : Layout) (left rest : Option (List ℕ))
+    (fault : FragmentFault) : Type 0 where
   pub mid : Option (List ℕ)
   pub records : List DataRecord
   pub progress : Progress
@@ -41,15 +44,16 @@ pub record FailsAfterHeader (left rest : Option (List ℕ)) (fault : FragmentFau
   pub header : ReadsHeader left mid layout
   pub behind : FailsAfterRecords layout mid rest fault
 
--- where the bytes are known, a fault of theirs is the first of all of them; a failed read tells nothing of them, nor does out of memory
+-- where the bytes are known, a fault of theirs is the first of all of them; a failed read tells
+-- nothing of them, nor does out of memory
 abbrev pub IsFirstWhereKnown : Option (List ℕ) → FragmentFault → Type 0
 IsFirstWhereKnown left Read = Unit {0}
 IsFirstWhereKnown left Memory = Unit {0}
 IsFirstWhereKnown left Failed = ⊥
 IsFirstWhereKnown left fault = IfSome left (λ all. IsFirstFault all fault)
 
--- why an input gives no fragment: the fault came in the header, or after it and some data records; no more was read than the bytes
--- of these and those of the fault
+-- why an input gives no fragment: the fault came in the header, or after it and some data records;
+-- no more was read than the bytes of these and those of the fault
 pub record IsFragmentFault (left rest : Option (List ℕ)) (fault : FragmentFault) : Type 0 where
   pub place : IsOpenFault left rest fault ⊎ FailsAfterHeader left rest fault
   pub first : IsFirstWhereKnown left fault

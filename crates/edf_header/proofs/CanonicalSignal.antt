@@ -15,7 +15,8 @@ use Rattle.edf_header.proofs.SpelledNumbers.{number-field, spaces-printable}
 -- the row up to the samples
 abbrev front : List ℕ
 front =
-    codes "EDF Annotations " ++ (spaces 80 ++ (spaces 8 ++ (padded_to 8 (codes "-1") ++ (padded_to 8 (codes "1")
+    codes "EDF Annotations " ++ (spaces 80
+    ++ (spaces 8 ++ (padded_to 8 (codes "-1") ++ (padded_to 8 (codes "1")
     ++ (padded_to 8 (codes "-32768") ++ (padded_to 8 (codes "32767") ++ spaces 80))))))
 
 abbrev tail : ℕ → List ℕ
@@ -49,12 +50,20 @@ pub canonical-row : (n : ℕ) → 1 ≤ n → n ≤ 2_097_152 → IsCanonicalRow
 canonical-row n some small =
     let f = number-field 8 n (omega arith) (omega arith) (omega arith) in
     let text : List ℕ = padded_to 8 (decimal n) in
-    let here : field (annotations_signal n) 216 8 ≡ text = take_at text (spaces 32) 8 f.printed.len in
-    let number : IsNumber (field (annotations_signal n) 216 8) n = subst (λ (l : List ℕ). IsNumber l n) (sym here) f.number in
+    let here : field (annotations_signal n) 216 8 ≡ text =
+    take_at text (spaces 32) 8 f.printed.len in
+    let number : IsNumber (field (annotations_signal n) 216 8) n =
+    subst (λ (l : List ℕ). IsNumber l n) (sym here) f.number in
     record {
       printed = record {
-        len = omega (arith, length-append front (tail n), length-append text (spaces 32), f.printed.len);
-        printable = All-append IsPrintable front (tail n) (printable-by front refl) (All-append IsPrintable text (spaces 32) f.printed.printable (spaces-printable 32));
+        len = omega (
+          arith,
+          length-append front (tail n),
+          length-append text (spaces 32),
+          f.printed.len,
+        );
+        printable = All-append IsPrintable front (tail n) (printable-by front refl)
+            (All-append IsPrintable text (spaces 32) f.printed.printable (spaces-printable 32));
       };
       annotations = annotations-is n;
       samples_are = record { whole = number.whole; some = omega (arith, number.value) };

@@ -2,7 +2,8 @@
 use Rattle.std.proofs.Common.{◌≡◌, ℕ, ◌*◌, ◌/◌, ◌^◌, ◌≤◌, ◌<◌, List, ◌⊎◌}
 use Rattle.edf_field.specs.Number.{duration_of}
 use Rattle.edf_header.specs.Key.{Key, IsKey, IsSized, MayStart, key_at, key_bytes}
-use Rattle.edf_header.specs.Header.{FixedPart, HeaderRecord, IsFixed, IsFixedHeader, AreSignals, IsHeader, key_of, layout_of, IsLayout}
+use Rattle.edf_header.specs.Header.{FixedPart, HeaderRecord, IsFixed, IsFixedHeader, AreSignals}
+use Rattle.edf_header.specs.Header.{IsHeader, key_of, layout_of, IsLayout}
 use Rattle.edf_header.specs.Fault.{FixedPartFails, SignalsFail, IsClean, IsHeaderFault}
 use Rattle.edf_header.specs.Canonical.{IsCanonicalHeader}
 use Rattle.edf_header.specs.Spelled.{IsReadAs, spelled_layout}
@@ -30,40 +31,53 @@ pub key-duration-bound : (k : Key) → IsKey k → duration_of k.duration ≤ 10
 key-duration-bound = key_laws.key-duration-bound
 
 -- the fixed part
-pub fixed-clean : (bytes : List ℕ) (fixed : FixedPart) → IsFixedHeader bytes fixed → IsClean (FixedPartFails bytes) 14
+pub fixed-clean : (bytes : List ℕ) (fixed : FixedPart) → IsFixedHeader bytes fixed →
+    IsClean (FixedPartFails bytes) 14
 fixed-clean = fixed_laws.fixed-clean
 
 pub is-fixed : (bytes : List ℕ) (fixed : FixedPart) → IsFixedHeader bytes fixed → IsFixed fixed
 is-fixed = fixed_laws.is-fixed
 
 -- the signals
-pub signals-clean : (bytes : List ℕ) (header : HeaderRecord) → AreSignals bytes header → IsClean (SignalsFail bytes header.fixed.signal_count) 21
+pub signals-clean : (bytes : List ℕ) (header : HeaderRecord) → AreSignals bytes header →
+    IsClean (SignalsFail bytes header.fixed.signal_count) 21
 signals-clean = signal_laws.signals-clean
 
 -- headers
-pub header-has-key : (bytes : List ℕ) (header : HeaderRecord) (rest : List ℕ) → IsHeader bytes header rest → IsKey (key_of header)
+pub header-has-key : (bytes : List ℕ) (header : HeaderRecord) (rest : List ℕ) →
+    IsHeader bytes header rest → IsKey (key_of header)
 header-has-key = signal_laws.header-has-key
 
-pub header-has-layout : (bytes : List ℕ) (header : HeaderRecord) (rest : List ℕ) → IsHeader bytes header rest → IsLayout (layout_of header)
+pub header-has-layout : (bytes : List ℕ) (header : HeaderRecord) (rest : List ℕ) →
+    IsHeader bytes header rest → IsLayout (layout_of header)
 header-has-layout = signal_laws.header-has-layout
 
-pub one-header : (bytes : List ℕ) (header other : HeaderRecord) (rest other_rest : List ℕ) → IsHeader bytes header rest → IsHeader bytes other other_rest
+pub one-header : (bytes : List ℕ) (header other : HeaderRecord) (rest other_rest : List ℕ) →
+    IsHeader bytes header rest → IsHeader bytes other other_rest
     → (header ≡ other) × (rest ≡ other_rest)
 one-header = once.one-header
 
-pub header-no-fault : (bytes : List ℕ) (header : HeaderRecord) (rest : List ℕ) (fault : HeaderFault) → IsHeader bytes header rest → ¬ IsHeaderFault bytes fault
+pub header-no-fault : (bytes : List ℕ) (header : HeaderRecord) (rest : List ℕ)
+    (fault : HeaderFault) → IsHeader bytes header rest → ¬ IsHeaderFault bytes fault
 header-no-fault = once.header-no-fault
 
-pub one-header-fault : (bytes : List ℕ) (fault other : HeaderFault) → IsHeaderFault bytes fault → IsHeaderFault bytes other → fault ≡ other
+pub one-header-fault : (bytes : List ℕ) (fault other : HeaderFault) → IsHeaderFault bytes fault →
+    IsHeaderFault bytes other → fault ≡ other
 one-header-fault = once.one-header-fault
 
-pub header-or-fault : (bytes : List ℕ) → ((header : HeaderRecord) × (rest : List ℕ) × IsHeader bytes header rest) ⊎ ((fault : HeaderFault) × IsHeaderFault bytes fault)
+pub header-or-fault : (bytes : List ℕ) →
+    ((header : HeaderRecord) × (rest : List ℕ) × IsHeader bytes header rest)
+    ⊎ ((fault : HeaderFault) × IsHeaderFault bytes fault)
 header-or-fault = told.header-or-fault
 
 -- canonical headers
-pub one-canonical-header : (bytes other : List ℕ) (key : Key) (start count block : ℕ) → IsCanonicalHeader bytes key start count block → IsCanonicalHeader other key start count block → bytes ≡ other
+pub one-canonical-header : (bytes other : List ℕ) (key : Key) (start count block : ℕ) →
+    IsCanonicalHeader bytes key start count block → IsCanonicalHeader other key start count block →
+    bytes ≡ other
 one-canonical-header = canonical_one.one-canonical-header
 
-pub canonical-header-reads : (bytes : List ℕ) (key : Key) (start count block : ℕ) → IsKey key → MayStart key start → 1 ≤ count → count ≤ 99_999_999 → 1 ≤ block → block ≤ 2_097_152
-    → IsCanonicalHeader bytes key start count block → IsReadAs bytes (spelled_layout key (start / 10 ^ 9 * 10 ^ 9) count block)
+pub canonical-header-reads : (bytes : List ℕ) (key : Key) (start count block : ℕ) → IsKey key →
+    MayStart key start → 1 ≤ count → count ≤ 99_999_999 → 1 ≤ block → block ≤ 2_097_152
+    → IsCanonicalHeader bytes key start count block →
+    IsReadAs bytes (spelled_layout key (start / 10 ^ 9 * 10 ^ 9) count block)
 canonical-header-reads = canonical_headers.canonical-header-reads

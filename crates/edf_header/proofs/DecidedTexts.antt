@@ -1,5 +1,7 @@
 -- Whether a text is a duration, a patient identification or a recording identification.
-use Rattle.std.proofs.Common.{◌≡◌, ℕ, suc, ◌+◌, ◌*◌, ◌^◌, ◌<◌, List, [], ◌∷◌, ◌++◌, length, length-append, take, drop, arith, refl, sym, ap, ◌∙◌, subst, inl, inr, ℤ, Option, Some, None}
+use Rattle.std.proofs.Common.{◌≡◌, ℕ, suc, ◌+◌, ◌*◌, ◌^◌, ◌<◌, List, [], ◌∷◌, ◌++◌, length}
+use Rattle.std.proofs.Common.{length-append, take, drop, arith, refl, sym, ap, ◌∙◌, subst, inl, inr}
+use Rattle.std.proofs.Common.{ℤ, Option, Some, None}
 use Rattle.std.specs.Prelude.{◌⊎◌, codes}
 use Rattle.std.specs.Char.{digit_value}
 use Rattle.std.specs.Str.Parse.{AllDigits, IsNumeral, digits_value}
@@ -7,8 +9,10 @@ use Rattle.std.proofs.lemmas.List.{take_at, take_all, drop_all}
 use Rattle.edf_time.specs.Civil.{HasDateForm, IsIdDate}
 use Rattle.edf_time.specs.Decimal.{IsDecimal, IsFine, fraction_value as places}
 use Rattle.edf_field.specs.Number.{field, AreSpaces, IsDuration, front_len}
-use Rattle.edf_field.specs.Text.{FollowsStartdate, IsBirthdate, IsPatient, IsRecording, IsSex, subfields}
-use Rattle.edf_header.proofs.Decided.{Decided, like, both, either, less, same, same-bytes, every, some-below}
+use Rattle.edf_field.specs.Text.{FollowsStartdate, IsBirthdate, IsPatient, IsRecording, IsSex}
+use Rattle.edf_field.specs.Text.{subfields}
+use Rattle.edf_header.proofs.Decided.{Decided, like, both, either, less, same, same-bytes, every}
+use Rattle.edf_header.proofs.Decided.{some-below}
 use Rattle.edf_header.proofs.DecidedFields.{spaces, behind-startdate}
 use Rattle.edf_time.proofs.Cited.{some-date, some-yearless, some-id_date}
 
@@ -21,7 +25,9 @@ numeral ds = both (less 0 (length ds)) (all-digits ds)
 
 decimal : (text w f : List ℕ) → Decided (IsDecimal text w f)
 decimal text w [] = both (numeral w) (same-bytes text w)
-decimal text w (d ∷ ds) = like (both (numeral w) (both (numeral (d ∷ ds)) (same-bytes text (w ++ 46 ∷ d ∷ ds)))) (λ p. (p.0, p.1.0, p.1.1)) (λ p. (p.0, (p.1, p.2)))
+decimal text w (d ∷ ds) =
+    like (both (numeral w) (both (numeral (d ∷ ds)) (same-bytes text (w ++ 46 ∷ d ∷ ds))))
+    (λ p. (p.0, p.1.0, p.1.1)) (λ p. (p.0, (p.1, p.2)))
 
 -- a decimal above 0 that is not too fine
 abbrev value : List ℕ → List ℕ → ℕ
@@ -34,7 +40,8 @@ record IsWorth (text w f : List ℕ) : Type 0 where
 
 worth : (text w f : List ℕ) → Decided (IsWorth text w f)
 worth text w f =
-    like (both (decimal text w f) (both (every (λ d. d ≡ 48) 0 (λ d. same d 48) (drop 9 f)) (less 0 (value w f))))
+    like (both (decimal text w f) (both (every (λ d. d ≡ 48) 0 (λ d. same d 48) (drop 9 f))
+    (less 0 (value w f))))
     (λ p. record { parts = p.0; fine = p.1.0; some = p.1.1 })
     (λ p. (p.parts, (p.fine, p.some)))
 
@@ -46,47 +53,88 @@ behind-dot : (w f : List ℕ) → drop (suc (length w)) (w ++ 46 ∷ f) ≡ f
 behind-dot [] f = refl
 behind-dot (d ∷ w) f = behind-dot w f
 
-worth-at : (text w f : List ℕ) → IsWorth text w f → (at : ℕ) × (at < suc (length text)) × IsWorthAt text at
+worth-at : (text w f : List ℕ) → IsWorth text w f → (at : ℕ) × (at < suc (length text))
+    × IsWorthAt text at
 worth-at text w [] is =
-    let front : w ≡ take (length text) text = sym is.parts.1 ∙ sym (take_all (length text) text (omega arith)) in
-    let back : [] ≡ drop (suc (length text)) text = sym (drop_all (suc (length text)) text (omega arith)) in
-    (length text, omega arith, subst (λ (l : List ℕ). IsWorth text (take (length text) text) l) back (subst (λ (l : List ℕ). IsWorth text l []) front is))
+    let front : w ≡ take (length text) text = sym is.parts.1
+    ∙ sym (take_all (length text) text (omega arith)) in
+    let back : [] ≡ drop (suc (length text)) text =
+    sym (drop_all (suc (length text)) text (omega arith)) in (
+      length text,
+      omega arith,
+      subst (λ (l : List ℕ). IsWorth text (take (length text) text) l) back
+          (subst (λ (l : List ℕ). IsWorth text l []) front is),
+    )
 worth-at text w (c ∷ f) is =
     let e : text ≡ w ++ 46 ∷ c ∷ f = is.parts.2 in
-    let front : w ≡ take (length w) text = sym (ap (take (length w)) e ∙ take_at w (46 ∷ c ∷ f) (length w) refl) in
-    let back : c ∷ f ≡ drop (suc (length w)) text = sym (ap (drop (suc (length w))) e ∙ behind-dot w (c ∷ f)) in
-    (length w, omega (arith, ap length e, length-append w (46 ∷ c ∷ f)), subst (λ (l : List ℕ). IsWorth text (take (length w) text) l) back (subst (λ (l : List ℕ). IsWorth text l (c ∷ f)) front is))
+    let front : w ≡ take (length w) text =
+    sym (ap (take (length w)) e ∙ take_at w (46 ∷ c ∷ f) (length w) refl) in
+    let back : c ∷ f ≡ drop (suc (length w)) text =
+    sym (ap (drop (suc (length w))) e ∙ behind-dot w (c ∷ f)) in (
+      length w,
+      omega (arith, ap length e, length-append w (46 ∷ c ∷ f)),
+      subst (λ (l : List ℕ). IsWorth text (take (length w) text) l) back
+          (subst (λ (l : List ℕ). IsWorth text l (c ∷ f)) front is),
+    )
 
-from-worth : (text : List ℕ) → (((at : ℕ) × (at < suc (length (take (front_len text) text))) × IsWorthAt (take (front_len text) text) at) × AreSpaces (drop (front_len text) text))
+from-worth : (text : List ℕ) →
+    (((at : ℕ) × (at < suc (length (take (front_len text) text)))
+    × IsWorthAt (take (front_len text) text) at) × AreSpaces (drop (front_len text) text))
     → (nanos : ℕ) × IsDuration text nanos
 from-worth text ((at, lt, is), blank) =
     let t : List ℕ = take (front_len text) text in (
       value (take at t) (drop (suc at) t),
-      record { seconds = record { whole = take at t; fraction = drop (suc at) t; parts = is.parts; fine = is.fine; value = refl }; spaces = blank; some = is.some },
+      record {
+        seconds = record {
+          whole = take at t;
+          fraction = drop (suc at) t;
+          parts = is.parts;
+          fine = is.fine;
+          value = refl;
+        };
+        spaces = blank;
+        some = is.some;
+      },
     )
 
 to-worth : (text : List ℕ) → ((nanos : ℕ) × IsDuration text nanos)
-    → ((at : ℕ) × (at < suc (length (take (front_len text) text))) × IsWorthAt (take (front_len text) text) at) × AreSpaces (drop (front_len text) text)
+    → ((at : ℕ) × (at < suc (length (take (front_len text) text)))
+    × IsWorthAt (take (front_len text) text) at) × AreSpaces (drop (front_len text) text)
 to-worth text (nanos, d) =
-    let s = d.seconds in
-    (worth-at (take (front_len text) text) s.whole s.fraction (record { parts = s.parts; fine = s.fine; some = omega (arith, s.value, d.some) }), d.spaces)
+    let s = d.seconds in (
+      worth-at (take (front_len text) text) s.whole s.fraction
+          (record { parts = s.parts; fine = s.fine; some = omega (arith, s.value, d.some) }),
+      d.spaces,
+    )
 
 pub duration : (text : List ℕ) → Decided ((nanos : ℕ) × IsDuration text nanos)
 duration text =
     let t : List ℕ = take (front_len text) text in
-    like (both (some-below (IsWorthAt t) (λ at. worth t (take at t) (drop (suc at) t)) (suc (length t))) (spaces (drop (front_len text) text))) (from-worth text) (to-worth text)
+    like (both (some-below (IsWorthAt t) (λ at. worth t (take at t) (drop (suc at) t))
+    (suc (length t))) (spaces (drop (front_len text) text))) (from-worth text) (to-worth text)
 
 -- the patient field
 sex : (text : List ℕ) → Decided (IsSex text)
-sex text = either (same-bytes text (codes "F")) (either (same-bytes text (codes "M")) (same-bytes text (codes "X")))
+sex text = either (same-bytes text (codes "F"))
+    (either (same-bytes text (codes "M")) (same-bytes text (codes "X")))
 
 birthdate : (text : List ℕ) → Decided (IsBirthdate text)
 birthdate text = either (same-bytes text (codes "X")) (some-id_date text)
 
-patient-by : (text : List ℕ) (parts : List (List ℕ)) → subfields text ≡ parts → Decided (IsPatient text)
+patient-by : (text : List ℕ) (parts : List (List ℕ)) → subfields text ≡ parts →
+    Decided (IsPatient text)
 patient-by text (c ∷ s ∷ b ∷ n ∷ more) e =
     like (both (sex s) (birthdate b))
-    (λ p. record { code = c; sex = s; birthdate = b; name = n; more = more; parts = e; is_sex = p.0; is_birthdate = p.1 })
+    (λ p. record {
+      code = c;
+      sex = s;
+      birthdate = b;
+      name = n;
+      more = more;
+      parts = e;
+      is_sex = p.0;
+      is_birthdate = p.1;
+    })
     (λ p.
     let one : p.sex ≡ s = cc in
     let two : p.birthdate ≡ b = cc in
@@ -101,7 +149,8 @@ abbrev IsUndated : List ℕ → Type 0
 IsUndated text = (take 11 text ≡ codes "Startdate X") × FollowsStartdate (drop 11 text)
 
 abbrev IsDated : List ℕ → Type 0
-IsDated text = ((take 10 text ≡ codes "Startdate ") × ((day : ℤ) × IsIdDate (field text 10 11) day)) × FollowsStartdate (drop 21 text)
+IsDated text = ((take 10 text ≡ codes "Startdate ") × ((day : ℤ) × IsIdDate (field text 10 11) day))
+    × FollowsStartdate (drop 21 text)
 
 abbrev pub HasRecording : List ℕ → Type 0
 HasRecording text = (startdate : Option ℤ) × (after : List ℕ) × IsRecording text startdate after
@@ -110,17 +159,25 @@ from-dated : (text : List ℕ) → IsUndated text ⊎ IsDated text → HasRecord
 from-dated text p =
     elim p [
       | inl x ↦ (None, drop 11 text, record { front = (x.0, refl); behind = x.1 })
-      | inr d ↦ (Some d.0.1.0, drop 21 text, record { front = (d.0.0, d.0.1.1, refl); behind = d.1 })
+      | inr d ↦ (
+        Some d.0.1.0,
+        drop 21 text,
+        record { front = (d.0.0, d.0.1.1, refl); behind = d.1 },
+      )
     ]
 
-to-dated : (text : List ℕ) (s : Option ℤ) (after : List ℕ) → IsRecording text s after → IsUndated text ⊎ IsDated text
+to-dated : (text : List ℕ) (s : Option ℤ) (after : List ℕ) → IsRecording text s after →
+    IsUndated text ⊎ IsDated text
 to-dated text None after r = inl (r.front.0, subst FollowsStartdate r.front.1 r.behind)
-to-dated text (Some day) after r = inr ((r.front.0, (day, r.front.1)), subst FollowsStartdate r.front.2 r.behind)
+to-dated text (Some day) after r =
+    inr ((r.front.0, (day, r.front.1)), subst FollowsStartdate r.front.2 r.behind)
 
 pub recording : (text : List ℕ) → Decided (HasRecording text)
 recording text =
-    like (either (both (same-bytes (take 11 text) (codes "Startdate X")) (behind-startdate (drop 11 text)))
-    (both (both (same-bytes (take 10 text) (codes "Startdate ")) (some-id_date (field text 10 11))) (behind-startdate (drop 21 text))))
+    like (either (both (same-bytes (take 11 text) (codes "Startdate X"))
+    (behind-startdate (drop 11 text)))
+    (both (both (same-bytes (take 10 text) (codes "Startdate ")) (some-id_date (field text 10 11)))
+    (behind-startdate (drop 21 text))))
     (from-dated text) (λ r. to-dated text r.0 r.1 r.2)
 
 -- one with X in place of the startdate

@@ -1,7 +1,9 @@
 -- The faults of identity bytes, one row after another.
-use Rattle.std.proofs.Common.{◌≡◌, ℕ, ◌+◌, ◌-◌, ◌*◌, ◌≤◌, ◌<◌, List, [], ◌++◌, length, take, drop, arith, sym, subst, inl, inr}
+use Rattle.std.proofs.Common.{◌≡◌, ℕ, ◌+◌, ◌-◌, ◌*◌, ◌≤◌, ◌<◌, List, [], ◌++◌, length, take, drop}
+use Rattle.std.proofs.Common.{arith, sym, subst, inl, inr}
 use Rattle.std.proofs.lemmas.Bool.{cases_lt}
-use Rattle.edf_header.specs.Identity.{HasLength, HasMark, IsCleanKey, KeyFails, place_in_order, signals_at}
+use Rattle.edf_header.specs.Identity.{HasLength, HasMark, IsCleanKey, KeyFails, place_in_order}
+use Rattle.edf_header.specs.Identity.{signals_at}
 use Rattle.edf_header.specs.Key.{IsKey, Key, key_at, key_bytes}
 use Rattle.edf_field.specs.Number.{field, IsDuration}
 use Rattle.edf_header.specs.Inside.Shape.{IsKeyFront, place_of_check}
@@ -10,13 +12,22 @@ use Rattle.edf_field.specs.Text.{IsPrintable, IsPatient, FollowsStartdate}
 use Rattle.std.specs.Prelude.{All}
 use Rattle.std.specs.List.{flat_map}
 use Rattle.edf_header.specs.declared.signal_checks.Check.{Check}
-use Rattle.edf_header.specs.declared.signal_checks.Check.TheVariants.{Label as CheckLabel, Annotations as CheckAnnotations, Physical as CheckPhysical, Digital as CheckDigital, Samples as CheckSamples}
+use Rattle.edf_header.specs.declared.signal_checks.Check.TheVariants.{Label as CheckLabel}
+use Rattle.edf_header.specs.declared.signal_checks.Check.TheVariants.{Annotations as CheckAnnotations}
+use Rattle.edf_header.specs.declared.signal_checks.Check.TheVariants.{Physical as CheckPhysical}
+use Rattle.edf_header.specs.declared.signal_checks.Check.TheVariants.{Digital as CheckDigital}
+use Rattle.edf_header.specs.declared.signal_checks.Check.TheVariants.{Samples as CheckSamples}
 use Rattle.edf_header.specs.declared.identity.IdentityFault.{IdentityFault}
-use Rattle.edf_header.specs.declared.identity.IdentityFault.TheVariants.{Length, Unprintable, Patient, Recording, Duration, Label, Physical, Digital, Samples, Size, Memory}
+use Rattle.edf_header.specs.declared.identity.IdentityFault.TheVariants.{Length, Unprintable}
+use Rattle.edf_header.specs.declared.identity.IdentityFault.TheVariants.{Patient, Recording}
+use Rattle.edf_header.specs.declared.identity.IdentityFault.TheVariants.{Duration, Label, Physical}
+use Rattle.edf_header.specs.declared.identity.IdentityFault.TheVariants.{Digital, Samples, Size}
+use Rattle.edf_header.specs.declared.identity.IdentityFault.TheVariants.{Memory}
 use Rattle.edf_header.proofs.Held.{sliced, count-is, shaped, sized, key-length, key-mark}
 use Rattle.edf_header.proofs.Keys.{bytes-back, key-back}
 
-pub not-bad : {X : Type 0} (P : X → Type 0) (d : X) (xs : List X) (at : ℕ) → All P xs → ¬ IsFirstBad P xs at
+pub not-bad : {X : Type 0} (P : X → Type 0) (d : X) (xs : List X) (at : ℕ) → All P xs →
+    ¬ IsFirstBad P xs at
 not-bad P d xs at all bad = bad.bad d (all at d bad.within)
 
 positive : (e : IdentityFault) → ¬ (place_in_order e < 1)
@@ -24,17 +35,21 @@ positive Length lt = omega arith
 positive e lt = omega arith
 
 -- one row after another
-pub clean-4 : (b : List ℕ) → HasLength b → All IsPrintable b → IsPatient (field b 0 80) → IsCleanKey b 4
+pub clean-4 : (b : List ℕ) → HasLength b → All IsPrintable b → IsPatient (field b 0 80) →
+    IsCleanKey b 4
 clean-4 b len printable patient Patient lt bad = bad patient
 clean-4 b len printable patient Length lt bad = bad len
-clean-4 b len printable patient (Unprintable offset) lt bad = not-bad IsPrintable 0 b offset printable bad
+clean-4 b len printable patient (Unprintable offset) lt bad =
+    not-bad IsPrintable 0 b offset printable bad
 clean-4 b len printable patient e lt bad = absurd (omega arith)
 
-pub clean-5 : (b : List ℕ) → HasLength b → All IsPrintable b → IsPatient (field b 0 80) → HasMark b × FollowsStartdate (key_at b).after → IsCleanKey b 5
+pub clean-5 : (b : List ℕ) → HasLength b → All IsPrintable b → IsPatient (field b 0 80) → HasMark b
+    × FollowsStartdate (key_at b).after → IsCleanKey b 5
 clean-5 b len printable patient recording Recording lt bad = bad recording
 clean-5 b len printable patient recording Patient lt bad = bad patient
 clean-5 b len printable patient recording Length lt bad = bad len
-clean-5 b len printable patient recording (Unprintable offset) lt bad = not-bad IsPrintable 0 b offset printable bad
+clean-5 b len printable patient recording (Unprintable offset) lt bad =
+    not-bad IsPrintable 0 b offset printable bad
 clean-5 b len printable patient recording e lt bad = absurd (omega arith)
 
 pub clean-6 : (b : List ℕ) → IsKeyFront b → IsCleanKey b 6
@@ -46,18 +61,24 @@ clean-6 b f (Unprintable offset) lt bad = not-bad IsPrintable 0 b offset f.print
 clean-6 b f e lt bad = absurd (omega arith)
 
 -- past the row of a check that all signals pass
-past : (check : Check) (b : List ℕ) → All (Passes check) (signals_at b) → (e : IdentityFault) → place_in_order e ≡ place_of_check check → ¬ KeyFails b e
-past CheckLabel b all (Label s) eq bad = not-bad (Passes CheckLabel) [] (signals_at b) bad.0 all bad.1
+past : (check : Check) (b : List ℕ) → All (Passes check) (signals_at b) → (e : IdentityFault) →
+    place_in_order e ≡ place_of_check check → ¬ KeyFails b e
+past CheckLabel b all (Label s) eq bad =
+    not-bad (Passes CheckLabel) [] (signals_at b) bad.0 all bad.1
 past CheckLabel b all e eq bad = absurd (omega arith)
 past CheckAnnotations b all e eq bad = positive e (omega arith)
-past CheckPhysical b all (Physical s) eq bad = not-bad (Passes CheckPhysical) [] (signals_at b) bad.0 all bad.1
+past CheckPhysical b all (Physical s) eq bad =
+    not-bad (Passes CheckPhysical) [] (signals_at b) bad.0 all bad.1
 past CheckPhysical b all e eq bad = absurd (omega arith)
-past CheckDigital b all (Digital s) eq bad = not-bad (Passes CheckDigital) [] (signals_at b) bad.0 all bad.1
+past CheckDigital b all (Digital s) eq bad =
+    not-bad (Passes CheckDigital) [] (signals_at b) bad.0 all bad.1
 past CheckDigital b all e eq bad = absurd (omega arith)
-past CheckSamples b all (Samples s) eq bad = not-bad (Passes CheckSamples) [] (signals_at b) bad.0 all bad.1
+past CheckSamples b all (Samples s) eq bad =
+    not-bad (Passes CheckSamples) [] (signals_at b) bad.0 all bad.1
 past CheckSamples b all e eq bad = absurd (omega arith)
 
-pub all-passed : (check : Check) (b : List ℕ) → IsCleanKey b (place_of_check check) → All (Passes check) (rows_of (take (length b - 158) (drop 158 b)))
+pub all-passed : (check : Check) (b : List ℕ) → IsCleanKey b (place_of_check check) →
+    All (Passes check) (rows_of (take (length b - 158) (drop 158 b)))
     → All (Passes check) (signals_at b) × IsCleanKey b (place_of_check check + 1)
 all-passed check b clean all =
     let here = subst (All (Passes check)) (sliced b) all in (
@@ -68,19 +89,30 @@ all-passed check b clean all =
       ],
     )
 
-pub bad-at : (check : Check) (b : List ℕ) (at : ℕ) → IsFirstBad (Passes check) (rows_of (take (length b - 158) (drop 158 b))) at → IsFirstBad (Passes check) (signals_at b) at
+pub bad-at : (check : Check) (b : List ℕ) (at : ℕ) →
+    IsFirstBad (Passes check) (rows_of (take (length b - 158) (drop 158 b))) at →
+    IsFirstBad (Passes check) (signals_at b) at
 bad-at check b at bad = subst (λ (l : List (List ℕ)). IsFirstBad (Passes check) l at) (sliced b) bad
 
-pub at-small : (check : Check) (b : List ℕ) (at : ℕ) → HasLength b → IsFirstBad (Passes check) (rows_of (take (length b - 158) (drop 158 b))) at → at < 639
-at-small check b at len bad = omega (arith, (bad-at check b at bad).within, count-is b len.0 len.3, len.2)
+pub at-small : (check : Check) (b : List ℕ) (at : ℕ) → HasLength b →
+    IsFirstBad (Passes check) (rows_of (take (length b - 158) (drop 158 b))) at → at < 639
+at-small check b at len bad = omega (
+  arith,
+  (bad-at check b at bad).within,
+  count-is b len.0 len.3,
+  len.2,
+)
 
 -- past the size
-pub clean-11 : (b : List ℕ) → IsCleanKey b 10 → 2 * samples_in_all (signals_at b) ≤ 4_194_304 → IsCleanKey b 11
+pub clean-11 : (b : List ℕ) → IsCleanKey b 10 → 2 * samples_in_all (signals_at b) ≤ 4_194_304 →
+    IsCleanKey b 11
 clean-11 b clean size Size lt bad = absurd (omega (arith, bad))
 clean-11 b clean size Memory lt bad = absurd (omega arith)
 clean-11 b clean size e lt bad = clean e (omega arith) bad
 
-pub is-key : (b : List ℕ) → IsKeyFront b → All (Passes CheckLabel) (signals_at b) → All (Passes CheckPhysical) (signals_at b) → All (Passes CheckDigital) (signals_at b) → All (Passes CheckSamples) (signals_at b)
+pub is-key : (b : List ℕ) → IsKeyFront b → All (Passes CheckLabel) (signals_at b) →
+    All (Passes CheckPhysical) (signals_at b) → All (Passes CheckDigital) (signals_at b) →
+    All (Passes CheckSamples) (signals_at b)
     → 2 * samples_in_all (signals_at b) ≤ 4_194_304 → (key_bytes (key_at b) ≡ b) × IsKey (key_at b)
 is-key b f l p d s size =
     let back = bytes-back b (shaped b f.len f.mark) in
@@ -94,7 +126,12 @@ is-key b f l p d s size =
         duration = f.duration;
         signals_from = omega (arith, f.len.1);
         signals_to = omega (arith, f.len.2);
-        signals = λ i x lt. record { label = l i x lt; physical = p i x lt (l i x lt); digital = d i x lt (l i x lt) };
+        signals = λ i x lt. record {
+          label = l i x lt;
+          physical = p i x lt (l i x lt);
+          digital =
+              d i x lt (l i x lt);
+        };
         each_samples = s;
         size = size;
       },
@@ -107,9 +144,14 @@ front-of k i =
       len = (length k.signals, i.signals_from, i.signals_to, key-length k i.sized);
       printable = i.printable;
       patient = subst (λ (k : Key). IsPatient k.patient) (sym back) i.patient;
-      mark = key-mark k.dated k.patient k.after (k.duration ++ flat_map (λ (s : List ℕ). s) k.signals) i.sized.patient i.sized.after;
+      mark = key-mark k.dated k.patient k.after (k.duration
+          ++ flat_map (λ (s : List ℕ). s) k.signals) i.sized.patient i.sized.after;
       behind = subst (λ (k : Key). FollowsStartdate k.after) (sym back) i.behind;
-      duration = (i.duration.0, subst (λ (k : Key). IsDuration k.duration i.duration.0) (sym back) i.duration.1);
+      duration = (
+        i.duration.0,
+        subst (λ (k : Key). IsDuration k.duration i.duration.0) (sym back)
+            i.duration.1,
+      );
     }
 
 -- the signals of a key pass each check
@@ -120,11 +162,16 @@ passed k i CheckPhysical at d lt = λ label. (i.signals at d lt).physical
 passed k i CheckDigital at d lt = λ label. (i.signals at d lt).digital
 passed k i CheckSamples at d lt = i.each_samples at d lt
 
-clean-by : (b : List ℕ) → IsKeyFront b → ((check : Check) → All (Passes check) (signals_at b)) → IsCleanKey b 10
-clean-by b f all (Label s) lt bad = not-bad (Passes CheckLabel) [] (signals_at b) bad.0 (all CheckLabel) bad.1
-clean-by b f all (Physical s) lt bad = not-bad (Passes CheckPhysical) [] (signals_at b) bad.0 (all CheckPhysical) bad.1
-clean-by b f all (Digital s) lt bad = not-bad (Passes CheckDigital) [] (signals_at b) bad.0 (all CheckDigital) bad.1
-clean-by b f all (Samples s) lt bad = not-bad (Passes CheckSamples) [] (signals_at b) bad.0 (all CheckSamples) bad.1
+clean-by : (b : List ℕ) → IsKeyFront b → ((check : Check) → All (Passes check) (signals_at b)) →
+    IsCleanKey b 10
+clean-by b f all (Label s) lt bad =
+    not-bad (Passes CheckLabel) [] (signals_at b) bad.0 (all CheckLabel) bad.1
+clean-by b f all (Physical s) lt bad =
+    not-bad (Passes CheckPhysical) [] (signals_at b) bad.0 (all CheckPhysical) bad.1
+clean-by b f all (Digital s) lt bad =
+    not-bad (Passes CheckDigital) [] (signals_at b) bad.0 (all CheckDigital) bad.1
+clean-by b f all (Samples s) lt bad =
+    not-bad (Passes CheckSamples) [] (signals_at b) bad.0 (all CheckSamples) bad.1
 clean-by b f all Size lt bad = absurd (omega arith)
 clean-by b f all Memory lt bad = absurd (omega arith)
 clean-by b f all e lt bad = clean-6 b f e (omega arith) bad
@@ -133,5 +180,6 @@ clean-by b f all e lt bad = clean-6 b f e (omega arith) bad
 pub key-clean : (k : Key) → IsKey k → IsCleanKey (key_bytes k) 11
 key-clean k i =
     let back = key-back k i.sized in
-    clean-11 (key_bytes k) (clean-by (key_bytes k) (front-of k i) (λ check. subst (λ (k : Key). All (Passes check) k.signals) (sym back) (passed k i check)))
+    clean-11 (key_bytes k) (clean-by (key_bytes k) (front-of k i)
+    (λ check. subst (λ (k : Key). All (Passes check) k.signals) (sym back) (passed k i check)))
     (subst (λ (k : Key). 2 * samples_in_all k.signals ≤ 4_194_304) (sym back) i.size)

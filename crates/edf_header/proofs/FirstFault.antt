@@ -1,20 +1,31 @@
 -- Rows that are decided, in the order of their numbers: none is true, or one is the first.
-use Rattle.std.proofs.Common.{◌≡◌, ℕ, suc, ◌+◌, ◌*◌, List, [], length, arith, refl, sym, ap, ◌∙◌, subst, inl, inr, cond, eqb, Option, ℤ, Some}
+use Rattle.std.proofs.Common.{◌≡◌, ℕ, suc, ◌+◌, ◌*◌, List, [], length, arith, refl, sym, ap, ◌∙◌}
+use Rattle.std.proofs.Common.{subst, inl, inr, cond, eqb, Option, ℤ, Some}
 use Rattle.std.specs.Prelude.{◌⊎◌, codes}
 use Rattle.edf_time.specs.Civil.{HasDateForm, IsDateText, IsTimeText}
 use Rattle.edf_field.specs.Number.{field, IsDuration, IsNumber}
 use Rattle.edf_field.specs.Text.{IsPrintable, IsRecording}
 use Rattle.edf_header.specs.Signal.{IsFirstBad, Passes, signals_of}
-use Rattle.edf_header.specs.Fault.{DatesAreOther, FixedPartFails, HasNoYear, HasSignals, IsBadSignal, IsClean, IsFirst, IsNoStartdate, SignalsFail, header_fault_number}
+use Rattle.edf_header.specs.Fault.{DatesAreOther, FixedPartFails, HasNoYear, HasSignals}
+use Rattle.edf_header.specs.Fault.{IsBadSignal, IsClean, IsFirst, IsNoStartdate, SignalsFail}
+use Rattle.edf_header.specs.Fault.{header_fault_number}
 use Rattle.edf_header.specs.declared.signal_checks.Check.{Check}
 use Rattle.edf_header.specs.declared.signal_checks.Check.TheVariants as checks
 use Rattle.edf_header.specs.declared.fault.HeaderFault.{HeaderFault}
-use Rattle.edf_header.specs.declared.fault.HeaderFault.TheVariants.{Cut, Unprintable, Version, Patient, Recording, Startdate, Starttime, DatesDiffer, NotPlus, Count, Duration, Signals, HeaderBytes, CutSignals, UnprintableSignals, Annotations, Physical, Digital, Samples, Size, Memory}
+use Rattle.edf_header.specs.declared.fault.HeaderFault.TheVariants.{Cut, Unprintable, Version}
+use Rattle.edf_header.specs.declared.fault.HeaderFault.TheVariants.{Patient, Recording, Startdate}
+use Rattle.edf_header.specs.declared.fault.HeaderFault.TheVariants.{Starttime, DatesDiffer, NotPlus}
+use Rattle.edf_header.specs.declared.fault.HeaderFault.TheVariants.{Count, Duration, Signals}
+use Rattle.edf_header.specs.declared.fault.HeaderFault.TheVariants.{HeaderBytes, CutSignals}
+use Rattle.edf_header.specs.declared.fault.HeaderFault.TheVariants.{UnprintableSignals, Annotations}
+use Rattle.edf_header.specs.declared.fault.HeaderFault.TheVariants.{Physical, Digital, Samples}
+use Rattle.edf_header.specs.declared.fault.HeaderFault.TheVariants.{Size, Memory}
 use Rattle.edf_field.proofs.Recordings.{one-after}
 use Rattle.edf_header.proofs.FixedRows.{clean-more}
 use Rattle.edf_header.proofs.Startdates.{other-startdates, same-startdates}
 use Rattle.edf_header.proofs.Faults.{not-bad}
-use Rattle.edf_header.proofs.Decided.{Decided, like, both, either, negated, less, same-bytes, first-bad}
+use Rattle.edf_header.proofs.Decided.{Decided, like, both, either, negated, less, same-bytes}
+use Rattle.edf_header.proofs.Decided.{first-bad}
 use Rattle.edf_header.proofs.DecidedFields as fields
 use Rattle.edf_time.proofs.Cited.{some-date, some-startdates, some-time, some-yearless}
 use Rattle.edf_header.proofs.DecidedTexts as texts
@@ -32,10 +43,15 @@ spot e = 0
 -- the fault of a number, at a place
 abbrev made : ℕ → ℕ → HeaderFault
 made n at =
-    cond (eqb n 1) Cut (cond (eqb n 2) (Unprintable at) (cond (eqb n 3) Version (cond (eqb n 4) Patient (cond (eqb n 5) Recording
-    (cond (eqb n 6) Startdate (cond (eqb n 7) Starttime (cond (eqb n 8) DatesDiffer (cond (eqb n 9) NotPlus (cond (eqb n 10) Count
-    (cond (eqb n 11) Duration (cond (eqb n 12) Signals (cond (eqb n 13) HeaderBytes (cond (eqb n 14) CutSignals (cond (eqb n 15) (UnprintableSignals at)
-    (cond (eqb n 16) Annotations (cond (eqb n 17) (Physical at) (cond (eqb n 18) (Digital at) (cond (eqb n 19) (Samples at) (cond (eqb n 20) Size
+    cond (eqb n 1) Cut (cond (eqb n 2) (Unprintable at)
+    (cond (eqb n 3) Version (cond (eqb n 4) Patient (cond (eqb n 5) Recording
+    (cond (eqb n 6) Startdate (cond (eqb n 7) Starttime
+    (cond (eqb n 8) DatesDiffer (cond (eqb n 9) NotPlus (cond (eqb n 10) Count
+    (cond (eqb n 11) Duration (cond (eqb n 12) Signals
+    (cond (eqb n 13) HeaderBytes (cond (eqb n 14) CutSignals
+    (cond (eqb n 15) (UnprintableSignals at)
+    (cond (eqb n 16) Annotations (cond (eqb n 17) (Physical at)
+    (cond (eqb n 18) (Digital at) (cond (eqb n 19) (Samples at) (cond (eqb n 20) Size
     Memory)))))))))))))))))))
 
 made-is : (e : HeaderFault) → e ≡ made (header_fault_number e) (spot e)
@@ -68,11 +84,14 @@ IsTrueAt Holds n = (at : ℕ) × Holds (made n at)
 abbrev IsCleanOrFirst : (HeaderFault → Type 0) → ℕ → Type 0
 IsCleanOrFirst Holds n = IsClean Holds n ⊎ ((fault : HeaderFault) × IsFirst Holds fault)
 
-none-here : (Holds : HeaderFault → Type 0) (n : ℕ) → (¬ IsTrueAt Holds n) → (e : HeaderFault) → header_fault_number e ≡ n → ¬ Holds e
-none-here Holds n none e is holds = none (spot e, subst Holds (made-is e ∙ ap (λ (k : ℕ). made k (spot e)) is) holds)
+none-here : (Holds : HeaderFault → Type 0) (n : ℕ) → (¬ IsTrueAt Holds n) → (e : HeaderFault) →
+    header_fault_number e ≡ n → ¬ Holds e
+none-here Holds n none e is holds =
+    none (spot e, subst Holds (made-is e ∙ ap (λ (k : ℕ). made k (spot e)) is) holds)
 
 -- one row more
-row : (Holds : HeaderFault → Type 0) (n : ℕ) → ((at : ℕ) → header_fault_number (made n at) ≡ n) → Decided (IsTrueAt Holds n) → IsCleanOrFirst Holds n → IsCleanOrFirst Holds (suc n)
+row : (Holds : HeaderFault → Type 0) (n : ℕ) → ((at : ℕ) → header_fault_number (made n at) ≡ n) →
+    Decided (IsTrueAt Holds n) → IsCleanOrFirst Holds n → IsCleanOrFirst Holds (suc n)
 row Holds n named here before =
     elim before [
       | inl clean ↦ elim here [
@@ -96,15 +115,19 @@ unprintable b =
       | inr bad ↦ inl bad
     ]
 
-no-recording : (text : List ℕ) → Decided ((startdate : Option ℤ) (after : List ℕ) → ¬ IsRecording text startdate after)
-no-recording text = like (negated (texts.recording text)) (λ none s after is. none (s, after, is)) (λ none r. none r.0 r.1 r.2)
+no-recording : (text : List ℕ) → Decided ((startdate : Option ℤ) (after : List ℕ) →
+    ¬ IsRecording text startdate after)
+no-recording text = like (negated (texts.recording text)) (λ none s after is. none (s, after, is))
+    (λ none r. none r.0 r.1 r.2)
 
 no-startdate : (b : List ℕ) → Decided (IsNoStartdate (field b 168 8) ⊎ HasNoYear b)
 no-startdate b =
     let date : List ℕ = field b 168 8 in
-    either (both (none-of (IsDateText date) (some-date date)) (negated (some-yearless date))) (both (some-yearless date) (texts.undated (field b 88 80)))
+    either (both (none-of (IsDateText date) (some-date date)) (negated (some-yearless date)))
+    (both (some-yearless date) (texts.undated (field b 88 80)))
 
-other-by : (b : List ℕ) (s : Option ℤ) (after : List ℕ) → IsRecording (field b 88 80) s after → Decided (DatesAreOther b)
+other-by : (b : List ℕ) (s : Option ℤ) (after : List ℕ) → IsRecording (field b 88 80) s after →
+    Decided (DatesAreOther b)
 other-by b s after is =
     let date : List ℕ = field b 168 8 in
     elim (texts.date-form date s) [
@@ -113,7 +136,8 @@ other-by b s after is =
         | inr none ↦ inl (other-startdates b s after is form (λ days are. none (days, are)))
       ]
       | inr never ↦ inr (λ differ.
-          let same = (one-after (field b 88 80) (Some differ.day) s differ.after after differ.recording.front is.front).0 in
+          let same = (one-after (field b 88 80) (Some differ.day) s differ.after after
+          differ.recording.front is.front).0 in
           never (subst (HasDateForm date) same differ.form))
     ]
 
@@ -124,11 +148,13 @@ other-dates b =
       | inr none ↦ inr (λ o. none (Some o.day, o.after, o.recording))
     ]
 
-other-bytes : (b : List ℕ) → Decided ((n : ℕ) × HasSignals b n × ¬ IsNumber (field b 184 8) (256 + 256 * n))
+other-bytes : (b : List ℕ) → Decided ((n : ℕ) × HasSignals b n
+    × ¬ IsNumber (field b 184 8) (256 + 256 * n))
 other-bytes b =
     elim (fields.signals b) [
       | inl s ↦ elim (fields.number (field b 184 8) (256 + 256 * s.0)) [
-        | inl is ↦ inr (λ o. let same : s.0 ≡ o.0 = s.1.0.value ∙ sym o.1.0.value in o.2 (subst (λ (n : ℕ). IsNumber (field b 184 8) (256 + 256 * n)) same is))
+        | inl is ↦ inr (λ o. let same : s.0 ≡ o.0 = s.1.0.value ∙ sym o.1.0.value in
+            o.2 (subst (λ (n : ℕ). IsNumber (field b 184 8) (256 + 256 * n)) same is))
         | inr other ↦ inl (s.0, s.1, other)
       ]
       | inr none ↦ inr (λ o. none (o.0, o.1))
@@ -143,23 +169,30 @@ pub fixed-rows : (b : List ℕ) → IsCleanOrFirst (FixedPartFails b) 14
 fixed-rows b =
     row (FixedPartFails b) 13 (λ at. refl) (plain (other-bytes b))
     (row (FixedPartFails b) 12 (λ at. refl) (plain (none-of (HasSignals b) (fields.signals b)))
-    (row (FixedPartFails b) 11 (λ at. refl) (plain (none-of (IsDuration (field b 244 8)) (texts.duration (field b 244 8))))
+    (row (FixedPartFails b) 11 (λ at. refl)
+    (plain (none-of (IsDuration (field b 244 8)) (texts.duration (field b 244 8))))
     (row (FixedPartFails b) 10 (λ at. refl) (plain (negated (fields.count b)))
     (row (FixedPartFails b) 9 (λ at. refl) (plain (negated (fields.plus (field b 192 44))))
     (row (FixedPartFails b) 8 (λ at. refl) (plain (other-dates b))
-    (row (FixedPartFails b) 7 (λ at. refl) (plain (none-of (IsTimeText (field b 176 8)) (some-time (field b 176 8))))
+    (row (FixedPartFails b) 7 (λ at. refl)
+    (plain (none-of (IsTimeText (field b 176 8)) (some-time (field b 176 8))))
     (row (FixedPartFails b) 6 (λ at. refl) (plain (no-startdate b))
     (row (FixedPartFails b) 5 (λ at. refl) (plain (no-recording (field b 88 80)))
     (row (FixedPartFails b) 4 (λ at. refl) (plain (negated (texts.patient (field b 8 80))))
-    (row (FixedPartFails b) 3 (λ at. refl) (plain (negated (same-bytes (field b 0 8) (codes "0       "))))
+    (row (FixedPartFails b) 3 (λ at. refl)
+    (plain (negated (same-bytes (field b 0 8) (codes "0       "))))
     (row (FixedPartFails b) 2 (λ at. refl) (unprintable b)
-    (row (FixedPartFails b) 1 (λ at. refl) (plain (less (length b) 256)) (inl (no-number b))))))))))))))
+    (row (FixedPartFails b) 1 (λ at. refl) (plain (less (length b) 256))
+    (inl (no-number b))))))))))))))
 
 -- and E14 to E20
-unprintable-signals : (s : List ℕ) → Decided ((offset : ℕ) × ((at : ℕ) × IsFirstBad IsPrintable s at × (offset ≡ 256 + at)))
-unprintable-signals s = like (unprintable s) (λ b. (256 + b.0, (b.0, b.1, refl))) (λ b. (b.1.0, b.1.1))
+unprintable-signals : (s : List ℕ) →
+    Decided ((offset : ℕ) × ((at : ℕ) × IsFirstBad IsPrintable s at × (offset ≡ 256 + at)))
+unprintable-signals s = like (unprintable s) (λ b. (256 + b.0, (b.0, b.1, refl)))
+    (λ b. (b.1.0, b.1.1))
 
-bad-signal : (check : Check) (ss : List (List ℕ)) → Decided ((signal : ℕ) × IsBadSignal check ss signal)
+bad-signal : (check : Check) (ss : List (List ℕ)) →
+    Decided ((signal : ℕ) × IsBadSignal check ss signal)
 bad-signal check ss =
     elim (rows.checked check ss) [
       | inl all ↦ inr (λ bad. not-bad (Passes check) [] ss bad.1.0 all bad.1.1)
@@ -184,4 +217,5 @@ signal-rows s n =
     (row (SignalsFail s n) 17 (λ at. refl) (bad-signal checks.Physical (signals_of s n))
     (row (SignalsFail s n) 16 (λ at. refl) (plain (negated (rows.annotations (signals_of s n))))
     (row (SignalsFail s n) 15 (λ at. refl) (unprintable-signals s)
-    (row (SignalsFail s n) 14 (λ at. refl) (plain (less (length s) (256 * n))) (inl (clean-14 s n))))))))
+    (row (SignalsFail s n) 14 (λ at. refl) (plain (less (length s) (256 * n)))
+    (inl (clean-14 s n))))))))

@@ -1,5 +1,7 @@
 -- A fixed part that bytes spell: it has no fault, is one, and keeps the bounds.
-use Rattle.std.proofs.Common.{◌≡◌, ℕ, suc, ◌+◌, ◌^◌, ◌≤◌, ◌<◌, Bool, true, false, eqb, cond, List, [], ◌∷◌, length, take, drop, arith, refl, sym, ap, ◌∙◌, subst, inl, inr, one-add, ℤ, Option, Some, None}
+use Rattle.std.proofs.Common.{◌≡◌, ℕ, suc, ◌+◌, ◌^◌, ◌≤◌, ◌<◌, Bool, true, false, eqb, cond, List}
+use Rattle.std.proofs.Common.{[], ◌∷◌, length, take, drop, arith, refl, sym, ap, ◌∙◌, subst, inl}
+use Rattle.std.proofs.Common.{inr, one-add, ℤ, Option, Some, None}
 use Rattle.std.specs.Prelude.{All, codes}
 use Rattle.std.specs.List.{prefix_len}
 use Rattle.std.specs.Char.{is_ascii_digit, digit_value}
@@ -16,11 +18,19 @@ use Rattle.edf_field.proofs.Recordings.{one-after}
 use Rattle.edf_field.specs.Number.{field, whole_value, digits, digits_len, IsNumber, IsWhole}
 use Rattle.edf_field.specs.Text.{IsPrintable, IsStartdate}
 use Rattle.edf_header.specs.Signal.{IsFirstBad}
-use Rattle.edf_header.specs.Header.{FixedPart, IsCount, IsCountInRange, IsFixed, IsFixedHeader, is_dated}
+use Rattle.edf_header.specs.Header.{FixedPart, IsCount, IsCountInRange, IsFixed, IsFixedHeader}
+use Rattle.edf_header.specs.Header.{is_dated}
 use Rattle.edf_header.specs.Key.{MayStartBy}
 use Rattle.edf_header.specs.Fault.{FixedPartFails, IsClean, IsFirst, header_fault_number}
 use Rattle.edf_header.specs.declared.fault.HeaderFault.{HeaderFault}
-use Rattle.edf_header.specs.declared.fault.HeaderFault.TheVariants.{Cut, Unprintable, Version, Patient, Recording, Startdate, Starttime, DatesDiffer, NotPlus, Count, Duration, Signals, HeaderBytes, CutSignals, UnprintableSignals, Annotations, Physical, Digital, Samples, Size, Memory}
+use Rattle.edf_header.specs.declared.fault.HeaderFault.TheVariants.{Cut, Unprintable, Version}
+use Rattle.edf_header.specs.declared.fault.HeaderFault.TheVariants.{Patient, Recording, Startdate}
+use Rattle.edf_header.specs.declared.fault.HeaderFault.TheVariants.{Starttime, DatesDiffer, NotPlus}
+use Rattle.edf_header.specs.declared.fault.HeaderFault.TheVariants.{Count, Duration, Signals}
+use Rattle.edf_header.specs.declared.fault.HeaderFault.TheVariants.{HeaderBytes, CutSignals}
+use Rattle.edf_header.specs.declared.fault.HeaderFault.TheVariants.{UnprintableSignals, Annotations}
+use Rattle.edf_header.specs.declared.fault.HeaderFault.TheVariants.{Physical, Digital, Samples}
+use Rattle.edf_header.specs.declared.fault.HeaderFault.TheVariants.{Size, Memory}
 use Rattle.edf_header.proofs.Startdates.{has-startdate, same-startdates}
 
 one-number : (text : List ℕ) (m n : ℕ) → IsNumber text m → IsNumber text n → m ≡ n
@@ -41,21 +51,25 @@ one-count text (Some m) (Some n) p q = ap (λ (k : ℕ). Some k) (one-number tex
 
 -- ---- no fault
 
-pub no-fault : (b : List ℕ) (h : FixedPart) → IsFixedHeader b h → (e : HeaderFault) → ¬ FixedPartFails b e
+pub no-fault : (b : List ℕ) (h : FixedPart) → IsFixedHeader b h → (e : HeaderFault) →
+    ¬ FixedPartFails b e
 no-fault b h f Cut bad = omega (arith, f.len)
 no-fault b h f (Unprintable at) bad = bad.bad 0 (f.printable at 0 bad.within)
 no-fault b h f Version bad = bad f.version
 no-fault b h f Patient bad = bad (rw (sym f.patient) f.is_patient)
 no-fault b h f Recording bad = bad h.startdate h.after f.recording
-no-fault b h f Startdate bad = has-startdate b h.startdate h.after f.recording (has-form (field b 168 8) h.startdate f.start.0 f.start.2) bad
+no-fault b h f Startdate bad = has-startdate b h.startdate h.after f.recording
+    (has-form (field b 168 8) h.startdate f.start.0 f.start.2) bad
 no-fault b h f Starttime bad = bad f.start.1 f.start.3
-no-fault b h f DatesDiffer bad = same-startdates b h.startdate h.after f.start.0 f.recording f.start.2 bad
+no-fault b h f DatesDiffer bad = same-startdates b h.startdate h.after f.start.0 f.recording
+    f.start.2 bad
 no-fault b h f NotPlus bad = bad f.reserved
 no-fault b h f Count bad = bad (h.count, f.count)
 no-fault b h f Duration bad = bad f.is_duration.0 (rw (sym f.duration) f.is_duration.1)
 no-fault b h f Signals bad = bad h.signal_count (f.signals, f.signals_from, f.signals_to)
 no-fault b h f HeaderBytes bad =
-    let same : bad.0 ≡ h.signal_count = one-number (field b 252 4) bad.0 h.signal_count bad.1.0 f.signals in
+    let same : bad.0 ≡ h.signal_count =
+    one-number (field b 252 4) bad.0 h.signal_count bad.1.0 f.signals in
     bad.2 (rw same f.header_bytes)
 no-fault b h f CutSignals bad = bad
 no-fault b h f (UnprintableSignals at) bad = bad
@@ -73,18 +87,30 @@ fixed-clean b h f e lt = no-fault b h f e
 
 pub one-fixed : (b : List ℕ) (h g : FixedPart) → IsFixedHeader b h → IsFixedHeader b g → h ≡ g
 one-fixed b h g p q =
-    let recording = one-after (field b 88 80) h.startdate g.startdate h.after g.after p.recording.front q.recording.front in
+    let recording = one-after (field b 88 80) h.startdate g.startdate h.after g.after
+    p.recording.front q.recording.front in
     let patient = p.patient ∙ sym q.patient in
     let start = one-start (field b 168 8) (field b 176 8) g.startdate h.start g.start
-    (subst (λ (s : Option ℤ). IsCivil (field b 168 8) (field b 176 8) s h.start) recording.0 p.start) q.start in
+    (subst (λ (s : Option ℤ). IsCivil (field b 168 8) (field b 176 8) s h.start) recording.0
+    p.start) q.start in
     let count = one-count (field b 236 8) h.count g.count p.count q.count in
     let duration = p.duration ∙ sym q.duration in
     let signals = one-number (field b 252 4) h.signal_count g.signal_count p.signals q.signals in
-    λ i. record { patient = patient i; startdate = recording.0 i; after = recording.1 i; start = start i; count = count i; duration = duration i; signal_count = signals i }
+    λ i. record {
+      patient = patient i;
+      startdate = recording.0 i;
+      after = recording.1 i;
+      start =
+          start i;
+      count = count i;
+      duration = duration i;
+      signal_count = signals i;
+    }
 
 -- ---- one fault
 
-one-first-bad : (P : ℕ → Type 0) (xs : List ℕ) (a b : ℕ) → IsFirstBad P xs a → IsFirstBad P xs b → a ≡ b
+one-first-bad : (P : ℕ → Type 0) (xs : List ℕ) (a b : ℕ) → IsFirstBad P xs a → IsFirstBad P xs b →
+    a ≡ b
 one-first-bad P xs a b p q =
     elim (cases_lt a b) [
       | inl lt ↦ absurd (p.bad 0 (q.good a 0 (omega arith) lt))
@@ -102,10 +128,15 @@ spot e = 0
 -- a fault of the fixed part, by its number and its offset
 abbrev fault_at : ℕ → ℕ → HeaderFault
 fault_at n at =
-    cond (eqb n 1) Cut (cond (eqb n 2) (Unprintable at) (cond (eqb n 3) Version (cond (eqb n 4) Patient (cond (eqb n 5) Recording (cond (eqb n 6) Startdate (cond (eqb n 7) Starttime
-    (cond (eqb n 8) DatesDiffer (cond (eqb n 9) NotPlus (cond (eqb n 10) Count (cond (eqb n 11) Duration (cond (eqb n 12) Signals HeaderBytes)))))))))))
+    cond (eqb n 1) Cut (cond (eqb n 2) (Unprintable at)
+    (cond (eqb n 3) Version (cond (eqb n 4) Patient
+    (cond (eqb n 5) Recording (cond (eqb n 6) Startdate (cond (eqb n 7) Starttime
+    (cond (eqb n 8) DatesDiffer (cond (eqb n 9) NotPlus
+    (cond (eqb n 10) Count (cond (eqb n 11) Duration
+    (cond (eqb n 12) Signals HeaderBytes)))))))))))
 
-placed : (b : List ℕ) (e : HeaderFault) → FixedPartFails b e → e ≡ fault_at (header_fault_number e) (spot e)
+placed : (b : List ℕ) (e : HeaderFault) → FixedPartFails b e →
+    e ≡ fault_at (header_fault_number e) (spot e)
 placed b Cut fails = refl
 placed b (Unprintable at) fails = refl
 placed b Version fails = refl
@@ -128,7 +159,8 @@ placed b (Samples at) fails = absurd fails
 placed b Size fails = absurd fails
 placed b Memory fails = absurd fails
 
-spot-bad : (b : List ℕ) (e : HeaderFault) → FixedPartFails b e → header_fault_number e ≡ 2 → IsFirstBad IsPrintable b (spot e)
+spot-bad : (b : List ℕ) (e : HeaderFault) → FixedPartFails b e → header_fault_number e ≡ 2 →
+    IsFirstBad IsPrintable b (spot e)
 spot-bad b (Unprintable at) fails same = fails
 spot-bad b e fails same = absurd (omega arith)
 
@@ -136,7 +168,8 @@ spot-none : (b : List ℕ) (e : HeaderFault) → (header_fault_number e ≡ 2 �
 spot-none b (Unprintable at) other = absurd (other refl)
 spot-none b e other = refl
 
-same-number : (b : List ℕ) (e f : HeaderFault) → IsFirst (FixedPartFails b) e → IsFirst (FixedPartFails b) f → header_fault_number e ≡ header_fault_number f
+same-number : (b : List ℕ) (e f : HeaderFault) → IsFirst (FixedPartFails b) e →
+    IsFirst (FixedPartFails b) f → header_fault_number e ≡ header_fault_number f
 same-number b e f p q =
     elim (cases_lt (header_fault_number e) (header_fault_number f)) [
       | inl lt ↦ absurd (q.1 e lt p.0)
@@ -146,14 +179,17 @@ same-number b e f p q =
       ]
     ]
 
-pub one-fault : (b : List ℕ) (e f : HeaderFault) → IsFirst (FixedPartFails b) e → IsFirst (FixedPartFails b) f → e ≡ f
+pub one-fault : (b : List ℕ) (e f : HeaderFault) → IsFirst (FixedPartFails b) e →
+    IsFirst (FixedPartFails b) f → e ≡ f
 one-fault b e f p q =
     let same = same-number b e f p q in
     let spots : spot e ≡ spot f = elim (cases_eq (header_fault_number e) 2) [
-      | inl two ↦ one-first-bad IsPrintable b (spot e) (spot f) (spot-bad b e p.0 two) (spot-bad b f q.0 (sym same ∙ two))
+      | inl two ↦ one-first-bad IsPrintable b (spot e) (spot f) (spot-bad b e p.0 two)
+          (spot-bad b f q.0 (sym same ∙ two))
       | inr other ↦ spot-none b e other ∙ sym (spot-none b f (λ two. other (same ∙ two)))
     ] in
-    placed b e p.0 ∙ ap (λ (n : ℕ). fault_at n (spot e)) same ∙ ap (fault_at (header_fault_number f)) spots ∙ sym (placed b f q.0)
+    placed b e p.0 ∙ ap (λ (n : ℕ). fault_at n (spot e)) same
+    ∙ ap (fault_at (header_fault_number f)) spots ∙ sym (placed b f q.0)
 
 -- ---- the bounds
 
@@ -166,12 +202,15 @@ All-field P b at len all = All-take P len (drop at b) (All-drop P at b all)
 digit-value : (b : ℕ) → is_ascii_digit b ≡ true → digit_value b < 10
 digit-value b h = grind (arith, nat_tests)
 
-digit-more : (x : ℕ) (xs : List ℕ) (d : Bool) → is_ascii_digit x ≡ d → AllDigits 10 (digits xs) → AllDigits 10 (digits (x ∷ xs))
+digit-more : (x : ℕ) (xs : List ℕ) (d : Bool) → is_ascii_digit x ≡ d → AllDigits 10 (digits xs) →
+    AllDigits 10 (digits (x ∷ xs))
 digit-more x xs true e more =
-    let n : prefix_len is_ascii_digit (x ∷ xs) ≡ suc (digits_len xs) = ap (λ (d : Bool). cond d (1 + digits_len xs) 0) e ∙ one-add (digits_len xs) in
+    let n : prefix_len is_ascii_digit (x ∷ xs) ≡ suc (digits_len xs) =
+    ap (λ (d : Bool). cond d (1 + digits_len xs) 0) e ∙ one-add (digits_len xs) in
     subst (λ (k : ℕ). AllDigits 10 (take k (x ∷ xs))) (sym n) (digit-value x e, more)
 digit-more x xs false e more =
-    let n : prefix_len is_ascii_digit (x ∷ xs) ≡ 0 = ap (λ (d : Bool). cond d (1 + digits_len xs) 0) e in
+    let n : prefix_len is_ascii_digit (x ∷ xs) ≡ 0 =
+    ap (λ (d : Bool). cond d (1 + digits_len xs) 0) e in
     subst (λ (k : ℕ). AllDigits 10 (take k (x ∷ xs))) (sym n) tt
 
 digits-all : (text : List ℕ) → AllDigits 10 (digits text)
@@ -186,35 +225,43 @@ whole-fits text short =
     let most : 10 ^ length (digits text) ≤ 10 ^ 8 = pow-le-pow_right ten few in
     omega (arith, lt, most)
 
-count-range : (text : List ℕ) (count : Option ℕ) → length text ≤ 8 → IsCount text count → IsCountInRange count
+count-range : (text : List ℕ) (count : Option ℕ) → length text ≤ 8 → IsCount text count →
+    IsCountInRange count
 count-range text None short is = (omega arith, omega arith)
 count-range text (Some n) short is = (is.1, omega (arith, is.0.value, whole-fits text short))
 
-after-len : (f : List ℕ) (s : Option ℤ) (after : List ℕ) → length f ≡ 80 → IsStartdate f s after → length after ≡ cond (is_dated s) 59 69
+after-len : (f : List ℕ) (s : Option ℤ) (after : List ℕ) → length f ≡ 80 → IsStartdate f s after →
+    length after ≡ cond (is_dated s) 59 69
 after-len f None after len p = ap length p.1 ∙ omega (arith, length-drop 11 f)
 after-len f (Some day) after len p = ap length p.2 ∙ omega (arith, length-drop 21 f)
 
-after-printable : (f : List ℕ) (s : Option ℤ) (after : List ℕ) → All IsPrintable f → IsStartdate f s after → All IsPrintable after
+after-printable : (f : List ℕ) (s : Option ℤ) (after : List ℕ) → All IsPrintable f →
+    IsStartdate f s after → All IsPrintable after
 after-printable f None after all p = rw p.1 (All-drop IsPrintable 11 f all)
 after-printable f (Some day) after all p = rw p.2 (All-drop IsPrintable 21 f all)
 
 -- without a date in the Startdate subfield two digits name the year
-undated-start : (date time : List ℕ) (s : Option ℤ) (start : ℕ) → IsCivil date time s start → MayStartBy (is_dated s) start
+undated-start : (date time : List ℕ) (s : Option ℤ) (start : ℕ) → IsCivil date time s start →
+    MayStartBy (is_dated s) start
 undated-start date time None start is undated = start-two_digits date time start is
-undated-start date time (Some day) start is undated = absurd (let never : true ≡ false = undated in cc)
+undated-start date time (Some day) start is undated =
+    absurd (let never : true ≡ false = undated in cc)
 
 pub is-fixed : (b : List ℕ) (h : FixedPart) → IsFixedHeader b h → IsFixed h
 is-fixed b h f = record {
   patient_len = ap length f.patient ∙ length-field b 8 80 (omega (arith, f.len));
   patient_printable = rw f.patient (All-field IsPrintable b 8 80 f.printable);
   is_patient = f.is_patient;
-  after_len = after-len (field b 88 80) h.startdate h.after (length-field b 88 80 (omega (arith, f.len))) f.recording.front;
-  after_printable = after-printable (field b 88 80) h.startdate h.after (All-field IsPrintable b 88 80 f.printable) f.recording.front;
+  after_len = after-len (field b 88 80) h.startdate h.after
+      (length-field b 88 80 (omega (arith, f.len))) f.recording.front;
+  after_printable = after-printable (field b 88 80) h.startdate h.after
+      (All-field IsPrintable b 88 80 f.printable) f.recording.front;
   is_behind = f.recording.behind;
   in_window = (start-parts (field b 168 8) (field b 176 8) h.startdate h.start f.start).in_window;
   may_start = undated-start (field b 168 8) (field b 176 8) h.startdate h.start f.start;
   whole_second = omega (arith, f.start.4);
-  count = count-range (field b 236 8) h.count (omega (arith, length-field b 236 8 (omega (arith, f.len)))) f.count;
+  count = count-range (field b 236 8) h.count
+      (omega (arith, length-field b 236 8 (omega (arith, f.len)))) f.count;
   duration_len = ap length f.duration ∙ length-field b 244 8 (omega (arith, f.len));
   duration_printable = rw f.duration (All-field IsPrintable b 244 8 f.printable);
   is_duration = f.is_duration;

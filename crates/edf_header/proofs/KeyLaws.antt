@@ -9,7 +9,8 @@ pub one-key : (k other : Key) → IsKey k → IsKey other → key_bytes k ≡ ke
 one-key k other p q same = sym (key-back k p.sized) ∙ ap key_at same ∙ key-back other q.sized
 
 pub key-duration-some : (k : Key) → IsKey k → 0 < duration_of k.duration
-key-duration-some k i = subst (λ (n : ℕ). 0 < n) (duration-value k.duration i.duration.0 i.duration.1) i.duration.1.some
+key-duration-some k i = subst (λ (n : ℕ). 0 < n)
+    (duration-value k.duration i.duration.0 i.duration.1) i.duration.1.some
 
 pub key-duration-bound : (k : Key) → IsKey k → duration_of k.duration ≤ 10 ^ 17
 key-duration-bound k i =

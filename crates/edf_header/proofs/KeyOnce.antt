@@ -5,10 +5,15 @@ use Rattle.edf_header.specs.Identity.{IsFirstKeyFault, KeyFails, place_in_order,
 use Rattle.edf_field.specs.Text.{IsPrintable}
 use Rattle.edf_header.specs.declared.signal_checks.Check.TheVariants as checks
 use Rattle.edf_header.specs.declared.identity.IdentityFault.{IdentityFault}
-use Rattle.edf_header.specs.declared.identity.IdentityFault.TheVariants.{Length, Unprintable, Patient, Recording, Duration, Label, Physical, Digital, Samples, Size, Memory}
+use Rattle.edf_header.specs.declared.identity.IdentityFault.TheVariants.{Length, Unprintable}
+use Rattle.edf_header.specs.declared.identity.IdentityFault.TheVariants.{Patient, Recording}
+use Rattle.edf_header.specs.declared.identity.IdentityFault.TheVariants.{Duration, Label, Physical}
+use Rattle.edf_header.specs.declared.identity.IdentityFault.TheVariants.{Digital, Samples, Size}
+use Rattle.edf_header.specs.declared.identity.IdentityFault.TheVariants.{Memory}
 use Rattle.edf_header.proofs.SpelledOnce.{one-first-bad, one-bad-signal}
 
-same-place : (b : List ℕ) (e f : IdentityFault) → IsFirstKeyFault b e → IsFirstKeyFault b f → place_in_order e ≡ place_in_order f
+same-place : (b : List ℕ) (e f : IdentityFault) → IsFirstKeyFault b e → IsFirstKeyFault b f →
+    place_in_order e ≡ place_in_order f
 same-place b e f p q =
     elim (cases_lt (place_in_order e) (place_in_order f)) [
       | inl lt ↦ absurd (q.1 e lt p.0)
@@ -18,10 +23,12 @@ same-place b e f p q =
       ]
     ]
 
-same-fault : (b : List ℕ) (e f : IdentityFault) → place_in_order e ≡ place_in_order f → KeyFails b e → KeyFails b f → e ≡ f
+same-fault : (b : List ℕ) (e f : IdentityFault) → place_in_order e ≡ place_in_order f →
+    KeyFails b e → KeyFails b f → e ≡ f
 same-fault b Length Length same p q = refl
 same-fault b Length f same p q = absurd (omega arith)
-same-fault b (Unprintable x) (Unprintable y) same p q = ap (λ (o : ℕ). Unprintable o) (one-first-bad IsPrintable 0 b x y p q)
+same-fault b (Unprintable x) (Unprintable y) same p q =
+    ap (λ (o : ℕ). Unprintable o) (one-first-bad IsPrintable 0 b x y p q)
 same-fault b (Unprintable x) f same p q = absurd (omega arith)
 same-fault b Patient Patient same p q = refl
 same-fault b Patient f same p q = absurd (omega arith)
@@ -29,18 +36,23 @@ same-fault b Recording Recording same p q = refl
 same-fault b Recording f same p q = absurd (omega arith)
 same-fault b Duration Duration same p q = refl
 same-fault b Duration f same p q = absurd (omega arith)
-same-fault b (Label x) (Label y) same p q = ap (λ (o : ℕ). Label o) (one-bad-signal checks.Label (signals_at b) x y p q)
+same-fault b (Label x) (Label y) same p q =
+    ap (λ (o : ℕ). Label o) (one-bad-signal checks.Label (signals_at b) x y p q)
 same-fault b (Label x) f same p q = absurd (omega arith)
-same-fault b (Physical x) (Physical y) same p q = ap (λ (o : ℕ). Physical o) (one-bad-signal checks.Physical (signals_at b) x y p q)
+same-fault b (Physical x) (Physical y) same p q =
+    ap (λ (o : ℕ). Physical o) (one-bad-signal checks.Physical (signals_at b) x y p q)
 same-fault b (Physical x) f same p q = absurd (omega arith)
-same-fault b (Digital x) (Digital y) same p q = ap (λ (o : ℕ). Digital o) (one-bad-signal checks.Digital (signals_at b) x y p q)
+same-fault b (Digital x) (Digital y) same p q =
+    ap (λ (o : ℕ). Digital o) (one-bad-signal checks.Digital (signals_at b) x y p q)
 same-fault b (Digital x) f same p q = absurd (omega arith)
-same-fault b (Samples x) (Samples y) same p q = ap (λ (o : ℕ). Samples o) (one-bad-signal checks.Samples (signals_at b) x y p q)
+same-fault b (Samples x) (Samples y) same p q =
+    ap (λ (o : ℕ). Samples o) (one-bad-signal checks.Samples (signals_at b) x y p q)
 same-fault b (Samples x) f same p q = absurd (omega arith)
 same-fault b Size Size same p q = refl
 same-fault b Size f same p q = absurd (omega arith)
 same-fault b Memory Memory same p q = refl
 same-fault b Memory f same p q = absurd (omega arith)
 
-pub one-key-fault : (b : List ℕ) (e f : IdentityFault) → IsFirstKeyFault b e → IsFirstKeyFault b f → e ≡ f
+pub one-key-fault : (b : List ℕ) (e f : IdentityFault) → IsFirstKeyFault b e → IsFirstKeyFault b f →
+    e ≡ f
 one-key-fault b e f p q = same-fault b e f (same-place b e f p q) p.0 q.0

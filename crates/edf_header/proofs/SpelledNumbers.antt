@@ -16,16 +16,24 @@ digits-printable : (ds : List ℕ) → AllDigits 10 ds → All IsPrintable ds
 digits-printable [] all = All-nil IsPrintable
 digits-printable (d ∷ ds) all =
     let b = digit_only d all.0 in
-    All-cons IsPrintable d ds (record { from = omega arith; to = omega arith }) (digits-printable ds all.1)
+    All-cons IsPrintable d ds (record { from = omega arith; to = omega arith })
+    (digits-printable ds all.1)
 
 pub spaces-printable : (n : ℕ) → All IsPrintable (spaces n)
-spaces-printable n = All-replicate IsPrintable n 32 (record { from = omega arith; to = omega arith })
+spaces-printable n = All-replicate IsPrintable n 32
+    (record { from = omega arith; to = omega arith })
 
 -- a text that is filled up
-pub padded-printed : (width : ℕ) (text : List ℕ) → length text ≤ width → All IsPrintable text → IsPrinted width (padded_to width text)
+pub padded-printed : (width : ℕ) (text : List ℕ) → length text ≤ width → All IsPrintable text →
+    IsPrinted width (padded_to width text)
 padded-printed width text fits all = record {
-  len = omega (arith, length-append text (spaces (width - length text)), length-replicate {A = ℕ} (width - length text) 32);
-  printable = All-append IsPrintable text (spaces (width - length text)) all (spaces-printable (width - length text));
+  len = omega (
+    arith,
+    length-append text (spaces (width - length text)),
+    length-replicate {A = ℕ} (width - length text) 32,
+  );
+  printable = All-append IsPrintable text (spaces (width - length text)) all
+      (spaces-printable (width - length text));
 }
 
 -- a number without leading zeros in a field that it fits
@@ -33,10 +41,12 @@ pub record IsNumberField (width n : ℕ) (text : List ℕ) : Type 0 where
   pub printed : IsPrinted width text
   pub number : IsNumber text n
 
-pub number-field : (width n : ℕ) → 0 < width → n < 10 ^ width → n < 2 ^ 64 → IsNumberField width n (padded_to width (decimal n))
+pub number-field : (width n : ℕ) → 0 < width → n < 10 ^ width → n < 2 ^ 64 →
+    IsNumberField width n (padded_to width (decimal n))
 number-field width n some fits small =
     let d = decimal_is_IsNumeral n small in
     record {
-      printed = padded-printed width (decimal n) (length-decimal-le width n some fits small) (digits-printable (decimal n) d.0.1);
+      printed = padded-printed width (decimal n) (length-decimal-le width n some fits small)
+          (digits-printable (decimal n) d.0.1);
       number = numeral-number (decimal n) (width - length (decimal n)) n d.0 d.1;
     }

@@ -1,5 +1,6 @@
 -- The one header that a canonical file has.
-use Rattle.std.specs.Prelude.{◌≡◌, ℕ, ◌+◌, ◌*◌, List, [], ◌∷◌, ◌++◌, length, codes, if◌then◌else◌, pos}
+use Rattle.std.specs.Prelude.{◌≡◌, ℕ, ◌+◌, ◌*◌, List, [], ◌∷◌, ◌++◌, length, codes, if◌then◌else◌}
+use Rattle.std.specs.Prelude.{pos}
 use Rattle.std.specs.Fmt.{decimal}
 use Rattle.edf_time.specs.Civil.{IsIdDate, IsDateField, IsTimeText, day_of, second_of_day}
 use Rattle.edf_field.specs.Text.{spaces, padded_to}
@@ -9,8 +10,10 @@ use Rattle.edf_header.specs.Key.{Key}
 -- the annotations signal of a canonical file
 abbrev pub annotations_signal : ℕ → List ℕ
 annotations_signal samples =
-    codes "EDF Annotations " ++ (spaces 80 ++ (spaces 8 ++ (padded_to 8 (codes "-1") ++ (padded_to 8 (codes "1")
-    ++ (padded_to 8 (codes "-32768") ++ (padded_to 8 (codes "32767") ++ (spaces 80 ++ (padded_to 8 (decimal samples) ++ spaces 32))))))))
+    codes "EDF Annotations " ++ (spaces 80
+    ++ (spaces 8 ++ (padded_to 8 (codes "-1") ++ (padded_to 8 (codes "1")
+    ++ (padded_to 8 (codes "-32768") ++ (padded_to 8 (codes "32767")
+    ++ (spaces 80 ++ (padded_to 8 (decimal samples) ++ spaces 32))))))))
 
 -- its signals: the ordinary ones in order, then the annotations signal
 abbrev pub canonical_signals : Key → ℕ → List (List ℕ)
@@ -29,4 +32,5 @@ pub record IsCanonicalHeader (bytes : List ℕ) (k : Key) (start count samples :
       ++ (codes "Startdate " ++ ((if k.dated then id_date else codes "X") ++ (k.after
       ++ (date ++ (time ++ (padded_to 8 (decimal (256 + 256 * length (canonical_signals k samples)))
       ++ (padded_to 44 (codes "EDF+D") ++ (padded_to 8 (decimal count) ++ (k.duration
-      ++ (padded_to 4 (decimal (length (canonical_signals k samples))) ++ columns (canonical_signals k samples))))))))))))
+      ++ (padded_to 4 (decimal (length (canonical_signals k samples)))
+      ++ columns (canonical_signals k samples))))))))))))

@@ -1,15 +1,27 @@
--- When a header is refused: each fault with its number and its condition, and the first in the order of the numbers.
-use Rattle.std.specs.Prelude.{◌≡◌, ◌≢◌, ℕ, ◌+◌, ◌*◌, ◌≤◌, ◌<◌, ◌⊎◌, List, length, codes, take, All, ℤ, Option, Some, None}
+-- When a header is refused: each fault with its number and its condition, and the first in the
+-- order of the numbers.
+use Rattle.std.specs.Prelude.{◌≡◌, ◌≢◌, ℕ, ◌+◌, ◌*◌, ◌≤◌, ◌<◌, ◌⊎◌, List, length, codes, take, All}
+use Rattle.std.specs.Prelude.{ℤ, Option, Some, None}
 use Rattle.edf_time.specs.Civil.{IsDateText, IsYearlessText, AreStartdates, HasDateForm, IsTimeText}
 use Rattle.edf_field.specs.Number.{field, IsDuration, IsNumber}
 use Rattle.edf_field.specs.Text.{IsPrintable, IsPatient, IsRecording}
-use Rattle.edf_header.specs.Fields.{version_field, patient_field, recording_field, startdate_field, starttime_field, header_bytes_field, reserved_field, count_field, duration_field, signals_field}
-use Rattle.edf_header.specs.Signal.{signals_of, labelled, ordinary, samples_in_all, IsAnnotationsSignal, Passes, IsFirstBad}
+use Rattle.edf_header.specs.Fields.{version_field, patient_field, recording_field, startdate_field}
+use Rattle.edf_header.specs.Fields.{starttime_field, header_bytes_field, reserved_field}
+use Rattle.edf_header.specs.Fields.{count_field, duration_field, signals_field}
+use Rattle.edf_header.specs.Signal.{signals_of, labelled, ordinary, samples_in_all}
+use Rattle.edf_header.specs.Signal.{IsAnnotationsSignal, Passes, IsFirstBad}
 use Rattle.edf_header.specs.Header.{IsPlus, IsCount}
 use Rattle.edf_header.specs.declared.signal_checks.Check.{Check}
 use Rattle.edf_header.specs.declared.signal_checks.Check.TheVariants as checks
 use Rattle.edf_header.specs.declared.fault.HeaderFault.{HeaderFault}
-use Rattle.edf_header.specs.declared.fault.HeaderFault.TheVariants.{Cut, Unprintable, Version, Patient, Recording, Startdate, Starttime, DatesDiffer, NotPlus, Count, Duration, Signals, HeaderBytes, CutSignals, UnprintableSignals, Annotations, Physical, Digital, Samples, Size, Memory}
+use Rattle.edf_header.specs.declared.fault.HeaderFault.TheVariants.{Cut, Unprintable, Version}
+use Rattle.edf_header.specs.declared.fault.HeaderFault.TheVariants.{Patient, Recording, Startdate}
+use Rattle.edf_header.specs.declared.fault.HeaderFault.TheVariants.{Starttime, DatesDiffer, NotPlus}
+use Rattle.edf_header.specs.declared.fault.HeaderFault.TheVariants.{Count, Duration, Signals}
+use Rattle.edf_header.specs.declared.fault.HeaderFault.TheVariants.{HeaderBytes, CutSignals}
+use Rattle.edf_header.specs.declared.fault.HeaderFault.TheVariants.{UnprintableSignals, Annotations}
+use Rattle.edf_header.specs.declared.fault.HeaderFault.TheVariants.{Physical, Digital, Samples}
+use Rattle.edf_header.specs.declared.fault.HeaderFault.TheVariants.{Size, Memory}
 
 abbrev pub HasCount : List ℕ → Type 0
 HasCount b = (count : Option ℕ) × IsCount (count_field b) count
@@ -40,10 +52,11 @@ IsNoStartdate date = ((days : ℕ) → ¬ IsDateText date days) × ¬ IsYearless
 
 -- the startdate has the letters yy, and the Startdate subfield is X
 abbrev pub HasNoYear : List ℕ → Type 0
-HasNoYear b = IsYearlessText (startdate_field b) × ((after : List ℕ) × IsRecording (recording_field b) None after)
+HasNoYear b = IsYearlessText (startdate_field b)
+    × ((after : List ℕ) × IsRecording (recording_field b) None after)
 
--- the Startdate subfield is a date, and not the startdate's: another day; or, with the letters yy, another day or month, or a
--- year outside 2085 to 2184
+-- the Startdate subfield is a date, and not the startdate's: another day; or, with the letters yy,
+-- another day or month, or a year outside 2085 to 2184
 pub record DatesAreOther (b : List ℕ) : Type 0 where
   pub day : ℤ
   pub after : List ℕ
@@ -51,8 +64,8 @@ pub record DatesAreOther (b : List ℕ) : Type 0 where
   pub form : HasDateForm (startdate_field b) (Some day)
   pub other : (days : ℕ) → ¬ AreStartdates (startdate_field b) (Some day) days
 
--- at least one signal has the label of annotations signals, each of these has what an annotations signal must have, and at least
--- one signal has not the label
+-- at least one signal has the label of annotations signals, each of these has what an annotations
+-- signal must have, and at least one signal has not the label
 pub record HasAnnotations (signals : List (List ℕ)) : Type 0 where
   pub annotations_some : 1 ≤ length (labelled signals)
   pub annotations : All IsAnnotationsSignal (labelled signals)
@@ -60,14 +73,17 @@ pub record HasAnnotations (signals : List (List ℕ)) : Type 0 where
 
 -- the signal that counts from 1 is the first that does not pass
 abbrev pub IsBadSignal : Check → List (List ℕ) → ℕ → Type 0
-IsBadSignal check signals signal = (at : ℕ) × IsFirstBad (Passes check) signals at × (signal ≡ at + 1)
+IsBadSignal check signals signal = (at : ℕ) × IsFirstBad (Passes check) signals at
+    × (signal ≡ at + 1)
 
 -- the ordinary signals, or the annotations signals, have too many bytes in a data record
 abbrev pub IsTooLarge : List (List ℕ) → Type 0
 IsTooLarge signals =
-    (4_194_304 < 2 * samples_in_all (ordinary signals)) ⊎ (4_194_304 < 2 * samples_in_all (labelled signals))
+    (4_194_304 < 2 * samples_in_all (ordinary signals))
+    ⊎ (4_194_304 < 2 * samples_in_all (labelled signals))
 
--- the first byte of the signal part that is not printable; its offset counts from the file's first byte
+-- the first byte of the signal part that is not printable; its offset counts from the file's first
+-- byte
 abbrev pub HasBadByteAt : List ℕ → ℕ → Type 0
 HasBadByteAt s offset = (at : ℕ) × IsFirstBad IsPrintable s at × (offset ≡ 256 + at)
 
@@ -136,8 +152,10 @@ IsFirst Holds fault = Holds fault × IsClean Holds (header_fault_number fault)
 abbrev pub IsHeaderFault : List ℕ → HeaderFault → Type 0
 IsHeaderFault bytes fault =
     IsFirst (FixedPartFails (take 256 bytes)) fault
-    ⊎ ((n : ℕ) × IsClean (FixedPartFails (take 256 bytes)) 14 × HasSignals bytes n × IsFirst (SignalsFail (field bytes 256 (256 * n)) n) fault)
+    ⊎ ((n : ℕ) × IsClean (FixedPartFails (take 256 bytes)) 14 × HasSignals bytes n
+    × IsFirst (SignalsFail (field bytes 256 (256 * n)) n) fault)
 
 -- why the signal part is not read: memory ran out, where it has no fault, or the first fault
 abbrev pub IsSignalsRefusal : List ℕ → ℕ → HeaderFault → Type 0
-IsSignalsRefusal s n fault = ((fault ≡ Memory) × IsClean (SignalsFail s n) 21) ⊎ IsFirst (SignalsFail s n) fault
+IsSignalsRefusal s n fault = ((fault ≡ Memory) × IsClean (SignalsFail s n) 21)
+    ⊎ IsFirst (SignalsFail s n) fault

@@ -33,10 +33,13 @@ duration_field bytes = field bytes 244 8
 abbrev pub signals_field : List ℕ → List ℕ
 signals_field bytes = field bytes 252 4
 
--- in a signal's row: label, transducer type, physical dimension, physical minimum and maximum, digital minimum and maximum,
--- prefiltering, samples per data record, reserved
+-- in a signal's row: label, transducer type, physical dimension, physical minimum and maximum,
+-- digital minimum and maximum, prefiltering, samples per data record, reserved
 abbrev pub fields : List (ℕ × ℕ)
-fields = (0, 16) ∷ (16, 80) ∷ (96, 8) ∷ (104, 8) ∷ (112, 8) ∷ (120, 8) ∷ (128, 8) ∷ (136, 80) ∷ (216, 8) ∷ (224, 32) ∷ []
+fields = (0, 16) ∷ (16, 80) ∷ (96, 8) ∷ (104, 8) ∷ (112, 8) ∷ (120, 8) ∷ (128, 8) ∷ (
+  136,
+  80,
+) ∷ (216, 8) ∷ (224, 32) ∷ []
 
 abbrev pub label_field : List ℕ → List ℕ
 label_field row = field row 0 16
@@ -56,8 +59,9 @@ digital_maximum_field row = field row 128 8
 abbrev pub samples_field : List ℕ → List ℕ
 samples_field row = field row 216 8
 
--- in the bytes of an identity: the patient field; D where the Startdate subfield is a date, X where it is X; what follows that
--- subfield; the spaces that follow where it is a date; the duration field; the rows of the signals
+-- in the bytes of an identity: the patient field; D where the Startdate subfield is a date, X where
+-- it is X; what follows that subfield; the spaces that follow where it is a date; the duration
+-- field; the rows of the signals
 abbrev pub key_patient_field : List ℕ → List ℕ
 key_patient_field bytes = field bytes 0 80
 

@@ -1,15 +1,21 @@
 -- What a header says, and when bytes spell it.
-use Rattle.std.specs.Prelude.{◌≡◌, ℕ, ◌+◌, ◌*◌, ◌%◌, ◌^◌, ◌≤◌, ◌<◌, ◌⊎◌, Bool, true, false, List, [], ◌∷◌, ◌++◌, length, take, sum_by, All, codes, ℤ, Option, Some, None, if◌then◌else◌}
+use Rattle.std.specs.Prelude.{◌≡◌, ℕ, ◌+◌, ◌*◌, ◌%◌, ◌^◌, ◌≤◌, ◌<◌, ◌⊎◌, Bool, true, false, List}
+use Rattle.std.specs.Prelude.{[], ◌∷◌, ◌++◌, length, take, sum_by, All, codes, ℤ, Option, Some}
+use Rattle.std.specs.Prelude.{None, if◌then◌else◌}
 use Rattle.edf_time.specs.Civil.{IsCivil, window}
 use Rattle.edf_field.specs.Number.{IsNumber, IsDuration}
 use Rattle.edf_field.specs.Text.{IsPrintable, IsPatient, FollowsStartdate, IsRecording, after_of}
-use Rattle.edf_header.specs.Fields.{version_field, patient_field, recording_field, startdate_field, starttime_field, header_bytes_field, reserved_field, count_field, duration_field, signals_field}
-use Rattle.edf_header.specs.Signal.{signals_of, has_label, labelled, ordinary, IsOrdinary, HasSamples, IsAnnotationsSignal, samples, samples_in_all}
+use Rattle.edf_header.specs.Fields.{version_field, patient_field, recording_field, startdate_field}
+use Rattle.edf_header.specs.Fields.{starttime_field, header_bytes_field, reserved_field}
+use Rattle.edf_header.specs.Fields.{count_field, duration_field, signals_field}
+use Rattle.edf_header.specs.Signal.{signals_of, has_label, labelled, ordinary, IsOrdinary}
+use Rattle.edf_header.specs.Signal.{HasSamples, IsAnnotationsSignal, samples, samples_in_all}
 use Rattle.edf_header.specs.Key.{Key, IsKey, MayStart, MayStartBy}
 use Rattle.edf_header.specs.declared.header.Block.{Block}
 
--- what the fixed part says: the patient field; the Startdate subfield's day, or none for X, and what follows it; the start in
--- nanoseconds; how many data records, or none where the count is -1; the duration field; how many signals
+-- what the fixed part says: the patient field; the Startdate subfield's day, or none for X, and
+-- what follows it; the start in nanoseconds; how many data records, or none where the count is -1;
+-- the duration field; how many signals
 pub record FixedPart : Type 0 where
   pub patient : List ℕ
   pub startdate : Option ℤ
@@ -37,9 +43,12 @@ fixed_from patient recording startdate start count duration signals = record {
 
 -- the same, of the fields in these 256 bytes
 abbrev pub fixed_at : List ℕ → Option ℤ → ℕ → Option ℕ → ℕ → FixedPart
-fixed_at bytes startdate start count signals = fixed_from (patient_field bytes) (recording_field bytes) startdate start count (duration_field bytes) signals
+fixed_at bytes startdate start count signals =
+    fixed_from (patient_field bytes) (recording_field bytes) startdate start count
+    (duration_field bytes) signals
 
--- the field of the count: a whole number from 1 on; or -1 and six spaces, and then as many data records as the file holds
+-- the field of the count: a whole number from 1 on; or -1 and six spaces, and then as many data
+-- records as the file holds
 abbrev pub IsCount : List ℕ → Option ℕ → Type 0
 IsCount field None = field ≡ codes "-1      "
 IsCount field (Some n) = IsNumber field n × (1 ≤ n)
@@ -101,7 +110,8 @@ pub record HeaderRecord : Type 0 where
   pub fixed : FixedPart
   pub signals : List (List ℕ)
 
--- 256 bytes a signal spell the header's signals, each field in its column; both kinds of signals are there
+-- 256 bytes a signal spell the header's signals, each field in its column; both kinds of signals
+-- are there
 pub record AreSignals (bytes : List ℕ) (h : HeaderRecord) : Type 0 where
   pub len : length bytes ≡ 256 * h.fixed.signal_count
   pub printable : All IsPrintable bytes
@@ -132,11 +142,16 @@ key_of h = record {
   signals = ordinary h.signals;
 }
 
--- the annotations blocks that signals have in a data record whose next byte is this one, in file order
+-- the annotations blocks that signals have in a data record whose next byte is this one, in file
+-- order
 abbrev pub blocks_from : ℕ → List (List ℕ) → List Block
 blocks_from at [] = []
 blocks_from at (row ∷ rows) =
-    if has_label row then record { at = at; bytes = 2 * samples row } ∷ blocks_from (at + 2 * samples row) rows
+    if has_label row then record {
+      at = at;
+      bytes =
+          2 * samples row;
+    } ∷ blocks_from (at + 2 * samples row) rows
     else blocks_from (at + 2 * samples row) rows
 
 -- what a header says of its data records: whose they are, from where their onsets count in
@@ -167,8 +182,9 @@ abbrev pub AreApart : ℕ → List Block → ℕ → Type 0
 AreApart from [] to = from ≤ to
 AreApart from (b ∷ bs) to = (from ≤ b.at) × AreApart (b.at + b.bytes) bs to
 
--- what each header's layout keeps: its start is one that the key's recording may have; there is a block, each has a sample at
--- least and lies in the record apart from the others, and the rest of the record are the ordinary samples
+-- what each header's layout keeps: its start is one that the key's recording may have; there is a
+-- block, each has a sample at least and lies in the record apart from the others, and the rest of
+-- the record are the ordinary samples
 pub record IsLayout (l : Layout) : Type 0 where
   pub key : IsKey l.key
   pub may_start : MayStart l.key l.start

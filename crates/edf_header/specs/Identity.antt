@@ -2,13 +2,18 @@
 use Rattle.std.specs.Prelude.{◌≡◌, ℕ, ◌+◌, ◌*◌, ◌≤◌, ◌<◌, ◌⊎◌, List, length}
 use Rattle.edf_field.specs.Number.{IsDuration, AreSpaces}
 use Rattle.edf_field.specs.Text.{IsPrintable, IsPatient, FollowsStartdate, spaces}
-use Rattle.edf_header.specs.Fields.{key_patient_field, key_mark, key_fill_field, key_duration_field, key_size_before_signals, key_signals_count, key_signals_part}
+use Rattle.edf_header.specs.Fields.{key_patient_field, key_mark, key_fill_field, key_duration_field}
+use Rattle.edf_header.specs.Fields.{key_size_before_signals, key_signals_count, key_signals_part}
 use Rattle.edf_header.specs.Signal.{rows, samples_in_all, IsFirstBad}
 use Rattle.edf_header.specs.Key.{key_at}
 use Rattle.edf_header.specs.Fault.{IsBadSignal}
 use Rattle.edf_header.specs.declared.signal_checks.Check.TheVariants as checks
 use Rattle.edf_header.specs.declared.identity.IdentityFault.{IdentityFault}
-use Rattle.edf_header.specs.declared.identity.IdentityFault.TheVariants.{Length, Unprintable, Patient, Recording, Duration, Label, Physical, Digital, Samples, Size, Memory}
+use Rattle.edf_header.specs.declared.identity.IdentityFault.TheVariants.{Length, Unprintable}
+use Rattle.edf_header.specs.declared.identity.IdentityFault.TheVariants.{Patient, Recording}
+use Rattle.edf_header.specs.declared.identity.IdentityFault.TheVariants.{Duration, Label, Physical}
+use Rattle.edf_header.specs.declared.identity.IdentityFault.TheVariants.{Digital, Samples, Size}
+use Rattle.edf_header.specs.declared.identity.IdentityFault.TheVariants.{Memory}
 
 -- 158 bytes, and 256 for each of 1 to 639 signals
 abbrev pub HasLength : List ℕ → Type 0

@@ -1,10 +1,12 @@
 -- To which recording a fragment belongs: the key, which fields have it, and its bytes.
-use Rattle.std.specs.Prelude.{◌≡◌, ℕ, ◌*◌, ◌≤◌, ◌<◌, ◌==◌, Bool, false, List, ◌∷◌, ◌++◌, length, All, if◌then◌else◌, [], slice_index_or}
+use Rattle.std.specs.Prelude.{◌≡◌, ℕ, ◌*◌, ◌≤◌, ◌<◌, ◌==◌, Bool, false, List, ◌∷◌, ◌++◌, length}
+use Rattle.std.specs.Prelude.{All, if◌then◌else◌, [], slice_index_or}
 use Rattle.std.specs.List.{flat_map}
 use Rattle.edf_time.specs.Civil.{two_digit_window}
 use Rattle.edf_field.specs.Number.{IsDuration}
 use Rattle.edf_field.specs.Text.{IsPrintable, IsPatient, FollowsStartdate, spaces, subfields}
-use Rattle.edf_header.specs.Fields.{key_patient_field, key_mark, key_after_field, key_duration_field, key_signals_count, key_signals_part}
+use Rattle.edf_header.specs.Fields.{key_patient_field, key_mark, key_after_field}
+use Rattle.edf_header.specs.Fields.{key_duration_field, key_signals_count, key_signals_part}
 use Rattle.edf_header.specs.Signal.{rows, IsOrdinary, HasSamples, samples_in_all}
 
 -- the patient field; whether the Startdate subfield is a date; what follows it, 59 bytes after a
@@ -29,7 +31,8 @@ dated_bytes dated after = if dated then 68 ∷ (after ++ spaces 10) else 88 ∷ 
 
 -- the identity's bytes: 158, and 256 for each signal
 abbrev pub key_bytes : Key → List ℕ
-key_bytes k = k.patient ++ (dated_bytes k.dated k.after ++ (k.duration ++ flat_map (λ s. s) k.signals))
+key_bytes k = k.patient ++ (dated_bytes k.dated k.after
+    ++ (k.duration ++ flat_map (λ s. s) k.signals))
 
 -- the key that such bytes stand for
 abbrev pub key_at : List ℕ → Key
@@ -54,7 +57,8 @@ pub record IsKey (k : Key) : Type 0 where
   pub each_samples : All HasSamples k.signals
   pub size : 2 * samples_in_all k.signals ≤ 4_194_304
 
--- a recording may start there: before 2085 where its Startdate subfield is X, since then two digits alone name the year
+-- a recording may start there: before 2085 where its Startdate subfield is X, since then two digits
+-- alone name the year
 abbrev pub MayStartBy : Bool → ℕ → Type 0
 MayStartBy dated start = dated ≡ false → start < two_digit_window
 

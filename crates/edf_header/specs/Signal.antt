@@ -1,12 +1,18 @@
 -- The headers of signals: each a row of 256 bytes, its ten fields one after the other; a file has
 -- them in columns.
-use Rattle.std.specs.Prelude.{◌≡◌, ℕ, ◌+◌, ◌*◌, ◌/◌, ◌≤◌, ◌<◌, zero, suc, Bool, not, List, [], ◌∷◌, length, take, drop, map, filter, sum_by, codes, pos, neg_ℤ, ◌<ℤ◌, ◌≤ℤ◌}
+use Rattle.std.specs.Prelude.{◌≡◌, ℕ, ◌+◌, ◌*◌, ◌/◌, ◌≤◌, ◌<◌, zero, suc, Bool, not, List, [], ◌∷◌}
+use Rattle.std.specs.Prelude.{length, take, drop, map, filter, sum_by, codes, pos, neg_ℤ, ◌<ℤ◌}
+use Rattle.std.specs.Prelude.{◌≤ℤ◌}
 use Rattle.std.specs.List.{flat_map, range_with_len, HoldsAt, AllWithin}
 use Rattle.std.specs.Str.{bytes_eq}
-use Rattle.edf_field.specs.Number.{field, IsWhole, whole_value, IsSigned, signed_value, IsPhysical, Differ}
-use Rattle.edf_header.specs.Fields.{fields, label_field, physical_minimum_field, physical_maximum_field, digital_minimum_field, digital_maximum_field, samples_field}
+use Rattle.edf_field.specs.Number.{field, IsWhole, whole_value, IsSigned, signed_value, IsPhysical}
+use Rattle.edf_field.specs.Number.{Differ}
+use Rattle.edf_header.specs.Fields.{fields, label_field, physical_minimum_field}
+use Rattle.edf_header.specs.Fields.{physical_maximum_field, digital_minimum_field}
+use Rattle.edf_header.specs.Fields.{digital_maximum_field, samples_field}
 use Rattle.edf_header.specs.declared.signal_checks.Check.{Check}
-use Rattle.edf_header.specs.declared.signal_checks.Check.TheVariants.{Label, Annotations, Physical, Digital, Samples}
+use Rattle.edf_header.specs.declared.signal_checks.Check.TheVariants.{Label, Annotations, Physical}
+use Rattle.edf_header.specs.declared.signal_checks.Check.TheVariants.{Digital, Samples}
 
 -- a field of all signals in turn
 abbrev pub column_of : ℕ × ℕ → List (List ℕ) → List ℕ
@@ -92,8 +98,8 @@ pub record IsOrdinary (row : List ℕ) : Type 0 where
   pub physical : HasPhysical row
   pub digital : HasDigital row
 
--- what each signal is checked for: that it is ordinary; that it is an annotations signal where it has the label; its physical
--- and its digital values where it has not; and its samples
+-- what each signal is checked for: that it is ordinary; that it is an annotations signal where it
+-- has the label; its physical and its digital values where it has not; and its samples
 abbrev pub Passes : Check → List ℕ → Type 0
 Passes Label row = ¬ IsLabelled row
 Passes Annotations row = IsLabelled row → IsAnnotationsSignal row

@@ -1,9 +1,11 @@
 -- A header spelled field by field, its annotations signal last.
-use Rattle.std.specs.Prelude.{◌≡◌, ℕ, ◌+◌, ◌*◌, ◌≤◌, Bool, List, ℤ, Option, Some, None, [], ◌∷◌, ◌++◌, length, All, codes, if◌then◌else◌, pos}
+use Rattle.std.specs.Prelude.{◌≡◌, ℕ, ◌+◌, ◌*◌, ◌≤◌, Bool, List, ℤ, Option, Some, None, [], ◌∷◌}
+use Rattle.std.specs.Prelude.{◌++◌, length, All, codes, if◌then◌else◌, pos}
 use Rattle.edf_time.specs.Civil.{AreStartdates, IsTimeText, IsIdDate}
 use Rattle.edf_field.specs.Text.{IsPrintable}
 use Rattle.edf_field.specs.Number.{IsNumber}
-use Rattle.edf_header.specs.Signal.{columns, samples, samples_in_all, IsAnnotationsSignal, HasSamples}
+use Rattle.edf_header.specs.Signal.{columns, samples, samples_in_all, IsAnnotationsSignal}
+use Rattle.edf_header.specs.Signal.{HasSamples}
 use Rattle.edf_header.specs.Key.{Key}
 use Rattle.edf_header.specs.Header.{HeaderRecord, Layout, IsHeader, IsPlus, layout_of}
 
@@ -33,30 +35,34 @@ pub record Texts : Type 0 where
 -- the header's bytes, field by field
 abbrev pub spelled_bytes : Key → Texts → List ℕ → List ℕ
 spelled_bytes k t row =
-    codes "0       " ++ (k.patient ++ (codes "Startdate " ++ (startdate_text k.dated t.id_date ++ (k.after ++ (t.date ++ (t.time
-    ++ (t.header_bytes ++ (t.reserved ++ (t.count ++ (k.duration ++ (t.signal_count ++ columns (k.signals ++ row ∷ []))))))))))))
+    codes "0       " ++ (k.patient ++ (codes "Startdate "
+    ++ (startdate_text k.dated t.id_date ++ (k.after ++ (t.date ++ (t.time
+    ++ (t.header_bytes ++ (t.reserved
+    ++ (t.count ++ (k.duration ++ (t.signal_count ++ columns (k.signals ++ row ∷ []))))))))))))
 
 -- what the texts say, and the annotations signal
-pub record IsSpelledBy (k : Key) (days seconds records : ℕ) (t : Texts) (row : List ℕ) : Type 0 where
-  pub date : AreStartdates t.date (startdate_day k.dated days) days
-  pub time : IsTimeText t.time seconds
-  pub id_date : IsIdDate t.id_date (pos days)
-  pub header_bytes_printed : IsPrinted 8 t.header_bytes
-  pub header_bytes : IsNumber t.header_bytes (256 + 256 * (length k.signals + 1))
-  pub reserved_printed : IsPrinted 44 t.reserved
-  pub reserved : IsPlus t.reserved
-  pub count_printed : IsPrinted 8 t.count
-  pub count : IsNumber t.count records
-  pub count_some : 1 ≤ records
-  pub signals_printed : IsPrinted 4 t.signal_count
-  pub signals : IsNumber t.signal_count (length k.signals + 1)
-  pub row_printed : IsPrinted 256 row
-  pub annotations : IsAnnotationsSignal row
-  pub row_samples : HasSamples row
-  pub block_size : 2 * samples row ≤ 4_194_304
+pub record IsSpelledBy (k : Key) (days seconds records : ℕ) (t : Texts) (row : List ℕ) : Type 0
+  where
+    pub date : AreStartdates t.date (startdate_day k.dated days) days
+    pub time : IsTimeText t.time seconds
+    pub id_date : IsIdDate t.id_date (pos days)
+    pub header_bytes_printed : IsPrinted 8 t.header_bytes
+    pub header_bytes : IsNumber t.header_bytes (256 + 256 * (length k.signals + 1))
+    pub reserved_printed : IsPrinted 44 t.reserved
+    pub reserved : IsPlus t.reserved
+    pub count_printed : IsPrinted 8 t.count
+    pub count : IsNumber t.count records
+    pub count_some : 1 ≤ records
+    pub signals_printed : IsPrinted 4 t.signal_count
+    pub signals : IsNumber t.signal_count (length k.signals + 1)
+    pub row_printed : IsPrinted 256 row
+    pub annotations : IsAnnotationsSignal row
+    pub row_samples : HasSamples row
+    pub block_size : 2 * samples row ≤ 4_194_304
 
 -- the bytes spell such a header
-pub record IsSpelledHeader (bytes : List ℕ) (k : Key) (days seconds records : ℕ) (row : List ℕ) : Type 0 where
+pub record IsSpelledHeader (bytes : List ℕ) (k : Key) (days seconds records : ℕ)
+    (row : List ℕ) : Type 0 where
   pub texts : Texts
   pub says : IsSpelledBy k days seconds records texts row
   pub parts : bytes ≡ spelled_bytes k texts row

@@ -10,16 +10,21 @@ use Rattle.edf_holdings.specs.Free.{Has}
 use Rattle.edf_holdings.specs.Laws.{AreSoundTold}
 use Rattle.edf_holdings.specs.Meaning.{FromAccepted, AfterHasAccepted, RefusedChangesNothing}
 use Rattle.edf_holdings.proofs.Members.{In, in_joined}
-use Rattle.edf_holdings.proofs.Joining.{IsGood, IsGood-from_sound, In-from_Contains, Contains-from_In, put_cases, MayJoin-from_fits, fits_from_MayJoin}
-use Rattle.edf_holdings.proofs.Settled.{IsGood-one, IsGood-after, after-append, after_grows, sound_front, sound_back}
+use Rattle.edf_holdings.proofs.Joining.{IsGood, IsGood-from_sound, In-from_Contains}
+use Rattle.edf_holdings.proofs.Joining.{Contains-from_In, put_cases, MayJoin-from_fits}
+use Rattle.edf_holdings.proofs.Joining.{fits_from_MayJoin}
+use Rattle.edf_holdings.proofs.Settled.{IsGood-one, IsGood-after, after-append, after_grows}
+use Rattle.edf_holdings.proofs.Settled.{sound_front, sound_back}
 use Rattle.edf_holdings.proofs.Replies.{accepted_from_MayJoin, MayJoin-from_accepted}
 use Rattle.edf_holdings.proofs.Free.{put_has}
 
 -- one submission
 record Met (cap : ℕ) (h : Holdings) (t : Told) : Type 0 where
   same : (IsAccepted (reply cap h t) → ⊥) → after_one cap h t ≡ h
-  adds : (k : Key) (y : DataRecord) → In y (after_one cap h t k) → In y (h k) ⊎ (IsAccepted (reply cap h t) × Has k y t)
-  has : (k : Key) (y : DataRecord) → IsAccepted (reply cap h t) → Has k y t → In y (after_one cap h t k)
+  adds : (k : Key) (y : DataRecord) → In y (after_one cap h t k) → In y (h k)
+      ⊎ (IsAccepted (reply cap h t) × Has k y t)
+  has : (k : Key) (y : DataRecord) → IsAccepted (reply cap h t) → Has k y t →
+      In y (after_one cap h t k)
 
 met : (cap : ℕ) (h : Holdings) (t : Told) → IsSoundTold t → IsGood cap h → Met cap h t
 unfolding after_one
@@ -30,18 +35,29 @@ met cap h (Fault fault) w g = record {
 }
 met cap h (Fragment key records) w g = elim (cases_Bool (fits cap key records h)) [
   | inl t ↦
-      let a : after_one cap h (Fragment key records) ≡ put key records h = cond-true (fits cap key records h) (put key records h) h t in
-      let i : IsAccepted (reply cap h (Fragment key records)) = subst IsAccepted (sym (accepted_from_MayJoin cap h key records w g (MayJoin-from_fits cap key records h t))) tt in
+      let a : after_one cap h (Fragment key records) ≡ put key records h =
+      cond-true (fits cap key records h) (put key records h) h t in
+      let i : IsAccepted (reply cap h (Fragment key records)) =
+      subst IsAccepted (sym (accepted_from_MayJoin cap h key records w g
+      (MayJoin-from_fits cap key records h t))) tt in
       record {
         same = λ n. absurd (n i);
-        adds = λ k y m. put_cases key records h (λ q l. In y l → In y (h q) ⊎ (IsAccepted (reply cap h (Fragment key records)) × Has q y (Fragment key records)))
-            (λ p. elim (in_joined y (h key) records p) [ inl q ↦ inl q | inr q ↦ inr (i, (refl, Contains-from_In records y q)) ])
+        adds = λ k y m. put_cases key records h (λ q l. In y l → In y (h q)
+            ⊎ (IsAccepted (reply cap h (Fragment key records)) × Has q y (Fragment key records)))
+            (λ p. elim (in_joined y (h key) records p) [
+              | inl q ↦ inl q
+              | inr q ↦
+                  inr (i, (refl, Contains-from_In records y q))
+            ])
             (λ q p. inl p) k (subst (λ (z : Holdings). In y (z k)) a m);
         has = λ k y _ s. subst (λ (z : Holdings). In y (z k)) (sym a) (put_has h key records k y s);
       }
   | inr t ↦
-      let a : after_one cap h (Fragment key records) ≡ h = cond-false (fits cap key records h) (put key records h) h t in
-      let n : IsAccepted (reply cap h (Fragment key records)) → ⊥ = λ i. both_ways _ t (fits_from_MayJoin cap key records h (MayJoin-from_accepted cap h key records w g i)) in
+      let a : after_one cap h (Fragment key records) ≡ h =
+      cond-false (fits cap key records h) (put key records h) h t in
+      let n : IsAccepted (reply cap h (Fragment key records)) → ⊥ =
+      λ i. both_ways _ t (fits_from_MayJoin cap key records h
+      (MayJoin-from_accepted cap h key records w g i)) in
       record {
         same = λ _. a;
         adds = λ k y m. inl (subst (λ (z : Holdings). In y (z k)) a m);
@@ -53,23 +69,42 @@ pub refused_changes_nothing : RefusedChangesNothing
 refused_changes_nothing cap h t s w n = (met cap h t w (IsGood-from_sound cap h s)).same n
 
 -- lists
-in_after : (cap : ℕ) (h : Holdings) (ts : List Told) (k : Key) (r : DataRecord) → AreSoundTold ts → IsGood cap h → In r (after cap h ts k) → In r (h k) ⊎ FromAccepted cap h ts k r
+in_after : (cap : ℕ) (h : Holdings) (ts : List Told) (k : Key) (r : DataRecord) → AreSoundTold ts →
+    IsGood cap h → In r (after cap h ts k) → In r (h k) ⊎ FromAccepted cap h ts k r
 in_after cap h [] k r w g m = inl m
 in_after cap h (t ∷ ts) k r w g m =
     elim (in_after cap (after_one cap h t) ts k r w.1 (IsGood-one cap h t w.0 g) m) [
-      | inr a ↦ inr (record { before = t ∷ a.before; member = a.member; behind = a.behind; splits = ap (λ l. t ∷ l) a.splits; accepted = a.accepted; has = a.has })
+      | inr a ↦ inr (record {
+        before = t ∷ a.before;
+        member = a.member;
+        behind = a.behind;
+        splits =
+            ap (λ l. t ∷ l) a.splits;
+        accepted = a.accepted;
+        has = a.has;
+      })
       | inl n ↦ elim ((met cap h t w.0 g).adds k r n) [
         | inl p ↦ inl p
-        | inr p ↦ inr (record { before = []; member = t; behind = ts; splits = refl; accepted = p.0; has = p.1 })
+        | inr p ↦ inr (record {
+          before = [];
+          member = t;
+          behind = ts;
+          splits = refl;
+          accepted = p.0;
+          has = p.1;
+        })
       ]
     ]
 
-after_has : (cap : ℕ) (h : Holdings) (ts : List Told) (k : Key) (r : DataRecord) → AreSoundTold ts → IsGood cap h → FromAccepted cap h ts k r → In r (after cap h ts k)
+after_has : (cap : ℕ) (h : Holdings) (ts : List Told) (k : Key) (r : DataRecord) → AreSoundTold ts →
+    IsGood cap h → FromAccepted cap h ts k r → In r (after cap h ts k)
 after_has cap h ts k r w g a =
     subst (λ (l : List Told). In r (after cap h l k)) (sym a.splits)
     (subst (λ (z : Holdings). In r (z k)) (sym (after-append cap h a.before (a.member ∷ a.behind)))
     (after_grows cap (after_one cap (after cap h a.before) a.member) a.behind k r
-    ((met cap (after cap h a.before) a.member (sound_back a.before (a.member ∷ a.behind) v).0 (IsGood-after cap h a.before (sound_front a.before (a.member ∷ a.behind) v) g)).has k r a.accepted a.has)))
+    ((met cap (after cap h a.before) a.member (sound_back a.before (a.member ∷ a.behind) v).0
+    (IsGood-after cap h a.before (sound_front a.before (a.member ∷ a.behind) v) g)).has k r
+    a.accepted a.has)))
   where
     v : AreSoundTold (a.before ++ (a.member ∷ a.behind))
     v = subst AreSoundTold a.splits w
@@ -77,6 +112,15 @@ after_has cap h ts k r w g a =
 pub after_has_accepted : AfterHasAccepted
 after_has_accepted cap h ts k r s w =
     let g = IsGood-from_sound cap h s in (
-      (λ m. elim (in_after cap h ts k r w g (In-from_Contains (after cap h ts k) r m)) [ inl n ↦ inl (Contains-from_In (h k) r n) | inr a ↦ inr a ]),
-      (λ m. Contains-from_In (after cap h ts k) r (elim m [ inl n ↦ after_grows cap h ts k r (In-from_Contains (h k) r n) | inr a ↦ after_has cap h ts k r w g a ])),
+      (λ m. elim (in_after cap h ts k r w g (In-from_Contains (after cap h ts k) r m)) [
+        | inl n ↦
+            inl (Contains-from_In (h k) r n)
+        | inr a ↦ inr a
+      ]),
+      (λ m. Contains-from_In (after cap h ts k) r
+          (elim m [
+            | inl n ↦ after_grows cap h ts k r (In-from_Contains (h k) r n)
+            | inr a ↦
+                after_has cap h ts k r w g a
+          ])),
     )

@@ -1,5 +1,6 @@
 -- Lists free of conflicts.
-use Rattle.std.proofs.Common.{◌≡◌, ℕ, zero, suc, ◌<◌, ◌≤◌, ◌⊎◌, cond, nat_lt, List, [], ◌∷◌, length, All, refl, sym, ap, subst, ◌∙◌, inl, inr, arith, slice_index_or}
+use Rattle.std.proofs.Common.{◌≡◌, ℕ, zero, suc, ◌<◌, ◌≤◌, ◌⊎◌, cond, nat_lt, List, [], ◌∷◌, length}
+use Rattle.std.proofs.Common.{All, refl, sym, ap, subst, ◌∙◌, inl, inr, arith, slice_index_or}
 use Rattle.std.specs.List.{Any}
 use Rattle.std.proofs.lemmas.Bool.{cond_both, cond-true, false_from_ne_true}
 use Rattle.std.proofs.lemmas.List.Elements.{All-cons, All-nil}
@@ -11,12 +12,16 @@ use Rattle.edf_fragment.specs.Told.{Told, Fragment, Fault}
 use Rattle.edf_holdings.specs.Same.{same_record}
 use Rattle.edf_holdings.specs.Rising.{inserted, joined, IsRising}
 use Rattle.edf_holdings.specs.Holdings.{Holdings, put}
-use Rattle.edf_holdings.specs.Reply.{IsSoundTold, fits, after_one, after, reply, replies, IsAccepted}
+use Rattle.edf_holdings.specs.Reply.{IsSoundTold, fits, after_one, after, reply, replies}
+use Rattle.edf_holdings.specs.Reply.{IsAccepted}
 use Rattle.edf_holdings.specs.Free.{with_one, with_all, IsFree, Has}
 use Rattle.edf_holdings.specs.Laws.{AreSoundTold, AnyOrder, Recut}
 use Rattle.edf_holdings.proofs.Same.{Clash-from_test}
-use Rattle.edf_holdings.proofs.Members.{In, Within, AreFree, in_joined, joined_has, joined_keeps, same_lists}
-use Rattle.edf_holdings.proofs.Joining.{IsGood, Grows, IsGood-from_sound, In-from_Contains, Contains-from_In, MayJoin, fits_from_MayJoin, put_cases, put_here, put_grows}
+use Rattle.edf_holdings.proofs.Members.{In, Within, AreFree, in_joined, joined_has, joined_keeps}
+use Rattle.edf_holdings.proofs.Members.{same_lists}
+use Rattle.edf_holdings.proofs.Joining.{IsGood, Grows, IsGood-from_sound, In-from_Contains}
+use Rattle.edf_holdings.proofs.Joining.{Contains-from_In, MayJoin, fits_from_MayJoin, put_cases}
+use Rattle.edf_holdings.proofs.Joining.{put_here, put_grows}
 use Rattle.edf_holdings.proofs.Settled.{IsGood-one, IsGood-after}
 use Rattle.edf_holdings.proofs.Replies.{accepted_from_MayJoin}
 
@@ -25,9 +30,12 @@ use Rattle.edf_holdings.proofs.Replies.{accepted_from_MayJoin}
 inserted_longer : (r : DataRecord) (xs : List DataRecord) → length xs ≤ length (inserted r xs)
 inserted_longer r [] = omega arith
 inserted_longer r (x ∷ xs) =
-    cond_both (same_record x r) (x ∷ xs) (cond (nat_lt r.start x.start) (r ∷ x ∷ xs) (x ∷ inserted r xs)) (λ (l : List DataRecord). length (x ∷ xs) ≤ length l)
+    cond_both (same_record x r) (x ∷ xs)
+    (cond (nat_lt r.start x.start) (r ∷ x ∷ xs) (x ∷ inserted r xs)) (λ (l : List DataRecord).
+    length (x ∷ xs) ≤ length l)
     (λ _. omega arith)
-    (λ _. cond_both (nat_lt r.start x.start) (r ∷ x ∷ xs) (x ∷ inserted r xs) (λ (l : List DataRecord). length (x ∷ xs) ≤ length l)
+    (λ _. cond_both (nat_lt r.start x.start) (r ∷ x ∷ xs) (x ∷ inserted r xs)
+    (λ (l : List DataRecord). length (x ∷ xs) ≤ length l)
     (λ _. omega arith) (λ _. omega (arith, inserted_longer r xs)))
 
 joined_longer : (xs rs : List DataRecord) → length xs ≤ length (joined xs rs)
@@ -36,7 +44,9 @@ joined_longer xs (r ∷ rs) = omega (arith, inserted_longer r xs, joined_longer 
 
 one_longer : (h : Holdings) (t : Told) (k : Key) → length (h k) ≤ length (with_one h t k)
 one_longer h (Fault fault) k = omega arith
-one_longer h (Fragment key records) k = put_cases key records h (λ q l. length (h q) ≤ length l) (joined_longer (h key) records) (λ q. omega arith) k
+one_longer h (Fragment key records) k =
+    put_cases key records h (λ q l. length (h q) ≤ length l) (joined_longer (h key) records)
+    (λ q. omega arith) k
 
 all_longer : (h : Holdings) (ts : List Told) (k : Key) → length (h k) ≤ length (with_all h ts k)
 all_longer h [] k = omega arith
@@ -49,17 +59,24 @@ abbrev pub IsAmong : Key → DataRecord → List Told → Type 0
 IsAmong k r [] = ⊥
 IsAmong k r (t ∷ ts) = Has k r t ⊎ IsAmong k r ts
 
-in_one : (h : Holdings) (t : Told) (k : Key) (y : DataRecord) → In y (with_one h t k) → In y (h k) ⊎ Has k y t
+in_one : (h : Holdings) (t : Told) (k : Key) (y : DataRecord) → In y (with_one h t k) → In y (h k)
+    ⊎ Has k y t
 in_one h (Fault fault) k y m = inl m
 in_one h (Fragment key records) k y m =
     put_cases key records h (λ q l. In y l → In y (h q) ⊎ Has q y (Fragment key records))
-    (λ p. elim (in_joined y (h key) records p) [ inl n ↦ inl n | inr n ↦ inr (refl, Contains-from_In records y n) ])
+    (λ p. elim (in_joined y (h key) records p) [
+      | inl n ↦ inl n
+      | inr n ↦
+          inr (refl, Contains-from_In records y n)
+    ])
     (λ q p. inl p) k m
 
-pub put_has : (h : Holdings) (key : Key) (records : List DataRecord) (k : Key) (y : DataRecord) → Has k y (Fragment key records) → In y (put key records h k)
+pub put_has : (h : Holdings) (key : Key) (records : List DataRecord) (k : Key) (y : DataRecord) →
+    Has k y (Fragment key records) → In y (put key records h k)
 put_has h key records k y s =
     subst (λ (q : Key). In y (put key records h q)) s.0
-    (subst (λ (l : List DataRecord). In y l) (sym (put_here key records h)) (joined_has (h key) records y (In-from_Contains records y s.1)))
+    (subst (λ (l : List DataRecord). In y l) (sym (put_here key records h))
+    (joined_has (h key) records y (In-from_Contains records y s.1)))
 
 one_has : (h : Holdings) (t : Told) (k : Key) (y : DataRecord) → Has k y t → In y (with_one h t k)
 one_has h (Fault fault) k y s = absurd s
@@ -73,7 +90,8 @@ pub all_grows : (h : Holdings) (ts : List Told) → Grows h (with_all h ts)
 all_grows h [] k y m = m
 all_grows h (t ∷ ts) k y m = all_grows (with_one h t) ts k y (with_one_grows h t k y m)
 
-pub in_all : (h : Holdings) (ts : List Told) (k : Key) (y : DataRecord) → In y (with_all h ts k) → In y (h k) ⊎ IsAmong k y ts
+pub in_all : (h : Holdings) (ts : List Told) (k : Key) (y : DataRecord) → In y (with_all h ts k) →
+    In y (h k) ⊎ IsAmong k y ts
 in_all h [] k y m = inl m
 in_all h (t ∷ ts) k y m =
     elim (in_all (with_one h t) ts k y m) [
@@ -81,12 +99,14 @@ in_all h (t ∷ ts) k y m =
       | inl n ↦ elim (in_one h t k y n) [ inl q ↦ inl q | inr q ↦ inr (inl q) ]
     ]
 
-pub all_has : (h : Holdings) (ts : List Told) (k : Key) (y : DataRecord) → IsAmong k y ts → In y (with_all h ts k)
+pub all_has : (h : Holdings) (ts : List Told) (k : Key) (y : DataRecord) → IsAmong k y ts →
+    In y (with_all h ts k)
 all_has h [] k y m = absurd m
 all_has h (t ∷ ts) k y (inl s) = all_grows (with_one h t) ts k y (one_has h t k y s)
 all_has h (t ∷ ts) k y (inr n) = all_has (with_one h t) ts k y n
 
-pub IsAmong-from_Any : (k : Key) (r : DataRecord) (ts : List Told) → Any (Has k r) ts → IsAmong k r ts
+pub IsAmong-from_Any : (k : Key) (r : DataRecord) (ts : List Told) → Any (Has k r) ts →
+    IsAmong k r ts
 IsAmong-from_Any k r ts a = go ts a.0 a.2 a.3
   where
     go : (us : List Told) (i : ℕ) → i < length us → slice_index_or us i a.1 ≡ a.1 → IsAmong k r us
@@ -94,21 +114,25 @@ IsAmong-from_Any k r ts a = go ts a.0 a.2 a.3
     go (u ∷ us) zero l e = inl (subst (Has k r) (sym e) a.4)
     go (u ∷ us) (suc i) l e = inr (go us i (omega arith) e)
 
-pub Any-from_IsAmong : (k : Key) (r : DataRecord) (ts : List Told) → IsAmong k r ts → Any (Has k r) ts
+pub Any-from_IsAmong : (k : Key) (r : DataRecord) (ts : List Told) → IsAmong k r ts →
+    Any (Has k r) ts
 Any-from_IsAmong k r [] m = absurd m
 Any-from_IsAmong k r (t ∷ ts) (inl s) = (0, t, omega arith, refl, s)
-Any-from_IsAmong k r (t ∷ ts) (inr m) = let a = Any-from_IsAmong k r ts m in (suc a.0, a.1, omega (arith, a.2), a.3, a.4)
+Any-from_IsAmong k r (t ∷ ts) (inr m) = let a = Any-from_IsAmong k r ts m in
+    (suc a.0, a.1, omega (arith, a.2), a.3, a.4)
 
 -- a free list is accepted whole
 
-MayJoin-from_free : (cap : ℕ) (h : Holdings) (key : Key) (records : List DataRecord) (ts : List Told) → IsFree cap h (Fragment key records ∷ ts) → MayJoin cap key records h
+MayJoin-from_free : (cap : ℕ) (h : Holdings) (key : Key) (records : List DataRecord)
+    (ts : List Told) → IsFree cap h (Fragment key records ∷ ts) → MayJoin cap key records h
 MayJoin-from_free cap h key records ts i = record { free = free; room = inr room }
   where
     all : List DataRecord
     all = with_all (put key records h) ts key
 
     up : Within (joined (h key) records) all
-    up y m = all_grows (put key records h) ts key y (subst (λ (l : List DataRecord). In y l) (sym (put_here key records h)) m)
+    up y m = all_grows (put key records h) ts key y
+        (subst (λ (l : List DataRecord). In y l) (sym (put_here key records h)) m)
 
     free : AreFree (duration_of key.duration) (h key) records
     free r s m n = false_from_ne_true _ (λ t. i.no_clash key r s
@@ -117,55 +141,75 @@ MayJoin-from_free cap h key records ts i = record { free = free; room = inr room
         (Clash-from_test (duration_of key.duration) r s t))
 
     room : length (joined (h key) records) ≤ cap
-    room = omega (arith, i.few key, all_longer (put key records h) ts key, ap (λ (l : List DataRecord). length l) (put_here key records h))
+    room = omega (
+      arith,
+      i.few key,
+      all_longer (put key records h) ts key,
+      ap (λ (l : List DataRecord). length l) (put_here key records h),
+    )
 
 -- what the first member of a free list does
 record FirstOf (cap : ℕ) (h : Holdings) (t : Told) : Type 0 where
   accepted : IsAccepted (reply cap h t)
   joins : after_one cap h t ≡ with_one h t
 
-first_of_free : (cap : ℕ) (h : Holdings) (t : Told) (ts : List Told) → IsSoundTold t → IsGood cap h → IsFree cap h (t ∷ ts) → FirstOf cap h t
+first_of_free : (cap : ℕ) (h : Holdings) (t : Told) (ts : List Told) → IsSoundTold t →
+    IsGood cap h → IsFree cap h (t ∷ ts) → FirstOf cap h t
 unfolding after_one
 first_of_free cap h (Fault fault) ts w g i = absurd i.fragments.0
 first_of_free cap h (Fragment key records) ts w g i =
     let m = MayJoin-from_free cap h key records ts i in
     record {
       accepted = subst IsAccepted (sym (accepted_from_MayJoin cap h key records w g m)) tt;
-      joins = cond-true (fits cap key records h) (put key records h) h (fits_from_MayJoin cap key records h m);
+      joins = cond-true (fits cap key records h) (put key records h) h
+          (fits_from_MayJoin cap key records h m);
     }
 
 record WholeOf (cap : ℕ) (h : Holdings) (ts : List Told) : Type 0 where
   accepted : All IsAccepted (replies cap h ts)
   joins : after cap h ts ≡ with_all h ts
 
-whole_of_free : (cap : ℕ) (h : Holdings) (ts : List Told) → AreSoundTold ts → IsGood cap h → IsFree cap h ts → WholeOf cap h ts
+whole_of_free : (cap : ℕ) (h : Holdings) (ts : List Told) → AreSoundTold ts → IsGood cap h →
+    IsFree cap h ts → WholeOf cap h ts
 whole_of_free cap h [] w g i = record { accepted = All-nil IsAccepted; joins = refl }
 whole_of_free cap h (t ∷ ts) w g i =
     let one : FirstOf cap h t = first_of_free cap h t ts w.0 g i in
     let rest : WholeOf cap (with_one h t) ts =
-    whole_of_free cap (with_one h t) ts w.1 (subst (IsGood cap) one.joins (IsGood-one cap h t w.0 g))
+    whole_of_free cap (with_one h t) ts w.1
+    (subst (IsGood cap) one.joins (IsGood-one cap h t w.0 g))
     (record { fragments = i.fragments.1; no_clash = i.no_clash; few = i.few }) in
     record {
-      accepted = All-cons IsAccepted (reply cap h t) (replies cap (after_one cap h t) ts) one.accepted
-          (subst (λ (z : Holdings). All IsAccepted (replies cap z ts)) (sym one.joins) rest.accepted);
+      accepted = All-cons IsAccepted (reply cap h t) (replies cap (after_one cap h t) ts)
+          one.accepted
+          (subst (λ (z : Holdings). All IsAccepted (replies cap z ts)) (sym one.joins)
+          rest.accepted);
       joins = ap (λ (z : Holdings). after cap z ts) one.joins ∙ rest.joins;
     }
 
 pub any_order_law : AnyOrder
-any_order_law cap h ts s w i = let a = whole_of_free cap h ts w (IsGood-from_sound cap h s) i in (a.accepted, a.joins)
+any_order_law cap h ts s w i = let a = whole_of_free cap h ts w (IsGood-from_sound cap h s) i in
+    (a.accepted, a.joins)
 
 -- free lists with the same records end alike
 
-pub all_within : (h : Holdings) (ts us : List Told) (k : Key) → ((y : DataRecord) → IsAmong k y ts → IsAmong k y us) → Within (with_all h ts k) (with_all h us k)
-all_within h ts us k w y m = elim (in_all h ts k y m) [ inl n ↦ all_grows h us k y n | inr n ↦ all_has h us k y (w y n) ]
+pub all_within : (h : Holdings) (ts us : List Told) (k : Key) →
+    ((y : DataRecord) → IsAmong k y ts → IsAmong k y us) →
+    Within (with_all h ts k) (with_all h us k)
+all_within h ts us k w y m = elim (in_all h ts k y m) [
+  | inl n ↦ all_grows h us k y n
+  | inr n ↦
+      all_has h us k y (w y n)
+]
 
 pub recut_law : Recut
 recut_law cap h ts us s w v i j same =
     a.joins ∙ (fun_ext (λ k. same_lists 1 0 0 (with_all h ts k) (with_all h us k) (omega arith)
     (subst (λ (z : Holdings). IsRising (z k)) a.joins ((IsGood-after cap h ts w g).rising k))
     (subst (λ (z : Holdings). IsRising (z k)) b.joins ((IsGood-after cap h us v g).rising k))
-    (all_within h ts us k (λ y m. IsAmong-from_Any k y us ((same k y).0 (Any-from_IsAmong k y ts m))))
-    (all_within h us ts k (λ y m. IsAmong-from_Any k y ts ((same k y).1 (Any-from_IsAmong k y us m)))))
+    (all_within h ts us k (λ y m. IsAmong-from_Any k y us
+    ((same k y).0 (Any-from_IsAmong k y ts m))))
+    (all_within h us ts k (λ y m. IsAmong-from_Any k y ts
+    ((same k y).1 (Any-from_IsAmong k y us m)))))
     ∙ sym b.joins)
   where
     g : IsGood cap h

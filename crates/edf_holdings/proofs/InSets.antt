@@ -1,5 +1,7 @@
 -- What the definitions say in the words of sets.
-use Rattle.std.proofs.Common.{◌≡◌, ◌≢◌, ℕ, ◌+◌, ◌-◌, ◌<◌, ◌≤◌, true, cond, nat_eq, List, [], ◌∷◌, length, Contains, Option, Some, refl, sym, ap, subst, ◌∙◌, inl, inr, arith, find, eq-eqb, ne_eqb}
+use Rattle.std.proofs.Common.{◌≡◌, ◌≢◌, ℕ, ◌+◌, ◌-◌, ◌<◌, ◌≤◌, true, cond, nat_eq, List, [], ◌∷◌}
+use Rattle.std.proofs.Common.{length, Contains, Option, Some, refl, sym, ap, subst, ◌∙◌, inl, inr}
+use Rattle.std.proofs.Common.{arith, find, eq-eqb, ne_eqb}
 use Rattle.std.specs.Option.{option_or}
 use Rattle.std.proofs.lemmas.Bool.{cond-true, cond-false, cases_Bool, false_from_ne_true, both_ways}
 use mathlib.Core.Path.{fun_ext}
@@ -12,13 +14,23 @@ use Rattle.edf_holdings.specs.Clash.{clashes}
 use Rattle.edf_holdings.specs.Rising.{joined, new_of, IsApart, IsRising}
 use Rattle.edf_fragment.specs.Sound.{IsSoundRecord, AreSound}
 use Rattle.edf_holdings.specs.Holdings.{Holdings, IsSound, put, nothing_held}
-use Rattle.edf_holdings.specs.Reply.{IsSoundTold, fits, after_one, Accepted, Differs, Overlap, clash_or, first_clash, reply_to_clash, reply, IsAccepted}
+use Rattle.edf_holdings.specs.Reply.{IsSoundTold, fits, after_one, Accepted, Differs, Overlap}
+use Rattle.edf_holdings.specs.Reply.{clash_or, first_clash, reply_to_clash, reply, IsAccepted}
 use Rattle.edf_holdings.specs.Free.{with_all}
-use Rattle.edf_holdings.specs.Meaning.{SameKeyIsEqual, SameRecordIsEqual, TestIsClash, HoldsIsContains, ListIsSet, HoldingsAreSets, JoinedHasBoth, AllHasBoth, Fits, FitsIsTold, AcceptedWhereFits, IsFirstClash, ClashIsNamed, OwnList, NearTwo}
-use Rattle.edf_holdings.proofs.Same.{same_key-Decides, same_record-Decides, Clash-from_test, test_from_Clash}
-use Rattle.edf_holdings.proofs.Members.{In, Within, AreFree, In-from_holds, holds_from_In, in_joined, joined_keeps, joined_has, joined_held, same_lists, apart_joined, in_rest}
-use Rattle.edf_holdings.proofs.Joining.{IsGood, IsGood-from_sound, In-from_Contains, Contains-from_In, MayJoin, MayJoin-from_fits, fits_from_MayJoin, lasting}
-use Rattle.edf_holdings.proofs.Replies.{accepted_from_MayJoin, MayJoin-from_accepted, held_reply, no_first, answered}
+use Rattle.edf_holdings.specs.Meaning.{SameKeyIsEqual, SameRecordIsEqual, TestIsClash}
+use Rattle.edf_holdings.specs.Meaning.{HoldsIsContains, ListIsSet, HoldingsAreSets, JoinedHasBoth}
+use Rattle.edf_holdings.specs.Meaning.{AllHasBoth, Fits, FitsIsTold, AcceptedWhereFits}
+use Rattle.edf_holdings.specs.Meaning.{IsFirstClash, ClashIsNamed, OwnList, NearTwo}
+use Rattle.edf_holdings.proofs.Same.{same_key-Decides, same_record-Decides, Clash-from_test}
+use Rattle.edf_holdings.proofs.Same.{test_from_Clash}
+use Rattle.edf_holdings.proofs.Members.{In, Within, AreFree, In-from_holds, holds_from_In}
+use Rattle.edf_holdings.proofs.Members.{in_joined, joined_keeps, joined_has, joined_held}
+use Rattle.edf_holdings.proofs.Members.{same_lists, apart_joined, in_rest}
+use Rattle.edf_holdings.proofs.Joining.{IsGood, IsGood-from_sound, In-from_Contains}
+use Rattle.edf_holdings.proofs.Joining.{Contains-from_In, MayJoin, MayJoin-from_fits}
+use Rattle.edf_holdings.proofs.Joining.{fits_from_MayJoin, lasting}
+use Rattle.edf_holdings.proofs.Replies.{accepted_from_MayJoin, MayJoin-from_accepted, held_reply}
+use Rattle.edf_holdings.proofs.Replies.{no_first, answered}
 use Rattle.edf_holdings.proofs.Sound.{Each-from_All}
 use Rattle.edf_holdings.proofs.Free.{in_all, all_has, all_grows, IsAmong-from_Any, Any-from_IsAmong}
 use Rattle.edf_holdings.proofs.Near.{near_two, first_clash-append}
@@ -33,52 +45,84 @@ pub test_is_clash : TestIsClash
 test_is_clash d r s = (Clash-from_test d r s, test_from_Clash d r s)
 
 pub holds_is_contains : HoldsIsContains
-holds_is_contains xs r = ((λ e. Contains-from_In xs r (In-from_holds xs r e)), (λ m. holds_from_In xs r (In-from_Contains xs r m)))
+holds_is_contains xs r = (
+  (λ e. Contains-from_In xs r (In-from_holds xs r e)),
+  (λ m. holds_from_In xs r (In-from_Contains xs r m)),
+)
 
-within_from_members : (xs ys : List DataRecord) → ((r : DataRecord) → Contains xs r → Contains ys r) → Within xs ys
+within_from_members : (xs ys : List DataRecord) →
+    ((r : DataRecord) → Contains xs r → Contains ys r) → Within xs ys
 within_from_members xs ys w y m = In-from_Contains ys y (w y (Contains-from_In xs y m))
 
 pub list_is_set : ListIsSet
-list_is_set xs ys a b s = same_lists 1 0 0 xs ys (omega arith) a b (within_from_members xs ys (λ r. (s r).0)) (within_from_members ys xs (λ r. (s r).1))
+list_is_set xs ys a b s = same_lists 1 0 0 xs ys (omega arith) a b
+    (within_from_members xs ys (λ r. (s r).0)) (within_from_members ys xs (λ r. (s r).1))
 
 pub holdings_are_sets : HoldingsAreSets
-holdings_are_sets cap h other s t m = fun_ext (λ k. list_is_set (h k) (other k) (s.rising k) (t.rising k) (m k))
+holdings_are_sets cap h other s t m =
+    fun_ext (λ k. list_is_set (h k) (other k) (s.rising k) (t.rising k) (m k))
 
 pub joined_has_both : JoinedHasBoth
 joined_has_both xs rs r = (
-  (λ m. elim (in_joined r xs rs (In-from_Contains (joined xs rs) r m)) [ inl n ↦ inl (Contains-from_In xs r n) | inr n ↦ inr (Contains-from_In rs r n) ]),
-  (λ m. Contains-from_In (joined xs rs) r (elim m [ inl n ↦ joined_keeps xs rs r (In-from_Contains xs r n) | inr n ↦ joined_has xs rs r (In-from_Contains rs r n) ])),
+  (λ m. elim (in_joined r xs rs (In-from_Contains (joined xs rs) r m)) [
+    | inl n ↦
+        inl (Contains-from_In xs r n)
+    | inr n ↦ inr (Contains-from_In rs r n)
+  ]),
+  (λ m. Contains-from_In (joined xs rs) r
+      (elim m [
+        | inl n ↦ joined_keeps xs rs r (In-from_Contains xs r n)
+        | inr n ↦
+            joined_has xs rs r (In-from_Contains rs r n)
+      ])),
 )
 
 pub all_has_both : AllHasBoth
 all_has_both h ts k r = (
-  (λ m. elim (in_all h ts k r (In-from_Contains (with_all h ts k) r m)) [ inl n ↦ inl (Contains-from_In (h k) r n) | inr n ↦ inr (Any-from_IsAmong k r ts n) ]),
-  (λ m. Contains-from_In (with_all h ts k) r (elim m [ inl n ↦ all_grows h ts k r (In-from_Contains (h k) r n) | inr n ↦ all_has h ts k r (IsAmong-from_Any k r ts n) ])),
+  (λ m. elim (in_all h ts k r (In-from_Contains (with_all h ts k) r m)) [
+    | inl n ↦
+        inl (Contains-from_In (h k) r n)
+    | inr n ↦ inr (Any-from_IsAmong k r ts n)
+  ]),
+  (λ m. Contains-from_In (with_all h ts k) r
+      (elim m [
+        | inl n ↦ all_grows h ts k r (In-from_Contains (h k) r n)
+        | inr n ↦
+            all_has h ts k r (IsAmong-from_Any k r ts n)
+      ])),
 )
 
 -- what fits
 
-MayJoin-from_Fits : (cap : ℕ) (h : Holdings) (key : Key) (records : List DataRecord) → Fits cap key records h → MayJoin cap key records h
+MayJoin-from_Fits : (cap : ℕ) (h : Holdings) (key : Key) (records : List DataRecord) →
+    Fits cap key records h → MayJoin cap key records h
 MayJoin-from_Fits cap h key records f = record {
-  free = λ r s m n. false_from_ne_true _ (λ t. f.clear r s (Contains-from_In records r m) (Contains-from_In (h key) s n) (Clash-from_test (duration_of key.duration) r s t));
+  free = λ r s m n. false_from_ne_true _ (λ t.
+      f.clear r s (Contains-from_In records r m) (Contains-from_In (h key) s n)
+      (Clash-from_test (duration_of key.duration) r s t));
   room = elim f.room [
-    | inl e ↦ inl (λ y m. subst (λ (l : List DataRecord). In y l) e (joined_has (h key) records y m))
+    | inl e ↦ inl (λ y m. subst (λ (l : List DataRecord). In y l) e
+        (joined_has (h key) records y m))
     | inr l ↦ inr l
   ];
 }
 
-Fits-from_MayJoin : (cap : ℕ) (h : Holdings) (key : Key) (records : List DataRecord) → IsKey key → IsGood cap h → MayJoin cap key records h → Fits cap key records h
+Fits-from_MayJoin : (cap : ℕ) (h : Holdings) (key : Key) (records : List DataRecord) → IsKey key →
+    IsGood cap h → MayJoin cap key records h → Fits cap key records h
 Fits-from_MayJoin cap h key records w g m = record {
-  clear = λ r s n k c. both_ways _ (m.free r s (In-from_Contains records r n) (In-from_Contains (h key) s k)) (test_from_Clash (duration_of key.duration) r s c);
+  clear = λ r s n k c. both_ways _ (m.free r s (In-from_Contains records r n)
+      (In-from_Contains (h key) s k)) (test_from_Clash (duration_of key.duration) r s c);
   room = elim m.room [
-    | inl i ↦ inl (joined_held (duration_of key.duration) 0 (h key) records (lasting key w) (g.apart key) i)
+    | inl i ↦ inl (joined_held (duration_of key.duration) 0 (h key) records (lasting key w)
+        (g.apart key) i)
     | inr l ↦ inr l
   ];
 }
 
 pub fits_is_told : FitsIsTold
 fits_is_told cap h key records s w = (
-  (λ e. Fits-from_MayJoin cap h key records w.0 (IsGood-from_sound cap h s) (MayJoin-from_fits cap key records h e)),
+  (λ e. Fits-from_MayJoin cap h key records w.0 (IsGood-from_sound cap h s)
+      (MayJoin-from_fits cap key records h e)),
   (λ f. fits_from_MayJoin cap key records h (MayJoin-from_Fits cap h key records f)),
 )
 
@@ -86,51 +130,67 @@ pub accepted_where_fits : AcceptedWhereFits
 accepted_where_fits cap h key records s w =
     let g = IsGood-from_sound cap h s in (
       (λ i. fits_from_MayJoin cap key records h (MayJoin-from_accepted cap h key records w g i)),
-      (λ t. subst IsAccepted (sym (accepted_from_MayJoin cap h key records w g (MayJoin-from_fits cap key records h t))) tt),
+      (λ t. subst IsAccepted
+          (sym (accepted_from_MayJoin cap h key records w g
+          (MayJoin-from_fits cap key records h t))) tt),
     )
 
 -- the clash that is named
 
 -- of those that clash, the first in a rising list is the earliest
-find_earliest : (d low : ℕ) (r s : DataRecord) (xs : List DataRecord) → IsApart 1 low xs → In s xs → clashes d r s ≡ true
-    → ((x : DataRecord) → In x xs → clashes d r x ≡ true → s.start ≤ x.start) → find (clashes d r) xs ≡ Some s
+find_earliest : (d low : ℕ) (r s : DataRecord) (xs : List DataRecord) → IsApart 1 low xs → In s xs →
+    clashes d r s ≡ true
+    → ((x : DataRecord) → In x xs → clashes d r x ≡ true → s.start ≤ x.start) →
+    find (clashes d r) xs ≡ Some s
 find_earliest d low r s [] a m t w = absurd m
 find_earliest d low r s (x ∷ xs) a (inl p) t w =
-    cond-true (clashes d r x) (Some x) (find (clashes d r) xs) (subst (λ (u : DataRecord). clashes d r u ≡ true) (sym p) t) ∙ ap Some p
+    cond-true (clashes d r x) (Some x) (find (clashes d r) xs)
+    (subst (λ (u : DataRecord). clashes d r u ≡ true) (sym p) t) ∙ ap Some p
 find_earliest d low r s (x ∷ xs) a (inr m) t w =
     elim (cases_Bool (clashes d r x)) [
       | inl e ↦ absurd (omega (arith, w x (inl refl) e, in_rest 1 low x s xs a m))
-      | inr e ↦ cond-false (clashes d r x) (Some x) (find (clashes d r) xs) e ∙ find_earliest d (x.start + 1) r s xs a.1 m t (λ y n. w y (inr n))
+      | inr e ↦ cond-false (clashes d r x) (Some x) (find (clashes d r) xs) e
+          ∙ find_earliest d (x.start + 1) r s xs a.1 m t (λ y n. w y (inr n))
     ]
 
-pub first_clash_found : (d : ℕ) (xs rs : List DataRecord) (r s : DataRecord) → IsRising xs → IsFirstClash d xs rs r s → first_clash d xs rs ≡ Some (r, s)
+pub first_clash_found : (d : ℕ) (xs rs : List DataRecord) (r s : DataRecord) → IsRising xs →
+    IsFirstClash d xs rs r s → first_clash d xs rs ≡ Some (r, s)
 first_clash_found d xs rs r s a i =
     ap (first_clash d xs) i.splits
     ∙ (first_clash-append d xs i.before (r ∷ i.behind)
-    ∙ (ap (λ (o : Option (DataRecord × DataRecord)). option_or o (first_clash d xs (r ∷ i.behind))) (no_first d xs i.before none)
+    ∙ (ap (λ (o : Option (DataRecord × DataRecord)). option_or o (first_clash d xs (r ∷ i.behind)))
+    (no_first d xs i.before none)
     ∙ ap (λ (o : Option DataRecord). clash_or r o (first_clash d xs i.behind))
     (find_earliest d 0 r s xs a (In-from_Contains xs s i.held) (test_from_Clash d r s i.clash)
     (λ x m t. i.earliest x (Contains-from_In xs x m) (Clash-from_test d r x t)))))
   where
     none : AreFree d xs i.before
-    none q x m n = false_from_ne_true _ (λ t. i.none_before q x (Contains-from_In i.before q m) (Contains-from_In xs x n) (Clash-from_test d q x t))
+    none q x m n = false_from_ne_true _ (λ t.
+        i.none_before q x (Contains-from_In i.before q m) (Contains-from_In xs x n)
+        (Clash-from_test d q x t))
 
 pub clash_is_named : ClashIsNamed
 unfolding reply
 clash_is_named cap h key records r s t i = (
-  (λ p. is ∙ cond-true (nat_eq r.start s.start) (Differs r.start) (Overlap r.start s.start) (eq-eqb r.start s.start p)),
-  (λ p. is ∙ cond-false (nat_eq r.start s.start) (Differs r.start) (Overlap r.start s.start) (ne_eqb r.start s.start p)),
+  (λ p. is ∙ cond-true (nat_eq r.start s.start) (Differs r.start) (Overlap r.start s.start)
+      (eq-eqb r.start s.start p)),
+  (λ p. is ∙ cond-false (nat_eq r.start s.start) (Differs r.start) (Overlap r.start s.start)
+      (ne_eqb r.start s.start p)),
 )
   where
-    is : reply_to_clash cap key records (h key) (first_clash (duration_of key.duration) (h key) records) ≡ cond (nat_eq r.start s.start) (Differs r.start) (Overlap r.start s.start)
-    is = ap (reply_to_clash cap key records (h key)) (first_clash_found (duration_of key.duration) (h key) records r s (t.rising key) i)
+    is : reply_to_clash cap key records (h key)
+        (first_clash (duration_of key.duration) (h key) records) ≡ cond (nat_eq r.start s.start)
+        (Differs r.start) (Overlap r.start s.start)
+    is = ap (reply_to_clash cap key records (h key))
+        (first_clash_found (duration_of key.duration) (h key) records r s (t.rising key) i)
 
 -- a recording's own records
 
 none_held : (cap : ℕ) → IsGood cap nothing_held
 none_held cap = record { rising = λ k. tt; apart = λ k. tt; few = λ k. omega arith }
 
-pub from_nothing : (d low : ℕ) (rs : List DataRecord) → 0 < d → IsApart d low rs → IsApart d 0 rs → joined [] rs ≡ rs
+pub from_nothing : (d low : ℕ) (rs : List DataRecord) → 0 < d → IsApart d low rs → IsApart d 0 rs →
+    joined [] rs ≡ rs
 from_nothing d low rs z a b =
     same_lists d 0 0 (joined [] rs) rs z (apart_joined d low [] rs tt a (λ r x m n. absurd n)) b
     (λ y m. elim (in_joined y [] rs m) [ inl n ↦ absurd n | inr n ↦ n ])
@@ -141,20 +201,34 @@ new_from_nothing [] = refl
 new_from_nothing (r ∷ rs) = omega (arith, new_from_nothing rs)
 
 -- records that lie apart and are each sound are sound together
-pub are-sound-from : (k : Key) (low : ℕ) (rs : List DataRecord) → IsApart (duration_of k.duration) low rs → ((r : DataRecord) → In r rs → IsSoundRecord k r) → AreSound k low rs
+pub are-sound-from : (k : Key) (low : ℕ) (rs : List DataRecord) →
+    IsApart (duration_of k.duration) low rs → ((r : DataRecord) → In r rs → IsSoundRecord k r) →
+    AreSound k low rs
 are-sound-from k low [] a e = tt
-are-sound-from k low (r ∷ rs) a e = (e r (inl refl), a.0, are-sound-from k (r.start + duration_of k.duration) rs a.1 (λ y m. e y (inr m)))
+are-sound-from k low (r ∷ rs) a e = (
+  e r (inl refl),
+  a.0,
+  are-sound-from k (r.start + duration_of k.duration) rs a.1
+      (λ y m. e y (inr m)),
+)
 
 -- so a recording's records are a fragment's
-pub held-sound : (cap : ℕ) (h : Holdings) (k : Key) → IsSound cap h → h k ≢ [] → IsSoundTold (Fragment k (h k))
-held-sound cap h k s some = (s.keys k some, are-sound-from k 0 (h k) ((IsGood-from_sound cap h s).apart k) (Each-from_All (IsSoundRecord k) (h k) (s.records k)), s.begins k)
+pub held-sound : (cap : ℕ) (h : Holdings) (k : Key) → IsSound cap h → h k ≢ [] →
+    IsSoundTold (Fragment k (h k))
+held-sound cap h k s some = (
+  s.keys k some,
+  are-sound-from k 0 (h k) ((IsGood-from_sound cap h s).apart k)
+      (Each-from_All (IsSoundRecord k) (h k) (s.records k)),
+  s.begins k,
+)
 
 pub own_list : OwnList
 unfolding after_one
 own_list cap h k s some = (
   held_reply cap h k (h k) w g (λ y m. m),
   accepted_from_MayJoin cap nothing_held k (h k) w (none_held cap) may ∙ counted,
-  cond-true (fits cap k (h k) nothing_held) (put k (h k) nothing_held) nothing_held (fits_from_MayJoin cap k (h k) nothing_held may)
+  cond-true (fits cap k (h k) nothing_held) (put k (h k) nothing_held) nothing_held
+      (fits_from_MayJoin cap k (h k) nothing_held may)
       ∙ fun_ext (λ q. ap (λ (l : List DataRecord). cond (same_key k q) l []) whole),
 )
   where
@@ -168,7 +242,11 @@ own_list cap h k s some = (
     whole = from_nothing (duration_of k.duration) 0 (h k) (lasting k w.0) (g.apart k) (g.apart k)
 
     may : MayJoin cap k (h k) nothing_held
-    may = record { free = λ r t m n. absurd n; room = inr (subst (λ (l : List DataRecord). length l ≤ cap) (sym whole) (g.few k)) }
+    may = record {
+      free = λ r t m n. absurd n;
+      room =
+          inr (subst (λ (l : List DataRecord). length l ≤ cap) (sym whole) (g.few k));
+    }
 
     counted : answered k (h k) [] ≡ Accepted k (length (h k)) 0
     counted =
@@ -176,4 +254,5 @@ own_list cap h k s some = (
         cc (new_from_nothing (h k), p)
 
 pub near_two_law : NearTwo
-near_two_law cap h k start s = near_two (duration_of k.duration) 0 start (h k) ((IsGood-from_sound cap h s).apart k)
+near_two_law cap h k start s = near_two (duration_of k.duration) 0 start (h k)
+    ((IsGood-from_sound cap h s).apart k)

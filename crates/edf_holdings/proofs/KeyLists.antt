@@ -1,5 +1,6 @@
 -- The keys in order of their bytes are one list.
-use Rattle.std.proofs.Common.{◌≡◌, ℕ, zero, suc, ◌<◌, ◌⊎◌, List, [], ◌∷◌, length, Contains, refl, sym, subst, ◌∙◌, inl, inr, arith, slice_index_or, Less}
+use Rattle.std.proofs.Common.{◌≡◌, ℕ, zero, suc, ◌<◌, ◌⊎◌, List, [], ◌∷◌, length, Contains, refl}
+use Rattle.std.proofs.Common.{sym, subst, ◌∙◌, inl, inr, arith, slice_index_or, Less}
 use Rattle.std.specs.List.{AllByRecursion}
 use Rattle.std.specs.List.Sorted.{IsStrictlySortedBy}
 use Rattle.std.proofs.lemmas.Cmp.{nat_list_cmp_total, tied_itself}
@@ -23,7 +24,8 @@ to_contains [] r h = absurd h
 to_contains (x ∷ xs) r (inl p) = (0, omega arith, p)
 to_contains (x ∷ xs) r (inr h) = let c = to_contains xs r h in (suc c.0, omega (arith, c.1), c.2)
 
-below : (x k : Key) (xs : List Key) → AllByRecursion (λ y. key_cmp x y ≡ Less) xs → InKeys k xs → key_cmp x k ≡ Less
+below : (x k : Key) (xs : List Key) → AllByRecursion (λ y. key_cmp x y ≡ Less) xs → InKeys k xs →
+    key_cmp x k ≡ Less
 below x k [] a m = absurd m
 below x k (y ∷ ys) a (inl p) = subst (λ (z : Key). key_cmp x z ≡ Less) p a.0
 below x k (y ∷ ys) a (inr m) = below x k ys a.1 m
@@ -32,9 +34,11 @@ not_itself : (x : Key) → key_cmp x x ≡ Less → ⊥
 not_itself x e = cc (sym (tied_itself nat_list_cmp_total (key_bytes x)) ∙ e)
 
 not_both : (x y : Key) → key_cmp x y ≡ Less → key_cmp y x ≡ Less → ⊥
-not_both x y a b = not_itself x (nat_list_cmp_total.trans (key_bytes x) (key_bytes y) (key_bytes x) a b)
+not_both x y a b = not_itself x (nat_list_cmp_total.trans (key_bytes x) (key_bytes y) (key_bytes x)
+    a b)
 
-same_keys : (xs ys : List Key) → IsStrictlySortedBy key_cmp xs → IsStrictlySortedBy key_cmp ys → ((k : Key) → InKeys k xs → InKeys k ys) → ((k : Key) → InKeys k ys → InKeys k xs) → xs ≡ ys
+same_keys : (xs ys : List Key) → IsStrictlySortedBy key_cmp xs → IsStrictlySortedBy key_cmp ys →
+    ((k : Key) → InKeys k xs → InKeys k ys) → ((k : Key) → InKeys k ys → InKeys k xs) → xs ≡ ys
 unfolding IsStrictlySortedBy
 same_keys [] [] a b f g = refl
 same_keys [] (y ∷ ys) a b f g = absurd (g y (inl refl))
@@ -49,10 +53,20 @@ same_keys (x ∷ xs) (y ∷ ys) a b f g =
     ]
   where
     down : y ≡ x → (k : Key) → InKeys k xs → InKeys k ys
-    down p k h = elim (f k (inr h)) [ inr m ↦ m | inl q ↦ absurd (not_itself x (subst (λ (z : Key). key_cmp x z ≡ Less) (sym q ∙ p) (below x k xs a.0 h))) ]
+    down p k h = elim (f k (inr h)) [
+      | inr m ↦ m
+      | inl q ↦
+          absurd (not_itself x (subst (λ (z : Key). key_cmp x z ≡ Less) (sym q
+          ∙ p) (below x k xs a.0 h)))
+    ]
 
     up : y ≡ x → (k : Key) → InKeys k ys → InKeys k xs
-    up p k h = elim (g k (inr h)) [ inr m ↦ m | inl q ↦ absurd (not_itself y (subst (λ (z : Key). key_cmp y z ≡ Less) (sym q ∙ sym p) (below y k ys b.0 h))) ]
+    up p k h = elim (g k (inr h)) [
+      | inr m ↦ m
+      | inl q ↦
+          absurd (not_itself y (subst (λ (z : Key). key_cmp y z ≡ Less) (sym q
+          ∙ sym p) (below y k ys b.0 h)))
+    ]
 
 pub keys_are_one : KeysAreOne
 keys_are_one h ks ls a b =

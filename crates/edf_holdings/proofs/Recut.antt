@@ -1,5 +1,6 @@
 -- Whether a list is free is said by its records alone.
-use Rattle.std.proofs.Common.{◌≡◌, ℕ, zero, suc, ◌<◌, ◌≤◌, List, [], ◌∷◌, length, Contains, refl, sym, ap, subst, ◌∙◌, arith, slice_index_or}
+use Rattle.std.proofs.Common.{◌≡◌, ℕ, zero, suc, ◌<◌, ◌≤◌, List, [], ◌∷◌, length, Contains, refl}
+use Rattle.std.proofs.Common.{sym, ap, subst, ◌∙◌, arith, slice_index_or}
 use Rattle.std.specs.List.{Any, AllByRecursion}
 use Rattle.std.proofs.lemmas.Bool.{false_from_ne_true, both_ways}
 use mathlib.Core.Path.{fun_ext}
@@ -14,9 +15,13 @@ use Rattle.edf_holdings.specs.Reply.{IsSoundTold}
 use Rattle.edf_holdings.specs.Free.{IsFragment, with_one, with_all, IsFree, Has, SameRecords}
 use Rattle.edf_holdings.specs.Laws.{AreSoundTold, Reordered, FreeOfSame, AloneIsFree}
 use Rattle.edf_holdings.proofs.Same.{Clash-from_test, test_from_Clash}
-use Rattle.edf_holdings.proofs.Members.{In, Within, AreFree, joined_keeps, joined_has, apart_joined, same_lists}
-use Rattle.edf_holdings.proofs.Joining.{IsGood-from_sound, In-from_Contains, Contains-from_In, put_cases, put_here, rising_from_apart, free_from_apart, lasting, apart-sound}
-use Rattle.edf_holdings.proofs.Free.{all_grows, IsAmong-from_Any, Any-from_IsAmong, any_order_law, all_within}
+use Rattle.edf_holdings.proofs.Members.{In, Within, AreFree, joined_keeps, joined_has, apart_joined}
+use Rattle.edf_holdings.proofs.Members.{same_lists}
+use Rattle.edf_holdings.proofs.Joining.{IsGood-from_sound, In-from_Contains, Contains-from_In}
+use Rattle.edf_holdings.proofs.Joining.{put_cases, put_here, rising_from_apart, free_from_apart}
+use Rattle.edf_holdings.proofs.Joining.{lasting, apart-sound}
+use Rattle.edf_holdings.proofs.Free.{all_grows, IsAmong-from_Any, Any-from_IsAmong, any_order_law}
+use Rattle.edf_holdings.proofs.Free.{all_within}
 use Rattle.edf_holdings.proofs.InSets.{from_nothing}
 
 -- each key's records rise and lie apart
@@ -24,17 +29,23 @@ abbrev AreInOrder : Holdings → Type 0
 AreInOrder h = (k : Key) → IsRising (h k) × IsApart (duration_of k.duration) 0 (h k)
 
 -- they do so with one fragment more, where in the end nothing clashes
-order-one : (h : Holdings) (t : Told) (ts : List Told) → IsSoundTold t → ((k : Key) → NoClash (duration_of k.duration) (with_all (with_one h t) ts k)) → AreInOrder h → AreInOrder (with_one h t)
+order-one : (h : Holdings) (t : Told) (ts : List Told) → IsSoundTold t →
+    ((k : Key) → NoClash (duration_of k.duration) (with_all (with_one h t) ts k)) → AreInOrder h →
+    AreInOrder (with_one h t)
 order-one h (Fault fault) ts w n o = o
 order-one h (Fragment key records) ts w n o =
-    put_cases key records h (λ k l. IsRising l × IsApart (duration_of k.duration) 0 l)
-    (rising_from_apart (duration_of key.duration) 0 (joined (h key) records) (lasting key w.0) apart, apart) o
+    put_cases key records h (λ k l. IsRising l × IsApart (duration_of k.duration) 0 l) (
+      rising_from_apart (duration_of key.duration) 0 (joined (h key) records) (lasting key w.0)
+          apart,
+      apart,
+    ) o
   where
     all : List DataRecord
     all = with_all (put key records h) ts key
 
     up : Within (joined (h key) records) all
-    up y m = all_grows (put key records h) ts key y (subst (λ (l : List DataRecord). In y l) (sym (put_here key records h)) m)
+    up y m = all_grows (put key records h) ts key y
+        (subst (λ (l : List DataRecord). In y l) (sym (put_here key records h)) m)
 
     free : AreFree (duration_of key.duration) (h key) records
     free r s m k = false_from_ne_true _ (λ t. n key r s
@@ -43,19 +54,25 @@ order-one h (Fragment key records) ts w n o =
         (Clash-from_test (duration_of key.duration) r s t))
 
     apart : IsApart (duration_of key.duration) 0 (joined (h key) records)
-    apart = apart_joined (duration_of key.duration) 0 (h key) records (o key).1 (apart-sound key 0 records w.1) free
+    apart = apart_joined (duration_of key.duration) 0 (h key) records (o key).1
+        (apart-sound key 0 records w.1) free
 
-order-all : (h : Holdings) (ts : List Told) → AreSoundTold ts → ((k : Key) → NoClash (duration_of k.duration) (with_all h ts k)) → AreInOrder h → AreInOrder (with_all h ts)
+order-all : (h : Holdings) (ts : List Told) → AreSoundTold ts →
+    ((k : Key) → NoClash (duration_of k.duration) (with_all h ts k)) → AreInOrder h →
+    AreInOrder (with_all h ts)
 order-all h [] w n o = o
 order-all h (t ∷ ts) w n o = order-all (with_one h t) ts w.1 n (order-one h t ts w.0 n o)
 
 -- lists with the same records, of which one is free, give the same
-module _ (cap : ℕ) (h : Holdings) (ts us : List Told) (s : IsSound cap h) (w : AreSoundTold ts) (v : AreSoundTold us) (i : IsFree cap h ts) (same : SameRecords ts us) where
+module _ (cap : ℕ) (h : Holdings) (ts us : List Told) (s : IsSound cap h) (w : AreSoundTold ts)
+    (v : AreSoundTold us) (i : IsFree cap h ts) (same : SameRecords ts us) where
   there : (k : Key) → Within (with_all h us k) (with_all h ts k)
-  there k = all_within h us ts k (λ y m. IsAmong-from_Any k y ts ((same k y).1 (Any-from_IsAmong k y us m)))
+  there k = all_within h us ts k (λ y m.
+      IsAmong-from_Any k y ts ((same k y).1 (Any-from_IsAmong k y us m)))
 
   back : (k : Key) → Within (with_all h ts k) (with_all h us k)
-  back k = all_within h ts us k (λ y m. IsAmong-from_Any k y us ((same k y).0 (Any-from_IsAmong k y ts m)))
+  back k = all_within h ts us k (λ y m.
+      IsAmong-from_Any k y us ((same k y).0 (Any-from_IsAmong k y ts m)))
 
   no_clash : (k : Key) → NoClash (duration_of k.duration) (with_all h us k)
   no_clash k r x m n =
@@ -68,10 +85,16 @@ module _ (cap : ℕ) (h : Holdings) (ts us : List Told) (s : IsSound cap h) (w :
 
   pub same_all : with_all h us ≡ with_all h ts
   same_all = fun_ext (λ k. same_lists 1 0 0 (with_all h us k) (with_all h ts k) (omega arith)
-      (order-all h us v no_clash at_first k).0 (order-all h ts w i.no_clash at_first k).0 (there k) (back k))
+      (order-all h us v no_clash at_first k).0 (order-all h ts w i.no_clash at_first k).0 (there k)
+      (back k))
 
   pub free_again : AllByRecursion IsFragment us → IsFree cap h us
-  free_again f = record { fragments = f; no_clash = no_clash; few = λ k. subst (λ (z : Holdings). length (z k) ≤ cap) (sym same_all) (i.few k) }
+  free_again f = record {
+    fragments = f;
+    no_clash = no_clash;
+    few =
+        λ k. subst (λ (z : Holdings). length (z k) ≤ cap) (sym same_all) (i.few k);
+  }
 
 pub free_of_same : FreeOfSame
 free_of_same cap h ts us s w v i f same = free_again cap h ts us s w v i same f
@@ -84,40 +107,58 @@ head-in u us = (0, omega arith, refl)
 tail-in : (u : Told) (us : List Told) (t : Told) → Contains us t → Contains (u ∷ us) t
 tail-in u us t c = (suc c.0, omega (arith, c.1), c.2)
 
-at-member : (P : Told → Type 0) (ts : List Told) (t : Told) → AllByRecursion P ts → Contains ts t → P t
+at-member : (P : Told → Type 0) (ts : List Told) (t : Told) → AllByRecursion P ts → Contains ts t →
+    P t
 at-member P ts t a c = go ts a c.0 c.1 c.2
   where
-    go : (ys : List Told) → AllByRecursion P ys → (k : ℕ) → k < length ys → slice_index_or ys k t ≡ t → P t
+    go : (ys : List Told) → AllByRecursion P ys → (k : ℕ) → k < length ys →
+        slice_index_or ys k t ≡ t → P t
     go [] b k l e = absurd (omega arith)
     go (y ∷ ys) b zero l e = subst P e b.0
     go (y ∷ ys) b (suc k) l e = go ys b.1 k (omega arith) e
 
-each-moved : (P : Told → Type 0) (ts us : List Told) → AllByRecursion P ts → ((t : Told) → Contains us t → Contains ts t) → AllByRecursion P us
+each-moved : (P : Told → Type 0) (ts us : List Told) → AllByRecursion P ts →
+    ((t : Told) → Contains us t → Contains ts t) → AllByRecursion P us
 each-moved P ts [] a f = tt
-each-moved P ts (u ∷ us) a f = (at-member P ts u a (f u (head-in u us)), each-moved P ts us a (λ t m. f t (tail-in u us t m)))
+each-moved P ts (u ∷ us) a f = (
+  at-member P ts u a (f u (head-in u us)),
+  each-moved P ts us a (λ t m. f t (tail-in u us t m)),
+)
 
-any-moved : (P : Told → Type 0) (ts us : List Told) → ((t : Told) → Contains ts t → Contains us t) → Any P ts → Any P us
+any-moved : (P : Told → Type 0) (ts us : List Told) → ((t : Told) → Contains ts t → Contains us t) →
+    Any P ts → Any P us
 any-moved P ts us f a = let c = f a.1 (a.0, a.2, a.3) in (c.0, a.1, c.1, c.2, a.4)
 
 pub reordered : Reordered
 reordered cap h ts us s w i same =
     let v = each-moved IsSoundTold ts us w (λ t. (same t).1) in
     let f = each-moved IsFragment ts us i.fragments (λ t. (same t).1) in
-    let r : SameRecords ts us = λ k y. (any-moved (Has k y) ts us (λ t. (same t).0), any-moved (Has k y) us ts (λ t. (same t).1)) in
-    let j = free_again cap h ts us s w v i r f in
-    (j, (any_order_law cap h us s v j).1 ∙ (same_all cap h ts us s w v i r ∙ sym (any_order_law cap h ts s w i).1))
+    let r : SameRecords ts us = λ k y. (
+      any-moved (Has k y) ts us (λ t. (same t).0),
+      any-moved (Has k y) us ts (λ t. (same t).1),
+    ) in
+    let j = free_again cap h ts us s w v i r f in (
+      j,
+      (any_order_law cap h us s v j).1
+          ∙ (same_all cap h ts us s w v i r ∙ sym (any_order_law cap h ts s w i).1),
+    )
 
 pub alone_is_free : AloneIsFree
 alone_is_free cap key records w few = record {
   fragments = (tt, tt);
   no_clash = put_cases key records nothing_held (λ k l. NoClash (duration_of k.duration) l)
-      (λ r s m n c. both_ways _ (free_from_apart (duration_of key.duration) 0 (joined [] records) apart r s (In-from_Contains (joined [] records) r m) (In-from_Contains (joined [] records) s n)) (test_from_Clash (duration_of key.duration) r s c))
+      (λ r s m n c. both_ways _ (free_from_apart (duration_of key.duration) 0 (joined [] records)
+      apart r s (In-from_Contains (joined [] records) r m)
+      (In-from_Contains (joined [] records) s n))
+      (test_from_Clash (duration_of key.duration) r s c))
       (λ k r s m n c. absurd (In-from_Contains [] r m));
-  few = put_cases key records nothing_held (λ k l. length l ≤ cap) (omega (arith, few, ap (λ (l : List DataRecord). length l) whole)) (λ k. omega arith);
+  few = put_cases key records nothing_held (λ k l. length l ≤ cap)
+      (omega (arith, few, ap (λ (l : List DataRecord). length l) whole)) (λ k. omega arith);
 }
   where
     whole : joined [] records ≡ records
-    whole = from_nothing (duration_of key.duration) 0 records (lasting key w.0) (apart-sound key 0 records w.1) (apart-sound key 0 records w.1)
+    whole = from_nothing (duration_of key.duration) 0 records (lasting key w.0)
+        (apart-sound key 0 records w.1) (apart-sound key 0 records w.1)
 
     apart : IsApart (duration_of key.duration) 0 (joined [] records)
     apart = subst (IsApart (duration_of key.duration) 0) (sym whole) (apart-sound key 0 records w.1)

@@ -1,6 +1,9 @@
 -- What is answered: exactly what may join is accepted, and what a later repeat is answered.
-use Rattle.std.proofs.Common.{◌≡◌, ℕ, suc, ◌+◌, ◌-◌, ◌≤◌, ◌⊎◌, false, nat_eq, List, [], ◌∷◌, ◌++◌, length, Option, Some, None, refl, sym, ap, subst, ◌∙◌, inl, inr, arith, find}
-use Rattle.std.proofs.lemmas.Bool.{cond_both, cond-true, cond-false, cases_Bool, and_cases, ltb-false, and_left, and_right, le-ltb}
+use Rattle.std.proofs.Common.{◌≡◌, ℕ, suc, ◌+◌, ◌-◌, ◌≤◌, ◌⊎◌, false, nat_eq, List, [], ◌∷◌, ◌++◌}
+use Rattle.std.proofs.Common.{length, Option, Some, None, refl, sym, ap, subst, ◌∙◌, inl, inr}
+use Rattle.std.proofs.Common.{arith, find}
+use Rattle.std.proofs.lemmas.Bool.{cond_both, cond-true, cond-false, cases_Bool, and_cases}
+use Rattle.std.proofs.lemmas.Bool.{ltb-false, and_left, and_right, le-ltb}
 use Rattle.edf_field.specs.Number.{duration_of}
 use Rattle.edf_header.specs.Key.{Key}
 use Rattle.edf_fragment.specs.Fragment.{DataRecord}
@@ -9,30 +12,41 @@ use Rattle.edf_fragment.specs.Told.{Told, Fragment, Fault}
 use Rattle.edf_holdings.specs.Clash.{clashes}
 use Rattle.edf_holdings.specs.Rising.{contains_record, joined, new_of}
 use Rattle.edf_holdings.specs.Holdings.{Holdings, put}
-use Rattle.edf_holdings.specs.Reply.{IsSoundTold, fits, after_one, after, Reply, Form, Overlap, Differs, Full, Accepted, IsAccepted, clash_or, first_clash, is_past, reply_to_clash, reply, replies}
-use Rattle.edf_holdings.proofs.Members.{In, Within, AreFree, joined_has, length_joined, none_new, within_from_none_new}
-use Rattle.edf_holdings.proofs.Joining.{IsGood, Grows, MayJoin, fits_from_MayJoin, MayJoin-smaller, MayJoin-from_held, put_here, lasting, apart-sound}
+use Rattle.edf_holdings.specs.Reply.{IsSoundTold, fits, after_one, after, Reply, Form, Overlap}
+use Rattle.edf_holdings.specs.Reply.{Differs, Full, Accepted, IsAccepted, clash_or, first_clash}
+use Rattle.edf_holdings.specs.Reply.{is_past, reply_to_clash, reply, replies}
+use Rattle.edf_holdings.proofs.Members.{In, Within, AreFree, joined_has, length_joined, none_new}
+use Rattle.edf_holdings.proofs.Members.{within_from_none_new}
+use Rattle.edf_holdings.proofs.Joining.{IsGood, Grows, MayJoin, fits_from_MayJoin, MayJoin-smaller}
+use Rattle.edf_holdings.proofs.Joining.{MayJoin-from_held, put_here, lasting, apart-sound}
 
-pub find_none : (d : ℕ) (r : DataRecord) (xs : List DataRecord) → find (clashes d r) xs ≡ None → (x : DataRecord) → In x xs → clashes d r x ≡ false
+pub find_none : (d : ℕ) (r : DataRecord) (xs : List DataRecord) → find (clashes d r) xs ≡ None →
+    (x : DataRecord) → In x xs → clashes d r x ≡ false
 find_none d r [] e x m = absurd m
 find_none d r (y ∷ ys) e x m =
     elim (cases_Bool (clashes d r y)) [
       | inl t ↦ cc (sym (cond-true (clashes d r y) (Some y) (find (clashes d r) ys) t) ∙ e)
       | inr t ↦ elim m [
         | inl p ↦ subst (λ (u : DataRecord). clashes d r u ≡ false) p t
-        | inr n ↦ find_none d r ys (sym (cond-false (clashes d r y) (Some y) (find (clashes d r) ys) t) ∙ e) x n
+        | inr n ↦ find_none d r ys
+            (sym (cond-false (clashes d r y) (Some y) (find (clashes d r) ys) t) ∙ e) x n
       ]
     ]
 
-none_found : (d : ℕ) (r : DataRecord) (xs : List DataRecord) → ((x : DataRecord) → In x xs → clashes d r x ≡ false) → find (clashes d r) xs ≡ None
+none_found : (d : ℕ) (r : DataRecord) (xs : List DataRecord) →
+    ((x : DataRecord) → In x xs → clashes d r x ≡ false) → find (clashes d r) xs ≡ None
 none_found d r [] w = refl
-none_found d r (y ∷ ys) w = cond-false _ _ _ (w y (inl refl)) ∙ none_found d r ys (λ x m. w x (inr m))
+none_found d r (y ∷ ys) w = cond-false _ _ _ (w y (inl refl))
+    ∙ none_found d r ys (λ x m. w x (inr m))
 
-clash_or-none : (r : DataRecord) (o : Option DataRecord) (later : Option (DataRecord × DataRecord)) → clash_or r o later ≡ None → (o ≡ None) × (later ≡ None)
+clash_or-none : (r : DataRecord) (o : Option DataRecord)
+    (later : Option (DataRecord × DataRecord)) → clash_or r o later ≡ None → (o ≡ None)
+    × (later ≡ None)
 clash_or-none r None later e = (refl, e)
 clash_or-none r (Some s) later e = cc
 
-pub AreFree-from_first : (d : ℕ) (xs rs : List DataRecord) → first_clash d xs rs ≡ None → AreFree d xs rs
+pub AreFree-from_first : (d : ℕ) (xs rs : List DataRecord) → first_clash d xs rs ≡ None →
+    AreFree d xs rs
 AreFree-from_first d xs [] e r x m n = absurd m
 AreFree-from_first d xs (s ∷ rs) e r x m n =
     let p = clash_or-none s (find (clashes d s) xs) (first_clash d xs rs) e in
@@ -44,7 +58,8 @@ AreFree-from_first d xs (s ∷ rs) e r x m n =
 pub no_first : (d : ℕ) (xs rs : List DataRecord) → AreFree d xs rs → first_clash d xs rs ≡ None
 no_first d xs [] f = refl
 no_first d xs (s ∷ rs) f =
-    ap (λ (o : Option DataRecord). clash_or s o (first_clash d xs rs)) (none_found d s xs (λ x n. f s x (inl refl) n))
+    ap (λ (o : Option DataRecord). clash_or s o (first_clash d xs rs))
+    (none_found d s xs (λ x n. f s x (inl refl) n))
     ∙ no_first d xs rs (λ r x m n. f r x (inr m) n)
 
 -- what is answered to a fragment where nothing clashes and there is room
@@ -55,20 +70,32 @@ answered key records xs = Accepted key (new_of xs records) (length records - new
 abbrev pub no_room : ℕ → List DataRecord → List DataRecord → Reply
 no_room cap records xs = Full (length xs) (new_of xs records) cap
 
-pub accepted_from_MayJoin : (cap : ℕ) (h : Holdings) (key : Key) (records : List DataRecord) → IsSoundTold (Fragment key records) → IsGood cap h → MayJoin cap key records h → reply cap h (Fragment key records) ≡ answered key records (h key)
+pub accepted_from_MayJoin : (cap : ℕ) (h : Holdings) (key : Key) (records : List DataRecord) →
+    IsSoundTold (Fragment key records) → IsGood cap h → MayJoin cap key records h →
+    reply cap h (Fragment key records) ≡ answered key records (h key)
 unfolding reply
 accepted_from_MayJoin cap h key records w g m =
-    ap (reply_to_clash cap key records (h key)) (no_first (duration_of key.duration) (h key) records m.free)
-    ∙ cond-false (is_past cap (length (h key)) (new_of (h key) records)) (no_room cap records (h key)) (answered key records (h key)) (elim m.room [
-      | inl i ↦ and_left _ _ (le-ltb 0 (new_of (h key) records) (omega (arith, none_new (h key) records i)))
+    ap (reply_to_clash cap key records (h key))
+    (no_first (duration_of key.duration) (h key) records m.free)
+    ∙ cond-false (is_past cap (length (h key)) (new_of (h key) records))
+    (no_room cap records (h key)) (answered key records (h key)) (elim m.room [
+      | inl i ↦ and_left _ _ (le-ltb 0 (new_of (h key) records)
+          (omega (arith, none_new (h key) records i)))
       | inr l ↦ and_right _ _ (le-ltb cap (length (h key) + new_of (h key) records)
-          (omega (arith, length_joined (duration_of key.duration) 0 0 (h key) records (lasting key w.0) (apart-sound key 0 records w.1) (g.apart key) m.free)))
+          (omega (
+            arith,
+            length_joined (duration_of key.duration) 0 0 (h key) records
+                (lasting key w.0) (apart-sound key 0 records w.1) (g.apart key) m.free,
+          )))
     ])
 
-MayJoin-from_clash : (cap : ℕ) (h : Holdings) (key : Key) (records : List DataRecord) (o : Option (DataRecord × DataRecord)) → IsSoundTold (Fragment key records) → IsGood cap h
-    → first_clash (duration_of key.duration) (h key) records ≡ o → IsAccepted (reply_to_clash cap key records (h key) o) → MayJoin cap key records h
+MayJoin-from_clash : (cap : ℕ) (h : Holdings) (key : Key) (records : List DataRecord)
+    (o : Option (DataRecord × DataRecord)) → IsSoundTold (Fragment key records) → IsGood cap h
+    → first_clash (duration_of key.duration) (h key) records ≡ o →
+    IsAccepted (reply_to_clash cap key records (h key) o) → MayJoin cap key records h
 MayJoin-from_clash cap h key records (Some p) w g q i =
-    absurd (cond_both (nat_eq p.0.start p.1.start) (Differs p.0.start) (Overlap p.0.start p.1.start) (λ (r : Reply). IsAccepted r → ⊥) (λ _ n. n) (λ _ n. n) i)
+    absurd (cond_both (nat_eq p.0.start p.1.start) (Differs p.0.start) (Overlap p.0.start p.1.start)
+    (λ (r : Reply). IsAccepted r → ⊥) (λ _ n. n) (λ _ n. n) i)
 MayJoin-from_clash cap h key records None w g q i = record { free = free; room = room }
   where
     free : AreFree (duration_of key.duration) (h key) records
@@ -77,24 +104,39 @@ MayJoin-from_clash cap h key records None w g q i = record { free = free; room =
     room : Within records (h key) ⊎ (length (joined (h key) records) ≤ cap)
     room =
         elim (cases_Bool (is_past cap (length (h key)) (new_of (h key) records))) [
-          | inl t ↦ absurd (subst IsAccepted (cond-true _ (no_room cap records (h key)) (answered key records (h key)) t) i)
+          | inl t ↦ absurd (subst IsAccepted
+              (cond-true _ (no_room cap records (h key)) (answered key records (h key)) t) i)
           | inr t ↦ elim (and_cases _ _ t) [
-            | inl u ↦ inl (within_from_none_new (h key) records (let l = ltb-false 0 (new_of (h key) records) u in omega (arith, l)))
+            | inl u ↦ inl (within_from_none_new (h key) records (let l =
+                ltb-false 0 (new_of (h key) records) u in omega (arith, l)))
             | inr u ↦ inr (let l = ltb-false cap (length (h key) + new_of (h key) records) u in
-                omega (arith, l, length_joined (duration_of key.duration) 0 0 (h key) records (lasting key w.0) (apart-sound key 0 records w.1) (g.apart key) free))
+                omega (
+                  arith,
+                  l,
+                  length_joined (duration_of key.duration) 0 0 (h key) records
+                      (lasting key w.0) (apart-sound key 0 records w.1) (g.apart key) free,
+                ))
           ]
         ]
 
-pub MayJoin-from_accepted : (cap : ℕ) (h : Holdings) (key : Key) (records : List DataRecord) → IsSoundTold (Fragment key records) → IsGood cap h → IsAccepted (reply cap h (Fragment key records)) → MayJoin cap key records h
+pub MayJoin-from_accepted : (cap : ℕ) (h : Holdings) (key : Key) (records : List DataRecord) →
+    IsSoundTold (Fragment key records) → IsGood cap h →
+    IsAccepted (reply cap h (Fragment key records)) → MayJoin cap key records h
 unfolding reply
-MayJoin-from_accepted cap h key records w g i = MayJoin-from_clash cap h key records (first_clash (duration_of key.duration) (h key) records) w g refl i
+MayJoin-from_accepted cap h key records w g i =
+    MayJoin-from_clash cap h key records (first_clash (duration_of key.duration) (h key) records) w
+    g refl i
 
 new_of-le : (xs rs : List DataRecord) → new_of xs rs ≤ length rs
 new_of-le xs [] = omega arith
-new_of-le xs (r ∷ rs) = cond_both (contains_record xs r) (new_of xs rs) (1 + new_of xs rs) (λ n. n ≤ length (r ∷ rs)) (λ _. omega (arith, new_of-le xs rs)) (λ _. omega (arith, new_of-le xs rs))
+new_of-le xs (r ∷ rs) = cond_both (contains_record xs r) (new_of xs rs) (1 + new_of xs rs)
+    (λ n. n ≤ length (r ∷ rs)) (λ _. omega (arith, new_of-le xs rs))
+    (λ _. omega (arith, new_of-le xs rs))
 
 -- a fragment whose records are all held is accepted with nothing new
-pub held_reply : (cap : ℕ) (h : Holdings) (key : Key) (records : List DataRecord) → IsSoundTold (Fragment key records) → IsGood cap h → Within records (h key) → reply cap h (Fragment key records) ≡ Accepted key 0 (length records)
+pub held_reply : (cap : ℕ) (h : Holdings) (key : Key) (records : List DataRecord) →
+    IsSoundTold (Fragment key records) → IsGood cap h → Within records (h key) →
+    reply cap h (Fragment key records) ≡ Accepted key 0 (length records)
 held_reply cap h key records w g i =
     accepted_from_MayJoin cap h key records w g (MayJoin-from_held cap key records h g i)
     ∙ cc (none_new (h key) records i, all)
@@ -103,15 +145,24 @@ held_reply cap h key records w g i =
     all = omega (arith, none_new (h key) records i)
 
 -- what was accepted is in larger holdings
-held_after : (cap : ℕ) (h h' : Holdings) (key : Key) (records : List DataRecord) → MayJoin cap key records h → Grows (after_one cap h (Fragment key records)) h' → Within records (h' key)
+held_after : (cap : ℕ) (h h' : Holdings) (key : Key) (records : List DataRecord) →
+    MayJoin cap key records h → Grows (after_one cap h (Fragment key records)) h' →
+    Within records (h' key)
 unfolding after_one
 held_after cap h h' key records m up y n =
-    up key y (subst (λ (z : Holdings). In y (z key)) (sym (cond-true (fits cap key records h) (put key records h) h (fits_from_MayJoin cap key records h m)))
-    (subst (λ (l : List DataRecord). In y l) (sym (put_here key records h)) (joined_has (h key) records y n)))
+    up key y (subst (λ (z : Holdings). In y (z key))
+    (sym (cond-true (fits cap key records h) (put key records h) h
+    (fits_from_MayJoin cap key records h m)))
+    (subst (λ (l : List DataRecord). In y l) (sym (put_here key records h))
+    (joined_has (h key) records y n)))
 
-again_fragment : (cap : ℕ) (h h' : Holdings) (key : Key) (records : List DataRecord) → IsSoundTold (Fragment key records) → IsGood cap h → IsGood cap h' → Grows (after_one cap h (Fragment key records)) h' → (k : Key) (new known : ℕ)
-    → reply cap h (Fragment key records) ≡ Accepted k new known → reply cap h' (Fragment key records) ≡ Accepted k 0 (new + known)
-again_fragment cap h h' key records w g g' up k new known q = held_reply cap h' key records w g' (held_after cap h h' key records m up) ∙ same
+again_fragment : (cap : ℕ) (h h' : Holdings) (key : Key) (records : List DataRecord) →
+    IsSoundTold (Fragment key records) → IsGood cap h → IsGood cap h' →
+    Grows (after_one cap h (Fragment key records)) h' → (k : Key) (new known : ℕ)
+    → reply cap h (Fragment key records) ≡ Accepted k new known →
+    reply cap h' (Fragment key records) ≡ Accepted k 0 (new + known)
+again_fragment cap h h' key records w g g' up k new known q =
+    held_reply cap h' key records w g' (held_after cap h h' key records m up) ∙ same
   where
     m : MayJoin cap key records h
     m = MayJoin-from_accepted cap h key records w g (subst IsAccepted (sym q) tt)
@@ -128,40 +179,58 @@ again_fragment cap h h' key records w g g' up k new known q = held_reply cap h' 
         let u : length records ≡ new + known = omega arith in
         cc
 
-form_reply : (cap : ℕ) (h : Holdings) (fault : FragmentFault) → reply cap h (Fault fault) ≡ Form fault
+form_reply : (cap : ℕ) (h : Holdings) (fault : FragmentFault) →
+    reply cap h (Fault fault) ≡ Form fault
 unfolding reply
 form_reply cap h fault = refl
 
 -- a later repeat of an accepted member is accepted with nothing new
-pub accepted_again : (cap : ℕ) (h h' : Holdings) (t : Told) → IsSoundTold t → IsGood cap h → IsGood cap h' → Grows (after_one cap h t) h' → (k : Key) (new known : ℕ) → reply cap h t ≡ Accepted k new known → reply cap h' t ≡ Accepted k 0 (new + known)
-accepted_again cap h h' (Fragment key records) w g g' up k new known q = again_fragment cap h h' key records w g g' up k new known q
-accepted_again cap h h' (Fault fault) w g g' up k new known q = cc (sym (form_reply cap h fault) ∙ q)
+pub accepted_again : (cap : ℕ) (h h' : Holdings) (t : Told) → IsSoundTold t → IsGood cap h →
+    IsGood cap h' → Grows (after_one cap h t) h' → (k : Key) (new known : ℕ) →
+    reply cap h t ≡ Accepted k new known → reply cap h' t ≡ Accepted k 0 (new + known)
+accepted_again cap h h' (Fragment key records) w g g' up k new known q =
+    again_fragment cap h h' key records w g g' up k new known q
+accepted_again cap h h' (Fault fault) w g g' up k new known q =
+    cc (sym (form_reply cap h fault) ∙ q)
 
 -- what larger holdings accept, the smaller ones accepted
-pub accepted_before : (cap : ℕ) (h h' : Holdings) (t : Told) → IsSoundTold t → IsGood cap h → IsGood cap h' → Grows h h' → IsAccepted (reply cap h' t) → IsAccepted (reply cap h t)
-accepted_before cap h h' (Fault fault) w g g' up i = absurd (subst IsAccepted (form_reply cap h' fault) i)
+pub accepted_before : (cap : ℕ) (h h' : Holdings) (t : Told) → IsSoundTold t → IsGood cap h →
+    IsGood cap h' → Grows h h' → IsAccepted (reply cap h' t) → IsAccepted (reply cap h t)
+accepted_before cap h h' (Fault fault) w g g' up i =
+    absurd (subst IsAccepted (form_reply cap h' fault) i)
 accepted_before cap h h' (Fragment key records) w g g' up i =
     subst IsAccepted (sym (accepted_from_MayJoin cap h key records w g
-    (MayJoin-smaller cap key records h h' w.0 (apart-sound key 0 records w.1) g g' up (MayJoin-from_accepted cap h' key records w g' i)))) tt
+    (MayJoin-smaller cap key records h h' w.0 (apart-sound key 0 records w.1) g g' up
+    (MayJoin-from_accepted cap h' key records w g' i)))) tt
 
 -- a fragment has no fault of form
-no_fault : (cap : ℕ) (h : Holdings) (key : Key) (records : List DataRecord) (fault : FragmentFault) → reply cap h (Fragment key records) ≡ Form fault → ⊥
+no_fault : (cap : ℕ) (h : Holdings) (key : Key) (records : List DataRecord)
+    (fault : FragmentFault) → reply cap h (Fragment key records) ≡ Form fault → ⊥
 unfolding reply
 no_fault cap h key records fault q = go (first_clash (duration_of key.duration) (h key) records) q
   where
-    go : (o : Option (DataRecord × DataRecord)) → reply_to_clash cap key records (h key) o ≡ Form fault → ⊥
-    go (Some p) r = cond_both (nat_eq p.0.start p.1.start) (Differs p.0.start) (Overlap p.0.start p.1.start) (λ (z : Reply). z ≡ Form fault → ⊥) (λ _ s. cc) (λ _ s. cc) r
-    go None r = cond_both (is_past cap (length (h key)) (new_of (h key) records)) (no_room cap records (h key)) (answered key records (h key)) (λ (z : Reply). z ≡ Form fault → ⊥) (λ _ s. cc) (λ _ s. cc) r
+    go : (o : Option (DataRecord × DataRecord)) →
+        reply_to_clash cap key records (h key) o ≡ Form fault → ⊥
+    go (Some p) r = cond_both (nat_eq p.0.start p.1.start) (Differs p.0.start)
+        (Overlap p.0.start p.1.start) (λ (z : Reply). z ≡ Form fault → ⊥) (λ _ s. cc) (λ _ s. cc) r
+    go None r = cond_both (is_past cap (length (h key)) (new_of (h key) records))
+        (no_room cap records (h key)) (answered key records (h key))
+        (λ (z : Reply). z ≡ Form fault → ⊥) (λ _ s. cc) (λ _ s. cc) r
 
 -- a fault of form is the same whatever is held
-pub fault_again : (cap : ℕ) (h h' : Holdings) (t : Told) (fault : FragmentFault) → reply cap h t ≡ Form fault → reply cap h' t ≡ Form fault
+pub fault_again : (cap : ℕ) (h h' : Holdings) (t : Told) (fault : FragmentFault) →
+    reply cap h t ≡ Form fault → reply cap h' t ≡ Form fault
 fault_again cap h h' (Fragment key records) fault q = absurd (no_fault cap h key records fault q)
-fault_again cap h h' (Fault other) fault q = form_reply cap h' other ∙ (sym (form_reply cap h other) ∙ q)
+fault_again cap h h' (Fault other) fault q = form_reply cap h' other
+    ∙ (sym (form_reply cap h other) ∙ q)
 
-pub replies-append : (cap : ℕ) (h : Holdings) (ts us : List Told) → replies cap h (ts ++ us) ≡ replies cap h ts ++ replies cap (after cap h ts) us
+pub replies-append : (cap : ℕ) (h : Holdings) (ts us : List Told) →
+    replies cap h (ts ++ us) ≡ replies cap h ts ++ replies cap (after cap h ts) us
 replies-append cap h [] us = refl
-replies-append cap h (t ∷ ts) us = ap (λ l. reply cap h t ∷ l) (replies-append cap (after_one cap h t) ts us)
+replies-append cap h (t ∷ ts) us =
+    ap (λ l. reply cap h t ∷ l) (replies-append cap (after_one cap h t) ts us)
 
-pub length-replies : (cap : ℕ) (h : Holdings) (ts : List Told) → length (replies cap h ts) ≡ length ts
+pub length-replies : (cap : ℕ) (h : Holdings) (ts : List Told) →
+    length (replies cap h ts) ≡ length ts
 length-replies cap h [] = refl
 length-replies cap h (t ∷ ts) = ap suc (length-replies cap (after_one cap h t) ts)

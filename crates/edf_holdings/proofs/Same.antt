@@ -1,6 +1,8 @@
 -- The tests for sameness and for clashes decide what they are named for.
-use Rattle.std.proofs.Common.{◌≡◌, ◌≢◌, ℕ, ◌+◌, ◌<◌, ◌≤◌, ◌⊎◌, Bool, true, false, Option, None, Some, refl, inl, inr, arith}
-use Rattle.std.proofs.lemmas.Bool.{and_parts, and_from, cases_Bool, both_ways, not-true, not_from_false, false_from_ne_true, lt-ltb, ltb-true, cases_lt}
+use Rattle.std.proofs.Common.{◌≡◌, ◌≢◌, ℕ, ◌+◌, ◌<◌, ◌≤◌, ◌⊎◌, Bool, true, false, Option, None}
+use Rattle.std.proofs.Common.{Some, refl, inl, inr, arith}
+use Rattle.std.proofs.lemmas.Bool.{and_parts, and_from, cases_Bool, both_ways, not-true}
+use Rattle.std.proofs.lemmas.Bool.{not_from_false, false_from_ne_true, lt-ltb, ltb-true, cases_lt}
 use Rattle.std.specs.Bool.{Decides}
 use Rattle.std.specs.Option.{option_eq}
 use Rattle.std.specs.Prelude.{◌==◌, ◌&&◌}
@@ -21,7 +23,8 @@ both_decide r s d e = (
   (λ p. and_from r s (d.1 p.0) (e.1 p.1)),
 )
 
-option_decides : {A : Type 0} (same : A → A → Bool) → ((x y : A) → Decides (same x y) (x ≡ y)) → (x y : Option A) → Decides (option_eq same x y) (x ≡ y)
+option_decides : {A : Type 0} (same : A → A → Bool) → ((x y : A) → Decides (same x y) (x ≡ y)) →
+    (x y : Option A) → Decides (option_eq same x y) (x ≡ y)
 option_decides same d None None = (λ e. refl, λ e. refl)
 option_decides same d None (Some y) = (λ e. cc, λ e. cc)
 option_decides same d (Some x) None = (λ e. cc, λ e. cc)
@@ -36,8 +39,21 @@ same_key-Decides k q =
     (bytes_eq-Decides k.after q.after))
     (bytes_eq-Decides k.duration q.duration))
     (pointwise_decides bytes_eq-Decides k.signals q.signals) in (
-      (λ e. let p = parts.0 e in λ i. record { patient = p.0.0.0.0 i; dated = p.0.0.0.1 i; after = p.0.0.1 i; duration = p.0.1 i; signals = p.1 i }),
-      (λ e. parts.1 (((((λ i. (e i).patient), (λ i. (e i).dated)), (λ i. (e i).after)), (λ i. (e i).duration)), (λ i. (e i).signals))),
+      (λ e. let p = parts.0 e in λ i. record {
+        patient = p.0.0.0.0 i;
+        dated = p.0.0.0.1 i;
+        after =
+            p.0.0.1 i;
+        duration = p.0.1 i;
+        signals = p.1 i;
+      }),
+      (λ e. parts.1 (
+        (
+          (((λ i. (e i).patient), (λ i. (e i).dated)), (λ i. (e i).after)),
+          (λ i. (e i).duration),
+        ),
+        (λ i. (e i).signals),
+      )),
     )
 
 pub same_key-true : (k q : Key) → same_key k q ≡ true → k ≡ q
@@ -64,7 +80,12 @@ same_record-Decides r s =
     (Decides-eqb r.start s.start)
     (bytes_eq-Decides r.samples s.samples))
     (pointwise_decides same_annotation-Decides r.annotations s.annotations) in (
-      (λ e. let p = parts.0 e in λ i. record { start = p.0.0 i; samples = p.0.1 i; annotations = p.1 i }),
+      (λ e. let p = parts.0 e in λ i. record {
+        start = p.0.0 i;
+        samples = p.0.1 i;
+        annotations =
+            p.1 i;
+      }),
       (λ e. parts.1 (((λ i. (e i).start), (λ i. (e i).samples)), (λ i. (e i).annotations))),
     )
 
@@ -81,15 +102,21 @@ pub same_record_no : (r s : DataRecord) → r ≢ s → same_record r s ≡ fals
 same_record_no r s ne = false_from_ne_true _ (λ e. ne (same_record-true r s e))
 
 pub cases_same : (r s : DataRecord) → (r ≡ s) ⊎ (r ≢ s)
-cases_same r s = elim (cases_Bool (same_record r s)) [ inl e ↦ inl (same_record-true r s e) | inr e ↦ inr (same_record-false r s e) ]
+cases_same r s = elim (cases_Bool (same_record r s)) [
+  | inl e ↦ inl (same_record-true r s e)
+  | inr e ↦ inr (same_record-false r s e)
+]
 
 -- different records that start less than d apart clash
-pub clashes_near : (d : ℕ) (r s : DataRecord) → r ≢ s → r.start < s.start + d → s.start < r.start + d → clashes d r s ≡ true
+pub clashes_near : (d : ℕ) (r s : DataRecord) → r ≢ s → r.start < s.start + d →
+    s.start < r.start + d → clashes d r s ≡ true
 unfolding clashes
-clashes_near d r s ne a b = and_from _ _ (not_from_false _ (same_record_no r s ne)) (and_from _ _ (lt-ltb _ _ a) (lt-ltb _ _ b))
+clashes_near d r s ne a b = and_from _ _ (not_from_false _ (same_record_no r s ne))
+    (and_from _ _ (lt-ltb _ _ a) (lt-ltb _ _ b))
 
 -- what clashes differs and starts less than d apart
-pub clashes-true : (d : ℕ) (r s : DataRecord) → clashes d r s ≡ true → (r ≢ s) × (r.start < s.start + d) × (s.start < r.start + d)
+pub clashes-true : (d : ℕ) (r s : DataRecord) → clashes d r s ≡ true → (r ≢ s)
+    × (r.start < s.start + d) × (s.start < r.start + d)
 unfolding clashes
 clashes-true d r s e =
     let p = and_parts _ _ e in
@@ -97,7 +124,8 @@ clashes-true d r s e =
     (same_record-false r s (not-true _ p.0), ltb-true _ _ q.0, ltb-true _ _ q.1)
 
 -- what doesn't clash is the same, or starts d apart
-pub clashes-false : (d : ℕ) (r s : DataRecord) → clashes d r s ≡ false → (r ≡ s) ⊎ ((s.start + d ≤ r.start) ⊎ (r.start + d ≤ s.start))
+pub clashes-false : (d : ℕ) (r s : DataRecord) → clashes d r s ≡ false → (r ≡ s)
+    ⊎ ((s.start + d ≤ r.start) ⊎ (r.start + d ≤ s.start))
 clashes-false d r s e =
     elim (cases_same r s) [
       | inl p ↦ inl p
@@ -115,8 +143,22 @@ pub Clash-from_test : (d : ℕ) (r s : DataRecord) → clashes d r s ≡ true �
 Clash-from_test d r s e =
     let p = clashes-true d r s e in
     elim (cases_lt r.start s.start) [
-      | inl a ↦ ((s.start, record { begun = omega arith; not_over = p.2 }, record { begun = omega arith; not_over = omega arith }), p.0)
-      | inr a ↦ ((r.start, record { begun = omega arith; not_over = omega arith }, record { begun = a; not_over = p.1 }), p.0)
+      | inl a ↦ (
+        (
+          s.start,
+          record { begun = omega arith; not_over = p.2 },
+          record { begun = omega arith; not_over = omega arith },
+        ),
+        p.0,
+      )
+      | inr a ↦ (
+        (
+          r.start,
+          record { begun = omega arith; not_over = omega arith },
+          record { begun = a; not_over = p.1 },
+        ),
+        p.0,
+      )
     ]
 
 pub test_from_Clash : (d : ℕ) (r s : DataRecord) → Clash d r s → clashes d r s ≡ true

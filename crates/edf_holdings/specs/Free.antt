@@ -21,7 +21,8 @@ abbrev pub with_all : Holdings → List Told → Holdings
 with_all h [] = h
 with_all h (told ∷ tolds) = with_all (with_one h told) tolds
 
--- each is a fragment, and in the holdings with all their records no two of a key clash and none has more than the cap
+-- each is a fragment, and in the holdings with all their records no two of a key clash and none has
+-- more than the cap
 pub record IsFree (cap : ℕ) (h : Holdings) (tolds : List Told) : Type 0 where
   pub fragments : AllByRecursion IsFragment tolds
   pub no_clash : (k : Key) → NoClash (duration_of k.duration) (with_all h tolds k)

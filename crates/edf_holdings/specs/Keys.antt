@@ -18,4 +18,5 @@ pub record AreKeysOf (h : Holdings) (keys : List Key) : Type 0 where
 
 -- there is one such list at most
 abbrev pub KeysAreOne : Type 0
-KeysAreOne = (h : Holdings) (keys others : List Key) → AreKeysOf h keys → AreKeysOf h others → keys ≡ others
+KeysAreOne = (h : Holdings) (keys others : List Key) → AreKeysOf h keys → AreKeysOf h others →
+    keys ≡ others

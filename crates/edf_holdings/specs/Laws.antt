@@ -1,5 +1,7 @@
--- What is true of lists of submissions: repeats add nothing, and where nothing conflicts the order and the cuts don't count.
-use Rattle.std.specs.Prelude.{◌≡◌, ℕ, ◌+◌, ◌<◌, ◌≤◌, ◌↔◌, List, [], ◌∷◌, ◌++◌, length, All, Contains, remove}
+-- What is true of lists of submissions: repeats add nothing, and where nothing conflicts the order
+-- and the cuts don't count.
+use Rattle.std.specs.Prelude.{◌≡◌, ℕ, ◌+◌, ◌<◌, ◌≤◌, ◌↔◌, List, [], ◌∷◌, ◌++◌, length, All}
+use Rattle.std.specs.Prelude.{Contains, remove}
 use Rattle.std.specs.List.{AllByRecursion}
 use Rattle.edf_field.specs.Number.{duration_of}
 use Rattle.edf_header.specs.Key.{Key, IsKey, MayStart}
@@ -9,7 +11,8 @@ use Rattle.edf_fragment.specs.Told.{Told, Fragment, Tells}
 use Rattle.edf_holdings.specs.Clash.{near_of}
 use Rattle.edf_fragment.specs.Sound.{IsSoundRecord}
 use Rattle.edf_holdings.specs.Holdings.{Holdings, IsSound, nothing_held, put}
-use Rattle.edf_holdings.specs.Reply.{IsSoundTold, after_one, after, Form, Accepted, IsAccepted, reply, replies}
+use Rattle.edf_holdings.specs.Reply.{IsSoundTold, after_one, after, Form, Accepted, IsAccepted}
+use Rattle.edf_holdings.specs.Reply.{reply, replies}
 use Rattle.edf_holdings.specs.Free.{IsFragment, with_all, IsFree, SameRecords}
 
 abbrev pub AreSoundTold : List Told → Type 0
@@ -17,7 +20,8 @@ AreSoundTold tolds = AllByRecursion IsSoundTold tolds
 
 -- after any list the holdings are sound
 abbrev pub StaysSound : Type 0
-StaysSound = (cap : ℕ) (h : Holdings) (tolds : List Told) → IsSound cap h → AreSoundTold tolds → IsSound cap (after cap h tolds)
+StaysSound = (cap : ℕ) (h : Holdings) (tolds : List Told) → IsSound cap h → AreSoundTold tolds →
+    IsSound cap (after cap h tolds)
 
 -- what bytes tell
 abbrev pub ToldIsSound : Type 0
@@ -27,17 +31,21 @@ ToldIsSound = (bytes : List ℕ) (told : Told) → Tells bytes told → IsSoundT
 abbrev pub NothingIsSound : Type 0
 NothingIsSound = (cap : ℕ) → IsSound cap nothing_held
 
--- one record more, near which nothing is held, where there is room; the first of a recording is one with which it may start
+-- one record more, near which nothing is held, where there is room; the first of a recording is one
+-- with which it may start
 abbrev pub AddStaysSound : Type 0
-AddStaysSound = (cap : ℕ) (h : Holdings) (key : Key) (r : DataRecord) → IsSound cap h → IsKey key → IsSoundRecord key r →
-    near_of (duration_of key.duration) r.start (h key) ≡ [] → length (h key) < cap → (h key ≡ [] → MayStart key r.start) →
+AddStaysSound = (cap : ℕ) (h : Holdings) (key : Key) (r : DataRecord) → IsSound cap h → IsKey key →
+    IsSoundRecord key r →
+    near_of (duration_of key.duration) r.start (h key) ≡ [] → length (h key) < cap →
+    (h key ≡ [] → MayStart key r.start) →
     IsSound cap (put key (r ∷ []) h)
 
 -- a fragment whose records are all held is accepted with nothing new, and changes nothing
 abbrev pub HeldIsKnown : Type 0
 HeldIsKnown = (cap : ℕ) (h : Holdings) (key : Key) (records : List DataRecord) →
     IsSound cap h → IsSoundTold (Fragment key records) → All (Contains (h key)) records →
-    (reply cap h (Fragment key records) ≡ Accepted key 0 (length records)) × (after_one cap h (Fragment key records) ≡ h)
+    (reply cap h (Fragment key records) ≡ Accepted key 0 (length records))
+    × (after_one cap h (Fragment key records) ≡ h)
 
 -- a list with one member named: those earlier, the member, and those that follow
 abbrev pub with_member : List Told → Told → List Told → List Told
@@ -53,45 +61,59 @@ AcceptedAgain = (cap : ℕ) (h : Holdings) (earlier : List Told) (told : Told) (
 -- a later repeat of a refused member is refused again, with the same fault of form where it had one
 abbrev pub RefusedAgain : Type 0
 RefusedAgain = (cap : ℕ) (h : Holdings) (earlier : List Told) (told : Told) (between : List Told) →
-    IsSound cap h → AreSoundTold (with_member earlier told between) → ¬ IsAccepted (reply cap (after cap h earlier) told) →
+    IsSound cap h → AreSoundTold (with_member earlier told between) →
+    ¬ IsAccepted (reply cap (after cap h earlier) told) →
     (¬ IsAccepted (reply cap (after cap h (with_member earlier told between)) told)) ×
     ((fault : FragmentFault) → reply cap (after cap h earlier) told ≡ Form fault →
     reply cap (after cap h (with_member earlier told between)) told ≡ Form fault)
 
 -- without the repeat the holdings at the end and all other replies are the same
 abbrev pub RepeatTakenOut : Type 0
-RepeatTakenOut = (cap : ℕ) (h : Holdings) (earlier : List Told) (told : Told) (between later : List Told) →
+RepeatTakenOut = (cap : ℕ) (h : Holdings) (earlier : List Told) (told : Told)
+    (between later : List Told) →
     IsSound cap h → AreSoundTold (with_member earlier told between) →
-    (after cap h (with_member earlier told between ++ (told ∷ later)) ≡ after cap h (with_member earlier told between ++ later)) ×
-    (remove (replies cap h (with_member earlier told between ++ (told ∷ later))) (length (with_member earlier told between))
+    (after cap h (with_member earlier told between
+    ++ (told ∷ later)) ≡ after cap h (with_member earlier told between ++ later)) ×
+    (remove (replies cap h (with_member earlier told between ++ (told ∷ later)))
+    (length (with_member earlier told between))
     ≡ replies cap h (with_member earlier told between ++ later))
 
 -- a list broken off after `front` and sent again from its front ends as the list sent once
 abbrev pub FromTheFront : Type 0
-FromTheFront = (cap : ℕ) (h : Holdings) (front rest : List Told) → IsSound cap h → AreSoundTold front →
+FromTheFront = (cap : ℕ) (h : Holdings) (front rest : List Told) → IsSound cap h →
+    AreSoundTold front →
     after cap (after cap h front) (front ++ rest) ≡ after cap h (front ++ rest)
 
--- in a free list each member is accepted, and the holdings at the end have all its records beside those at the start
+-- in a free list each member is accepted, and the holdings at the end have all its records beside
+-- those at the start
 abbrev pub AnyOrder : Type 0
-AnyOrder = (cap : ℕ) (h : Holdings) (tolds : List Told) → IsSound cap h → AreSoundTold tolds → IsFree cap h tolds →
+AnyOrder = (cap : ℕ) (h : Holdings) (tolds : List Told) → IsSound cap h → AreSoundTold tolds →
+    IsFree cap h tolds →
     All IsAccepted (replies cap h tolds) × (after cap h tolds ≡ with_all h tolds)
 
 -- the same submissions in another order, or more often or less, are free too and end alike
 abbrev pub Reordered : Type 0
-Reordered = (cap : ℕ) (h : Holdings) (tolds others : List Told) → IsSound cap h → AreSoundTold tolds → IsFree cap h tolds →
-    ((told : Told) → Contains tolds told ↔ Contains others told) → IsFree cap h others × (after cap h others ≡ after cap h tolds)
+Reordered = (cap : ℕ) (h : Holdings) (tolds others : List Told) → IsSound cap h →
+    AreSoundTold tolds → IsFree cap h tolds →
+    ((told : Told) → Contains tolds told ↔ Contains others told) → IsFree cap h others
+    × (after cap h others ≡ after cap h tolds)
 
 -- whether fragments are free is said by their records alone, so a free list may be cut anew
 abbrev pub FreeOfSame : Type 0
-FreeOfSame = (cap : ℕ) (h : Holdings) (tolds others : List Told) → IsSound cap h → AreSoundTold tolds → AreSoundTold others →
-    IsFree cap h tolds → AllByRecursion IsFragment others → SameRecords tolds others → IsFree cap h others
+FreeOfSame = (cap : ℕ) (h : Holdings) (tolds others : List Told) → IsSound cap h →
+    AreSoundTold tolds → AreSoundTold others →
+    IsFree cap h tolds → AllByRecursion IsFragment others → SameRecords tolds others →
+    IsFree cap h others
 
 -- a fragment alone is free where nothing is held and there is room for it
 abbrev pub AloneIsFree : Type 0
-AloneIsFree = (cap : ℕ) (key : Key) (records : List DataRecord) → IsSoundTold (Fragment key records) → length records ≤ cap →
+AloneIsFree = (cap : ℕ) (key : Key) (records : List DataRecord) →
+    IsSoundTold (Fragment key records) → length records ≤ cap →
     IsFree cap nothing_held (Fragment key records ∷ [])
 
 -- two free lists with the same records end alike
 abbrev pub Recut : Type 0
-Recut = (cap : ℕ) (h : Holdings) (tolds others : List Told) → IsSound cap h → AreSoundTold tolds → AreSoundTold others →
-    IsFree cap h tolds → IsFree cap h others → SameRecords tolds others → after cap h tolds ≡ after cap h others
+Recut = (cap : ℕ) (h : Holdings) (tolds others : List Told) → IsSound cap h → AreSoundTold tolds →
+    AreSoundTold others →
+    IsFree cap h tolds → IsFree cap h others → SameRecords tolds others →
+    after cap h tolds ≡ after cap h others

@@ -1,5 +1,6 @@
 -- What the definitions say in the words of sets, so that their recursions need no belief.
-use Rattle.std.specs.Prelude.{◌≡◌, ◌≢◌, ℕ, ◌+◌, ◌-◌, ◌<◌, ◌≤◌, ◌↔◌, ◌⊎◌, List, [], ◌∷◌, ◌++◌, length, Contains, Any, IsTrue, cond}
+use Rattle.std.specs.Prelude.{◌≡◌, ◌≢◌, ℕ, ◌+◌, ◌-◌, ◌<◌, ◌≤◌, ◌↔◌, ◌⊎◌, List, [], ◌∷◌, ◌++◌}
+use Rattle.std.specs.Prelude.{length, Contains, Any, IsTrue, cond}
 use Rattle.edf_field.specs.Number.{duration_of}
 use Rattle.edf_header.specs.Key.{Key}
 use Rattle.edf_fragment.specs.Fragment.{DataRecord}
@@ -8,7 +9,8 @@ use Rattle.edf_holdings.specs.Same.{same_key, same_record}
 use Rattle.edf_holdings.specs.Clash.{Clash, clashes, near_of}
 use Rattle.edf_holdings.specs.Rising.{IsRising, contains_record, joined, new_of}
 use Rattle.edf_holdings.specs.Holdings.{Holdings, IsSound, nothing_held}
-use Rattle.edf_holdings.specs.Reply.{IsSoundTold, fits, after_one, after, Overlap, Differs, Full, Accepted, reply, IsAccepted}
+use Rattle.edf_holdings.specs.Reply.{IsSoundTold, fits, after_one, after, Overlap, Differs, Full}
+use Rattle.edf_holdings.specs.Reply.{Accepted, reply, IsAccepted}
 use Rattle.edf_holdings.specs.Free.{with_all, Has}
 use Rattle.edf_holdings.specs.Laws.{AreSoundTold}
 
@@ -23,7 +25,8 @@ abbrev pub TestIsClash : Type 0
 TestIsClash = (d : ℕ) (r s : DataRecord) → IsTrue (clashes d r s) ↔ Clash d r s
 
 abbrev pub HoldsIsContains : Type 0
-HoldsIsContains = (xs : List DataRecord) (r : DataRecord) → IsTrue (contains_record xs r) ↔ Contains xs r
+HoldsIsContains = (xs : List DataRecord) (r : DataRecord) →
+    IsTrue (contains_record xs r) ↔ Contains xs r
 
 -- the same records, in whatever order
 abbrev pub SameMembers : List DataRecord → List DataRecord → Type 0
@@ -35,11 +38,13 @@ ListIsSet = (xs ys : List DataRecord) → IsRising xs → IsRising ys → SameMe
 
 -- and so are sound holdings
 abbrev pub HoldingsAreSets : Type 0
-HoldingsAreSets = (cap : ℕ) (h other : Holdings) → IsSound cap h → IsSound cap other → ((k : Key) → SameMembers (h k) (other k)) → h ≡ other
+HoldingsAreSets = (cap : ℕ) (h other : Holdings) → IsSound cap h → IsSound cap other →
+    ((k : Key) → SameMembers (h k) (other k)) → h ≡ other
 
 -- a joined list has the records of both, and no others
 abbrev pub JoinedHasBoth : Type 0
-JoinedHasBoth = (xs records : List DataRecord) (r : DataRecord) → Contains (joined xs records) r ↔ (Contains xs r ⊎ Contains records r)
+JoinedHasBoth = (xs records : List DataRecord) (r : DataRecord) →
+    Contains (joined xs records) r ↔ (Contains xs r ⊎ Contains records r)
 
 -- holdings with all that is told have what was held and what is told, and nothing else
 abbrev pub AllHasBoth : Type 0
@@ -48,7 +53,8 @@ AllHasBoth = (h : Holdings) (tolds : List Told) (k : Key) (r : DataRecord) →
 
 -- none of the records clashes with one of the key
 abbrev pub IsClear : Holdings → Key → List DataRecord → Type 0
-IsClear h key records = (r s : DataRecord) → Contains records r → Contains (h key) s → ¬ Clash (duration_of key.duration) r s
+IsClear h key records = (r s : DataRecord) → Contains records r → Contains (h key) s →
+    ¬ Clash (duration_of key.duration) r s
 
 -- so, and joined with them the key has what it had, or at most the cap
 pub record Fits (cap : ℕ) (key : Key) (records : List DataRecord) (h : Holdings) : Type 0 where
@@ -56,15 +62,18 @@ pub record Fits (cap : ℕ) (key : Key) (records : List DataRecord) (h : Holding
   pub room : (joined (h key) records ≡ h key) ⊎ (length (joined (h key) records) ≤ cap)
 
 abbrev pub FitsIsTold : Type 0
-FitsIsTold = (cap : ℕ) (h : Holdings) (key : Key) (records : List DataRecord) → IsSound cap h → IsSoundTold (Fragment key records) →
+FitsIsTold = (cap : ℕ) (h : Holdings) (key : Key) (records : List DataRecord) → IsSound cap h →
+    IsSoundTold (Fragment key records) →
     IsTrue (fits cap key records h) ↔ Fits cap key records h
 
 -- exactly what fits is accepted
 abbrev pub AcceptedWhereFits : Type 0
-AcceptedWhereFits = (cap : ℕ) (h : Holdings) (key : Key) (records : List DataRecord) → IsSound cap h → IsSoundTold (Fragment key records) →
+AcceptedWhereFits = (cap : ℕ) (h : Holdings) (key : Key) (records : List DataRecord) →
+    IsSound cap h → IsSoundTold (Fragment key records) →
     IsAccepted (reply cap h (Fragment key records)) ↔ IsTrue (fits cap key records h)
 
--- r is the first record of the second list that clashes with one of the first, and s the earliest that it clashes with
+-- r is the first record of the second list that clashes with one of the first, and s the earliest
+-- that it clashes with
 pub record IsFirstClash (d : ℕ) (xs records : List DataRecord) (r s : DataRecord) : Type 0 where
   pub before : List DataRecord
   pub behind : List DataRecord
@@ -76,33 +85,41 @@ pub record IsFirstClash (d : ℕ) (xs records : List DataRecord) (r s : DataReco
 
 -- the answer names that clash
 abbrev pub ClashIsNamed : Type 0
-ClashIsNamed = (cap : ℕ) (h : Holdings) (key : Key) (records : List DataRecord) (r s : DataRecord) → IsSound cap h →
+ClashIsNamed = (cap : ℕ) (h : Holdings) (key : Key) (records : List DataRecord) (r s : DataRecord) →
+    IsSound cap h →
     IsFirstClash (duration_of key.duration) (h key) records r s →
     (r.start ≡ s.start → reply cap h (Fragment key records) ≡ Differs r.start) ×
     (r.start ≢ s.start → reply cap h (Fragment key records) ≡ Overlap r.start s.start)
 
 -- and there is a first one wherever records clash
 abbrev pub ClashIsThere : Type 0
-ClashIsThere = (cap : ℕ) (h : Holdings) (key : Key) (records : List DataRecord) (r s : DataRecord) → IsSound cap h →
+ClashIsThere = (cap : ℕ) (h : Holdings) (key : Key) (records : List DataRecord) (r s : DataRecord) →
+    IsSound cap h →
     Contains records r → Contains (h key) s → Clash (duration_of key.duration) r s →
-    (q : DataRecord) × (x : DataRecord) × IsFirstClash (duration_of key.duration) (h key) records q x
+    (q : DataRecord) × (x : DataRecord)
+    × IsFirstClash (duration_of key.duration) (h key) records q x
 
 -- where nothing clashes, the answer is `Full` exactly where some are new and are too many, else
 -- that it is accepted
 abbrev pub CountsAreNamed : Type 0
-CountsAreNamed = (cap : ℕ) (h : Holdings) (key : Key) (records : List DataRecord) → IsClear h key records →
+CountsAreNamed = (cap : ℕ) (h : Holdings) (key : Key) (records : List DataRecord) →
+    IsClear h key records →
     (0 < new_of (h key) records → cap < length (h key) + new_of (h key) records →
     reply cap h (Fragment key records) ≡ Full (length (h key)) (new_of (h key) records) cap) ×
     ((new_of (h key) records ≡ 0) ⊎ (length (h key) + new_of (h key) records ≤ cap) →
-    reply cap h (Fragment key records) ≡ Accepted key (new_of (h key) records) (length records - new_of (h key) records))
+    reply cap h (Fragment key records) ≡ Accepted key (new_of (h key) records)
+    (length records - new_of (h key) records))
 
 -- and the new ones are those by which the recording grows
 abbrev pub NewIsCounted : Type 0
-NewIsCounted = (cap : ℕ) (h : Holdings) (key : Key) (records : List DataRecord) → IsSound cap h → IsSoundTold (Fragment key records) →
-    IsClear h key records → length (joined (h key) records) ≡ length (h key) + new_of (h key) records
+NewIsCounted = (cap : ℕ) (h : Holdings) (key : Key) (records : List DataRecord) → IsSound cap h →
+    IsSoundTold (Fragment key records) →
+    IsClear h key records → length (joined (h key) records) ≡ length (h key) + new_of (h key)
+    records
 
 -- a member of the list that was accepted when it came has the record under the key
-pub record FromAccepted (cap : ℕ) (h : Holdings) (tolds : List Told) (k : Key) (r : DataRecord) : Type 0 where
+pub record FromAccepted (cap : ℕ) (h : Holdings) (tolds : List Told) (k : Key)
+    (r : DataRecord) : Type 0 where
   pub before : List Told
   pub member : Told
   pub behind : List Told
@@ -110,9 +127,11 @@ pub record FromAccepted (cap : ℕ) (h : Holdings) (tolds : List Told) (k : Key)
   pub accepted : IsAccepted (reply cap (after cap h before) member)
   pub has : Has k r member
 
--- what is held after a list is what was held, and every record of an accepted member, and nothing else
+-- what is held after a list is what was held, and every record of an accepted member, and nothing
+-- else
 abbrev pub AfterHasAccepted : Type 0
-AfterHasAccepted = (cap : ℕ) (h : Holdings) (tolds : List Told) (k : Key) (r : DataRecord) → IsSound cap h → AreSoundTold tolds →
+AfterHasAccepted = (cap : ℕ) (h : Holdings) (tolds : List Told) (k : Key) (r : DataRecord) →
+    IsSound cap h → AreSoundTold tolds →
     Contains (after cap h tolds k) r ↔ (Contains (h k) r ⊎ FromAccepted cap h tolds k r)
 
 abbrev pub RefusedChangesNothing : Type 0
@@ -129,11 +148,15 @@ OwnList = (cap : ℕ) (h : Holdings) (k : Key) → IsSound cap h → h k ≢ [] 
 
 -- never more than two records lie near a start
 abbrev pub NearTwo : Type 0
-NearTwo = (cap : ℕ) (h : Holdings) (k : Key) (start : ℕ) → IsSound cap h → length (near_of (duration_of k.duration) start (h k)) ≤ 2
+NearTwo = (cap : ℕ) (h : Holdings) (k : Key) (start : ℕ) → IsSound cap h →
+    length (near_of (duration_of k.duration) start (h k)) ≤ 2
 
--- a rising list that has exactly the held records whose intervals meet that of the start is `near_of`
+-- a rising list that has exactly the held records whose intervals meet that of the start is
+-- `near_of`
 abbrev pub NearIsSelected : Type 0
-NearIsSelected = (cap : ℕ) (h : Holdings) (k : Key) (start : ℕ) (ys : List DataRecord) → IsSound cap h → IsRising ys →
+NearIsSelected = (cap : ℕ) (h : Holdings) (k : Key) (start : ℕ) (ys : List DataRecord) →
+    IsSound cap h → IsRising ys →
     ((r : DataRecord) → Contains ys r
-    ↔ (Contains (h k) r × (r.start < start + duration_of k.duration) × (start < r.start + duration_of k.duration))) →
+    ↔ (Contains (h k) r × (r.start < start + duration_of k.duration)
+    × (start < r.start + duration_of k.duration))) →
     ys ≡ near_of (duration_of k.duration) start (h k)

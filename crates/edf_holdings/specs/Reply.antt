@@ -1,5 +1,7 @@
--- What is answered to a submission, and what it leaves: functions of what its bytes tell and of the holdings that it meets.
-use Rattle.std.specs.Prelude.{ℕ, ◌+◌, ◌-◌, Bool, not, ◌&&◌, ◌||◌, cond, nat_eq, nat_lt, nat_le, List, [], ◌∷◌, length, Option, Some, None, find}
+-- What is answered to a submission, and what it leaves: functions of what its bytes tell and of the
+-- holdings that it meets.
+use Rattle.std.specs.Prelude.{ℕ, ◌+◌, ◌-◌, Bool, not, ◌&&◌, ◌||◌, cond, nat_eq, nat_lt, nat_le}
+use Rattle.std.specs.Prelude.{List, [], ◌∷◌, length, Option, Some, None, find}
 use Rattle.std.specs.List.{list_all}
 use Rattle.edf_field.specs.Number.{duration_of}
 use Rattle.edf_header.specs.Key.{Key, IsKey}
@@ -20,13 +22,15 @@ IsSoundTold (Fault fault) = Unit {0}
 abbrev pub is_free_of : ℕ → List DataRecord → List DataRecord → Bool
 is_free_of d xs records = list_all (λ r. list_all (λ s. not (clashes d r s)) xs) records
 
--- the key may take the records: none clashes with one that it holds, and they are all held or it then has at most `cap`
+-- the key may take the records: none clashes with one that it holds, and they are all held or it
+-- then has at most `cap`
 abbrev pub fits : ℕ → Key → List DataRecord → Holdings → Bool
 fits cap key records h =
     is_free_of (duration_of key.duration) (h key) records
     && (nat_eq (new_of (h key) records) 0 || nat_le (length (joined (h key) records)) cap)
 
--- what one submission leaves: the records of a fragment that fits join those of its key, and nothing else changes anything
+-- what one submission leaves: the records of a fragment that fits join those of its key, and
+-- nothing else changes anything
 unfoldable pub after_one : ℕ → Holdings → Told → Holdings
 after_one cap h (Fragment key records) = cond (fits cap key records h) (put key records h) h
 after_one cap h (Fault fault) = h
@@ -36,8 +40,9 @@ abbrev pub after : ℕ → Holdings → List Told → Holdings
 after cap h [] = h
 after cap h (told ∷ tolds) = after cap (after_one cap h told) tolds
 
--- an answer: a fault of form; a clash, with the starts of the record and of the stored one; another record at the same start;
--- no room, with how many are held, how many would be new, and the cap; or accepted, with how many were new and how many known
+-- an answer: a fault of form; a clash, with the starts of the record and of the stored one; another
+-- record at the same start; no room, with how many are held, how many would be new, and the cap; or
+-- accepted, with how many were new and how many known
 pub data Reply : Type 0 where
   Form : FragmentFault → Reply
   Overlap : ℕ → ℕ → Reply
@@ -52,11 +57,13 @@ IsAccepted (Differs start) = ⊥
 IsAccepted (Full held new cap) = ⊥
 IsAccepted (Accepted key new known) = Unit {0}
 
-abbrev pub clash_or : DataRecord → Option DataRecord → Option (DataRecord × DataRecord) → Option (DataRecord × DataRecord)
+abbrev pub clash_or : DataRecord → Option DataRecord → Option (DataRecord × DataRecord) →
+    Option (DataRecord × DataRecord)
 clash_or r None later = later
 clash_or r (Some s) later = Some (r, s)
 
--- the first record of the second list that clashes with one of the first, and the first of that list that it clashes with
+-- the first record of the second list that clashes with one of the first, and the first of that
+-- list that it clashes with
 abbrev pub first_clash : ℕ → List DataRecord → List DataRecord → Option (DataRecord × DataRecord)
 first_clash d xs [] = None
 first_clash d xs (r ∷ rs) = clash_or r (find (clashes d r) xs) (first_clash d xs rs)
@@ -67,17 +74,22 @@ is_past cap held new = nat_lt 0 new && nat_lt cap (held + new)
 
 -- the answer where `held` are held and `new` of `all` would be new
 abbrev pub reply_to_counts : ℕ → Key → ℕ → ℕ → ℕ → Reply
-reply_to_counts cap key held new all = cond (is_past cap held new) (Full held new cap) (Accepted key new (all - new))
+reply_to_counts cap key held new all =
+    cond (is_past cap held new) (Full held new cap) (Accepted key new (all - new))
 
 -- the answer where the key holds xs, and this is the first clash or there is none
-abbrev pub reply_to_clash : ℕ → Key → List DataRecord → List DataRecord → Option (DataRecord × DataRecord) → Reply
-reply_to_clash cap key records xs (Some p) = cond (nat_eq p.0.start p.1.start) (Differs p.0.start) (Overlap p.0.start p.1.start)
-reply_to_clash cap key records xs None = reply_to_counts cap key (length xs) (new_of xs records) (length records)
+abbrev pub reply_to_clash : ℕ → Key → List DataRecord → List DataRecord →
+    Option (DataRecord × DataRecord) → Reply
+reply_to_clash cap key records xs (Some p) =
+    cond (nat_eq p.0.start p.1.start) (Differs p.0.start) (Overlap p.0.start p.1.start)
+reply_to_clash cap key records xs None =
+    reply_to_counts cap key (length xs) (new_of xs records) (length records)
 
 -- what is answered to one submission: its fault of form, else its first clash, else `Full`, else
 -- that it is accepted
 unfoldable pub reply : ℕ → Holdings → Told → Reply
-reply cap h (Fragment key records) = reply_to_clash cap key records (h key) (first_clash (duration_of key.duration) (h key) records)
+reply cap h (Fragment key records) =
+    reply_to_clash cap key records (h key) (first_clash (duration_of key.duration) (h key) records)
 reply cap h (Fault fault) = Form fault
 
 -- what is answered to a list of submissions, each of which meets what those before it left

@@ -21,7 +21,8 @@ contains_record (x ∷ xs) r = same_record x r || contains_record xs r
 -- is not put in again
 abbrev pub inserted : DataRecord → List DataRecord → List DataRecord
 inserted r [] = r ∷ []
-inserted r (x ∷ xs) = cond (same_record x r) (x ∷ xs) (cond (nat_lt r.start x.start) (r ∷ x ∷ xs) (x ∷ inserted r xs))
+inserted r (x ∷ xs) = cond (same_record x r) (x ∷ xs)
+    (cond (nat_lt r.start x.start) (r ∷ x ∷ xs) (x ∷ inserted r xs))
 
 -- the first list with the records of the second: its members are those of both, by a law
 abbrev pub joined : List DataRecord → List DataRecord → List DataRecord

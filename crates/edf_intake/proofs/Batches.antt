@@ -1,5 +1,7 @@
--- A list of submissions: nothing yet, one input more, and all of it where each answer tells a reply.
-use Rattle.std.proofs.Common.{◌≡◌, ℕ, ◌⊎◌, List, [], ◌∷◌, ◌++◌, map, Option, Some, None, Ok, Err, refl, sym, ap, subst, ◌∙◌, inl, inr, append_assoc, append-nil, arith}
+-- A list of submissions: nothing yet, one input more, and all of it where each answer tells a
+-- reply.
+use Rattle.std.proofs.Common.{◌≡◌, ℕ, ◌⊎◌, List, [], ◌∷◌, ◌++◌, map, Option, Some, None, Ok, Err}
+use Rattle.std.proofs.Common.{refl, sym, ap, subst, ◌∙◌, inl, inr, append_assoc, append-nil, arith}
 use Rattle.std.specs.List.{AllByRecursion, AllZip}
 use Rattle.std.specs.Io.KnownBytes.{Consumes, IsAtEnd}
 use Rattle.sqlite_trees.specs.declared.store.Store.{Ghosts}
@@ -11,7 +13,9 @@ use Rattle.edf_fragment.specs.Fault.{IsFirstFault}
 use Rattle.edf_fragment.specs.Told.{Told, Fragment, Fault, Tells}
 use Rattle.edf_fragment.specs.Whole.{IsFirstWhereKnown}
 use Rattle.edf_fragment.specs.declared.fault.FragmentFault.{FragmentFault}
-use Rattle.edf_fragment.specs.declared.fault.FragmentFault.TheVariants.{Header, CutRecord, Tal, Trailing, Read, Memory, Failed}
+use Rattle.edf_fragment.specs.declared.fault.FragmentFault.TheVariants.{Header, CutRecord, Tal}
+use Rattle.edf_fragment.specs.declared.fault.FragmentFault.TheVariants.{Trailing, Read, Memory}
+use Rattle.edf_fragment.specs.declared.fault.FragmentFault.TheVariants.{Failed}
 use Rattle.edf_fragment.proofs.Told.{one-telling}
 use Rattle.edf_holdings.specs.Holdings.{Holdings}
 use Rattle.edf_holdings.specs.Reply.{Reply, replies, after}
@@ -23,12 +27,16 @@ use Rattle.edf_store.proofs.Held.{others_committed_then}
 use Rattle.edf_intake.specs.Refusal.{Answer, reply_told}
 use Rattle.edf_intake.specs.Source.{Source, IsOfForm, Hears}
 use Rattle.edf_intake.specs.Submitted.{IsSubmitted, IsEnded}
-use Rattle.edf_intake.specs.Batch.{Turn, somes, told_in, replies_in, MayBeAnswered, IsTurn, AreUnended, IsOwnRefusal, AreLeftBy, AreEnded, AreSubmitted, AnswersAll}
+use Rattle.edf_intake.specs.Batch.{Turn, somes, told_in, replies_in, MayBeAnswered, IsTurn}
+use Rattle.edf_intake.specs.Batch.{AreUnended, IsOwnRefusal, AreLeftBy, AreEnded, AreSubmitted}
+use Rattle.edf_intake.specs.Batch.{AnswersAll}
 use Rattle.edf_intake.specs.declared.answer.Refusal.TheVariants as refusal
 use Rattle.edf_intake.proofs.Turns.{IsMade, told-next, replies-next, map-next, all-next, turn_of}
 
 -- what was no refusal of a clean disk is none later
-own-one : {S : Type 0} (g : Ghosts S) (mid new : StoreModel S) → (HasCleanDisk (at g new) → HasCleanDisk (at g mid)) → (answer : Answer) → IsOwnRefusal g mid answer → IsOwnRefusal g new answer
+own-one : {S : Type 0} (g : Ghosts S) (mid new : StoreModel S) →
+    (HasCleanDisk (at g new) → HasCleanDisk (at g mid)) → (answer : Answer) →
+    IsOwnRefusal g mid answer → IsOwnRefusal g new answer
 own-one g mid new was (Ok receipt) own = tt
 own-one g mid new was (Err (refusal.Form fault)) own = tt
 own-one g mid new was (Err (refusal.Overlap start stored)) own = tt
@@ -36,40 +44,57 @@ own-one g mid new was (Err (refusal.Differs start)) own = tt
 own-one g mid new was (Err (refusal.Full held more cap)) own = tt
 own-one g mid new was (Err refusal.Read) own = tt
 own-one g mid new was (Err refusal.Memory) own = tt
-own-one g mid new was (Err (refusal.Store fault)) own = record { other = own.other; told = own.told; own = λ clean. own.own (was clean) }
+own-one g mid new was (Err (refusal.Store fault)) own =
+    record { other = own.other; told = own.told; own = λ clean. own.own (was clean) }
 
-own-later : {S : Type 0} (g : Ghosts S) (mid new : StoreModel S) → (HasCleanDisk (at g new) → HasCleanDisk (at g mid)) → (answers : List Answer) → AllByRecursion (IsOwnRefusal g mid) answers → AllByRecursion (IsOwnRefusal g new) answers
+own-later : {S : Type 0} (g : Ghosts S) (mid new : StoreModel S) →
+    (HasCleanDisk (at g new) → HasCleanDisk (at g mid)) → (answers : List Answer) →
+    AllByRecursion (IsOwnRefusal g mid) answers → AllByRecursion (IsOwnRefusal g new) answers
 own-later g mid new was [] all = tt
-own-later g mid new was (a ∷ rest) all = (own-one g mid new was a all.0, own-later g mid new was rest all.1)
+own-later g mid new was (a ∷ rest) all =
+    (own-one g mid new was a all.0, own-later g mid new was rest all.1)
 
 -- one turn more
-after-next : (cap : ℕ) (h : Holdings) (turns : List Turn) (t : Turn) → after cap (after cap h (told_in turns)) (somes (t.told ∷ [])) ≡ after cap h (told_in (turns ++ t ∷ []))
-after-next cap h turns t = sym (ap (after cap h) (told-next turns t) ∙ after-append cap h (told_in turns) (somes (t.told ∷ [])))
+after-next : (cap : ℕ) (h : Holdings) (turns : List Turn) (t : Turn) →
+    after cap (after cap h (told_in turns)) (somes (t.told ∷ [])) ≡ after cap h
+    (told_in (turns ++ t ∷ []))
+after-next cap h turns t = sym (ap (after cap h) (told-next turns t)
+    ∙ after-append cap h (told_in turns) (somes (t.told ∷ [])))
 
-unended-more : (cap : ℕ) (h : Holdings) (behind : List Turn) (t : Turn) (rows : Trees) → AreUnended cap h behind rows → AreUnended cap h (behind ++ t ∷ []) rows
+unended-more : (cap : ℕ) (h : Holdings) (behind : List Turn) (t : Turn) (rows : Trees) →
+    AreUnended cap h behind rows → AreUnended cap h (behind ++ t ∷ []) rows
 unended-more cap h [] t rows none = absurd none
 unended-more cap h (u ∷ us) t rows it = it
 
-left-more : (cap : ℕ) (h : Holdings) (turns : List Turn) (t : Turn) (rows : Trees) → AreLeftBy cap h turns rows → AreLeftBy cap h (turns ++ t ∷ []) rows
+left-more : (cap : ℕ) (h : Holdings) (turns : List Turn) (t : Turn) (rows : Trees) →
+    AreLeftBy cap h turns rows → AreLeftBy cap h (turns ++ t ∷ []) rows
 left-more cap h turns t rows l = record {
   before = l.before;
   behind = l.behind ++ t ∷ [];
   splits = ap (λ (ts : List Turn). ts ++ t ∷ []) l.splits ∙ append_assoc l.before l.behind (t ∷ []);
-  stand = elim l.stand [ inl kept ↦ inl kept | inr unended ↦ inr (unended-more cap (after cap h (told_in l.before)) l.behind t rows unended) ];
+  stand = elim l.stand [
+    | inl kept ↦ inl kept
+    | inr unended ↦
+        inr (unended-more cap (after cap h (told_in l.before)) l.behind t rows unended)
+  ];
 }
 
 left-last : (cap : ℕ) (h : Holdings) (turns : List Turn) (t : Turn) (rows : Trees)
-    → AreKept cap rows (after cap (after cap h (told_in turns)) (somes (t.told ∷ []))) ⊎ AreUnended cap (after cap h (told_in turns)) (t ∷ []) rows → AreLeftBy cap h (turns ++ t ∷ []) rows
+    → AreKept cap rows (after cap (after cap h (told_in turns)) (somes (t.told ∷ [])))
+    ⊎ AreUnended cap (after cap h (told_in turns)) (t ∷ []) rows →
+    AreLeftBy cap h (turns ++ t ∷ []) rows
 left-last cap h turns t rows (inl kept) = record {
   before = turns ++ t ∷ [];
   behind = [];
   splits = sym (append-nil (turns ++ t ∷ []));
   stand = inl (subst (λ (z : Holdings). AreKept cap rows z) (after-next cap h turns t) kept);
 }
-left-last cap h turns t rows (inr unended) = record { before = turns; behind = t ∷ []; splits = refl; stand = inr unended }
+left-last cap h turns t rows (inr unended) =
+    record { before = turns; behind = t ∷ []; splits = refl; stand = inr unended }
 
 -- the last of the list is the one that was added
-pub ended-next : {S : Type 0} (g : Ghosts S) (old new : StoreModel S) (answers : List Answer) (last : Answer) → IsEnded g new last → AreEnded g old new (answers ++ last ∷ [])
+pub ended-next : {S : Type 0} (g : Ghosts S) (old new : StoreModel S) (answers : List Answer)
+    (last : Answer) → IsEnded g new last → AreEnded g old new (answers ++ last ∷ [])
 ended-next g old new [] last ended = ended
 ended-next g old new (a ∷ []) last ended = ended
 ended-next g old new (a ∷ b ∷ more) last ended = ended-next g old new (b ∷ more) last ended
@@ -86,46 +111,63 @@ module _ {S : Type 0} (g : Ghosts S) where
     replies_are = λ clean h held. refl;
     holdings = λ h held. held;
     others = stays.others;
-    crash = survives_weaker (at g old) (at g old) (λ _. ⊥) _ (λ clean rows none. absurd none) stays.crash;
+    crash = survives_weaker (at g old) (at g old) (λ _. ⊥) _ (λ clean rows none. absurd none)
+        stays.crash;
   }
 
-  module _ (old mid new : StoreModel S) (froms tos : List Source) (answers : List Answer) (capped : mid.cap ≡ old.cap) (all : AreSubmitted g old mid froms tos answers) where
-    next_turn : (t : Turn) → IsMade g mid new t → AreSubmitted g old new (froms ++ t.from ∷ []) (tos ++ t.to ∷ []) (answers ++ t.answer ∷ [])
+  module _ (old mid new : StoreModel S) (froms tos : List Source) (answers : List Answer)
+      (capped : mid.cap ≡ old.cap) (all : AreSubmitted g old mid froms tos answers) where
+    next_turn : (t : Turn) → IsMade g mid new t →
+        AreSubmitted g old new (froms ++ t.from ∷ []) (tos ++ t.to ∷ []) (answers ++ t.answer ∷ [])
     next_turn t m = record {
       turns = all.turns ++ t ∷ [];
-      froms_are = map-next (λ (u : Turn). u.from) all.turns t ∙ ap (λ (l : List Source). l ++ t.from ∷ []) all.froms_are;
-      tos_are = map-next (λ (u : Turn). u.to) all.turns t ∙ ap (λ (l : List Source). l ++ t.to ∷ []) all.tos_are;
-      answers_are = map-next (λ (u : Turn). u.answer) all.turns t ∙ ap (λ (l : List Answer). l ++ t.answer ∷ []) all.answers_are;
+      froms_are = map-next (λ (u : Turn). u.from) all.turns t
+          ∙ ap (λ (l : List Source). l ++ t.from ∷ []) all.froms_are;
+      tos_are = map-next (λ (u : Turn). u.to) all.turns t
+          ∙ ap (λ (l : List Source). l ++ t.to ∷ []) all.tos_are;
+      answers_are = map-next (λ (u : Turn). u.answer) all.turns t
+          ∙ ap (λ (l : List Answer). l ++ t.answer ∷ []) all.answers_are;
       each = all-next IsTurn all.turns t all.each m.is_turn;
-      refusals = all-next (IsOwnRefusal g new) answers t.answer (own-later g mid new (λ clean. omega (arith, m.crash.clean)) answers all.refusals) m.own;
+      refusals = all-next (IsOwnRefusal g new) answers t.answer
+          (own-later g mid new (λ clean. omega (arith, m.crash.clean)) answers all.refusals) m.own;
       replies_are = λ clean h held.
           let was : HasCleanDisk (at g mid) = omega (arith, m.crash.clean) in
           let first = all.replies_are was h held in
-          let one = subst (λ (n : ℕ). somes (reply_told t.answer ∷ []) ≡ replies n (after old.cap h (told_in all.turns)) (somes (t.told ∷ []))) capped (m.replied clean (after old.cap h (told_in all.turns)) (all.holdings h held)) in
+          let one = subst (λ (n : ℕ). somes (reply_told t.answer ∷ []) ≡ replies n
+          (after old.cap h (told_in all.turns)) (somes (t.told ∷ []))) capped
+          (m.replied clean (after old.cap h (told_in all.turns)) (all.holdings h held)) in
           replies-next all.turns t
           ∙ (ap (λ (l : List Reply). l ++ somes (reply_told t.answer ∷ [])) first
           ∙ (ap (λ (l : List Reply). replies old.cap h (told_in all.turns) ++ l) one
-          ∙ (sym (replies-append old.cap h (told_in all.turns) (somes (t.told ∷ []))) ∙ ap (replies old.cap h) (sym (told-next all.turns t)))));
+          ∙ (sym (replies-append old.cap h (told_in all.turns) (somes (t.told ∷ [])))
+          ∙ ap (replies old.cap h) (sym (told-next all.turns t)))));
       holdings = λ h held.
           let step = m.holdings (after old.cap h (told_in all.turns)) (all.holdings h held) in
-          subst (Holds g new) (ap (λ (n : ℕ). after n (after old.cap h (told_in all.turns)) (somes (t.told ∷ []))) capped ∙ after-next old.cap h all.turns t) step;
+          subst (Holds g new) (ap (λ (n : ℕ).
+          after n (after old.cap h (told_in all.turns)) (somes (t.told ∷ []))) capped
+          ∙ after-next old.cap h all.turns t) step;
       others = others_committed_then (at g old) (at g mid) (at g new) all.others m.others;
       crash = survives_then (at g old) (at g mid) (at g new) _ _ _
           (λ clean rows left h held. left-more old.cap h all.turns t rows (left h held))
           (λ clean rows left h held. left-last old.cap h all.turns t rows
-          (subst (λ (n : ℕ). AreKept n rows (after n (after old.cap h (told_in all.turns)) (somes (t.told ∷ []))) ⊎ AreUnended n (after old.cap h (told_in all.turns)) (t ∷ []) rows) capped
+          (subst (λ (n : ℕ). AreKept n rows
+          (after n (after old.cap h (told_in all.turns)) (somes (t.told ∷ [])))
+          ⊎ AreUnended n (after old.cap h (told_in all.turns)) (t ∷ []) rows) capped
           (left (after old.cap h (told_in all.turns)) (all.holdings h held))))
           all.crash m.crash;
     }
 
-    pub next_submitted : (from to : Source) (answer : Answer) → IsSubmitted g mid new from to answer → AreSubmitted g old new (froms ++ from ∷ []) (tos ++ to ∷ []) (answers ++ answer ∷ [])
+    pub next_submitted : (from to : Source) (answer : Answer) →
+        IsSubmitted g mid new from to answer →
+        AreSubmitted g old new (froms ++ from ∷ []) (tos ++ to ∷ []) (answers ++ answer ∷ [])
     next_submitted from to answer is =
         let t = turn_of g mid new from to answer is in
         next_turn (record { from = from; to = to; answer = answer; told = t.0 }) t.1
 
 -- ---- what known bytes tell
 
-first_known : (bytes : List ℕ) (fault : FragmentFault) → IsOfForm fault → IsFirstWhereKnown (Some bytes) fault → IsFirstFault bytes fault
+first_known : (bytes : List ℕ) (fault : FragmentFault) → IsOfForm fault →
+    IsFirstWhereKnown (Some bytes) fault → IsFirstFault bytes fault
 first_known bytes (Header e) form first = first
 first_known bytes (CutRecord n) form first = first
 first_known bytes (Tal n e) form first = first
@@ -134,31 +176,40 @@ first_known bytes Read form first = absurd form
 first_known bytes Memory form first = absurd form
 first_known bytes Failed form first = absurd form
 
-all_read : (bytes b : List ℕ) (rest : Option (List ℕ)) → Consumes (Some bytes) rest b → IsAtEnd rest → b ≡ bytes
+all_read : (bytes b : List ℕ) (rest : Option (List ℕ)) → Consumes (Some bytes) rest b →
+    IsAtEnd rest → b ≡ bytes
 all_read bytes b None read end = absurd read
 all_read bytes b (Some ys) read end = sym (read ∙ (ap (λ (l : List ℕ). b ++ l) end ∙ append-nil b))
 
-heard_tells : (from to : Source) (bytes : List ℕ) (told : Told) → from.left ≡ Some bytes → Hears from to told → Tells bytes told
+heard_tells : (from to : Source) (bytes : List ℕ) (told : Told) → from.left ≡ Some bytes →
+    Hears from to told → Tells bytes told
 heard_tells from to bytes (Fragment key records) known r =
-    let read : Consumes (Some bytes) to.left r.bytes = subst (λ (o : Option (List ℕ)). Consumes o to.left r.bytes) known r.read in
-    subst (λ (l : List ℕ). Spells l key records) (all_read bytes r.bytes to.left read r.end) r.spells
+    let read : Consumes (Some bytes) to.left r.bytes =
+    subst (λ (o : Option (List ℕ)). Consumes o to.left r.bytes) known r.read in
+    subst (λ (l : List ℕ). Spells l key records) (all_read bytes r.bytes to.left read r.end)
+    r.spells
 heard_tells from to bytes (Fault fault) known r =
-    first_known bytes fault r.of_form (subst (λ (o : Option (List ℕ)). IsFirstWhereKnown o fault) known r.is_fault.first)
+    first_known bytes fault r.of_form (subst (λ (o : Option (List ℕ)). IsFirstWhereKnown o fault)
+    known r.is_fault.first)
 
 abbrev IsKnown : Source → Told → Type 0
 IsKnown from told = (bytes : List ℕ) × (from.left ≡ Some bytes) × Tells bytes told
 
-same_told : (t : Turn) (x : Told) (y : Reply) → IsTurn t → IsKnown t.from x → reply_told t.answer ≡ Some y → t.told ≡ Some x
+same_told : (t : Turn) (x : Told) (y : Reply) → IsTurn t → IsKnown t.from x →
+    reply_told t.answer ≡ Some y → t.told ≡ Some x
 same_told t x y is (bytes, known, tells) given = go t.told refl
   where
     go : (o : Option Told) → t.told ≡ o → t.told ≡ Some x
     go (Some told) e =
         let heard : Hears t.from t.to told × MayBeAnswered told y = rw (e, given) at is in
-        e ∙ ap (λ (z : Told). Some z) (one-telling bytes told x (heard_tells t.from t.to bytes told known heard.0) tells)
+        e ∙ ap (λ (z : Told). Some z) (one-telling bytes told x
+        (heard_tells t.from t.to bytes told known heard.0) tells)
     go None e = absurd (rw (e, given) at is)
 
-all_told : (turns : List Turn) (tolds : List Told) (given : List Reply) → AllByRecursion IsTurn turns → AllZip IsKnown (map (λ (t : Turn). t.from) turns) tolds
-    → map reply_told (map (λ (t : Turn). t.answer) turns) ≡ map (λ (r : Reply). Some r) given → (told_in turns ≡ tolds) × (replies_in turns ≡ given)
+all_told : (turns : List Turn) (tolds : List Told) (given : List Reply) →
+    AllByRecursion IsTurn turns → AllZip IsKnown (map (λ (t : Turn). t.from) turns) tolds
+    → map reply_told (map (λ (t : Turn). t.answer) turns) ≡ map (λ (r : Reply). Some r) given →
+    (told_in turns ≡ tolds) × (replies_in turns ≡ given)
 all_told [] [] [] each known e = (refl, refl)
 all_told [] [] (y ∷ ys) each known e = cc
 all_told [] (x ∷ xs) given each known e = absurd known
@@ -166,14 +217,19 @@ all_told (t ∷ ts) [] given each known e = absurd known
 all_told (t ∷ ts) (x ∷ xs) [] each known e = cc
 all_told (t ∷ ts) (x ∷ xs) (y ∷ ys) each known e =
     let first : reply_told t.answer ≡ Some y = cc in
-    let rest : map reply_told (map (λ (u : Turn). u.answer) ts) ≡ map (λ (r : Reply). Some r) ys = cc in
+    let rest : map reply_told (map (λ (u : Turn). u.answer) ts) ≡ map (λ (r : Reply). Some r) ys =
+    cc in
     let told : t.told ≡ Some x = same_told t x y each.0 known.0 first in
     let more = all_told ts xs ys each.1 known.1 rest in (
-      ap (λ (o : Option Told). somes (o ∷ map (λ (u : Turn). u.told) ts)) told ∙ ap (λ (l : List Told). x ∷ l) more.0,
-      ap (λ (o : Option Reply). somes (o ∷ map (λ (u : Turn). reply_told u.answer) ts)) first ∙ ap (λ (l : List Reply). y ∷ l) more.1,
+      ap (λ (o : Option Told). somes (o ∷ map (λ (u : Turn). u.told) ts)) told
+          ∙ ap (λ (l : List Told). x ∷ l) more.0,
+      ap (λ (o : Option Reply). somes (o ∷ map (λ (u : Turn). reply_told u.answer) ts)) first
+          ∙ ap (λ (l : List Reply). y ∷ l) more.1,
     )
 
-pub answers_all : {S : Type 0} (g : Ghosts S) (old new : StoreModel S) (froms tos : List Source) (answers : List Answer) → AreSubmitted g old new froms tos answers → AnswersAll g old new froms answers
+pub answers_all : {S : Type 0} (g : Ghosts S) (old new : StoreModel S) (froms tos : List Source)
+    (answers : List Answer) → AreSubmitted g old new froms tos answers →
+    AnswersAll g old new froms answers
 answers_all g old new froms tos answers all tolds given known e h held =
     let said = all_told all.turns tolds given all.each
     (subst (λ (l : List Source). AllZip IsKnown l tolds) (sym all.froms_are) known)

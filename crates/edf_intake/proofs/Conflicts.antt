@@ -1,14 +1,18 @@
 -- The answer to a whole fragment from what its data records met.
-use Rattle.std.proofs.Common.{◌≡◌, ◌≢◌, ℕ, ◌+◌, ◌-◌, ◌<◌, ◌≤◌, inl, inr, cond, nat_eq, List, length, Option, MatchOption, Some, None, Err, refl, sym, ap, subst, ◌∙◌, arith}
+use Rattle.std.proofs.Common.{◌≡◌, ◌≢◌, ℕ, ◌+◌, ◌-◌, ◌<◌, ◌≤◌, inl, inr, cond, nat_eq, List, length}
+use Rattle.std.proofs.Common.{Option, MatchOption, Some, None, Err, refl, sym, ap, subst, ◌∙◌}
+use Rattle.std.proofs.Common.{arith}
 use Rattle.std.proofs.lemmas.Bool.Decides.{eqb_tells}
 use Rattle.std.proofs.lemmas.Bool.{cond-true, cond-false}
 use Rattle.edf_header.specs.Key.{Key}
 use Rattle.edf_fragment.specs.Fragment.{DataRecord}
 use Rattle.edf_fragment.specs.Told.{Fragment}
 use Rattle.edf_holdings.specs.Holdings.{Holdings, put}
-use Rattle.edf_holdings.specs.Reply.{IsSoundTold, Reply, Overlap, Differs, Full, Accepted, reply, after_one}
+use Rattle.edf_holdings.specs.Reply.{IsSoundTold, Reply, Overlap, Differs, Full, Accepted, reply}
+use Rattle.edf_holdings.specs.Reply.{after_one}
 use Rattle.edf_holdings.proofs.Joining.{IsGood}
-use Rattle.edf_holdings.proofs.Walked.{Taken, Stopped, reply_stopped, reply_full, reply_accepted, after_accepted}
+use Rattle.edf_holdings.proofs.Walked.{Taken, Stopped, reply_stopped, reply_full, reply_accepted}
+use Rattle.edf_holdings.proofs.Walked.{after_accepted}
 use Rattle.edf_intake.specs.Refusal.{reply_told}
 use Rattle.edf_intake.specs.declared.answer.Refusal.{Refusal}
 use Rattle.edf_intake.specs.declared.answer.Refusal.TheVariants as refusal
@@ -17,13 +21,22 @@ use Rattle.edf_intake.specs.declared.walk.Starts.{Starts}
 use Rattle.edf_intake.specs.declared.walk.Tally.{Tally}
 
 -- where no clash was met
-pub counts_all : (key : Key) (h : Holdings) (records : List DataRecord) (tally : Tally) → tally.clash ≡ None → IsTally key h records tally → CountsAll key h records tally
-counts_all key h records tally none met = subst (λ (o : Option Starts). MatchOption o (CountsAll key h records tally) (NamesClash key h records)) none met
+pub counts_all : (key : Key) (h : Holdings) (records : List DataRecord) (tally : Tally) →
+    tally.clash ≡ None → IsTally key h records tally → CountsAll key h records tally
+counts_all key h records tally none met =
+    subst (λ (o : Option Starts). MatchOption o (CountsAll key h records tally)
+    (NamesClash key h records)) none met
 
-pub names_clash : (key : Key) (h : Holdings) (records : List DataRecord) (tally : Tally) (starts : Starts) → tally.clash ≡ Some starts → IsTally key h records tally → NamesClash key h records starts
-names_clash key h records tally starts some met = subst (λ (o : Option Starts). MatchOption o (CountsAll key h records tally) (NamesClash key h records)) some met
+pub names_clash : (key : Key) (h : Holdings) (records : List DataRecord) (tally : Tally)
+    (starts : Starts) → tally.clash ≡ Some starts → IsTally key h records tally →
+    NamesClash key h records starts
+names_clash key h records tally starts some met =
+    subst (λ (o : Option Starts). MatchOption o (CountsAll key h records tally)
+    (NamesClash key h records)) some met
 
-pub taken_of : (cap : ℕ) (key : Key) (h : Holdings) (records : List DataRecord) (tally : Tally) → CountsAll key h records tally → Taken cap key h records (put key records h) tally.new tally.known
+pub taken_of : (cap : ℕ) (key : Key) (h : Holdings) (records : List DataRecord) (tally : Tally) →
+    CountsAll key h records tally →
+    Taken cap key h records (put key records h) tally.new tally.known
 taken_of cap key h records tally k = record {
   free = k.free;
   new_is = k.new_is;
@@ -34,39 +47,67 @@ taken_of cap key h records tally k = record {
   whole = λ _. refl;
 }
 
-stopped_of : (key : Key) (h : Holdings) (records : List DataRecord) (starts : Starts) → NamesClash key h records starts → Stopped key h records (starts.start, starts.stored)
-stopped_of key h records starts k = record { pair = k.pair; first = k.first; start = k.start; stored = k.stored }
+stopped_of : (key : Key) (h : Holdings) (records : List DataRecord) (starts : Starts) →
+    NamesClash key h records starts → Stopped key h records (starts.start, starts.stored)
+stopped_of key h records starts k = record {
+  pair = k.pair;
+  first = k.first;
+  start = k.start;
+  stored = k.stored;
+}
 
 -- the first clash, told as a refusal
-pub clash_told : (cap : ℕ) (key : Key) (h : Holdings) (records : List DataRecord) (starts : Starts) (told : Refusal) → (starts.start ≡ starts.stored → told ≡ refusal.Differs starts.start)
-    → (starts.start ≢ starts.stored → told ≡ refusal.Overlap starts.start starts.stored) → NamesClash key h records starts → reply_told (Err told) ≡ Some (reply cap h (Fragment key records))
+pub clash_told : (cap : ℕ) (key : Key) (h : Holdings) (records : List DataRecord) (starts : Starts)
+    (told : Refusal) → (starts.start ≡ starts.stored → told ≡ refusal.Differs starts.start)
+    → (starts.start ≢ starts.stored → told ≡ refusal.Overlap starts.start starts.stored) →
+    NamesClash key h records starts →
+    reply_told (Err told) ≡ Some (reply cap h (Fragment key records))
 clash_told cap key h records starts told differs overlaps k =
     elim (eqb_tells starts.start starts.stored) [
       | inl same ↦ ap (λ (r : Refusal). reply_told (Err r)) (differs same.1)
-          ∙ ap (λ (r : Reply). Some r) (sym (named ∙ cond-true (nat_eq starts.start starts.stored) (Differs starts.start) (Overlap starts.start starts.stored) same.0))
+          ∙ ap (λ (r : Reply). Some r) (sym (named
+          ∙ cond-true (nat_eq starts.start starts.stored) (Differs starts.start)
+          (Overlap starts.start starts.stored) same.0))
       | inr other ↦ ap (λ (r : Refusal). reply_told (Err r)) (overlaps other.1)
-          ∙ ap (λ (r : Reply). Some r) (sym (named ∙ cond-false (nat_eq starts.start starts.stored) (Differs starts.start) (Overlap starts.start starts.stored) other.0))
+          ∙ ap (λ (r : Reply). Some r) (sym (named
+          ∙ cond-false (nat_eq starts.start starts.stored) (Differs starts.start)
+          (Overlap starts.start starts.stored) other.0))
     ]
   where
-    named : reply cap h (Fragment key records) ≡ cond (nat_eq starts.start starts.stored) (Differs starts.start) (Overlap starts.start starts.stored)
-    named = reply_stopped cap key h records (starts.start, starts.stored) (stopped_of key h records starts k)
+    named : reply cap h (Fragment key records) ≡ cond (nat_eq starts.start starts.stored)
+        (Differs starts.start) (Overlap starts.start starts.stored)
+    named = reply_stopped cap key h records (
+      starts.start,
+      starts.stored,
+    ) (stopped_of key h records starts k)
 
 -- `Full` where a fragment has more new records than there is room for: no less room was found than
 -- there is
-pub full_here : (cap room : ℕ) (key : Key) (h : Holdings) (records : List DataRecord) (tally : Tally) → CountsAll key h records tally
-    → IsRoom cap (length (h key)) (length records) room → room < tally.new → reply cap h (Fragment key records) ≡ Full (cap - room) tally.new cap
+pub full_here : (cap room : ℕ) (key : Key) (h : Holdings) (records : List DataRecord)
+    (tally : Tally) → CountsAll key h records tally
+    → IsRoom cap (length (h key)) (length records) room → room < tally.new →
+    reply cap h (Fragment key records) ≡ Full (cap - room) tally.new cap
 full_here cap room key h records tally k it past =
-    let all : length (h key) + room ≡ cap = elim it.enough [ inl same ↦ same | inr many ↦ absurd (omega (arith, many, past, k.all)) ] in
+    let all : length (h key) + room ≡ cap =
+    elim it.enough [ inl same ↦ same | inr many ↦ absurd (omega (arith, many, past, k.all)) ] in
     let same : length (h key) ≡ cap - room = omega (arith, all) in
-    reply_full cap key h records (put key records h) tally.new tally.known (taken_of cap key h records tally k) (omega (arith, past)) (omega (arith, past, all))
+    reply_full cap key h records (put key records h) tally.new tally.known
+    (taken_of cap key h records tally k) (omega (arith, past)) (omega (arith, past, all))
     ∙ ap (λ (n : ℕ). Full n tally.new cap) same
 
-pub accepted_here : (cap room : ℕ) (key : Key) (h : Holdings) (records : List DataRecord) (tally : Tally) → CountsAll key h records tally
-    → length (h key) + room ≤ cap → tally.new ≤ room → reply cap h (Fragment key records) ≡ Accepted key tally.new tally.known
+pub accepted_here : (cap room : ℕ) (key : Key) (h : Holdings) (records : List DataRecord)
+    (tally : Tally) → CountsAll key h records tally
+    → length (h key) + room ≤ cap → tally.new ≤ room →
+    reply cap h (Fragment key records) ≡ Accepted key tally.new tally.known
 accepted_here cap room key h records tally k all low =
-    reply_accepted cap key h records (put key records h) tally.new tally.known (taken_of cap key h records tally k) (omega (arith, low, all))
+    reply_accepted cap key h records (put key records h) tally.new tally.known
+    (taken_of cap key h records tally k) (omega (arith, low, all))
 
-pub left_here : (cap room : ℕ) (key : Key) (h : Holdings) (records : List DataRecord) (tally : Tally) → IsSoundTold (Fragment key records) → IsGood cap h → CountsAll key h records tally
-    → length (h key) + room ≤ cap → tally.new ≤ room → put key records h ≡ after_one cap h (Fragment key records)
+pub left_here : (cap room : ℕ) (key : Key) (h : Holdings) (records : List DataRecord)
+    (tally : Tally) → IsSoundTold (Fragment key records) → IsGood cap h →
+    CountsAll key h records tally
+    → length (h key) + room ≤ cap → tally.new ≤ room →
+    put key records h ≡ after_one cap h (Fragment key records)
 left_here cap room key h records tally sound good k all low =
-    after_accepted cap key h records (put key records h) tally.new tally.known sound good (taken_of cap key h records tally k) (omega (arith, low, all))
+    after_accepted cap key h records (put key records h) tally.new tally.known sound good
+    (taken_of cap key h records tally k) (omega (arith, low, all))

@@ -6,7 +6,9 @@ use Rattle.edf_fragment.specs.Reading.{ReadsHeader, CountsFault, at_first}
 use Rattle.edf_fragment.specs.Whole.{IsFragmentFault, ReadsFragment}
 use Rattle.edf_fragment.specs.Fragment.{DataRecord}
 use Rattle.edf_fragment.specs.declared.fault.FragmentFault.{FragmentFault}
-use Rattle.edf_fragment.specs.declared.fault.FragmentFault.TheVariants.{Header, CutRecord, Tal, Trailing, Read, Memory, Failed}
+use Rattle.edf_fragment.specs.declared.fault.FragmentFault.TheVariants.{Header, CutRecord, Tal}
+use Rattle.edf_fragment.specs.declared.fault.FragmentFault.TheVariants.{Trailing, Read, Memory}
+use Rattle.edf_fragment.specs.declared.fault.FragmentFault.TheVariants.{Failed}
 use Rattle.edf_fragment.proofs.Fragments.{reads_none}
 use Rattle.edf_fragment.proofs.OneFragment.{spelled-no-fault}
 use Rattle.sqlite_trees.specs.declared.store.Store.{Ghosts}
@@ -18,30 +20,81 @@ use Rattle.edf_intake.specs.declared.answer.Refusal.{Refusal}
 use Rattle.edf_intake.specs.declared.answer.Stop.{Stop}
 use Rattle.edf_intake.specs.declared.answer.Stop.TheVariants.{Input, Store}
 
-spells_none : (left : Option (List ℕ)) (fault : FragmentFault) → IfSome left (λ all. IsFirstFault all fault) → IfSome left SpellsNothing
+spells_none : (left : Option (List ℕ)) (fault : FragmentFault) →
+    IfSome left (λ all. IsFirstFault all fault) → IfSome left SpellsNothing
 spells_none None fault first = tt
 spells_none (Some all) fault first = λ k rs s. spelled-no-fault all k rs fault s first
 
 -- a fault of the fragment, told as a refusal
-pub stopped_by : {S : Type 0} (g : Ghosts S) (old new : StoreModel S) (from to : Source) (fault : FragmentFault) → IsFragmentFault from.left to.left fault → CountsFault from.failed to.failed fault
+pub stopped_by : {S : Type 0} (g : Ghosts S) (old new : StoreModel S) (from to : Source)
+    (fault : FragmentFault) → IsFragmentFault from.left to.left fault →
+    CountsFault from.failed to.failed fault
     → IsStop g old new from to (Input (refusal_by fault))
-stopped_by g old new from to (Header e) is n = record { of_form = tt; is_fault = is; none = spells_none from.left (Header e) is.first; counted = n }
-stopped_by g old new from to (CutRecord nth) is n = record { of_form = tt; is_fault = is; none = spells_none from.left (CutRecord nth) is.first; counted = n }
-stopped_by g old new from to (Tal nth e) is n = record { of_form = tt; is_fault = is; none = spells_none from.left (Tal nth e) is.first; counted = n }
-stopped_by g old new from to Trailing is n = record { of_form = tt; is_fault = is; none = spells_none from.left Trailing is.first; counted = n }
+stopped_by g old new from to (Header e) is n =
+    record {
+      of_form = tt;
+      is_fault = is;
+      none = spells_none from.left (Header e) is.first;
+      counted = n;
+    }
+stopped_by g old new from to (CutRecord nth) is n =
+    record {
+      of_form = tt;
+      is_fault = is;
+      none = spells_none from.left (CutRecord nth) is.first;
+      counted = n;
+    }
+stopped_by g old new from to (Tal nth e) is n =
+    record {
+      of_form = tt;
+      is_fault = is;
+      none = spells_none from.left (Tal nth e) is.first;
+      counted = n;
+    }
+stopped_by g old new from to Trailing is n =
+    record {
+      of_form = tt;
+      is_fault = is;
+      none = spells_none from.left Trailing is.first;
+      counted =
+          n;
+    }
 stopped_by g old new from to Read is n = record { is_fault = is; counted = n }
 stopped_by g old new from to Memory is n = record { is_fault = is; counted = n }
 stopped_by g old new from to Failed is n = absurd is.first
 
 -- a header that was read, and no data record
-pub reads_header_alone : (from to : Source) (l : Layout) → ReadsHeader from.left to.left l → to.failed ≡ from.failed → ReadsSome from to
-reads_header_alone from to l header n = record { layout = l; mid = to.left; records = []; progress = at_first; header = header; behind = reads_none l to.left; counted = n }
+pub reads_header_alone : (from to : Source) (l : Layout) → ReadsHeader from.left to.left l →
+    to.failed ≡ from.failed → ReadsSome from to
+reads_header_alone from to l header n =
+    record {
+      layout = l;
+      mid = to.left;
+      records = [];
+      progress = at_first;
+      header = header;
+      behind =
+          reads_none l to.left;
+      counted = n;
+    }
 
-pub reads_whole : (from to : Source) (l : Layout) (records : List DataRecord) → ReadsFragment from.left to.left l records → to.failed ≡ from.failed → ReadsWhole from to l.key records
-reads_whole from to l records r n = record { bytes = r.bytes; read = r.read; end = r.end; spells = r.spells; counted = n }
+pub reads_whole : (from to : Source) (l : Layout) (records : List DataRecord) →
+    ReadsFragment from.left to.left l records → to.failed ≡ from.failed →
+    ReadsWhole from to l.key records
+reads_whole from to l records r n = record {
+  bytes = r.bytes;
+  read = r.read;
+  end = r.end;
+  spells =
+      r.spells;
+  counted = n;
+}
 
 -- why the data records stopped, said of the whole submission
-pub halted : {S : Type 0} (g : Ghosts S) (old new : StoreModel S) (from to : Source) (stop : Stop) → HaltsThere from to stop
+pub halted : {S : Type 0} (g : Ghosts S) (old new : StoreModel S) (from to : Source) (stop : Stop) →
+    HaltsThere from to stop
     → IsToldInside g new stop → IsStop g old new from to stop
-halted g old new from to (Input told) (fault, is, reads, n) refused = subst (λ (r : Refusal). IsStop g old new from to (Input r)) (sym is) (stopped_by g old new from to fault reads n)
+halted g old new from to (Input told) (fault, is, reads, n) refused =
+    subst (λ (r : Refusal). IsStop g old new from to (Input r)) (sym is)
+    (stopped_by g old new from to fault reads n)
 halted g old new from to (Store fault) reads refused = (reads, refused)

@@ -1,5 +1,6 @@
 -- The loop over the data records of a fragment: its begin, one turn, its end.
-use Rattle.std.proofs.Common.{◌≡◌, ℕ, ◌+◌, ◌-◌, ◌<◌, ◌≤◌, List, [], ◌∷◌, ◌++◌, length, Option, Some, None, Ok, refl, sym, ap, subst, ◌∙◌, inl, arith}
+use Rattle.std.proofs.Common.{◌≡◌, ℕ, ◌+◌, ◌-◌, ◌<◌, ◌≤◌, List, [], ◌∷◌, ◌++◌, length, Option, Some}
+use Rattle.std.proofs.Common.{None, Ok, refl, sym, ap, subst, ◌∙◌, inl, arith}
 use Rattle.sqlite_trees.specs.declared.store.Store.{Ghosts}
 use Rattle.sqlite.specs.State.{HasCleanDisk}
 use Rattle.edf_field.specs.Number.{duration_of}
@@ -27,7 +28,8 @@ use Rattle.edf_intake.specs.declared.walk.Tally.{Tally}
 use Rattle.edf_intake.proofs.Walking.{Walking, starts_of, next_in_all, met_next}
 
 -- what a transaction sees is one
-pub seen_is_one : {S : Type 0} (g : Ghosts S) (now : StoreModel S) (h t : Holdings) → HasCleanDisk (at g now) → Sees g now h → Sees g now t → h ≡ t
+pub seen_is_one : {S : Type 0} (g : Ghosts S) (now : StoreModel S) (h t : Holdings) →
+    HasCleanDisk (at g now) → Sees g now h → Sees g now t → h ≡ t
 seen_is_one g now h t clean a b =
     let p = a clean in
     let q = b clean in
@@ -37,15 +39,21 @@ pub empty_within : (xs ys : List DataRecord) → Within xs ys → ys ≡ [] → 
 empty_within [] ys w e = refl
 empty_within (x ∷ xs) ys w e = absurd (subst (λ (l : List DataRecord). In x l) e (w x (inl refl)))
 
-module _ {S : Type 0} (g : Ghosts S) (first : StoreModel S) (l : Layout) (before left : Option (List ℕ)) (header : ReadsHeader before left l) (room : ℕ)
-    (space : HasCleanDisk (at g first) → (h : Holdings) → Sees g first h → IsRoom first.cap (length (h l.key)) (most_records l.count) room) where
-  held_apart : HasCleanDisk (at g first) → (h : Holdings) → Sees g first h → IsApart (duration_of l.key.duration) 0 (h l.key)
+module _ {S : Type 0} (g : Ghosts S) (first : StoreModel S) (l : Layout)
+    (before left : Option (List ℕ)) (header : ReadsHeader before left l) (room : ℕ)
+    (space : HasCleanDisk (at g first) → (h : Holdings) → Sees g first h →
+    IsRoom first.cap (length (h l.key)) (most_records l.count) room) where
+  held_apart : HasCleanDisk (at g first) → (h : Holdings) → Sees g first h →
+      IsApart (duration_of l.key.duration) 0 (h l.key)
   held_apart clean h seen = (IsGood-from_sound first.cap h (seen clean).sound).apart l.key
 
-  read_apart : (rest : Option (List ℕ)) (records : List DataRecord) (p : Progress) → HasRead l left rest records p → IsApart (duration_of l.key.duration) 0 records
-  read_apart rest records p read = apart-sound l.key 0 records (read-sound before left rest l records p header read)
+  read_apart : (rest : Option (List ℕ)) (records : List DataRecord) (p : Progress) →
+      HasRead l left rest records p → IsApart (duration_of l.key.duration) 0 records
+  read_apart rest records p read =
+      apart-sound l.key 0 records (read-sound before left rest l records p header read)
 
-  pub at_begin : Walking g first first l left left at_first (record { new = 0; known = 0; clash = None })
+  pub at_begin : Walking g first first l left left at_first
+      (record { new = 0; known = 0; clash = None })
   at_begin = record {
     records = [];
     read = reads_none l left;
@@ -54,44 +62,68 @@ module _ {S : Type 0} (g : Ghosts S) (first : StoreModel S) (l : Layout) (before
   }
 
   -- while no clash was met and there is room, the recording has fewer than the cap
-  pub few_seen : (now : StoreModel S) (rest : Option (List ℕ)) (p : Progress) (tally : Tally) → Walking g first now l left rest p tally → IsRunning g first
-      → (HasCleanDisk (at g now) → HasCleanDisk (at g first)) → now.cap ≡ first.cap → HasCleanDisk (at g now) → tally.clash ≡ None → tally.new < room
+  pub few_seen : (now : StoreModel S) (rest : Option (List ℕ)) (p : Progress) (tally : Tally) →
+      Walking g first now l left rest p tally → IsRunning g first
+      → (HasCleanDisk (at g now) → HasCleanDisk (at g first)) → now.cap ≡ first.cap →
+      HasCleanDisk (at g now) → tally.clash ≡ None → tally.new < room
       → (h : Holdings) → Sees g now h → length (h l.key) < now.cap
   few_seen now rest p tally w running was same clean none low h seen =
       let some = running (was clean) in
       let start : Sees g first some.0 = λ _. some.1 in
       let m = w.met clean some.0 start in
-      let taken : Taken first.cap l.key some.0 w.records m.0 tally.new tally.known = subst (λ (o : Option Starts). Walked first.cap l.key some.0 w.records m.0 tally.new tally.known (starts_of o)) none m.2 in
-      let few = taken_room first.cap l.key some.0 w.records m.0 tally.new tally.known (read-key before left l header) (held_apart (was clean) some.0 start)
-      (read_apart rest w.records p w.read) taken (omega (arith, low, (space (was clean) some.0 start).fits)) in
+      let taken : Taken first.cap l.key some.0 w.records m.0 tally.new tally.known =
+      subst (λ (o : Option Starts). Walked first.cap l.key some.0 w.records m.0 tally.new
+      tally.known (starts_of o)) none m.2 in
+      let few = taken_room first.cap l.key some.0 w.records m.0 tally.new tally.known
+      (read-key before left l header) (held_apart (was clean) some.0 start)
+      (read_apart rest w.records p w.read) taken
+      (omega (arith, low, (space (was clean) some.0 start).fits)) in
       let one : m.0 ≡ h = seen_is_one g now m.0 h clean m.1 seen in
-      let said : length (h l.key) < first.cap = subst (λ (z : Holdings). length (z l.key) < first.cap) one few in
+      let said : length (h l.key) < first.cap =
+      subst (λ (z : Holdings). length (z l.key) < first.cap) one few in
       subst (λ (n : ℕ). length (h l.key) < n) (sym same) said
 
-  -- and where it holds none then, the next record is the first, with which it may start: each one before it was put in
-  pub first_seen : (now : StoreModel S) (mid rest : Option (List ℕ)) (p q : Progress) (tally : Tally) (r : DataRecord) → Walking g first now l left mid p tally → p.status ≡ Reading
-      → IsAnswer l p q mid rest (Ok (Some r)) → IsRunning g first → (HasCleanDisk (at g now) → HasCleanDisk (at g first)) → HasCleanDisk (at g now) → tally.clash ≡ None → tally.new < room
+  -- and where it holds none then, the next record is the first, with which it may start: each one
+  -- before it was put in
+  pub first_seen : (now : StoreModel S) (mid rest : Option (List ℕ)) (p q : Progress)
+      (tally : Tally) (r : DataRecord) → Walking g first now l left mid p tally → p.status ≡ Reading
+      → IsAnswer l p q mid rest (Ok (Some r)) → IsRunning g first →
+      (HasCleanDisk (at g now) → HasCleanDisk (at g first)) → HasCleanDisk (at g now) →
+      tally.clash ≡ None → tally.new < room
       → (h : Holdings) → Sees g now h → h l.key ≡ [] → MayStart l.key r.start
   first_seen now mid rest p q tally r w going answer running was clean none low h seen empty =
       let some = running (was clean) in
       let start : Sees g first some.0 = λ _. some.1 in
       let m = w.met clean some.0 start in
-      let taken : Taken first.cap l.key some.0 w.records m.0 tally.new tally.known = subst (λ (o : Option Starts). Walked first.cap l.key some.0 w.records m.0 tally.new tally.known (starts_of o)) none m.2 in
-      let held : h ≡ put l.key w.records some.0 = sym (seen_is_one g now m.0 h clean m.1 seen) ∙ taken.whole (omega (arith, low, (space (was clean) some.0 start).fits)) in
-      let all : h l.key ≡ joined (some.0 l.key) w.records = ap (λ (z : Holdings). z l.key) held ∙ put_here l.key w.records some.0 in
-      let before_it : w.records ≡ [] = empty_within w.records (joined (some.0 l.key) w.records) (joined_has (some.0 l.key) w.records) (sym all ∙ empty) in
-      let read : HasRead l left rest (w.records ++ r ∷ []) q = (one_more_read l left mid rest w.records p q r w.read going answer).0 in
-      subst (λ (rs : List DataRecord). MayBegin l.key (rs ++ r ∷ [])) before_it (read-begins before left rest l (w.records ++ r ∷ []) q header read)
+      let taken : Taken first.cap l.key some.0 w.records m.0 tally.new tally.known =
+      subst (λ (o : Option Starts). Walked first.cap l.key some.0 w.records m.0 tally.new
+      tally.known (starts_of o)) none m.2 in
+      let held : h ≡ put l.key w.records some.0 = sym (seen_is_one g now m.0 h clean m.1 seen)
+      ∙ taken.whole (omega (arith, low, (space (was clean) some.0 start).fits)) in
+      let all : h l.key ≡ joined (some.0 l.key) w.records = ap (λ (z : Holdings). z l.key) held
+      ∙ put_here l.key w.records some.0 in
+      let before_it : w.records ≡ [] =
+      empty_within w.records (joined (some.0 l.key) w.records)
+      (joined_has (some.0 l.key) w.records) (sym all ∙ empty) in
+      let read : HasRead l left rest (w.records ++ r ∷ []) q =
+      (one_more_read l left mid rest w.records p q r w.read going answer).0 in
+      subst (λ (rs : List DataRecord). MayBegin l.key (rs ++ r ∷ [])) before_it
+      (read-begins before left rest l (w.records ++ r ∷ []) q header read)
 
   -- one record more
-  pub one_turn : (now next : StoreModel S) (mid rest : Option (List ℕ)) (p q : Progress) (from to : Tally) (r : DataRecord) → Walking g first now l left mid p from
-      → p.status ≡ Reading → IsAnswer l p q mid rest (Ok (Some r)) → q.given ≡ p.given + 1 → p.given < most_records l.count
-      → (HasCleanDisk (at g next) → HasCleanDisk (at g now)) → (HasCleanDisk (at g now) → HasCleanDisk (at g first))
-      → (HasCleanDisk (at g next) → (h : Holdings) → Sees g now h → (t : Holdings) × Sees g next t × CountsNext room l.key r h from t to)
+  pub one_turn : (now next : StoreModel S) (mid rest : Option (List ℕ)) (p q : Progress)
+      (from to : Tally) (r : DataRecord) → Walking g first now l left mid p from
+      → p.status ≡ Reading → IsAnswer l p q mid rest (Ok (Some r)) → q.given ≡ p.given + 1 →
+      p.given < most_records l.count
+      → (HasCleanDisk (at g next) → HasCleanDisk (at g now)) →
+      (HasCleanDisk (at g now) → HasCleanDisk (at g first))
+      → (HasCleanDisk (at g next) → (h : Holdings) → Sees g now h → (t : Holdings) × Sees g next t
+      × CountsNext room l.key r h from t to)
       → to.new + to.known ≤ from.new + from.known + 1
       → Walking g first next l left rest q to
   one_turn now next mid rest p q from to r w going answer given wanted was first_was step counted =
-      let read : HasRead l left rest (w.records ++ r ∷ []) q = (one_more_read l left mid rest w.records p q r w.read going answer).0 in
+      let read : HasRead l left rest (w.records ++ r ∷ []) q =
+      (one_more_read l left mid rest w.records p q r w.read going answer).0 in
       record {
         records = w.records ++ r ∷ [];
         read = read;
@@ -99,22 +131,28 @@ module _ {S : Type 0} (g : Ghosts S) (first : StoreModel S) (l : Layout) (before
             let m = w.met (was clean) h seen in
             let n = step clean m.0 m.1 in
             let some = space (first_was (was clean)) h seen in
-            let next = next_in_all first.cap (length (h l.key)) (most_records l.count) room l.key r m.0 from n.0 to some (omega (arith, w.counted, wanted)) n.2 in (
+            let next = next_in_all first.cap (length (h l.key)) (most_records l.count) room l.key r
+            m.0 from n.0 to some (omega (arith, w.counted, wanted)) n.2 in (
               n.0,
               n.1,
-              met_next first.cap (first.cap - length (h l.key)) l.key h (read-key before left l header) (held_apart (first_was (was clean)) h seen) (omega (arith, some.fits)) w.records r
+              met_next first.cap (first.cap - length (h l.key)) l.key h
+                  (read-key before left l header) (held_apart (first_was (was clean)) h seen)
+                  (omega (arith, some.fits)) w.records r
                   (read_apart rest (w.records ++ r ∷ []) q read) m.0 from n.0 to m.2 next,
             );
         counted = omega (arith, w.counted, counted, given);
       }
 
-  tally_of : (h t : Holdings) (records : List DataRecord) (new known : ℕ) (clash : Option Starts) → Walked first.cap l.key h records t new known (starts_of clash)
+  tally_of : (h t : Holdings) (records : List DataRecord) (new known : ℕ) (clash : Option Starts) →
+      Walked first.cap l.key h records t new known (starts_of clash)
       → IsTally l.key h records (record { new = new; known = known; clash = clash })
   tally_of h t records new known None k = record { free = k.free; new_is = k.new_is; all = k.all }
-  tally_of h t records new known (Some s) k = record { pair = k.pair; first = k.first; start = k.start; stored = k.stored }
+  tally_of h t records new known (Some s) k =
+      record { pair = k.pair; first = k.first; start = k.start; stored = k.stored }
 
   -- the end
-  pub at_end : (now : StoreModel S) (mid rest : Option (List ℕ)) (p q : Progress) (tally : Tally) → Walking g first now l left mid p tally → p.status ≡ Reading
+  pub at_end : (now : StoreModel S) (mid rest : Option (List ℕ)) (p q : Progress) (tally : Tally) →
+      Walking g first now l left mid p tally → p.status ≡ Reading
       → IsAnswer l p q mid rest (Ok None) → (HasCleanDisk (at g now) → HasCleanDisk (at g first))
       → (records : List DataRecord)
       × ((other : Option (List ℕ)) → ReadsHeader other left l → ReadsFragment other rest l records)
@@ -127,7 +165,10 @@ module _ {S : Type 0} (g : Ghosts S) (first : StoreModel S) (l : Layout) (before
         let m = w.met clean h seen in (
           tally_of h m.0 w.records tally.new tally.known tally.clash m.2,
           (λ none low.
-              let taken : Taken first.cap l.key h w.records m.0 tally.new tally.known = subst (λ (o : Option Starts). Walked first.cap l.key h w.records m.0 tally.new tally.known (starts_of o)) none m.2 in
-              subst (Sees g now) (taken.whole (omega (arith, low, (space (was clean) h seen).fits))) m.1),
+              let taken : Taken first.cap l.key h w.records m.0 tally.new tally.known =
+              subst (λ (o : Option Starts). Walked first.cap l.key h w.records m.0 tally.new
+              tally.known (starts_of o)) none m.2 in
+              subst (Sees g now) (taken.whole (omega (arith, low, (space (was clean) h seen).fits)))
+              m.1),
         )),
   )

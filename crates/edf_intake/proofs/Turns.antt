@@ -1,5 +1,6 @@
 -- A list of submissions, one turn after another.
-use Rattle.std.proofs.Common.{◌≡◌, ℕ, ◌⊎◌, List, [], ◌∷◌, ◌++◌, map, Option, Some, None, Ok, Err, refl, sym, ap, subst, ◌∙◌, inl, inr}
+use Rattle.std.proofs.Common.{◌≡◌, ℕ, ◌⊎◌, List, [], ◌∷◌, ◌++◌, map, Option, Some, None, Ok, Err}
+use Rattle.std.proofs.Common.{refl, sym, ap, subst, ◌∙◌, inl, inr}
 use Rattle.std.specs.List.{AllByRecursion}
 use Rattle.sqlite_trees.specs.declared.store.Store.{Ghosts}
 use Rattle.sqlite.specs.State.{HasCleanDisk, Survives}
@@ -7,14 +8,16 @@ use Rattle.sqlite.proofs.StateLemmas.{survives_weaker}
 use Rattle.edf_fragment.specs.Told.{Told, Fragment, Fault}
 use Rattle.edf_fragment.proofs.Sound.{spelled-key, spelled-sound, spelled-begins}
 use Rattle.edf_holdings.specs.Holdings.{Holdings, IsSound}
-use Rattle.edf_holdings.specs.Reply.{IsSoundTold, Reply, Form, Overlap, Differs, Full, Accepted, IsAccepted, reply, replies, after}
+use Rattle.edf_holdings.specs.Reply.{IsSoundTold, Reply, Form, Overlap, Differs, Full, Accepted}
+use Rattle.edf_holdings.specs.Reply.{IsAccepted, reply, replies, after}
 use Rattle.edf_holdings.proofs.Accepted.{refused_changes_nothing}
 use Rattle.edf_rows.specs.Rows.{AreKept}
 use Rattle.edf_store.specs.Held.{StoreModel, at, Holds, Stays, KeepsCommittedOthers}
 use Rattle.edf_intake.specs.Refusal.{Answer, reply_told, IsStopped, IsInDoubt}
 use Rattle.edf_intake.specs.Source.{Source, Hears, FailsToRead, ReadsFront}
 use Rattle.edf_intake.specs.Submitted.{AreLeft, Leaves, MayLeave, Refuses, StopsThere, IsSubmitted}
-use Rattle.edf_intake.specs.Batch.{Turn, somes, told_in, replies_in, GoesWith, IsTurn, MayBeAnswered, AreUnended, IsOwnRefusal}
+use Rattle.edf_intake.specs.Batch.{Turn, somes, told_in, replies_in, GoesWith, IsTurn}
+use Rattle.edf_intake.specs.Batch.{MayBeAnswered, AreUnended, IsOwnRefusal}
 use Rattle.edf_intake.specs.declared.answer.Refusal.TheVariants as refusal
 
 -- ---- lists
@@ -24,19 +27,25 @@ somes-append [] ps = refl
 somes-append (None ∷ os) ps = somes-append os ps
 somes-append {A} (Some x ∷ os) ps = ap (λ (l : List A). x ∷ l) (somes-append os ps)
 
-pub map-next : {A B : Type 0} (f : A → B) (xs : List A) (x : A) → map f (xs ++ x ∷ []) ≡ map f xs ++ f x ∷ []
+pub map-next : {A B : Type 0} (f : A → B) (xs : List A) (x : A) → map f (xs ++ x ∷ []) ≡ map f xs
+    ++ f x ∷ []
 map-next f [] x = refl
 map-next {A} {B} f (y ∷ ys) x = ap (λ (l : List B). f y ∷ l) (map-next f ys x)
 
-pub all-next : {A : Type 0} (P : A → Type 0) (xs : List A) (x : A) → AllByRecursion P xs → P x → AllByRecursion P (xs ++ x ∷ [])
+pub all-next : {A : Type 0} (P : A → Type 0) (xs : List A) (x : A) → AllByRecursion P xs → P x →
+    AllByRecursion P (xs ++ x ∷ [])
 all-next P [] x all p = (p, tt)
 all-next P (y ∷ ys) x all p = (all.0, all-next P ys x all.1 p)
 
-pub told-next : (turns : List Turn) (t : Turn) → told_in (turns ++ t ∷ []) ≡ told_in turns ++ somes (t.told ∷ [])
-told-next turns t = ap somes (map-next (λ (u : Turn). u.told) turns t) ∙ somes-append (map (λ (u : Turn). u.told) turns) (t.told ∷ [])
+pub told-next : (turns : List Turn) (t : Turn) → told_in (turns ++ t ∷ []) ≡ told_in turns
+    ++ somes (t.told ∷ [])
+told-next turns t = ap somes (map-next (λ (u : Turn). u.told) turns t)
+    ∙ somes-append (map (λ (u : Turn). u.told) turns) (t.told ∷ [])
 
-pub replies-next : (turns : List Turn) (t : Turn) → replies_in (turns ++ t ∷ []) ≡ replies_in turns ++ somes (reply_told t.answer ∷ [])
-replies-next turns t = ap somes (map-next (λ (u : Turn). reply_told u.answer) turns t) ∙ somes-append (map (λ (u : Turn). reply_told u.answer) turns) (reply_told t.answer ∷ [])
+pub replies-next : (turns : List Turn) (t : Turn) → replies_in (turns ++ t ∷ []) ≡ replies_in turns
+    ++ somes (reply_told t.answer ∷ [])
+replies-next turns t = ap somes (map-next (λ (u : Turn). reply_told u.answer) turns t)
+    ∙ somes-append (map (λ (u : Turn). reply_told u.answer) turns) (reply_told t.answer ∷ [])
 
 -- ---- one turn
 
@@ -45,10 +54,14 @@ pub record IsMade {S : Type 0} (g : Ghosts S) (old new : StoreModel S) (t : Turn
   pub is_turn : IsTurn t
   pub own : IsOwnRefusal g new t.answer
   pub cap : new.cap ≡ old.cap
-  pub replied : HasCleanDisk (at g new) → (h : Holdings) → Holds g old h → somes (reply_told t.answer ∷ []) ≡ replies old.cap h (somes (t.told ∷ []))
-  pub holdings : (h : Holdings) → Holds g old h → Holds g new (after old.cap h (somes (t.told ∷ [])))
+  pub replied : HasCleanDisk (at g new) → (h : Holdings) → Holds g old h →
+      somes (reply_told t.answer ∷ []) ≡ replies old.cap h (somes (t.told ∷ []))
+  pub holdings : (h : Holdings) → Holds g old h →
+      Holds g new (after old.cap h (somes (t.told ∷ [])))
   pub others : KeepsCommittedOthers (at g old) (at g new)
-  pub crash : Survives (at g old) (at g new) (λ rows. (h : Holdings) → Holds g old h → AreKept old.cap rows (after old.cap h (somes (t.told ∷ []))) ⊎ AreUnended old.cap h (t ∷ []) rows)
+  pub crash : Survives (at g old) (at g new) (λ rows. (h : Holdings) → Holds g old h →
+      AreKept old.cap rows (after old.cap h (somes (t.told ∷ [])))
+      ⊎ AreUnended old.cap h (t ∷ []) rows)
 
 sound_told : (from to : Source) (told : Told) → Hears from to told → IsSoundTold told
 sound_told from to (Fragment key records) r = (
@@ -59,74 +72,119 @@ sound_told from to (Fragment key records) r = (
 sound_told from to (Fault fault) r = tt
 
 module _ {S : Type 0} (g : Ghosts S) (old new : StoreModel S) (from to : Source) where
-  accepted_turn : (answer : Answer) (told : Told) (given : Reply) → IsOwnRefusal g new answer → reply_told answer ≡ Some given → MayBeAnswered told given → Hears from to told
-      → (HasCleanDisk (at g new) → (h : Holdings) → Holds g old h → reply old.cap h told ≡ given) → Leaves g old new told
+  accepted_turn : (answer : Answer) (told : Told) (given : Reply) → IsOwnRefusal g new answer →
+      reply_told answer ≡ Some given → MayBeAnswered told given → Hears from to told
+      → (HasCleanDisk (at g new) → (h : Holdings) → Holds g old h → reply old.cap h told ≡ given) →
+      Leaves g old new told
       → IsMade g old new (record { from = from; to = to; answer = answer; told = Some told })
   accepted_turn answer told given own tells may heard is leaves = record {
     own = own;
-    is_turn = subst (GoesWith (record { from = from; to = to; answer = answer; told = Some told }) (Some told)) (sym tells) (heard, may);
+    is_turn = subst (GoesWith (record { from = from; to = to; answer = answer; told = Some told })
+        (Some told)) (sym tells) (heard, may);
     cap = leaves.cap;
-    replied = λ clean h held. ap (λ (o : Option Reply). somes (o ∷ [])) (tells ∙ ap (λ (r : Reply). Some r) (sym (is clean h held)));
+    replied = λ clean h held. ap (λ (o : Option Reply). somes (o ∷ [])) (tells
+        ∙ ap (λ (r : Reply). Some r) (sym (is clean h held)));
     holdings = leaves.holdings;
     others = leaves.others;
-    crash = survives_weaker (at g old) (at g new) (AreLeft g old new told) _ (λ clean rows left h held. inl (left h held)) leaves.crash;
+    crash = survives_weaker (at g old) (at g new) (AreLeft g old new told) _
+        (λ clean rows left h held. inl (left h held)) leaves.crash;
   }
 
   -- a refused one changes nothing
-  refused_turn : (answer : Answer) (told : Told) (given : Reply) → IsOwnRefusal g new answer → reply_told answer ≡ Some given → MayBeAnswered told given → ¬ IsAccepted given → Refuses g old new from to told given
+  refused_turn : (answer : Answer) (told : Told) (given : Reply) → IsOwnRefusal g new answer →
+      reply_told answer ≡ Some given → MayBeAnswered told given → ¬ IsAccepted given →
+      Refuses g old new from to told given
       → IsMade g old new (record { from = from; to = to; answer = answer; told = Some told })
   refused_turn answer told given own tells may never r = record {
     own = own;
-    is_turn = subst (GoesWith (record { from = from; to = to; answer = answer; told = Some told }) (Some told)) (sym tells) (r.read, may);
+    is_turn = subst (GoesWith (record { from = from; to = to; answer = answer; told = Some told })
+        (Some told)) (sym tells) (r.read, may);
     cap = r.stays.cap;
-    replied = λ clean h held. ap (λ (o : Option Reply). somes (o ∷ [])) (tells ∙ ap (λ (x : Reply). Some x) (sym (r.reply_is clean h held)));
+    replied = λ clean h held. ap (λ (o : Option Reply). somes (o ∷ [])) (tells
+        ∙ ap (λ (x : Reply). Some x) (sym (r.reply_is clean h held)));
     holdings = λ h held clean is_open.
         let kept = r.stays.holdings h held clean is_open in
         let sound : IsSound old.cap h = subst (λ (n : ℕ). IsSound n h) r.stays.cap kept.sound in
-        let same = refused_changes_nothing old.cap h told sound (sound_told from to told r.read) (λ yes. never (subst IsAccepted (r.reply_is clean h held) yes)) in
+        let same = refused_changes_nothing old.cap h told sound (sound_told from to told r.read)
+        (λ yes. never (subst IsAccepted (r.reply_is clean h held) yes)) in
         subst (λ (z : Holdings). AreKept new.cap (at g new).committed.trees z) (sym same) kept;
     others = r.stays.others;
-    crash = survives_weaker (at g old) (at g new) (λ _. ⊥) _ (λ clean rows none. absurd none) r.stays.crash;
+    crash = survives_weaker (at g old) (at g new) (λ _. ⊥) _ (λ clean rows none. absurd none)
+        r.stays.crash;
   }
 
-  silent_turn : (answer : Answer) → IsOwnRefusal g new answer → reply_told answer ≡ None → (FailsToRead from to ⊎ IsStopped answer) → ReadsFront from to → Stays g old new
+  silent_turn : (answer : Answer) → IsOwnRefusal g new answer → reply_told answer ≡ None →
+      (FailsToRead from to ⊎ IsStopped answer) → ReadsFront from to → Stays g old new
       → IsMade g old new (record { from = from; to = to; answer = answer; told = None })
   silent_turn answer own tells why front stays = record {
     own = own;
-    is_turn = subst (GoesWith (record { from = from; to = to; answer = answer; told = None }) None) (sym tells) (why, front);
+    is_turn = subst (GoesWith (record { from = from; to = to; answer = answer; told = None }) None)
+        (sym tells) (why, front);
     cap = stays.cap;
     replied = λ clean h held. ap (λ (o : Option Reply). somes (o ∷ [])) tells;
     holdings = stays.holdings;
     others = stays.others;
-    crash = survives_weaker (at g old) (at g new) (λ _. ⊥) _ (λ clean rows none. absurd none) stays.crash;
+    crash = survives_weaker (at g old) (at g new) (λ _. ⊥) _ (λ clean rows none. absurd none)
+        stays.crash;
   }
 
-  unended_turn : (answer : Answer) (told : Told) → IsOwnRefusal g new answer → reply_told answer ≡ None → IsStopped answer → IsInDoubt answer → Hears from to told → MayLeave g old new told
+  unended_turn : (answer : Answer) (told : Told) → IsOwnRefusal g new answer →
+      reply_told answer ≡ None → IsStopped answer → IsInDoubt answer → Hears from to told →
+      MayLeave g old new told
       → IsMade g old new (record { from = from; to = to; answer = answer; told = None })
   unended_turn answer told own tells why doubt heard may = record {
     own = own;
-    is_turn = subst (GoesWith (record { from = from; to = to; answer = answer; told = None }) None) (sym tells) (inr why, inr (inr (inr (inr (told, heard)))));
+    is_turn = subst (GoesWith (record { from = from; to = to; answer = answer; told = None }) None)
+        (sym tells) (inr why, inr (inr (inr (inr (told, heard)))));
     cap = may.cap;
     replied = λ clean h held. ap (λ (o : Option Reply). somes (o ∷ [])) tells;
     holdings = may.holdings;
     others = may.others;
-    crash = survives_weaker (at g old) (at g new) (AreLeft g old new told) _ (λ clean rows left h held. inr (doubt, (told, heard, left h held))) may.crash;
+    crash = survives_weaker (at g old) (at g new) (AreLeft g old new told) _
+        (λ clean rows left h held. inr (doubt, (told, heard, left h held))) may.crash;
   }
 
-  stopped_turn : (answer : Answer) → IsOwnRefusal g new answer → reply_told answer ≡ None → IsStopped answer → StopsThere g old new from to answer
-      → (told : Option Told) × IsMade g old new (record { from = from; to = to; answer = answer; told = told })
-  stopped_turn answer own tells why (inl (stays, front)) = (None, silent_turn answer own tells (inr why) front stays)
-  stopped_turn answer own tells why (inr (doubt, (key, records, read, may))) = (None, unended_turn answer (Fragment key records) own tells why doubt read may)
+  stopped_turn : (answer : Answer) → IsOwnRefusal g new answer → reply_told answer ≡ None →
+      IsStopped answer → StopsThere g old new from to answer
+      → (told : Option Told) × IsMade g old new
+      (record { from = from; to = to; answer = answer; told = told })
+  stopped_turn answer own tells why (inl (stays, front)) =
+      (None, silent_turn answer own tells (inr why) front stays)
+  stopped_turn answer own tells why (inr (doubt, (key, records, read, may))) =
+      (None, unended_turn answer (Fragment key records) own tells why doubt read may)
 
-  pub turn_of : (answer : Answer) → IsSubmitted g old new from to answer → (told : Option Told) × IsMade g old new (record { from = from; to = to; answer = answer; told = told })
+  pub turn_of : (answer : Answer) → IsSubmitted g old new from to answer → (told : Option Told)
+      × IsMade g old new (record { from = from; to = to; answer = answer; told = told })
   turn_of (Ok receipt) a = (
     Some (Fragment receipt.identity a.records),
-    accepted_turn (Ok receipt) (Fragment receipt.identity a.records) (Accepted receipt.identity receipt.new receipt.known) tt refl refl a.read a.reply_is a.leaves,
+    accepted_turn (Ok receipt) (Fragment receipt.identity a.records)
+        (Accepted receipt.identity receipt.new receipt.known) tt refl refl a.read a.reply_is
+        a.leaves,
   )
-  turn_of (Err (refusal.Form fault)) r = (Some (Fault fault), refused_turn (Err (refusal.Form fault)) (Fault fault) (Form fault) tt refl refl (λ yes. yes) r)
-  turn_of (Err (refusal.Overlap start stored)) (key, records, r) = (Some (Fragment key records), refused_turn (Err (refusal.Overlap start stored)) (Fragment key records) (Overlap start stored) tt refl tt (λ yes. yes) r)
-  turn_of (Err (refusal.Differs start)) (key, records, r) = (Some (Fragment key records), refused_turn (Err (refusal.Differs start)) (Fragment key records) (Differs start) tt refl tt (λ yes. yes) r)
-  turn_of (Err (refusal.Full held more cap)) (key, records, r) = (Some (Fragment key records), refused_turn (Err (refusal.Full held more cap)) (Fragment key records) (Full held more cap) tt refl tt (λ yes. yes) r)
-  turn_of (Err refusal.Read) f = (None, silent_turn (Err refusal.Read) tt refl (inl f.read) (inr (inr (inr (inl f.read)))) f.stays)
+  turn_of (Err (refusal.Form fault)) r = (
+    Some (Fault fault),
+    refused_turn (Err (refusal.Form fault)) (Fault fault) (Form fault) tt
+        refl refl (λ yes. yes) r,
+  )
+  turn_of (Err (refusal.Overlap start stored)) (key, records, r) = (
+    Some (Fragment key records),
+    refused_turn (Err (refusal.Overlap start stored))
+        (Fragment key records) (Overlap start stored) tt refl tt (λ yes. yes) r,
+  )
+  turn_of (Err (refusal.Differs start)) (key, records, r) = (
+    Some (Fragment key records),
+    refused_turn (Err (refusal.Differs start)) (Fragment key records) (Differs start) tt refl tt
+        (λ yes. yes) r,
+  )
+  turn_of (Err (refusal.Full held more cap)) (key, records, r) = (
+    Some (Fragment key records),
+    refused_turn (Err (refusal.Full held more cap))
+        (Fragment key records) (Full held more cap) tt refl tt (λ yes. yes) r,
+  )
+  turn_of (Err refusal.Read) f = (
+    None,
+    silent_turn (Err refusal.Read) tt refl (inl f.read) (inr (inr (inr (inl f.read))))
+        f.stays,
+  )
   turn_of (Err refusal.Memory) s = stopped_turn (Err refusal.Memory) tt refl tt s
   turn_of (Err (refusal.Store fault)) s = stopped_turn (Err (refusal.Store fault)) s.1 refl tt s.0

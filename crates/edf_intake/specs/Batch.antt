@@ -26,7 +26,8 @@ module _ {S : Type 0} (g : Ghosts S) (old new : StoreModel S) where
   AnswersAll froms answers = (tolds : List Told) (given : List Reply) →
       AllZip WillTell froms tolds →
       map reply_told answers ≡ map Some given → (h : Holdings) → Holds g old h →
-      (HasCleanDisk (at g new) → given ≡ replies old.cap h tolds) × Holds g new (after old.cap h tolds)
+      (HasCleanDisk (at g new) → given ≡ replies old.cap h tolds)
+      × Holds g new (after old.cap h tolds)
 
 -- one input's turn: how it was found and left, its answer, and what it told: nothing, where the
 -- answer was E40 to E42 or E45
@@ -75,7 +76,8 @@ IsOwnRefusal g new answer = Unit {0}
 -- which it tells
 abbrev pub AreUnended : ℕ → Holdings → List Turn → Trees → Type 0
 AreUnended cap h [] rows = ⊥
-AreUnended cap h (t ∷ ts) rows = IsInDoubt t.answer × ((told : Told) × Hears t.from t.to told × AreKept cap rows (after_one cap h told))
+AreUnended cap h (t ∷ ts) rows = IsInDoubt t.answer
+    × ((told : Told) × Hears t.from t.to told × AreKept cap rows (after_one cap h told))
 
 -- what a crash may leave: rows that stand for what some first inputs leave, or for that and the
 -- next
@@ -83,7 +85,8 @@ pub record AreLeftBy (cap : ℕ) (h : Holdings) (turns : List Turn) (rows : Tree
   pub before : List Turn
   pub behind : List Turn
   pub splits : turns ≡ before ++ behind
-  pub stand : AreKept cap rows (after cap h (told_in before)) ⊎ AreUnended cap (after cap h (told_in before)) behind rows
+  pub stand : AreKept cap rows (after cap h (told_in before))
+      ⊎ AreUnended cap (after cap h (told_in before)) behind rows
 
 module _ {S : Type 0} (g : Ghosts S) (old new : StoreModel S) where
   -- every case: the inputs were submitted in turn. Those answered E40 to E42 or E45 add nothing;
@@ -96,10 +99,12 @@ module _ {S : Type 0} (g : Ghosts S) (old new : StoreModel S) where
     pub answers_are : map (λ (t : Turn). t.answer) turns ≡ answers
     pub each : AllByRecursion IsTurn turns
     pub refusals : AllByRecursion (IsOwnRefusal g new) answers
-    pub replies_are : HasCleanDisk (at g new) → (h : Holdings) → Holds g old h → replies_in turns ≡ replies old.cap h (told_in turns)
+    pub replies_are : HasCleanDisk (at g new) → (h : Holdings) → Holds g old h →
+        replies_in turns ≡ replies old.cap h (told_in turns)
     pub holdings : (h : Holdings) → Holds g old h → Holds g new (after old.cap h (told_in turns))
     pub others : KeepsCommittedOthers (at g old) (at g new)
-    pub crash : Survives (at g old) (at g new) (λ rows. (h : Holdings) → Holds g old h → AreLeftBy old.cap h turns rows)
+    pub crash : Survives (at g old) (at g new) (λ rows. (h : Holdings) → Holds g old h →
+        AreLeftBy old.cap h turns rows)
 
 -- after the last input no transaction is open, as its answer says; without inputs the store is as
 -- it was

@@ -75,4 +75,5 @@ module _ (from to : Source) where
   -- some data records; up to where memory ran out; as far as an answer needs that the store then
   -- kept from being told
   abbrev pub ReadsFront : Type 0
-  ReadsFront = (to ≡ from) ⊎ (ReadsSome ⊎ (LacksMemory ⊎ (FailsToRead ⊎ ((told : Told) × Hears told))))
+  ReadsFront = (to ≡ from)
+      ⊎ (ReadsSome ⊎ (LacksMemory ⊎ (FailsToRead ⊎ ((told : Told) × Hears told))))

@@ -8,7 +8,8 @@ use Rattle.edf_header.specs.Key.{Key}
 use Rattle.edf_fragment.specs.Fragment.{DataRecord}
 use Rattle.edf_fragment.specs.Told.{Told, Fragment, Fault}
 use Rattle.edf_holdings.specs.Holdings.{Holdings}
-use Rattle.edf_holdings.specs.Reply.{Reply, Form, Overlap, Differs, Full, Accepted, reply, after_one}
+use Rattle.edf_holdings.specs.Reply.{Reply, Form, Overlap, Differs, Full, Accepted, reply}
+use Rattle.edf_holdings.specs.Reply.{after_one}
 use Rattle.edf_rows.specs.Rows.{AreKept}
 use Rattle.edf_store.specs.Held.{StoreModel, at, Holds, KeepsCommittedOthers, Stays}
 use Rattle.edf_store.specs.Fault.{IsStoreRefusal}
@@ -21,19 +22,22 @@ use Rattle.edf_intake.specs.declared.answer.Refusal.TheVariants as refusal
 
 -- the store refused, E42 or E45: out of memory is a refusal of its own, E41, and on a clean disk it
 -- is not E45
-pub record IsRefusal {S : Type 0} (g : Ghosts S) (new : StoreModel S) (fault : StoreFault) : Type 0 where
-  pub other : fault ≢ store.Memory
-  pub told : (fault ≡ store.Foreign) ⊎ IsStoreRefusal fault
-  pub own : HasCleanDisk (at g new) → IsStoreRefusal fault
+pub record IsRefusal {S : Type 0} (g : Ghosts S) (new : StoreModel S) (fault : StoreFault) : Type 0
+  where
+    pub other : fault ≢ store.Memory
+    pub told : (fault ≡ store.Foreign) ⊎ IsStoreRefusal fault
+    pub own : HasCleanDisk (at g new) → IsStoreRefusal fault
 
 module _ {S : Type 0} (g : Ghosts S) (old new : StoreModel S) where
   -- the answer: whatever was held, this is the reply to what is told
   abbrev pub RepliesWith : Told → Reply → Type 0
-  RepliesWith told answer = HasCleanDisk (at g new) → (h : Holdings) → Holds g old h → reply old.cap h told ≡ answer
+  RepliesWith told answer = HasCleanDisk (at g new) → (h : Holdings) → Holds g old h →
+      reply old.cap h told ≡ answer
 
   -- what a crash may leave: rows that stand for what was held, with what is told submitted to it
   abbrev pub AreLeft : Told → Trees → Type 0
-  AreLeft told rows = (h : Holdings) → Holds g old h → AreKept old.cap rows (after_one old.cap h told)
+  AreLeft told rows = (h : Holdings) → Holds g old h →
+      AreKept old.cap rows (after_one old.cap h told)
 
   -- what is told was submitted: the store holds what that leaves, with what was beside it, and is
   -- open; a crash leaves what it could leave before, or that
@@ -57,7 +61,8 @@ module _ {S : Type 0} (g : Ghosts S) (old new : StoreModel S) where
     pub record Accepts (receipt : Receipt) : Type 0 where
       pub records : List DataRecord
       pub read : ReadsWhole from to receipt.identity records
-      pub reply_is : RepliesWith (Fragment receipt.identity records) (Accepted receipt.identity receipt.new receipt.known)
+      pub reply_is : RepliesWith (Fragment receipt.identity records)
+          (Accepted receipt.identity receipt.new receipt.known)
       pub leaves : Leaves (Fragment receipt.identity records)
 
     -- the input tells this, and this is how it is refused; what is held stays, and a crash leaves
@@ -68,7 +73,8 @@ module _ {S : Type 0} (g : Ghosts S) (old new : StoreModel S) where
       pub stays : Stays g old new
 
     abbrev pub RefusesFragment : Reply → Type 0
-    RefusesFragment answer = (key : Key) × (records : List DataRecord) × Refuses (Fragment key records) answer
+    RefusesFragment answer = (key : Key) × (records : List DataRecord)
+        × Refuses (Fragment key records) answer
 
     -- a read failed; what is held stays, and a crash leaves what it could leave before
     pub record FailsThere : Type 0 where
@@ -79,22 +85,27 @@ module _ {S : Type 0} (g : Ghosts S) (old new : StoreModel S) where
     -- the whole input was read and told a fragment, may a crash leave that it was submitted
     abbrev pub StopsThere : Answer → Type 0
     StopsThere answer = (Stays g old new × ReadsFront from to)
-        ⊎ (IsInDoubt answer × ((key : Key) × (records : List DataRecord) × ReadsWhole from to key records × MayLeave (Fragment key records)))
+        ⊎ (IsInDoubt answer × ((key : Key) × (records : List DataRecord)
+        × ReadsWhole from to key records × MayLeave (Fragment key records)))
 
     -- each answer, what it says of the input and what it leaves
     abbrev pub IsSubmitted : Answer → Type 0
     IsSubmitted (Ok receipt) = Accepts receipt
     IsSubmitted (Err (refusal.Form fault)) = Refuses (Fault fault) (Form fault)  -- E1 to E29
-    IsSubmitted (Err (refusal.Overlap start stored)) = RefusesFragment (Overlap start stored)  -- E30
+    -- E30
+    IsSubmitted (Err (refusal.Overlap start stored)) = RefusesFragment (Overlap start stored)
     IsSubmitted (Err (refusal.Differs start)) = RefusesFragment (Differs start)  -- E31
     IsSubmitted (Err (refusal.Full held new cap)) = RefusesFragment (Full held new cap)  -- E32
     IsSubmitted (Err refusal.Read) = FailsThere  -- E40
     IsSubmitted (Err refusal.Memory) = StopsThere (Err refusal.Memory)  -- E41
-    IsSubmitted (Err (refusal.Store fault)) = StopsThere (Err (refusal.Store fault)) × IsRefusal g new fault  -- E42, E45
+    -- E42, E45
+    IsSubmitted (Err (refusal.Store fault)) = StopsThere (Err (refusal.Store fault))
+        × IsRefusal g new fault
 
 -- no transaction is open then, but where memory ran out or the store refused
 abbrev pub IsEnded : {S : Type 0} → Ghosts S → StoreModel S → Answer → Type 0
-IsEnded g new answer = HasCleanDisk (at g new) → IsStopped answer ⊎ ((at g new).in_transaction ≡ false)
+IsEnded g new answer = HasCleanDisk (at g new) → IsStopped answer
+    ⊎ ((at g new).in_transaction ≡ false)
 
 -- the answer of a store whose connection was found in a transaction: E42 without a cause
 abbrev pub found_busy : Answer

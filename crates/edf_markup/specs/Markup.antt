@@ -1,7 +1,9 @@
 -- What XML has for a text, in an element or an attribute.
-use Rattle.std.specs.Prelude.{ℕ, ◌≤◌, ◌≢◌, ◌==◌, ◌&&◌, nat_le, nat_lt, List, [], ◌∷◌, ◌++◌, length, take, codes, flat_map, if◌then◌else◌}
+use Rattle.std.specs.Prelude.{ℕ, ◌≤◌, ◌≢◌, ◌==◌, ◌&&◌, nat_le, nat_lt, List, [], ◌∷◌, ◌++◌, length}
+use Rattle.std.specs.Prelude.{take, codes, flat_map, if◌then◌else◌}
 
--- what stands for a byte: for `&`, `<`, `>`, `"` and `'` their names, for any other printable byte itself, else nothing
+-- what stands for a byte: for `&`, `<`, `>`, `"` and `'` their names, for any other printable byte
+-- itself, else nothing
 abbrev pub piece : ℕ → List ℕ
 piece byte =
     if byte == 38 then codes "&amp;"

@@ -1,5 +1,7 @@
 -- What is put and told, from what `send` did.
-use Rattle.std.proofs.Common.{◌≡◌, ◌⊎◌, ℕ, ◌<◌, Bool, true, false, List, [], ◌++◌, length, take, drop, refl, sym, ap, ◌∙◌, subst, inl, inr, take-append-drop, append_assoc}
+use Rattle.std.proofs.Common.{◌≡◌, ◌⊎◌, ℕ, ◌<◌, Bool, true, false, List, [], ◌++◌, length, take}
+use Rattle.std.proofs.Common.{drop, refl, sym, ap, ◌∙◌, subst, inl, inr, take-append-drop}
+use Rattle.std.proofs.Common.{append_assoc}
 use Rattle.std.specs.Prelude.{Option, Result, Ok, Err, IfOk, MatchResult}
 use Rattle.std.proofs.lemmas.List.{append-nil}
 use Rattle.std.proofs.lemmas.Bool.{false≢true}
@@ -7,21 +9,29 @@ use Rattle.std.proofs.KnownBytes.{Appends-nil, Appends-trans}
 use Rattle.std.specs.Bool.{MatchBool}
 use Rattle.std.specs.Io.KnownBytes.{Appends}
 use Rattle.edf_fragment.specs.Failures.{one_more}
-use Rattle.edf_program.specs.Output.{Growth, Gets, GetsFront, LacksText, IsPut, IsLinePut, IsWritten, IsTold, AreTold}
+use Rattle.edf_program.specs.Output.{Growth, Gets, GetsFront, LacksText, IsPut, IsLinePut}
+use Rattle.edf_program.specs.Output.{IsWritten, IsTold, AreTold}
 use Rattle.edf_program.specs.declared.status.Status.{Status}
 use Rattle.edf_program.specs.declared.status.Status.TheVariants.{Trouble}
 
 -- what a writer got, by the values before and after
 abbrev pub grown : Option (List ℕ) → ℕ → Option (List ℕ) → ℕ → Growth
 grown before failed_before after failed_after =
-    record { before = before; failed_before = failed_before; after = after; failed_after = failed_after }
+    record {
+      before = before;
+      failed_before = failed_before;
+      after = after;
+      failed_after =
+          failed_after;
+    }
 
 abbrev pub IsSentBy : Option (List ℕ) → ℕ → Option (List ℕ) → ℕ → List ℕ → Bool → Type 0
 IsSentBy before old after new bytes written = MatchBool written
     (Appends before after bytes × (new ≡ old))
     ((n : ℕ) × (n < length bytes) × Appends before after (take n bytes) × (new ≡ one_more old))
 
-pub put-sent : (before : Option (List ℕ)) (old : ℕ) (after : Option (List ℕ)) (new : ℕ) (bytes : List ℕ) (written : Bool)
+pub put-sent : (before : Option (List ℕ)) (old : ℕ) (after : Option (List ℕ)) (new : ℕ)
+    (bytes : List ℕ) (written : Bool)
     → IsSentBy before old after new bytes written → IsPut (grown before old after new) bytes written
 put-sent before old after new bytes true s = s
 put-sent before old after new bytes false s = (
@@ -35,70 +45,93 @@ put-sent before old after new bytes false s = (
 )
 
 module _ (w : Growth) where
-  pub done-put : (bytes : List ℕ) (written : Bool) (wanted : Status) → IsPut w bytes written → written ≡ true → IsWritten w bytes wanted wanted
+  pub done-put : (bytes : List ℕ) (written : Bool) (wanted : Status) → IsPut w bytes written →
+      written ≡ true → IsWritten w bytes wanted wanted
   done-put bytes true wanted p e = inl (p, refl)
   done-put bytes false wanted p e = absurd (false≢true e)
 
-  pub trouble-put : (bytes : List ℕ) (written : Bool) (wanted : Status) → IsPut w bytes written → written ≡ false → IsWritten w bytes wanted Trouble
+  pub trouble-put : (bytes : List ℕ) (written : Bool) (wanted : Status) → IsPut w bytes written →
+      written ≡ false → IsWritten w bytes wanted Trouble
   trouble-put bytes false wanted p e = inr (p, refl)
   trouble-put bytes true wanted p e = absurd (false≢true (sym e))
 
   -- lines, of which one could not be written
-  pub trouble-lines : (lines : ℕ → List ℕ) (count : ℕ) (wanted : Status) → GetsFront w (lines count) ⊎ LacksText w lines count → AreTold w lines count wanted Trouble
+  pub trouble-lines : (lines : ℕ → List ℕ) (count : ℕ) (wanted : Status) → GetsFront w (lines count)
+      ⊎ LacksText w lines count → AreTold w lines count wanted Trouble
   trouble-lines lines count wanted (inl cut) = inl (inr (cut, refl))
   trouble-lines lines count wanted (inr lacks) = inr (lacks, refl)
 
   -- ---- a line that is there, or is not since memory ran out
   module _ {T E : Type 0} (items : T → List ℕ) where
     abbrev pub IsPutBy : Result T E → Bool → Type 0
-    IsPutBy line written = MatchResult line (λ l. IsPut w (items l) written) (λ _. Gets w [] × (written ≡ false))
+    IsPutBy line written = MatchResult line (λ l. IsPut w (items l) written) (λ _. Gets w []
+        × (written ≡ false))
 
     abbrev pub IsToldBy : Result T E → Status → Status → Type 0
-    IsToldBy line wanted status = MatchResult line (λ l. IsWritten w (items l) wanted status) (λ _. Gets w [] × (status ≡ Trouble))
+    IsToldBy line wanted status = MatchResult line (λ l. IsWritten w (items l) wanted status)
+        (λ _. Gets w [] × (status ≡ Trouble))
 
-    pub line-put : (line : Result T E) (written : Bool) (text : List ℕ) → IsPutBy line written → IfOk line (λ l. items l ≡ text) → IsLinePut w text written
+    pub line-put : (line : Result T E) (written : Bool) (text : List ℕ) → IsPutBy line written →
+        IfOk line (λ l. items l ≡ text) → IsLinePut w text written
     line-put (Ok l) true text p is = subst (Gets w) is p
     line-put (Ok l) false text p is = inl (subst (GetsFront w) is p)
     line-put (Err e) true text p is = absurd (false≢true (sym p.1))
     line-put (Err e) false text p is = inr p.0
 
-    pub line-counted : (line : Result T E) (written : Bool) → IsPutBy line written → written ≡ true → w.failed_after ≡ w.failed_before
+    pub line-counted : (line : Result T E) (written : Bool) → IsPutBy line written →
+        written ≡ true → w.failed_after ≡ w.failed_before
     line-counted (Ok l) true p e = p.1
     line-counted (Ok l) false p e = absurd (false≢true e)
     line-counted (Err x) written p e = p.0.1
 
-    pub line-told : (line : Result T E) (wanted status : Status) (text : List ℕ) → IsToldBy line wanted status → IfOk line (λ l. items l ≡ text) → IsTold w text wanted status
-    line-told (Ok l) wanted status text p is = inl (subst (λ (t : List ℕ). IsWritten w t wanted status) is p)
+    pub line-told : (line : Result T E) (wanted status : Status) (text : List ℕ) →
+        IsToldBy line wanted status → IfOk line (λ l. items l ≡ text) → IsTold w text wanted status
+    line-told (Ok l) wanted status text p is =
+        inl (subst (λ (t : List ℕ). IsWritten w t wanted status) is p)
     line-told (Err e) wanted status text p is = inr p
 
-    pub told-whole : (line : Result T E) (written : Bool) (wanted : Status) → IsPutBy line written → written ≡ true → IsToldBy line wanted wanted
+    pub told-whole : (line : Result T E) (written : Bool) (wanted : Status) → IsPutBy line written →
+        written ≡ true → IsToldBy line wanted wanted
     told-whole (Ok l) written wanted p e = done-put (items l) written wanted p e
     told-whole (Err x) written wanted p e = absurd (false≢true (sym p.1 ∙ e))
 
-    pub told-trouble : (line : Result T E) (written : Bool) (wanted : Status) → IsPutBy line written → written ≡ false → IsToldBy line wanted Trouble
+    pub told-trouble : (line : Result T E) (written : Bool) (wanted : Status) →
+        IsPutBy line written → written ≡ false → IsToldBy line wanted Trouble
     told-trouble (Ok l) written wanted p e = trouble-put (items l) written wanted p e
     told-trouble (Err x) written wanted p e = (p.0, refl)
 
 -- ---- one after the other
 
 -- nothing was written
-pub nothing-gets : (known : Option (List ℕ)) (failed : ℕ) → Gets (grown known failed known failed) []
+pub nothing-gets : (known : Option (List ℕ)) (failed : ℕ) →
+    Gets (grown known failed known failed) []
 nothing-gets known failed = (Appends-nil known, refl)
 
-module _ (a : Option (List ℕ)) (old : ℕ) (b : Option (List ℕ)) (mid : ℕ) (c : Option (List ℕ)) (new : ℕ) where
-  pub gets-behind : (done more : List ℕ) → Gets (grown a old b mid) done → Gets (grown b mid c new) more → Gets (grown a old c new) (done ++ more)
-  gets-behind done more first then = (Appends-trans a b c done more first.0 then.0, then.1 ∙ first.1)
+module _ (a : Option (List ℕ)) (old : ℕ) (b : Option (List ℕ)) (mid : ℕ) (c : Option (List ℕ))
+    (new : ℕ) where
+  pub gets-behind : (done more : List ℕ) → Gets (grown a old b mid) done →
+      Gets (grown b mid c new) more → Gets (grown a old c new) (done ++ more)
+  gets-behind done more first then = (
+    Appends-trans a b c done more first.0 then.0,
+    then.1
+        ∙ first.1,
+  )
 
-  pub gets-no_more : (done : List ℕ) → Gets (grown a old b mid) done → Gets (grown b mid c new) [] → Gets (grown a old c new) done
-  gets-no_more done first then = subst (Gets (grown a old c new)) (append-nil done) (gets-behind done [] first then)
+  pub gets-no_more : (done : List ℕ) → Gets (grown a old b mid) done → Gets (grown b mid c new) [] →
+      Gets (grown a old c new) done
+  gets-no_more done first then = subst (Gets (grown a old c new)) (append-nil done)
+      (gets-behind done [] first then)
 
   -- some bytes were written, and then a front of those after them
-  pub front-behind : (done line rest all : List ℕ) → all ≡ done ++ (line ++ rest) → Gets (grown a old b mid) done → GetsFront (grown b mid c new) line → GetsFront (grown a old c new) all
+  pub front-behind : (done line rest all : List ℕ) → all ≡ done ++ (line ++ rest) →
+      Gets (grown a old b mid) done → GetsFront (grown b mid c new) line →
+      GetsFront (grown a old c new) all
   front-behind done line rest all e first then = (
     record {
       front = done ++ then.0.front;
       left = then.0.left ++ rest;
-      parts = e ∙ ap (λ (l : List ℕ). done ++ (l ++ rest)) then.0.parts ∙ ap (λ (l : List ℕ). done ++ l) (append_assoc then.0.front then.0.left rest)
+      parts = e ∙ ap (λ (l : List ℕ). done ++ (l ++ rest)) then.0.parts
+          ∙ ap (λ (l : List ℕ). done ++ l) (append_assoc then.0.front then.0.left rest)
           ∙ sym (append_assoc done then.0.front (then.0.left ++ rest));
       wrote = Appends-trans a b c done then.0.front first.0 then.0.wrote;
     },
@@ -106,20 +139,38 @@ module _ (a : Option (List ℕ)) (old : ℕ) (b : Option (List ℕ)) (mid : ℕ)
   )
 
   -- some lines were written, and the next one was not
-  pub stops-behind : (lines : ℕ → List ℕ) (count n : ℕ) (line rest : List ℕ) → n < count → lines count ≡ lines n ++ (line ++ rest) → Gets (grown a old b mid) (lines n)
-      → IsLinePut (grown b mid c new) line false → GetsFront (grown a old c new) (lines count) ⊎ LacksText (grown a old c new) lines count
-  stops-behind lines count n line rest lt e first (inl cut) = inl (front-behind (lines n) line rest (lines count) e first cut)
-  stops-behind lines count n line rest lt e first (inr none) = inr (record { written = n; fewer = lt; wrote = gets-no_more (lines n) first none })
+  pub stops-behind : (lines : ℕ → List ℕ) (count n : ℕ) (line rest : List ℕ) → n < count →
+      lines count ≡ lines n ++ (line ++ rest) → Gets (grown a old b mid) (lines n)
+      → IsLinePut (grown b mid c new) line false → GetsFront (grown a old c new) (lines count)
+      ⊎ LacksText (grown a old c new) lines count
+  stops-behind lines count n line rest lt e first (inl cut) =
+      inl (front-behind (lines n) line rest (lines count) e first cut)
+  stops-behind lines count n line rest lt e first (inr none) =
+      inr (record { written = n; fewer = lt; wrote = gets-no_more (lines n) first none })
 
   -- some bytes were written, and others after them or a front of those
-  pub written-behind : (done more : List ℕ) (written : Bool) (wanted status : Status) → IsPut (grown a old b mid) done written → written ≡ true
-      → IsWritten (grown b mid c new) more wanted status → IsWritten (grown a old c new) (done ++ more) wanted status
-  written-behind done more true wanted status first e (inl whole) = inl (gets-behind done more first whole.0, whole.1)
-  written-behind done more true wanted status first e (inr cut) = inr (front-behind done more [] (done ++ more) (ap (λ (l : List ℕ). done ++ l) (sym (append-nil more))) first cut.0, cut.1)
+  pub written-behind : (done more : List ℕ) (written : Bool) (wanted status : Status) →
+      IsPut (grown a old b mid) done written → written ≡ true
+      → IsWritten (grown b mid c new) more wanted status →
+      IsWritten (grown a old c new) (done ++ more) wanted status
+  written-behind done more true wanted status first e (inl whole) =
+      inl (gets-behind done more first whole.0, whole.1)
+  written-behind done more true wanted status first e (inr cut) =
+      inr (
+        front-behind done more [] (done ++ more)
+            (ap (λ (l : List ℕ). done ++ l) (sym (append-nil more))) first cut.0,
+        cut.1,
+      )
   written-behind done more false wanted status first e then = absurd (false≢true e)
 
 -- a front of the first bytes was written, and no more
-pub cut-before : (a : Option (List ℕ)) (old : ℕ) (b : Option (List ℕ)) (mid : ℕ) (done more : List ℕ) (written : Bool) (wanted : Status) → IsPut (grown a old b mid) done written → written ≡ false
+pub cut-before : (a : Option (List ℕ)) (old : ℕ) (b : Option (List ℕ)) (mid : ℕ)
+    (done more : List ℕ) (written : Bool) (wanted : Status) →
+    IsPut (grown a old b mid) done written → written ≡ false
     → IsWritten (grown a old b mid) (done ++ more) wanted Trouble
-cut-before a old b mid done more false wanted first e = inr (front-behind a old a old b mid [] done more (done ++ more) refl (nothing-gets a old) first, refl)
+cut-before a old b mid done more false wanted first e =
+    inr (
+      front-behind a old a old b mid [] done more (done ++ more) refl (nothing-gets a old) first,
+      refl,
+    )
 cut-before a old b mid done more true wanted first e = absurd (false≢true (sym e))

@@ -8,7 +8,8 @@ use Rattle.edf_canonical.specs.Output.{WritesFront}
 use Rattle.edf_program.specs.declared.status.Status.{Status}
 use Rattle.edf_program.specs.declared.status.Status.TheVariants.{Trouble}
 
--- what a writer holds before and after, where that is known, and how many of its writes failed or took nothing
+-- what a writer holds before and after, where that is known, and how many of its writes failed or
+-- took nothing
 pub record Growth : Type 0 where
   pub before : Option (List ℕ)
   pub failed_before : ℕ
@@ -50,19 +51,22 @@ IsLinePut w text written = MatchBool written (Gets w text) (GetsFront w text ⊎
 
 -- `count` lines were written; or a write failed, or memory for the text of one was refused
 abbrev pub ArePut : Growth → (ℕ → List ℕ) → ℕ → Bool → Type 0
-ArePut w lines count written = MatchBool written (Gets w (lines count)) (GetsFront w (lines count) ⊎ LacksText w lines count)
+ArePut w lines count written = MatchBool written (Gets w (lines count)) (GetsFront w (lines count)
+    ⊎ LacksText w lines count)
 
 -- ---- what is answered by the status that is wanted, and by trouble
 
 abbrev pub IsWritten : Growth → List ℕ → Status → Status → Type 0
-IsWritten w bytes wanted status = (Gets w bytes × (status ≡ wanted)) ⊎ (GetsFront w bytes × (status ≡ Trouble))
+IsWritten w bytes wanted status = (Gets w bytes × (status ≡ wanted))
+    ⊎ (GetsFront w bytes × (status ≡ Trouble))
 
 -- or memory for the text was refused
 abbrev pub IsTold : Growth → List ℕ → Status → Status → Type 0
 IsTold w text wanted status = IsWritten w text wanted status ⊎ (Gets w [] × (status ≡ Trouble))
 
 abbrev pub AreTold : Growth → (ℕ → List ℕ) → ℕ → Status → Status → Type 0
-AreTold w lines count wanted status = IsWritten w (lines count) wanted status ⊎ (LacksText w lines count × (status ≡ Trouble))
+AreTold w lines count wanted status = IsWritten w (lines count) wanted status
+    ⊎ (LacksText w lines count × (status ≡ Trouble))
 
 -- nothing went to `out`, and a line to `err`
 abbrev pub Explains : Growth → Growth → List ℕ → Status → Status → Type 0

@@ -46,11 +46,13 @@ abbrev pub place_text : Option ℕ → List ℕ
 place_text None = []
 place_text (Some place) = decimal place
 
--- E22 to E28 of the nth data record, counted from 1, and want of memory; an offset counts from 0, in
--- the record's annotations blocks, joined
+-- E22 to E28 of the nth data record, counted from 1, and want of memory; an offset counts from 0,
+-- in the record's annotations blocks, joined
 abbrev pub tal_details : ℕ → TalFault → List ℕ
-tal_details nth (tal.Tal offset) = codes " Tal record=" ++ (decimal nth ++ (codes " offset=" ++ decimal offset))
-tal_details nth (tal.Text offset) = codes " Text record=" ++ (decimal nth ++ (codes " offset=" ++ decimal offset))
+tal_details nth (tal.Tal offset) = codes " Tal record="
+    ++ (decimal nth ++ (codes " offset=" ++ decimal offset))
+tal_details nth (tal.Text offset) = codes " Text record="
+    ++ (decimal nth ++ (codes " offset=" ++ decimal offset))
 tal_details nth tal.NotTimed = codes " NotTimed record=" ++ decimal nth
 tal_details nth tal.FirstOnset = codes " FirstOnset record=" ++ decimal nth
 tal_details nth tal.Window = codes " Window record=" ++ decimal nth
@@ -59,7 +61,8 @@ tal_details nth tal.TooMany = codes " TooMany record=" ++ decimal nth
 tal_details nth tal.Memory = codes " Memory"
 
 abbrev pub fragment_details : FragmentFault → List ℕ
-fragment_details (fragment.Header fault) = codes " " ++ (header_words fault ++ place_text (header_place fault))
+fragment_details (fragment.Header fault) = codes " "
+    ++ (header_words fault ++ place_text (header_place fault))
 fragment_details (fragment.CutRecord nth) = codes " CutRecord record=" ++ decimal nth
 fragment_details (fragment.Tal nth fault) = tal_details nth fault
 fragment_details fragment.Trailing = codes " Trailing"
@@ -68,4 +71,5 @@ fragment_details fragment.Memory = codes " Memory"
 fragment_details fragment.Failed = codes " Failed"
 
 abbrev pub fragment_fault_text : FragmentFault → List ℕ
-fragment_fault_text fault = codes "E" ++ (decimal (fragment_fault_number fault) ++ fragment_details fault)
+fragment_fault_text fault = codes "E"
+    ++ (decimal (fragment_fault_number fault) ++ fragment_details fault)

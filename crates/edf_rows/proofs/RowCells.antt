@@ -1,5 +1,7 @@
 -- The cells of one row.
-use Rattle.std.proofs.Common.{◌≡◌, ◌≢◌, ◌↔◌, ℕ, ◌*◌, ◌<◌, pos, ℤ, Option, None, Some, MatchOption, List, [], ◌∷◌, length, ◌^◌, of_z, to_z, w64, FitsSigned, refl, sym, ap, ap₂, subst, ◌∙◌, arith}
+use Rattle.std.proofs.Common.{◌≡◌, ◌≢◌, ◌↔◌, ℕ, ◌*◌, ◌<◌, pos, ℤ, Option, None, Some, MatchOption}
+use Rattle.std.proofs.Common.{List, [], ◌∷◌, length, ◌^◌, of_z, to_z, w64, FitsSigned, refl, sym}
+use Rattle.std.proofs.Common.{ap, ap₂, subst, ◌∙◌, arith}
 use Rattle.sqlite_value.specs.declared.value.Value.{Value}
 use Rattle.sqlite_value.specs.declared.value.Value.TheVariants.{Int, Blob}
 use Rattle.sqlite_value.specs.Order.{Row, column}
@@ -9,7 +11,9 @@ use Rattle.edf_tal.specs.Tal.{Annotation}
 use Rattle.edf_tal.specs.Block.{IsRead, IsBlockFault, IsBlockRefusal}
 use Rattle.edf_tal.specs.declared.place.Place.TheVariants.{Any}
 use Rattle.edf_tal.specs.declared.place.TalFault.{TalFault}
-use Rattle.edf_tal.specs.declared.place.TalFault.TheVariants.{Tal as NotTals, Text, NotTimed, FirstOnset, Window, Order, TooMany, Memory}
+use Rattle.edf_tal.specs.declared.place.TalFault.TheVariants.{Tal as NotTals, Text, NotTimed}
+use Rattle.edf_tal.specs.declared.place.TalFault.TheVariants.{FirstOnset, Window, Order, TooMany}
+use Rattle.edf_tal.specs.declared.place.TalFault.TheVariants.{Memory}
 use Rattle.std.proofs.lemmas.Int.{to_z-of_z}
 use Rattle.std.proofs.lemmas.List.{append-nil}
 use Rattle.edf_tal.specs.Canonical.{block_text}
@@ -22,23 +26,28 @@ use Rattle.edf_rows.specs.Rows.{IsRowOf, GivesRecord, GivesNoRecord}
 use Rattle.edf_rows.specs.Inside.Shape.{IsUnread, OwnBlock, NoOwnBlock}
 
 -- a block that is not written for what it gives is written for nothing
-pub other-block : (block : List ℕ) (start : ℕ) (list : List Annotation) → IsRead block 0 Any start list → block ≢ block_text 0 start list → NoOwnBlock block
+pub other-block : (block : List ℕ) (start : ℕ) (list : List Annotation) →
+    IsRead block 0 Any start list → block ≢ block_text 0 start list → NoOwnBlock block
 other-block block start list read other s l own =
     let same = one-read block 0 Any start s list l read own.read in
     other (own.written ∙ sym (ap₂ (block_text 0) same.start same.list))
 
-pub refused-unread : (block : List ℕ) (fault : TalFault) → IsBlockFault block 0 Any fault → IsUnread block
+pub refused-unread : (block : List ℕ) (fault : TalFault) → IsBlockFault block 0 Any fault →
+    IsUnread block
 refused-unread block fault refused s l read = read-no-fault block 0 Any s l fault read refused
 
 pub unread-block : (block : List ℕ) → IsUnread block → NoOwnBlock block
 unread-block block none s l own = none s l own.read
 
-pub refused-block : (block : List ℕ) (fault : TalFault) → IsBlockFault block 0 Any fault → NoOwnBlock block
+pub refused-block : (block : List ℕ) (fault : TalFault) → IsBlockFault block 0 Any fault →
+    NoOwnBlock block
 refused-block block fault refused = unread-block block (refused-unread block fault refused)
 
 -- a row with an own block, its start and as many samples as the key says is a data record's
-pub row-of : (k : Key) (start : ℕ) (samples block : List ℕ) (list : List Annotation) → OwnBlock block start list → length samples ≡ 2 * samples_in_all k.signals
-    → IsRowOf k (record { start = start; samples = samples; annotations = list }) (Int (pos start) ∷ Blob samples ∷ Blob block ∷ [])
+pub row-of : (k : Key) (start : ℕ) (samples block : List ℕ) (list : List Annotation) →
+    OwnBlock block start list → length samples ≡ 2 * samples_in_all k.signals
+    → IsRowOf k (record { start = start; samples = samples; annotations = list })
+    (Int (pos start) ∷ Blob samples ∷ Blob block ∷ [])
 row-of k start samples block list own len = record {
   cells = ap (λ (b : List ℕ). Int (pos start) ∷ Blob samples ∷ Blob b ∷ []) own.written;
   sound = record {
@@ -55,22 +64,34 @@ blob-bytes a b h = cc
 int-number : (a b : ℤ) → ◌≡◌ {A = Value} (Int a) (Int b) → a ≡ b
 int-number a b h = cc
 
-pub bad-len : (k : Key) (start : Value) (samples : List ℕ) (block : Value) → ¬ (length samples ≡ 2 * samples_in_all k.signals) → IsBadRow k (start ∷ Blob samples ∷ block ∷ [])
-bad-len k start samples block other = bad_samples (λ are. other (ap length (blob-bytes samples are.0 are.1) ∙ are.2))
+pub bad-len : (k : Key) (start : Value) (samples : List ℕ) (block : Value) →
+    ¬ (length samples ≡ 2 * samples_in_all k.signals) →
+    IsBadRow k (start ∷ Blob samples ∷ block ∷ [])
+bad-len k start samples block other =
+    bad_samples (λ are. other (ap length (blob-bytes samples are.0 are.1) ∙ are.2))
 
-pub bad-own : (k : Key) (start samples : Value) (block : List ℕ) → NoOwnBlock block → IsBadRow k (start ∷ samples ∷ Blob block ∷ [])
+pub bad-own : (k : Key) (start samples : Value) (block : List ℕ) → NoOwnBlock block →
+    IsBadRow k (start ∷ samples ∷ Blob block ∷ [])
 bad-own k start samples block none = bad_block (λ own.
     let same : block ≡ own.block = blob-bytes block own.block own.is_block in
-    none own.start own.list (record { read = subst (λ b. IsRead b 0 Any own.start own.list) (sym same) own.read; written = same ∙ own.written }))
+    none own.start own.list (record {
+      read =
+          subst (λ b. IsRead b 0 Any own.start own.list) (sym same) own.read;
+      written = same
+          ∙ own.written;
+    }))
 
-pub bad-starts : (k : Key) (start : ℤ) (samples : Value) (block : List ℕ) (read : ℕ) (list : List Annotation) → OwnBlock block read list → ¬ (pos read ≡ start)
+pub bad-starts : (k : Key) (start : ℤ) (samples : Value) (block : List ℕ) (read : ℕ)
+    (list : List Annotation) → OwnBlock block read list → ¬ (pos read ≡ start)
     → IsBadRow k (Int start ∷ samples ∷ Blob block ∷ [])
 bad-starts k start samples block read list is other = bad_block (λ own.
     let same : own.block ≡ block = sym (blob-bytes block own.block own.is_block) in
-    let one = one-read block 0 Any read own.start list own.list is.read (subst (λ b. IsRead b 0 Any own.start own.list) same own.read) in
+    let one = one-read block 0 Any read own.start list own.list is.read
+    (subst (λ b. IsRead b 0 Any own.start own.list) same own.read) in
     other (ap pos one.start ∙ sym (int-number start (pos own.start) own.starts)))
 
-pub fault-of : (block : List ℕ) (fault : TalFault) → fault ≢ Memory → IsBlockRefusal block 0 Any fault → IsBlockFault block 0 Any fault
+pub fault-of : (block : List ℕ) (fault : TalFault) → fault ≢ Memory →
+    IsBlockRefusal block 0 Any fault → IsBlockFault block 0 Any fault
 fault-of block (NotTals offset) other refused = refused
 fault-of block (Text offset) other refused = refused
 fault-of block NotTimed other refused = refused
@@ -80,28 +101,42 @@ fault-of block Order other refused = refused
 fault-of block TooMany other refused = refused
 fault-of block Memory other refused = absurd (other refl)
 
-pub same-cell : (n : ℕ) (z : ℤ) → n < 2 ^ 63 → FitsSigned w64 z → of_z w64 (pos n) ≡ of_z w64 z → pos n ≡ z
-same-cell n z low fits same = sym (to_z-of_z w64 (pos n) (record { sfits = omega (arith, low) })) ∙ ap (to_z w64) same ∙ to_z-of_z w64 z fits
+pub same-cell : (n : ℕ) (z : ℤ) → n < 2 ^ 63 → FitsSigned w64 z → of_z w64 (pos n) ≡ of_z w64 z →
+    pos n ≡ z
+same-cell n z low fits same = sym (to_z-of_z w64 (pos n) (record { sfits = omega (arith, low) }))
+    ∙ ap (to_z w64) same ∙ to_z-of_z w64 z fits
 
 -- the block of a sound data record gives its start and annotations
-pub own-read : (k : Key) (r : DataRecord) → IsSoundRecord k r → IsRead (block_text 0 r.start r.annotations) 0 Any r.start r.annotations
-own-read k r s = subst (λ (b : List ℕ). IsRead b 0 Any r.start r.annotations) (append-nil (block_text 0 r.start r.annotations)) (read-any 0 r.start 0 r.annotations (omega arith) s.start s.notes s.limits)
+pub own-read : (k : Key) (r : DataRecord) → IsSoundRecord k r →
+    IsRead (block_text 0 r.start r.annotations) 0 Any r.start r.annotations
+own-read k r s = subst (λ (b : List ℕ). IsRead b 0 Any r.start r.annotations)
+    (append-nil (block_text 0 r.start r.annotations))
+    (read-any 0 r.start 0 r.annotations (omega arith) s.start s.notes s.limits)
 
-row-read : (k : Key) (r : DataRecord) (start : ℤ) (samples block : List ℕ) → IsRowOf k r (Int start ∷ Blob samples ∷ Blob block ∷ []) → IsRead block 0 Any r.start r.annotations
+row-read : (k : Key) (r : DataRecord) (start : ℤ) (samples block : List ℕ) →
+    IsRowOf k r (Int start ∷ Blob samples ∷ Blob block ∷ []) →
+    IsRead block 0 Any r.start r.annotations
 row-read k r start samples block is =
-    let same : block ≡ block_text 0 r.start r.annotations = blob-bytes block _ (ap (λ (row : Row). column row 2) is.cells) in
+    let same : block ≡ block_text 0 r.start r.annotations =
+    blob-bytes block _ (ap (λ (row : Row). column row 2) is.cells) in
     subst (λ (b : List ℕ). IsRead b 0 Any r.start r.annotations) (sym same) (own-read k r is.sound)
 
 -- the row of a sound data record gives that data record
-pub row-gives : (k : Key) (r : DataRecord) (start : ℤ) (samples block : List ℕ) → IsKey k → IsRowOf k r (Int start ∷ Blob samples ∷ Blob block ∷ []) → GivesRecord samples block r
+pub row-gives : (k : Key) (r : DataRecord) (start : ℤ) (samples block : List ℕ) → IsKey k →
+    IsRowOf k r (Int start ∷ Blob samples ∷ Blob block ∷ []) → GivesRecord samples block r
 row-gives k r start samples block key is = record {
   samples_are = sym (blob-bytes samples _ (ap (λ (row : Row). column row 1) is.cells));
   read = row-read k r start samples block is;
-  size = record { samples = omega (arith, is.sound.samples_len, key.size); annotations = is.sound.limits };
+  size = record {
+    samples = omega (arith, is.sound.samples_len, key.size);
+    annotations =
+        is.sound.limits;
+  };
 }
 
 -- ---- what samples and a block give
-pub one-given : (samples block : List ℕ) (r s : DataRecord) → GivesRecord samples block r → GivesRecord samples block s → r ≡ s
+pub one-given : (samples block : List ℕ) (r s : DataRecord) → GivesRecord samples block r →
+    GivesRecord samples block s → r ≡ s
 one-given samples block r s p q =
     let one = one-read block 0 Any r.start s.start r.annotations s.annotations p.read q.read in
     let bytes : r.samples ≡ s.samples = p.samples_are ∙ sym q.samples_are in
@@ -109,19 +144,27 @@ one-given samples block r s p q =
 
 -- the answer is what they give, or `None` where they give nothing
 abbrev pub IsGiven : List ℕ → List ℕ → Option DataRecord → Type 0
-IsGiven samples block made = MatchOption made (GivesNoRecord samples block) (GivesRecord samples block)
+IsGiven samples block made = MatchOption made (GivesNoRecord samples block)
+    (GivesRecord samples block)
 
 pub given-unread : (samples block : List ℕ) → IsUnread block → IsGiven samples block None
 given-unread samples block none r gives = none r.start r.annotations gives.read
 
 -- what is made of the samples and of what is read
-pub given-made : (samples block : List ℕ) (read : ℕ) (list : List Annotation) (made : Option DataRecord) → IsRead block 0 Any read list
+pub given-made : (samples block : List ℕ) (read : ℕ) (list : List Annotation)
+    (made : Option DataRecord) → IsRead block 0 Any read list
     → (let parts : DataRecord = record { start = read; samples = samples; annotations = list } in
     MatchOption made (¬ IsWithinSize parts) (λ d. IsValidRecord d × (d ≡ parts)))
     → IsGiven samples block made
 given-made samples block read list None is large = λ r gives.
     let one = one-read block 0 Any r.start read r.annotations list gives.read is in
-    let same : r ≡ record { start = read; samples = samples; annotations = list } = λ i. record { start = one.start i; samples = gives.samples_are i; annotations = one.list i } in
+    let same : r ≡ record { start = read; samples = samples; annotations = list } =
+    λ i. record {
+      start = one.start i;
+      samples = gives.samples_are i;
+      annotations =
+          one.list i;
+    } in
     large (subst IsWithinSize same gives.size)
 given-made samples block read list (Some d) is kept = record {
   samples_are = ap (λ (r : DataRecord). r.samples) kept.1;
@@ -129,13 +172,17 @@ given-made samples block read list (Some d) is kept = record {
   size = kept.0.size;
 }
 
-pub given-some : (samples block : List ℕ) (made : Option DataRecord) → IsGiven samples block made → (r : DataRecord) → (made ≡ Some r) ↔ GivesRecord samples block r
-given-some samples block None none r = (λ same. absurd (let h : None ≡ Some r = same in cc), λ gives. absurd (none r gives))
+pub given-some : (samples block : List ℕ) (made : Option DataRecord) → IsGiven samples block made →
+    (r : DataRecord) → (made ≡ Some r) ↔ GivesRecord samples block r
+given-some samples block None none r =
+    (λ same. absurd (let h : None ≡ Some r = same in cc), λ gives. absurd (none r gives))
 given-some samples block (Some d) is r = (
   λ same. let e : d ≡ r = cc in subst (GivesRecord samples block) e is,
   λ gives. ap Some (one-given samples block d r is gives),
 )
 
-pub given-none : (samples block : List ℕ) (made : Option DataRecord) → IsGiven samples block made → (made ≡ None) ↔ GivesNoRecord samples block
+pub given-none : (samples block : List ℕ) (made : Option DataRecord) → IsGiven samples block made →
+    (made ≡ None) ↔ GivesNoRecord samples block
 given-none samples block None none = (λ same. none, λ no. refl)
-given-none samples block (Some d) is = (λ same. absurd (let h : Some d ≡ None = same in cc), λ no. absurd (no d is))
+given-none samples block (Some d) is =
+    (λ same. absurd (let h : Some d ≡ None = same in cc), λ no. absurd (no d is))

@@ -1,5 +1,6 @@
 -- The rows that no submissions leave.
-use Rattle.std.specs.Prelude.{◌≡◌, ℕ, ◌+◌, ◌*◌, ◌≤◌, ◌<◌, ℤ, pos, ◌⊎◌, List, [], ◌∷◌, length, Contains, IsTrue}
+use Rattle.std.specs.Prelude.{◌≡◌, ℕ, ◌+◌, ◌*◌, ◌≤◌, ◌<◌, ℤ, pos, ◌⊎◌, List, [], ◌∷◌, length}
+use Rattle.std.specs.Prelude.{Contains, IsTrue}
 use Rattle.sqlite_value.specs.declared.value.Value.TheVariants.{Int, Blob}
 use Rattle.sqlite_value.specs.Order.{Row}
 use Rattle.sqlite_trees.specs.Tree.{Trees}
@@ -12,7 +13,8 @@ use Rattle.edf_tal.specs.Block.{IsRead}
 use Rattle.edf_tal.specs.declared.place.Place.TheVariants.{Any}
 use Rattle.edf_tal.specs.Canonical.{block_text}
 use Rattle.edf_rows.specs.Cells.{recordings_in, records_in}
-use Rattle.edf_schema.specs.Columns.{the_id, the_identity, the_start, the_samples, the_block, stored_records, is_of}
+use Rattle.edf_schema.specs.Columns.{the_id, the_identity, the_start, the_samples, the_block}
+use Rattle.edf_schema.specs.Columns.{stored_records, is_of}
 use Rattle.edf_rows.specs.Rows.{IsThere, IsRecordingRow, AreTwoOf}
 
 -- the cell is an instant of the window
@@ -21,9 +23,11 @@ IsStart row start = (the_start row ≡ Int (pos start)) × (start < window)
 
 -- the cell is the number of sample bytes that the key says
 abbrev pub AreSamples : Key → Row → Type 0
-AreSamples k row = (samples : List ℕ) × (the_samples row ≡ Blob samples) × (length samples ≡ 2 * samples_in_all k.signals)
+AreSamples k row = (samples : List ℕ) × (the_samples row ≡ Blob samples)
+    × (length samples ≡ 2 * samples_in_all k.signals)
 
--- the cell is the block that is written for the list that is read from it, and the start that is read is the row's
+-- the cell is the block that is written for the list that is read from it, and the start that is
+-- read is the row's
 pub record IsOwnBlock (row : Row) : Type 0 where
   pub block : List ℕ
   pub start : ℕ
@@ -51,12 +55,14 @@ pub record AreTooNear (rows : List Row) (duration : ℕ) : Type 0 where
   pub order : first ≤ second
   pub near : second < first + duration
 
--- of the rows, which come by rising starts, the first starts where the key's recording may not: after 2084 without a date
+-- of the rows, which come by rising starts, the first starts where the key's recording may not:
+-- after 2084 without a date
 abbrev pub BeginsTooLate : Key → List Row → Type 0
 BeginsTooLate k [] = ⊥
 BeginsTooLate k (row ∷ rows) = (start : ℕ) × (the_start row ≡ Int (pos start)) × ¬ MayStart k start
 
--- a recording's records: one is bad, two are too near, they begin too late, there is none, or there are more than the cap
+-- a recording's records: one is bad, two are too near, they begin too late, there is none, or there
+-- are more than the cap
 pub data AreBadRecords (cap : ℕ) (k : Key) (rows : List Row) : Type 0 where
   bad_row : (row : Row) → Contains rows row → IsBadRow k row → AreBadRecords cap k rows
   too_near : AreTooNear rows (duration_of k.duration) → AreBadRecords cap k rows
@@ -68,7 +74,11 @@ pub data AreBadRecords (cap : ℕ) (k : Key) (rows : List Row) : Type 0 where
 -- recording's records are bad; a record's recording is not there; or, which the tables themselves
 -- exclude, an id or an identity occurs twice
 pub data IsForeign (cap : ℕ) (trees : Trees) : Type 0 where
-  bad_recording : (row : Row) → Contains (recordings_in trees) row → ¬ IsRecordingRow row → IsForeign cap trees
-  bad_records : (id : ℤ) (k : Key) → IsThere trees id k → AreBadRecords cap k (records_in trees id) → IsForeign cap trees
-  without_recording : (row : Row) → Contains (stored_records trees) row → ((id : ℤ) (k : Key) → IsThere trees id k → ¬ IsTrue (is_of id row)) → IsForeign cap trees
-  twice : (a b : Row) → AreTwoOf (recordings_in trees) a b → (the_id a ≡ the_id b) ⊎ (the_identity a ≡ the_identity b) → IsForeign cap trees
+  bad_recording : (row : Row) → Contains (recordings_in trees) row → ¬ IsRecordingRow row →
+      IsForeign cap trees
+  bad_records : (id : ℤ) (k : Key) → IsThere trees id k →
+      AreBadRecords cap k (records_in trees id) → IsForeign cap trees
+  without_recording : (row : Row) → Contains (stored_records trees) row →
+      ((id : ℤ) (k : Key) → IsThere trees id k → ¬ IsTrue (is_of id row)) → IsForeign cap trees
+  twice : (a b : Row) → AreTwoOf (recordings_in trees) a b → (the_id a ≡ the_id b)
+      ⊎ (the_identity a ≡ the_identity b) → IsForeign cap trees

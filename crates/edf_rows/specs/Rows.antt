@@ -1,5 +1,6 @@
 -- Which holdings the rows of the two tables stand for.
-use Rattle.std.specs.Prelude.{◌≡◌, ◌≢◌, ℕ, ℤ, List, [], ◌∷◌, map, All, Contains, IsTrue, IsPermutation}
+use Rattle.std.specs.Prelude.{◌≡◌, ◌≢◌, ℕ, ℤ, List, [], ◌∷◌, map, All, Contains, IsTrue}
+use Rattle.std.specs.Prelude.{IsPermutation}
 use Rattle.sqlite_value.specs.Order.{Row}
 use Rattle.sqlite_trees.specs.Tree.{Trees}
 use Rattle.edf_header.specs.Key.{Key, IsKey}
@@ -62,8 +63,8 @@ pub record IsRowOf (k : Key) (r : DataRecord) (row : Row) : Type 0 where
   pub sound : IsSoundRecord k r
 
 -- samples and a block give this data record: it has these samples, the start and the annotations
--- that are read from the block, and the size of a data record. Another spelling of the block that is
--- written for it gives the same
+-- that are read from the block, and the size of a data record. Another spelling of the block that
+-- is written for it gives the same
 pub record GivesRecord (samples block : List ℕ) (r : DataRecord) : Type 0 where
   pub samples_are : r.samples ≡ samples
   pub read : IsRead block 0 Any r.start r.annotations

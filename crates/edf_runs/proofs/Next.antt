@@ -1,5 +1,7 @@
 -- What a second reading finds where a run that was listed comes next.
-use Rattle.std.proofs.Common.{◌≡◌, ◌≢◌, ℕ, ◌+◌, ◌*◌, ◌/◌, ◌≤◌, ◌<◌, List, [], ◌∷◌, ◌++◌, length, refl, sym, ap, ◌∙◌, subst, arith, append_assoc, append-nil, length-append, All, Option, None, Some, Ok, Err, Result}
+use Rattle.std.proofs.Common.{◌≡◌, ◌≢◌, ℕ, ◌+◌, ◌*◌, ◌/◌, ◌≤◌, ◌<◌, List, [], ◌∷◌, ◌++◌, length}
+use Rattle.std.proofs.Common.{refl, sym, ap, ◌∙◌, subst, arith, append_assoc, append-nil}
+use Rattle.std.proofs.Common.{length-append, All, Option, None, Some, Ok, Err, Result}
 use Rattle.std.proofs.Math.Nat.{suc-mul}
 use Rattle.std.specs.Io.KnownBytes.{Consumes, IsAtEnd}
 use Rattle.edf_field.specs.Number.{duration_of}
@@ -8,13 +10,18 @@ use Rattle.edf_tal.specs.Block.{IsBlocksFault}
 use Rattle.edf_tal.specs.declared.place.Place.{Place}
 use Rattle.edf_tal.specs.declared.place.TalFault.{TalFault}
 use Rattle.edf_tal.proofs.Cited.{blocks-one-read, blocks-read-no-fault}
-use Rattle.edf_fragment.specs.Fragment.{DataRecord, IsDataRecord, AreDataRecords, place_after, blocks}
-use Rattle.edf_fragment.specs.Reading.{IsAnswer, AnswersIn, IsNext, GivesRecord, EndsThere, EndsInRecord, RefusesBlock}
+use Rattle.edf_fragment.specs.Fragment.{DataRecord, IsDataRecord, AreDataRecords, place_after}
+use Rattle.edf_fragment.specs.Fragment.{blocks}
+use Rattle.edf_fragment.specs.Reading.{IsAnswer, AnswersIn, IsNext, GivesRecord, EndsThere}
+use Rattle.edf_fragment.specs.Reading.{EndsInRecord, RefusesBlock}
 use Rattle.edf_fragment.specs.declared.advance.Progress.{Progress}
 use Rattle.edf_fragment.specs.declared.advance.Status.{Status}
 use Rattle.edf_fragment.specs.declared.advance.Status.TheVariants.{Reading}
 use Rattle.edf_fragment.specs.declared.fault.FragmentFault.{FragmentFault}
-use Rattle.edf_fragment.specs.declared.fault.FragmentFault.TheVariants.{Header as BadHeader, CutRecord, Tal, Trailing, Read as FailedRead, Memory as NoMemory, Failed}
+use Rattle.edf_fragment.specs.declared.fault.FragmentFault.TheVariants.{Header as BadHeader}
+use Rattle.edf_fragment.specs.declared.fault.FragmentFault.TheVariants.{CutRecord, Tal, Trailing}
+use Rattle.edf_fragment.specs.declared.fault.FragmentFault.TheVariants.{Read as FailedRead}
+use Rattle.edf_fragment.specs.declared.fault.FragmentFault.TheVariants.{Memory as NoMemory, Failed}
 use Rattle.edf_fragment.proofs.Fronts.{same_front}
 use Rattle.edf_fragment.proofs.Layouts.{record-some}
 use Rattle.edf_canonical.specs.Output.{Buffered}
@@ -36,80 +43,115 @@ record IsKnown (rest : Option (List ℕ)) (all front : List ℕ) : Type 0 where
   known : rest ≡ Some bytes
   parts : all ≡ front ++ bytes
 
-consumed : (all front : List ℕ) (rest : Option (List ℕ)) → Consumes (Some all) rest front → IsKnown rest all front
+consumed : (all front : List ℕ) (rest : Option (List ℕ)) → Consumes (Some all) rest front →
+    IsKnown rest all front
 consumed all front None read = absurd read
 consumed all front (Some bytes) read = record { bytes = bytes; known = refl; parts = read }
 
-known : (left rest : Option (List ℕ)) (all front : List ℕ) → left ≡ Some all → Consumes left rest front → IsKnown rest all front
-known left rest all front is read = consumed all front rest (subst (λ (x : Option (List ℕ)). Consumes x rest front) is read)
+known : (left rest : Option (List ℕ)) (all front : List ℕ) → left ≡ Some all →
+    Consumes left rest front → IsKnown rest all front
+known left rest all front is read =
+    consumed all front rest (subst (λ (x : Option (List ℕ)). Consumes x rest front) is read)
 
 -- what was read is all of it, where none is left
-all_read : (left rest : Option (List ℕ)) (all front : List ℕ) → left ≡ Some all → Consumes left rest front → IsAtEnd rest → length all ≡ length front
+all_read : (left rest : Option (List ℕ)) (all front : List ℕ) → left ≡ Some all →
+    Consumes left rest front → IsAtEnd rest → length all ≡ length front
 all_read left rest all front is read end =
     let k = known left rest all front is read in
     let none : k.bytes ≡ [] = subst IsAtEnd k.known end in
-    ap (λ (x : List ℕ). length x) (k.parts ∙ ap (λ (x : List ℕ). front ++ x) none ∙ append-nil front)
+    ap (λ (x : List ℕ). length x) (k.parts ∙ ap (λ (x : List ℕ). front ++ x) none
+    ∙ append-nil front)
 
-one_record : (l : Layout) (p : Place) (b : List ℕ) (r s : DataRecord) → IsDataRecord l p b r → IsDataRecord l p b s → r ≡ s
+one_record : (l : Layout) (p : Place) (b : List ℕ) (r s : DataRecord) → IsDataRecord l p b r →
+    IsDataRecord l p b s → r ≡ s
 one_record l p b r s x y =
-    let same = blocks-one-read (blocks l b) l.start p r.start s.start r.annotations s.annotations x.read y.read in
+    let same = blocks-one-read (blocks l b) l.start p r.start s.start r.annotations s.annotations
+    x.read y.read in
     let samples : r.samples ≡ s.samples = x.samples_are ∙ sym y.samples_are in
     λ i. record { start = same.start i; samples = samples i; annotations = same.list i }
 
 -- the data records after the one that was read
-record Follows (l : Layout) (rest : Option (List ℕ)) (x r : DataRecord) (xs : List DataRecord) (last : Place) (after : List ℕ) : Type 0 where
+record Follows (l : Layout) (rest : Option (List ℕ)) (x r : DataRecord) (xs : List DataRecord)
+    (last : Place) (after : List ℕ) : Type 0 where
   same : x ≡ r
   bytes : List ℕ
   known : rest ≡ Some bytes
   are_records : AreDataRecords l (place_after l r.start) bytes xs last after
 
-follows : (l : Layout) (from : Progress) (left rest : Option (List ℕ)) (all : List ℕ) (x r : DataRecord) (xs : List DataRecord) (last : Place) (after : List ℕ) → left ≡ Some all
-    → AreDataRecords l from.place all (x ∷ xs) last after → GivesRecord l from left rest r → Follows l rest x r xs last after
+follows : (l : Layout) (from : Progress) (left rest : Option (List ℕ)) (all : List ℕ)
+    (x r : DataRecord) (xs : List DataRecord) (last : Place) (after : List ℕ) → left ≡ Some all
+    → AreDataRecords l from.place all (x ∷ xs) last after → GivesRecord l from left rest r →
+    Follows l rest x r xs last after
 follows l from left rest all x r xs last after is (front, back, parts, one, more) gives =
     let k = known left rest all gives.bytes is gives.read in
-    let fronts = same_front all front back gives.bytes k.bytes parts k.parts (one.len ∙ sym gives.is_record.len) in
-    let same : x ≡ r = one_record l from.place gives.bytes x r (subst (λ (z : List ℕ). IsDataRecord l from.place z x) fronts.front one) gives.is_record in
-    let here = subst (λ (z : DataRecord). AreDataRecords l (place_after l z.start) back xs last after) same more in
+    let fronts = same_front all front back gives.bytes k.bytes parts k.parts (one.len
+    ∙ sym gives.is_record.len) in
+    let same : x ≡ r = one_record l from.place gives.bytes x r
+    (subst (λ (z : List ℕ). IsDataRecord l from.place z x) fronts.front one) gives.is_record in
+    let here = subst (λ (z : DataRecord).
+    AreDataRecords l (place_after l z.start) back xs last after) same more in
     record {
       same = same;
       bytes = k.bytes;
       known = k.known;
-      are_records = subst (λ (z : List ℕ). AreDataRecords l (place_after l r.start) z xs last after) fronts.back here;
+      are_records = subst (λ (z : List ℕ). AreDataRecords l (place_after l r.start) z xs last after)
+          fronts.back here;
     }
 
 -- ---- no fault of form, where there is one more
 
-no_end : (l : Layout) (from : Progress) (left rest : Option (List ℕ)) (all : List ℕ) (x : DataRecord) (xs : List DataRecord) (last : Place) (after : List ℕ) → IsLayout l → left ≡ Some all
+no_end : (l : Layout) (from : Progress) (left rest : Option (List ℕ)) (all : List ℕ)
+    (x : DataRecord) (xs : List DataRecord) (last : Place) (after : List ℕ) → IsLayout l →
+    left ≡ Some all
     → AreDataRecords l from.place all (x ∷ xs) last after → ¬ EndsThere l from left rest
 no_end l from left rest all x xs last after layout is (front, back, parts, one, more) ends =
     let none = all_read left rest all [] is ends.read ends.end in
-    let len : length all ≡ length front + length back = ap (λ (z : List ℕ). length z) parts ∙ length-append front back in
+    let len : length all ≡ length front + length back = ap (λ (z : List ℕ). length z) parts
+    ∙ length-append front back in
     omega (arith, none, len, one.len, record-some l layout)
 
-no_cut : (l : Layout) (from : Progress) (left rest : Option (List ℕ)) (all : List ℕ) (x : DataRecord) (xs : List DataRecord) (last : Place) (after : List ℕ) (nth : ℕ) → left ≡ Some all
+no_cut : (l : Layout) (from : Progress) (left rest : Option (List ℕ)) (all : List ℕ)
+    (x : DataRecord) (xs : List DataRecord) (last : Place) (after : List ℕ) (nth : ℕ) →
+    left ≡ Some all
     → AreDataRecords l from.place all (x ∷ xs) last after → ¬ EndsInRecord l from left rest nth
 no_cut l from left rest all x xs last after nth is (front, back, parts, one, more) cut =
     let none = all_read left rest all cut.bytes is cut.read cut.end in
-    let len : length all ≡ length front + length back = ap (λ (z : List ℕ). length z) parts ∙ length-append front back in
+    let len : length all ≡ length front + length back = ap (λ (z : List ℕ). length z) parts
+    ∙ length-append front back in
     omega (arith, none, len, one.len, cut.cut)
 
-no_refusal : (l : Layout) (from : Progress) (left rest : Option (List ℕ)) (all : List ℕ) (x : DataRecord) (xs : List DataRecord) (last : Place) (after : List ℕ) (nth : ℕ) (fault : TalFault)
-    → left ≡ Some all → AreDataRecords l from.place all (x ∷ xs) last after → ¬ RefusesBlock l from left rest nth fault
-no_refusal l from left rest all x xs last after nth fault is (front, back, parts, one, more) refuses =
+no_refusal : (l : Layout) (from : Progress) (left rest : Option (List ℕ)) (all : List ℕ)
+    (x : DataRecord) (xs : List DataRecord) (last : Place) (after : List ℕ) (nth : ℕ)
+    (fault : TalFault)
+    → left ≡ Some all → AreDataRecords l from.place all (x ∷ xs) last after →
+    ¬ RefusesBlock l from left rest nth fault
+no_refusal l from left rest all x xs last after nth fault is (
+  front,
+  back,
+  parts,
+  one,
+  more,
+) refuses =
     let k = known left rest all refuses.bytes is refuses.read in
-    let fronts = same_front all front back refuses.bytes k.bytes parts k.parts (one.len ∙ sym refuses.len) in
+    let fronts = same_front all front back refuses.bytes k.bytes parts k.parts (one.len
+    ∙ sym refuses.len) in
     blocks-read-no-fault (blocks l front) l.start from.place x.start x.annotations fault one.read
-    (subst (λ (z : List ℕ). IsBlocksFault (blocks l z) l.start from.place fault) (sym fronts.front) refuses.refused)
+    (subst (λ (z : List ℕ). IsBlocksFault (blocks l z) l.start from.place fault) (sym fronts.front)
+    refuses.refused)
 
 -- ---- of a run that comes next
 
-reading : (l : Layout) (from to : Progress) (left rest : Option (List ℕ)) (answer : Result (Option DataRecord) FragmentFault) → from.status ≡ Reading → IsAnswer l from to left rest answer
+reading : (l : Layout) (from to : Progress) (left rest : Option (List ℕ))
+    (answer : Result (Option DataRecord) FragmentFault) → from.status ≡ Reading →
+    IsAnswer l from to left rest answer
     → IsNext l from left rest answer
 reading l from to left rest answer going is =
-    let a : AnswersIn Reading l from to left rest answer = subst (λ (s : Status). AnswersIn s l from to left rest answer) going is in
+    let a : AnswersIn Reading l from to left rest answer =
+    subst (λ (s : Status). AnswersIn s l from to left rest answer) going is in
     a.1
 
-pub has_all : (l : Layout) (from : Progress) (left : Option (List ℕ)) (run : Run) (n : ComesNext l from left run) → HasOthers l from left n.records []
+pub has_all : (l : Layout) (from : Progress) (left : Option (List ℕ)) (run : Run)
+    (n : ComesNext l from left run) → HasOthers l from left n.records []
 has_all l from left run n = record {
   going = n.going;
   others = n.records;
@@ -123,39 +165,54 @@ has_all l from left run n = record {
 }
 
 -- there is another, where fewer were read
-has_next : (l : Layout) (to : Progress) (rest : Option (List ℕ)) (all records : List DataRecord) (h : HasOthers l to rest all records) → length records < length all → h.others ≢ []
+has_next : (l : Layout) (to : Progress) (rest : Option (List ℕ)) (all records : List DataRecord)
+    (h : HasOthers l to rest all records) → length records < length all → h.others ≢ []
 has_next l to rest all records h few none =
-    let len : length all ≡ length records + length h.others = ap (λ (z : List DataRecord). length z) h.parts ∙ length-append records h.others in
+    let len : length all ≡ length records + length h.others =
+    ap (λ (z : List DataRecord). length z) h.parts ∙ length-append records h.others in
     let zero_others : length h.others ≡ 0 = ap (λ (z : List DataRecord). length z) none in
     omega (arith, len, few, zero_others)
 
-more_with : (l : Layout) (from to : Progress) (left rest : Option (List ℕ)) (all records others : List DataRecord) (bytes : List ℕ) (last : Place) (after : List ℕ) (instant : ℕ) (r : DataRecord)
-    → others ≢ [] → all ≡ records ++ others → left ≡ Some bytes → AreDataRecords l from.place bytes others last after → from.given + length others ≤ most_records l.count
+more_with : (l : Layout) (from to : Progress) (left rest : Option (List ℕ))
+    (all records others : List DataRecord) (bytes : List ℕ) (last : Place) (after : List ℕ)
+    (instant : ℕ) (r : DataRecord)
+    → others ≢ [] → all ≡ records ++ others → left ≡ Some bytes →
+    AreDataRecords l from.place bytes others last after →
+    from.given + length others ≤ most_records l.count
     → StepsOn l from to left rest instant r → HasOthers l to rest all (records ++ r ∷ [])
-more_with l from to left rest all records [] bytes last after instant r some parts known are within step = absurd (some refl)
-more_with l from to left rest all records (x ∷ xs) bytes last after instant r some parts known are within step =
+more_with l from to left rest all records [] bytes last after instant r some parts known are within
+    step = absurd (some refl)
+more_with l from to left rest all records (x ∷ xs) bytes last after instant r some parts known are
+    within step =
     let f = follows l from left rest bytes x r xs last after known are step.gives in
     let place : to.place ≡ place_after l r.start = ap (λ (z : Progress). z.place) step.progress in
     let given : to.given ≡ from.given + 1 = ap (λ (z : Progress). z.given) step.progress in
     record {
       going = ap (λ (z : Progress). z.status) step.progress;
       others = xs;
-      parts = parts ∙ ap (λ (z : DataRecord). records ++ z ∷ xs) f.same ∙ sym (append_assoc records (r ∷ []) xs);
+      parts = parts ∙ ap (λ (z : DataRecord). records ++ z ∷ xs) f.same
+          ∙ sym (append_assoc records (r ∷ []) xs);
       bytes = f.bytes;
       known = f.known;
       last = last;
       after = after;
-      are_records = subst (λ (z : Place). AreDataRecords l z f.bytes xs last after) (sym place) f.are_records;
+      are_records = subst (λ (z : Place). AreDataRecords l z f.bytes xs last after) (sym place)
+          f.are_records;
       within = omega (arith, within, given);
     }
 
-pub has_more : (l : Layout) (from to : Progress) (left rest : Option (List ℕ)) (all records : List DataRecord) (instant : ℕ) (r : DataRecord) → HasOthers l from left all records
-    → length records < length all → StepsOn l from to left rest instant r → HasOthers l to rest all (records ++ r ∷ [])
+pub has_more : (l : Layout) (from to : Progress) (left rest : Option (List ℕ))
+    (all records : List DataRecord) (instant : ℕ) (r : DataRecord) →
+    HasOthers l from left all records
+    → length records < length all → StepsOn l from to left rest instant r →
+    HasOthers l to rest all (records ++ r ∷ [])
 has_more l from to left rest all records instant r h few step =
-    more_with l from to left rest all records h.others h.bytes h.last h.after instant r (has_next l from left all records h few) h.parts h.known h.are_records h.within step
+    more_with l from to left rest all records h.others h.bytes h.last h.after instant r
+    (has_next l from left all records h few) h.parts h.known h.are_records h.within step
 
 -- when it starts
-start_of : (d at : ℕ) (rs xs : List DataRecord) (x : DataRecord) → StartFrom d at (rs ++ x ∷ xs) → x.start ≡ at + length rs * d
+start_of : (d at : ℕ) (rs xs : List DataRecord) (x : DataRecord) → StartFrom d at (rs ++ x ∷ xs) →
+    x.start ≡ at + length rs * d
 start_of d at [] xs x from = omega (arith, from.0)
 start_of d at (y ∷ ys) xs x from =
     let e = suc-mul (length ys) d in
@@ -163,58 +220,97 @@ start_of d at (y ∷ ys) xs x from =
     omega (arith, later, e)
 
 -- another fault than that of form
-form : (l : Layout) (from : Progress) (left rest : Option (List ℕ)) (all : List ℕ) (x : DataRecord) (xs : List DataRecord) (last : Place) (after : List ℕ) (fault : FragmentFault) → left ≡ Some all
-    → AreDataRecords l from.place all (x ∷ xs) last after → from.given + length (x ∷ xs) ≤ most_records l.count → IsNext l from left rest (Err fault) → fault_again fault ≢ Changed
+form : (l : Layout) (from : Progress) (left rest : Option (List ℕ)) (all : List ℕ) (x : DataRecord)
+    (xs : List DataRecord) (last : Place) (after : List ℕ) (fault : FragmentFault) → left ≡ Some all
+    → AreDataRecords l from.place all (x ∷ xs) last after →
+    from.given + length (x ∷ xs) ≤ most_records l.count → IsNext l from left rest (Err fault) →
+    fault_again fault ≢ Changed
 form l from left rest all x xs last after (BadHeader fault) is are within next same = absurd next
-form l from left rest all x xs last after (CutRecord nth) is are within next same = no_cut l from left rest all x xs last after nth is are next
-form l from left rest all x xs last after (Tal nth fault) is are within next same = no_refusal l from left rest all x xs last after nth fault is are next
-form l from left rest all x xs last after Trailing is are within next same = omega (arith, within, next.all)
-form l from left rest all x xs last after FailedRead is are within next same = let e : ◌≡◌ {A = WriteFault} Read Changed = same in cc
-form l from left rest all x xs last after NoMemory is are within next same = let e : ◌≡◌ {A = WriteFault} Memory Changed = same in cc
+form l from left rest all x xs last after (CutRecord nth) is are within next same =
+    no_cut l from left rest all x xs last after nth is are next
+form l from left rest all x xs last after (Tal nth fault) is are within next same =
+    no_refusal l from left rest all x xs last after nth fault is are next
+form l from left rest all x xs last after Trailing is are within next same =
+    omega (arith, within, next.all)
+form l from left rest all x xs last after FailedRead is are within next same =
+    let e : ◌≡◌ {A = WriteFault} Read Changed = same in cc
+form l from left rest all x xs last after NoMemory is are within next same =
+    let e : ◌≡◌ {A = WriteFault} Memory Changed = same in cc
 form l from left rest all x xs last after Failed is are within next same = absurd next
 
-no_stop : (l : Layout) (from : Progress) (left rest : Option (List ℕ)) (all : List ℕ) (x : DataRecord) (xs : List DataRecord) (last : Place) (after : List ℕ) (instant : ℕ)
-    (answer : Result (Option DataRecord) FragmentFault) → IsLayout l → left ≡ Some all → AreDataRecords l from.place all (x ∷ xs) last after
-    → from.given + length (x ∷ xs) ≤ most_records l.count → x.start ≡ instant → IsNext l from left rest answer → ¬ IsFaultBy instant answer Changed
-no_stop l from left rest all x xs last after instant (Ok (Some r)) layout is are within start next why =
+no_stop : (l : Layout) (from : Progress) (left rest : Option (List ℕ)) (all : List ℕ)
+    (x : DataRecord) (xs : List DataRecord) (last : Place) (after : List ℕ) (instant : ℕ)
+    (answer : Result (Option DataRecord) FragmentFault) → IsLayout l → left ≡ Some all →
+    AreDataRecords l from.place all (x ∷ xs) last after
+    → from.given + length (x ∷ xs) ≤ most_records l.count → x.start ≡ instant →
+    IsNext l from left rest answer → ¬ IsFaultBy instant answer Changed
+no_stop l from left rest all x xs last after instant (Ok (Some r)) layout is are within start next
+    why =
     let f = follows l from left rest all x r xs last after is are next in
     why.1 (ap (λ (z : DataRecord). z.start) (sym f.same) ∙ start)
-no_stop l from left rest all x xs last after instant (Ok None) layout is are within start next why = no_end l from left rest all x xs last after layout is are next
-no_stop l from left rest all x xs last after instant (Err fault) layout is are within start next why = form l from left rest all x xs last after fault is are within next (sym why)
+no_stop l from left rest all x xs last after instant (Ok None) layout is are within start next why =
+    no_end l from left rest all x xs last after layout is are next
+no_stop l from left rest all x xs last after instant (Err fault) layout is are within start next
+    why = form l from left rest all x xs last after fault is are within next (sym why)
 
-stop_with : (l : Layout) (from to : Progress) (left rest : Option (List ℕ)) (d at : ℕ) (all records others : List DataRecord) (bytes : List ℕ) (last : Place) (after : List ℕ) (instant : ℕ)
-    → IsLayout l → others ≢ [] → all ≡ records ++ others → left ≡ Some bytes → AreDataRecords l from.place bytes others last after
-    → from.given + length others ≤ most_records l.count → from.status ≡ Reading → StartFrom d at all → instant ≡ at + length records * d → ¬ StopsAt l from to left rest instant Changed
-stop_with l from to left rest d at all records [] bytes last after instant layout some parts known are within going starts is stop = some refl
-stop_with l from to left rest d at all records (x ∷ xs) bytes last after instant layout some parts known are within going starts is stop =
+stop_with : (l : Layout) (from to : Progress) (left rest : Option (List ℕ)) (d at : ℕ)
+    (all records others : List DataRecord) (bytes : List ℕ) (last : Place) (after : List ℕ)
+    (instant : ℕ)
+    → IsLayout l → others ≢ [] → all ≡ records ++ others → left ≡ Some bytes →
+    AreDataRecords l from.place bytes others last after
+    → from.given + length others ≤ most_records l.count → from.status ≡ Reading →
+    StartFrom d at all → instant ≡ at + length records * d →
+    ¬ StopsAt l from to left rest instant Changed
+stop_with l from to left rest d at all records [] bytes last after instant layout some parts known
+    are within going starts is stop = some refl
+stop_with l from to left rest d at all records (x ∷ xs) bytes last after instant layout some parts
+    known are within going starts is stop =
     let start = start_of d at records xs x (subst (StartFrom d at) parts starts) in
-    no_stop l from left rest bytes x xs last after instant stop.answer layout known are within (start ∙ sym is) (reading l from to left rest stop.answer going stop.is_answer) stop.why
+    no_stop l from left rest bytes x xs last after instant stop.answer layout known are within
+    (start ∙ sym is) (reading l from to left rest stop.answer going stop.is_answer) stop.why
 
 -- the next one is there, and starts when it was listed
-pub no_change : (l : Layout) (from to : Progress) (left rest : Option (List ℕ)) (d at : ℕ) (all records : List DataRecord) (instant : ℕ) → IsLayout l → HasOthers l from left all records
-    → length records < length all → StartFrom d at all → instant ≡ at + length records * d → ¬ StopsAt l from to left rest instant Changed
+pub no_change : (l : Layout) (from to : Progress) (left rest : Option (List ℕ)) (d at : ℕ)
+    (all records : List DataRecord) (instant : ℕ) → IsLayout l → HasOthers l from left all records
+    → length records < length all → StartFrom d at all → instant ≡ at + length records * d →
+    ¬ StopsAt l from to left rest instant Changed
 no_change l from to left rest d at all records instant layout h few starts is stop =
-    stop_with l from to left rest d at all records h.others h.bytes h.last h.after instant layout (has_next l from left all records h few) h.parts h.known h.are_records h.within h.going starts is stop
+    stop_with l from to left rest d at all records h.others h.bytes h.last h.after instant layout
+    (has_next l from left all records h few) h.parts h.known h.are_records h.within h.going
+    starts is stop
 
 -- ---- so far
 
-few_listed : (l : Layout) (from mid : Progress) (left middle : Option (List ℕ)) (run : Run) (rs : List DataRecord) (next count : ℕ) (so : ReadSoFar l from mid left middle run rs next count)
+few_listed : (l : Layout) (from mid : Progress) (left middle : Option (List ℕ)) (run : Run)
+    (rs : List DataRecord) (next count : ℕ)
+    (so : ReadSoFar l from mid left middle run rs next count)
     (n : ComesNext l from left run) → count < run.records → length rs < length n.records
-few_listed l from mid left middle run rs next count so n few = omega (arith, so.counted, few, n.listed.count)
+few_listed l from mid left middle run rs next count so n few =
+    omega (arith, so.counted, few, n.listed.count)
 
-pub next_as_listed : (l : Layout) (from mid to : Progress) (left middle rest : Option (List ℕ)) (run : Run) (rs : List DataRecord) (next count : ℕ) → IsLayout l
-    → ReadSoFar l from mid left middle run rs next count → count < run.records → ComesNext l from left run → ¬ StopsAt l mid to middle rest next Changed
+pub next_as_listed : (l : Layout) (from mid to : Progress) (left middle rest : Option (List ℕ))
+    (run : Run) (rs : List DataRecord) (next count : ℕ) → IsLayout l
+    → ReadSoFar l from mid left middle run rs next count → count < run.records →
+    ComesNext l from left run → ¬ StopsAt l mid to middle rest next Changed
 next_as_listed l from mid to left middle rest run rs next count layout so few n =
-    no_change l mid to middle rest (duration_of l.key.duration) run.first n.records rs next layout (so.listed n) (few_listed l from mid left middle run rs next count so n few) n.listed.starts so.next_is
+    no_change l mid to middle rest (duration_of l.key.duration) run.first n.records rs next layout
+    (so.listed n) (few_listed l from mid left middle run rs next count so n few) n.listed.starts
+    so.next_is
 
 -- the block of the one that was read fits
-pub block_as_listed : (l : Layout) (from mid to : Progress) (left middle rest : Option (List ℕ)) (run : Run) (rs : List DataRecord) (next count here : ℕ) (r : DataRecord)
-    → ReadSoFar l from mid left middle run rs next count → count < run.records → StepsOn l mid to middle rest next r → here ≡ (length (block_of (second_of run.first) r) + 1) / 2
+pub block_as_listed : (l : Layout) (from mid to : Progress) (left middle rest : Option (List ℕ))
+    (run : Run) (rs : List DataRecord) (next count here : ℕ) (r : DataRecord)
+    → ReadSoFar l from mid left middle run rs next count → count < run.records →
+    StepsOn l mid to middle rest next r →
+    here ≡ (length (block_of (second_of run.first) r) + 1) / 2
     → ComesNext l from left run → here ≤ run.block_samples
 block_as_listed l from mid to left middle rest run rs next count here r so few step is n =
-    let h = has_more l mid to middle rest n.records rs next r (so.listed n) (few_listed l from mid left middle run rs next count so n few) step in
-    let fits : DataRecord → Type 0 = λ x. length (block_of (second_of run.first) x) ≤ 2 * run.block_samples in
-    let all : All fits ((rs ++ r ∷ []) ++ h.others) = subst (λ (x : List DataRecord). All fits x) h.parts n.listed.holds in
+    let h = has_more l mid to middle rest n.records rs next r (so.listed n)
+    (few_listed l from mid left middle run rs next count so n few) step in
+    let fits : DataRecord → Type 0 =
+    λ x. length (block_of (second_of run.first) x) ≤ 2 * run.block_samples in
+    let all : All fits ((rs ++ r ∷ []) ++ h.others) =
+    subst (λ (x : List DataRecord). All fits x) h.parts n.listed.holds in
     let one = all_last fits rs r (all_front fits (rs ++ r ∷ []) h.others all) in
     omega (arith, is, samples_least _ run.block_samples one)
 
@@ -222,31 +318,41 @@ none_more : (xs : List DataRecord) → length xs ≡ 0 → xs ≡ []
 none_more [] none = refl
 none_more (x ∷ xs) none = absurd (omega (arith, none))
 
-all_listed : (l : Layout) (from to : Progress) (left rest : Option (List ℕ)) (run : Run) (rs : List DataRecord) (next count : ℕ) (so : ReadSoFar l from to left rest run rs next count)
+all_listed : (l : Layout) (from to : Progress) (left rest : Option (List ℕ)) (run : Run)
+    (rs : List DataRecord) (next count : ℕ) (so : ReadSoFar l from to left rest run rs next count)
     → count ≡ run.records → (n : ComesNext l from left run) → n.records ≡ rs
 all_listed l from to left rest run rs next count so all n =
     let h = so.listed n in
-    let len : length n.records ≡ length rs + length h.others = ap (λ (z : List DataRecord). length z) h.parts ∙ length-append rs h.others in
-    h.parts ∙ ap (λ (x : List DataRecord). rs ++ x) (none_more h.others (omega (arith, len, so.counted, all, n.listed.count))) ∙ append-nil rs
+    let len : length n.records ≡ length rs + length h.others =
+    ap (λ (z : List DataRecord). length z) h.parts ∙ length-append rs h.others in
+    h.parts ∙ ap (λ (x : List DataRecord). rs
+    ++ x) (none_more h.others (omega (arith, len, so.counted, all, n.listed.count)))
+    ∙ append-nil rs
 
 -- the longest block is as long as was listed
-pub longest_as_listed : (l : Layout) (from to : Progress) (left rest : Option (List ℕ)) (a b : Buffered) (run : Run) (next samples count : ℕ) → PutSoFar l from to left rest a b run next samples count
+pub longest_as_listed : (l : Layout) (from to : Progress) (left rest : Option (List ℕ))
+    (a b : Buffered) (run : Run) (next samples count : ℕ) →
+    PutSoFar l from to left rest a b run next samples count
     → count ≡ run.records → ComesNext l from left run → samples ≡ run.block_samples
 longest_as_listed l from to left rest a b run next samples count so all n =
     let same = all_listed l from to left rest run so.records next count so.so_far all n in
-    let low = n.listed.least samples (subst (BlocksFit (second_of run.first) samples) (sym same) so.put.holds) in
+    let low = n.listed.least samples (subst (BlocksFit (second_of run.first) samples) (sym same)
+    so.put.holds) in
     omega (arith, low, so.put.within)
 
 -- the run ends where was listed
-pub end_as_listed : (l : Layout) (from to : Progress) (left rest : Option (List ℕ)) (run : Run) (rs : List DataRecord) (next count : ℕ) → ReadSoFar l from to left rest run rs next count
+pub end_as_listed : (l : Layout) (from to : Progress) (left rest : Option (List ℕ)) (run : Run)
+    (rs : List DataRecord) (next count : ℕ) → ReadSoFar l from to left rest run rs next count
     → count ≡ run.records → ComesNext l from left run → next ≡ run.last + duration_of l.key.duration
 end_as_listed l from to left rest run rs next count so all n =
     let same = all_listed l from to left rest run rs next count so all n in
     let d = duration_of l.key.duration in
     let ends = run_end d n.records run n.listed in
-    let len : length n.records * d ≡ length rs * d = ap (λ (z : List DataRecord). length z * d) same in
+    let len : length n.records * d ≡ length rs * d =
+    ap (λ (z : List DataRecord). length z * d) same in
     omega (arith, ends, len, so.next_is)
 
 -- a fault that is handed on
-pub handed_on : {A : Type 0} (result : Result A WriteFault) (fault before : WriteFault) → result ≡ Err fault → fault ≡ before → result ≡ Err Changed → before ≡ Changed
+pub handed_on : {A : Type 0} (result : Result A WriteFault) (fault before : WriteFault) →
+    result ≡ Err fault → fault ≡ before → result ≡ Err Changed → before ≡ Changed
 handed_on result fault before is same changed = cc

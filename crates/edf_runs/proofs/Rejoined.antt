@@ -1,7 +1,9 @@
 -- Nothing is lost where a file is split into its runs.
-use Rattle.std.proofs.Common.{◌≡◌, ℕ, zero, suc, ◌≤◌, ◌⊎◌, List, [], ◌∷◌, length, Contains, refl, sym, ap, ◌∙◌, subst, arith, inl, inr}
+use Rattle.std.proofs.Common.{◌≡◌, ℕ, zero, suc, ◌≤◌, ◌⊎◌, List, [], ◌∷◌, length, Contains, refl}
+use Rattle.std.proofs.Common.{sym, ap, ◌∙◌, subst, arith, inl, inr}
 use Rattle.std.specs.List.{flat_map, AllZip, AllByRecursion}
-use Rattle.std.proofs.lemmas.List.Elements.{Contains-append_left, Contains-append_right, Contains-append_cases}
+use Rattle.std.proofs.lemmas.List.Elements.{Contains-append_left, Contains-append_right}
+use Rattle.std.proofs.lemmas.List.Elements.{Contains-append_cases}
 use Rattle.edf_field.specs.Number.{duration_of}
 use Rattle.edf_header.specs.Key.{Key}
 use Rattle.edf_fragment.specs.Fragment.{DataRecord, Spells}
@@ -14,7 +16,8 @@ use Rattle.edf_holdings.specs.Reply.{IsSoundTold, after}
 use Rattle.edf_holdings.specs.Free.{IsFragment, IsFree, Has, SameRecords}
 use Rattle.edf_holdings.specs.Laws.{AreSoundTold}
 use Rattle.edf_holdings.proofs.Joining.{put_cases, put_here, lasting, apart-sound}
-use Rattle.edf_holdings.proofs.Free.{IsAmong, IsAmong-from_Any, Any-from_IsAmong, any_order_law, recut_law}
+use Rattle.edf_holdings.proofs.Free.{IsAmong, IsAmong-from_Any, Any-from_IsAmong, any_order_law}
+use Rattle.edf_holdings.proofs.Free.{recut_law}
 use Rattle.edf_holdings.proofs.InSets.{from_nothing}
 use Rattle.edf_holdings.proofs.Recut.{free_of_same, alone_is_free}
 use Rattle.edf_holdings.proofs.ToldSound.{told_is_sound}
@@ -30,7 +33,8 @@ contains-first x xs = (0, omega arith, refl)
 contains-later : {X : Type 0} (x : X) (xs : List X) (y : X) → Contains xs y → Contains (x ∷ xs) y
 contains-later x xs y c = (suc c.0, omega (arith, c.1), c.2)
 
-contains-cases : {X : Type 0} (x : X) (xs : List X) (y : X) → Contains (x ∷ xs) y → (x ≡ y) ⊎ Contains xs y
+contains-cases : {X : Type 0} (x : X) (xs : List X) (y : X) → Contains (x ∷ xs) y → (x ≡ y)
+    ⊎ Contains xs y
 contains-cases x xs y (zero, lt, e) = inl e
 contains-cases x xs y (suc i, lt, e) = inr (i, omega arith, e)
 
@@ -38,17 +42,21 @@ abbrev all_of : List (List DataRecord) → List DataRecord
 all_of runs = flat_map (λ run. run) runs
 
 -- a data record of the runs joined is one of a run
-in-a-run : (runs : List (List DataRecord)) (r : DataRecord) → Contains (all_of runs) r → (run : List DataRecord) × Contains runs run × Contains run r
+in-a-run : (runs : List (List DataRecord)) (r : DataRecord) → Contains (all_of runs) r →
+    (run : List DataRecord) × Contains runs run × Contains run r
 in-a-run [] r c = absurd (omega (arith, c.1))
 in-a-run (run ∷ runs) r c = elim (Contains-append_cases run (all_of runs) r c) [
   | inl here ↦ (run, contains-first run runs, here)
-  | inr later ↦ let more = in-a-run runs r later in (more.0, contains-later run runs more.0 more.1, more.2)
+  | inr later ↦ let more = in-a-run runs r later in
+      (more.0, contains-later run runs more.0 more.1, more.2)
 ]
 
-in-all : (runs : List (List DataRecord)) (run : List DataRecord) (r : DataRecord) → Contains runs run → Contains run r → Contains (all_of runs) r
+in-all : (runs : List (List DataRecord)) (run : List DataRecord) (r : DataRecord) →
+    Contains runs run → Contains run r → Contains (all_of runs) r
 in-all [] run r is-run c = absurd (omega (arith, is-run.1))
 in-all (first ∷ runs) run r is-run c = elim (contains-cases first runs run is-run) [
-  | inl same ↦ Contains-append_left first (all_of runs) r (subst (λ (l : List DataRecord). Contains l r) (sym same) c)
+  | inl same ↦ Contains-append_left first (all_of runs) r
+      (subst (λ (l : List DataRecord). Contains l r) (sym same) c)
   | inr later ↦ Contains-append_right first (all_of runs) r (in-all runs run r later c)
 ]
 
@@ -65,56 +73,73 @@ abbrev IsFileOfRun : Key → List (List DataRecord) → List ℕ → Type 0
 IsFileOfRun k runs file = (run : List DataRecord) × Contains runs run × IsRunFile file k run
 
 module _ (k : Key) (runs : List (List DataRecord)) where
-  all-tell : (files : List (List ℕ)) (tolds : List Told) → AllZip Tells files tolds → ((file : List ℕ) → Contains files file → IsFileOfRun k runs file)
+  all-tell : (files : List (List ℕ)) (tolds : List Told) → AllZip Tells files tolds →
+      ((file : List ℕ) → Contains files file → IsFileOfRun k runs file)
       → AllByRecursion (TellsRun k runs) tolds
   all-tell [] [] tell of = tt
   all-tell [] (told ∷ tolds) tell of = absurd tell
   all-tell (file ∷ files) [] tell of = absurd tell
   all-tell (file ∷ files) (told ∷ tolds) tell of =
       let one = of file (contains-first file files) in (
-        record { run = one.0; is_run = one.1; is = one-telling file told (Fragment k one.0) tell.0 (run-file-spells file k one.0 one.2) },
+        record {
+          run = one.0;
+          is_run = one.1;
+          is =
+              one-telling file told (Fragment k one.0) tell.0 (run-file-spells file k one.0 one.2);
+        },
         all-tell files tolds tell.1 (λ other c. of other (contains-later file files other c)),
       )
 
-  all-fragments : (tolds : List Told) → AllByRecursion (TellsRun k runs) tolds → AllByRecursion IsFragment tolds
+  all-fragments : (tolds : List Told) → AllByRecursion (TellsRun k runs) tolds →
+      AllByRecursion IsFragment tolds
   all-fragments [] tell = tt
-  all-fragments (told ∷ tolds) tell = (subst IsFragment (sym tell.0.is) tt, all-fragments tolds tell.1)
+  all-fragments (told ∷ tolds) tell =
+      (subst IsFragment (sym tell.0.is) tt, all-fragments tolds tell.1)
 
   -- a data record that is told is one of the runs
-  told-in-runs : (tolds : List Told) (q : Key) (r : DataRecord) → AllByRecursion (TellsRun k runs) tolds → IsAmong q r tolds → (k ≡ q) × Contains (all_of runs) r
+  told-in-runs : (tolds : List Told) (q : Key) (r : DataRecord) →
+      AllByRecursion (TellsRun k runs) tolds → IsAmong q r tolds → (k ≡ q)
+      × Contains (all_of runs) r
   told-in-runs [] q r tell has = absurd has
   told-in-runs (told ∷ tolds) q r tell (inl here) =
       let has : Has q r (Fragment k tell.0.run) = subst (Has q r) tell.0.is here in
       (has.0, in-all runs tell.0.run r tell.0.is_run has.1)
   told-in-runs (told ∷ tolds) q r tell (inr later) = told-in-runs tolds q r tell.1 later
 
-told-sound : (files : List (List ℕ)) (tolds : List Told) → AllZip Tells files tolds → AreSoundTold tolds
+told-sound : (files : List (List ℕ)) (tolds : List Told) → AllZip Tells files tolds →
+    AreSoundTold tolds
 told-sound [] [] tell = tt
 told-sound [] (told ∷ tolds) tell = absurd tell
 told-sound (file ∷ files) [] tell = absurd tell
-told-sound (file ∷ files) (told ∷ tolds) tell = (told_is_sound file told tell.0, told-sound files tolds tell.1)
+told-sound (file ∷ files) (told ∷ tolds) tell =
+    (told_is_sound file told tell.0, told-sound files tolds tell.1)
 
 -- what a file of the list tells is told
-file-told : (files : List (List ℕ)) (tolds : List Told) (file : List ℕ) (k q : Key) (run : List DataRecord) (r : DataRecord) → AllZip Tells files tolds → Contains files file
+file-told : (files : List (List ℕ)) (tolds : List Told) (file : List ℕ) (k q : Key)
+    (run : List DataRecord) (r : DataRecord) → AllZip Tells files tolds → Contains files file
     → Spells file k run → Has q r (Fragment k run) → IsAmong q r tolds
 file-told [] tolds file k q run r tell c spells has = absurd (omega (arith, c.1))
 file-told (first ∷ files) [] file k q run r tell c spells has = absurd tell
-file-told (first ∷ files) (told ∷ tolds) file k q run r tell c spells has = elim (contains-cases first files file c) [
-  | inl same ↦
-      let is = one-telling first told (Fragment k run) tell.0 (subst (λ (l : List ℕ). Spells l k run) (sym same) spells) in
-      inl (subst (Has q r) (sym is) has)
-  | inr later ↦ inr (file-told files tolds file k q run r tell.1 later spells has)
-]
+file-told (first ∷ files) (told ∷ tolds) file k q run r tell c spells has =
+    elim (contains-cases first files file c) [
+      | inl same ↦
+          let is = one-telling first told (Fragment k run) tell.0
+          (subst (λ (l : List ℕ). Spells l k run) (sym same) spells) in
+          inl (subst (Has q r) (sym is) has)
+      | inr later ↦ inr (file-told files tolds file k q run r tell.1 later spells has)
+    ]
 
 -- ---- the whole file, told alone
 
 abbrev whole : Key → List DataRecord → List Told
 whole k records = Fragment k records ∷ []
 
-module _ (cap : ℕ) (h : Holdings) (k : Key) (records : List DataRecord) (sound : IsSound cap h) (none : h k ≡ []) (told : IsSoundTold (Fragment k records)) where
+module _ (cap : ℕ) (h : Holdings) (k : Key) (records : List DataRecord) (sound : IsSound cap h)
+    (none : h k ≡ []) (told : IsSoundTold (Fragment k records)) where
   -- what the key holds with them is what it would hold where nothing was held
   as-from-nothing : put k records nothing_held k ≡ joined (h k) records
-  as-from-nothing = put_here k records nothing_held ∙ ap (λ (l : List DataRecord). joined l records) (sym none)
+  as-from-nothing = put_here k records nothing_held
+      ∙ ap (λ (l : List DataRecord). joined l records) (sym none)
 
   alone-free : length records ≤ cap → IsFree cap h (whole k records)
   alone-free few =
@@ -122,18 +147,26 @@ module _ (cap : ℕ) (h : Holdings) (k : Key) (records : List DataRecord) (sound
       record {
         fragments = (tt, tt);
         no_clash = put_cases k records h (λ q l. NoClash (duration_of q.duration) l)
-            (subst (λ (l : List DataRecord). NoClash (duration_of k.duration) l) as-from-nothing (alone.no_clash k)) sound.no_clash;
-        few = put_cases k records h (λ q l. length l ≤ cap) (subst (λ (l : List DataRecord). length l ≤ cap) as-from-nothing (alone.few k)) sound.few;
+            (subst (λ (l : List DataRecord). NoClash (duration_of k.duration) l) as-from-nothing
+            (alone.no_clash k)) sound.no_clash;
+        few = put_cases k records h (λ q l. length l ≤ cap)
+            (subst (λ (l : List DataRecord). length l ≤ cap) as-from-nothing (alone.few k))
+            sound.few;
       }
 
   alone-leaves : length records ≤ cap → after cap h (whole k records) k ≡ records
   alone-leaves few =
       let apart = apart-sound k 0 records told.1 in
-      ap (λ (left : Holdings). left k) (any_order_law cap h (whole k records) sound (told, tt) (alone-free few)).1
-      ∙ put_here k records h ∙ ap (λ (l : List DataRecord). joined l records) none ∙ from_nothing (duration_of k.duration) 0 records (lasting k told.0) apart apart
+      ap (λ (left : Holdings). left k) (any_order_law cap h (whole k records) sound (
+        told,
+        tt,
+      ) (alone-free few)).1
+      ∙ put_here k records h ∙ ap (λ (l : List DataRecord). joined l records) none
+      ∙ from_nothing (duration_of k.duration) 0 records (lasting k told.0) apart apart
 
 -- the runs' files hold the data records of the whole
-same-records : (k : Key) (records : List DataRecord) (runs : List (List DataRecord)) (files : List (List ℕ)) (tolds : List Told) → all_of runs ≡ records
+same-records : (k : Key) (records : List DataRecord) (runs : List (List DataRecord))
+    (files : List (List ℕ)) (tolds : List Told) → all_of runs ≡ records
     → AreRunFiles k runs files → AllZip Tells files tolds → SameRecords (whole k records) tolds
 same-records k records runs files tolds joined-is are tell q r = (
   (λ any. Any-from_IsAmong q r tolds (forth (IsAmong-from_Any q r (whole k records) any))),
@@ -142,9 +175,11 @@ same-records k records runs files tolds joined-is are tell q r = (
   where
     forth : IsAmong q r (whole k records) → IsAmong q r tolds
     forth (inl has) =
-        let run = in-a-run runs r (subst (λ (l : List DataRecord). Contains l r) (sym joined-is) has.1) in
+        let run = in-a-run runs r (subst (λ (l : List DataRecord). Contains l r) (sym joined-is)
+        has.1) in
         let file = are.each run.0 run.1 in
-        file-told files tolds file.0 k q run.0 r tell file.1 (run-file-spells file.0 k run.0 file.2) (has.0, run.2)
+        file-told files tolds file.0 k q run.0 r tell file.1 (run-file-spells file.0 k run.0 file.2)
+        (has.0, run.2)
     forth (inr none) = absurd none
 
     back : IsAmong q r tolds → IsAmong q r (whole k records)
@@ -159,10 +194,17 @@ runs-rejoin cap h bytes k records runs files tolds sound none spells few are fil
     let free = alone-free cap h k records sound none told few in
     let same = same-records k records runs files tolds are.joined files-are tell in
     let fragments = all-fragments k runs tolds (all-tell k runs files tolds tell files-are.only) in
-    let free-too = free_of_same cap h (whole k records) tolds sound (told, tt) each free fragments same in
+    let free-too = free_of_same cap h (whole k records) tolds sound (
+      told,
+      tt,
+    ) each free fragments same in
     let ends = recut_law cap h (whole k records) tolds sound (told, tt) each free free-too same in
-    let whole-left = (any_order_law cap h (whole k records) sound (told, tt) (alone-free cap h k records sound none told few)).1 in (
+    let whole-left = (any_order_law cap h (whole k records) sound (
+      told,
+      tt,
+    ) (alone-free cap h k records sound none told few)).1 in (
       (any_order_law cap h tolds sound each free-too).0,
       sym ends ∙ whole-left,
-      ap (λ (held : Holdings). held k) (sym ends) ∙ alone-leaves cap h k records sound none told few,
+      ap (λ (held : Holdings). held k) (sym ends)
+          ∙ alone-leaves cap h k records sound none told few,
     )

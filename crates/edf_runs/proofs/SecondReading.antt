@@ -1,5 +1,6 @@
 -- A second reading, data record by data record.
-use Rattle.std.proofs.Common.{◌≡◌, ℕ, suc, ◌+◌, ◌*◌, ◌≤◌, ◌<◌, List, [], ◌∷◌, ◌++◌, length, refl, sym, ap, ◌∙◌, subst, arith, length-append, Option, Some, Ok, Result}
+use Rattle.std.proofs.Common.{◌≡◌, ℕ, suc, ◌+◌, ◌*◌, ◌≤◌, ◌<◌, List, [], ◌∷◌, ◌++◌, length, refl}
+use Rattle.std.proofs.Common.{sym, ap, ◌∙◌, subst, arith, length-append, Option, Some, Ok, Result}
 use Rattle.std.proofs.Math.Nat.{suc-mul}
 use Rattle.std.proofs.KnownBytes.{Consumes-nil, Consumes-trans}
 use Rattle.edf_field.specs.Number.{duration_of}
@@ -23,54 +24,90 @@ use Rattle.edf_runs.proofs.Next.{has_all, has_more}
 
 -- ---- one data record
 
-answered : (s : Status) (l : Layout) (from to : Progress) (left rest : Option (List ℕ)) (r : DataRecord) → AnswersIn s l from to left rest (Ok (Some r))
+answered : (s : Status) (l : Layout) (from to : Progress) (left rest : Option (List ℕ))
+    (r : DataRecord) → AnswersIn s l from to left rest (Ok (Some r))
     → (s ≡ Reading) × (to ≡ progress_after l from (Ok (Some r))) × GivesRecord l from left rest r
 answered Reading l from to left rest r is = (refl, is.0, is.1)
 answered Ended l from to left rest r is =
-    let e : ◌≡◌ {A = Result (Option DataRecord) FragmentFault} (Ok (Some r)) _ = is.0 in absurd (let f = e in cc)
+    let e : ◌≡◌ {A = Result (Option DataRecord) FragmentFault} (Ok (Some r)) _ = is.0 in
+    absurd (let f = e in cc)
 answered Stopped l from to left rest r is =
-    let e : ◌≡◌ {A = Result (Option DataRecord) FragmentFault} (Ok (Some r)) _ = is.0 in absurd (let f = e in cc)
+    let e : ◌≡◌ {A = Result (Option DataRecord) FragmentFault} (Ok (Some r)) _ = is.0 in
+    absurd (let f = e in cc)
 
-pub steps_on : (l : Layout) (from to : Progress) (left rest : Option (List ℕ)) (instant : ℕ) (r : DataRecord) → IsAnswer l from to left rest (Ok (Some r)) → IsSoundRecord l.key r
+pub steps_on : (l : Layout) (from to : Progress) (left rest : Option (List ℕ)) (instant : ℕ)
+    (r : DataRecord) → IsAnswer l from to left rest (Ok (Some r)) → IsSoundRecord l.key r
     → r.start ≡ instant → StepsOn l from to left rest instant r
 steps_on l from to left rest instant r is sound start =
     let a = answered from.status l from to left rest r is in
-    record { going = a.0; is_answer = is; progress = a.1; gives = a.2; sound = sound; start = start }
+    record {
+      going = a.0;
+      is_answer = is;
+      progress = a.1;
+      gives = a.2;
+      sound = sound;
+      start =
+          start;
+    }
 
 -- ---- one after another
 
 none_going : {P : Type 0} → ((◌≡◌ {A = List DataRecord} [] []) → ⊥) → P
 none_going none = absurd (none refl)
 
-pub none_read : (l : Layout) (from : Progress) (left : Option (List ℕ)) → from.given ≤ most_records l.count → ReadsOn l from from left left []
+pub none_read : (l : Layout) (from : Progress) (left : Option (List ℕ)) →
+    from.given ≤ most_records l.count → ReadsOn l from from left left []
 none_read l from left few =
-    record { going = λ none. none_going none; bytes = []; read = Consumes-nil left; are_records = (refl, refl); given = omega arith; within = few; status = refl }
+    record {
+      going = λ none. none_going none;
+      bytes = [];
+      read = Consumes-nil left;
+      are_records =
+          (refl, refl);
+      given = omega arith;
+      within = few;
+      status = refl;
+    }
 
-one_more : (l : Layout) (from mid to : Progress) (left middle rest : Option (List ℕ)) (rs : List DataRecord) (instant : ℕ) (r : DataRecord) → ReadsOn l from mid left middle rs
+one_more : (l : Layout) (from mid to : Progress) (left middle rest : Option (List ℕ))
+    (rs : List DataRecord) (instant : ℕ) (r : DataRecord) → ReadsOn l from mid left middle rs
     → StepsOn l mid to middle rest instant r → ReadsOn l from to left rest (rs ++ r ∷ [])
 one_more l from mid to left middle rest rs instant r before step =
     let gives = step.gives in
     let place : to.place ≡ place_after l r.start = ap (λ (x : Progress). x.place) step.progress in
     let given : to.given ≡ mid.given + 1 = ap (λ (x : Progress). x.given) step.progress in
     let status = ap (λ (x : Progress). x.status) step.progress in
-    let more = AreDataRecords-snoc l from.place mid.place before.bytes gives.bytes rs r before.are_records gives.is_record in
+    let more = AreDataRecords-snoc l from.place mid.place before.bytes gives.bytes rs r
+    before.are_records gives.is_record in
     record {
       going = λ some. sym before.status ∙ step.going;
       bytes = before.bytes ++ gives.bytes;
       read = Consumes-trans left middle rest before.bytes gives.bytes before.read gives.read;
-      are_records = subst (λ (x : Place). AreDataRecords l from.place (before.bytes ++ gives.bytes) (rs ++ r ∷ []) x []) (sym place) more;
+      are_records = subst (λ (x : Place). AreDataRecords l from.place (before.bytes
+          ++ gives.bytes) (rs ++ r ∷ []) x []) (sym place) more;
       given = omega (arith, before.given, given, length-append rs (r ∷ []));
       within = omega (arith, gives.may_come, given);
       status = status ∙ sym step.going ∙ before.status;
     }
 
-pub none_so_far : (l : Layout) (from : Progress) (left : Option (List ℕ)) (run : Run) (next : ℕ) → from.given ≤ most_records l.count → next ≡ run.first
+pub none_so_far : (l : Layout) (from : Progress) (left : Option (List ℕ)) (run : Run) (next : ℕ) →
+    from.given ≤ most_records l.count → next ≡ run.first
     → ReadSoFar l from from left left run [] next 0
-none_so_far l from left run next few is = record { read = none_read l from left few; starts = tt; counted = refl; next_is = omega (arith, is); listed = λ n. has_all l from left run n }
+none_so_far l from left run next few is =
+    record {
+      read = none_read l from left few;
+      starts = tt;
+      counted = refl;
+      next_is =
+          omega (arith, is);
+      listed = λ n. has_all l from left run n;
+    }
 
 -- one more, after which the next one starts where it ends
-pub more_so_far : (l : Layout) (from mid to : Progress) (left middle rest : Option (List ℕ)) (run : Run) (rs : List DataRecord) (next later count : ℕ) (r : DataRecord)
-    → ReadSoFar l from mid left middle run rs next count → count < run.records → StepsOn l mid to middle rest next r → later ≡ r.start + duration_of l.key.duration
+pub more_so_far : (l : Layout) (from mid to : Progress) (left middle rest : Option (List ℕ))
+    (run : Run) (rs : List DataRecord) (next later count : ℕ) (r : DataRecord)
+    → ReadSoFar l from mid left middle run rs next count → count < run.records →
+    StepsOn l mid to middle rest next r → later ≡ r.start + duration_of l.key.duration
     → ReadSoFar l from to left rest run (rs ++ r ∷ []) later (count + 1)
 more_so_far l from mid to left middle rest run rs next later count r so few step after =
     let d = duration_of l.key.duration in
@@ -80,12 +117,17 @@ more_so_far l from mid to left middle rest run rs next later count r so few step
       read = one_more l from mid to left middle rest rs next r so.read step;
       starts = starts_more d run.first rs r so.starts place;
       counted = omega (arith, more, so.counted);
-      next_is = let e = suc-mul (length rs) d in let m : length (rs ++ r ∷ []) * d ≡ suc (length rs) * d = ap (λ n. n * d) more in omega (arith, after, place, e, m);
-      listed = λ n. has_more l mid to middle rest n.records rs next r (so.listed n) (omega (arith, so.counted, few, n.listed.count)) step;
+      next_is = let e = suc-mul (length rs) d in
+          let m : length (rs ++ r ∷ []) * d ≡ suc (length rs) * d = ap (λ n. n * d) more in
+          omega (arith, after, place, e, m);
+      listed = λ n. has_more l mid to middle rest n.records rs next r (so.listed n)
+          (omega (arith, so.counted, few, n.listed.count)) step;
     }
 
-pub stops_before : (l : Layout) (from mid to : Progress) (left middle rest : Option (List ℕ)) (run : Run) (rs : List DataRecord) (next count : ℕ) (fault : WriteFault)
-    → ReadSoFar l from mid left middle run rs next count → count < run.records → StopsAt l mid to middle rest next fault → StopsBefore l from to left rest run fault
+pub stops_before : (l : Layout) (from mid to : Progress) (left middle rest : Option (List ℕ))
+    (run : Run) (rs : List DataRecord) (next count : ℕ) (fault : WriteFault)
+    → ReadSoFar l from mid left middle run rs next count → count < run.records →
+    StopsAt l mid to middle rest next fault → StopsBefore l from to left rest run fault
 stops_before l from mid to left middle rest run rs next count fault so few stop = record {
   records = rs;
   mid = mid;
@@ -96,6 +138,8 @@ stops_before l from mid to left middle rest run rs next count fault so few stop 
   stop = subst (λ (n : ℕ). StopsAt l mid to middle rest n fault) so.next_is stop;
 }
 
-pub passes_run : (l : Layout) (from to : Progress) (left rest : Option (List ℕ)) (run : Run) (rs : List DataRecord) (next count : ℕ) → ReadSoFar l from to left rest run rs next count
+pub passes_run : (l : Layout) (from to : Progress) (left rest : Option (List ℕ)) (run : Run)
+    (rs : List DataRecord) (next count : ℕ) → ReadSoFar l from to left rest run rs next count
     → count ≡ run.records → PassesRun l from to left rest run
-passes_run l from to left rest run rs next count so all = record { records = rs; read = so.read; starts = so.starts; count = so.counted ∙ all }
+passes_run l from to left rest run rs next count so all =
+    record { records = rs; read = so.read; starts = so.starts; count = so.counted ∙ all }

@@ -1,9 +1,12 @@
 -- A run's file, put out data record by data record.
-use Rattle.std.proofs.Common.{◌≡◌, ℕ, inl, inr, ◌+◌, ◌*◌, ◌/◌, ◌≤◌, ◌<◌, max, List, [], ◌∷◌, ◌++◌, length, refl, sym, ap, ◌∙◌, subst, arith, append_assoc, append-nil, All, Option}
+use Rattle.std.proofs.Common.{◌≡◌, ℕ, inl, inr, ◌+◌, ◌*◌, ◌/◌, ◌≤◌, ◌<◌, max, List, [], ◌∷◌, ◌++◌}
+use Rattle.std.proofs.Common.{length, refl, sym, ap, ◌∙◌, subst, arith, append_assoc, append-nil}
+use Rattle.std.proofs.Common.{All, Option}
 use Rattle.std.specs.List.{AllByRecursion}
 use Rattle.std.proofs.KnownBytes.{Keeps-refl}
 use Rattle.std.proofs.lemmas.Grind.{flat_map-append}
-use Rattle.std.proofs.lemmas.List.Elements.{All-nil, All-cons, All-push, All-weaker, All-from_recursion, recursion_from_All}
+use Rattle.std.proofs.lemmas.List.Elements.{All-nil, All-cons, All-push, All-weaker}
+use Rattle.std.proofs.lemmas.List.Elements.{All-from_recursion, recursion_from_All}
 use Rattle.edf_field.specs.Number.{duration_of}
 use Rattle.edf_header.specs.Key.{Key, IsKey, MayStart}
 use Rattle.edf_header.specs.Signal.{samples_in_all}
@@ -16,38 +19,46 @@ use Rattle.edf_fragment.specs.declared.advance.Progress.{Progress}
 use Rattle.edf_canonical.specs.File.{second_of, block_of, record_text, BlocksFit, IsLaidOut}
 use Rattle.edf_canonical.specs.Output.{Buffered, Writes, WritesFront, CountsOutputFault}
 use Rattle.edf_canonical.specs.declared.fault.OutputFault.{OutputFault}
-use Rattle.edf_canonical.specs.declared.fault.OutputFault.TheVariants.{Write as FailedWrite, Memory as NoRoom}
+use Rattle.edf_canonical.specs.declared.fault.OutputFault.TheVariants.{Write as FailedWrite}
+use Rattle.edf_canonical.specs.declared.fault.OutputFault.TheVariants.{Memory as NoRoom}
 use Rattle.edf_canonical.proofs.Puts.{writes-then, writes-no-more, writes-same}
 use Rattle.edf_canonical.proofs.Files.{canonical}
 use Rattle.edf_canonical.proofs.Written.{laid-out, file-length}
 use Rattle.edf_runs.specs.Runs.{StartFrom, IsListed}
 use Rattle.edf_runs.specs.File.{marked_continuous, IsRunFile}
-use Rattle.edf_runs.specs.Written.{CountsReadFault, CountsWriteFault, run_text, IsRunHeader, ReadsOneMoreAtMost, IsRunWritten, StopsInRun, IsNotWritten}
-use Rattle.edf_runs.specs.Inside.Steps.{ArePut, fault_out, PutSoFar, StepsOn, StopsPutting, IsPutAll, IsSent, StopsSending}
+use Rattle.edf_runs.specs.Written.{CountsReadFault, CountsWriteFault, run_text, IsRunHeader}
+use Rattle.edf_runs.specs.Written.{ReadsOneMoreAtMost, IsRunWritten, StopsInRun, IsNotWritten}
+use Rattle.edf_runs.specs.Inside.Steps.{ArePut, fault_out, PutSoFar, StepsOn, StopsPutting}
+use Rattle.edf_runs.specs.Inside.Steps.{IsPutAll, IsSent, StopsSending}
 use Rattle.edf_runs.specs.declared.run.Run.{Run}
 use Rattle.edf_runs.specs.declared.fault.WriteFault.{WriteFault}
-use Rattle.edf_runs.specs.declared.fault.WriteFault.TheVariants.{Undated, Changed, Read, Memory, Write}
-use Rattle.edf_runs.proofs.Growing.{touching_from, samples_hold, samples_least, all_front, all_last, last_end}
+use Rattle.edf_runs.specs.declared.fault.WriteFault.TheVariants.{Undated, Changed, Read, Memory}
+use Rattle.edf_runs.specs.declared.fault.WriteFault.TheVariants.{Write}
+use Rattle.edf_runs.proofs.Growing.{touching_from, samples_hold, samples_least, all_front, all_last}
+use Rattle.edf_runs.proofs.Growing.{last_end}
 use Rattle.edf_runs.proofs.SecondReading.{more_so_far, none_read}
 use Rattle.edf_runs.proofs.RunFiles.{marked-front, marked-len, one-run-file}
 
 -- ---- counts
 
-pub counts_read : (old new : ℕ) (fault : WriteFault) → (fault ≡ Read → ⊥) → new ≡ old → CountsReadFault old new fault
+pub counts_read : (old new : ℕ) (fault : WriteFault) → (fault ≡ Read → ⊥) → new ≡ old →
+    CountsReadFault old new fault
 counts_read old new Undated other same = same
 counts_read old new Changed other same = same
 counts_read old new Read other same = absurd (other refl)
 counts_read old new Memory other same = same
 counts_read old new Write other same = same
 
-pub counts_write : (old new : ℕ) (fault : WriteFault) → (fault ≡ Write → ⊥) → new ≡ old → CountsWriteFault old new fault
+pub counts_write : (old new : ℕ) (fault : WriteFault) → (fault ≡ Write → ⊥) → new ≡ old →
+    CountsWriteFault old new fault
 counts_write old new Undated other same = same
 counts_write old new Changed other same = same
 counts_write old new Read other same = same
 counts_write old new Memory other same = same
 counts_write old new Write other same = absurd (other refl)
 
-pub counts_out : (old new : ℕ) (fault : OutputFault) → CountsOutputFault old new fault → CountsWriteFault old new (fault_out fault)
+pub counts_out : (old new : ℕ) (fault : OutputFault) → CountsOutputFault old new fault →
+    CountsWriteFault old new (fault_out fault)
 counts_out old new FailedWrite counts = counts
 counts_out old new NoRoom counts = counts
 
@@ -59,44 +70,70 @@ pub out_dated : (fault : OutputFault) → fault_out fault ≡ Undated → ⊥
 out_dated FailedWrite same = let e : ◌≡◌ {A = WriteFault} Write Undated = same in cc
 out_dated NoRoom same = let e : ◌≡◌ {A = WriteFault} Memory Undated = same in cc
 
-pub counts_read_then : (old mid new : ℕ) (fault : WriteFault) → mid ≡ old → CountsReadFault mid new fault → CountsReadFault old new fault
-counts_read_then old mid new fault same counts = subst (λ n. CountsReadFault n new fault) same counts
+pub counts_read_then : (old mid new : ℕ) (fault : WriteFault) → mid ≡ old →
+    CountsReadFault mid new fault → CountsReadFault old new fault
+counts_read_then old mid new fault same counts =
+    subst (λ n. CountsReadFault n new fault) same counts
 
-pub counts_write_then : (old mid new : ℕ) (fault : WriteFault) → mid ≡ old → CountsWriteFault mid new fault → CountsWriteFault old new fault
-counts_write_then old mid new fault same counts = subst (λ n. CountsWriteFault n new fault) same counts
+pub counts_write_then : (old mid new : ℕ) (fault : WriteFault) → mid ≡ old →
+    CountsWriteFault mid new fault → CountsWriteFault old new fault
+counts_write_then old mid new fault same counts =
+    subst (λ n. CountsWriteFault n new fault) same counts
 
 -- ---- the text of the data records
 
-run_text_more : (run : Run) (rs more : List DataRecord) → run_text run (rs ++ more) ≡ run_text run rs ++ run_text run more
-run_text_more run rs more = flat_map-append (record_text (second_of run.first) (2 * run.block_samples)) rs more
+run_text_more : (run : Run) (rs more : List DataRecord) →
+    run_text run (rs ++ more) ≡ run_text run rs ++ run_text run more
+run_text_more run rs more =
+    flat_map-append (record_text (second_of run.first) (2 * run.block_samples)) rs more
 
 -- what was put is a front of the text with more data records
-pub front_of_more : (a b : Buffered) (run : Run) (rs more : List DataRecord) (left : List ℕ) → Writes a b (run_text run rs) left
+pub front_of_more : (a b : Buffered) (run : Run) (rs more : List DataRecord) (left : List ℕ) →
+    Writes a b (run_text run rs) left
     → (unwritten : List ℕ) × Writes a b (run_text run (rs ++ more)) unwritten
-front_of_more a b run rs more left w =
-    (left ++ run_text run more, writes-same a b _ _ _ (sym (run_text_more run rs more)) (writes-no-more a b (run_text run rs) (run_text run more) left w))
+front_of_more a b run rs more left w = (
+  left ++ run_text run more,
+  writes-same a b _ _ _ (sym (run_text_more run rs more))
+      (writes-no-more a b (run_text run rs) (run_text run more) left w),
+)
 
-one_text : (run : Run) (r : DataRecord) → run_text run (r ∷ []) ≡ record_text (second_of run.first) (2 * run.block_samples) r
+one_text : (run : Run) (r : DataRecord) →
+    run_text run (r ∷ []) ≡ record_text (second_of run.first) (2 * run.block_samples) r
 one_text run r = append-nil (record_text (second_of run.first) (2 * run.block_samples) r)
 
-pub text_then : (a b c : Buffered) (run : Run) (rs : List DataRecord) (r : DataRecord) (left : List ℕ) → Writes a b (run_text run rs) b.held
-    → Writes b c (record_text (second_of run.first) (2 * run.block_samples) r) left → Writes a c (run_text run (rs ++ r ∷ [])) left
+pub text_then : (a b c : Buffered) (run : Run) (rs : List DataRecord) (r : DataRecord)
+    (left : List ℕ) → Writes a b (run_text run rs) b.held
+    → Writes b c (record_text (second_of run.first) (2 * run.block_samples) r) left →
+    Writes a c (run_text run (rs ++ r ∷ [])) left
 text_then a b c run rs r left w put =
-    let same : run_text run rs ++ record_text (second_of run.first) (2 * run.block_samples) r ≡ run_text run (rs ++ r ∷ []) =
-    ap (λ (x : List ℕ). run_text run rs ++ x) (sym (one_text run r)) ∙ sym (run_text_more run rs (r ∷ [])) in
+    let same : run_text run rs ++ record_text (second_of run.first) (2 * run.block_samples)
+    r ≡ run_text run (rs ++ r ∷ []) =
+    ap (λ (x : List ℕ). run_text run rs ++ x) (sym (one_text run r))
+    ∙ sym (run_text_more run rs (r ∷ [])) in
     writes-same a c _ _ left same (writes-then a b c _ _ left w put)
 
 -- a front of bytes is one of these and more
-pub front_more : (before after : Option (List ℕ)) (bytes more : List ℕ) → WritesFront before after bytes → WritesFront before after (bytes ++ more)
+pub front_more : (before after : Option (List ℕ)) (bytes more : List ℕ) →
+    WritesFront before after bytes → WritesFront before after (bytes ++ more)
 front_more before after bytes more w =
-    record { front = w.front; left = w.left ++ more; parts = ap (λ (x : List ℕ). x ++ more) w.parts ∙ append_assoc w.front w.left more; wrote = w.wrote }
+    record {
+      front = w.front;
+      left = w.left ++ more;
+      parts = ap (λ (x : List ℕ). x ++ more) w.parts
+          ∙ append_assoc w.front w.left more;
+      wrote = w.wrote;
+    }
 
-pub sent_front : (before after : Option (List ℕ)) (header : List ℕ) (run : Run) (rs later : List DataRecord) → WritesFront before after (header ++ run_text run rs)
+pub sent_front : (before after : Option (List ℕ)) (header : List ℕ) (run : Run)
+    (rs later : List DataRecord) → WritesFront before after (header ++ run_text run rs)
     → WritesFront before after (header ++ run_text run (rs ++ later))
 sent_front before after header run rs later w =
-    let same : (header ++ run_text run rs) ++ run_text run later ≡ header ++ run_text run (rs ++ later) =
-    append_assoc header (run_text run rs) (run_text run later) ∙ ap (λ (x : List ℕ). header ++ x) (sym (run_text_more run rs later)) in
-    subst (WritesFront before after) same (front_more before after (header ++ run_text run rs) (run_text run later) w)
+    let same : (header ++ run_text run rs) ++ run_text run later ≡ header
+    ++ run_text run (rs ++ later) =
+    append_assoc header (run_text run rs) (run_text run later)
+    ∙ ap (λ (x : List ℕ). header ++ x) (sym (run_text_more run rs later)) in
+    subst (WritesFront before after) same
+    (front_more before after (header ++ run_text run rs) (run_text run later) w)
 
 -- ---- data record by data record
 
@@ -108,14 +145,19 @@ none_put l run = record {
   least = λ fewer hold. omega arith;
 }
 
-one_put : (l : Layout) (run : Run) (rs : List DataRecord) (r : DataRecord) (samples longest here : ℕ) → ArePut l run rs samples → IsSoundRecord l.key r
-    → here ≡ (length (block_of (second_of run.first) r) + 1) / 2 → here ≤ run.block_samples → longest ≡ max here samples → ArePut l run (rs ++ r ∷ []) longest
+one_put : (l : Layout) (run : Run) (rs : List DataRecord) (r : DataRecord)
+    (samples longest here : ℕ) → ArePut l run rs samples → IsSoundRecord l.key r
+    → here ≡ (length (block_of (second_of run.first) r) + 1) / 2 → here ≤ run.block_samples →
+    longest ≡ max here samples → ArePut l run (rs ++ r ∷ []) longest
 one_put l run rs r samples longest here put sound here-is few is =
     let fits : ℕ → DataRecord → Type 0 = λ n x. length (block_of (second_of run.first) x) ≤ 2 * n in
     record {
-      sound = recursion_from_All (IsSoundRecord l.key) (rs ++ r ∷ []) (All-push (IsSoundRecord l.key) rs r (All-from_recursion (IsSoundRecord l.key) rs put.sound) sound);
+      sound = recursion_from_All (IsSoundRecord l.key) (rs
+          ++ r ∷ []) (All-push (IsSoundRecord l.key) rs r
+          (All-from_recursion (IsSoundRecord l.key) rs put.sound) sound);
       within = omega (arith, is, few, put.within);
-      holds = All-push (fits longest) rs r (All-weaker (fits samples) (fits longest) (λ x h. omega (arith, h, is)) rs put.holds)
+      holds = All-push (fits longest) rs r
+          (All-weaker (fits samples) (fits longest) (λ x h. omega (arith, h, is)) rs put.holds)
           (samples_hold _ longest (omega (arith, here-is, is)));
       least = λ fewer hold.
           let low = put.least fewer (all_front (fits fewer) rs (r ∷ []) hold) in
@@ -123,20 +165,29 @@ one_put l run rs r samples longest here put sound here-is few is =
           omega (arith, is, here-is, low, high);
     }
 
-pub put_more : (l : Layout) (from mid to : Progress) (left middle rest : Option (List ℕ)) (a b c : Buffered) (run : Run) (next later samples longest here count : ℕ) (r : DataRecord)
-    → PutSoFar l from mid left middle a b run next samples count → count < run.records → StepsOn l mid to middle rest next r → later ≡ r.start + duration_of l.key.duration
-    → here ≡ (length (block_of (second_of run.first) r) + 1) / 2 → here ≤ run.block_samples → longest ≡ max here samples
-    → Writes b c (record_text (second_of run.first) (2 * run.block_samples) r) c.held → PutSoFar l from to left rest a c run later longest (count + 1)
-put_more l from mid to left middle rest a b c run next later samples longest here count r so more step after here-is few is put = record {
-  records = so.records ++ r ∷ [];
-  so_far = more_so_far l from mid to left middle rest run so.records next later count r so.so_far more step after;
-  put = one_put l run so.records r samples longest here so.put step.sound here-is few is;
-  wrote = text_then a b c run so.records r c.held so.wrote put;
-}
+pub put_more : (l : Layout) (from mid to : Progress) (left middle rest : Option (List ℕ))
+    (a b c : Buffered) (run : Run) (next later samples longest here count : ℕ) (r : DataRecord)
+    → PutSoFar l from mid left middle a b run next samples count → count < run.records →
+    StepsOn l mid to middle rest next r → later ≡ r.start + duration_of l.key.duration
+    → here ≡ (length (block_of (second_of run.first) r) + 1) / 2 → here ≤ run.block_samples →
+    longest ≡ max here samples
+    → Writes b c (record_text (second_of run.first) (2 * run.block_samples) r) c.held →
+    PutSoFar l from to left rest a c run later longest (count + 1)
+put_more l from mid to left middle rest a b c run next later samples longest here count r so more
+    step after here-is few is put = record {
+      records = so.records ++ r ∷ [];
+      so_far = more_so_far l from mid to left middle rest run so.records next later count r
+          so.so_far
+          more step after;
+      put = one_put l run so.records r samples longest here so.put step.sound here-is few is;
+      wrote = text_then a b c run so.records r c.held so.wrote put;
+    }
 
 -- all that was listed of a run was put
-pub all_put : (l : Layout) (from to : Progress) (left rest : Option (List ℕ)) (a b : Buffered) (run : Run) (next samples count : ℕ) → PutSoFar l from to left rest a b run next samples count
-    → count ≡ run.records → samples ≡ run.block_samples → next ≡ run.last + duration_of l.key.duration → IsPutAll l from to left rest a b run
+pub all_put : (l : Layout) (from to : Progress) (left rest : Option (List ℕ)) (a b : Buffered)
+    (run : Run) (next samples count : ℕ) → PutSoFar l from to left rest a b run next samples count
+    → count ≡ run.records → samples ≡ run.block_samples →
+    next ≡ run.last + duration_of l.key.duration → IsPutAll l from to left rest a b run
 all_put l from to left rest a b run next samples count so all same ends =
     let d = duration_of l.key.duration in
     let rs = so.records in
@@ -148,7 +199,8 @@ all_put l from to left rest a b run next samples count so all same ends =
       listed = record {
         count = sym counted;
         starts = so.so_far.starts;
-        last = let m : length rs * d ≡ run.records * d = ap (λ n. n * d) counted in omega (arith, so.so_far.next_is, ends, m, last_end run.records d run.records_some);
+        last = let m : length rs * d ≡ run.records * d = ap (λ n. n * d) counted in
+            omega (arith, so.so_far.next_is, ends, m, last_end run.records d run.records_some);
         holds = subst (λ n. BlocksFit (second_of run.first) n rs) same so.put.holds;
         least = λ fewer hold. omega (arith, so.put.least fewer hold, same);
       };
@@ -156,8 +208,10 @@ all_put l from to left rest a b run next samples count so all same ends =
     }
 
 -- what was put so far stays a front, where no more is put
-pub stops_put : (l : Layout) (from mid to : Progress) (left middle rest : Option (List ℕ)) (a b : Buffered) (run : Run) (next samples count : ℕ)
-    → PutSoFar l from mid left middle a b run next samples count → count ≤ run.records → ReadsOneMoreAtMost l mid to middle rest count run → StopsPutting l from to left rest a b run
+pub stops_put : (l : Layout) (from mid to : Progress) (left middle rest : Option (List ℕ))
+    (a b : Buffered) (run : Run) (next samples count : ℕ)
+    → PutSoFar l from mid left middle a b run next samples count → count ≤ run.records →
+    ReadsOneMoreAtMost l mid to middle rest count run → StopsPutting l from to left rest a b run
 stops_put l from mid to left middle rest a b run next samples count so few more = record {
   records = so.records;
   mid = mid;
@@ -165,19 +219,26 @@ stops_put l from mid to left middle rest a b run next samples count so few more 
   read = so.so_far.read;
   starts = so.so_far.starts;
   within = omega (arith, so.so_far.counted);
-  holds = All-weaker (λ r. length (block_of (second_of run.first) r) ≤ 2 * samples) (λ r. length (block_of (second_of run.first) r) ≤ 2 * run.block_samples)
+  holds = All-weaker (λ r. length (block_of (second_of run.first) r) ≤ 2 * samples)
+      (λ r. length (block_of (second_of run.first) r) ≤ 2 * run.block_samples)
       (λ r h. omega (arith, h, so.put.within)) so.records so.put.holds;
   front = (b.held, so.wrote);
   more = subst (λ n. ReadsOneMoreAtMost l mid to middle rest n run) (sym so.so_far.counted) more;
 }
 
 -- one more was read, of which a front was put at most
-pub stops_in_put : (l : Layout) (from mid to : Progress) (left middle rest : Option (List ℕ)) (a b c : Buffered) (run : Run) (next samples here count : ℕ) (r : DataRecord) (unwritten : List ℕ)
-    → PutSoFar l from mid left middle a b run next samples count → count < run.records → StepsOn l mid to middle rest next r
+pub stops_in_put : (l : Layout) (from mid to : Progress) (left middle rest : Option (List ℕ))
+    (a b c : Buffered) (run : Run) (next samples here count : ℕ) (r : DataRecord)
+    (unwritten : List ℕ)
+    → PutSoFar l from mid left middle a b run next samples count → count < run.records →
+    StepsOn l mid to middle rest next r
     → here ≡ (length (block_of (second_of run.first) r) + 1) / 2 → here ≤ run.block_samples
-    → Writes b c (record_text (second_of run.first) (2 * run.block_samples) r) unwritten → StopsPutting l from to left rest a c run
-stops_in_put l from mid to left middle rest a b c run next samples here count r unwritten so few step here-is fits put =
-    let so-far = more_so_far l from mid to left middle rest run so.records next (r.start + duration_of l.key.duration) count r so.so_far few step refl in
+    → Writes b c (record_text (second_of run.first) (2 * run.block_samples) r) unwritten →
+    StopsPutting l from to left rest a c run
+stops_in_put l from mid to left middle rest a b c run next samples here count r unwritten so few
+    step here-is fits put =
+    let so-far = more_so_far l from mid to left middle rest run so.records next
+    (r.start + duration_of l.key.duration) count r so.so_far few step refl in
     record {
       records = so.records ++ r ∷ [];
       mid = to;
@@ -185,9 +246,12 @@ stops_in_put l from mid to left middle rest a b c run next samples here count r 
       read = so-far.read;
       starts = so-far.starts;
       within = omega (arith, so-far.counted);
-      holds = All-push (λ x. length (block_of (second_of run.first) x) ≤ 2 * run.block_samples) so.records r
-          (All-weaker (λ x. length (block_of (second_of run.first) x) ≤ 2 * samples) (λ x. length (block_of (second_of run.first) x) ≤ 2 * run.block_samples)
-          (λ x h. omega (arith, h, so.put.within)) so.records so.put.holds) (samples_hold _ run.block_samples (omega (arith, here-is, fits)));
+      holds = All-push (λ x. length (block_of (second_of run.first) x) ≤ 2 * run.block_samples)
+          so.records r
+          (All-weaker (λ x. length (block_of (second_of run.first) x) ≤ 2 * samples)
+          (λ x. length (block_of (second_of run.first) x) ≤ 2 * run.block_samples)
+          (λ x h. omega (arith, h, so.put.within)) so.records so.put.holds)
+          (samples_hold _ run.block_samples (omega (arith, here-is, fits)));
       front = (unwritten, text_then a b c run so.records r unwritten so.wrote put);
       more = inl (refl, refl);
     }
@@ -195,67 +259,99 @@ stops_in_put l from mid to left middle rest a b c run next samples here count r 
 -- ---- the file
 
 -- a header is longer than its fixed part, and has 640 signals at most
-pub header_len : (header : List ℕ) (k : Key) (run : Run) → IsKey k → MayStart k run.first → IsCanonicalHeader header k run.first run.records run.block_samples
+pub header_len : (header : List ℕ) (k : Key) (run : Run) → IsKey k → MayStart k run.first →
+    IsCanonicalHeader header k run.first run.records run.block_samples
     → length header ≡ 512 + 256 * length k.signals
 header_len header k run key begins is =
-    (canonical-header-reads header k run.first run.records run.block_samples key begins run.records_some run.records_few run.block_some (omega (arith, run.block_few)) is).len
+    (canonical-header-reads header k run.first run.records run.block_samples key begins
+    run.records_some run.records_few run.block_some (omega (arith, run.block_few)) is).len
 
-pub header_long : (header : List ℕ) (k : Key) (run : Run) → IsKey k → MayStart k run.first → IsCanonicalHeader header k run.first run.records run.block_samples → 197 ≤ length header
+pub header_long : (header : List ℕ) (k : Key) (run : Run) → IsKey k → MayStart k run.first →
+    IsCanonicalHeader header k run.first run.records run.block_samples → 197 ≤ length header
 header_long header k run key begins is = omega (arith, header_len header k run key begins is)
 
-pub marked_short : (header : List ℕ) (k : Key) (run : Run) → IsKey k → MayStart k run.first → IsCanonicalHeader header k run.first run.records run.block_samples
+pub marked_short : (header : List ℕ) (k : Key) (run : Run) → IsKey k → MayStart k run.first →
+    IsCanonicalHeader header k run.first run.records run.block_samples
     → length (marked_continuous header) ≤ 164_096
 marked_short header k run key begins is =
-    omega (arith, marked-len header (header_long header k run key begins is), header_len header k run key begins is, key.signals_to)
+    omega (
+      arith,
+      marked-len header (header_long header k run key begins is),
+      header_len header k run key begins is,
+      key.signals_to,
+    )
 
-sound_from : (k : Key) (low at : ℕ) (rs : List DataRecord) → AllByRecursion (IsSoundRecord k) rs → StartFrom (duration_of k.duration) at rs → low ≤ at → AreSound k low rs
+sound_from : (k : Key) (low at : ℕ) (rs : List DataRecord) → AllByRecursion (IsSoundRecord k) rs →
+    StartFrom (duration_of k.duration) at rs → low ≤ at → AreSound k low rs
 sound_from k low at [] sound from le = tt
-sound_from k low at (r ∷ rs) sound from le =
-    (sound.0, omega (arith, from.0), sound_from k (r.start + duration_of k.duration) (at + duration_of k.duration) rs sound.1 from.1 (omega (arith, from.0)))
+sound_from k low at (r ∷ rs) sound from le = (
+  sound.0,
+  omega (arith, from.0),
+  sound_from k (r.start + duration_of k.duration) (at + duration_of k.duration) rs sound.1
+      from.1 (omega (arith, from.0)),
+)
 
-sizes : (k : Key) (rs : List DataRecord) → AllByRecursion (IsSoundRecord k) rs → All (λ r. length r.samples ≡ 2 * samples_in_all k.signals) rs
+sizes : (k : Key) (rs : List DataRecord) → AllByRecursion (IsSoundRecord k) rs →
+    All (λ r. length r.samples ≡ 2 * samples_in_all k.signals) rs
 sizes k [] sound = All-nil (λ r. length r.samples ≡ 2 * samples_in_all k.signals)
-sizes k (r ∷ rs) sound = All-cons (λ x. length x.samples ≡ 2 * samples_in_all k.signals) r rs sound.0.samples_len (sizes k rs sound.1)
+sizes k (r ∷ rs) sound = All-cons (λ x. length x.samples ≡ 2 * samples_in_all k.signals) r rs
+    sound.0.samples_len (sizes k rs sound.1)
 
 -- the bytes of a run's file, as they are sent
 abbrev sent_text : List ℕ → Run → List DataRecord → List ℕ
 sent_text header run rs = header ++ run_text run rs
 
 -- the canonical file of a run that is listed, by its header
-run_laid_out : (k : Key) (r : DataRecord) (rs : List DataRecord) (run : Run) (header : List ℕ) → IsListed (duration_of k.duration) (r ∷ rs) run
-    → IsCanonicalHeader header k run.first run.records run.block_samples → IsLaidOut (sent_text header run (r ∷ rs)) k r (r ∷ rs)
+run_laid_out : (k : Key) (r : DataRecord) (rs : List DataRecord) (run : Run) (header : List ℕ) →
+    IsListed (duration_of k.duration) (r ∷ rs) run
+    → IsCanonicalHeader header k run.first run.records run.block_samples →
+    IsLaidOut (sent_text header run (r ∷ rs)) k r (r ∷ rs)
 run_laid_out k r rs run header is is-header =
-    laid-out k (r ∷ rs) r (second_of run.first) run.first run.block_samples header (sym is.starts.0) (ap second_of (sym is.starts.0))
-    (subst (λ n. IsCanonicalHeader header k run.first n run.block_samples) is.count is-header) is.holds is.least
+    laid-out k (r ∷ rs) r (second_of run.first) run.first run.block_samples header (sym is.starts.0)
+    (ap second_of (sym is.starts.0))
+    (subst (λ n. IsCanonicalHeader header k run.first n run.block_samples) is.count is-header)
+    is.holds is.least
 
-pub run_file : (k : Key) (rs : List DataRecord) (run : Run) (header : List ℕ) → IsKey k → MayStart k run.first → AllByRecursion (IsSoundRecord k) rs
-    → IsListed (duration_of k.duration) rs run → IsRunHeader header k run → IsRunFile (sent_text header run rs) k rs
-run_file k [] run header key begins sound is is-header = absurd (omega (arith, is.count, run.records_some))
+pub run_file : (k : Key) (rs : List DataRecord) (run : Run) (header : List ℕ) → IsKey k →
+    MayStart k run.first → AllByRecursion (IsSoundRecord k) rs
+    → IsListed (duration_of k.duration) rs run → IsRunHeader header k run →
+    IsRunFile (sent_text header run rs) k rs
+run_file k [] run header key begins sound is is-header =
+    absurd (omega (arith, is.count, run.records_some))
 run_file k (r ∷ rs) run header key begins sound is (plain, is-plain, marked) =
     let d = duration_of k.duration in
     let few : length (r ∷ rs) ≤ 99_999_999 = omega (arith, is.count, run.records_few) in
     let starts : MayStart k r.start = subst (MayStart k) (sym is.starts.0) begins in
-    let file = canonical (sent_text plain run (r ∷ rs)) k r rs key starts (sound_from k 0 run.first (r ∷ rs) sound is.starts (omega arith)) few
+    let file = canonical (sent_text plain run (r ∷ rs)) k r rs key starts
+    (sound_from k 0 run.first (r ∷ rs) sound is.starts (omega arith)) few
     (run_laid_out k r rs run plain is is-plain) in
     record {
       touching = touching_from d run.first (r ∷ rs) is.starts;
       canonical = sent_text plain run (r ∷ rs);
       is_canonical = file;
-      marked = ap (λ (x : List ℕ). x ++ run_text run (r ∷ rs)) marked ∙ sym (marked-front plain (header_long plain k run key begins is-plain) (run_text run (r ∷ rs)));
+      marked = ap (λ (x : List ℕ). x ++ run_text run (r ∷ rs)) marked
+          ∙ sym (marked-front plain (header_long plain k run key begins is-plain)
+          (run_text run (r ∷ rs)));
     }
 
-pub file_len : (k : Key) (rs : List DataRecord) (run : Run) (header : List ℕ) → AllByRecursion (IsSoundRecord k) rs → IsListed (duration_of k.duration) rs run
-    → length header + run.records * (2 * samples_in_all k.signals + 2 * run.block_samples) ≡ length (sent_text header run rs)
+pub file_len : (k : Key) (rs : List DataRecord) (run : Run) (header : List ℕ) →
+    AllByRecursion (IsSoundRecord k) rs → IsListed (duration_of k.duration) rs run
+    → length header + run.records * (2 * samples_in_all k.signals + 2 * run.block_samples) ≡ length
+    (sent_text header run rs)
 file_len k rs run header sound is =
     ap (λ n. length header + n * (2 * samples_in_all k.signals + 2 * run.block_samples)) is.count
-    ∙ file-length header (second_of run.first) (2 * run.block_samples) (2 * samples_in_all k.signals) rs (sizes k rs sound) is.holds
+    ∙ file-length header (second_of run.first) (2 * run.block_samples)
+    (2 * samples_in_all k.signals) rs (sizes k rs sound) is.holds
 
 -- ---- what is answered
 
 -- what was sent is the run's file
-pub written : (l : Layout) (from to : Progress) (left rest before after : Option (List ℕ)) (header : List ℕ) (run : Run) (len : ℕ) → IsKey l.key → MayStart l.key run.first
+pub written : (l : Layout) (from to : Progress) (left rest before after : Option (List ℕ))
+    (header : List ℕ) (run : Run) (len : ℕ) → IsKey l.key → MayStart l.key run.first
     → IsRunHeader header l.key run → IsSent l from to left rest before after header run
-    → len ≡ length header + run.records * (2 * samples_in_all l.key.signals + 2 * run.block_samples) → IsRunWritten l from to left rest before after run len
+    → len ≡ length header + run.records
+    * (2 * samples_in_all l.key.signals + 2 * run.block_samples) →
+    IsRunWritten l from to left rest before after run len
 written l from to left rest before after header run len key begins is-header sent len-is =
     let file = run_file l.key sent.records run header key begins sent.sound sent.listed is-header in
     record {
@@ -264,13 +360,15 @@ written l from to left rest before after header run len key begins is-header sen
       listed = sent.listed;
       file = sent_text header run sent.records;
       is_file = file;
-      only = λ other is. one-run-file other (sent_text header run sent.records) l.key sent.records is file;
+      only = λ other is. one-run-file other (sent_text header run sent.records) l.key sent.records
+          is file;
       wrote = sent.wrote;
       len_is = len-is ∙ file_len l.key sent.records run header sent.sound sent.listed;
     }
 
 -- nothing was read or written
-pub not_begun : (l : Layout) (from : Progress) (left before : Option (List ℕ)) (run : Run) → from.given ≤ most_records l.count → StopsInRun l from from left left before before run
+pub not_begun : (l : Layout) (from : Progress) (left before : Option (List ℕ)) (run : Run) →
+    from.given ≤ most_records l.count → StopsInRun l from from left left before before run
 not_begun l from left before run few = record {
   records = [];
   mid = from;
@@ -283,8 +381,10 @@ not_begun l from left before run few = record {
   more = inl (refl, refl);
 }
 
-stops_in_run : (l : Layout) (from to : Progress) (left rest before after : Option (List ℕ)) (header : List ℕ) (run : Run) → IsRunHeader header l.key run
-    → StopsSending l from to left rest before after header run → StopsInRun l from to left rest before after run
+stops_in_run : (l : Layout) (from to : Progress) (left rest before after : Option (List ℕ))
+    (header : List ℕ) (run : Run) → IsRunHeader header l.key run
+    → StopsSending l from to left rest before after header run →
+    StopsInRun l from to left rest before after run
 stops_in_run l from to left rest before after header run is-header s = record {
   records = s.records;
   mid = s.mid;
@@ -297,10 +397,17 @@ stops_in_run l from to left rest before after header run is-header s = record {
   more = s.more;
 }
 
-pub not_written : (l : Layout) (from to : Progress) (left rest before after : Option (List ℕ)) (header : List ℕ) (run : Run) (fault : WriteFault) → IsRunHeader header l.key run
-    → StopsSending l from to left rest before after header run → (fault ≡ Undated → ⊥) → IsNotWritten l from to left rest before after run fault
-not_written l from to left rest before after header run Undated is-header s dated = absurd (dated refl)
-not_written l from to left rest before after header run Changed is-header s dated = stops_in_run l from to left rest before after header run is-header s
-not_written l from to left rest before after header run Read is-header s dated = stops_in_run l from to left rest before after header run is-header s
-not_written l from to left rest before after header run Memory is-header s dated = stops_in_run l from to left rest before after header run is-header s
-not_written l from to left rest before after header run Write is-header s dated = stops_in_run l from to left rest before after header run is-header s
+pub not_written : (l : Layout) (from to : Progress) (left rest before after : Option (List ℕ))
+    (header : List ℕ) (run : Run) (fault : WriteFault) → IsRunHeader header l.key run
+    → StopsSending l from to left rest before after header run → (fault ≡ Undated → ⊥) →
+    IsNotWritten l from to left rest before after run fault
+not_written l from to left rest before after header run Undated is-header s dated =
+    absurd (dated refl)
+not_written l from to left rest before after header run Changed is-header s dated =
+    stops_in_run l from to left rest before after header run is-header s
+not_written l from to left rest before after header run Read is-header s dated =
+    stops_in_run l from to left rest before after header run is-header s
+not_written l from to left rest before after header run Memory is-header s dated =
+    stops_in_run l from to left rest before after header run is-header s
+not_written l from to left rest before after header run Write is-header s dated =
+    stops_in_run l from to left rest before after header run is-header s

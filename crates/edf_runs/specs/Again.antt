@@ -1,5 +1,6 @@
 -- What a second reading finds of a file whose runs were listed.
-use Rattle.std.specs.Prelude.{◌≡◌, ℕ, ◌+◌, ◌*◌, ◌<◌, ◌⊎◌, List, length, Option, Some, None, Result, Ok, Err}
+use Rattle.std.specs.Prelude.{◌≡◌, ℕ, ◌+◌, ◌*◌, ◌<◌, ◌⊎◌, List, length, Option, Some, None, Result}
+use Rattle.std.specs.Prelude.{Ok, Err}
 use Rattle.edf_field.specs.Number.{duration_of}
 use Rattle.edf_header.specs.Key.{Key}
 use Rattle.edf_header.specs.Header.{Layout}
@@ -8,7 +9,9 @@ use Rattle.edf_fragment.specs.Fragment.{DataRecord}
 use Rattle.edf_fragment.specs.Reading.{ReadsHeader, IsOpenFault, IsAnswer}
 use Rattle.edf_fragment.specs.declared.advance.Progress.{Progress}
 use Rattle.edf_fragment.specs.declared.fault.FragmentFault.{FragmentFault}
-use Rattle.edf_fragment.specs.declared.fault.FragmentFault.TheVariants.{Header as BadHeader, Read as FailedRead, Memory as NoMemory}
+use Rattle.edf_fragment.specs.declared.fault.FragmentFault.TheVariants.{Header as BadHeader}
+use Rattle.edf_fragment.specs.declared.fault.FragmentFault.TheVariants.{Read as FailedRead}
+use Rattle.edf_fragment.specs.declared.fault.FragmentFault.TheVariants.{Memory as NoMemory}
 use Rattle.edf_runs.specs.Runs.{StartFrom}
 use Rattle.edf_runs.specs.Read.{ReadsOn}
 use Rattle.edf_runs.specs.declared.run.Run.{Run}
@@ -40,8 +43,10 @@ IsFaultBy instant (Ok (Some r)) fault = (fault ≡ Changed) × (¬ (r.start ≡ 
 IsFaultBy instant (Ok None) fault = fault ≡ Changed
 IsFaultBy instant (Err refused) fault = fault ≡ fault_again refused
 
--- one more call for a data record was made, which was to start at this instant, and this is the fault
-pub record StopsAt (l : Layout) (from to : Progress) (left rest : Option (List ℕ)) (instant : ℕ) (fault : WriteFault) : Type 0 where
+-- one more call for a data record was made, which was to start at this instant, and this is the
+-- fault
+pub record StopsAt (l : Layout) (from to : Progress) (left rest : Option (List ℕ)) (instant : ℕ)
+    (fault : WriteFault) : Type 0 where
   pub answer : Result (Option DataRecord) FragmentFault
   pub is_answer : IsAnswer l from to left rest answer
   pub why : IsFaultBy instant answer fault
@@ -51,14 +56,16 @@ abbrev pub next_start : Layout → Run → List DataRecord → ℕ
 next_start l run records = run.first + length records * duration_of l.key.duration
 
 -- as many data records as the run has were read, which start as those of the run do
-pub record PassesRun (l : Layout) (from to : Progress) (left rest : Option (List ℕ)) (run : Run) : Type 0 where
+pub record PassesRun (l : Layout) (from to : Progress) (left rest : Option (List ℕ))
+    (run : Run) : Type 0 where
   pub records : List DataRecord
   pub read : ReadsOn l from to left rest records
   pub starts : StartFrom (duration_of l.key.duration) run.first records
   pub count : length records ≡ run.records
 
 -- fewer were read, and then the next one was not such a one
-pub record StopsBefore (l : Layout) (from to : Progress) (left rest : Option (List ℕ)) (run : Run) (fault : WriteFault) : Type 0 where
+pub record StopsBefore (l : Layout) (from to : Progress) (left rest : Option (List ℕ)) (run : Run)
+    (fault : WriteFault) : Type 0 where
   pub records : List DataRecord
   pub mid : Progress
   pub middle : Option (List ℕ)

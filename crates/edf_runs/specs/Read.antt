@@ -19,7 +19,8 @@ pub record ReadsRuns (left rest : Option (List ℕ)) (listing : Listing) : Type 
   pub listed : AreListed (duration_of layout.key.duration) records listing.runs.items
 
 -- these data records were read next, and no byte more
-pub record ReadsOn (l : Layout) (from to : Progress) (left rest : Option (List ℕ)) (records : List DataRecord) : Type 0 where
+pub record ReadsOn (l : Layout) (from to : Progress) (left rest : Option (List ℕ))
+    (records : List DataRecord) : Type 0 where
   pub going : records ≢ [] → from.status ≡ Reading
   pub bytes : List ℕ
   pub read : Consumes left rest bytes

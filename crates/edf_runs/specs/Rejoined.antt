@@ -11,16 +11,23 @@ use Rattle.edf_runs.specs.Runs.{IsRuns}
 use Rattle.edf_runs.specs.File.{IsRunFile}
 
 -- a list of files that has the file of each run at least once, in any order, and no other file
-pub record AreRunFiles (k : Key) (runs : List (List DataRecord)) (files : List (List ℕ)) : Type 0 where
-  pub each : (run : List DataRecord) → Contains runs run → (file : List ℕ) × Contains files file × IsRunFile file k run
-  pub only : (file : List ℕ) → Contains files file → (run : List DataRecord) × Contains runs run × IsRunFile file k run
+pub record AreRunFiles (k : Key) (runs : List (List DataRecord)) (files : List (List ℕ)) : Type 0
+  where
+    pub each : (run : List DataRecord) → Contains runs run → (file : List ℕ) × Contains files file
+        × IsRunFile file k run
+    pub only : (file : List ℕ) → Contains files file → (run : List DataRecord) × Contains runs run
+        × IsRunFile file k run
 
--- the runs of a file, submitted in any order and as often as one likes to a store that holds no data
--- record of its recording, are all accepted; then the store holds just the file's data records of it,
--- so that their file is that of the whole, and of others what it held. (A run has no file where the
--- Startdate subfield is X and the run starts in 2085 or later.)
+-- the runs of a file, submitted in any order and as often as one likes to a store that holds no
+-- data record of its recording, are all accepted; then the store holds just the file's data records
+-- of it, so that their file is that of the whole, and of others what it held. (A run has no file
+-- where the Startdate subfield is X and the run starts in 2085 or later.)
 abbrev pub RunsRejoin : Type 0
-RunsRejoin = (cap : ℕ) (h : Holdings) (bytes : List ℕ) (k : Key) (records : List DataRecord) (runs : List (List DataRecord))
-    (files : List (List ℕ)) (tolds : List Told) → IsSound cap h → h k ≡ [] → Spells bytes k records → length records ≤ cap →
-    IsRuns (duration_of k.duration) records runs → AreRunFiles k runs files → AllZip Tells files tolds →
-    All IsAccepted (replies cap h tolds) × (after cap h tolds ≡ put k records h) × (after cap h tolds k ≡ records)
+RunsRejoin = (cap : ℕ) (h : Holdings) (bytes : List ℕ) (k : Key) (records : List DataRecord)
+    (runs : List (List DataRecord))
+    (files : List (List ℕ)) (tolds : List Told) → IsSound cap h → h k ≡ [] →
+    Spells bytes k records → length records ≤ cap →
+    IsRuns (duration_of k.duration) records runs → AreRunFiles k runs files →
+    AllZip Tells files tolds →
+    All IsAccepted (replies cap h tolds) × (after cap h tolds ≡ put k records h)
+    × (after cap h tolds k ≡ records)

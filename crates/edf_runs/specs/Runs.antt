@@ -1,5 +1,6 @@
 -- The runs of a recording: its longest stretches of data records without a gap.
-use Rattle.std.specs.Prelude.{◌≡◌, ◌≢◌, ℕ, zero, suc, ◌+◌, ◌-◌, ◌*◌, ◌≤◌, List, [], ◌∷◌, ◌++◌, length, slice_get, Option, None, All}
+use Rattle.std.specs.Prelude.{◌≡◌, ◌≢◌, ℕ, zero, suc, ◌+◌, ◌-◌, ◌*◌, ◌≤◌, List, [], ◌∷◌, ◌++◌}
+use Rattle.std.specs.Prelude.{length, slice_get, Option, None, All}
 use Rattle.std.specs.List.{flat_map, AllZip}
 use Rattle.edf_fragment.specs.Fragment.{DataRecord}
 use Rattle.edf_canonical.specs.File.{second_of, BlocksFit}
@@ -39,7 +40,8 @@ pub record IsListed (d : ℕ) (records : List DataRecord) (run : Run) : Type 0 w
   pub starts : StartFrom d run.first records
   pub last : run.last ≡ run.first + (run.records - 1) * d
   pub holds : BlocksFit (second_of run.first) run.block_samples records
-  pub least : (fewer : ℕ) → BlocksFit (second_of run.first) fewer records → run.block_samples ≤ fewer
+  pub least : (fewer : ℕ) → BlocksFit (second_of run.first) fewer records →
+      run.block_samples ≤ fewer
 
 -- the list has one entry for each run of the data records, in the order of the file
 pub record AreListed (d : ℕ) (records : List DataRecord) (listed : List Run) : Type 0 where

@@ -1,5 +1,6 @@
 -- What the writing of a run does: its file goes out, or a front of it.
-use Rattle.std.specs.Prelude.{◌≡◌, ℕ, ◌+◌, ◌*◌, ◌≤◌, ◌<◌, ◌⊎◌, List, ◌++◌, length, Option, Some, Result, MatchResult}
+use Rattle.std.specs.Prelude.{◌≡◌, ℕ, ◌+◌, ◌*◌, ◌≤◌, ◌<◌, ◌⊎◌, List, ◌++◌, length, Option, Some}
+use Rattle.std.specs.Prelude.{Result, MatchResult}
 use Rattle.std.specs.List.{flat_map}
 use Rattle.std.specs.Io.KnownBytes.{Appends, Keeps}
 use Rattle.edf_field.specs.Number.{duration_of}
@@ -20,11 +21,13 @@ use Rattle.edf_runs.specs.File.{IsRunFile, marked_continuous}
 use Rattle.edf_runs.specs.Read.{ReadsOn}
 use Rattle.edf_runs.specs.declared.run.Run.{Run}
 use Rattle.edf_runs.specs.declared.fault.WriteFault.{WriteFault}
-use Rattle.edf_runs.specs.declared.fault.WriteFault.TheVariants.{Undated, Changed, Read, Memory, Write}
+use Rattle.edf_runs.specs.declared.fault.WriteFault.TheVariants.{Undated, Changed, Read, Memory}
+use Rattle.edf_runs.specs.declared.fault.WriteFault.TheVariants.{Write}
 
 -- the data records that came next were read and are those of the run; their file went out, no other
 -- bytes are one, and this is its length
-pub record IsRunWritten (l : Layout) (from to : Progress) (left rest before after : Option (List ℕ)) (run : Run) (len : ℕ) : Type 0 where
+pub record IsRunWritten (l : Layout) (from to : Progress) (left rest before after : Option (List ℕ))
+    (run : Run) (len : ℕ) : Type 0 where
   pub records : List DataRecord
   pub read : ReadsOn l from to left rest records
   pub listed : IsListed (duration_of l.key.duration) records run
@@ -37,7 +40,8 @@ pub record IsRunWritten (l : Layout) (from to : Progress) (left rest before afte
 -- the header of a run's file: the canonical one, with the mark EDF+C
 abbrev pub IsRunHeader : List ℕ → Key → Run → Type 0
 IsRunHeader header k run =
-    (canonical : List ℕ) × IsCanonicalHeader canonical k run.first run.records run.block_samples × (header ≡ marked_continuous canonical)
+    (canonical : List ℕ) × IsCanonicalHeader canonical k run.first run.records run.block_samples
+    × (header ≡ marked_continuous canonical)
 
 -- the data records as they are in a run's file
 abbrev pub run_text : Run → List DataRecord → List ℕ
@@ -46,17 +50,21 @@ run_text run records = flat_map (record_text (second_of run.first) (2 * run.bloc
 -- nothing went out, or a front of the run's header and these data records
 abbrev pub WritesRunFront : Key → Option (List ℕ) → Option (List ℕ) → Run → List DataRecord → Type 0
 WritesRunFront k before after run records =
-    Keeps before after ⊎ ((header : List ℕ) × IsRunHeader header k run × WritesFront before after (header ++ run_text run records))
+    Keeps before after ⊎ ((header : List ℕ) × IsRunHeader header k run
+    × WritesFront before after (header ++ run_text run records))
 
 -- nothing more was read; or one more call for a data record was made, where the run lacks one still
-abbrev pub ReadsOneMoreAtMost : Layout → Progress → Progress → Option (List ℕ) → Option (List ℕ) → ℕ → Run → Type 0
+abbrev pub ReadsOneMoreAtMost : Layout → Progress → Progress → Option (List ℕ) → Option (List ℕ) →
+    ℕ → Run → Type 0
 ReadsOneMoreAtMost l from to left rest count run =
     ((to ≡ from) × (rest ≡ left))
-    ⊎ ((count < run.records) × ((answer : Result (Option DataRecord) FragmentFault) × IsAnswer l from to left rest answer))
+    ⊎ ((count < run.records) × ((answer : Result (Option DataRecord) FragmentFault)
+    × IsAnswer l from to left rest answer))
 
 -- the first data records of the run were read, and of its header and these a front went out, or
 -- nothing; and no more was read than one data record that the run lacked still
-pub record StopsInRun (l : Layout) (from to : Progress) (left rest before after : Option (List ℕ)) (run : Run) : Type 0 where
+pub record StopsInRun (l : Layout) (from to : Progress) (left rest before after : Option (List ℕ))
+    (run : Run) : Type 0 where
   pub records : List DataRecord
   pub mid : Progress
   pub middle : Option (List ℕ)
@@ -68,32 +76,40 @@ pub record StopsInRun (l : Layout) (from to : Progress) (left rest before after 
   pub more : ReadsOneMoreAtMost l mid to middle rest (length records) run
 
 -- the run comes next: the input has such data records, whose number the header allows
-pub record ComesNext (l : Layout) (from : Progress) (left : Option (List ℕ)) (run : Run) : Type 0 where
-  pub going : from.status ≡ Reading
-  pub bytes : List ℕ
-  pub known : left ≡ Some bytes
-  pub records : List DataRecord
-  pub last : Place
-  pub rest : List ℕ
-  pub are_records : AreDataRecords l from.place bytes records last rest
-  pub within : from.given + length records ≤ most_records l.count
-  pub listed : IsListed (duration_of l.key.duration) records run
+pub record ComesNext (l : Layout) (from : Progress) (left : Option (List ℕ)) (run : Run) : Type 0
+  where
+    pub going : from.status ≡ Reading
+    pub bytes : List ℕ
+    pub known : left ≡ Some bytes
+    pub records : List DataRecord
+    pub last : Place
+    pub rest : List ℕ
+    pub are_records : AreDataRecords l from.place bytes records last rest
+    pub within : from.given + length records ≤ most_records l.count
+    pub listed : IsListed (duration_of l.key.duration) records run
 
 -- nothing was read or written, since no header can name when the run starts: the Startdate subfield
 -- is X and the run starts in 2085 or later, which the two-digit year of the startdate can't tell
-pub record CannotBegin (l : Layout) (from to : Progress) (left rest before after : Option (List ℕ)) (run : Run) : Type 0 where
+pub record CannotBegin (l : Layout) (from to : Progress) (left rest before after : Option (List ℕ))
+    (run : Run) : Type 0 where
   pub undated : ¬ MayStart l.key run.first
   pub progress : to ≡ from
   pub unread : rest ≡ left
   pub unwritten : Keeps before after
 
 -- why a run was not written, or not to its end
-abbrev pub IsNotWritten : Layout → Progress → Progress → Option (List ℕ) → Option (List ℕ) → Option (List ℕ) → Option (List ℕ) → Run → WriteFault → Type 0
-IsNotWritten l from to left rest before after run Undated = CannotBegin l from to left rest before after run
-IsNotWritten l from to left rest before after run Changed = StopsInRun l from to left rest before after run
-IsNotWritten l from to left rest before after run Read = StopsInRun l from to left rest before after run
-IsNotWritten l from to left rest before after run Memory = StopsInRun l from to left rest before after run
-IsNotWritten l from to left rest before after run Write = StopsInRun l from to left rest before after run
+abbrev pub IsNotWritten : Layout → Progress → Progress → Option (List ℕ) → Option (List ℕ) →
+    Option (List ℕ) → Option (List ℕ) → Run → WriteFault → Type 0
+IsNotWritten l from to left rest before after run Undated =
+    CannotBegin l from to left rest before after run
+IsNotWritten l from to left rest before after run Changed =
+    StopsInRun l from to left rest before after run
+IsNotWritten l from to left rest before after run Read =
+    StopsInRun l from to left rest before after run
+IsNotWritten l from to left rest before after run Memory =
+    StopsInRun l from to left rest before after run
+IsNotWritten l from to left rest before after run Write =
+    StopsInRun l from to left rest before after run
 
 -- a read failed where that is told, and none did before another answer
 abbrev pub CountsReadFault : ℕ → ℕ → WriteFault → Type 0
@@ -106,7 +122,8 @@ CountsReadFault old new Write = new ≡ old
 abbrev pub CountsReads : {A : Type 0} → ℕ → ℕ → Result A WriteFault → Type 0
 CountsReads old new result = MatchResult result (λ _. new ≡ old) (CountsReadFault old new)
 
--- a write failed, or took none of some bytes, where that is told, and none did before another answer
+-- a write failed, or took none of some bytes, where that is told, and none did before another
+-- answer
 abbrev pub CountsWriteFault : ℕ → ℕ → WriteFault → Type 0
 CountsWriteFault old new Undated = new ≡ old
 CountsWriteFault old new Changed = new ≡ old

@@ -1,4 +1,5 @@
--- The rows of the two tables, and their columns by name: as the tables store them, and as queries show them.
+-- The rows of the two tables, and their columns by name: as the tables store them, and as queries
+-- show them.
 use Rattle.std.specs.Prelude.{ℕ, ℤ, Bool, List}
 use Rattle.std.specs.declared.cmp.Ordering.{Ordering}
 use Rattle.std.specs.Ordering.{is_eq}

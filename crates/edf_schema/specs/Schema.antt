@@ -1,6 +1,7 @@
 -- The two tables, as the CREATE texts leave them.
 use Rattle.sqlite_value.specs.declared.keys.Collation.TheVariants.{Binary}
-use Rattle.std.specs.Prelude.{◌≡◌, ◌⊎◌, ◌≤◌, ℕ, true, false, List, [], ◌∷◌, Some, None, IfSome, All, codes}
+use Rattle.std.specs.Prelude.{◌≡◌, ◌⊎◌, ◌≤◌, ℕ, true, false, List, [], ◌∷◌, Some, None, IfSome, All}
+use Rattle.std.specs.Prelude.{codes}
 use Rattle.sqlite_value.specs.declared.value.Value.TheVariants.{Null}
 use Rattle.sqlite_schema.specs.declared.schema.Table.{Table}
 use Rattle.sqlite_schema.specs.declared.schema.Schema.{Schema}
@@ -16,8 +17,23 @@ abbrev pub recording : Table
 recording = record {
   name = codes "recording";
   tree = 0;
-  columns = (record { name = codes "id"; kind = Integer; is_strict = true; not_null = false; default = Null; collation = Binary })
-      ∷ (record { name = codes "identity"; kind = Blob; is_strict = true; not_null = true; default = Null; collation = Binary }) ∷ [];
+  columns = (record {
+    name = codes "id";
+    kind = Integer;
+    is_strict = true;
+    not_null = false;
+    default = Null;
+    collation = Binary;
+  })
+      ∷ (record {
+        name = codes "identity";
+        kind = Blob;
+        is_strict = true;
+        not_null = true;
+        default =
+            Null;
+        collation = Binary;
+      }) ∷ [];
   key = Some 0;
   primary = 0 ∷ [];
   uniques = (2 ∷ []) ∷ [];
@@ -37,10 +53,41 @@ abbrev pub records : Table
 records = record {
   name = codes "record";
   tree = 2;
-  columns = (record { name = codes "recording"; kind = Integer; is_strict = true; not_null = true; default = Null; collation = Binary })
-      ∷ (record { name = codes "start"; kind = Integer; is_strict = true; not_null = true; default = Null; collation = Binary })
-      ∷ (record { name = codes "samples"; kind = Blob; is_strict = true; not_null = true; default = Null; collation = Binary })
-      ∷ (record { name = codes "block"; kind = Blob; is_strict = true; not_null = true; default = Null; collation = Binary }) ∷ [];
+  columns = (record {
+    name = codes "recording";
+    kind = Integer;
+    is_strict = true;
+    not_null = true;
+    default = Null;
+    collation = Binary;
+  })
+      ∷ (record {
+        name = codes "start";
+        kind = Integer;
+        is_strict = true;
+        not_null = true;
+        default =
+            Null;
+        collation = Binary;
+      })
+      ∷ (record {
+        name = codes "samples";
+        kind = Blob;
+        is_strict = true;
+        not_null = true;
+        default =
+            Null;
+        collation = Binary;
+      })
+      ∷ (record {
+        name = codes "block";
+        kind = Blob;
+        is_strict = true;
+        not_null = true;
+        default =
+            Null;
+        collation = Binary;
+      }) ∷ [];
   key = None;
   primary = 1 ∷ 2 ∷ [];
   uniques = (1 ∷ 2 ∷ []) ∷ [];
@@ -69,7 +116,12 @@ pub record Others : Type 0 where
 
 -- both tables, and after them others
 abbrev pub schema_with : Others → Schema
-schema_with others = record { tables = recording ∷ records ∷ others.tables; indexes = identity_index ∷ start_index ∷ others.indexes; views = others.views }
+schema_with others = record {
+  tables = recording ∷ records ∷ others.tables;
+  indexes =
+      identity_index ∷ start_index ∷ others.indexes;
+  views = others.views;
+}
 
 abbrev pub both_schema : Schema
 both_schema = schema_with (record { tables = []; indexes = []; views = [] })
@@ -82,12 +134,15 @@ IsOtherTree tree = 4 ≤ tree
 abbrev pub IsOtherIndex : Index → Type 0
 IsOtherIndex index = IsOtherTree index.tree × IsOtherTree index.table
 
--- a view, or what SQLite's port keeps unread of another table: that table, or an index or a trigger on it
+-- a view, or what SQLite's port keeps unread of another table: that table, or an index or a trigger
+-- on it
 abbrev pub IsOtherView : View → Type 0
-IsOtherView view = IsOtherTree view.tree × IfSome view.foreign (λ owner. (same_name owner recording.name ≡ false) × (same_name owner records.name ≡ false))
+IsOtherView view = IsOtherTree view.tree
+    × IfSome view.foreign (λ owner. (same_name owner recording.name ≡ false)
+    × (same_name owner records.name ≡ false))
 
--- both tables come first. What comes after them has trees of its own, and is no index and no trigger on our tables, which could
--- refuse our rows or change them
+-- both tables come first. What comes after them has trees of its own, and is no index and no
+-- trigger on our tables, which could refuse our rows or change them
 pub record HasBoth (schema : Schema) : Type 0 where
   pub others : Others
   pub is : schema ≡ schema_with others

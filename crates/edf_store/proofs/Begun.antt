@@ -1,6 +1,7 @@
 -- What a transaction sees as it begins, what a call that does nothing leaves, and the refusals that
 -- an error of `sqlite`'s becomes.
-use Rattle.std.proofs.Common.{◌≡◌, ◌≢◌, ℕ, true, IsTrue, refl, sym, subst, subst₂, ◌∙◌, arith, Result, IfErr, IsErrAnd, None}
+use Rattle.std.proofs.Common.{◌≡◌, ◌≢◌, ℕ, true, IsTrue, refl, sym, subst, subst₂, ◌∙◌, arith}
+use Rattle.std.proofs.Common.{Result, IfErr, IsErrAnd, None}
 use Rattle.std.proofs.lemmas.Result.{err_from_is_err_and}
 use Rattle.sqlite_trees.specs.declared.store.Store.{Ghosts}
 use Rattle.sqlite.specs.Tree.{Trees}
@@ -20,7 +21,9 @@ use Rattle.edf_store.specs.Held.{StoreModel, at, AreHeld, IsSoundStore, Stays}
 use Rattle.edf_store.specs.Transaction.{AreSeen, SeesSome}
 use Rattle.edf_store.proofs.Held.{others_committed_same}
 
-module _ (cap : ℕ) (old new : State) (P : Trees → Type 0) (s : Survives old new P) (shows : HasCleanDisk new → Shows old new old.now old.committed true)
+module _ (cap : ℕ) (old new : State) (P : Trees →
+    Type 0) (s : Survives old new P) (shows : HasCleanDisk new →
+    Shows old new old.now old.committed true)
     (settled : IsTrue old.is_open → old.now ≡ old.committed) (sound : IsSoundStore cap old) where
   -- it sees what is held
   pub begun_sees : (h : Holdings) → AreHeld cap old h → AreSeen cap new h
@@ -31,7 +34,11 @@ module _ (cap : ℕ) (old new : State) (P : Trees → Type 0) (s : Survives old 
       let same : new.now ≡ old.committed = begun.now_is ∙ settled begun.was_open in
       record {
         is_open = begun.is_open;
-        inside = record { schema = subst (λ (d : Database). HasBoth d.schema) (sym same) (sound.schema was begun.was_open); mode = begun.mode };
+        inside = record {
+          schema = subst (λ (d : Database). HasBoth d.schema) (sym same)
+              (sound.schema was begun.was_open);
+          mode = begun.mode;
+        };
         stand = subst (λ (d : Database). StandFor d.trees h) (sym same) kept.stand;
         sound = kept.sound;
         others = subst₂ KeepsOthers (sym begun.committed_is) (sym same) (others_same old.committed);
@@ -43,19 +50,30 @@ module _ (cap : ℕ) (old new : State) (P : Trees → Type 0) (s : Survives old 
       (had.0, begun_sees had.0 (λ _ _. had.1) clean)
 
 pub stays_same : {S : Type 0} (g : Ghosts S) (store : StoreModel S) → Stays g store store
-stays_same g store = record { cap = refl; holdings = λ h held. held; others = others_committed_same (at g store); crash = survives_same (at g store) _ }
+stays_same g store = record {
+  cap = refl;
+  holdings = λ h held. held;
+  others =
+      others_committed_same (at g store);
+  crash = survives_same (at g store) _;
+}
 
-pub refused_always : {A P : Type 0} (e : Error) (r : Result A StoreFault) → IsErrAnd r (IsRefusalOf e) → P → IfErr r (λ _. P)
+pub refused_always : {A P : Type 0} (e : Error) (r : Result A StoreFault) →
+    IsErrAnd r (IsRefusalOf e) → P → IfErr r (λ _. P)
 refused_always e r h p = let it = err_from_is_err_and r h in rw it.1 p
 
-pub refused_told : {A : Type 0} (e : Error) (r : Result A StoreFault) → IsErrAnd r (IsRefusalOf e) → IfErr r IsStoreRefusal
+pub refused_told : {A : Type 0} (e : Error) (r : Result A StoreFault) → IsErrAnd r (IsRefusalOf e) →
+    IfErr r IsStoreRefusal
 refused_told e r h = let p = err_from_is_err_and r h in rw p.1 p.2.told
 
-pub refused_caused : {A : Type 0} (e : Error) (r : Result A StoreFault) → IsErrAnd r (IsRefusalOf e) → IfErr r (λ e. e ≢ Store None)
+pub refused_caused : {A : Type 0} (e : Error) (r : Result A StoreFault) →
+    IsErrAnd r (IsRefusalOf e) → IfErr r (λ e. e ≢ Store None)
 refused_caused e r h = let p = err_from_is_err_and r h in rw p.1 p.2.caused
 
-pub refused_own : {A : Type 0} (e : Error) (r : Result A StoreFault) → IsErrAnd r (IsRefusalOf e) → IfErr r (λ e. e ≢ Foreign)
+pub refused_own : {A : Type 0} (e : Error) (r : Result A StoreFault) → IsErrAnd r (IsRefusalOf e) →
+    IfErr r (λ e. e ≢ Foreign)
 refused_own e r h = let p = err_from_is_err_and r h in rw p.1 p.2.own
 
-pub refused_unfailed : {A : Type 0} (e : Error) (r : Result A StoreFault) → IsErrAnd r (IsRefusalOf e) → IfErr r (λ e. e ≢ Failed)
+pub refused_unfailed : {A : Type 0} (e : Error) (r : Result A StoreFault) →
+    IsErrAnd r (IsRefusalOf e) → IfErr r (λ e. e ≢ Failed)
 refused_unfailed e r h = let p = err_from_is_err_and r h in rw p.1 p.2.unfailed

@@ -1,6 +1,8 @@
 -- Bytes of a key are refused only where memory ran out, and the identities of all rows are those of
 -- keys.
-use Rattle.std.proofs.Common.{◌≡◌, ℕ, zero, suc, ◌<◌, List, [], ◌∷◌, map, length, slice_get, slice_index_or, Option, Some, None, Result, Ok, Err, IfOk, IfErr, Vec, Global, refl, ap, subst, ◌∙◌, arith}
+use Rattle.std.proofs.Common.{◌≡◌, ℕ, zero, suc, ◌<◌, List, [], ◌∷◌, map, length, slice_get}
+use Rattle.std.proofs.Common.{slice_index_or, Option, Some, None, Result, Ok, Err, IfOk, IfErr, Vec}
+use Rattle.std.proofs.Common.{Global, refl, ap, subst, ◌∙◌, arith}
 use Rattle.std.proofs.lemmas.List.Elements.{recursion_from_All}
 use Rattle.std.proofs.lemmas.List.Sorted.{IsPermutation-sym}
 use Rattle.sqlite_value.specs.declared.value.Value.{Value}
@@ -23,27 +25,40 @@ use Rattle.std.specs.List.{AllByRecursion}
 use Rattle.edf_header.specs.Key.{Key, IsKey, key_bytes}
 use Rattle.edf_header.specs.Identity.{IsFirstKeyFault, place_in_order}
 use Rattle.edf_header.specs.declared.identity.IdentityFault.{IdentityFault}
-use Rattle.edf_header.specs.declared.identity.IdentityFault.TheVariants.{Length, Unprintable, Patient, Recording, Duration, Label, Physical, Digital, Samples, Size, Memory}
+use Rattle.edf_header.specs.declared.identity.IdentityFault.TheVariants.{Length, Unprintable}
+use Rattle.edf_header.specs.declared.identity.IdentityFault.TheVariants.{Patient, Recording}
+use Rattle.edf_header.specs.declared.identity.IdentityFault.TheVariants.{Duration, Label, Physical}
+use Rattle.edf_header.specs.declared.identity.IdentityFault.TheVariants.{Digital, Samples, Size}
+use Rattle.edf_header.specs.declared.identity.IdentityFault.TheVariants.{Memory}
 use Rattle.edf_header.proofs.Faults.{key-clean}
 
-pub all_place : {X : Type 0} (P : X → Type 0) (xs : List X) → AllByRecursion P xs → (n : ℕ) (x : X) → slice_get xs n ≡ Some x → P x
+pub all_place : {X : Type 0} (P : X → Type 0) (xs : List X) → AllByRecursion P xs →
+    (n : ℕ) (x : X) → slice_get xs n ≡ Some x → P x
 all_place {X} P [] all n x e = absurd (let none : ◌≡◌ {A = Option X} None (Some x) = e in cc)
 all_place P (y ∷ xs) all zero x e = let same : y ≡ x = cc in subst P same all.0
 all_place P (y ∷ xs) all (suc n) x e = all_place P xs all.1 n x e
 
-clean : (bytes : List ℕ) (fault : IdentityFault) → IsFirstKeyFault bytes fault → (k : Key) × IsKey k × (bytes ≡ key_bytes k) → place_in_order fault < 11 → ⊥
-clean bytes fault first of early = key-clean of.0 of.1 fault early (subst (λ (b : List ℕ). IsFirstKeyFault b fault) of.2 first).0
+clean : (bytes : List ℕ) (fault : IdentityFault) → IsFirstKeyFault bytes fault → (k : Key) × IsKey k
+    × (bytes ≡ key_bytes k) → place_in_order fault < 11 → ⊥
+clean bytes fault first of early =
+    key-clean of.0 of.1 fault early (subst (λ (b : List ℕ). IsFirstKeyFault b fault) of.2 first).0
 
-pub refused_for_memory : (bytes : List ℕ) (fault : IdentityFault) → IsFirstKeyFault bytes fault → (k : Key) × IsKey k × (bytes ≡ key_bytes k) → fault ≡ Memory
+pub refused_for_memory : (bytes : List ℕ) (fault : IdentityFault) → IsFirstKeyFault bytes fault →
+    (k : Key) × IsKey k × (bytes ≡ key_bytes k) → fault ≡ Memory
 refused_for_memory bytes Length first of = absurd (clean bytes Length first of (omega arith))
-refused_for_memory bytes (Unprintable at) first of = absurd (clean bytes (Unprintable at) first of (omega arith))
+refused_for_memory bytes (Unprintable at) first of =
+    absurd (clean bytes (Unprintable at) first of (omega arith))
 refused_for_memory bytes Patient first of = absurd (clean bytes Patient first of (omega arith))
 refused_for_memory bytes Recording first of = absurd (clean bytes Recording first of (omega arith))
 refused_for_memory bytes Duration first of = absurd (clean bytes Duration first of (omega arith))
-refused_for_memory bytes (Label at) first of = absurd (clean bytes (Label at) first of (omega arith))
-refused_for_memory bytes (Physical at) first of = absurd (clean bytes (Physical at) first of (omega arith))
-refused_for_memory bytes (Digital at) first of = absurd (clean bytes (Digital at) first of (omega arith))
-refused_for_memory bytes (Samples at) first of = absurd (clean bytes (Samples at) first of (omega arith))
+refused_for_memory bytes (Label at) first of =
+    absurd (clean bytes (Label at) first of (omega arith))
+refused_for_memory bytes (Physical at) first of =
+    absurd (clean bytes (Physical at) first of (omega arith))
+refused_for_memory bytes (Digital at) first of =
+    absurd (clean bytes (Digital at) first of (omega arith))
+refused_for_memory bytes (Samples at) first of =
+    absurd (clean bytes (Samples at) first of (omega arith))
 refused_for_memory bytes Size first of = absurd (clean bytes Size first of (omega arith))
 refused_for_memory bytes Memory first of = refl
 
@@ -56,25 +71,43 @@ IsOfKey b = (k : Key) × IsKey k × (b.items ≡ key_bytes k)
 blob-bytes : (a b : List ℕ) → ◌≡◌ {A = Value} (Blob a) (Blob b) → a ≡ b
 blob-bytes a b h = cc
 
-of_keys : (all : List Bytes) (rows : List Row) → AllByRecursion (λ r. IsRecordingRow (shown r)) rows → map (λ (b : Bytes). Blob b.items) all ≡ map (λ row. column row 2) rows → AllByRecursion IsOfKey all
+of_keys : (all : List Bytes) (rows : List Row) →
+    AllByRecursion (λ r. IsRecordingRow (shown r)) rows →
+    map (λ (b : Bytes). Blob b.items) all ≡ map (λ row. column row 2) rows →
+    AllByRecursion IsOfKey all
 of_keys [] rows good e = tt
-of_keys (b ∷ all) [] good e = absurd (let n : ◌≡◌ {A = ℕ} (length (map (λ (b : Bytes). Blob b.items) (b ∷ all))) 0 = ap length e in omega (arith, n))
+of_keys (b ∷ all) [] good e =
+    absurd (let n : ◌≡◌ {A = ℕ} (length (map (λ (b : Bytes). Blob b.items) (b ∷ all))) 0 =
+    ap length e in omega (arith, n))
 of_keys (b ∷ all) (row ∷ rows) good e =
     let first : ◌≡◌ {A = Value} (Blob b.items) (column row 2) = cc in
     let rest : map (λ (b : Bytes). Blob b.items) all ≡ map (λ row. column row 2) rows = cc in
-    let it = good.0 in
-    ((it.key, it.is_key, blob-bytes _ _ (first ∙ ap (λ (r : Row). column r 1) it.cells)), of_keys all rows good.1 rest)
+    let it = good.0 in (
+      (it.key, it.is_key, blob-bytes _ _ (first ∙ ap (λ (r : Row). column r 1) it.cells)),
+      of_keys all rows good.1 rest,
+    )
 
-pub identities_of_keys : (trees : Trees) (h : Holdings) (all : List Bytes) → StandFor trees h → map (λ (b : Bytes). Blob b.items) all ≡ map (λ row. column row 2) (by_identity (trees 0)) → AllByRecursion IsOfKey all
+pub identities_of_keys : (trees : Trees) (h : Holdings) (all : List Bytes) → StandFor trees h →
+    map (λ (b : Bytes). Blob b.items) all ≡ map (λ row. column row 2) (by_identity (trees 0)) →
+    AllByRecursion IsOfKey all
 identities_of_keys trees h all stand e =
-    let moved = IsPermutation-sym _ _ (IsPermutation-sort_by (by_column 2) (column_total 2) (trees 0)) in
-    let good = all_unmap IsRecordingRow shown (trees 0) (recursion_from_All IsRecordingRow (recordings_in trees) stand.recordings) in
-    of_keys all (by_identity (trees 0)) (all-permutation (λ r. IsRecordingRow (shown r)) (trees 0) (by_identity (trees 0)) moved good) e
+    let moved = IsPermutation-sym _ _ (IsPermutation-sort_by (by_column 2) (column_total 2)
+    (trees 0)) in
+    let good = all_unmap IsRecordingRow shown (trees 0)
+    (recursion_from_All IsRecordingRow (recordings_in trees) stand.recordings) in
+    of_keys all (by_identity (trees 0))
+    (all-permutation (λ r. IsRecordingRow (shown r)) (trees 0) (by_identity (trees 0)) moved
+    good) e
 
-same_cells : (keys : List Key) (all : List Bytes) → map key_bytes keys ≡ map (λ (b : Bytes). b.items) all → map (λ k. Blob (key_bytes k)) keys ≡ map (λ (b : Bytes). Blob b.items) all
+same_cells : (keys : List Key) (all : List Bytes) →
+    map key_bytes keys ≡ map (λ (b : Bytes). b.items) all →
+    map (λ k. Blob (key_bytes k)) keys ≡ map (λ (b : Bytes). Blob b.items) all
 same_cells [] [] e = refl
-same_cells [] (b ∷ all) e = absurd (let n : ◌≡◌ {A = ℕ} 0 (length (map (λ (b : Bytes). b.items) (b ∷ all))) = ap length e in omega (arith, n))
-same_cells (k ∷ keys) [] e = absurd (let n : ◌≡◌ {A = ℕ} (length (map key_bytes (k ∷ keys))) 0 = ap length e in omega (arith, n))
+same_cells [] (b ∷ all) e =
+    absurd (let n : ◌≡◌ {A = ℕ} 0 (length (map (λ (b : Bytes). b.items) (b ∷ all))) = ap length e in
+    omega (arith, n))
+same_cells (k ∷ keys) [] e = absurd (let n : ◌≡◌ {A = ℕ} (length (map key_bytes (k ∷ keys))) 0 =
+    ap length e in omega (arith, n))
 same_cells (k ∷ keys) (b ∷ all) e =
     let first : key_bytes k ≡ b.items = cc in
     let rest : map key_bytes keys ≡ map (λ (b : Bytes). b.items) all = cc in
@@ -82,18 +115,25 @@ same_cells (k ∷ keys) (b ∷ all) e =
     let more = same_cells keys all rest in
     λ i. cells i ∷ more i
 
-pub keys_read : (cap : ℕ) (trees : Trees) (h : Holdings) (all : List Bytes) (keys : List Key) → AreKept cap trees h → map (λ (b : Bytes). Blob b.items) all ≡ map (λ row. column row 2) (by_identity (trees 0)) → map key_bytes keys ≡ map (λ (b : Bytes). b.items) all → AllByRecursion IsKey keys → AreKeysOf h keys
-keys_read cap trees h all keys kept rows bytes good = are_keys cap trees h keys kept good (same_cells keys all bytes ∙ rows)
+pub keys_read : (cap : ℕ) (trees : Trees) (h : Holdings) (all : List Bytes) (keys : List Key) →
+    AreKept cap trees h → map (λ (b : Bytes). Blob b.items) all ≡ map (λ row. column row 2)
+    (by_identity (trees 0)) → map key_bytes keys ≡ map (λ (b : Bytes). b.items) all →
+    AllByRecursion IsKey keys → AreKeysOf h keys
+keys_read cap trees h all keys kept rows bytes good =
+    are_keys cap trees h keys kept good (same_cells keys all bytes ∙ rows)
 
-pub if_both : {T E : Type 0} {P Q R : T → Type 0} (r : Result T E) → IfOk r P → IfOk r Q → ((x : T) → P x → Q x → R x) → IfOk r R
+pub if_both : {T E : Type 0} {P Q R : T → Type 0} (r : Result T E) → IfOk r P → IfOk r Q →
+    ((x : T) → P x → Q x → R x) → IfOk r R
 if_both (Ok x) p q f = f x p q
 if_both (Err e) p q f = tt
 
-pub if_refused : {T E : Type 0} {P R : E → Type 0} (r : Result T E) → IfErr r P → ((e : E) → P e → R e) → IfErr r R
+pub if_refused : {T E : Type 0} {P R : E → Type 0} (r : Result T E) → IfErr r P →
+    ((e : E) → P e → R e) → IfErr r R
 if_refused (Ok x) p f = tt
 if_refused (Err e) p f = f e p
 
-pub all_index : {X : Type 0} (P : X → Type 0) (xs : List X) → AllByRecursion P xs → (n : ℕ) (d : X) → n < length xs → P (slice_index_or xs n d)
+pub all_index : {X : Type 0} (P : X → Type 0) (xs : List X) → AllByRecursion P xs →
+    (n : ℕ) (d : X) → n < length xs → P (slice_index_or xs n d)
 all_index P [] all n d within = absurd (omega (arith, within))
 all_index P (y ∷ xs) all zero d within = all.0
 all_index P (y ∷ xs) all (suc n) d within = all_index P xs all.1 n d (omega (arith, within))

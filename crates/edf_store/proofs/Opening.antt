@@ -12,20 +12,35 @@ use Rattle.edf_tables.proofs.File.{tables_both}
 use Rattle.edf_store.specs.Held.{IsSoundStore}
 use Rattle.edf_store.specs.Open.{IsOpened}
 
-pub sound_opened : (cap : ℕ) (old new : State) → 1 ≤ cap → cap ≤ 99_999_999 → (HasCleanDisk new → PassesAudit cap old new) → IsSoundStore cap new
+pub sound_opened : (cap : ℕ) (old new : State) → 1 ≤ cap → cap ≤ 99_999_999 →
+    (HasCleanDisk new → PassesAudit cap old new) → IsSoundStore cap new
 sound_opened cap old new from to kept = record {
   cap_from = from;
   cap_to = to;
-  schema = λ clean is_open. let it = kept clean in subst (λ (d : Database). HasBoth d.schema) (sym it.settled) (tables_both old.now new.now it.tables);
-  holdings = λ clean is_open. let it = kept clean in (it.holdings.0, subst (λ (d : Database). AreKept cap d.trees it.holdings.0) (sym it.settled) it.holdings.1);
+  schema = λ clean is_open. let it = kept clean in
+      subst (λ (d : Database). HasBoth d.schema) (sym it.settled)
+      (tables_both old.now new.now it.tables);
+  holdings = λ clean is_open. let it = kept clean in (
+    it.holdings.0,
+    subst (λ (d : Database). AreKept cap d.trees it.holdings.0) (sym it.settled)
+        it.holdings.1,
+  );
 }
 
-pub opened : {S : Type 0} (g : Ghosts S) (cap : ℕ) (old new : Held S) → (HasCleanDisk (state g new) → PassesAudit cap (state g old) (state g new)) → Survives (state g old) (state g new) (IsMadeOf (state g old).now) → IsOpened g old (record { connection = new; cap = cap })
+pub opened : {S : Type 0} (g : Ghosts S) (cap : ℕ) (old new : Held S) →
+    (HasCleanDisk (state g new) → PassesAudit cap (state g old) (state g new)) →
+    Survives (state g old) (state g new) (IsMadeOf (state g old).now) →
+    IsOpened g old (record { connection = new; cap = cap })
 opened g cap old new kept survives = record {
   is_open = λ clean. (kept clean).is_open;
   idle = λ clean. (kept clean).idle;
-  tables = λ clean. let it = kept clean in subst (λ (d : Database). HasTables (state g old).now d) (sym it.settled) it.tables;
-  holdings = λ clean. let it = kept clean in (it.holdings.0, subst (λ (d : Database). AreKept cap d.trees it.holdings.0) (sym it.settled) it.holdings.1);
+  tables = λ clean. let it = kept clean in
+      subst (λ (d : Database). HasTables (state g old).now d) (sym it.settled) it.tables;
+  holdings = λ clean. let it = kept clean in (
+    it.holdings.0,
+    subst (λ (d : Database). AreKept cap d.trees it.holdings.0) (sym it.settled)
+        it.holdings.1,
+  );
   own = λ clean. (kept clean).own;
   crash = survives;
 }

@@ -1,5 +1,7 @@
 -- One step of a walk over the records of a recording.
-use Rattle.std.proofs.Common.{◌≡◌, ℕ, zero, suc, ◌+◌, ◌≤◌, ℤ, pos, List, [], ◌∷◌, map, filter, length, take, drop, slice_get, Option, Some, None, MatchOption, ◌<ℤ◌, refl, sym, ap, subst, ◌∙◌, arith}
+use Rattle.std.proofs.Common.{◌≡◌, ℕ, zero, suc, ◌+◌, ◌≤◌, ℤ, pos, List, [], ◌∷◌, map, filter}
+use Rattle.std.proofs.Common.{length, take, drop, slice_get, Option, Some, None, MatchOption, ◌<ℤ◌}
+use Rattle.std.proofs.Common.{refl, sym, ap, subst, ◌∙◌, arith}
 use Rattle.std.proofs.lemmas.List.Elements.{recursion_from_All}
 use Rattle.sqlite.specs.Effect.{Database}
 use Rattle.sqlite.specs.State.{State, HasCleanDisk, IsUnchanged}
@@ -27,14 +29,20 @@ pub no_items : {X : Type 0} (xs : List X) → length xs ≡ 0 → xs ≡ []
 no_items [] none = refl
 no_items (x ∷ xs) none = absurd (omega (arith, none))
 
-pub none_shown : (rows : List RecordRow) (records : List DataRecord) → rows ≡ [] → ShowFirst rows records
+pub none_shown : (rows : List RecordRow) (records : List DataRecord) → rows ≡ [] →
+    ShowFirst rows records
 none_shown rows records none = subst (λ (l : List RecordRow). ShowFirst l records) (sym none) refl
 
 -- a page shows as many records as it has rows
-pub page_shown : (rows : List RecordRow) (limit : ℕ) (records : List DataRecord) → map cells_of rows ≡ map record_cells (take limit records) → ShowFirst rows records
+pub page_shown : (rows : List RecordRow) (limit : ℕ) (records : List DataRecord) →
+    map cells_of rows ≡ map record_cells (take limit records) → ShowFirst rows records
 page_shown [] limit records e = refl
-page_shown (row ∷ rows) zero records e = absurd (let m : ◌≡◌ {A = ℕ} (suc (length (map cells_of rows))) 0 = ap length e in omega (arith, m))
-page_shown (row ∷ rows) (suc limit) [] e = absurd (let m : ◌≡◌ {A = ℕ} (suc (length (map cells_of rows))) 0 = ap length e in omega (arith, m))
+page_shown (row ∷ rows) zero records e =
+    absurd (let m : ◌≡◌ {A = ℕ} (suc (length (map cells_of rows))) 0 = ap length e in
+    omega (arith, m))
+page_shown (row ∷ rows) (suc limit) [] e =
+    absurd (let m : ◌≡◌ {A = ℕ} (suc (length (map cells_of rows))) 0 = ap length e in
+    omega (arith, m))
 page_shown (row ∷ rows) (suc limit) (x ∷ xs) e =
     let first : cells_of row ≡ record_cells x = cc in
     let rest : map cells_of rows ≡ map record_cells (take limit xs) = cc in
@@ -42,36 +50,53 @@ page_shown (row ∷ rows) (suc limit) (x ∷ xs) e =
     λ i. first i ∷ more i
 
 -- a page has a row where a record follows
-pub none_left : (xs : List DataRecord) (n limit : ℕ) (rows : List RecordRow) → n ≤ length xs → 1 ≤ limit → map cells_of rows ≡ map record_cells (take limit (drop n xs)) → rows ≡ [] → n ≡ length xs
+pub none_left : (xs : List DataRecord) (n limit : ℕ) (rows : List RecordRow) → n ≤ length xs →
+    1 ≤ limit → map cells_of rows ≡ map record_cells (take limit (drop n xs)) → rows ≡ [] →
+    n ≡ length xs
 none_left [] zero limit rows within some e none = refl
 none_left [] (suc n) limit rows within some e none = absurd (omega (arith, within))
 none_left (x ∷ xs) zero zero rows within some e none = absurd (omega (arith, some))
-none_left (x ∷ xs) zero (suc limit) [] within some e none = absurd (let m : ◌≡◌ {A = ℕ} 0 (suc (length (map record_cells (take limit xs)))) = ap length e in omega (arith, m))
-none_left (x ∷ xs) zero (suc limit) (row ∷ rows) within some e none = absurd (let m : ◌≡◌ {A = ℕ} (suc (length rows)) 0 = ap length none in omega (arith, m))
-none_left (x ∷ xs) (suc n) limit rows within some e none = ap suc (none_left xs n limit rows (omega (arith, within)) some e none)
+none_left (x ∷ xs) zero (suc limit) [] within some e none =
+    absurd (let m : ◌≡◌ {A = ℕ} 0 (suc (length (map record_cells (take limit xs)))) = ap length e in
+    omega (arith, m))
+none_left (x ∷ xs) zero (suc limit) (row ∷ rows) within some e none =
+    absurd (let m : ◌≡◌ {A = ℕ} (suc (length rows)) 0 = ap length none in omega (arith, m))
+none_left (x ∷ xs) (suc n) limit rows within some e none =
+    ap suc (none_left xs n limit rows (omega (arith, within)) some e none)
 
 -- the first row shows the next record, and the others those after it
-pub row_left : (xs : List DataRecord) (n : ℕ) (row : RecordRow) (rest : List RecordRow) → ShowFirst (row ∷ rest) (drop n xs) → (d : DataRecord) × (slice_get xs n ≡ Some d) × (cells_of row ≡ record_cells d) × ShowFirst rest (drop (suc n) xs)
-row_left [] zero row rest e = absurd (let m : ◌≡◌ {A = ℕ} (suc (length (map cells_of rest))) 0 = ap length e in omega (arith, m))
-row_left [] (suc n) row rest e = absurd (let m : ◌≡◌ {A = ℕ} (suc (length (map cells_of rest))) 0 = ap length e in omega (arith, m))
+pub row_left : (xs : List DataRecord) (n : ℕ) (row : RecordRow) (rest : List RecordRow) →
+    ShowFirst (row ∷ rest) (drop n xs) → (d : DataRecord) × (slice_get xs n ≡ Some d)
+    × (cells_of row ≡ record_cells d) × ShowFirst rest (drop (suc n) xs)
+row_left [] zero row rest e = absurd (let m : ◌≡◌ {A = ℕ} (suc (length (map cells_of rest))) 0 =
+    ap length e in omega (arith, m))
+row_left [] (suc n) row rest e = absurd (let m : ◌≡◌ {A = ℕ} (suc (length (map cells_of rest))) 0 =
+    ap length e in omega (arith, m))
 row_left (x ∷ xs) zero row rest e =
     let first : cells_of row ≡ record_cells x = cc in
     let others : map cells_of rest ≡ map record_cells (take (length rest) xs) = cc in
     (x, refl, first, others)
 row_left (x ∷ xs) (suc n) row rest e = row_left xs n row rest e
 
-pub place_within : (xs : List DataRecord) (n : ℕ) (r : DataRecord) → slice_get xs n ≡ Some r → n + 1 ≤ length xs
+pub place_within : (xs : List DataRecord) (n : ℕ) (r : DataRecord) → slice_get xs n ≡ Some r →
+    n + 1 ≤ length xs
 place_within [] n r e = absurd (let none : ◌≡◌ {A = Option DataRecord} None (Some r) = e in cc)
 place_within (x ∷ xs) zero r e = omega arith
 place_within (x ∷ xs) (suc n) r e = let more = place_within xs n r e in omega (arith, more)
 
-pub ready_behind : (cap : ℕ) (s : State) (id : ℤ) (after : Progress) → HasCleanDisk s → IsSomeWalk cap s (Some id) after → IsReady id s
+pub ready_behind : (cap : ℕ) (s : State) (id : ℤ) (after : Progress) → HasCleanDisk s →
+    IsSomeWalk cap s (Some id) after → IsReady id s
 ready_behind cap s id after clean somewhere =
     let it = somewhere clean in
-    record { schema = it.3.schema; rising = rows_rising s.now.trees cap it.0 id it.1 it.3.kept.stand it.3.kept.sound it.3.found }
+    record {
+      schema = it.3.schema;
+      rising =
+          rows_rising s.now.trees cap it.0 id it.1 it.3.kept.stand it.3.kept.sound it.3.found;
+    }
 
 -- what a first row that was read ahead tells
-pub record Next (k : Key) (records : List DataRecord) (n : ℕ) (row : RecordRow) (rest : List RecordRow) : Type 0 where
+pub record Next (k : Key) (records : List DataRecord) (n : ℕ) (row : RecordRow)
+    (rest : List RecordRow) : Type 0 where
   pub data_record : DataRecord
   pub place : slice_get records n ≡ Some data_record
   pub cells : cells_of row ≡ record_cells data_record
@@ -79,11 +104,15 @@ pub record Next (k : Key) (records : List DataRecord) (n : ℕ) (row : RecordRow
   pub sound : IsSoundRecord k data_record
 
 -- what is read of that row is the next record
-pub read_next : (k : Key) (records : List DataRecord) (n : ℕ) (row : RecordRow) (rest : List RecordRow) (r : DataRecord) → Next k records n row rest
-    → ((d : DataRecord) → IsSoundRecord k d → cells_of row ≡ record_cells d → r ≡ d) → slice_get records n ≡ Some r
-read_next k records n row rest r next read = next.place ∙ ap Some (sym (read next.data_record next.sound next.cells))
+pub read_next : (k : Key) (records : List DataRecord) (n : ℕ) (row : RecordRow)
+    (rest : List RecordRow) (r : DataRecord) → Next k records n row rest
+    → ((d : DataRecord) → IsSoundRecord k d → cells_of row ≡ record_cells d → r ≡ d) →
+    slice_get records n ≡ Some r
+read_next k records n row rest r next read = next.place
+    ∙ ap Some (sym (read next.data_record next.sound next.cells))
 
-module _ (cap : ℕ) (s : State) (id : ℤ) (after : Progress) (h : Holdings) (k : Key) (n : ℕ) (it : IsWalkAfter cap s (Some id) after h k n) where
+module _ (cap : ℕ) (s : State) (id : ℤ) (after : Progress) (h : Holdings) (k : Key) (n : ℕ)
+    (it : IsWalkAfter cap s (Some id) after h k n) where
   -- a statement that changes nothing leaves a walk where it is
   pub still_behind : (t : State) → IsUnchanged s t → IsWalkAfter cap t (Some id) after h k n
   still_behind t same = record {
@@ -101,9 +130,11 @@ module _ (cap : ℕ) (s : State) (id : ℤ) (after : Progress) (h : Holdings) (k
   }
 
   -- the rows of the next page show the records that come next
-  module _ (rows : List RecordRow) (shown : map cells_of rows ≡ map shown_record (take after.limit (filter (starts_after after.start) (records_of id (s.now.trees 2))))) where
+  module _ (rows : List RecordRow) (shown : map cells_of rows ≡ map shown_record
+      (take after.limit (filter (starts_after after.start) (records_of id (s.now.trees 2))))) where
     next_shown : map cells_of rows ≡ map record_cells (take after.limit (drop n (h k)))
-    next_shown = shown ∙ behind_shown s.now.trees h id k after.start after.limit it.kept.stand it.found ∙ ap (λ (l : List DataRecord). map record_cells (take after.limit l)) it.behind
+    next_shown = shown ∙ behind_shown s.now.trees h id k after.start after.limit it.kept.stand
+        it.found ∙ ap (λ (l : List DataRecord). map record_cells (take after.limit l)) it.behind
 
     pub page_next : ShowFirst rows (drop n (h k))
     page_next = page_shown rows after.limit (drop n (h k)) next_shown
@@ -111,20 +142,25 @@ module _ (cap : ℕ) (s : State) (id : ℤ) (after : Progress) (h : Holdings) (k
     pub none_next : rows ≡ [] → n ≡ length (h k)
     none_next none = none_left (h k) n after.limit rows it.within it.some next_shown none
 
-  pub record_next : (row : RecordRow) (rest : List RecordRow) → after.rows.items ≡ row ∷ rest → Next k (h k) n row rest
+  pub record_next : (row : RecordRow) (rest : List RecordRow) → after.rows.items ≡ row ∷ rest →
+      Next k (h k) n row rest
   record_next row rest e =
-      let found = row_left (h k) n row rest (subst (λ (l : List RecordRow). ShowFirst l (drop n (h k))) e it.ahead) in
+      let found = row_left (h k) n row rest
+      (subst (λ (l : List RecordRow). ShowFirst l (drop n (h k))) e it.ahead) in
       record {
         data_record = found.0;
         place = found.1;
         cells = found.2;
         others = found.3;
-        sound = all_place (IsSoundRecord k) (h k) (recursion_from_All (IsSoundRecord k) (h k) (it.kept.sound.records k)) n found.0 found.1;
+        sound = all_place (IsSoundRecord k) (h k)
+            (recursion_from_All (IsSoundRecord k) (h k) (it.kept.sound.records k)) n found.0
+            found.1;
       }
 
   -- the walk with other rows that were read ahead
   module _ (next : Progress) (limit : next.limit ≡ after.limit) where
-    pub page_behind : next.start ≡ after.start → ShowFirst next.rows.items (drop n (h k)) → IsWalkAfter cap s (Some id) next h k n
+    pub page_behind : next.start ≡ after.start → ShowFirst next.rows.items (drop n (h k)) →
+        IsWalkAfter cap s (Some id) next h k n
     page_behind start ahead = record {
       is_open = it.is_open;
       idle = it.idle;
@@ -135,11 +171,13 @@ module _ (cap : ℕ) (s : State) (id : ℤ) (after : Progress) (h : Holdings) (k
       found = it.found;
       within = it.within;
       some = omega (arith, it.some, limit);
-      behind = subst (λ (z : ℤ). filter (starts_later z) (h k) ≡ drop n (h k)) (sym start) it.behind;
+      behind = subst (λ (z : ℤ). filter (starts_later z) (h k) ≡ drop n (h k)) (sym start)
+          it.behind;
       ahead = ahead;
     }
 
-    pub ended_behind : next.start ≡ after.start → next.rows.items ≡ [] → n ≡ length (h k) → IsWalkAfter cap s None next h k n
+    pub ended_behind : next.start ≡ after.start → next.rows.items ≡ [] → n ≡ length (h k) →
+        IsWalkAfter cap s None next h k n
     ended_behind start none all = record {
       is_open = it.is_open;
       idle = it.idle;
@@ -150,11 +188,14 @@ module _ (cap : ℕ) (s : State) (id : ℤ) (after : Progress) (h : Holdings) (k
       found = all;
       within = it.within;
       some = omega (arith, it.some, limit);
-      behind = subst (λ (z : ℤ). filter (starts_later z) (h k) ≡ drop n (h k)) (sym start) it.behind;
+      behind = subst (λ (z : ℤ). filter (starts_later z) (h k) ≡ drop n (h k)) (sym start)
+          it.behind;
       ahead = none_shown next.rows.items (drop n (h k)) none;
     }
 
-    pub then_behind : (r : DataRecord) → slice_get (h k) n ≡ Some r → next.start ≡ pos r.start → ShowFirst next.rows.items (drop (suc n) (h k)) → IsWalkAfter cap s (Some id) next h k (n + 1)
+    pub then_behind : (r : DataRecord) → slice_get (h k) n ≡ Some r → next.start ≡ pos r.start →
+        ShowFirst next.rows.items (drop (suc n) (h k)) →
+        IsWalkAfter cap s (Some id) next h k (n + 1)
     then_behind r place start others = record {
       is_open = it.is_open;
       idle = it.idle;
@@ -166,7 +207,8 @@ module _ (cap : ℕ) (s : State) (id : ℤ) (after : Progress) (h : Holdings) (k
       within = place_within (h k) n r place;
       some = omega (arith, it.some, limit);
       behind = subst (λ (z : ℤ). filter (starts_later z) (h k) ≡ drop (n + 1) (h k)) (sym start)
-          (behind_place 0 (h k) (it.kept.sound.rising k) n r place ∙ ap (λ m. drop m (h k)) (suc_is n));
+          (behind_place 0 (h k) (it.kept.sound.rising k) n r place
+          ∙ ap (λ m. drop m (h k)) (suc_is n));
       ahead = subst (λ (m : ℕ). ShowFirst next.rows.items (drop m (h k))) (suc_is n) others;
     }
       where
@@ -174,7 +216,9 @@ module _ (cap : ℕ) (s : State) (id : ℤ) (after : Progress) (h : Holdings) (k
         suc_is n = omega arith
 
 -- where a walk begins
-pub at_start : (cap : ℕ) (s : State) (id : Option ℤ) (after : Progress) (h : Holdings) (k : Key) → after.start <ℤ pos 0 → 1 ≤ after.limit → after.rows.items ≡ [] → IsSettled cap s → AreKept cap s.now.trees h → IsKey k → IsFoundIn s k h id
+pub at_start : (cap : ℕ) (s : State) (id : Option ℤ) (after : Progress) (h : Holdings) (k : Key) →
+    after.start <ℤ pos 0 → 1 ≤ after.limit → after.rows.items ≡ [] → IsSettled cap s →
+    AreKept cap s.now.trees h → IsKey k → IsFoundIn s k h id
     → IsWalkAfter cap s id after h k 0
 at_start cap s id after h k low some none it kept key found = record {
   is_open = it.is_open;
@@ -190,6 +234,7 @@ at_start cap s id after h k low some none it kept key found = record {
   ahead = none_shown after.rows.items (h k) none;
 }
   where
-    go : (id : Option ℤ) → IsFoundIn s k h id → MatchOption id (0 ≡ length (h k)) (λ m. IsThere s.now.trees m k)
+    go : (id : Option ℤ) → IsFoundIn s k h id →
+        MatchOption id (0 ≡ length (h k)) (λ m. IsThere s.now.trees m k)
     go None none = sym (ap length none)
     go (Some m) there = there

@@ -15,7 +15,8 @@ pub record StoreModel (S : Type 0) : Type 0 where
   pub cap : ℕ
 
 abbrev pub store_model_code : {S : Type 0} → Coded S → Coded (StoreModel S)
-store_model_code {S} store = code_by (Held S × ℕ) (coded× (held_code store) coded_ℕ) (λ k. (k.connection, k.cap)) (λ p. record { connection = p.0; cap = p.1 }) (λ _. refl)
+store_model_code {S} store = code_by (Held S × ℕ) (coded× (held_code store) coded_ℕ)
+    (λ k. (k.connection, k.cap)) (λ p. record { connection = p.0; cap = p.1 }) (λ _. refl)
 
 -- what the connection shows
 abbrev pub at : {S : Type 0} → Ghosts S → StoreModel S → State
@@ -34,14 +35,16 @@ pub record IsSoundStore (cap : ℕ) (s : State) : Type 0 where
   pub cap_from : 1 ≤ cap
   pub cap_to : cap ≤ 99_999_999
   pub schema : HasCleanDisk s → IsTrue s.is_open → HasBoth s.committed.schema
-  pub holdings : HasCleanDisk s → IsTrue s.is_open → (h : Holdings) × AreKept cap s.committed.trees h
+  pub holdings : HasCleanDisk s → IsTrue s.is_open → (h : Holdings)
+      × AreKept cap s.committed.trees h
 
 -- what is committed beside our two tables is as it was, where the connection is still open after
 -- the call; what a crash in the call may leave has it too
 pub record KeepsCommittedOthers (old new : State) : Type 0 where
   pub was_open : HasCleanDisk new → IsTrue new.is_open → IsTrue old.is_open
   pub others : HasCleanDisk new → IsTrue new.is_open → KeepsOthers old.committed new.committed
-  pub crash : Survives old new (λ rows. IsTrue old.is_open × KeepsTrees old.committed.schema old.committed.trees rows)
+  pub crash : Survives old new (λ rows. IsTrue old.is_open
+      × KeepsTrees old.committed.schema old.committed.trees rows)
 
 -- a call leaves the holdings as they are, and what is beside them; a crash in it leaves nothing but
 -- what it could leave before

@@ -20,7 +20,8 @@ start_at records place = option_map (λ (r : DataRecord). r.start) (slice_get re
 abbrev pub IsSummary : List DataRecord → Option Summary → Type 0
 IsSummary records None = records ≡ []
 IsSummary records (Some summary) =
-    (summary.records ≡ length records) × (start_at records 0 ≡ Some summary.first) × (start_at (reverse records) 0 ≡ Some summary.last)
+    (summary.records ≡ length records) × (start_at records 0 ≡ Some summary.first)
+    × (start_at (reverse records) 0 ≡ Some summary.last)
 
 abbrev pub IsSummaryOf : {S : Type 0} → Ghosts S → StoreModel S → Key → Option Summary → Type 0
 IsSummaryOf g store k summary = (h : Holdings) → Holds g store h → IsSummary (h k) summary

@@ -14,25 +14,30 @@ use Rattle.edf_store.specs.declared.fault.StoreFault.TheVariants.{Foreign}
 
 -- the store has the rows that were there, which stand for holdings, and no transaction is open; a
 -- crash leaves missing tables made, and the rows as they were
-pub record IsOpened {S : Type 0} (g : Ghosts S) (conn : Held S) (store : StoreModel S) : Type 0 where
-  pub is_open : HasCleanDisk (at g store) → IsTrue (at g store).is_open
-  pub idle : HasCleanDisk (at g store) → (at g store).in_transaction ≡ false
-  pub tables : HasCleanDisk (at g store) → HasTables (state g conn).now (at g store).committed
-  pub holdings : HasCleanDisk (at g store) → (h : Holdings) × AreKept store.cap (at g store).committed.trees h
-  pub own : HasCleanDisk (at g store) → ¬ IsForeignFile store.cap (state g conn).now
-  pub crash : Survives (state g conn) (at g store) (IsMadeOf (state g conn).now)
+pub record IsOpened {S : Type 0} (g : Ghosts S) (conn : Held S) (store : StoreModel S) : Type 0
+  where
+    pub is_open : HasCleanDisk (at g store) → IsTrue (at g store).is_open
+    pub idle : HasCleanDisk (at g store) → (at g store).in_transaction ≡ false
+    pub tables : HasCleanDisk (at g store) → HasTables (state g conn).now (at g store).committed
+    pub holdings : HasCleanDisk (at g store) → (h : Holdings)
+        × AreKept store.cap (at g store).committed.trees h
+    pub own : HasCleanDisk (at g store) → ¬ IsForeignFile store.cap (state g conn).now
+    pub crash : Survives (state g conn) (at g store) (IsMadeOf (state g conn).now)
 
 -- the connection is given up somewhere. Where its disk is clean there, its rows are as they were,
 -- whatever the refusal is; E45 tells that the file was foreign, and tables of ours are made where
 -- they were missing; a crash leaves the same as above
-pub record IsGivenUp {S : Type 0} (g : Ghosts S) (conn : Held S) (cap : ℕ) (fault : StoreFault) : Type 0 where
+pub record IsGivenUp {S : Type 0} (g : Ghosts S) (conn : Held S) (cap : ℕ)
+    (fault : StoreFault) : Type 0 where
   pub end : Held S
   pub told : (fault ≡ Foreign) ⊎ IsStoreRefusal fault
   pub foreign : fault ≡ Foreign → HasCleanDisk (state g end) → IsForeignFile cap (state g conn).now
-  pub tables : fault ≡ Foreign → IsOurs (state g conn).now → HasCleanDisk (state g end) → HasTables (state g conn).now (state g end).now
+  pub tables : fault ≡ Foreign → IsOurs (state g conn).now → HasCleanDisk (state g end) →
+      HasTables (state g conn).now (state g end).now
   pub stays : HasCleanDisk (state g end) → KeepsFile (state g conn) (state g end)
   pub crash : Survives (state g conn) (state g end) (IsMadeOf (state g conn).now)
 
 -- the disk is clean wherever the opening may come from here, as that of a store in memory always is
 abbrev pub StaysClean : {S : Type 0} → Ghosts S → Held S → Type 0
-StaysClean {S} g conn = (end : Held S) → Survives (state g conn) (state g end) (IsMadeOf (state g conn).now) → HasCleanDisk (state g end)
+StaysClean {S} g conn = (end : Held S) →
+    Survives (state g conn) (state g end) (IsMadeOf (state g conn).now) → HasCleanDisk (state g end)

@@ -1,5 +1,6 @@
 -- What a transaction sees.
-use Rattle.std.specs.Prelude.{◌≡◌, ◌≢◌, ◌⊎◌, ℕ, ℤ, Bool, ◌+◌, ◌<◌, ◌≤◌, nat_le, List, [], ◌∷◌, length, map, All, Contains, Option, Some, None, IsTrue}
+use Rattle.std.specs.Prelude.{◌≡◌, ◌≢◌, ◌⊎◌, ℕ, ℤ, Bool, ◌+◌, ◌<◌, ◌≤◌, nat_le, List, [], ◌∷◌}
+use Rattle.std.specs.Prelude.{length, map, All, Contains, Option, Some, None, IsTrue}
 use Rattle.sqlite_trees.specs.declared.store.Store.{Ghosts}
 use Rattle.sqlite_trees.specs.Tree.{Trees}
 use Rattle.sqlite.specs.State.{State, HasCleanDisk}
@@ -42,32 +43,39 @@ pub record SeesOn (cap : ℕ) (old new : State) : Type 0 where
 
 -- no recording is made
 abbrev pub MakesNone : State → State → Type 0
-MakesNone old new = HasCleanDisk new → (id : ℤ) (k : Key) → IsThere new.now.trees id k → IsThere old.now.trees id k
+MakesNone old new = HasCleanDisk new → (id : ℤ) (k : Key) → IsThere new.now.trees id k →
+    IsThere old.now.trees id k
 
 -- no recording but this one is made
 abbrev pub MakesOnly : Key → State → State → Type 0
-MakesOnly made old new = HasCleanDisk new → (id : ℤ) (k : Key) → IsThere new.now.trees id k → IsThere old.now.trees id k ⊎ (k ≡ made)
+MakesOnly made old new = HasCleanDisk new → (id : ℤ) (k : Key) → IsThere new.now.trees id k →
+    IsThere old.now.trees id k ⊎ (k ≡ made)
 
 -- these are the records of the recording that lie near the start
 abbrev pub AreNearIn : ℕ → State → ℤ → ℕ → List DataRecord → Type 0
-AreNearIn cap s id start records = (h : Holdings) (k : Key) → AreSeen cap s h → IsUnder s id k → records ≡ near_of (duration_of k.duration) start (h k)
+AreNearIn cap s id start records = (h : Holdings) (k : Key) → AreSeen cap s h → IsUnder s id k →
+    records ≡ near_of (duration_of k.duration) start (h k)
 
 -- of the records' starts, the earliest that is `from` or later; none where there is no such start
 abbrev pub IsNextStart : ℕ → List DataRecord → Option ℕ → Type 0
 IsNextStart from records None = All (λ r. r.start < from) records
-IsNextStart from records (Some start) = (from ≤ start) × Contains (map (λ r. r.start) records) start × All (λ r. r.start < from ⊎ start ≤ r.start) records
+IsNextStart from records (Some start) = (from ≤ start) × Contains (map (λ r. r.start) records) start
+    × All (λ r. r.start < from ⊎ start ≤ r.start) records
 
 -- the same, of the recording's records
 abbrev pub IsNextStartIn : ℕ → State → ℤ → ℕ → Option ℕ → Type 0
-IsNextStartIn cap s id from answer = (h : Holdings) (k : Key) → AreSeen cap s h → IsUnder s id k → IsNextStart from (h k) answer
+IsNextStartIn cap s id from answer = (h : Holdings) (k : Key) → AreSeen cap s h → IsUnder s id k →
+    IsNextStart from (h k) answer
 
 -- the recording has `count` records
 abbrev pub IsCountIn : ℕ → State → ℤ → ℕ → Type 0
-IsCountIn cap s id count = (h : Holdings) (k : Key) → AreSeen cap s h → IsUnder s id k → count ≡ length (h k)
+IsCountIn cap s id count = (h : Holdings) (k : Key) → AreSeen cap s h → IsUnder s id k →
+    count ≡ length (h k)
 
 -- the answer tells whether the recording with `more` more has at most the cap
 abbrev pub TellsRoomIn : ℕ → State → ℤ → ℕ → Bool → Type 0
-TellsRoomIn cap s id more answer = (h : Holdings) (k : Key) → AreSeen cap s h → IsUnder s id k → answer ≡ nat_le (length (h k) + more) cap
+TellsRoomIn cap s id more answer = (h : Holdings) (k : Key) → AreSeen cap s h → IsUnder s id k →
+    answer ≡ nat_le (length (h k) + more) cap
 
 -- there is a place for the record: none is near it, there are fewer than the cap, and where the
 -- recording holds none, it may start with the record (one that holds some has a date or began
@@ -87,12 +95,14 @@ pub record MayTakeIn (cap : ℕ) (s : State) (id : ℤ) (r : DataRecord) : Type 
 -- the recording has the record beside those that it had, and all else is as it was
 pub record IsAddedIn (cap : ℕ) (old new : State) (id : ℤ) (r : DataRecord) : Type 0 where
   pub running : SeesSome cap new
-  pub holdings : (h : Holdings) (k : Key) → AreSeen cap old h → IsUnder old id k → AreSeen cap new (put k (r ∷ []) h)
+  pub holdings : (h : Holdings) (k : Key) → AreSeen cap old h → IsUnder old id k →
+      AreSeen cap new (put k (r ∷ []) h)
   pub ids : (id : ℤ) (k : Key) → IsUnder old id k → IsUnder new id k
 
 -- each recording holds a record
 abbrev pub EachHasRecordIn : ℕ → State → Type 0
-EachHasRecordIn cap s = HasCleanDisk s → (h : Holdings) (id : ℤ) (k : Key) → AreSeen cap s h → IsUnder s id k → h k ≢ []
+EachHasRecordIn cap s = HasCleanDisk s → (h : Holdings) (id : ℤ) (k : Key) → AreSeen cap s h →
+    IsUnder s id k → h k ≢ []
 
 -- these rows are what a commit would leave
 abbrev pub AreSeenRows : ℕ → State → Trees → Type 0

@@ -1,5 +1,6 @@
 -- How far a walk over the records of a recording has come.
-use Rattle.std.specs.Prelude.{◌≡◌, ℕ, ◌+◌, ◌≤◌, ℤ, pos, Bool, false, List, length, map, take, drop, filter, slice_get, Option, Some, None, IsTrue, MatchOption}
+use Rattle.std.specs.Prelude.{◌≡◌, ℕ, ◌+◌, ◌≤◌, ℤ, pos, Bool, false, List, length, map, take, drop}
+use Rattle.std.specs.Prelude.{filter, slice_get, Option, Some, None, IsTrue, MatchOption}
 use Rattle.std.specs.Ordering.{int_cmp, is_gt}
 use Rattle.sqlite_trees.specs.declared.store.Store.{Ghosts}
 use Rattle.sqlite.specs.State.{State, HasCleanDisk}
@@ -19,7 +20,8 @@ starts_later after r = is_gt (int_cmp (pos r.start) after)
 -- no transaction is open, and the recording is the key's in these holdings. The first n of its
 -- records are given; those that start after `after.start`, which is -1 before the first, come next,
 -- and the rows that were read ahead show the first of them. Without a recording none is left
-pub record IsWalkAfter (cap : ℕ) (s : State) (recording : Option ℤ) (after : Progress) (h : Holdings) (k : Key) (n : ℕ) : Type 0 where
+pub record IsWalkAfter (cap : ℕ) (s : State) (recording : Option ℤ) (after : Progress)
+    (h : Holdings) (k : Key) (n : ℕ) : Type 0 where
   pub is_open : IsTrue s.is_open
   pub idle : s.in_transaction ≡ false
   pub settled : s.now ≡ s.committed
@@ -30,14 +32,16 @@ pub record IsWalkAfter (cap : ℕ) (s : State) (recording : Option ℤ) (after :
   pub within : n ≤ length (h k)
   pub some : 1 ≤ after.limit
   pub behind : filter (starts_later after.start) (h k) ≡ drop n (h k)
-  pub ahead : map cells_of after.rows.items ≡ map record_cells (take (length after.rows.items) (drop n (h k)))
+  pub ahead : map cells_of after.rows.items ≡ map record_cells
+      (take (length after.rows.items) (drop n (h k)))
 
 abbrev pub HasGivenFirst : ℕ → State → Option ℤ → Progress → Holdings → Key → ℕ → Type 0
 HasGivenFirst cap s recording after h k n = HasCleanDisk s → IsWalkAfter cap s recording after h k n
 
 -- the walk has given the first records of some key
 abbrev pub IsSomeWalk : ℕ → State → Option ℤ → Progress → Type 0
-IsSomeWalk cap s recording after = HasCleanDisk s → (h : Holdings) × (k : Key) × (n : ℕ) × IsWalkAfter cap s recording after h k n
+IsSomeWalk cap s recording after = HasCleanDisk s → (h : Holdings) × (k : Key) × (n : ℕ)
+    × IsWalkAfter cap s recording after h k n
 
 module _ {S : Type 0} (g : Ghosts S) where
   -- the walk gave the first n records of the key, and the others come next

@@ -1,5 +1,6 @@
 -- What one row more makes of the sorted rows, in the words of the statements.
-use Rattle.std.proofs.Common.{◌≡◌, ℕ, ℤ, true, false, List, [], ◌∷◌, filter, refl, sym, ap, ◌∙◌, Ordering, Less, Equal, Greater, is_eq, true≢false}
+use Rattle.std.proofs.Common.{◌≡◌, ℕ, ℤ, true, false, List, [], ◌∷◌, filter, refl, sym, ap, ◌∙◌}
+use Rattle.std.proofs.Common.{Ordering, Less, Equal, Greater, is_eq, true≢false}
 use Rattle.std.specs.List.{AllByRecursion}
 use Rattle.std.specs.Ordering.{int_cmp, ordering_reverse}
 use Rattle.std.proofs.lemmas.Cmp.{tied_itself}
@@ -26,26 +27,37 @@ use Rattle.edf_tables.proofs.Steps.{add_is_step, add_elsewhere, put_passing}
 abbrev pub AreOthers : ℕ → Row → List Row → Type 0
 AreOthers at new = AllByRecursion (λ r. is_eq (by_column at r new) ≡ false)
 
-of_itself : (n start : ℤ) (samples block : List ℕ) (rows : List Row) → is_of n (new_row rows (cells n start samples block)) ≡ true
+of_itself : (n start : ℤ) (samples block : List ℕ) (rows : List Row) →
+    is_of n (new_row rows (cells n start samples block)) ≡ true
 of_itself n start samples block rows = ap is_eq (tied_itself value_cmp_total (Int n))
 
-of_another : (m n start : ℤ) (samples block : List ℕ) (rows : List Row) → is_eq (int_cmp n m) ≡ false → is_of m (new_row rows (cells n start samples block)) ≡ false
+of_another : (m n start : ℤ) (samples block : List ℕ) (rows : List Row) →
+    is_eq (int_cmp n m) ≡ false → is_of m (new_row rows (cells n start samples block)) ≡ false
 of_another m n start samples block rows h = ap is_eq (value_cmp-Int n m) ∙ h
 
 -- the recording has the record in its place
-pub own_records : (old new : State) (n start : ℤ) (samples block : List ℕ) → HasRecord old new (cells n start samples block) → AreOthers 2 (new_row (old.now.trees 2) (cells n start samples block)) (records_of n (old.now.trees 2))
-    → records_of n (new.now.trees 2) ≡ insert_sorted (by_column 2) (new_row (old.now.trees 2) (cells n start samples block)) (records_of n (old.now.trees 2))
+pub own_records : (old new : State) (n start : ℤ) (samples block : List ℕ) →
+    HasRecord old new (cells n start samples block) →
+    AreOthers 2 (new_row (old.now.trees 2) (cells n start samples block))
+    (records_of n (old.now.trees 2))
+    → records_of n (new.now.trees 2) ≡ insert_sorted (by_column 2)
+    (new_row (old.now.trees 2) (cells n start samples block)) (records_of n (old.now.trees 2))
 own_records old new n start samples block h others =
     let rows = old.now.trees 2 in
     let row = new_row rows (cells n start samples block) in
-    let kept = all-permutation (λ r. is_eq (by_column 2 r row) ≡ false) _ _ (IsPermutation-sort_by (by_column 2) (column_total 2) (filter (is_of n) rows)) others in
-    ap (records_of n) h.records ∙ add_is_step n row rows (of_itself n start samples block rows) h.fresh (all_kept (λ r. is_eq (by_column 2 r row) ≡ false) (is_of n) rows kept)
+    let kept = all-permutation (λ r. is_eq (by_column 2 r row) ≡ false) _ _
+    (IsPermutation-sort_by (by_column 2) (column_total 2) (filter (is_of n) rows)) others in
+    ap (records_of n) h.records ∙ add_is_step n row rows (of_itself n start samples block rows)
+    h.fresh (all_kept (λ r. is_eq (by_column 2 r row) ≡ false) (is_of n) rows kept)
 
 -- and every other recording has what it had
-pub other_records : (old new : State) (m n start : ℤ) (samples block : List ℕ) → HasRecord old new (cells n start samples block) → is_eq (int_cmp n m) ≡ false → records_of m (new.now.trees 2) ≡ records_of m (old.now.trees 2)
+pub other_records : (old new : State) (m n start : ℤ) (samples block : List ℕ) →
+    HasRecord old new (cells n start samples block) → is_eq (int_cmp n m) ≡ false →
+    records_of m (new.now.trees 2) ≡ records_of m (old.now.trees 2)
 other_records old new m n start samples block h apart =
     let rows = old.now.trees 2 in
-    ap (records_of m) h.records ∙ add_elsewhere m (new_row rows (cells n start samples block)) rows (of_another m n start samples block rows apart) h.fresh
+    ap (records_of m) h.records ∙ add_elsewhere m (new_row rows (cells n start samples block)) rows
+    (of_another m n start samples block rows apart) h.fresh
 
 pub record_inside : (old new : State) (row : Row) → HasRecord old new row → IsInside new
 record_inside old new row h = record { schema = h.schema; mode = h.shown.mode }
@@ -60,23 +72,49 @@ pub recording_keeps : (old new : State) (row : Row) → HasRecording old new row
 recording_keeps old new row h = shows_keeps old new new.now true h.shown
 
 -- a recording more, in its place
-pub more_recordings : (old new : State) (identity : List ℕ) → HasRecording old new (named_cells identity) → AreOthers 2 (new_row (old.now.trees 0) (named_cells identity)) (by_identity (old.now.trees 0))
-    → by_identity (new.now.trees 0) ≡ insert_sorted (by_column 2) (new_row (old.now.trees 0) (named_cells identity)) (by_identity (old.now.trees 0))
+pub more_recordings : (old new : State) (identity : List ℕ) →
+    HasRecording old new (named_cells identity) →
+    AreOthers 2 (new_row (old.now.trees 0) (named_cells identity)) (by_identity (old.now.trees 0))
+    → by_identity (new.now.trees 0) ≡ insert_sorted (by_column 2)
+    (new_row (old.now.trees 0) (named_cells identity)) (by_identity (old.now.trees 0))
 more_recordings old new identity h others =
     let rows = old.now.trees 0 in
     let row = new_row rows (named_cells identity) in
-    let kept = all-permutation (λ r. is_eq (by_column 2 r row) ≡ false) _ _ (IsPermutation-sort_by (by_column 2) (column_total 2) rows) others in
+    let kept = all-permutation (λ r. is_eq (by_column 2 r row) ≡ false) _ _
+    (IsPermutation-sort_by (by_column 2) (column_total 2) rows) others in
     let fresh = none_from_any (λ r. is_eq (value_cmp (rowid r) (rowid row))) rows h.fresh in
     ap by_identity h.recordings ∙ ap by_identity (sym (filter_true (put_row row rows)))
-    ∙ put_passing (by_column 2) (column_total 2) (λ _. true) row rows refl fresh (all_weaker _ (λ r. true ≡ true → is_eq (by_column 2 r row) ≡ false) (λ r apart _. apart) rows kept)
+    ∙ put_passing (by_column 2) (column_total 2) (λ _. true) row rows refl fresh
+    (all_weaker _ (λ r. true ≡ true → is_eq (by_column 2 r row) ≡ false) (λ r apart _. apart)
+    rows kept)
     ∙ ap (λ l. insert_sorted (by_column 2) row (by_identity l)) (filter_true rows)
 
 -- a list that rises still does with one more in its place
-pub rising_more : (at : ℕ) (new : Row) (rows : List Row) → AreOthers at new rows → IsAscending (λ a b. by_column at a b ≡ Less) rows → IsAscending (λ a b. by_column at a b ≡ Less) (insert_sorted (by_column at) new rows)
+pub rising_more : (at : ℕ) (new : Row) (rows : List Row) → AreOthers at new rows →
+    IsAscending (λ a b. by_column at a b ≡ Less) rows →
+    IsAscending (λ a b. by_column at a b ≡ Less) (insert_sorted (by_column at) new rows)
 rising_more at new [] others up = (tt, tt)
-rising_more at new (x ∷ xs) others up = go (by_column at new x) refl (rising_more at new xs others.1 up.1)
+rising_more at new (x ∷ xs) others up =
+    go (by_column at new x) refl (rising_more at new xs others.1 up.1)
   where
-    go : (o : Ordering) → by_column at new x ≡ o → IsAscending (λ a b. by_column at a b ≡ Less) (insert_sorted (by_column at) new xs) → IsAscending (λ a b. by_column at a b ≡ Less) (insert_sorted (by_column at) new (x ∷ xs))
-    go Less e more = rw e ((e, all_weaker _ (λ y. by_column at new y ≡ Less) (λ y. (column_total at).trans new x y e) xs up.0), up)
-    go Equal e more = absurd (true≢false (sym (ap is_eq ((column_total at).antisymm x new ∙ ap ordering_reverse e)) ∙ others.0))
-    go Greater e more = rw e (all_insert (by_column at) (column_total at) (λ y. by_column at x y ≡ Less) new xs ((column_total at).antisymm x new ∙ ap ordering_reverse e) up.0, more)
+    go : (o : Ordering) → by_column at new x ≡ o →
+        IsAscending (λ a b. by_column at a b ≡ Less) (insert_sorted (by_column at) new xs) →
+        IsAscending (λ a b. by_column at a b ≡ Less) (insert_sorted (by_column at) new (x ∷ xs))
+    go Less e more =
+        rw e (
+          (
+            e,
+            all_weaker _ (λ y. by_column at new y ≡ Less)
+                (λ y. (column_total at).trans new x y e) xs up.0,
+          ),
+          up,
+        )
+    go Equal e more =
+        absurd (true≢false (sym (ap is_eq ((column_total at).antisymm x new
+        ∙ ap ordering_reverse e)) ∙ others.0))
+    go Greater e more =
+        rw e (
+          all_insert (by_column at) (column_total at) (λ y. by_column at x y ≡ Less) new xs
+              ((column_total at).antisymm x new ∙ ap ordering_reverse e) up.0,
+          more,
+        )

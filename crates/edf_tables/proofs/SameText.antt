@@ -8,20 +8,33 @@ use Rattle.sqlite.specs.Listing.{understood}
 use Rattle.sqlite.specs.State.{State, Executes, Survives, CommitsBy, Shown, FailsToQuery}
 use Rattle.sqlite.proofs.Callers.{IsPlain}
 
-pub plain_of : (schema : Schema) (mine its : List ℕ) → IsPlain (understood schema mine) → mine ≡ its → IsPlain (understood schema its)
+pub plain_of : (schema : Schema) (mine its : List ℕ) → IsPlain (understood schema mine) →
+    mine ≡ its → IsPlain (understood schema its)
 plain_of schema mine its h same = subst (λ (t : List ℕ). IsPlain (understood schema t)) same h
 
-pub shown_of : (its mine : List ℕ) (params : Row) (old new : State) (rows : List Row) → Shown its params old new rows → its ≡ mine → Shown mine params old new rows
-shown_of its mine params old new rows h same = subst (λ (t : List ℕ). Shown t params old new rows) same h
+pub shown_of : (its mine : List ℕ) (params : Row) (old new : State) (rows : List Row) →
+    Shown its params old new rows → its ≡ mine → Shown mine params old new rows
+shown_of its mine params old new rows h same =
+    subst (λ (t : List ℕ). Shown t params old new rows) same h
 
-pub unread_of : (its mine : List ℕ) (params : Row) (old new : State) (e : Error) → FailsToQuery its params old new e → its ≡ mine → FailsToQuery mine params old new e
-unread_of its mine params old new e h same = subst (λ (t : List ℕ). FailsToQuery t params old new e) same h
+pub unread_of : (its mine : List ℕ) (params : Row) (old new : State) (e : Error) →
+    FailsToQuery its params old new e → its ≡ mine → FailsToQuery mine params old new e
+unread_of its mine params old new e h same =
+    subst (λ (t : List ℕ). FailsToQuery t params old new e) same h
 
-pub if_unread_of : {A : Type 0} (its mine : List ℕ) (params : Row) (old new : State) (r : Result A Error) → IfErr r (FailsToQuery its params old new) → its ≡ mine → IfErr r (FailsToQuery mine params old new)
-if_unread_of its mine params old new r h same = subst (λ (t : List ℕ). IfErr r (FailsToQuery t params old new)) same h
+pub if_unread_of : {A : Type 0} (its mine : List ℕ) (params : Row) (old new : State)
+    (r : Result A Error) → IfErr r (FailsToQuery its params old new) → its ≡ mine →
+    IfErr r (FailsToQuery mine params old new)
+if_unread_of its mine params old new r h same =
+    subst (λ (t : List ℕ). IfErr r (FailsToQuery t params old new)) same h
 
-pub runs_of : (its mine : List ℕ) (params : Row) (old new : State) (r : Result ℕ Error) → Executes its params old new r → its ≡ mine → Executes mine params old new r
-runs_of its mine params old new r h same = subst (λ (t : List ℕ). Executes t params old new r) same h
+pub runs_of : (its mine : List ℕ) (params : Row) (old new : State) (r : Result ℕ Error) →
+    Executes its params old new r → its ≡ mine → Executes mine params old new r
+runs_of its mine params old new r h same =
+    subst (λ (t : List ℕ). Executes t params old new r) same h
 
-pub crash_of : (its mine : List ℕ) (params : Row) (old new : State) → Survives old new (CommitsBy its params old) → its ≡ mine → Survives old new (CommitsBy mine params old)
-crash_of its mine params old new h same = subst (λ (t : List ℕ). Survives old new (CommitsBy t params old)) same h
+pub crash_of : (its mine : List ℕ) (params : Row) (old new : State) →
+    Survives old new (CommitsBy its params old) → its ≡ mine →
+    Survives old new (CommitsBy mine params old)
+crash_of its mine params old new h same =
+    subst (λ (t : List ℕ). Survives old new (CommitsBy t params old)) same h

@@ -1,5 +1,8 @@
 -- Why a row is not added, and why a table is not made.
-use Rattle.std.proofs.Common.{ap, cond, ◌≡◌, ◌⊎◌, ◌+◌, ◌*◌, ◌^◌, ◌<◌, ◌≤◌, pos, negsuc, zero, suc, ◌&&◌, ◌||◌, inl, inr, ℕ, ℤ, List, [], ◌∷◌, true, false, Option, Some, None, IsSome, Result, Ok, Err, IfErr, IsTrue, All, length, slice_get, refl, sym, subst, ◌∙◌, arith, true≢false}
+use Rattle.std.proofs.Common.{ap, cond, ◌≡◌, ◌⊎◌, ◌+◌, ◌*◌, ◌^◌, ◌<◌, ◌≤◌, pos, negsuc, zero, suc}
+use Rattle.std.proofs.Common.{◌&&◌, ◌||◌, inl, inr, ℕ, ℤ, List, [], ◌∷◌, true, false, Option, Some}
+use Rattle.std.proofs.Common.{None, IsSome, Result, Ok, Err, IfErr, IsTrue, All, length, slice_get}
+use Rattle.std.proofs.Common.{refl, sym, subst, ◌∙◌, arith, true≢false}
 use Rattle.std.proofs.lemmas.Bool.{cases_Bool, cases_lt}
 use Rattle.std.proofs.lemmas.List.{length-append}
 use Rattle.std.proofs.lemmas.List.Elements.{All-from_recursion, recursion_from_All}
@@ -48,45 +51,74 @@ use Rattle.sqlite.specs.Does.{Does, MakesTable, OnRows, lacks_sequence, sequence
 use Rattle.sqlite.specs.Effect.{is_query, Database, edit_error, alter_error, value_rows}
 use Rattle.sqlite.specs.Listing.{understood}
 use Rattle.sqlite.specs.Rows.{Written, Sourced, Edited, stamped, rowids_for, count_of}
-use Rattle.sqlite.specs.State.{State, HasCleanDisk, Survives, mode_of, Executes, IsMisplaced, IsUnchanged, IsLive, is_pragma}
+use Rattle.sqlite.specs.State.{State, HasCleanDisk, Survives, mode_of, Executes, IsMisplaced}
+use Rattle.sqlite.specs.State.{IsUnchanged, IsLive, is_pragma}
 use Rattle.sqlite.proofs.Callers.{command_of, statement_of}
 use Rattle.edf_tables.specs.Refused.{IsUnadded, IsUnmade}
 use Rattle.edf_tables.specs.Refused.{IsUnadded as row}
 use Rattle.edf_tables.specs.Refused.{IsUnmade as table}
 use Rattle.edf_tables.specs.Row.{cells, named_cells, new_row, one_row, stored_size, IsInside}
-use Rattle.edf_tables.specs.Schema.{recording, records, no_schema, one_schema, Others, schema_with, IsOtherIndex, HasBoth}
+use Rattle.edf_tables.specs.Schema.{recording, records, no_schema, one_schema, Others, schema_with}
+use Rattle.edf_tables.specs.Schema.{IsOtherIndex, HasBoth}
 use Rattle.edf_tables.proofs.Others.{no_works}
 use Rattle.edf_tables.proofs.Rules.{refused_by_ours}
 use Rattle.edf_tables.proofs.Schemas.{none_not_both, one_not_both}
-use Rattle.edf_tables.proofs.Writing.{task_of, WritesOne, record_makes, recording_makes, record_refers, recording_refers}
+use Rattle.edf_tables.proofs.Writing.{task_of, WritesOne, record_makes, recording_makes}
+use Rattle.edf_tables.proofs.Writing.{record_refers, recording_refers}
 use Rattle.edf_tables.proofs.Refusals.{IsAlone, turned_down, stopped_or, stopped_since}
-use Rattle.edf_tables.proofs.Texts.{create_recording_text, create_recording_is, create_records_text, create_records_is, recording_there, insert_record_text, insert_record_is, record_terms, insert_recording_text, insert_recording_is, recording_terms}
+use Rattle.edf_tables.proofs.Texts.{create_recording_text, create_recording_is, create_records_text}
+use Rattle.edf_tables.proofs.Texts.{create_records_is, recording_there, insert_record_text}
+use Rattle.edf_tables.proofs.Texts.{insert_record_is, record_terms, insert_recording_text}
+use Rattle.edf_tables.proofs.Texts.{insert_recording_is, recording_terms}
 
 -- ---- a row
 
 -- the row is too large, a rule of the table refuses it, or the steps ran out
 abbrev Stops : Option ℕ → Schema → Trees → Table → Row → Option Error → Type 0
 Stops limit schema db of cells None = IsOversized schema of (new_row (db of.tree) cells)
-Stops limit schema db of cells (Some e) = ((rule : Refusal) × (e ≡ edit_error rule) × IsRefused schema Enforced db (one_row db of cells) rule) ⊎ ((e ≡ SqliteFailure OperationInterrupted) × IsSome limit)
+Stops limit schema db of cells (Some e) =
+    ((rule : Refusal) × (e ≡ edit_error rule)
+    × IsRefused schema Enforced db (one_row db of cells) rule)
+    ⊎ ((e ≡ SqliteFailure OperationInterrupted) × IsSome limit)
 
-source_stops : (limit : Option ℕ) (schema : Schema) (db : Trees) (of : Table) (cells given : Row) (terms : List Term) (width : ℕ) (stop : Option Error) → accepts_terms terms given ≡ true
-    → Sourced limit (record { schema = schema; trees = db }) given (Values terms width) (Err stop) → Stops limit schema db of cells stop
+source_stops : (limit : Option ℕ) (schema : Schema) (db : Trees) (of : Table) (cells given : Row)
+    (terms : List Term) (width : ℕ) (stop : Option Error) → accepts_terms terms given ≡ true
+    → Sourced limit (record { schema = schema; trees = db }) given (Values terms width) (Err stop) →
+    Stops limit schema db of cells stop
 source_stops limit schema db of cells given terms width None typed h = absurd h
-source_stops limit schema db of cells given terms width (Some x) typed (inl mismatch) = absurd (true≢false (sym typed ∙ mismatch.1))
+source_stops limit schema db of cells given terms width (Some x) typed (inl mismatch) =
+    absurd (true≢false (sym typed ∙ mismatch.1))
 source_stops limit schema db of cells given terms width (Some x) typed (inr steps) = inr steps
 
-none_left : (n : ℕ) (schema : Schema) (db : Trees) (stop : Option Refusal) → ¬ Leads schema Enforced n db [] (Err stop)
+none_left : (n : ℕ) (schema : Schema) (db : Trees) (stop : Option Refusal) →
+    ¬ Leads schema Enforced n db [] (Err stop)
 none_left zero schema db stop h = let e = h.1 in cc
-none_left (suc n) schema db stop h = absurd (omega (arith, ap length h.2, length-append h.0 (h.1 ∷ [])))
+none_left (suc n) schema db stop h =
+    absurd (omega (arith, ap length h.2, length-append h.0 (h.1 ∷ [])))
 
-edit_stops : (limit : Option ℕ) (schema : Schema) (db : Trees) (of : Table) (cells : Row) (stop : Option Error) → Edited schema Enforced db (one_row db of cells) (Err stop) → Stops limit schema db of cells stop
+edit_stops : (limit : Option ℕ) (schema : Schema) (db : Trees) (of : Table) (cells : Row)
+    (stop : Option Error) → Edited schema Enforced db (one_row db of cells) (Err stop) →
+    Stops limit schema db of cells stop
 edit_stops limit schema db of cells stop h = go h.0 h.1 h.2
   where
-    go : (why : Option Refusal) → Writes schema Enforced db (one_row db of cells) (Err why) → stop ≡ option_map edit_error why → Stops limit schema db of cells stop
-    go why (inr (inr went)) same = absurd (none_left went.2.0 schema went.0 why (rw (no_works schema Enforced 0 of.tree (one_row db of cells).news) at went.2.1))
+    go : (why : Option Refusal) → Writes schema Enforced db (one_row db of cells) (Err why) →
+        stop ≡ option_map edit_error why → Stops limit schema db of cells stop
+    go why (inr (inr went)) same =
+        absurd (none_left went.2.0 schema went.0 why
+        (rw (no_works schema Enforced 0 of.tree (one_row db of cells).news) at went.2.1))
     go None (inl refused) same = absurd (let e = refused.2 in cc)
-    go None (inr (inl big)) same = elim big.1 [ inl is ↦ rw same (subst (IsOversized schema of) is big.2) | inr never ↦ absurd never ]
-    go (Some rule) (inl refused) same = let is : refused.0 ≡ rule = (let e = refused.2 in cc) in rw same (inl (rule, refl, subst (IsRefused schema Enforced db (one_row db of cells)) is refused.1))
+    go None (inr (inl big)) same = elim big.1 [
+      | inl is ↦
+          rw same (subst (IsOversized schema of) is big.2)
+      | inr never ↦ absurd never
+    ]
+    go (Some rule) (inl refused) same = let is : refused.0 ≡ rule = (let e = refused.2 in cc) in
+        rw same (inl (
+          rule,
+          refl,
+          subst (IsRefused schema Enforced db (one_row db of cells)) is
+              refused.1,
+        ))
     go (Some rule) (inr (inl big)) same = absurd (let e = big.3 in cc)
 
 abbrev plain_mode : Mode
@@ -94,64 +126,119 @@ plain_mode = record { keys = Enforced; in_doubt = false; may_wait = false }
 
 -- it stops for no reference, or none is broken
 abbrev Refer : Option ℕ → Schema → Table → Row → ℕ → List Term → ℕ → Trees → Option Error → Type 0
-Refer limit schema of params at terms width db stop = (stop ≡ None) ⊎ ((w : Written) → WritesOne limit schema of params at terms width db w → Refers AllKeys schema w.trees)
+Refer limit schema of params at terms width db stop = (stop ≡ None)
+    ⊎ ((w : Written) → WritesOne limit schema of params at terms width db w →
+    Refers AllKeys schema w.trees)
 
-rows_stop : (limit : Option ℕ) (schema : Schema) (of : Table) (params cells : Row) (at : ℕ) (terms : List Term) (width : ℕ) (db : Trees) (stop : Option Error) → of.is_counted ≡ false → accepts_terms terms (stamped of params) ≡ true
-    → edit_of db of [] Chosen 0 (value_rows (stamped of params) width (length terms / width) terms) ≡ one_row db of cells → Refer limit schema of params at terms width db stop
-    → OnRows (task_of limit schema of params) plain_mode None (Insert at (Values terms width)) db (Err stop) → Stops limit schema db of cells stop
-rows_stop limit schema of params cells at terms width db stop plain typed one refer (inl (was, w, same)) =
+rows_stop : (limit : Option ℕ) (schema : Schema) (of : Table) (params cells : Row) (at : ℕ)
+    (terms : List Term) (width : ℕ) (db : Trees) (stop : Option Error) → of.is_counted ≡ false →
+    accepts_terms terms (stamped of params) ≡ true
+    → edit_of db of [] Chosen 0 (value_rows (stamped of params) width (length terms / width)
+    terms) ≡ one_row db of cells → Refer limit schema of params at terms width db stop
+    → OnRows (task_of limit schema of params) plain_mode None (Insert at (Values terms width)) db
+    (Err stop) → Stops limit schema db of cells stop
+rows_stop limit schema of params cells at terms width db stop plain typed one refer
+    (inl (was, w, same)) =
     let is : was ≡ stop = cc in
     elim w [
-      | inl source ↦ let here : source.0 ≡ stop = (let k = source.2 in cc) in subst (Stops limit schema db of cells) here (source_stops limit schema db of cells (stamped of params) terms width source.0 typed source.1)
+      | inl source ↦ let here : source.0 ≡ stop = (let k = source.2 in cc) in
+          subst (Stops limit schema db of cells) here (source_stops limit schema db of
+          cells (stamped of params) terms width source.0 typed source.1)
       | inr read ↦ elim read.2 [
         | inl counter ↦ absurd (let k = rw plain at counter.1 in cc)
         | inr counted ↦ elim counted.2 [
           | inl edited ↦
               let here : edited.0 ≡ stop = (let k = edited.2 in cc) in
-              let way : rowids_for of (count_of counted.0) ≡ Chosen = ap (λ b. cond b (Above (count_of counted.0)) Chosen) plain in
-              let edit : edit_of db of [] (rowids_for of (count_of counted.0)) 0 read.0 ≡ one_row db of cells = ap (λ w. edit_of db of [] w 0 read.0) way ∙ ap (edit_of db of [] Chosen 0) read.1.1 ∙ one in
-              subst (Stops limit schema db of cells) here (edit_stops limit schema db of cells edited.0 (subst (λ x. Edited schema Enforced db x (Err edited.0)) edit edited.1))
-          | inr made ↦ elim made.2 [ inl counts ↦ absurd (let k = rw plain at counts.1 in cc) | inr gave ↦ absurd (let k = gave.2 in cc) ]
+              let way : rowids_for of (count_of counted.0) ≡ Chosen =
+              ap (λ b. cond b (Above (count_of counted.0)) Chosen) plain in
+              let edit : edit_of db of [] (rowids_for of (count_of counted.0)) 0 read.0 ≡ one_row db
+              of cells = ap (λ w. edit_of db of [] w 0 read.0) way
+              ∙ ap (edit_of db of [] Chosen 0) read.1.1 ∙ one in
+              subst (Stops limit schema db of cells) here (edit_stops limit schema db of
+              cells edited.0 (subst (λ x. Edited schema Enforced db x (Err edited.0)) edit
+              edited.1))
+          | inr made ↦ elim made.2 [
+            | inl counts ↦ absurd (let k = rw plain at counts.1 in cc)
+            | inr gave ↦ absurd (let k = gave.2 in cc)
+          ]
         ]
       ]
     ]
-rows_stop limit schema of params cells at terms width db stop plain typed one refer (inr (w, done, rest)) = elim rest [
-  | inl tested ↦ elim refer [
-    | inl none ↦ absurd (let is : tested.0 ≡ stop = (let k = tested.2 in cc) in let k = tested.1.1 in cc)
-    | inr refers ↦ absurd (tested.1.0 (refers w done))
-  ]
-  | inr held ↦ elim held.2 [ inl shows ↦ absurd (let k = shows.1 in cc) | inr gave ↦ absurd (let k = gave.2 in cc) ]
-]
+rows_stop limit schema of params cells at terms width db stop plain typed one refer
+    (inr (w, done, rest)) = elim rest [
+      | inl tested ↦ elim refer [
+        | inl none ↦ absurd (let is : tested.0 ≡ stop = (let k = tested.2 in cc) in let k =
+            tested.1.1 in cc)
+        | inr refers ↦ absurd (tested.1.0 (refers w done))
+      ]
+      | inr held ↦ elim held.2 [
+        | inl shows ↦ absurd (let k = shows.1 in cc)
+        | inr gave ↦
+            absurd (let k = gave.2 in cc)
+      ]
+    ]
 
 -- what writes is never refused for its place
-writes_at_any_place : (old : State) (command : Command) (e : Error) → IsWrite command → ¬ IsMisplaced old command e
+writes_at_any_place : (old : State) (command : Command) (e : Error) → IsWrite command →
+    ¬ IsMisplaced old command e
 writes_at_any_place old command e writes (inl (is, inl begins)) = subst IsWrite begins.0 writes
-writes_at_any_place old command e writes (inl (is, inr ends)) = elim ends.0 [ inl k ↦ subst IsWrite k writes | inr k ↦ subst IsWrite k writes ]
-writes_at_any_place old command e writes (inr named) = elim named.2 [ inl k ↦ subst IsWrite k writes | inr k ↦ subst IsWrite k writes ]
+writes_at_any_place old command e writes (inl (is, inr ends)) =
+    elim ends.0 [ inl k ↦ subst IsWrite k writes | inr k ↦ subst IsWrite k writes ]
+writes_at_any_place old command e writes (inr named) =
+    elim named.2 [ inl k ↦ subst IsWrite k writes | inr k ↦ subst IsWrite k writes ]
 
-unadded : (of : Table) (cells : Row) (old new : State) (e : Error) (both : HasBoth old.now.schema) → of.tree < 4 → of.references ≡ [] → Obeys old.now.schema old.now.trees → Stops old.step_limit old.now.schema old.now.trees of cells (Some e) → IsUnadded of cells old new e
-unadded of cells old new e both low none obeys (inl ruled) = row.against_rule ruled.0 ruled.1 (refused_by_ours old.now.schema both old.now.trees of cells ruled.0 low none obeys ruled.2)
+unadded : (of : Table) (cells : Row) (old new : State) (e : Error) (both : HasBoth old.now.schema) →
+    of.tree < 4 → of.references ≡ [] → Obeys old.now.schema old.now.trees →
+    Stops old.step_limit old.now.schema old.now.trees of cells (Some e) → IsUnadded of
+    cells old new e
+unadded of cells old new e both low none obeys (inl ruled) =
+    row.against_rule ruled.0 ruled.1 (refused_by_ours old.now.schema both old.now.trees of
+    cells ruled.0 low none obeys ruled.2)
 unadded of cells old new e both low none obeys (inr steps) = row.limited steps.0 steps.1
 
 -- a text that adds a row to one of our tables
-row_unadded : (sql : List ℕ) (params cells : Row) (old new : State) (at : ℕ) (terms : List Term) (width : ℕ) (of : Table) (has : HasBoth old.now.schema) → command_of (understood (schema_with has.others) sql) ≡ Insert at (Values terms width)
-    → IsAlone (schema_with has.others) sql (length params) → slice_get (schema_with has.others).tables at ≡ Some of → of.tree < 4 → of.references ≡ [] → (IsTrue old.is_open → Obeys old.now.schema old.now.trees) → of.is_counted ≡ false → accepts_terms terms (stamped of params) ≡ true
-    → edit_of old.now.trees of [] Chosen 0 (value_rows (stamped of params) width (length terms / width) terms) ≡ one_row old.now.trees of cells
-    → (IsTrue old.is_open → (w : Written) → WritesOne old.step_limit (schema_with has.others) of params at terms width old.now.trees w → Refers AllKeys (schema_with has.others) w.trees)
-    → (IsOversized (schema_with has.others) of (new_row (old.now.trees of.tree) cells) → 10 ^ 9 < stored_size (new_row (old.now.trees of.tree) cells)) → (e : Error) → Executes sql params old new (Err e) → IsUnadded of cells old new e
-row_unadded sql params cells old new at terms width of has is alone listed low none obeys plain typed one refers large e h =
+row_unadded : (sql : List ℕ) (params cells : Row) (old new : State) (at : ℕ) (terms : List Term)
+    (width : ℕ) (of : Table) (has : HasBoth old.now.schema) →
+    command_of (understood (schema_with has.others) sql) ≡ Insert at (Values terms width)
+    → IsAlone (schema_with has.others) sql (length params) →
+    slice_get (schema_with has.others).tables at ≡ Some of → of.tree < 4 → of.references ≡ [] →
+    (IsTrue old.is_open → Obeys old.now.schema old.now.trees) → of.is_counted ≡ false →
+    accepts_terms terms (stamped of params) ≡ true
+    → edit_of old.now.trees of
+    [] Chosen 0 (value_rows (stamped of params) width (length terms / width) terms) ≡ one_row
+    old.now.trees of cells
+    → (IsTrue old.is_open → (w : Written) → WritesOne old.step_limit (schema_with has.others) of
+    params at terms width old.now.trees w → Refers AllKeys (schema_with has.others) w.trees)
+    → (IsOversized (schema_with has.others) of (new_row (old.now.trees of.tree) cells) →
+    10 ^ 9 < stored_size (new_row (old.now.trees of.tree) cells)) → (e : Error) →
+    Executes sql params old new (Err e) → IsUnadded of cells old new e
+row_unadded sql params cells old new at terms width of
+    has is alone listed low none obeys plain typed one refers large e h =
     let schema = schema_with has.others in
     let command = Insert at (Values terms width) in
     let text = statement_of sql (understood schema sql) in
-    let does : (stop : Option Error) → Refer old.step_limit schema of params at terms width old.now.trees stop → Does old.step_limit (mode_of old) params old.now text None command (Err stop) → Stops old.step_limit schema old.now.trees of cells stop =
-    λ stop refer d. rows_stop old.step_limit schema of params cells at terms width old.now.trees stop plain typed one refer (rw listed at (subst (λ s. Does old.step_limit (mode_of old) params (record old.now { schema = s }) text None command (Err stop)) has.is d)) in
+    let does : (stop : Option Error) → Refer old.step_limit schema of
+    params at terms width old.now.trees stop →
+    Does old.step_limit (mode_of old) params old.now text None command (Err stop) →
+    Stops old.step_limit schema old.now.trees of cells stop =
+    λ stop refer d. rows_stop old.step_limit schema of
+    params cells at terms width old.now.trees stop plain typed one refer
+    (rw listed at (subst (λ s. Does old.step_limit (mode_of old) params
+    (record old.now { schema = s }) text None command (Err stop)) has.is d)) in
     elim (turned_down sql params old new schema has.is command is alone refl e h) [
       | inl it ↦ row.stopped it.0
       | inr down ↦ elim down [
         | inl place ↦ absurd (writes_at_any_place old command e tt place.0)
         | inr rest ↦ elim rest [
-          | inl ruled ↦ unadded of cells old new e has low none (obeys ruled.2.0.was_open) (subst (λ s. Stops old.step_limit s old.now.trees of cells (Some e)) (sym has.is) (does (Some e) (inr (refers ruled.2.0.was_open)) ruled.1))
-          | inr fails ↦ elim (stopped_or old new _ e fails) [ inl it ↦ row.stopped it | inr big ↦ row.too_big big.0 (large (does None (inl refl) big.1)) ]
+          | inl ruled ↦ unadded of cells old new e has low none (obeys ruled.2.0.was_open)
+              (subst (λ s. Stops old.step_limit s old.now.trees of
+              cells (Some e)) (sym has.is) (does (Some e) (inr (refers ruled.2.0.was_open))
+              ruled.1))
+          | inr fails ↦ elim (stopped_or old new _ e fails) [
+            | inl it ↦ row.stopped it
+            | inr big ↦
+                row.too_big big.0 (large (does None (inl refl) big.1))
+          ]
         ]
       ]
     ]
@@ -173,40 +260,75 @@ null_whole = tt
 no_reals : (row : Row) (c : ℕ) → bit_at 0 c ≡ 1 → is_int (column row c) ≡ false
 no_reals row c h = absurd (omega (arith, h, bit_at-zero c))
 
-stored : (row : Row) → 0 < length row → length row ≤ 2001 → AllByRecursion (λ v. NotNan (number v)) row → stored_size row ≤ 10 ^ 9 → IsStorable 0 row
-stored row some few whole short = record { typed = no_reals row; columns = (some, few); numbers = All-from_recursion (λ v. NotNan (number v)) row whole; short = short }
+stored : (row : Row) → 0 < length row → length row ≤ 2001 →
+    AllByRecursion (λ v. NotNan (number v)) row → stored_size row ≤ 10 ^ 9 → IsStorable 0 row
+stored row some few whole short = record {
+  typed = no_reals row;
+  columns = (some, few);
+  numbers =
+      All-from_recursion (λ v. NotNan (number v)) row whole;
+  short = short;
+}
 
 over : (n : ℕ) → ¬ (n ≤ 10 ^ 9) → 10 ^ 9 < n
-over n h = elim (cases_lt (10 ^ 9) n) [ inl more ↦ more | inr less ↦ absurd (h (omega (arith, less))) ]
+over n h = elim (cases_lt (10 ^ 9) n) [
+  | inl more ↦ more
+  | inr less ↦
+      absurd (h (omega (arith, less)))
+]
 
-record_large : (o : Others) → All IsOtherIndex o.indexes → (rows : List Row) (n start : ℤ) (samples block : List ℕ) → IsOversized (schema_with o) records (new_row rows (cells n start samples block)) → 10 ^ 9 < stored_size (new_row rows (cells n start samples block))
+record_large : (o : Others) → All IsOtherIndex o.indexes →
+    (rows : List Row) (n start : ℤ) (samples block : List ℕ) →
+    IsOversized (schema_with o) records (new_row rows (cells n start samples block)) →
+    10 ^ 9 < stored_size (new_row rows (cells n start samples block))
 record_large o elsewhere rows n start samples block big =
     let row = new_row rows (cells n start samples block) in
-    let whole : AllByRecursion (λ v. NotNan (number v)) row = (number_whole (next_rowid rows), (number_whole n, (number_whole start, (blob_whole samples, (blob_whole block, tt))))) in
+    let whole : AllByRecursion (λ v. NotNan (number v)) row = (
+      number_whole (next_rowid rows),
+      (number_whole n, (number_whole start, (blob_whole samples, (blob_whole block, tt)))),
+    ) in
     elim big [
-      | inl broad ↦ over (stored_size row) (λ small. broad (stored row (omega arith) (omega arith) whole small, omega arith))
+      | inl broad ↦ over (stored_size row) (λ small.
+          broad (stored row (omega arith) (omega arith) whole small, omega arith))
       | inr entry ↦ elim entry.1 [
-        | inl is ↦ absurd (let apart : ◌≡◌ {A = ℕ} 0 2 = sym (ap (λ (i : Index). i.table) is) ∙ entry.2 in omega (arith, apart))
+        | inl is ↦ absurd (let apart : ◌≡◌ {A = ℕ} 0 2 = sym (ap (λ (i : Index). i.table) is)
+            ∙ entry.2 in omega (arith, apart))
         | inr other ↦ elim other [
-          | inl is ↦ absurd (subst (λ (i : Index). ¬ IsStorable (index_reals (table_reals records) i.columns) (entry_of i.columns row)) is entry.3
-              (stored (Int n ∷ Int start ∷ Int (next_rowid rows) ∷ []) (omega arith) (omega arith) (number_whole n, (number_whole start, (number_whole (next_rowid rows), tt))) (omega arith)))
-          | inr further ↦ absurd (let far = (all_has IsOtherIndex o.indexes entry.0 (recursion_from_All _ _ elsewhere) further).1 in omega (arith, far, entry.2))
+          | inl is ↦ absurd (subst (λ (i : Index).
+              ¬ IsStorable (index_reals (table_reals records) i.columns) (entry_of i.columns row))
+              is entry.3
+              (stored (Int n ∷ Int start ∷ Int (next_rowid rows) ∷ []) (omega arith) (omega arith)
+              (number_whole n, (number_whole start, (number_whole (next_rowid rows), tt)))
+              (omega arith)))
+          | inr further ↦ absurd (let far =
+              (all_has IsOtherIndex o.indexes entry.0 (recursion_from_All _ _ elsewhere)
+              further).1 in omega (arith, far, entry.2))
         ]
       ]
     ]
 
-recording_large : (o : Others) → All IsOtherIndex o.indexes → (rows : List Row) (identity : List ℕ) → IsOversized (schema_with o) recording (new_row rows (named_cells identity)) → 10 ^ 9 < stored_size (new_row rows (named_cells identity))
+recording_large : (o : Others) → All IsOtherIndex o.indexes →
+    (rows : List Row) (identity : List ℕ) →
+    IsOversized (schema_with o) recording (new_row rows (named_cells identity)) →
+    10 ^ 9 < stored_size (new_row rows (named_cells identity))
 recording_large o elsewhere rows identity big =
     let row = new_row rows (named_cells identity) in
-    let whole : AllByRecursion (λ v. NotNan (number v)) row = (number_whole (next_rowid rows), (null_whole, (blob_whole identity, tt))) in
+    let whole : AllByRecursion (λ v. NotNan (number v)) row =
+    (number_whole (next_rowid rows), (null_whole, (blob_whole identity, tt))) in
     over (stored_size row) (λ small. elim big [
       | inl broad ↦ broad (stored row (omega arith) (omega arith) whole small, omega arith)
       | inr entry ↦ elim entry.1 [
-        | inl is ↦ subst (λ (i : Index). ¬ IsStorable (index_reals (table_reals recording) i.columns) (entry_of i.columns row)) is entry.3
-            (stored (Blob identity ∷ Int (next_rowid rows) ∷ []) (omega arith) (omega arith) (blob_whole identity, (number_whole (next_rowid rows), tt)) (omega (arith, small)))
+        | inl is ↦ subst (λ (i : Index).
+            ¬ IsStorable (index_reals (table_reals recording) i.columns) (entry_of i.columns row))
+            is entry.3
+            (stored (Blob identity ∷ Int (next_rowid rows) ∷ []) (omega arith) (omega arith)
+            (blob_whole identity, (number_whole (next_rowid rows), tt)) (omega (arith, small)))
         | inr other ↦ elim other [
-          | inl is ↦ absurd (let apart : ◌≡◌ {A = ℕ} 2 0 = sym (ap (λ (i : Index). i.table) is) ∙ entry.2 in omega (arith, apart))
-          | inr further ↦ absurd (let far = (all_has IsOtherIndex o.indexes entry.0 (recursion_from_All _ _ elsewhere) further).1 in omega (arith, far, entry.2))
+          | inl is ↦ absurd (let apart : ◌≡◌ {A = ℕ} 2 0 = sym (ap (λ (i : Index). i.table) is)
+              ∙ entry.2 in omega (arith, apart))
+          | inr further ↦ absurd (let far =
+              (all_has IsOtherIndex o.indexes entry.0 (recursion_from_All _ _ elsewhere)
+              further).1 in omega (arith, far, entry.2))
         ]
       ]
     ])
@@ -226,31 +348,46 @@ refers_open s live opened = refers_if_sound s.now.schema s.now.trees (live opene
 obeys_open : (s : State) → IsLive s → IsTrue s.is_open → Obeys s.now.schema s.now.trees
 obeys_open s live opened = (live opened).0.obeys
 
-pub record_unadded : (old new : State) (n start : ℤ) (samples block : List ℕ) (r : Result ℕ Error) → IsLive old → IsInside old → Executes insert_record_text (cells n start samples block) old new r → IfErr r (IsUnadded records (cells n start samples block) old new)
+pub record_unadded : (old new : State) (n start : ℤ) (samples block : List ℕ) (r : Result ℕ Error) →
+    IsLive old → IsInside old → Executes insert_record_text (cells n start samples block) old new
+    r → IfErr r (IsUnadded records (cells n start samples block) old new)
 record_unadded old new n start samples block (Ok count) live inside h = tt
 record_unadded old new n start samples block (Err e) live inside h =
     let has = inside.schema in
     let params = cells n start samples block in
-    row_unadded insert_record_text params params old new 1 record_terms 5 records has (insert_record_is has.others).0 (insert_record_alone has.others) refl (omega arith) refl (obeys_open old live) refl refl (record_makes n start samples block old.now.trees)
-    (λ opened w. record_refers old.now.schema has old.step_limit n start samples block old.now.trees w (refers_open old live opened)) (record_large has.others has.indexes (old.now.trees 2) n start samples block) e h
+    row_unadded insert_record_text params params old new 1 record_terms 5 records has
+    (insert_record_is has.others).0 (insert_record_alone has.others) refl (omega arith) refl
+    (obeys_open old live) refl refl (record_makes n start samples block old.now.trees)
+    (λ opened w. record_refers old.now.schema has old.step_limit n start samples block old.now.trees
+    w (refers_open old live opened)) (record_large has.others has.indexes (old.now.trees 2) n
+    start samples block) e h
 
-pub recording_unadded : (old new : State) (identity : List ℕ) (e : Error) → IsLive old → IsInside old → Executes insert_recording_text (Blob identity ∷ []) old new (Err e) → IsUnadded recording (named_cells identity) old new e
+pub recording_unadded : (old new : State) (identity : List ℕ) (e : Error) → IsLive old →
+    IsInside old → Executes insert_recording_text (Blob identity ∷ []) old new (Err e) →
+    IsUnadded recording (named_cells identity) old new e
 recording_unadded old new identity e live inside h =
     let has = inside.schema in
-    row_unadded insert_recording_text (Blob identity ∷ []) (named_cells identity) old new 0 recording_terms 3 recording has (insert_recording_is has.others).0 (insert_recording_alone has.others) refl (omega arith) refl (obeys_open old live) refl refl (recording_makes identity old.now.trees)
-    (λ opened w. recording_refers old.now.schema has old.step_limit identity old.now.trees w (refers_open old live opened)) (recording_large has.others has.indexes (old.now.trees 0) identity) e h
+    row_unadded insert_recording_text (Blob identity ∷ []) (named_cells identity) old new 0
+    recording_terms 3 recording has (insert_recording_is has.others).0
+    (insert_recording_alone has.others) refl (omega arith) refl (obeys_open old live) refl refl
+    (recording_makes identity old.now.trees)
+    (λ opened w. recording_refers old.now.schema has old.step_limit identity old.now.trees w
+    (refers_open old live opened)) (recording_large has.others has.indexes (old.now.trees 0)
+    identity) e h
 
 -- ---- a table
 
 abbrev IsAltered : Error → Type 0
 IsAltered e = (rule : alter.Refusal) × (e ≡ alter_error rule)
 
-table_stops : (text : List ℕ) (db : Database) (stop : Option Error) (e : Error) → stop ≡ Some e → MakesTable text db (Err stop) → IsAltered e
+table_stops : (text : List ℕ) (db : Database) (stop : Option Error) (e : Error) → stop ≡ Some e →
+    MakesTable text db (Err stop) → IsAltered e
 table_stops text db None e is h = absurd (cc)
 table_stops text db (Some x) e is (inl none) = let same : e ≡ x = cc in (why.BadName, same ∙ none.1)
 table_stops text db (Some x) e is (inr it) = let same : e ≡ x = cc in (it.0, same ∙ it.2)
 
-create_stops : (limit : Option ℕ) (mode : Mode) (db : Database) (text : List ℕ) (e : Error) → Does limit mode [] db text None CreateTable (Err (Some e)) → IsAltered e
+create_stops : (limit : Option ℕ) (mode : Mode) (db : Database) (text : List ℕ) (e : Error) →
+    Does limit mode [] db text None CreateTable (Err (Some e)) → IsAltered e
 create_stops limit mode db text e (inl (stop, made, same)) =
     let is : stop ≡ Some e = cc in
     elim made [
@@ -268,24 +405,32 @@ abbrev name_size : Result Table CompileError → ℕ
 name_size (Ok t) = length t.name
 name_size (Err e) = 0
 
-not_long : (sql : List ℕ) (n : ℕ) → name_size (table_defined_by sql) ≡ n → 2 * n + length sql + 200 < 10 ^ 9 → ¬ IsLongTable sql
-not_long sql n is small long = let size = sym (ap name_size long.1) ∙ is in absurd (omega (arith, small, size, long.2))
+not_long : (sql : List ℕ) (n : ℕ) → name_size (table_defined_by sql) ≡ n →
+    2 * n + length sql + 200 < 10 ^ 9 → ¬ IsLongTable sql
+not_long sql n is small long = let size = sym (ap name_size long.1) ∙ is in
+    absurd (omega (arith, small, size, long.2))
 
 sequence_short : ¬ IsLongTable sequence_text
 unfolding everything
 sequence_short = not_long sequence_text 15 refl (omega arith)
 
-recording_short : ¬ IsLongTable (statement_of create_recording_text (understood no_schema create_recording_text))
-recording_short = subst (λ t. ¬ IsLongTable t) (sym create_recording_is.1) (not_long create_recording_text 9 (ap name_size create_recording_is.2) (omega arith))
+recording_short : ¬ IsLongTable (statement_of create_recording_text
+    (understood no_schema create_recording_text))
+recording_short = subst (λ t. ¬ IsLongTable t) (sym create_recording_is.1)
+    (not_long create_recording_text 9 (ap name_size create_recording_is.2) (omega arith))
 
-records_short : ¬ IsLongTable (statement_of create_records_text (understood one_schema create_records_text))
-records_short = subst (λ t. ¬ IsLongTable t) (sym create_records_is.1) (not_long create_records_text 6 (ap name_size create_records_is.2) (omega arith))
+records_short : ¬ IsLongTable (statement_of create_records_text
+    (understood one_schema create_records_text))
+records_short = subst (λ t. ¬ IsLongTable t) (sym create_records_is.1)
+    (not_long create_records_text 6 (ap name_size create_records_is.2) (omega arith))
 
-table_small : (text : List ℕ) (db : Database) (stop : Option Error) → ¬ IsLongTable text → stop ≡ None → ¬ MakesTable text db (Err stop)
+table_small : (text : List ℕ) (db : Database) (stop : Option Error) → ¬ IsLongTable text →
+    stop ≡ None → ¬ MakesTable text db (Err stop)
 table_small text db None short is h = short h
 table_small text db (Some x) short is h = absurd (cc)
 
-create_small : (limit : Option ℕ) (mode : Mode) (db : Database) (text : List ℕ) → ¬ IsLongTable text → ¬ Does limit mode [] db text None CreateTable (Err None)
+create_small : (limit : Option ℕ) (mode : Mode) (db : Database) (text : List ℕ) →
+    ¬ IsLongTable text → ¬ Does limit mode [] db text None CreateTable (Err None)
 create_small limit mode db text short (inl (stop, made, same)) =
     let is : stop ≡ None = cc in
     elim made [
@@ -304,27 +449,44 @@ nothing_at_any_place old e (inl (is, inr ends)) = absurd (elim ends.0 [ inl k �
 nothing_at_any_place old e (inr named) = absurd (elim named.2 [ inl k ↦ cc | inr k ↦ cc ])
 
 -- the text makes a table, or does nothing
-module _ (sql : List ℕ) (old new : State) (schema : Schema) (has : old.now.schema ≡ schema) (lacks : ¬ HasBoth old.now.schema) (alone : IsAlone schema sql 0) (e : Error) (h : Executes sql [] old new (Err e)) where
-  unmade_as : (command : Command) → command_of (understood schema sql) ≡ command → (is_query command || (true && (is_pragma command || false))) ≡ false → ¬ IsMisplaced old command e
-      → (IsWrite command × Does old.step_limit (mode_of old) [] old.now (statement_of sql (understood schema sql)) None command (Err (Some e)) × IsUnchanged old new → IsAltered e)
-      → ¬ Does old.step_limit (mode_of old) [] old.now (statement_of sql (understood schema sql)) None command (Err None) → IsUnmade old new e
-  unmade_as command is dumb anywhere rule small = elim (turned_down sql [] old new schema has command is alone dumb e h) [
-    | inl it ↦ table.stopped it.0
-    | inr down ↦ elim down [
-      | inl place ↦ absurd (anywhere place.0)
-      | inr rest ↦ elim rest [
-        | inl ruled ↦ let it = rule ruled in table.against_rule it.0 it.1 lacks
-        | inr fails ↦ elim (stopped_or old new _ e fails) [ inl it ↦ table.stopped it | inr large ↦ absurd (small large.1) ]
+module _ (sql : List ℕ) (old new : State) (schema : Schema) (has : old.now.schema ≡ schema)
+    (lacks : ¬ HasBoth old.now.schema) (alone : IsAlone schema sql 0) (e : Error)
+    (h : Executes sql [] old new (Err e)) where
+  unmade_as : (command : Command) → command_of (understood schema sql) ≡ command →
+      (is_query command || (true && (is_pragma command || false))) ≡ false →
+      ¬ IsMisplaced old command e
+      → (IsWrite command × Does old.step_limit (mode_of old) [] old.now
+      (statement_of sql (understood schema sql)) None command (Err (Some e))
+      × IsUnchanged old new → IsAltered e)
+      → ¬ Does old.step_limit (mode_of old) [] old.now (statement_of sql (understood schema sql))
+      None command (Err None) → IsUnmade old new e
+  unmade_as command is dumb anywhere rule small =
+      elim (turned_down sql [] old new schema has command is alone dumb e h) [
+        | inl it ↦ table.stopped it.0
+        | inr down ↦ elim down [
+          | inl place ↦ absurd (anywhere place.0)
+          | inr rest ↦ elim rest [
+            | inl ruled ↦ let it = rule ruled in table.against_rule it.0 it.1 lacks
+            | inr fails ↦ elim (stopped_or old new _ e fails) [
+              | inl it ↦ table.stopped it
+              | inr large ↦
+                  absurd (small large.1)
+            ]
+          ]
+        ]
       ]
-    ]
-  ]
 
-  unmade : command_of (understood schema sql) ≡ CreateTable → ¬ IsLongTable (statement_of sql (understood schema sql)) → IsUnmade old new e
-  unmade is short = unmade_as CreateTable is refl (writes_at_any_place old CreateTable e tt) (λ ruled. create_stops old.step_limit (mode_of old) old.now (statement_of sql (understood schema sql)) e ruled.1)
-      (create_small old.step_limit (mode_of old) old.now (statement_of sql (understood schema sql)) short)
+  unmade : command_of (understood schema sql) ≡ CreateTable →
+      ¬ IsLongTable (statement_of sql (understood schema sql)) → IsUnmade old new e
+  unmade is short = unmade_as CreateTable is refl (writes_at_any_place old CreateTable e tt)
+      (λ ruled. create_stops old.step_limit (mode_of old) old.now
+      (statement_of sql (understood schema sql)) e ruled.1)
+      (create_small old.step_limit (mode_of old) old.now (statement_of sql (understood schema sql))
+      short)
 
   undone : command_of (understood schema sql) ≡ Nothing → IsUnmade old new e
-  undone is = unmade_as Nothing is refl (nothing_at_any_place old e) (λ ruled. absurd ruled.0) (λ large. cc)
+  undone is = unmade_as Nothing is refl (nothing_at_any_place old e) (λ ruled. absurd ruled.0)
+      (λ large. cc)
 
 recording_alone : IsAlone no_schema create_recording_text 0
 unfolding understood everything
@@ -338,16 +500,29 @@ records_alone : IsAlone one_schema create_records_text 0
 unfolding understood everything
 records_alone = record { whole = omega arith; inputs = refl; plain = (refl, refl) }
 
-pub first_unmade : (old new : State) (r : Result ℕ Error) → (old.now.schema ≡ no_schema) ⊎ (old.now.schema ≡ one_schema) → Executes create_recording_text [] old new r → IfErr r (IsUnmade old new)
+pub first_unmade : (old new : State) (r : Result ℕ Error) → (old.now.schema ≡ no_schema)
+    ⊎ (old.now.schema ≡ one_schema) → Executes create_recording_text [] old new r →
+    IfErr r (IsUnmade old new)
 first_unmade old new (Ok count) ours h = tt
-first_unmade old new (Err e) (inl none) h = unmade create_recording_text old new no_schema none (none_not_both old.now.schema none) recording_alone e h create_recording_is.0 recording_short
-first_unmade old new (Err e) (inr one) h = undone create_recording_text old new one_schema one (one_not_both old.now.schema one) recording_alone_1 e h recording_there.0
+first_unmade old new (Err e) (inl none) h =
+    unmade create_recording_text old new no_schema none (none_not_both old.now.schema none)
+    recording_alone e h create_recording_is.0 recording_short
+first_unmade old new (Err e) (inr one) h =
+    undone create_recording_text old new one_schema one (one_not_both old.now.schema one)
+    recording_alone_1 e h recording_there.0
 
-pub second_unmade : (old new : State) (r : Result ℕ Error) → old.now.schema ≡ one_schema → Executes create_records_text [] old new r → IfErr r (IsUnmade old new)
+pub second_unmade : (old new : State) (r : Result ℕ Error) → old.now.schema ≡ one_schema →
+    Executes create_records_text [] old new r → IfErr r (IsUnmade old new)
 second_unmade old new (Ok count) one h = tt
-second_unmade old new (Err e) one h = unmade create_records_text old new one_schema one (one_not_both old.now.schema one) records_alone e h create_records_is.0 records_short
+second_unmade old new (Err e) one h =
+    unmade create_records_text old new one_schema one (one_not_both old.now.schema one)
+    records_alone e h create_records_is.0 records_short
 
 -- the second table is not made
-pub unmade_since : (old mid new : State) (P Q : Trees → Type 0) (e : Error) → ¬ HasBoth old.now.schema → Survives old mid P → Survives mid new Q → HasCleanDisk new → IsUnmade mid new e → IsUnmade old new e
-unmade_since old mid new P Q e lacks one two clean (table.stopped it) = table.stopped (stopped_since old mid new P e one (omega (arith, two.clean)) two.counts it)
-unmade_since old mid new P Q e lacks one two clean (table.against_rule rule is mid_lacks) = table.against_rule rule is lacks
+pub unmade_since : (old mid new : State) (P Q : Trees → Type 0) (e : Error) →
+    ¬ HasBoth old.now.schema → Survives old mid P → Survives mid new Q → HasCleanDisk new →
+    IsUnmade mid new e → IsUnmade old new e
+unmade_since old mid new P Q e lacks one two clean (table.stopped it) =
+    table.stopped (stopped_since old mid new P e one (omega (arith, two.clean)) two.counts it)
+unmade_since old mid new P Q e lacks one two clean (table.against_rule rule is mid_lacks) =
+    table.against_rule rule is lacks

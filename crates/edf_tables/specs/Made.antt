@@ -13,13 +13,17 @@ IsOurs db = AreOurs db.schema
 
 -- `recording` is there alone, with the rows that it had
 pub data HasFirst (old new : Database) : Type 0 where
-  made_first : old.schema ≡ no_schema → new.schema ≡ one_schema → stored_recordings new.trees ≡ [] → HasFirst old new
+  made_first : old.schema ≡ no_schema → new.schema ≡ one_schema → stored_recordings new.trees ≡ [] →
+      HasFirst old new
   kept_first : old.schema ≡ one_schema → new ≡ old → HasFirst old new
 
 -- both tables are there, with the rows that they had, and what comes after them
 pub data HasTables (old new : Database) : Type 0 where
-  from_none : old.schema ≡ no_schema → new.schema ≡ both_schema → stored_recordings new.trees ≡ [] → stored_records new.trees ≡ [] → HasTables old new
-  from_one : old.schema ≡ one_schema → new.schema ≡ both_schema → stored_recordings new.trees ≡ stored_recordings old.trees → stored_records new.trees ≡ [] → HasTables old new
+  from_none : old.schema ≡ no_schema → new.schema ≡ both_schema → stored_recordings new.trees ≡ [] →
+      stored_records new.trees ≡ [] → HasTables old new
+  from_one : old.schema ≡ one_schema → new.schema ≡ both_schema →
+      stored_recordings new.trees ≡ stored_recordings old.trees → stored_records new.trees ≡ [] →
+      HasTables old new
   from_both : HasBoth old.schema → new ≡ old → HasTables old new
 
 -- the file is as it was, or missing tables are made, the first or both, and its rows are those that
@@ -33,8 +37,10 @@ KeepsTables old new = (new ≡ old) ⊎ (HasFirst old new ⊎ HasTables old new)
 -- transaction has begun.
 pub record KeepsFile (old new : State) : Type 0 where
   pub was_open : IsTrue new.is_open → IsTrue old.is_open
-  pub committed : IsTrue new.is_open → (new.committed ≡ old.committed) ⊎ ((old.in_transaction ≡ false) × KeepsTables old.now new.committed)
-  pub shown : IsTrue new.is_open → KeepsTables old.now new.now ⊎ ((new.now ≡ new.committed) × (new.in_transaction ≡ false))
+  pub committed : IsTrue new.is_open → (new.committed ≡ old.committed)
+      ⊎ ((old.in_transaction ≡ false) × KeepsTables old.now new.committed)
+  pub shown : IsTrue new.is_open → KeepsTables old.now new.now
+      ⊎ ((new.now ≡ new.committed) × (new.in_transaction ≡ false))
   pub mode : IsTrue new.in_transaction → IsTrue old.in_transaction
 
 -- the trees are those of a file with these tables
@@ -44,6 +50,9 @@ AreOf schema db = IsDatabase (record { schema = schema; trees = db })
 -- what else a crash may leave: the first missing table is made, or both are, and the rows are the
 -- same
 pub data IsMadeOf (old : Database) (db : Trees) : Type 0 where
-  left_first : old.schema ≡ no_schema → AreOf one_schema db → stored_recordings db ≡ [] → IsMadeOf old db
-  left_both : old.schema ≡ no_schema → AreOf both_schema db → stored_recordings db ≡ [] → stored_records db ≡ [] → IsMadeOf old db
-  left_second : old.schema ≡ one_schema → AreOf both_schema db → stored_recordings db ≡ stored_recordings old.trees → stored_records db ≡ [] → IsMadeOf old db
+  left_first : old.schema ≡ no_schema → AreOf one_schema db → stored_recordings db ≡ [] →
+      IsMadeOf old db
+  left_both : old.schema ≡ no_schema → AreOf both_schema db → stored_recordings db ≡ [] →
+      stored_records db ≡ [] → IsMadeOf old db
+  left_second : old.schema ≡ one_schema → AreOf both_schema db →
+      stored_recordings db ≡ stored_recordings old.trees → stored_records db ≡ [] → IsMadeOf old db

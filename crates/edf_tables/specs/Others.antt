@@ -15,7 +15,8 @@ other_rows db = map (λ t. db.trees t.tree) (drop 2 db.schema.tables)
 -- other table, also of one that SQLite's port keeps unread, and the list of tables, indexes, views
 -- and triggers with their texts
 abbrev pub KeepsTrees : Schema → Trees → Trees → Type 0
-KeepsTrees schema old new = (tree : ℕ) → tree ≢ recording.tree → tree ≢ records.tree → IsNoIndex schema tree → new tree ≡ old tree
+KeepsTrees schema old new = (tree : ℕ) → tree ≢ recording.tree → tree ≢ records.tree →
+    IsNoIndex schema tree → new tree ≡ old tree
 
 -- what is beside our two tables is as it was
 pub record KeepsOthers (old new : Database) : Type 0 where

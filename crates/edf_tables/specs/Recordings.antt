@@ -31,4 +31,5 @@ shown_recording row = stored_id row ∷ stored_identity row ∷ []
 -- the tables are there, and no two recordings have one identity
 pub record AreNamedApart (s : State) : Type 0 where
   pub schema : HasBoth s.now.schema
-  pub apart : IsAscending (λ a b. identity_order a b ≡ Less) (by_identity (stored_recordings s.now.trees))
+  pub apart : IsAscending (λ a b. identity_order a b ≡ Less)
+      (by_identity (stored_recordings s.now.trees))

@@ -8,7 +8,8 @@ use Rattle.sqlite.specs.State.{State}
 use Rattle.sqlite_value.specs.Order.{value_cmp}
 use Rattle.sqlite_trees.specs.Tree.{IsAscending}
 use Rattle.sqlite_keyed.specs.Lists.{sort_by}
-use Rattle.edf_schema.specs.Columns.{stored_records, stored_start, stored_samples, stored_block, start_order, is_of}
+use Rattle.edf_schema.specs.Columns.{stored_records, stored_start, stored_samples, stored_block}
+use Rattle.edf_schema.specs.Columns.{start_order, is_of}
 use Rattle.edf_tables.specs.Schema.{HasBoth}
 
 -- the rows of a recording, by their starts
@@ -26,7 +27,8 @@ abbrev pub starts_from : ℤ → Row → Bool
 starts_from from row = is_ge (value_cmp (stored_start row) (Int from))
 
 abbrev pub starts_between : ℤ → ℤ → Row → Bool
-starts_between after before row = starts_after after row && is_lt (value_cmp (stored_start row) (Int before))
+starts_between after before row =
+    starts_after after row && is_lt (value_cmp (stored_start row) (Int before))
 
 -- start, samples and block
 abbrev pub shown_record : Row → Row

@@ -22,7 +22,12 @@ added rows cells = put_row (new_row rows cells) rows
 
 -- the edit of a table that adds these cells
 abbrev pub one_row : Trees → Table → Row → Edit
-one_row trees table cells = record { table = table; gone = []; news = new_row (trees table.tree) cells ∷ [] }
+one_row trees table cells = record {
+  table = table;
+  gone = [];
+  news =
+      new_row (trees table.tree) cells ∷ [];
+}
 
 -- the bytes that a row takes at most: those of its cells, and 18 for the type and the number of
 -- each
@@ -48,7 +53,8 @@ pub record HasRecord (old new : State) (cells : Row) : Type 0 where
   pub others : KeepsOthers old.now new.now
   pub recordings : stored_recordings new.now.trees ≡ stored_recordings old.now.trees
   pub records : stored_records new.now.trees ≡ added (stored_records old.now.trees) cells
-  pub fresh : is_taken (stored_records old.now.trees) (new_row (stored_records old.now.trees) cells) ≡ false
+  pub fresh : is_taken (stored_records old.now.trees)
+      (new_row (stored_records old.now.trees) cells) ≡ false
   pub shown : Shows old new new.now old.committed true
 
 -- in the transaction there is one recording more, and all else is as it was
@@ -56,6 +62,7 @@ pub record HasRecording (old new : State) (cells : Row) : Type 0 where
   pub schema : HasBoth new.now.schema
   pub others : KeepsOthers old.now new.now
   pub recordings : stored_recordings new.now.trees ≡ added (stored_recordings old.now.trees) cells
-  pub fresh : is_taken (stored_recordings old.now.trees) (new_row (stored_recordings old.now.trees) cells) ≡ false
+  pub fresh : is_taken (stored_recordings old.now.trees)
+      (new_row (stored_recordings old.now.trees) cells) ≡ false
   pub records : stored_records new.now.trees ≡ stored_records old.now.trees
   pub shown : Shows old new new.now old.committed true

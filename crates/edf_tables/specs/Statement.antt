@@ -25,20 +25,25 @@ module _ {S : Type 0} (g : Ghosts S) where
   Gives new result P = HasCleanDisk (state g new) → IfOk result P
 
   -- a call that is done leaves this of what the connection showed
-  abbrev pub Leaves : {X E : Type 0} → Held S → Held S → Result X E → (State → State → Type 0) → Type 0
+  abbrev pub Leaves : {X E : Type 0} → Held S → Held S → Result X E → (State → State → Type 0) →
+      Type 0
   Leaves old new result P = HasCleanDisk (state g new) → OnOk result (P (state g old) (state g new))
 
   -- a call that fails leaves this of what the connection showed
-  abbrev pub LeavesOnErr : {X E : Type 0} → Held S → Held S → Result X E → (State → State → Type 0) → Type 0
-  LeavesOnErr old new result P = HasCleanDisk (state g new) → OnErr result (P (state g old) (state g new))
+  abbrev pub LeavesOnErr : {X E : Type 0} → Held S → Held S → Result X E →
+      (State → State → Type 0) → Type 0
+  LeavesOnErr old new result P = HasCleanDisk (state g new) →
+      OnErr result (P (state g old) (state g new))
 
   -- a call that is done changed nothing
   abbrev pub OnlyReads : {X E : Type 0} → Held S → Held S → Result X E → Type 0
   OnlyReads old new result = Leaves old new result IsUnchanged
 
   -- a call fails for such a reason alone
-  abbrev pub FailsAs : {X E : Type 0} → Held S → Held S → Result X E → (State → State → E → Type 0) → Type 0
-  FailsAs old new result P = HasCleanDisk (state g new) → IfErr result (P (state g old) (state g new))
+  abbrev pub FailsAs : {X E : Type 0} → Held S → Held S → Result X E →
+      (State → State → E → Type 0) → Type 0
+  FailsAs old new result P = HasCleanDisk (state g new) →
+      IfErr result (P (state g old) (state g new))
 
   -- what is committed stays
   abbrev pub KeepsCommitted : Held S → Held S → Type 0

@@ -1,6 +1,9 @@
 -- The canonical block is read again as what was written.
-use Rattle.std.proofs.Common.{◌≡◌, ℕ, zero, suc, ◌+◌, ◌-◌, ◌^◌, ◌≤◌, ◌<◌, List, [], ◌∷◌, ◌++◌, map, arith, refl, sym, ap, ◌∙◌, subst, append_assoc, inl, inr, pos, neg_ℤ, Option, Some, None}
-use Rattle.std.specs.Prelude.{replicate, unsigned_abs, ◌-ℤ◌, ◌+ℤ◌, ◌≤ℤ◌, ◌<ℤ◌, nat_le, IfSome, if◌then◌else◌}
+use Rattle.std.proofs.Common.{◌≡◌, ℕ, zero, suc, ◌+◌, ◌-◌, ◌^◌, ◌≤◌, ◌<◌, List, [], ◌∷◌, ◌++◌, map}
+use Rattle.std.proofs.Common.{arith, refl, sym, ap, ◌∙◌, subst, append_assoc, inl, inr, pos, neg_ℤ}
+use Rattle.std.proofs.Common.{Option, Some, None}
+use Rattle.std.specs.Prelude.{replicate, unsigned_abs, ◌-ℤ◌, ◌+ℤ◌, ◌≤ℤ◌, ◌<ℤ◌, nat_le, IfSome}
+use Rattle.std.specs.Prelude.{if◌then◌else◌}
 use Rattle.std.specs.List.{AllByRecursion, flat_map}
 use Rattle.std.proofs.lemmas.Bool.{cases_lt}
 use Rattle.std.proofs.lemmas.Bool.Decides.{nat_tests}
@@ -10,7 +13,9 @@ use Rattle.std.proofs.lemmas.Str.{IsUtf8-nil}
 use Rattle.edf_time.specs.Decimal.{IsSeconds, short}
 use Rattle.edf_time.specs.Civil.{window, IsInWindow}
 use Rattle.edf_time.proofs.Cited.{IsSeconds-short}
-use Rattle.edf_tal.specs.Tal.{Tal, Annotation, IsAnnotation, IsTal, IsOnset, IsDurationPart, ended, AreTals, AreTalsAndZeros, HaveUtf8Texts, IsTimed, IsTalInWindow, instant, tal_annotations, annotations, begin}
+use Rattle.edf_tal.specs.Tal.{Tal, Annotation, IsAnnotation, IsTal, IsOnset, IsDurationPart, ended}
+use Rattle.edf_tal.specs.Tal.{AreTals, AreTalsAndZeros, HaveUtf8Texts, IsTimed, IsTalInWindow}
+use Rattle.edf_tal.specs.Tal.{instant, tal_annotations, annotations, begin}
 use Rattle.edf_tal.specs.Block.{AreRead, IsRead, IsWithinLimits, KeepsPlace}
 use Rattle.edf_tal.specs.Canonical.{onset_text, duration_text, tal_text, time_keeping, block_text}
 use Rattle.edf_tal.specs.declared.place.Place.{Place}
@@ -39,31 +44,48 @@ seconds : (n : ℕ) → n < window → IsSeconds (short n) n
 seconds n h = IsSeconds-short n (omega arith)
 
 -- an onset that is written spells how far it lies from the base
-pub IsOnset-text : (base onset : ℕ) → base < window → onset < window → IsOnset (onset_text base onset) (pos onset -ℤ pos base)
+pub IsOnset-text : (base onset : ℕ) → base < window → onset < window →
+    IsOnset (onset_text base onset) (pos onset -ℤ pos base)
 IsOnset-text base onset low in-window =
     elim (cases_lt onset base) [
       | inl less ↦
           let z = behind base onset less in
-          let n : unsigned_abs (pos onset -ℤ pos base) ≡ base - onset = ap unsigned_abs z ∙ abs-neg (base - onset) in
-          inr (minus base onset less, (base - onset, rw n (seconds (base - onset) (omega arith)), z))
+          let n : unsigned_abs (pos onset -ℤ pos base) ≡ base - onset = ap unsigned_abs z
+          ∙ abs-neg (base - onset) in
+          inr (
+            minus base onset less,
+            (
+              base - onset,
+              rw n (seconds (base - onset) (omega arith)),
+              z,
+            ),
+          )
       | inr more ↦
           let z = ahead base onset more in
           let n : unsigned_abs (pos onset -ℤ pos base) ≡ onset - base = ap unsigned_abs z in
           inl (plus base onset more, (onset - base, rw n (seconds (onset - base) (omega arith)), z))
     ]
 
-pub IsDurationPart-text : (d : Option ℕ) → IfSome d (λ n. n < window) → IsDurationPart (duration_text d) d
+pub IsDurationPart-text : (d : Option ℕ) → IfSome d (λ n. n < window) →
+    IsDurationPart (duration_text d) d
 IsDurationPart-text None h = refl
 IsDurationPart-text (Some n) h = (short n, refl, seconds n h)
 
 -- the TAL that is written for an annotation
 abbrev pub tal_of : ℕ → Annotation → Tal
-tal_of base a = record { onset = pos a.onset -ℤ pos base; duration = a.duration; texts = a.text ∷ [] }
+tal_of base a = record {
+  onset = pos a.onset -ℤ pos base;
+  duration = a.duration;
+  texts =
+      a.text ∷ [];
+}
 
-in-parts : (o d x : List ℕ) → o ++ (d ++ (20 ∷ (x ++ (20 ∷ 0 ∷ [])))) ≡ o ++ d ++ 20 ∷ ended (x ∷ []) ++ 0 ∷ []
+in-parts : (o d x : List ℕ) → o ++ (d ++ (20 ∷ (x ++ (20 ∷ 0 ∷ [])))) ≡ o ++ d
+    ++ 20 ∷ ended (x ∷ []) ++ 0 ∷ []
 in-parts o d x = simp (append_assoc, append-nil)
 
-IsTal-text : (base : ℕ) (a : Annotation) → base < window → IsAnnotation a → IsTal (tal_text base a) (tal_of base a)
+IsTal-text : (base : ℕ) (a : Annotation) → base < window → IsAnnotation a →
+    IsTal (tal_text base a) (tal_of base a)
 IsTal-text base a low h = record {
   onset = onset_text base a.onset;
   duration = duration_text a.duration;
@@ -73,11 +95,20 @@ IsTal-text base a low h = record {
   are_texts = (h.text, tt);
 }
 
-AreTals-text : (base : ℕ) (list : List Annotation) → base < window → AllByRecursion IsAnnotation list → AreTals (flat_map (tal_text base) list) (map (tal_of base) list)
+AreTals-text : (base : ℕ) (list : List Annotation) → base < window →
+    AllByRecursion IsAnnotation list →
+    AreTals (flat_map (tal_text base) list) (map (tal_of base) list)
 AreTals-text base [] low h = refl
-AreTals-text base (a ∷ list) low h = (tal_text base a, flat_map (tal_text base) list, refl, IsTal-text base a low h.0, AreTals-text base list low h.1)
+AreTals-text base (a ∷ list) low h = (
+  tal_text base a,
+  flat_map (tal_text base) list,
+  refl,
+  IsTal-text base a low h.0,
+  AreTals-text base list low h.1,
+)
 
-HaveUtf8Texts-text : (base : ℕ) (list : List Annotation) → AllByRecursion IsAnnotation list → HaveUtf8Texts (map (tal_of base) list)
+HaveUtf8Texts-text : (base : ℕ) (list : List Annotation) → AllByRecursion IsAnnotation list →
+    HaveUtf8Texts (map (tal_of base) list)
 HaveUtf8Texts-text base [] h = tt
 HaveUtf8Texts-text base (a ∷ list) h = ((h.0.utf8, tt), HaveUtf8Texts-text base list h.1)
 
@@ -92,26 +123,44 @@ pub instant-back : (base onset : ℕ) → instant base (pos onset -ℤ pos base)
 instant-back base onset = ap unsigned_abs (onset-back base onset)
 
 in-window : (base onset : ℕ) → onset < window → IsInWindow (pos base +ℤ (pos onset -ℤ pos base))
-in-window base onset h = rw (onset-back base onset) (record { from = omega (arith, ints); to = omega (arith, ints) })
+in-window base onset h = rw (onset-back base onset)
+    (record { from = omega (arith, ints); to = omega (arith, ints) })
 
-AreInWindow-text : (base : ℕ) (list : List Annotation) → AllByRecursion IsAnnotation list → AllByRecursion (IsTalInWindow base) (map (tal_of base) list)
+AreInWindow-text : (base : ℕ) (list : List Annotation) → AllByRecursion IsAnnotation list →
+    AllByRecursion (IsTalInWindow base) (map (tal_of base) list)
 AreInWindow-text base [] h = tt
-AreInWindow-text base (a ∷ list) h = (record { onset = in-window base a.onset h.0.onset; duration = h.0.duration }, AreInWindow-text base list h.1)
+AreInWindow-text base (a ∷ list) h = (
+  record { onset = in-window base a.onset h.0.onset; duration = h.0.duration },
+  AreInWindow-text base list h.1,
+)
 
-list-back : (base : ℕ) (list : List Annotation) → flat_map (tal_annotations base) (map (tal_of base) list) ≡ list
+list-back : (base : ℕ) (list : List Annotation) →
+    flat_map (tal_annotations base) (map (tal_of base) list) ≡ list
 list-back base [] = refl
 list-back base (a ∷ list) =
-    let first : a ≡ record { onset = instant base (pos a.onset -ℤ pos base); duration = a.duration; text = a.text } =
+    let first : a ≡ record {
+      onset = instant base (pos a.onset -ℤ pos base);
+      duration = a.duration;
+      text = a.text;
+    } =
     ap (λ (o : ℕ). record a { onset = o }) (sym (instant-back base a.onset)) in
     let more = list-back base list in
     cc
 
 IsAnnotation-time_keeping : (start : ℕ) → start < window → IsAnnotation (time_keeping start)
-IsAnnotation-time_keeping start h = record { onset = h; duration = tt; text = tt; utf8 = IsUtf8-nil }
+IsAnnotation-time_keeping start h = record {
+  onset = h;
+  duration = tt;
+  text = tt;
+  utf8 =
+      IsUtf8-nil;
+}
 
 -- the one block of a data record, with these TALs
-read-of : (b : List ℕ) (s : ℕ) (p : Place) (start : ℕ) (list : List Annotation) (ts : List Tal) → AreTalsAndZeros b ts → HaveUtf8Texts ts → IsTimed ts → KeepsPlace p s ts
-    → AllByRecursion (IsTalInWindow s) ts → IsWithinLimits list → start ≡ begin s ts → list ≡ annotations s ts → IsRead b s p start list
+read-of : (b : List ℕ) (s : ℕ) (p : Place) (start : ℕ) (list : List Annotation) (ts : List Tal) →
+    AreTalsAndZeros b ts → HaveUtf8Texts ts → IsTimed ts → KeepsPlace p s ts
+    → AllByRecursion (IsTalInWindow s) ts → IsWithinLimits list → start ≡ begin s ts →
+    list ≡ annotations s ts → IsRead b s p start list
 read-of b s p start list ts whole good timed keeps window limits start-is list-is =
     let one = all_tals-one ts in
     record {
@@ -127,39 +176,62 @@ read-of b s p start list ts whole good timed keeps window limits start-is list-i
     }
 
 -- a written block, with any fill, where the first onset keeps its place
-pub read-again : (p : Place) (base start n : ℕ) (list : List Annotation) → base < window → start < window → AllByRecursion IsAnnotation list → IsWithinLimits list
-    → KeepsPlace p base (map (tal_of base) (time_keeping start ∷ list)) → IsRead (block_text base start list ++ replicate n 0) base p start list
+pub read-again : (p : Place) (base start n : ℕ) (list : List Annotation) → base < window →
+    start < window → AllByRecursion IsAnnotation list → IsWithinLimits list
+    → KeepsPlace p base (map (tal_of base) (time_keeping start ∷ list)) →
+    IsRead (block_text base start list ++ replicate n 0) base p start list
 read-again p base start n list low in-window' all limits keeps =
-    let whole : AllByRecursion IsAnnotation (time_keeping start ∷ list) = (IsAnnotation-time_keeping start in-window', all) in
-    read-of (block_text base start list ++ replicate n 0) base p start list (map (tal_of base) (time_keeping start ∷ list))
-    (block_text base start list, replicate n 0, refl, AreTals-text base (time_keeping start ∷ list) low whole, AreZeros-replicate n)
-    (HaveUtf8Texts-text base (time_keeping start ∷ list) whole) ([], refl) keeps (AreInWindow-text base (time_keeping start ∷ list) whole) limits
+    let whole : AllByRecursion IsAnnotation (time_keeping start ∷ list) =
+    (IsAnnotation-time_keeping start in-window', all) in
+    read-of (block_text base start list ++ replicate n 0) base p start list
+    (map (tal_of base) (time_keeping start ∷ list)) (
+      block_text base start list,
+      replicate n 0,
+      refl,
+      AreTals-text base (time_keeping start ∷ list) low whole,
+      AreZeros-replicate n,
+    )
+    (HaveUtf8Texts-text base (time_keeping start ∷ list) whole) (
+      [],
+      refl,
+    ) keeps (AreInWindow-text base (time_keeping start ∷ list) whole) limits
     (sym (instant-back base start)) (sym (list-back base list))
 
-keeps-first : (base start : ℕ) → base ≤ start → start < base + 10 ^ 9 → (pos 0 ≤ℤ (pos start -ℤ pos base)) × ((pos start -ℤ pos base) <ℤ pos (10 ^ 9))
+keeps-first : (base start : ℕ) → base ≤ start → start < base + 10 ^ 9 →
+    (pos 0 ≤ℤ (pos start -ℤ pos base)) × ((pos start -ℤ pos base) <ℤ pos (10 ^ 9))
 keeps-first base start low high = (omega (arith, ints), omega (arith, ints))
 
-pub read-first : (base start n : ℕ) (list : List Annotation) → base < window → start < window → AllByRecursion IsAnnotation list → IsWithinLimits list
-    → base ≤ start → start < base + 10 ^ 9 → IsRead (block_text base start list ++ replicate n 0) base First start list
+pub read-first : (base start n : ℕ) (list : List Annotation) → base < window → start < window →
+    AllByRecursion IsAnnotation list → IsWithinLimits list
+    → base ≤ start → start < base + 10 ^ 9 →
+    IsRead (block_text base start list ++ replicate n 0) base First start list
 read-first base start n list low in-window' all limits from to =
     read-again First base start n list low in-window' all limits (keeps-first base start from to)
 
-pub read-after : (base start n before duration : ℕ) (list : List Annotation) → base < window → start < window → AllByRecursion IsAnnotation list → IsWithinLimits list
-    → before + duration ≤ start → IsRead (block_text base start list ++ replicate n 0) base (After before duration) start list
+pub read-after : (base start n before duration : ℕ) (list : List Annotation) → base < window →
+    start < window → AllByRecursion IsAnnotation list → IsWithinLimits list
+    → before + duration ≤ start → IsRead (block_text base start list
+    ++ replicate n 0) base (After before duration) start list
 read-after base start n before duration list low in-window' all limits later =
-    read-again (After before duration) base start n list low in-window' all limits (rw (instant-back base start) later)
+    read-again (After before duration) base start n list low in-window' all limits
+    (rw (instant-back base start) later)
 
-pub read-any : (base start n : ℕ) (list : List Annotation) → base < window → start < window → AllByRecursion IsAnnotation list → IsWithinLimits list
+pub read-any : (base start n : ℕ) (list : List Annotation) → base < window → start < window →
+    AllByRecursion IsAnnotation list → IsWithinLimits list
     → IsRead (block_text base start list ++ replicate n 0) base Any start list
-read-any base start n list low in-window' all limits = read-again Any base start n list low in-window' all limits tt
+read-any base start n list low in-window' all limits =
+    read-again Any base start n list low in-window' all limits tt
 
-pub read-alone : (base start : ℕ) (list : List Annotation) → base < window → start < window → AllByRecursion IsAnnotation list → IsWithinLimits list
+pub read-alone : (base start : ℕ) (list : List Annotation) → base < window → start < window →
+    AllByRecursion IsAnnotation list → IsWithinLimits list
     → IsRead (block_text base start list) base Any start list
 read-alone base start list low in-window' all limits =
-    subst (λ (x : List ℕ). IsRead x base Any start list) (append-nil (block_text base start list)) (read-any base start 0 list low in-window' all limits)
+    subst (λ (x : List ℕ). IsRead x base Any start list) (append-nil (block_text base start list))
+    (read-any base start 0 list low in-window' all limits)
 
 -- what is read at a place is read without one
-pub blocks-read-elsewhere : (bs : List (List ℕ)) (s : ℕ) (p : Place) (start : ℕ) (list : List Annotation) → AreRead bs s p start list → AreRead bs s Any start list
+pub blocks-read-elsewhere : (bs : List (List ℕ)) (s : ℕ) (p : Place) (start : ℕ)
+    (list : List Annotation) → AreRead bs s p start list → AreRead bs s Any start list
 blocks-read-elsewhere bs s p start list r = record {
   tals = r.tals;
   lists = r.lists;
@@ -172,12 +244,15 @@ blocks-read-elsewhere bs s p start list r = record {
   list_is = r.list_is;
 }
 
-pub read-elsewhere : (b : List ℕ) (s : ℕ) (p : Place) (start : ℕ) (list : List Annotation) → IsRead b s p start list → IsRead b s Any start list
+pub read-elsewhere : (b : List ℕ) (s : ℕ) (p : Place) (start : ℕ) (list : List Annotation) →
+    IsRead b s p start list → IsRead b s Any start list
 read-elsewhere b s p start list r = blocks-read-elsewhere (b ∷ []) s p start list r
 
 -- a canonical block is written of one start and list
-pub one-writing : (base m n : ℕ) (k l : List Annotation) → base < window → m < window → n < window → AllByRecursion IsAnnotation k → AllByRecursion IsAnnotation l
-    → IsWithinLimits k → IsWithinLimits l → block_text base m k ≡ block_text base n l → SameAnswer m n k l
+pub one-writing : (base m n : ℕ) (k l : List Annotation) → base < window → m < window → n < window →
+    AllByRecursion IsAnnotation k → AllByRecursion IsAnnotation l
+    → IsWithinLimits k → IsWithinLimits l → block_text base m k ≡ block_text base n l →
+    SameAnswer m n k l
 one-writing base m n k l low p q a b c d e =
     one-read (block_text base m k) base Any m n k l (read-alone base m k low p a c)
     (subst (λ (x : List ℕ). IsRead x base Any n l) (sym e) (read-alone base n l low q b d))

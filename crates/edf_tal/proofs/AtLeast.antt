@@ -1,5 +1,8 @@
 -- The blocks of a data record are read, or have a fault.
-use Rattle.std.proofs.Common.{◌≡◌, ℕ, zero, suc, ◌+◌, ◌-◌, ◌^◌, ◌≤◌, ◌<◌, ◌⊎◌, inl, inr, Bool, true, false, ◌&&◌, List, [], ◌∷◌, ◌++◌, length, arith, refl, sym, ap, ◌∙◌, subst, append-nil, append_assoc, ℤ, pos, negsuc, ◌≤ℤ◌, ◌<ℤ◌, ◌+ℤ◌, Option, Some, None}
+use Rattle.std.proofs.Common.{◌≡◌, ℕ, zero, suc, ◌+◌, ◌-◌, ◌^◌, ◌≤◌, ◌<◌, ◌⊎◌, inl, inr, Bool, true}
+use Rattle.std.proofs.Common.{false, ◌&&◌, List, [], ◌∷◌, ◌++◌, length, arith, refl, sym, ap, ◌∙◌}
+use Rattle.std.proofs.Common.{subst, append-nil, append_assoc, ℤ, pos, negsuc, ◌≤ℤ◌, ◌<ℤ◌, ◌+ℤ◌}
+use Rattle.std.proofs.Common.{Option, Some, None}
 use Rattle.std.specs.Prelude.{sum_by, IsTrue, IsUtf8, IfSome, ◌↔◌}
 use Rattle.std.specs.Str.{is_utf8}
 use Rattle.std.specs.List.{AllByRecursion}
@@ -9,7 +12,8 @@ use Rattle.std.proofs.lemmas.Str.{IsUtf8-from_is_utf8, is_utf8-from_IsUtf8}
 use Rattle.edf_time.specs.Civil.{window}
 use Rattle.edf_tal.specs.Tal.{Tal, Annotation, IsText, ended, IsTalInWindow, instant}
 use Rattle.edf_tal.specs.Block.{AreRead, IsRead, IsBadText, IsBroken, IsBlocksFault, IsBlockFault}
-use Rattle.edf_tal.specs.Inside.Scan.{Lacks, NoTal, AreZeros, IsTalAtFront, IsBadAmong, AreGoodTexts, FollowsTals, IsSurvey, KeepsSecond, KeepsOrder}
+use Rattle.edf_tal.specs.Inside.Scan.{Lacks, NoTal, AreZeros, IsTalAtFront, IsBadAmong}
+use Rattle.edf_tal.specs.Inside.Scan.{AreGoodTexts, FollowsTals, IsSurvey, KeepsSecond, KeepsOrder}
 use Rattle.edf_tal.specs.Inside.Blocks.{AreSurveyed, HasForm}
 use Rattle.edf_tal.specs.declared.blocks.Sums.{Sums}
 use Rattle.edf_tal.specs.declared.blocks.Form.{Form}
@@ -17,12 +21,19 @@ use Rattle.edf_tal.specs.declared.blocks.Form.TheVariants.{Good, BadText}
 use Rattle.edf_tal.specs.declared.place.Place.{Place}
 use Rattle.edf_tal.specs.declared.place.Place.TheVariants.{First, After, Any}
 use Rattle.edf_tal.specs.declared.place.TalFault.{TalFault}
-use Rattle.edf_tal.specs.declared.place.TalFault.TheVariants.{Tal as NotTals, Text, NotTimed, FirstOnset, Window, Order, TooMany, Memory}
+use Rattle.edf_tal.specs.declared.place.TalFault.TheVariants.{Tal as NotTals, Text, NotTimed}
+use Rattle.edf_tal.specs.declared.place.TalFault.TheVariants.{FirstOnset, Window, Order, TooMany}
+use Rattle.edf_tal.specs.declared.place.TalFault.TheVariants.{Memory}
 use Rattle.edf_tal.proofs.Unique.{Lacks-text}
 use Rattle.edf_tal.proofs.Decide.{Front, front}
-use Rattle.edf_tal.proofs.Totals.{behind-none, behind-more, behind-behind, front-shorter, good-count, survey-none, survey-more, survey-bad, survey-behind, both-true}
-use Rattle.edf_tal.proofs.Joined.{form-append, form-lists, form-bad, broken-one, broken-front, broken-back, surveyed-one, surveyed-none}
-use Rattle.edf_tal.proofs.Judge.{Known, IsEmptyFirst, known, timed, checked, fault-tal, fault-empty, fault-text, fault-none, fault-untimed, fault-second, fault-window, fault-order, fault-many}
+use Rattle.edf_tal.proofs.Totals.{behind-none, behind-more, behind-behind, front-shorter}
+use Rattle.edf_tal.proofs.Totals.{good-count, survey-none, survey-more, survey-bad, survey-behind}
+use Rattle.edf_tal.proofs.Totals.{both-true}
+use Rattle.edf_tal.proofs.Joined.{form-append, form-lists, form-bad, broken-one, broken-front}
+use Rattle.edf_tal.proofs.Joined.{broken-back, surveyed-one, surveyed-none}
+use Rattle.edf_tal.proofs.Judge.{Known, IsEmptyFirst, known, timed, checked, fault-tal, fault-empty}
+use Rattle.edf_tal.proofs.Judge.{fault-text, fault-none, fault-untimed, fault-second, fault-window}
+use Rattle.edf_tal.proofs.Judge.{fault-order, fault-many}
 
 -- ---- what is decided
 
@@ -31,13 +42,18 @@ utf8 text = go (is_utf8 text) refl
   where
     go : (b : Bool) → is_utf8 text ≡ b → IsUtf8 text ⊎ (¬ IsUtf8 text)
     go true e = inl (IsUtf8-from_is_utf8 text e)
-    go false e = inr (λ u. let both : false ≡ true = sym e ∙ is_utf8-from_IsUtf8 text u in absurd cc)
+    go false e = inr (λ u. let both : false ≡ true = sym e ∙ is_utf8-from_IsUtf8 text u in
+        absurd cc)
 
 zeros : (bytes : List ℕ) → AreZeros bytes ⊎ (¬ AreZeros bytes)
 zeros [] = inl tt
 zeros (b ∷ bytes) =
     elim (cases_eq b 0) [
-      | inl is ↦ elim (zeros bytes) [ inl all ↦ inl (is, all) | inr never ↦ inr (λ all. never all.1) ]
+      | inl is ↦ elim (zeros bytes) [
+        | inl all ↦ inl (is, all)
+        | inr never ↦
+            inr (λ all. never all.1)
+      ]
       | inr isnt ↦ inr (λ all. isnt all.0)
     ]
 
@@ -53,7 +69,11 @@ below (negsuc m) n = inr (λ h. let le : pos 0 ≤ℤ negsuc m = h.0 in absurd (
 short-duration : (d : Option ℕ) → IfSome d (λ n. n < window) ⊎ (¬ IfSome d (λ n. n < window))
 short-duration None = inl tt
 short-duration (Some n) =
-    elim (cases_lt n window) [ inl low ↦ inl low | inr high ↦ inr (λ low. let l : n < window = low in absurd (omega arith)) ]
+    elim (cases_lt n window) [
+      | inl low ↦ inl low
+      | inr high ↦
+          inr (λ low. let l : n < window = low in absurd (omega arith))
+    ]
 
 in-window : (s : ℕ) (t : Tal) → IsTalInWindow s t ⊎ (¬ IsTalInWindow s t)
 in-window s t =
@@ -71,7 +91,8 @@ bit (inl p) = (true, (λ h. p, λ h. refl))
 bit (inr never) = (false, (λ h. absurd (let e : false ≡ true = h in cc), λ p. absurd (never p)))
 
 -- the texts of a TAL
-texts-of : (xs : List (List ℕ)) → AllByRecursion IsText xs → AllByRecursion (λ x. Lacks 20 x × IsUtf8 x) xs ⊎ ((at : ℕ) × IsBadAmong (ended xs) at)
+texts-of : (xs : List (List ℕ)) → AllByRecursion IsText xs →
+    AllByRecursion (λ x. Lacks 20 x × IsUtf8 x) xs ⊎ ((at : ℕ) × IsBadAmong (ended xs) at)
 texts-of [] a = inl tt
 texts-of (x ∷ xs) a =
     elim (utf8 x) [
@@ -83,7 +104,9 @@ texts-of (x ∷ xs) a =
             good = x ∷ bad.1.good;
             text = bad.1.text;
             back = bad.1.back;
-            parts = ap (λ (w : List ℕ). (x ++ 20 ∷ []) ++ w) bad.1.parts ∙ sym (append_assoc (x ++ 20 ∷ []) (ended bad.1.good) (bad.1.text ++ 20 ∷ bad.1.back));
+            parts = ap (λ (w : List ℕ). (x ++ 20 ∷ []) ++ w) bad.1.parts
+                ∙ sym (append_assoc (x ++ 20 ∷ []) (ended bad.1.good) (bad.1.text
+                ++ 20 ∷ bad.1.back));
             good_texts = ((Lacks-text x a.0, u), bad.1.good_texts);
             is_text = bad.1.is_text;
             bad = bad.1.bad;
@@ -93,28 +116,52 @@ texts-of (x ∷ xs) a =
       ]
       | inr never ↦ inr (
         0,
-        record { good = []; text = x; back = ended xs; parts = append_assoc x (20 ∷ []) (ended xs); good_texts = tt; is_text = Lacks-text x a.0; bad = never; place = refl },
+        record {
+          good = [];
+          text = x;
+          back = ended xs;
+          parts = append_assoc x (20 ∷ []) (ended xs);
+          good_texts = tt;
+          is_text = Lacks-text x a.0;
+          bad = never;
+          place = refl;
+        },
       )
     ]
 
-front-texts : (bytes texts rest : List ℕ) (t : Tal) → IsTalAtFront bytes texts rest t → AreGoodTexts texts (length t.texts) ⊎ ((at : ℕ) × IsBadAmong texts at)
+front-texts : (bytes texts rest : List ℕ) (t : Tal) → IsTalAtFront bytes texts rest t →
+    AreGoodTexts texts (length t.texts) ⊎ ((at : ℕ) × IsBadAmong texts at)
 front-texts bytes texts rest t f =
     elim (texts-of t.texts f.tal.are_texts) [
-      | inl good ↦ inl (record { list = t.texts; rest = []; parts = f.texts_are ∙ sym (append-nil (ended t.texts)); good = good; is_rest = tt; count_is = refl })
+      | inl good ↦ inl (record {
+        list = t.texts;
+        rest = [];
+        parts = f.texts_are
+            ∙ sym (append-nil (ended t.texts));
+        good = good;
+        is_rest = tt;
+        count_is = refl;
+      })
       | inr bad ↦ inr (bad.0, subst (λ (w : List ℕ). IsBadAmong w bad.0) (sym f.texts_are) bad.1)
     ]
 
 -- ---- the walk over the TALs
 
 -- what comes after the TALs
-behind : (fuel : ℕ) (bytes : List ℕ) → length bytes < fuel → (rest : List ℕ) × FollowsTals bytes rest × NoTal rest
+behind : (fuel : ℕ) (bytes : List ℕ) → length bytes < fuel → (rest : List ℕ)
+    × FollowsTals bytes rest × NoTal rest
 behind zero bytes short = absurd (omega arith)
 behind (suc fuel) bytes short =
     elim (front bytes) [
       | inl f ↦
           let less = front-shorter bytes f.texts f.rest f.tal f.is_front in
-          let more = behind fuel f.rest (omega arith) in
-          (more.0, behind-behind bytes f.rest more.0 (behind-more bytes bytes f.texts f.rest f.tal (behind-none bytes) f.is_front) more.1, more.2)
+          let more = behind fuel f.rest (omega arith) in (
+            more.0,
+            behind-behind bytes f.rest more.0
+                (behind-more bytes bytes f.texts f.rest f.tal (behind-none bytes) f.is_front)
+                more.1,
+            more.2,
+          )
       | inr none ↦ (bytes, behind-none bytes, none)
     ]
 
@@ -134,19 +181,23 @@ pub record IsBadSurvey (block : List ℕ) : Type 0 where
   pub last : NoTal rest
   pub bad : IsBadText block at
 
-bad-survey : (block rest : List ℕ) (s : ℕ) (in_window : Bool) (count bytes : ℕ) (f : Front rest) (at : ℕ) → IsSurvey block s rest in_window count bytes
+bad-survey : (block rest : List ℕ) (s : ℕ) (in_window : Bool) (count bytes : ℕ) (f : Front rest)
+    (at : ℕ) → IsSurvey block s rest in_window count bytes
     → IsBadAmong f.texts at → IsBadSurvey block
 bad-survey block rest s in_window count bytes f at v b =
     let more = behind (suc (length f.rest)) f.rest (omega arith) in
     record {
       rest = more.0;
       at = length block - length f.rest - 1 - length f.texts + at;
-      is_behind = behind-behind block f.rest more.0 (behind-more block rest f.texts f.rest f.tal (survey-behind block rest s in_window count bytes v) f.is_front) more.1;
+      is_behind = behind-behind block f.rest more.0
+          (behind-more block rest f.texts f.rest f.tal
+          (survey-behind block rest s in_window count bytes v) f.is_front) more.1;
       last = more.2;
       bad = survey-bad block rest f.texts f.rest s f.tal in_window count bytes at v f.is_front b;
     }
 
-walk : (fuel : ℕ) (block rest : List ℕ) (s : ℕ) (in_window : Bool) (count bytes : ℕ) → length rest < fuel → IsSurvey block s rest in_window count bytes
+walk : (fuel : ℕ) (block rest : List ℕ) (s : ℕ) (in_window : Bool) (count bytes : ℕ) →
+    length rest < fuel → IsSurvey block s rest in_window count bytes
     → Surveyed block s ⊎ IsBadSurvey block
 walk zero block rest s in_window count bytes short v = absurd (omega arith)
 walk (suc fuel) block rest s in_window count bytes short v =
@@ -156,17 +207,28 @@ walk (suc fuel) block rest s in_window count bytes short v =
             let less = front-shorter rest f.texts f.rest f.tal f.is_front in
             let few = good-count f.texts (length f.tal.texts) good in
             let here = bit (in-window s f.tal) in
-            let sum : length f.tal.texts + (length f.texts - length f.tal.texts) ≡ length f.texts = omega arith in
-            walk fuel block f.rest s (in_window && here.0) (count + length f.tal.texts) (bytes + (length f.texts - length f.tal.texts)) (omega arith)
-            (survey-more block rest f.texts f.rest s f.tal in_window (in_window && here.0) here.0 count bytes (length f.tal.texts) (length f.texts - length f.tal.texts)
+            let sum : length f.tal.texts + (length f.texts - length f.tal.texts) ≡ length f.texts =
+            omega arith in
+            walk fuel block f.rest s (in_window && here.0) (count + length f.tal.texts)
+            (bytes + (length f.texts - length f.tal.texts)) (omega arith)
+            (survey-more block rest f.texts f.rest s f.tal in_window (in_window && here.0) here.0
+            count bytes (length f.tal.texts) (length f.texts - length f.tal.texts)
             v f.is_front good here.1 (both-true in_window here.0) sum)
         | inr bad ↦ inr (bad-survey block rest s in_window count bytes f bad.0 v bad.1)
       ]
-      | inr none ↦ inl (record { rest = rest; in_window = in_window; count = count; bytes = bytes; is_survey = v; last = none })
+      | inr none ↦ inl (record {
+        rest = rest;
+        in_window = in_window;
+        count = count;
+        bytes = bytes;
+        is_survey = v;
+        last = none;
+      })
     ]
 
 survey : (block : List ℕ) (s : ℕ) → Surveyed block s ⊎ IsBadSurvey block
-survey block s = walk (suc (length block)) block block s true 0 0 (omega arith) (survey-none block s)
+survey block s = walk (suc (length block)) block block s true 0 0 (omega arith)
+    (survey-none block s)
 
 -- ---- the first TAL's rules
 
@@ -178,21 +240,32 @@ keeps-second Any z = inl tt
 keeps-order : (p : Place) (start : ℕ) → KeepsOrder p start ⊎ (¬ KeepsOrder p start)
 keeps-order First start = inl tt
 keeps-order (After before duration) start =
-    elim (cases_lt start (before + duration)) [ inl low ↦ inr (λ h. let le : before + duration ≤ start = h in absurd (omega arith)) | inr high ↦ inl high ]
+    elim (cases_lt start (before + duration)) [
+      | inl low ↦
+          inr (λ h. let le : before + duration ≤ start = h in absurd (omega arith))
+      | inr high ↦
+          inl high
+    ]
 keeps-order Any start = inl tt
 
 true-or-not : (b : Bool) → IsTrue b ⊎ (¬ IsTrue b)
 true-or-not true = inl refl
 true-or-not false = inr (λ h. absurd (let e : false ≡ true = h in cc))
 
-limits : (count bytes : ℕ) → ((count ≤ 10_001) × (bytes ≤ 1_000_000)) ⊎ (¬ ((count ≤ 10_001) × (bytes ≤ 1_000_000)))
+limits : (count bytes : ℕ) → ((count ≤ 10_001) × (bytes ≤ 1_000_000))
+    ⊎ (¬ ((count ≤ 10_001) × (bytes ≤ 1_000_000)))
 limits count bytes =
     elim (cases_lt 10_001 count) [
       | inl many ↦ inr (λ h. let le = h.0 in absurd (omega arith))
-      | inr few ↦ elim (cases_lt 1_000_000 bytes) [ inl many ↦ inr (λ h. let le = h.1 in absurd (omega arith)) | inr short ↦ inl (few, short) ]
+      | inr few ↦ elim (cases_lt 1_000_000 bytes) [
+        | inl many ↦
+            inr (λ h. let le = h.1 in absurd (omega arith))
+        | inr short ↦ inl (few, short)
+      ]
     ]
 
-first-empty : (texts : List ℕ) → ((rest : List ℕ) × (texts ≡ 20 ∷ rest)) ⊎ (¬ ((rest : List ℕ) × (texts ≡ 20 ∷ rest)))
+first-empty : (texts : List ℕ) → ((rest : List ℕ) × (texts ≡ 20 ∷ rest))
+    ⊎ (¬ ((rest : List ℕ) × (texts ≡ 20 ∷ rest)))
 first-empty [] = inr (λ (rest, e). absurd cc)
 first-empty (b ∷ texts) =
     elim (cases_eq b 20) [
@@ -202,12 +275,25 @@ first-empty (b ∷ texts) =
 
 -- ---- what blocks are
 
-form : (b : List ℕ) (s : ℕ) → ((f : Form) × HasForm (b ∷ []) s f) ⊎ ((at : ℕ) × IsBroken (b ∷ []) at)
+form : (b : List ℕ) (s : ℕ) → ((f : Form) × HasForm (b ∷ []) s f)
+    ⊎ ((at : ℕ) × IsBroken (b ∷ []) at)
 form b s =
     elim (survey b s) [
       | inl v ↦ elim (zeros v.rest) [
-        | inl z ↦ inl (Good (record { in_window = v.in_window; count = v.count; text_bytes = v.bytes }), surveyed-one b v.rest s v.in_window v.count v.bytes v.is_survey z)
-        | inr never ↦ inr (length b - length v.rest, broken-one b v.rest (survey-behind b v.rest s v.in_window v.count v.bytes v.is_survey) v.last never)
+        | inl z ↦ inl (
+          Good (record {
+            in_window = v.in_window;
+            count = v.count;
+            text_bytes =
+                v.bytes;
+          }),
+          surveyed-one b v.rest s v.in_window v.count v.bytes v.is_survey z,
+        )
+        | inr never ↦ inr (
+          length b - length v.rest,
+          broken-one b v.rest (survey-behind b v.rest s v.in_window v.count v.bytes v.is_survey)
+              v.last never,
+        )
       ]
       | inr x ↦ elim (zeros x.rest) [
         | inl z ↦ inl (BadText x.at, form-bad b x.rest s x.at x.is_behind z x.bad)
@@ -221,7 +307,8 @@ forms (b ∷ bs) s =
     elim (form b s) [
       | inl f ↦ elim (forms bs s) [
         | inl g ↦ inl (form-append (b ∷ []) bs s f.0 g.0 f.1 g.1)
-        | inr x ↦ let l = form-lists (b ∷ []) s f.0 f.1 in inr (sum_by length (b ∷ []) + x.0, broken-back (b ∷ []) bs l.0 x.0 l.1 x.1)
+        | inr x ↦ let l = form-lists (b ∷ []) s f.0 f.1 in
+            inr (sum_by length (b ∷ []) + x.0, broken-back (b ∷ []) bs l.0 x.0 l.1 x.1)
       ]
       | inr x ↦ inr (x.0, broken-front (b ∷ []) bs x.0 x.1)
     ]
@@ -230,14 +317,18 @@ forms (b ∷ bs) s =
 
 -- a start and a list, or a fault
 abbrev pub HaveAnswer : List (List ℕ) → ℕ → Place → Type 0
-HaveAnswer bs s p = ((start : ℕ) × (list : List Annotation) × AreRead bs s p start list) ⊎ ((e : TalFault) × IsBlocksFault bs s p e)
+HaveAnswer bs s p = ((start : ℕ) × (list : List Annotation) × AreRead bs s p start list)
+    ⊎ ((e : TalFault) × IsBlocksFault bs s p e)
 
 -- of TALs and zeros, the first of which is known
-module _ (bs : List (List ℕ)) (s : ℕ) (p : Place) (sums : Sums) (t : Tal) (k : Known bs s sums t) (empty : IsEmptyFirst t) where
-  by-limits : KeepsSecond p t.onset → IsTrue sums.in_window → KeepsOrder p (instant s t.onset) → HaveAnswer bs s p
+module _ (bs : List (List ℕ)) (s : ℕ) (p : Place) (sums : Sums) (t : Tal) (k : Known bs s sums t)
+    (empty : IsEmptyFirst t) where
+  by-limits : KeepsSecond p t.onset → IsTrue sums.in_window → KeepsOrder p (instant s t.onset) →
+      HaveAnswer bs s p
   by-limits second window order =
       elim (limits sums.count sums.text_bytes) [
-        | inl few ↦ let c = checked bs s p sums t k (instant s t.onset) empty second window refl order few in inl (instant s t.onset, c.list, c.read)
+        | inl few ↦ let c = checked bs s p sums t k (instant s t.onset) empty second window refl
+            order few in inl (instant s t.onset, c.list, c.read)
         | inr many ↦ inr (TooMany, fault-many bs s p sums t k empty second window order many)
       ]
 
@@ -255,7 +346,8 @@ module _ (bs : List (List ℕ)) (s : ℕ) (p : Place) (sums : Sums) (t : Tal) (k
       ]
 
 -- of TALs and zeros
-judged : (bs : List (List ℕ)) (s : ℕ) (p : Place) (sums : Sums) → AreSurveyed bs s sums → HaveAnswer bs s p
+judged : (bs : List (List ℕ)) (s : ℕ) (p : Place) (sums : Sums) → AreSurveyed bs s sums →
+    HaveAnswer bs s p
 judged [] s p sums v = inr (NotTimed, fault-empty s p)
 judged (b ∷ bs) s p sums v =
     elim (front b) [
@@ -263,7 +355,11 @@ judged (b ∷ bs) s p sums v =
           let k = known b bs f.texts f.rest s sums f.tal v f.is_front in
           elim (first-empty f.texts) [
             | inl e ↦ by-rules (b ∷ bs) s p sums f.tal k (timed b f.texts f.rest f.tal f.is_front e)
-            | inr never ↦ inr (NotTimed, fault-untimed (b ∷ bs) s p sums f.tal k b f.texts f.rest f.is_front never)
+            | inr never ↦ inr (
+              NotTimed,
+              fault-untimed (b ∷ bs) s p sums f.tal k b f.texts f.rest
+                  f.is_front never,
+            )
           ]
       | inr none ↦ inr (NotTimed, fault-none b bs s p sums v none)
     ]
@@ -273,7 +369,11 @@ by-form bs s p (Good sums) v = judged bs s p sums v
 by-form bs s p (BadText at) h = inr (Text at, fault-text bs s p at h.0 h.1)
 
 pub blocks-some-answer : (bs : List (List ℕ)) (s : ℕ) (p : Place) → HaveAnswer bs s p
-blocks-some-answer bs s p = elim (forms bs s) [ inl f ↦ by-form bs s p f.0 f.1 | inr x ↦ inr (NotTals x.0, fault-tal bs s p x.0 x.1) ]
+blocks-some-answer bs s p = elim (forms bs s) [
+  | inl f ↦ by-form bs s p f.0 f.1
+  | inr x ↦
+      inr (NotTals x.0, fault-tal bs s p x.0 x.1)
+]
 
 pub blocks-no-memory : (bs : List (List ℕ)) (s : ℕ) (p : Place) → ¬ IsBlocksFault bs s p Memory
 blocks-no-memory bs s p f = f.holds
@@ -281,7 +381,8 @@ blocks-no-memory bs s p f = f.holds
 -- ---- the same of a data record with one block
 
 abbrev pub HasAnswer : List ℕ → ℕ → Place → Type 0
-HasAnswer b s p = ((start : ℕ) × (list : List Annotation) × IsRead b s p start list) ⊎ ((e : TalFault) × IsBlockFault b s p e)
+HasAnswer b s p = ((start : ℕ) × (list : List Annotation) × IsRead b s p start list)
+    ⊎ ((e : TalFault) × IsBlockFault b s p e)
 
 pub some-answer : (b : List ℕ) (s : ℕ) (p : Place) → HasAnswer b s p
 some-answer b s p = blocks-some-answer (b ∷ []) s p

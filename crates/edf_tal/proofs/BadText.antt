@@ -1,9 +1,11 @@
 -- The first text that is no UTF-8 has one place.
-use Rattle.std.proofs.Common.{◌≡◌, ℕ, ◌+◌, List, [], ◌∷◌, ◌++◌, length, arith, refl, sym, ap, ◌∙◌, subst, append_assoc, ℤ, Option}
+use Rattle.std.proofs.Common.{◌≡◌, ℕ, ◌+◌, List, [], ◌∷◌, ◌++◌, length, arith, refl, sym, ap, ◌∙◌}
+use Rattle.std.proofs.Common.{subst, append_assoc, ℤ, Option}
 use Rattle.std.specs.Prelude.{IsUtf8}
 use Rattle.std.specs.List.{AllByRecursion}
 use Rattle.std.proofs.lemmas.List.{length-append}
-use Rattle.edf_tal.specs.Tal.{Tal, IsTal, IsOnset, IsDurationPart, IsText, ended, AreTals, AreTalsAndZeros, HaveUtf8Texts}
+use Rattle.edf_tal.specs.Tal.{Tal, IsTal, IsOnset, IsDurationPart, IsText, ended, AreTals}
+use Rattle.edf_tal.specs.Tal.{AreTalsAndZeros, HaveUtf8Texts}
 use Rattle.edf_tal.specs.Block.{IsBadText}
 use Rattle.edf_tal.specs.Inside.Scan.{Lacks, AreZeros}
 use Rattle.edf_tal.proofs.Unique.{same-sides, Lacks-append, Lacks-onset, Lacks-duration, Lacks-text}
@@ -60,10 +62,12 @@ bad-split bytes at b = record {
     bad = b.bad;
     place = refl;
   };
-  place = let e : at ≡ length b.front + length b.onset + length b.duration + 1 + length (ended b.good) = b.place in omega arith;
+  place = let e : at ≡ length b.front + length b.onset + length b.duration + 1 + length
+      (ended b.good) = b.place in omega arith;
 }
 
-pub bad-join : (bytes front rest : List ℕ) (tals : List Tal) (at inner : ℕ) → bytes ≡ front ++ rest → AreTals front tals → HaveUtf8Texts tals
+pub bad-join : (bytes front rest : List ℕ) (tals : List Tal) (at inner : ℕ) → bytes ≡ front
+    ++ rest → AreTals front tals → HaveUtf8Texts tals
     → IsBadFront rest inner → at ≡ length front + inner → IsBadText bytes at
 bad-join bytes front rest tals at inner e whole good b place = record {
   front = front;
@@ -81,7 +85,8 @@ bad-join bytes front rest tals at inner e whole good b place = record {
   good_texts = b.good_texts;
   is_text = b.is_text;
   bad = b.bad;
-  place = let p : inner ≡ length b.onset + length b.duration + 1 + length (ended b.good) = b.place in omega arith;
+  place = let p : inner ≡ length b.onset + length b.duration + 1 + length (ended b.good) =
+      b.place in omega arith;
 }
 
 -- a text and its end do not begin with 0
@@ -90,73 +95,107 @@ no-zero [] back rest p e = let z : ◌≡◌ {A = ℕ} 20 0 = cc in absurd (omeg
 no-zero (b ∷ text) back rest p e = p.0.0 (let z : b ≡ 0 = cc in z)
 
 -- the first text and what is after it
-pub first-text : (x : List ℕ) (xs : List (List ℕ)) (rest : List ℕ) → ended (x ∷ xs) ++ rest ≡ x ++ 20 ∷ (ended xs ++ rest)
-first-text x xs rest = append_assoc (x ++ 20 ∷ []) (ended xs) rest ∙ append_assoc x (20 ∷ []) (ended xs ++ rest)
+pub first-text : (x : List ℕ) (xs : List (List ℕ)) (rest : List ℕ) → ended (x ∷ xs) ++ rest ≡ x
+    ++ 20 ∷ (ended xs ++ rest)
+first-text x xs rest = append_assoc (x ++ 20 ∷ []) (ended xs) rest
+    ∙ append_assoc x (20 ∷ []) (ended xs ++ rest)
 
 -- a text after good ones is one of the TAL's
-among : (good xs : List (List ℕ)) (text back rest : List ℕ) → AllByRecursion (λ x. IsText x × IsUtf8 x) good → IsText text
-    → AllByRecursion IsText xs → AllByRecursion IsUtf8 xs → ended good ++ (text ++ 20 ∷ back) ≡ ended xs ++ 0 ∷ rest → IsUtf8 text
+among : (good xs : List (List ℕ)) (text back rest : List ℕ) →
+    AllByRecursion (λ x. IsText x × IsUtf8 x) good → IsText text
+    → AllByRecursion IsText xs → AllByRecursion IsUtf8 xs → ended good
+    ++ (text ++ 20 ∷ back) ≡ ended xs ++ 0 ∷ rest → IsUtf8 text
 among [] [] text back rest g p ts us e = absurd (no-zero text back rest p e)
 among [] (x ∷ xs) text back rest g p ts us e =
-    let s = same-sides 20 text x back (ended xs ++ 0 ∷ rest) (Lacks-text text p) (Lacks-text x ts.0) (e ∙ first-text x xs (0 ∷ rest)) in
+    let s = same-sides 20 text x back (ended xs ++ 0 ∷ rest) (Lacks-text text p) (Lacks-text x ts.0)
+    (e ∙ first-text x xs (0 ∷ rest)) in
     rw (s.front) (us.0)
 among (y ∷ good) [] text back rest g p ts us e =
-    absurd (no-zero y (ended good ++ (text ++ 20 ∷ back)) rest g.0.0 (sym (first-text y good (text ++ 20 ∷ back)) ∙ e))
+    absurd (no-zero y (ended good ++ (text ++ 20 ∷ back)) rest g.0.0
+    (sym (first-text y good (text ++ 20 ∷ back)) ∙ e))
 among (y ∷ good) (x ∷ xs) text back rest g p ts us e =
-    let s = same-sides 20 y x (ended good ++ (text ++ 20 ∷ back)) (ended xs ++ 0 ∷ rest) (Lacks-text y g.0.0) (Lacks-text x ts.0)
+    let s = same-sides 20 y x (ended good ++ (text ++ 20 ∷ back)) (ended xs
+    ++ 0 ∷ rest) (Lacks-text y g.0.0) (Lacks-text x ts.0)
     (sym (first-text y good (text ++ 20 ∷ back)) ∙ e ∙ first-text x xs (0 ∷ rest)) in
     among good xs text back rest g.1 p ts.1 us.1 s.back
 
-Lacks-head : (o d : List ℕ) → ((z : ℤ) × IsOnset o z) → ((k : Option ℕ) × IsDurationPart d k) → Lacks 20 (o ++ d)
-Lacks-head o d (z, p) (k, q) = Lacks-append 20 o d (Lacks-onset 20 o z (omega arith) p) (Lacks-duration d k q)
+Lacks-head : (o d : List ℕ) → ((z : ℤ) × IsOnset o z) → ((k : Option ℕ) × IsDurationPart d k) →
+    Lacks 20 (o ++ d)
+Lacks-head o d (z, p) (k, q) = Lacks-append 20 o d (Lacks-onset 20 o z (omega arith) p)
+    (Lacks-duration d k q)
 
 -- a good TAL has no bad text
-pub good-front : (bytes front rest : List ℕ) (t : Tal) (at : ℕ) → bytes ≡ front ++ rest → IsTal front t → AllByRecursion IsUtf8 t.texts → IsBadFront bytes at → ⊥
+pub good-front : (bytes front rest : List ℕ) (t : Tal) (at : ℕ) → bytes ≡ front ++ rest →
+    IsTal front t → AllByRecursion IsUtf8 t.texts → IsBadFront bytes at → ⊥
 good-front bytes front rest t at e s good b =
-    let sides = same-sides 20 (b.onset ++ b.duration) (s.onset ++ s.duration) (ended b.good ++ (b.text ++ 20 ∷ b.back)) (ended t.texts ++ 0 ∷ rest)
-    (Lacks-head b.onset b.duration b.is_onset b.is_duration) (Lacks-head s.onset s.duration (t.onset, s.is_onset) (t.duration, s.is_duration))
+    let sides = same-sides 20 (b.onset ++ b.duration) (s.onset ++ s.duration) (ended b.good
+    ++ (b.text ++ 20 ∷ b.back)) (ended t.texts ++ 0 ∷ rest)
+    (Lacks-head b.onset b.duration b.is_onset b.is_duration)
+    (Lacks-head s.onset s.duration (t.onset, s.is_onset) (t.duration, s.is_duration))
     (sym b.parts ∙ e ∙ tal-sides front rest t s) in
-    b.bad (among b.good t.texts b.text b.back rest b.good_texts b.is_text s.are_texts good sides.back)
+    b.bad (among b.good t.texts b.text b.back rest b.good_texts b.is_text s.are_texts good
+    sides.back)
 
 zeros-front : (zeros : List ℕ) (at : ℕ) → AreZeros zeros → IsBadFront zeros at → ⊥
 zeros-front zeros at a b =
-    no-onset b.onset (b.duration ++ 20 ∷ (ended b.good ++ (b.text ++ 20 ∷ b.back))) zeros b.is_onset.0 a b.is_onset.1
+    no-onset b.onset (b.duration ++ 20 ∷ (ended b.good ++ (b.text ++ 20 ∷ b.back))) zeros
+    b.is_onset.0 a b.is_onset.1
     (b.parts ∙ append_assoc b.onset b.duration (20 ∷ (ended b.good ++ (b.text ++ 20 ∷ b.back))))
 
-regroup : (f r x f' r' x' front front' : List ℕ) → front ≡ f ++ r → front' ≡ f' ++ r' → front ++ x ≡ front' ++ x' → f ++ (r ++ x) ≡ f' ++ (r' ++ x')
+regroup : (f r x f' r' x' front front' : List ℕ) → front ≡ f ++ r → front' ≡ f' ++ r' → front
+    ++ x ≡ front' ++ x' → f ++ (r ++ x) ≡ f' ++ (r' ++ x')
 regroup f r x f' r' x' front front' p q e =
-    sym (append_assoc f r x) ∙ ap (λ (w : List ℕ). w ++ x) (sym p) ∙ e ∙ ap (λ (w : List ℕ). w ++ x') q ∙ append_assoc f' r' x'
+    sym (append_assoc f r x) ∙ ap (λ (w : List ℕ). w ++ x) (sym p) ∙ e
+    ∙ ap (λ (w : List ℕ). w ++ x') q ∙ append_assoc f' r' x'
 
 -- good TALs and zeros have no bad text
-no-bad : (us ts : List Tal) (front rest front' zeros : List ℕ) (at : ℕ) → AreTals front us → AreTals front' ts → HaveUtf8Texts ts → AreZeros zeros
+no-bad : (us ts : List Tal) (front rest front' zeros : List ℕ) (at : ℕ) → AreTals front us →
+    AreTals front' ts → HaveUtf8Texts ts → AreZeros zeros
     → IsBadFront rest at → front ++ rest ≡ front' ++ zeros → ⊥
 no-bad [] [] front rest front' zeros at p q good a b e =
-    zeros-front zeros at a (subst (λ (x : List ℕ). IsBadFront x at) (sym (ap (λ (x : List ℕ). x ++ rest) p) ∙ e ∙ ap (λ (x : List ℕ). x ++ zeros) q) b)
+    zeros-front zeros at a (subst (λ (x : List ℕ). IsBadFront x at)
+    (sym (ap (λ (x : List ℕ). x ++ rest) p) ∙ e ∙ ap (λ (x : List ℕ). x ++ zeros) q) b)
 no-bad [] (t ∷ ts) front rest front' zeros at p (f, r, parts, is, more) good a b e =
-    good-front rest f (r ++ zeros) t at (sym (ap (λ (x : List ℕ). x ++ rest) p) ∙ e ∙ ap (λ (x : List ℕ). x ++ zeros) parts ∙ append_assoc f r zeros) is good.0 b
+    good-front rest f (r ++ zeros) t at (sym (ap (λ (x : List ℕ). x ++ rest) p) ∙ e
+    ∙ ap (λ (x : List ℕ). x ++ zeros) parts ∙ append_assoc f r zeros) is good.0 b
 no-bad (u ∷ us) [] front rest front' zeros at (f, r, parts, is, more) q good a b e =
-    zeros-no-tal zeros a f (r ++ rest) u (sym (ap (λ (x : List ℕ). x ++ zeros) q) ∙ sym e ∙ ap (λ (x : List ℕ). x ++ rest) parts ∙ append_assoc f r rest) is
-no-bad (u ∷ us) (t ∷ ts) front rest front' zeros at (f, r, parts, is, more) (f', r', parts', is', more') good a b e =
-    let s = same-front f f' (r ++ rest) (r' ++ zeros) (HasEnd-tal f u is) (HasEnd-tal f' t is') (regroup f r rest f' r' zeros front front' parts parts' e) in
+    zeros-no-tal zeros a f (r ++ rest) u (sym (ap (λ (x : List ℕ). x ++ zeros) q) ∙ sym e
+    ∙ ap (λ (x : List ℕ). x ++ rest) parts ∙ append_assoc f r rest) is
+no-bad (u ∷ us) (t ∷ ts) front rest front' zeros at (f, r, parts, is, more) (
+  f',
+  r',
+  parts',
+  is',
+  more',
+) good a b e =
+    let s = same-front f f' (r ++ rest) (r' ++ zeros) (HasEnd-tal f u is) (HasEnd-tal f' t is')
+    (regroup f r rest f' r' zeros front front' parts parts' e) in
     no-bad us ts r rest r' zeros at more more' good.1 a b s.back
 
-pub good-block : (bytes : List ℕ) (ts : List Tal) (at : ℕ) → AreTalsAndZeros bytes ts → HaveUtf8Texts ts → IsBadText bytes at → ⊥
+pub good-block : (bytes : List ℕ) (ts : List Tal) (at : ℕ) → AreTalsAndZeros bytes ts →
+    HaveUtf8Texts ts → IsBadText bytes at → ⊥
 good-block bytes ts at (front, zeros, parts, tals, are) good b =
     let s = bad-split bytes at b in
-    no-bad s.tals ts s.front s.rest front zeros s.inner s.whole tals good are s.bad (sym s.parts ∙ parts)
+    no-bad s.tals ts s.front s.rest front zeros s.inner s.whole tals good are s.bad (sym s.parts
+    ∙ parts)
 
 -- the good texts before the first bad one
-same-good : (good more : List (List ℕ)) (x y back rest : List ℕ) → AllByRecursion (λ x. IsText x × IsUtf8 x) good → AllByRecursion (λ x. IsText x × IsUtf8 x) more
-    → IsText x → IsText y → ¬ IsUtf8 x → ¬ IsUtf8 y → ended good ++ (x ++ 20 ∷ back) ≡ ended more ++ (y ++ 20 ∷ rest) → good ≡ more
+same-good : (good more : List (List ℕ)) (x y back rest : List ℕ) →
+    AllByRecursion (λ x. IsText x × IsUtf8 x) good → AllByRecursion (λ x. IsText x × IsUtf8 x) more
+    → IsText x → IsText y → ¬ IsUtf8 x → ¬ IsUtf8 y → ended good ++ (x ++ 20 ∷ back) ≡ ended more
+    ++ (y ++ 20 ∷ rest) → good ≡ more
 same-good [] [] x y back rest g m p q b c e = refl
 same-good [] (m ∷ ms) x y back rest g a p q b c e =
-    let s = same-sides 20 x m back (ended ms ++ (y ++ 20 ∷ rest)) (Lacks-text x p) (Lacks-text m a.0.0) (e ∙ first-text m ms (y ++ 20 ∷ rest)) in
+    let s = same-sides 20 x m back (ended ms ++ (y ++ 20 ∷ rest)) (Lacks-text x p)
+    (Lacks-text m a.0.0) (e ∙ first-text m ms (y ++ 20 ∷ rest)) in
     absurd (b (rw (s.front) (a.0.1)))
 same-good (g ∷ gs) [] x y back rest a m p q b c e =
-    let s = same-sides 20 g y (ended gs ++ (x ++ 20 ∷ back)) rest (Lacks-text g a.0.0) (Lacks-text y q) (sym (first-text g gs (x ++ 20 ∷ back)) ∙ e) in
+    let s = same-sides 20 g y (ended gs ++ (x ++ 20 ∷ back)) rest (Lacks-text g a.0.0)
+    (Lacks-text y q) (sym (first-text g gs (x ++ 20 ∷ back)) ∙ e) in
     absurd (c (rw (← s.front) (a.0.1)))
 same-good (g ∷ gs) (m ∷ ms) x y back rest a d p q b c e =
-    let s = same-sides 20 g m (ended gs ++ (x ++ 20 ∷ back)) (ended ms ++ (y ++ 20 ∷ rest)) (Lacks-text g a.0.0) (Lacks-text m d.0.0)
+    let s = same-sides 20 g m (ended gs ++ (x ++ 20 ∷ back)) (ended ms
+    ++ (y ++ 20 ∷ rest)) (Lacks-text g a.0.0) (Lacks-text m d.0.0)
     (sym (first-text g gs (x ++ 20 ∷ back)) ∙ e ∙ first-text m ms (y ++ 20 ∷ rest)) in
     let first : g ≡ m = s.front in
     let next : gs ≡ ms = same-good gs ms x y back rest a.1 d.1 p q b c s.back in
@@ -164,36 +203,59 @@ same-good (g ∷ gs) (m ∷ ms) x y back rest a d p q b c e =
 
 one-front : (bytes : List ℕ) (j k : ℕ) → IsBadFront bytes j → IsBadFront bytes k → j ≡ k
 one-front bytes j k b c =
-    let s = same-sides 20 (b.onset ++ b.duration) (c.onset ++ c.duration) (ended b.good ++ (b.text ++ 20 ∷ b.back)) (ended c.good ++ (c.text ++ 20 ∷ c.back))
-    (Lacks-head b.onset b.duration b.is_onset b.is_duration) (Lacks-head c.onset c.duration c.is_onset c.is_duration) (sym b.parts ∙ c.parts) in
-    let g = same-good b.good c.good b.text c.text b.back c.back b.good_texts c.good_texts b.is_text c.is_text b.bad c.bad s.back in
+    let s = same-sides 20 (b.onset ++ b.duration) (c.onset ++ c.duration) (ended b.good
+    ++ (b.text ++ 20 ∷ b.back)) (ended c.good ++ (c.text ++ 20 ∷ c.back))
+    (Lacks-head b.onset b.duration b.is_onset b.is_duration)
+    (Lacks-head c.onset c.duration c.is_onset c.is_duration) (sym b.parts ∙ c.parts) in
+    let g = same-good b.good c.good b.text c.text b.back c.back b.good_texts c.good_texts b.is_text
+    c.is_text b.bad c.bad s.back in
     let heads : length b.onset + length b.duration ≡ length c.onset + length c.duration =
     sym (length-append b.onset b.duration) ∙ ap length s.front ∙ length-append c.onset c.duration in
-    let goods : length (ended b.good) ≡ length (ended c.good) = ap (λ (x : List (List ℕ)). length (ended x)) g in
+    let goods : length (ended b.good) ≡ length (ended c.good) =
+    ap (λ (x : List (List ℕ)). length (ended x)) g in
     let p : j ≡ length b.onset + length b.duration + 1 + length (ended b.good) = b.place in
     let q : k ≡ length c.onset + length c.duration + 1 + length (ended c.good) = c.place in
     omega arith
 
-one-bad : (ts us : List Tal) (front rest front' rest' : List ℕ) (j k : ℕ) → AreTals front ts → AreTals front' us → HaveUtf8Texts ts → HaveUtf8Texts us
-    → IsBadFront rest j → IsBadFront rest' k → front ++ rest ≡ front' ++ rest' → length front + j ≡ length front' + k
+one-bad : (ts us : List Tal) (front rest front' rest' : List ℕ) (j k : ℕ) → AreTals front ts →
+    AreTals front' us → HaveUtf8Texts ts → HaveUtf8Texts us
+    → IsBadFront rest j → IsBadFront rest' k → front ++ rest ≡ front' ++ rest' →
+    length front + j ≡ length front' + k
 one-bad [] [] front rest front' rest' j k p q g h b c e =
-    let same : rest ≡ rest' = sym (ap (λ (x : List ℕ). x ++ rest) p) ∙ e ∙ ap (λ (x : List ℕ). x ++ rest') q in
+    let same : rest ≡ rest' = sym (ap (λ (x : List ℕ). x ++ rest) p) ∙ e
+    ∙ ap (λ (x : List ℕ). x ++ rest') q in
     let at : j ≡ k = one-front rest j k b (rw same c) in
     rw (p, q, at) refl
 one-bad [] (u ∷ us) front rest front' rest' j k p (f, r, parts, is, more) g h b c e =
-    absurd (good-front rest f (r ++ rest') u j (sym (ap (λ (x : List ℕ). x ++ rest) p) ∙ e ∙ ap (λ (x : List ℕ). x ++ rest') parts ∙ append_assoc f r rest') is h.0 b)
+    absurd (good-front rest f (r ++ rest') u j (sym (ap (λ (x : List ℕ). x ++ rest) p) ∙ e
+    ∙ ap (λ (x : List ℕ). x ++ rest') parts ∙ append_assoc f r rest') is h.0 b)
 one-bad (t ∷ ts) [] front rest front' rest' j k (f, r, parts, is, more) q g h b c e =
-    absurd (good-front rest' f (r ++ rest) t k (sym (ap (λ (x : List ℕ). x ++ rest') q) ∙ sym e ∙ ap (λ (x : List ℕ). x ++ rest) parts ∙ append_assoc f r rest) is g.0 c)
-one-bad (t ∷ ts) (u ∷ us) front rest front' rest' j k (f, r, parts, is, more) (f', r', parts', is', more') g h b c e =
-    let s = same-front f f' (r ++ rest) (r' ++ rest') (HasEnd-tal f t is) (HasEnd-tal f' u is') (regroup f r rest f' r' rest' front front' parts parts' e) in
+    absurd (good-front rest' f (r ++ rest) t k (sym (ap (λ (x : List ℕ). x ++ rest') q) ∙ sym e
+    ∙ ap (λ (x : List ℕ). x ++ rest) parts ∙ append_assoc f r rest) is g.0 c)
+one-bad (t ∷ ts) (u ∷ us) front rest front' rest' j k (f, r, parts, is, more) (
+  f',
+  r',
+  parts',
+  is',
+  more',
+) g h b c e =
+    let s = same-front f f' (r ++ rest) (r' ++ rest') (HasEnd-tal f t is) (HasEnd-tal f' u is')
+    (regroup f r rest f' r' rest' front front' parts parts' e) in
     let next = one-bad ts us r rest r' rest' j k more more' g.1 h.1 b c s.back in
-    rw (parts, parts') (omega (arith, next, length-append f r, length-append f' r', ap length s.front))
+    rw (parts, parts') (omega (
+      arith,
+      next,
+      length-append f r,
+      length-append f' r',
+      ap length s.front,
+    ))
 
 pub one-bad-text : (bytes : List ℕ) (j k : ℕ) → IsBadText bytes j → IsBadText bytes k → j ≡ k
 one-bad-text bytes j k b c =
     let p = bad-split bytes j b in
     let q = bad-split bytes k c in
-    let same = one-bad p.tals q.tals p.front p.rest q.front q.rest p.inner q.inner p.whole q.whole p.good q.good p.bad q.bad (sym p.parts ∙ q.parts) in
+    let same = one-bad p.tals q.tals p.front p.rest q.front q.rest p.inner q.inner p.whole q.whole
+    p.good q.good p.bad q.bad (sym p.parts ∙ q.parts) in
     let left : j ≡ length p.front + p.inner = p.place in
     let right : k ≡ length q.front + q.inner = q.place in
     omega (arith, same)

@@ -1,10 +1,13 @@
 -- Whether a TAL is at the front of bytes, and which.
-use Rattle.std.proofs.Common.{◌≡◌, ℕ, ◌⊎◌, inl, inr, List, [], ◌∷◌, ◌++◌, sym, ap, subst, ℤ, pos, neg_ℤ, Option, Some, None}
+use Rattle.std.proofs.Common.{◌≡◌, ℕ, ◌⊎◌, inl, inr, List, [], ◌∷◌, ◌++◌, sym, ap, subst, ℤ, pos}
+use Rattle.std.proofs.Common.{neg_ℤ, Option, Some, None}
 use Rattle.std.proofs.lemmas.Bool.{cases_eq}
 use Rattle.edf_time.proofs.Cited.{some-value}
 use Rattle.edf_tal.specs.Tal.{Tal}
 use Rattle.edf_tal.specs.Inside.Scan.{Lacks, NoTal, IsTimes, IsHead, EndsWith20, IsTalAtFront}
-use Rattle.edf_tal.proofs.Heads.{alone, from-alone, both, from-both, no-head, head-signed, head-plus, head-minus, neither, IsEnded-ended, no-zero-byte, no-twenty, front-sides, front-made}
+use Rattle.edf_tal.proofs.Heads.{alone, from-alone, both, from-both, no-head, head-signed}
+use Rattle.edf_tal.proofs.Heads.{head-plus, head-minus, neither, IsEnded-ended, no-zero-byte}
+use Rattle.edf_tal.proofs.Heads.{no-twenty, front-sides, front-made}
 
 -- the two sides of the first such byte
 pub record Split (c : ℕ) (bytes : List ℕ) : Type 0 where
@@ -17,23 +20,38 @@ pub split : (c : ℕ) (bytes : List ℕ) → Split c bytes ⊎ Lacks c bytes
 split c [] = inr tt
 split c (b ∷ bytes) =
     elim (cases_eq b c) [
-      | inl is ↦ inl (record { front = []; back = bytes; lacks = tt; parts = ap (λ (x : ℕ). x ∷ bytes) is })
+      | inl is ↦ inl (record {
+        front = [];
+        back = bytes;
+        lacks = tt;
+        parts =
+            ap (λ (x : ℕ). x ∷ bytes) is;
+      })
       | inr isnt ↦ elim (split c bytes) [
-        | inl s ↦ inl (record { front = b ∷ s.front; back = s.back; lacks = (isnt, s.lacks); parts = ap (λ (w : List ℕ). b ∷ w) s.parts })
+        | inl s ↦ inl (record {
+          front = b ∷ s.front;
+          back = s.back;
+          lacks = (isnt, s.lacks);
+          parts =
+              ap (λ (w : List ℕ). b ∷ w) s.parts;
+        })
         | inr lacks ↦ inr (isnt, lacks)
       ]
     ]
 
 -- an onset's decimal, and a duration or none
-pub times : (bytes : List ℕ) → ((n : ℕ) × (d : Option ℕ) × IsTimes bytes n d) ⊎ ((n : ℕ) (d : Option ℕ) → ¬ IsTimes bytes n d)
+pub times : (bytes : List ℕ) → ((n : ℕ) × (d : Option ℕ) × IsTimes bytes n d)
+    ⊎ ((n : ℕ) (d : Option ℕ) → ¬ IsTimes bytes n d)
 times bytes =
     elim (split 21 bytes) [
       | inl s ↦ elim (some-value s.front) [
         | inl o ↦ elim (some-value s.back) [
           | inl d ↦ inl (o.0, Some d.0, both bytes s.front s.back o.0 d.0 s.parts o.1 d.1)
-          | inr never ↦ inr (λ n d t. let b = (from-both bytes s.front s.back n d s.lacks s.parts t).duration in never b.0 b.1)
+          | inr never ↦ inr (λ n d t. let b =
+              (from-both bytes s.front s.back n d s.lacks s.parts t).duration in never b.0 b.1)
         ]
-        | inr never ↦ inr (λ n d t. let b = (from-both bytes s.front s.back n d s.lacks s.parts t).onset in never b.0 b.1)
+        | inr never ↦ inr (λ n d t. let b =
+            (from-both bytes s.front s.back n d s.lacks s.parts t).onset in never b.0 b.1)
       ]
       | inr lacks ↦ elim (some-value bytes) [
         | inl o ↦ inl (o.0, None, alone bytes o.0 o.1)
@@ -43,17 +61,29 @@ times bytes =
 
 -- after a sign
 signed : (b : ℕ) (bytes : List ℕ) (n : ℕ) (d : Option ℕ) → IsTimes bytes n d
-    → ((z : ℤ) × (d : Option ℕ) × IsHead (b ∷ bytes) z d) ⊎ ((z : ℤ) (d : Option ℕ) → ¬ IsHead (b ∷ bytes) z d)
+    → ((z : ℤ) × (d : Option ℕ) × IsHead (b ∷ bytes) z d)
+    ⊎ ((z : ℤ) (d : Option ℕ) → ¬ IsHead (b ∷ bytes) z d)
 signed b bytes n d t =
     elim (cases_eq b 43) [
-      | inl is ↦ inl (pos n, d, subst (λ (x : ℕ). IsHead (x ∷ bytes) (pos n) d) (sym is) (head-plus bytes n d t))
+      | inl is ↦ inl (
+        pos n,
+        d,
+        subst (λ (x : ℕ). IsHead (x ∷ bytes) (pos n) d) (sym is)
+            (head-plus bytes n d t),
+      )
       | inr not-plus ↦ elim (cases_eq b 45) [
-        | inl is ↦ inl (neg_ℤ (pos n), d, subst (λ (x : ℕ). IsHead (x ∷ bytes) (neg_ℤ (pos n)) d) (sym is) (head-minus bytes n d t))
+        | inl is ↦ inl (
+          neg_ℤ (pos n),
+          d,
+          subst (λ (x : ℕ). IsHead (x ∷ bytes) (neg_ℤ (pos n)) d) (sym is)
+              (head-minus bytes n d t),
+        )
         | inr not-minus ↦ inr (λ z e. neither b bytes z e not-plus not-minus)
       ]
     ]
 
-pub head : (bytes : List ℕ) → ((z : ℤ) × (d : Option ℕ) × IsHead bytes z d) ⊎ ((z : ℤ) (d : Option ℕ) → ¬ IsHead bytes z d)
+pub head : (bytes : List ℕ) → ((z : ℤ) × (d : Option ℕ) × IsHead bytes z d)
+    ⊎ ((z : ℤ) (d : Option ℕ) → ¬ IsHead bytes z d)
 head [] = inr no-head
 head (b ∷ bytes) =
     elim (times bytes) [
@@ -74,19 +104,30 @@ pub record Front (bytes : List ℕ) : Type 0 where
   pub is_front : IsTalAtFront bytes texts rest tal
 
 -- around the first byte 0 and the first byte 20 before it
-module _ (bytes body rest head-bytes texts : List ℕ) (no-zeros : Lacks 0 body) (parts : bytes ≡ body ++ 0 ∷ rest) (no-twenties : Lacks 20 head-bytes)
+module _ (bytes body rest head-bytes texts : List ℕ) (no-zeros : Lacks 0 body) (parts : bytes ≡ body
+    ++ 0 ∷ rest) (no-twenties : Lacks 20 head-bytes)
     (sides : body ≡ head-bytes ++ 20 ∷ texts) where
   front-in : Front bytes ⊎ NoTal bytes
   front-in =
       elim (ends texts) [
         | inl e ↦ elim (head head-bytes) [
           | inl h ↦
-              let made = front-made bytes body rest head-bytes texts h.0 h.1 no-zeros parts sides h.2 e in
-              inl (record { texts = texts; rest = rest; tal = record { onset = h.0; duration = h.1; texts = made.0.texts }; is_front = made.1 })
-          | inr never ↦ inr (λ front behind t f s. let at = front-sides bytes body rest head-bytes texts front behind t no-zeros parts no-twenties sides f s in never t.onset t.duration at.head)
+              let made = front-made bytes body rest head-bytes texts h.0 h.1 no-zeros parts sides
+              h.2 e in
+              inl (record {
+                texts = texts;
+                rest = rest;
+                tal =
+                    record { onset = h.0; duration = h.1; texts = made.0.texts };
+                is_front = made.1;
+              })
+          | inr never ↦ inr (λ front behind t f s. let at =
+              front-sides bytes body rest head-bytes texts front behind t no-zeros parts no-twenties
+              sides f s in never t.onset t.duration at.head)
         ]
         | inr never ↦ inr (λ front behind t f s.
-            let at = front-sides bytes body rest head-bytes texts front behind t no-zeros parts no-twenties sides f s in
+            let at = front-sides bytes body rest head-bytes texts front behind t no-zeros parts
+            no-twenties sides f s in
             never (subst EndsWith20 (sym at.texts) (IsEnded-ended t.texts)))
       ]
 

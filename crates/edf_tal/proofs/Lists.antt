@@ -1,11 +1,14 @@
 -- The list of a data record's annotations, as far as it is made.
-use Rattle.std.proofs.Common.{◌≡◌, ℕ, ◌<◌, Bool, List, [], ◌∷◌, ◌++◌, drop, map, arith, refl, sym, ap, ◌∙◌, subst, append_assoc, Option, Some, None}
+use Rattle.std.proofs.Common.{◌≡◌, ℕ, ◌<◌, Bool, List, [], ◌∷◌, ◌++◌, drop, map, arith, refl, sym}
+use Rattle.std.proofs.Common.{ap, ◌∙◌, subst, append_assoc, Option, Some, None}
 use Rattle.std.specs.Prelude.{IsUtf8, IfSome}
 use Rattle.std.specs.List.{AllByRecursion, flat_map}
 use Rattle.std.proofs.lemmas.List.{append-nil}
 use Rattle.edf_time.specs.Civil.{window}
-use Rattle.edf_tal.specs.Tal.{Tal, Annotation, IsText, ended, AreTalsAndZeros, HaveUtf8Texts, IsTimed, IsTalInWindow, instant, tal_annotations, annotations}
-use Rattle.edf_tal.specs.Inside.Scan.{Lacks, NoTal, IsTalAtFront, TellsOnset, TellsDuration, AreTexts, TellsTal}
+use Rattle.edf_tal.specs.Tal.{Tal, Annotation, IsText, ended, AreTalsAndZeros, HaveUtf8Texts}
+use Rattle.edf_tal.specs.Tal.{IsTimed, IsTalInWindow, instant, tal_annotations, annotations}
+use Rattle.edf_tal.specs.Inside.Scan.{Lacks, NoTal, IsTalAtFront, TellsOnset, TellsDuration}
+use Rattle.edf_tal.specs.Inside.Scan.{AreTexts, TellsTal}
 use Rattle.edf_tal.specs.Inside.Blocks.{AreSoundTals}
 use Rattle.edf_tal.proofs.Unique.{same-sides, not-both, Lacks-text, one-tal}
 use Rattle.edf_tal.proofs.Fronts.{same-front, HasEnd-tal}
@@ -13,15 +16,18 @@ use Rattle.edf_tal.proofs.OneBlock.{one-block, zeros-no-tal}
 use Rattle.edf_tal.proofs.Totals.{note_of}
 
 -- the annotations of the texts so far
-pub record HasPushed (onset : ℕ) (duration : Option ℕ) (texts rest : List ℕ) (old new : List Annotation) : Type 0 where
+pub record HasPushed (onset : ℕ) (duration : Option ℕ) (texts rest : List ℕ)
+    (old new : List Annotation) : Type 0 where
   pub all : List (List ℕ)
   pub left : List (List ℕ)
   pub are_all : AreTexts texts all
   pub are_left : AreTexts rest left
   pub items : old ++ map (note_of onset duration) all ≡ new ++ map (note_of onset duration) left
 
-pub pushed-none : (onset : ℕ) (duration : Option ℕ) (texts : List ℕ) (old : List Annotation) → ((xs : List (List ℕ)) × AreTexts texts xs) → HasPushed onset duration texts texts old old
-pushed-none onset duration texts old (xs, a) = record { all = xs; left = xs; are_all = a; are_left = a; items = refl }
+pub pushed-none : (onset : ℕ) (duration : Option ℕ) (texts : List ℕ) (old : List Annotation) →
+    ((xs : List (List ℕ)) × AreTexts texts xs) → HasPushed onset duration texts texts old old
+pushed-none onset duration texts old (xs, a) =
+    record { all = xs; left = xs; are_all = a; are_left = a; items = refl }
 
 pub record NextText (text more : List ℕ) (left : List (List ℕ)) : Type 0 where
   pub others : List (List ℕ)
@@ -30,10 +36,13 @@ pub record NextText (text more : List ℕ) (left : List (List ℕ)) : Type 0 whe
   pub good : IsUtf8 text
   pub rest : AreTexts more others
 
-next-text : (rest text more : List ℕ) (xs : List (List ℕ)) → rest ≡ ended xs → AllByRecursion IsText xs → AllByRecursion IsUtf8 xs → Lacks 20 text → rest ≡ text ++ 20 ∷ more → NextText text more xs
+next-text : (rest text more : List ℕ) (xs : List (List ℕ)) → rest ≡ ended xs →
+    AllByRecursion IsText xs → AllByRecursion IsUtf8 xs → Lacks 20 text → rest ≡ text ++ 20 ∷ more →
+    NextText text more xs
 next-text rest text more [] e a u lacks f = absurd (not-both 20 [] text more tt (sym e ∙ f))
 next-text rest text more (x ∷ xs) e a u lacks f =
-    let s = same-sides 20 x text (ended xs) more (Lacks-text x a.0) lacks (sym (append_assoc x (20 ∷ []) (ended xs)) ∙ sym e ∙ f) in
+    let s = same-sides 20 x text (ended xs) more (Lacks-text x a.0) lacks
+    (sym (append_assoc x (20 ∷ []) (ended xs)) ∙ sym e ∙ f) in
     record {
       others = xs;
       left_is = ap (λ (w : List ℕ). w ∷ xs) s.front;
@@ -42,12 +51,17 @@ next-text rest text more (x ∷ xs) e a u lacks f =
       rest = record { bytes_are = sym s.back; are_texts = a.1; good = u.1 };
     }
 
-pub pushed-next : (onset : ℕ) (duration : Option ℕ) (texts rest text more : List ℕ) (old new : List Annotation) (h : HasPushed onset duration texts rest old new)
+pub pushed-next : (onset : ℕ) (duration : Option ℕ) (texts rest text more : List ℕ)
+    (old new : List Annotation) (h : HasPushed onset duration texts rest old new)
     → Lacks 20 text → rest ≡ text ++ 20 ∷ more → NextText text more h.left
-pushed-next onset duration texts rest text more old new h lacks e = next-text rest text more h.left h.are_left.bytes_are h.are_left.are_texts h.are_left.good lacks e
+pushed-next onset duration texts rest text more old new h lacks e =
+    next-text rest text more h.left h.are_left.bytes_are h.are_left.are_texts h.are_left.good lacks
+    e
 
-pub pushed-more : (onset : ℕ) (duration : Option ℕ) (texts rest text more : List ℕ) (old new newer : List Annotation) → HasPushed onset duration texts rest old new
-    → Lacks 20 text → rest ≡ text ++ 20 ∷ more → newer ≡ new ++ note_of onset duration text ∷ [] → HasPushed onset duration texts more old newer
+pub pushed-more : (onset : ℕ) (duration : Option ℕ) (texts rest text more : List ℕ)
+    (old new newer : List Annotation) → HasPushed onset duration texts rest old new
+    → Lacks 20 text → rest ≡ text ++ 20 ∷ more → newer ≡ new ++ note_of onset duration text ∷ [] →
+    HasPushed onset duration texts more old newer
 pushed-more onset duration texts rest text more old new newer h lacks e is =
     let n = pushed-next onset duration texts rest text more old new h lacks e in
     record {
@@ -56,47 +70,69 @@ pushed-more onset duration texts rest text more old new newer h lacks e is =
       are_all = h.are_all;
       are_left = n.rest;
       items = h.items ∙ ap (λ (w : List (List ℕ)). new ++ map (note_of onset duration) w) n.left_is
-          ∙ sym (ap (λ (w : List Annotation). w ++ map (note_of onset duration) n.others) is ∙ append_assoc new (note_of onset duration text ∷ []) (map (note_of onset duration) n.others));
+          ∙ sym (ap (λ (w : List Annotation). w ++ map (note_of onset duration) n.others) is
+          ∙ append_assoc new (note_of onset duration text ∷ [])
+          (map (note_of onset duration) n.others));
     }
 
 no-text-left : (rest : List ℕ) (xs : List (List ℕ)) → rest ≡ ended xs → Lacks 20 rest → xs ≡ []
 no-text-left rest [] e lacks = refl
-no-text-left rest (x ∷ xs) e lacks = absurd (not-both 20 rest x (ended xs) lacks (e ∙ append_assoc x (20 ∷ []) (ended xs)))
+no-text-left rest (x ∷ xs) e lacks =
+    absurd (not-both 20 rest x (ended xs) lacks (e ∙ append_assoc x (20 ∷ []) (ended xs)))
 
-same-texts : (xs ys : List (List ℕ)) → AllByRecursion IsText xs → AllByRecursion IsText ys → ended xs ≡ ended ys → xs ≡ ys
+same-texts : (xs ys : List (List ℕ)) → AllByRecursion IsText xs → AllByRecursion IsText ys →
+    ended xs ≡ ended ys → xs ≡ ys
 same-texts [] [] a b e = refl
-same-texts [] (y ∷ ys) a b e = absurd (not-both 20 [] y (ended ys) tt (e ∙ append_assoc y (20 ∷ []) (ended ys)))
-same-texts (x ∷ xs) [] a b e = absurd (not-both 20 [] x (ended xs) tt (sym e ∙ append_assoc x (20 ∷ []) (ended xs)))
+same-texts [] (y ∷ ys) a b e =
+    absurd (not-both 20 [] y (ended ys) tt (e ∙ append_assoc y (20 ∷ []) (ended ys)))
+same-texts (x ∷ xs) [] a b e =
+    absurd (not-both 20 [] x (ended xs) tt (sym e ∙ append_assoc x (20 ∷ []) (ended xs)))
 same-texts (x ∷ xs) (y ∷ ys) a b e =
-    let s = same-sides 20 x y (ended xs) (ended ys) (Lacks-text x a.0) (Lacks-text y b.0) (sym (append_assoc x (20 ∷ []) (ended xs)) ∙ e ∙ append_assoc y (20 ∷ []) (ended ys)) in
+    let s = same-sides 20 x y (ended xs) (ended ys) (Lacks-text x a.0) (Lacks-text y b.0)
+    (sym (append_assoc x (20 ∷ []) (ended xs)) ∙ e ∙ append_assoc y (20 ∷ []) (ended ys)) in
     let first : x ≡ y = s.front in
     let more : xs ≡ ys = same-texts xs ys a.1 b.1 s.back in
     cc
 
-pub pushed-all : (onset : ℕ) (duration : Option ℕ) (texts rest : List ℕ) (old new : List Annotation) → HasPushed onset duration texts rest old new → Lacks 20 rest
+pub pushed-all : (onset : ℕ) (duration : Option ℕ) (texts rest : List ℕ)
+    (old new : List Annotation) → HasPushed onset duration texts rest old new → Lacks 20 rest
     → (xs : List (List ℕ)) → AreTexts texts xs → new ≡ old ++ map (note_of onset duration) xs
 pushed-all onset duration texts rest old new h lacks xs a =
     let none = no-text-left rest h.left h.are_left.bytes_are lacks in
-    let same = same-texts h.all xs h.are_all.are_texts a.are_texts (sym h.are_all.bytes_are ∙ a.bytes_are) in
-    sym (append-nil new) ∙ sym (ap (λ (w : List (List ℕ)). new ++ map (note_of onset duration) w) none) ∙ sym h.items ∙ ap (λ (w : List (List ℕ)). old ++ map (note_of onset duration) w) same
+    let same = same-texts h.all xs h.are_all.are_texts a.are_texts (sym h.are_all.bytes_are
+    ∙ a.bytes_are) in
+    sym (append-nil new)
+    ∙ sym (ap (λ (w : List (List ℕ)). new ++ map (note_of onset duration) w) none) ∙ sym h.items
+    ∙ ap (λ (w : List (List ℕ)). old ++ map (note_of onset duration) w) same
 
 -- a duration in the window is exact
 pub duration-exact : (d e : Option ℕ) → TellsDuration d e → IfSome e (λ n. n < window) → d ≡ e
 duration-exact None None t h = refl
-duration-exact (Some n) (Some m) t h = ap (λ (k : ℕ). Some k) (let same : n ≡ m = omega arith in same)
+duration-exact (Some n) (Some m) t h =
+    ap (λ (k : ℕ). Some k) (let same : n ≡ m = omega arith in same)
 duration-exact None (Some m) t h = absurd t
 duration-exact (Some n) None t h = absurd t
 
 -- the annotations of the TALs so far
-pub record HasPushedTals (file_start : ℕ) (tals rest : List ℕ) (old new : List Annotation) : Type 0 where
-  pub all : List Tal
-  pub left : List Tal
-  pub are_all : AreSoundTals tals file_start all
-  pub are_left : AreSoundTals rest file_start left
-  pub items : old ++ flat_map (tal_annotations file_start) all ≡ new ++ flat_map (tal_annotations file_start) left
+pub record HasPushedTals (file_start : ℕ) (tals rest : List ℕ) (old new : List Annotation) : Type 0
+  where
+    pub all : List Tal
+    pub left : List Tal
+    pub are_all : AreSoundTals tals file_start all
+    pub are_left : AreSoundTals rest file_start left
+    pub items : old ++ flat_map (tal_annotations file_start) all ≡ new
+        ++ flat_map (tal_annotations file_start) left
 
-pub tals-none : (s : ℕ) (tals : List ℕ) (old : List Annotation) → ((ts : List Tal) × AreSoundTals tals s ts) → HasPushedTals s tals tals old old
-tals-none s tals old (ts, a) = record { all = ts; left = ts; are_all = a; are_left = a; items = refl }
+pub tals-none : (s : ℕ) (tals : List ℕ) (old : List Annotation) →
+    ((ts : List Tal) × AreSoundTals tals s ts) → HasPushedTals s tals tals old old
+tals-none s tals old (ts, a) = record {
+  all = ts;
+  left = ts;
+  are_all = a;
+  are_left = a;
+  items =
+      refl;
+}
 
 -- the TAL at the front is the first of them
 pub record NextTal (s : ℕ) (rest texts : List ℕ) (t : Tal) (left : List Tal) : Type 0 where
@@ -108,14 +144,20 @@ pub record NextTal (s : ℕ) (rest texts : List ℕ) (t : Tal) (left : List Tal)
   pub texts_are : texts ≡ ended t.texts
   pub sound : AreSoundTals rest s others
 
-pub next-tal : (s : ℕ) (bytes texts more : List ℕ) (t : Tal) (ts : List Tal) → AreSoundTals bytes s ts → IsTalAtFront bytes texts more t → NextTal s more texts t ts
+pub next-tal : (s : ℕ) (bytes texts more : List ℕ) (t : Tal) (ts : List Tal) →
+    AreSoundTals bytes s ts → IsTalAtFront bytes texts more t → NextTal s more texts t ts
 next-tal s bytes texts more t ts a f = at ts a.whole a.good a.window
   where
-    at : (us : List Tal) → AreTalsAndZeros bytes us → HaveUtf8Texts us → AllByRecursion (IsTalInWindow s) us → NextTal s more texts t us
-    at [] (front, zeros, parts, w, are) g i = absurd (zeros-no-tal zeros are f.front more t (sym (parts ∙ ap (λ (x : List ℕ). x ++ zeros) w) ∙ f.parts) f.tal)
+    at : (us : List Tal) → AreTalsAndZeros bytes us → HaveUtf8Texts us →
+        AllByRecursion (IsTalInWindow s) us → NextTal s more texts t us
+    at [] (front, zeros, parts, w, are) g i =
+        absurd (zeros-no-tal zeros are f.front more t
+        (sym (parts ∙ ap (λ (x : List ℕ). x ++ zeros) w) ∙ f.parts) f.tal)
     at (u ∷ us) (front, zeros, parts, (first, r, both, is, others), are) g i =
-        let whole : bytes ≡ first ++ (r ++ zeros) = parts ∙ ap (λ (x : List ℕ). x ++ zeros) both ∙ append_assoc first r zeros in
-        let same = same-front first f.front (r ++ zeros) more (HasEnd-tal first u is) (HasEnd-tal f.front t f.tal) (sym whole ∙ f.parts) in
+        let whole : bytes ≡ first ++ (r ++ zeros) = parts ∙ ap (λ (x : List ℕ). x ++ zeros) both
+        ∙ append_assoc first r zeros in
+        let same = same-front first f.front (r ++ zeros) more (HasEnd-tal first u is)
+        (HasEnd-tal f.front t f.tal) (sym whole ∙ f.parts) in
         let one = one-tal first u t is (rw (same.front) (f.tal)) in
         record {
           others = us;
@@ -124,11 +166,18 @@ next-tal s bytes texts more t ts a f = at ts a.whole a.good a.window
           good = subst (λ (x : Tal). AllByRecursion IsUtf8 x.texts) one g.0;
           window = subst (IsTalInWindow s) one i.0;
           texts_are = f.texts_are;
-          sound = record { whole = (r, zeros, sym same.back, others, are); good = g.1; window = i.1 };
+          sound = record {
+            whole = (r, zeros, sym same.back, others, are);
+            good = g.1;
+            window =
+                i.1;
+          };
         }
 
-pub tells : (s : ℕ) (rest texts : List ℕ) (t : Tal) (left : List Tal) (ahead : Bool) (onset : ℕ) (duration : Option ℕ) → NextTal s rest texts t left
-    → TellsOnset ahead onset t.onset → TellsDuration duration t.duration → TellsTal texts ahead onset duration s t
+pub tells : (s : ℕ) (rest texts : List ℕ) (t : Tal) (left : List Tal) (ahead : Bool) (onset : ℕ)
+    (duration : Option ℕ) → NextTal s rest texts t left
+    → TellsOnset ahead onset t.onset → TellsDuration duration t.duration →
+    TellsTal texts ahead onset duration s t
 tells s rest texts t left ahead onset duration n o d = record {
   texts_are = n.texts_are;
   are_texts = n.are_texts;
@@ -138,7 +187,8 @@ tells s rest texts t left ahead onset duration n o d = record {
   window = n.window;
 }
 
-pub tals-more : (s : ℕ) (tals rest texts more : List ℕ) (old new newer : List Annotation) (t : Tal) → HasPushedTals s tals rest old new → IsTalAtFront rest texts more t
+pub tals-more : (s : ℕ) (tals rest texts more : List ℕ) (old new newer : List Annotation)
+    (t : Tal) → HasPushedTals s tals rest old new → IsTalAtFront rest texts more t
     → newer ≡ new ++ tal_annotations s t → HasPushedTals s tals more old newer
 tals-more s tals rest texts more old new newer t h f is =
     let n = next-tal s rest texts more t h.left h.are_left f in
@@ -148,33 +198,43 @@ tals-more s tals rest texts more old new newer t h f is =
       are_all = h.are_all;
       are_left = n.sound;
       items = h.items ∙ ap (λ (w : List Tal). new ++ flat_map (tal_annotations s) w) n.left_is
-          ∙ sym (ap (λ (w : List Annotation). w ++ flat_map (tal_annotations s) n.others) is ∙ append_assoc new (tal_annotations s t) (flat_map (tal_annotations s) n.others));
+          ∙ sym (ap (λ (w : List Annotation). w ++ flat_map (tal_annotations s) n.others) is
+          ∙ append_assoc new (tal_annotations s t) (flat_map (tal_annotations s) n.others));
     }
 
 no-tal-left : (rest : List ℕ) (ts : List Tal) → AreTalsAndZeros rest ts → NoTal rest → ts ≡ []
 no-tal-left rest [] a none = refl
 no-tal-left rest (t ∷ ts) (front, zeros, parts, (f, r, both, is, more), are) none =
-    absurd (none f (r ++ zeros) t (parts ∙ ap (λ (x : List ℕ). x ++ zeros) both ∙ append_assoc f r zeros) is)
+    absurd (none f (r ++ zeros) t (parts ∙ ap (λ (x : List ℕ). x ++ zeros) both
+    ∙ append_assoc f r zeros) is)
 
-pub tals-all : (s : ℕ) (tals rest : List ℕ) (old new : List Annotation) → HasPushedTals s tals rest old new → NoTal rest
+pub tals-all : (s : ℕ) (tals rest : List ℕ) (old new : List Annotation) →
+    HasPushedTals s tals rest old new → NoTal rest
     → (ts : List Tal) → AreSoundTals tals s ts → new ≡ old ++ flat_map (tal_annotations s) ts
 tals-all s tals rest old new h last ts a =
     let none = no-tal-left rest h.left h.are_left.whole last in
     let same = one-block tals h.all ts h.are_all.whole a.whole in
-    sym (append-nil new) ∙ sym (ap (λ (w : List Tal). new ++ flat_map (tal_annotations s) w) none) ∙ sym h.items ∙ ap (λ (w : List Tal). old ++ flat_map (tal_annotations s) w) same
+    sym (append-nil new) ∙ sym (ap (λ (w : List Tal). new ++ flat_map (tal_annotations s) w) none)
+    ∙ sym h.items ∙ ap (λ (w : List Tal). old ++ flat_map (tal_annotations s) w) same
 
 -- the TALs of a timed block have a first
-pub some-tal : (s : ℕ) (bytes : List ℕ) (ts : List Tal) → AreSoundTals bytes s ts → IsTimed ts → NoTal bytes → ⊥
+pub some-tal : (s : ℕ) (bytes : List ℕ) (ts : List Tal) → AreSoundTals bytes s ts → IsTimed ts →
+    NoTal bytes → ⊥
 some-tal s bytes ts a h none = subst IsTimed (no-tal-left bytes ts a.whole none) h
 
-pub first-timed : (s : ℕ) (rest texts : List ℕ) (t : Tal) (ts : List Tal) → NextTal s rest texts t ts → IsTimed ts → (xs : List (List ℕ)) × (t.texts ≡ [] ∷ xs)
+pub first-timed : (s : ℕ) (rest texts : List ℕ) (t : Tal) (ts : List Tal) →
+    NextTal s rest texts t ts → IsTimed ts → (xs : List (List ℕ)) × (t.texts ≡ [] ∷ xs)
 first-timed s rest texts t ts n h = subst IsTimed n.left_is h
 
-pub behind-empty : (s : ℕ) (rest texts : List ℕ) (t : Tal) (ts : List Tal) (xs : List (List ℕ)) → NextTal s rest texts t ts → t.texts ≡ [] ∷ xs → texts ≡ 20 ∷ ended xs
+pub behind-empty : (s : ℕ) (rest texts : List ℕ) (t : Tal) (ts : List Tal) (xs : List (List ℕ)) →
+    NextTal s rest texts t ts → t.texts ≡ [] ∷ xs → texts ≡ 20 ∷ ended xs
 behind-empty s rest texts t ts xs n e = n.texts_are ∙ ap ended e
 
-pub tells-rest : (s : ℕ) (rest texts : List ℕ) (t : Tal) (ts : List Tal) (xs : List (List ℕ)) (ahead : Bool) (onset : ℕ) (duration : Option ℕ) (behind : List ℕ) → NextTal s rest texts t ts
-    → t.texts ≡ [] ∷ xs → behind ≡ ended xs → TellsOnset ahead onset t.onset → TellsDuration duration t.duration → TellsTal behind ahead onset duration s (record t { texts = xs })
+pub tells-rest : (s : ℕ) (rest texts : List ℕ) (t : Tal) (ts : List Tal) (xs : List (List ℕ))
+    (ahead : Bool) (onset : ℕ) (duration : Option ℕ) (behind : List ℕ) → NextTal s rest texts t ts
+    → t.texts ≡ [] ∷ xs → behind ≡ ended xs → TellsOnset ahead onset t.onset →
+    TellsDuration duration t.duration →
+    TellsTal behind ahead onset duration s (record t { texts = xs })
 tells-rest s rest texts t ts xs ahead onset duration behind n e b o d = record {
   texts_are = b;
   are_texts = (subst (AllByRecursion IsText) e n.are_texts).1;
@@ -184,10 +244,17 @@ tells-rest s rest texts t ts xs ahead onset duration behind n e b o d = record {
   window = let w = n.window in record { onset = w.onset; duration = w.duration };
 }
 
-pub whole-list : (s : ℕ) (rest texts : List ℕ) (t : Tal) (ts : List Tal) (xs : List (List ℕ)) (none first all : List Annotation) → (n : NextTal s rest texts t ts) → t.texts ≡ [] ∷ xs
-    → first ≡ none ++ tal_annotations s (record t { texts = xs }) → all ≡ first ++ flat_map (tal_annotations s) n.others → all ≡ none ++ annotations s ts
+pub whole-list : (s : ℕ) (rest texts : List ℕ) (t : Tal) (ts : List Tal) (xs : List (List ℕ))
+    (none first all : List Annotation) → (n : NextTal s rest texts t ts) → t.texts ≡ [] ∷ xs
+    → first ≡ none ++ tal_annotations s (record t { texts = xs }) → all ≡ first
+    ++ flat_map (tal_annotations s) n.others → all ≡ none ++ annotations s ts
 whole-list s rest texts t ts xs none first all n e g h =
-    let there : annotations s ts ≡ tal_annotations s (record t { texts = xs }) ++ flat_map (tal_annotations s) n.others =
-    ap (annotations s) n.left_is ∙ ap (λ (w : List (List ℕ)). drop 1 (map (note_of (instant s t.onset) t.duration) w ++ flat_map (tal_annotations s) n.others)) e in
+    let there : annotations s ts ≡ tal_annotations s (record t { texts = xs })
+    ++ flat_map (tal_annotations s) n.others =
+    ap (annotations s) n.left_is
+    ∙ ap (λ (w : List (List ℕ)). drop 1 (map (note_of (instant s t.onset) t.duration) w
+    ++ flat_map (tal_annotations s) n.others)) e in
     h ∙ ap (λ (w : List Annotation). w ++ flat_map (tal_annotations s) n.others) g
-    ∙ append_assoc none (tal_annotations s (record t { texts = xs })) (flat_map (tal_annotations s) n.others) ∙ ap (λ (w : List Annotation). none ++ w) (sym there)
+    ∙ append_assoc none (tal_annotations s (record t { texts = xs }))
+    (flat_map (tal_annotations s) n.others)
+    ∙ ap (λ (w : List Annotation). none ++ w) (sym there)

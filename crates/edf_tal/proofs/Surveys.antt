@@ -1,5 +1,6 @@
 -- The walk over the texts of a TAL, and over the TALs of a block.
-use Rattle.std.proofs.Common.{◌≡◌, ℕ, ◌+◌, ◌-◌, ◌≤◌, List, [], ◌∷◌, ◌++◌, length, arith, refl, sym, ap, ◌∙◌, append_assoc}
+use Rattle.std.proofs.Common.{◌≡◌, ℕ, ◌+◌, ◌-◌, ◌≤◌, List, [], ◌∷◌, ◌++◌, length, arith, refl, sym}
+use Rattle.std.proofs.Common.{ap, ◌∙◌, append_assoc}
 use Rattle.std.specs.Prelude.{IsUtf8}
 use Rattle.std.specs.List.{AllByRecursion}
 use Rattle.std.proofs.lemmas.List.{append-nil, length-append}
@@ -18,23 +19,30 @@ checked-none texts = record { list = []; parts = refl; good = tt; count_is = ref
 
 ended-append : (xs : List (List ℕ)) (x : List ℕ) → ended (xs ++ x ∷ []) ≡ ended xs ++ (x ++ 20 ∷ [])
 ended-append [] x = append-nil (x ++ 20 ∷ [])
-ended-append (y ∷ xs) x = ap (λ (w : List ℕ). (y ++ 20 ∷ []) ++ w) (ended-append xs x) ∙ sym (append_assoc (y ++ 20 ∷ []) (ended xs) (x ++ 20 ∷ []))
+ended-append (y ∷ xs) x = ap (λ (w : List ℕ). (y ++ 20 ∷ []) ++ w) (ended-append xs x)
+    ∙ sym (append_assoc (y ++ 20 ∷ []) (ended xs) (x ++ 20 ∷ []))
 
-pub all-more : {A : Type 0} (P : A → Type 0) (xs : List A) (x : A) → AllByRecursion P xs → P x → AllByRecursion P (xs ++ x ∷ [])
+pub all-more : {A : Type 0} (P : A → Type 0) (xs : List A) (x : A) → AllByRecursion P xs → P x →
+    AllByRecursion P (xs ++ x ∷ [])
 all-more P [] x a p = (p, tt)
 all-more P (y ∷ xs) x a p = (a.0, all-more P xs x a.1 p)
 
-pub checked-more : (texts rest text more : List ℕ) (count : ℕ) → HasChecked texts rest count → Lacks 20 text → rest ≡ text ++ 20 ∷ more → IsUtf8 text
+pub checked-more : (texts rest text more : List ℕ) (count : ℕ) → HasChecked texts rest count →
+    Lacks 20 text → rest ≡ text ++ 20 ∷ more → IsUtf8 text
     → HasChecked texts more (count + 1)
 checked-more texts rest text more count h lacks e u = record {
   list = h.list ++ text ∷ [];
   parts = h.parts ∙ ap (λ (w : List ℕ). ended h.list ++ w) e
-      ∙ sym (ap (λ (w : List ℕ). w ++ more) (ended-append h.list text) ∙ append_assoc (ended h.list) (text ++ 20 ∷ []) more ∙ ap (λ (w : List ℕ). ended h.list ++ w) (append_assoc text (20 ∷ []) more));
+      ∙ sym (ap (λ (w : List ℕ). w ++ more) (ended-append h.list text)
+      ∙ append_assoc (ended h.list) (text ++ 20 ∷ []) more
+      ∙ ap (λ (w : List ℕ). ended h.list ++ w) (append_assoc text (20 ∷ []) more));
   good = all-more (λ x. Lacks 20 x × IsUtf8 x) h.list text h.good (lacks, u);
-  count_is = let c : count ≡ length h.list = h.count_is in omega (arith, length-append h.list (text ∷ []));
+  count_is = let c : count ≡ length h.list = h.count_is in
+      omega (arith, length-append h.list (text ∷ []));
 }
 
-pub checked-bad : (texts rest text more : List ℕ) (count : ℕ) → HasChecked texts rest count → Lacks 20 text → rest ≡ text ++ 20 ∷ more → ¬ IsUtf8 text
+pub checked-bad : (texts rest text more : List ℕ) (count : ℕ) → HasChecked texts rest count →
+    Lacks 20 text → rest ≡ text ++ 20 ∷ more → ¬ IsUtf8 text
     → IsBadAmong texts (length texts - length rest)
 checked-bad texts rest text more count h lacks e bad = record {
   good = h.list;
@@ -47,14 +55,30 @@ checked-bad texts rest text more count h lacks e bad = record {
   place = omega (arith, ap length h.parts, length-append (ended h.list) rest);
 }
 
-pub checked-all : (texts rest : List ℕ) (count : ℕ) → HasChecked texts rest count → Lacks 20 rest → AreGoodTexts texts count
-checked-all texts rest count h lacks = record { list = h.list; rest = rest; parts = h.parts; good = h.good; is_rest = lacks; count_is = h.count_is }
+pub checked-all : (texts rest : List ℕ) (count : ℕ) → HasChecked texts rest count → Lacks 20 rest →
+    AreGoodTexts texts count
+checked-all texts rest count h lacks =
+    record {
+      list = h.list;
+      rest = rest;
+      parts = h.parts;
+      good = h.good;
+      is_rest = lacks;
+      count_is =
+          h.count_is;
+    }
 
 length-ended : (xs : List (List ℕ)) → length xs ≤ length (ended xs)
 length-ended [] = omega arith
-length-ended (x ∷ xs) = omega (arith, length-ended xs, length-append (x ++ 20 ∷ []) (ended xs), length-append x (20 ∷ []))
+length-ended (x ∷ xs) = omega (
+  arith,
+  length-ended xs,
+  length-append (x ++ 20 ∷ []) (ended xs),
+  length-append x (20 ∷ []),
+)
 
-pub checked-room : (texts rest : List ℕ) (count : ℕ) → HasChecked texts rest count → count + length rest ≤ length texts
+pub checked-room : (texts rest : List ℕ) (count : ℕ) → HasChecked texts rest count →
+    count + length rest ≤ length texts
 checked-room texts rest count h =
     let c : count ≡ length h.list = h.count_is in
     omega (arith, ap length h.parts, length-append (ended h.list) rest, length-ended h.list)

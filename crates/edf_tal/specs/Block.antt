@@ -1,13 +1,19 @@
 -- What the blocks of a data record say of it, and when they are refused.
-use Rattle.std.specs.Prelude.{◌≡◌, ℕ, ◌+◌, ◌^◌, ◌≤◌, ◌<◌, List, [], ◌∷◌, ◌++◌, length, take, drop, sum_by, ℤ, pos, ◌≤ℤ◌, ◌<ℤ◌, Option, IsUtf8}
+use Rattle.std.specs.Prelude.{◌≡◌, ℕ, ◌+◌, ◌^◌, ◌≤◌, ◌<◌, List, [], ◌∷◌, ◌++◌, length, take, drop}
+use Rattle.std.specs.Prelude.{sum_by, ℤ, pos, ◌≤ℤ◌, ◌<ℤ◌, Option, IsUtf8}
 use Rattle.std.specs.List.{AllByRecursion}
-use Rattle.edf_tal.specs.Tal.{Tal, Annotation, IsOnset, IsDurationPart, IsText, ended, AreTals, AreTalsAndZeros, AreBlocks, first_tals, all_tals, HaveUtf8Texts, IsTimed, IsTalInWindow, annotations, begin}
+use Rattle.edf_tal.specs.Tal.{Tal, Annotation, IsOnset, IsDurationPart, IsText, ended, AreTals}
+use Rattle.edf_tal.specs.Tal.{AreTalsAndZeros, AreBlocks, first_tals, all_tals, HaveUtf8Texts}
+use Rattle.edf_tal.specs.Tal.{IsTimed, IsTalInWindow, annotations, begin}
 use Rattle.edf_tal.specs.declared.place.Place.{Place}
 use Rattle.edf_tal.specs.declared.place.Place.TheVariants.{First, After}
 use Rattle.edf_tal.specs.declared.place.TalFault.{TalFault}
-use Rattle.edf_tal.specs.declared.place.TalFault.TheVariants.{Tal as NotTals, Text, NotTimed, FirstOnset, Window, Order, TooMany, Memory}
+use Rattle.edf_tal.specs.declared.place.TalFault.TheVariants.{Tal as NotTals, Text, NotTimed}
+use Rattle.edf_tal.specs.declared.place.TalFault.TheVariants.{FirstOnset, Window, Order, TooMany}
+use Rattle.edf_tal.specs.declared.place.TalFault.TheVariants.{Memory}
 
--- the first record starts in the second that the header names; a later one at least a duration after the one before
+-- the first record starts in the second that the header names; a later one at least a duration
+-- after the one before
 abbrev pub KeepsPlace : Place → ℕ → List Tal → Type 0
 KeepsPlace First file_start (t ∷ ts) = (pos 0 ≤ℤ t.onset) × (t.onset <ℤ pos (10 ^ 9))
 KeepsPlace (After before duration) file_start ts = before + duration ≤ begin file_start ts
@@ -18,8 +24,10 @@ pub record IsWithinLimits (list : List Annotation) : Type 0 where
   pub count : length list ≤ 10_000
   pub bytes : sum_by (λ a. length a.text) list ≤ 1_000_000
 
--- the blocks give their data record this start and this list: the first block keeps time, and the lists of all are joined
-pub record AreRead (blocks : List (List ℕ)) (file_start : ℕ) (place : Place) (start : ℕ) (list : List Annotation) : Type 0 where
+-- the blocks give their data record this start and this list: the first block keeps time, and the
+-- lists of all are joined
+pub record AreRead (blocks : List (List ℕ)) (file_start : ℕ) (place : Place) (start : ℕ)
+    (list : List Annotation) : Type 0 where
   pub tals : List (List Tal)
   pub lists : AreBlocks blocks tals
   pub good : HaveUtf8Texts (all_tals tals)
@@ -39,7 +47,8 @@ pub record IsLongestFront (bytes : List ℕ) (n : ℕ) : Type 0 where
   pub tals : List Tal
   pub within : n ≤ length bytes
   pub front : AreTals (take n bytes) tals
-  pub longest : (m : ℕ) (others : List Tal) → m ≤ length bytes → AreTals (take m bytes) others → m ≤ n
+  pub longest : (m : ℕ) (others : List Tal) → m ≤ length bytes → AreTals (take m bytes) others →
+      m ≤ n
 
 -- the first text that is no UTF-8 is at this place: after whole TALs, and texts of its own TAL,
 -- which all are UTF-8
@@ -61,8 +70,8 @@ pub record IsBadText (bytes : List ℕ) (at : ℕ) : Type 0 where
   pub bad : ¬ IsUtf8 text
   pub place : at ≡ length front + length onset + length duration + 1 + length (ended good)
 
--- the first block that is not TALs and zeros: the longest front of whole TALs ends at `offset` in it, and at `at` in the blocks
--- joined
+-- the first block that is not TALs and zeros: the longest front of whole TALs ends at `offset` in
+-- it, and at `at` in the blocks joined
 pub record IsBroken (blocks : List (List ℕ)) (at : ℕ) : Type 0 where
   pub front : List (List ℕ)
   pub block : List ℕ
@@ -89,13 +98,19 @@ pub record HasBadText (blocks : List (List ℕ)) (at : ℕ) : Type 0 where
 -- the fault is true of the blocks of a data record that is at this place
 abbrev pub BlocksFail : List (List ℕ) → ℕ → Place → TalFault → Type 0
 BlocksFail bs s place (NotTals offset) = IsBroken bs offset
-BlocksFail bs s place (Text offset) = ((tss : List (List Tal)) × AreBlocks bs tss) × HasBadText bs offset
-BlocksFail bs s place NotTimed = (tss : List (List Tal)) × AreBlocks bs tss × ¬ IsTimed (first_tals tss)
-BlocksFail bs s First FirstOnset = (tss : List (List Tal)) × AreBlocks bs tss × ¬ KeepsPlace First s (first_tals tss)
-BlocksFail bs s place Window = (tss : List (List Tal)) × AreBlocks bs tss × ¬ AllByRecursion (IsTalInWindow s) (all_tals tss)
+BlocksFail bs s place (Text offset) = ((tss : List (List Tal)) × AreBlocks bs tss)
+    × HasBadText bs offset
+BlocksFail bs s place NotTimed = (tss : List (List Tal)) × AreBlocks bs tss
+    × ¬ IsTimed (first_tals tss)
+BlocksFail bs s First FirstOnset = (tss : List (List Tal)) × AreBlocks bs tss
+    × ¬ KeepsPlace First s (first_tals tss)
+BlocksFail bs s place Window = (tss : List (List Tal)) × AreBlocks bs tss
+    × ¬ AllByRecursion (IsTalInWindow s) (all_tals tss)
 BlocksFail bs s (After before duration) Order =
-    (tss : List (List Tal)) × AreBlocks bs tss × ¬ KeepsPlace (After before duration) s (first_tals tss)
-BlocksFail bs s place TooMany = (tss : List (List Tal)) × AreBlocks bs tss × ¬ IsWithinLimits (annotations s (all_tals tss))
+    (tss : List (List Tal)) × AreBlocks bs tss
+    × ¬ KeepsPlace (After before duration) s (first_tals tss)
+BlocksFail bs s place TooMany = (tss : List (List Tal)) × AreBlocks bs tss
+    × ¬ IsWithinLimits (annotations s (all_tals tss))
 BlocksFail bs s place fault = ⊥
 
 abbrev pub tal_fault_number : TalFault → ℕ
@@ -109,9 +124,11 @@ tal_fault_number TooMany = 28
 tal_fault_number Memory = 41
 
 -- the fault is true, and none of a lower number
-pub record IsBlocksFault (bs : List (List ℕ)) (s : ℕ) (place : Place) (fault : TalFault) : Type 0 where
-  pub holds : BlocksFail bs s place fault
-  pub first : (other : TalFault) → tal_fault_number other < tal_fault_number fault → ¬ BlocksFail bs s place other
+pub record IsBlocksFault (bs : List (List ℕ)) (s : ℕ) (place : Place) (fault : TalFault) : Type 0
+  where
+    pub holds : BlocksFail bs s place fault
+    pub first : (other : TalFault) → tal_fault_number other < tal_fault_number fault →
+        ¬ BlocksFail bs s place other
 
 -- the same of a data record with one block
 abbrev pub IsBlockFault : List ℕ → ℕ → Place → TalFault → Type 0
@@ -120,7 +137,8 @@ IsBlockFault block s place fault = IsBlocksFault (block ∷ []) s place fault
 -- why blocks are not read: their first fault; out of memory only where they have none, and so a
 -- start and a list
 abbrev pub IsBlocksRefusal : List (List ℕ) → ℕ → Place → TalFault → Type 0
-IsBlocksRefusal bs s place Memory = (start : ℕ) × (list : List Annotation) × AreRead bs s place start list
+IsBlocksRefusal bs s place Memory = (start : ℕ) × (list : List Annotation)
+    × AreRead bs s place start list
 IsBlocksRefusal bs s place fault = IsBlocksFault bs s place fault
 
 -- the same of a data record with one block

@@ -1,5 +1,6 @@
 -- Time-stamped annotations lists, TALs for short.
-use Rattle.std.specs.Prelude.{◌≡◌, ◌≢◌, ℕ, ◌<◌, ◌⊎◌, List, [], ◌∷◌, ◌++◌, drop, map, ℤ, pos, neg_ℤ, ◌+ℤ◌, unsigned_abs, Option, Some, None, IfSome, IsUtf8}
+use Rattle.std.specs.Prelude.{◌≡◌, ◌≢◌, ℕ, ◌<◌, ◌⊎◌, List, [], ◌∷◌, ◌++◌, drop, map, ℤ, pos, neg_ℤ}
+use Rattle.std.specs.Prelude.{◌+ℤ◌, unsigned_abs, Option, Some, None, IfSome, IsUtf8}
 use Rattle.std.specs.List.{AllByRecursion, flat_map}
 use Rattle.edf_time.specs.Decimal.{IsSeconds}
 use Rattle.edf_time.specs.Civil.{window, IsInWindow}
@@ -48,12 +49,14 @@ pub record IsTal (bytes : List ℕ) (t : Tal) : Type 0 where
 -- TALs alone, each right after the one before
 abbrev pub AreTals : List ℕ → List Tal → Type 0
 AreTals bytes [] = bytes ≡ []
-AreTals bytes (t ∷ ts) = (front : List ℕ) × (rest : List ℕ) × (bytes ≡ front ++ rest) × IsTal front t × AreTals rest ts
+AreTals bytes (t ∷ ts) = (front : List ℕ) × (rest : List ℕ) × (bytes ≡ front ++ rest)
+    × IsTal front t × AreTals rest ts
 
 -- TALs, and then zeros to the end
 abbrev pub AreTalsAndZeros : List ℕ → List Tal → Type 0
 AreTalsAndZeros bytes ts =
-    (front : List ℕ) × (zeros : List ℕ) × (bytes ≡ front ++ zeros) × AreTals front ts × AllByRecursion (λ b. b ≡ 0) zeros
+    (front : List ℕ) × (zeros : List ℕ) × (bytes ≡ front ++ zeros) × AreTals front ts
+    × AllByRecursion (λ b. b ≡ 0) zeros
 
 -- the blocks of a data record, each by itself TALs and zeros
 abbrev pub AreBlocks : List (List ℕ) → List (List Tal) → Type 0
@@ -73,14 +76,16 @@ all_tals tss = flat_map (λ ts. ts) tss
 abbrev pub HaveUtf8Texts : List Tal → Type 0
 HaveUtf8Texts ts = AllByRecursion (λ t. AllByRecursion IsUtf8 t.texts) ts
 
--- the instant of an onset, which counts from the file's start; it means something only inside the window
+-- the instant of an onset, which counts from the file's start; it means something only inside the
+-- window
 abbrev pub instant : ℕ → ℤ → ℕ
 instant file_start onset = unsigned_abs (pos file_start +ℤ onset)
 
 -- the annotations of a TAL share its onset and duration
 abbrev pub tal_annotations : ℕ → Tal → List Annotation
 tal_annotations file_start t =
-    map (λ text. record { onset = instant file_start t.onset; duration = t.duration; text = text }) t.texts
+    map (λ text. record { onset = instant file_start t.onset; duration = t.duration; text = text })
+    t.texts
 
 -- the first TAL of the first block keeps time: its first text is empty
 abbrev pub IsTimed : List Tal → Type 0
@@ -101,7 +106,8 @@ pub record IsTalInWindow (file_start : ℕ) (t : Tal) : Type 0 where
   pub onset : IsInWindow (pos file_start +ℤ t.onset)
   pub duration : IfSome t.duration (λ d. d < window)
 
--- an annotation of a data record: an instant of the window, a duration shorter than it or none, and a text that a TAL can hold
+-- an annotation of a data record: an instant of the window, a duration shorter than it or none, and
+-- a text that a TAL can hold
 pub record IsAnnotation (a : Annotation) : Type 0 where
   pub onset : a.onset < window
   pub duration : IfSome a.duration (λ d. d < window)

@@ -1,5 +1,6 @@
 -- Facts that hold or do not; other crates' proofs may cite this file too.
-use Rattle.std.proofs.Common.{◌≡◌, ℕ, zero, suc, ◌≤◌, ◌<◌, ◌⊎◌, inl, inr, Bool, List, [], ◌∷◌, arith, subst, ℤ}
+use Rattle.std.proofs.Common.{◌≡◌, ℕ, zero, suc, ◌≤◌, ◌<◌, ◌⊎◌, inl, inr, Bool, List, [], ◌∷◌}
+use Rattle.std.proofs.Common.{arith, subst, ℤ}
 use Rattle.std.specs.Prelude.{All, ◌<ℤ◌, ◌≤ℤ◌}
 use Rattle.std.specs.Bool.{Decides}
 use Rattle.std.proofs.lemmas.Bool.{cases_lt, cases_eq, cases_Bool}
@@ -14,7 +15,11 @@ abbrev pub Decided : Type 0 → Type 0
 Decided P = P ⊎ (¬ P)
 
 pub of-test : {P : Type 0} (r : Bool) → Decides r P → Decided P
-of-test r d = elim (cases_Bool r) [ inl is ↦ inl (d.0 is) | inr never ↦ inr (not_from_Decides r d never) ]
+of-test r d = elim (cases_Bool r) [
+  | inl is ↦ inl (d.0 is)
+  | inr never ↦
+      inr (not_from_Decides r d never)
+]
 
 pub like : {P Q : Type 0} → Decided P → (P → Q) → (Q → P) → Decided Q
 like d to from = elim d [ inl p ↦ inl (to p) | inr never ↦ inr (λ q. never (from q)) ]
@@ -43,10 +48,12 @@ pub at-most : (a b : ℕ) → Decided (a ≤ b)
 at-most a b = elim (cases_lt b a) [ inl lt ↦ inr (λ le. absurd (omega arith)) | inr le ↦ inl le ]
 
 pub less-int : (a b : ℤ) → Decided (a <ℤ b)
-less-int a b = by_lt_z {P = Decided (a <ℤ b)} a b (λ lt. inl lt) (λ le. inr (λ lt. absurd (omega (arith, signed_arith))))
+less-int a b = by_lt_z {P = Decided (a <ℤ b)} a b (λ lt. inl lt)
+    (λ le. inr (λ lt. absurd (omega (arith, signed_arith))))
 
 pub at-most-int : (a b : ℤ) → Decided (a ≤ℤ b)
-at-most-int a b = by_lt_z {P = Decided (a ≤ℤ b)} b a (λ lt. inr (λ le. absurd (omega (arith, signed_arith)))) (λ le. inl le)
+at-most-int a b = by_lt_z {P = Decided (a ≤ℤ b)} b a
+    (λ lt. inr (λ le. absurd (omega (arith, signed_arith)))) (λ le. inl le)
 
 pub same-bytes : (a b : List ℕ) → Decided (a ≡ b)
 same-bytes a b = of-test _ (bytes_eq-Decides a b)
@@ -58,7 +65,8 @@ all-are c (x ∷ xs) =
     (λ all. (All-head (λ x. x ≡ c) x xs all, All-tail (λ x. x ≡ c) x xs all))
 
 -- whether a number below a bound has it
-pub some-below : (P : ℕ → Type 0) → ((k : ℕ) → Decided (P k)) → (n : ℕ) → Decided ((k : ℕ) × (k < n) × P k)
+pub some-below : (P : ℕ → Type 0) → ((k : ℕ) → Decided (P k)) → (n : ℕ) →
+    Decided ((k : ℕ) × (k < n) × P k)
 some-below P each zero = inr (λ s. absurd (omega (arith, s.1)))
 some-below P each (suc n) =
     elim (some-below P each n) [

@@ -1,18 +1,21 @@
 -- Civil days and clock readings, and the texts that name them.
-use Rattle.std.specs.Prelude.{◌≡◌, ◌⊎◌, ℕ, ◌+◌, ◌-◌, ◌*◌, ◌/◌, ◌%◌, ◌^◌, ◌≤◌, List, [], ◌∷◌, ◌++◌, ℤ, pos, ◌+ℤ◌, ◌≤ℤ◌, ◌<ℤ◌, take, drop, codes, Option, Some, None}
+use Rattle.std.specs.Prelude.{◌≡◌, ◌⊎◌, ℕ, ◌+◌, ◌-◌, ◌*◌, ◌/◌, ◌%◌, ◌^◌, ◌≤◌, List, [], ◌∷◌, ◌++◌}
+use Rattle.std.specs.Prelude.{ℤ, pos, ◌+ℤ◌, ◌≤ℤ◌, ◌<ℤ◌, take, drop, codes, Option, Some, None}
 use Rattle.jiff_core.specs.Calendar.{IsCivilDate, days_from_civil}
 use Rattle.edf_time.specs.Decimal.{fraction_text}
 use Rattle.edf_time.specs.declared.civil.StartFault.{StartFault}
 use Rattle.edf_time.specs.declared.civil.StartFault.TheVariants.{Date, Time, Differs}
 
--- the length of the window, from 1985-01-01 00:00:00 up to and without 2185-01-01: in days, and in nanoseconds
+-- the length of the window, from 1985-01-01 00:00:00 up to and without 2185-01-01: in days, and in
+-- nanoseconds
 abbrev pub window_days : ℕ
 window_days = 73_049
 
 abbrev pub window : ℕ
 window = window_days * 86_400 * 10 ^ 9
 
--- the part of it whose years a startdate can name by two digits, 1985 to 2084, up to and without 2085-01-01
+-- the part of it whose years a startdate can name by two digits, 1985 to 2084, up to and without
+-- 2085-01-01
 abbrev pub two_digit_days : ℕ
 two_digit_days = 36_525
 
@@ -85,13 +88,14 @@ pub record IsLateDateText (text : List ℕ) (days : ℕ) : Type 0 where
 abbrev pub IsDateField : List ℕ → ℕ → Type 0
 IsDateField text days = IsDateText text days ⊎ IsLateDateText text days
 
--- the startdate and the Startdate subfield name this day. The subfield is a date, or none for X; only a date tells the year
--- of a startdate with the letters yy
+-- the startdate and the Startdate subfield name this day. The subfield is a date, or none for X;
+-- only a date tells the year of a startdate with the letters yy
 abbrev pub AreStartdates : List ℕ → Option ℤ → ℕ → Type 0
 AreStartdates date None days = IsDateText date days
 AreStartdates date (Some day) days = (day ≡ pos days) × IsDateField date days
 
--- the startdate has one of its forms: the letters yy only beside a Startdate subfield that is a date
+-- the startdate has one of its forms: the letters yy only beside a Startdate subfield that is a
+-- date
 abbrev pub HasDateForm : List ℕ → Option ℤ → Type 0
 HasDateForm date None = (days : ℕ) × IsDateText date days
 HasDateForm date (Some day) = ((days : ℕ) × IsDateText date days) ⊎ IsYearlessText date
@@ -107,15 +111,17 @@ pub record IsTimeText (text : List ℕ) (seconds : ℕ) : Type 0 where
 -- a startdate, a starttime and a Startdate subfield name this instant
 abbrev pub IsCivil : List ℕ → List ℕ → Option ℤ → ℕ → Type 0
 IsCivil date time id nanos =
-    (days : ℕ) × (seconds : ℕ) × AreStartdates date id days × IsTimeText time seconds × (nanos ≡ (days * 86_400 + seconds) * 10 ^ 9)
+    (days : ℕ) × (seconds : ℕ) × AreStartdates date id days × IsTimeText time seconds
+    × (nanos ≡ (days * 86_400 + seconds) * 10 ^ 9)
 
--- why they name no instant: the startdate has none of its forms, else the starttime is no time, else the Startdate subfield
--- is not the startdate's day
+-- why they name no instant: the startdate has none of its forms, else the starttime is no time,
+-- else the Startdate subfield is not the startdate's day
 abbrev pub IsStartFault : List ℕ → List ℕ → Option ℤ → StartFault → Type 0
 IsStartFault date time id Date = ¬ HasDateForm date id
 IsStartFault date time id Time = HasDateForm date id × ((seconds : ℕ) → ¬ IsTimeText time seconds)
 IsStartFault date time id Differs =
-    HasDateForm date id × ((seconds : ℕ) × IsTimeText time seconds) × ((days : ℕ) → ¬ AreStartdates date id days)
+    HasDateForm date id × ((seconds : ℕ) × IsTimeText time seconds)
+    × ((days : ℕ) → ¬ AreStartdates date id days)
 
 -- the months of dd-MMM-yyyy
 abbrev pub month_name : ℕ → List ℕ
@@ -139,7 +145,8 @@ pub record IsInstantText (text : List ℕ) (instant : ℕ) : Type 0 where
   pub minute : ℕ
   pub second : ℕ
   pub is_text : text ≡ four_digits year ++ 45 ∷ two_digits month ++ 45 ∷ two_digits day
-      ++ 84 ∷ two_digits hour ++ 58 ∷ two_digits minute ++ 58 ∷ two_digits second ++ fraction_text (instant % 10 ^ 9)
+      ++ 84 ∷ two_digits hour ++ 58 ∷ two_digits minute ++ 58 ∷ two_digits second
+      ++ fraction_text (instant % 10 ^ 9)
   pub to : year ≤ 9999
   pub is_day : IsDay year month day (pos (day_of instant))
   pub is_clock : IsClock hour minute second (second_of_day instant)

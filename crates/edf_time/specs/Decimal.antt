@@ -1,5 +1,6 @@
 -- Decimal texts of seconds, whose values are counted in nanoseconds.
-use Rattle.std.specs.Prelude.{◌≡◌, ℕ, zero, suc, ◌+◌, ◌-◌, ◌*◌, ◌/◌, ◌%◌, ◌^◌, ◌≤◌, List, [], ◌∷◌, ◌++◌, length, drop, All}
+use Rattle.std.specs.Prelude.{◌≡◌, ℕ, zero, suc, ◌+◌, ◌-◌, ◌*◌, ◌/◌, ◌%◌, ◌^◌, ◌≤◌, List, [], ◌∷◌}
+use Rattle.std.specs.Prelude.{◌++◌, length, drop, All}
 use Rattle.std.specs.Fmt.{decimal}
 use Rattle.std.specs.Str.Parse.{IsNumeral, digits_value}
 use Rattle.edf_time.specs.declared.decimal.DecimalFault.{DecimalFault}
@@ -8,7 +9,8 @@ use Rattle.edf_time.specs.declared.decimal.DecimalFault.TheVariants.{Syntax, Too
 -- the text is one or more digits, or such digits, a dot and one or more digits
 abbrev pub IsDecimal : List ℕ → List ℕ → List ℕ → Type 0
 IsDecimal text whole [] = IsNumeral 10 whole × (text ≡ whole)
-IsDecimal text whole (d ∷ ds) = IsNumeral 10 whole × IsNumeral 10 (d ∷ ds) × (text ≡ whole ++ 46 ∷ d ∷ ds)
+IsDecimal text whole (d ∷ ds) = IsNumeral 10 whole × IsNumeral 10 (d ∷ ds)
+    × (text ≡ whole ++ 46 ∷ d ∷ ds)
 
 -- what digits are worth where the first counts `unit`, and each other a tenth of the one before
 abbrev pub fraction_value : ℕ → List ℕ → ℕ
@@ -30,7 +32,8 @@ pub record IsSeconds (text : List ℕ) (nanos : ℕ) : Type 0 where
 -- why a text is not read: no decimal, else one too fine, else one too large for 63 bits
 abbrev pub IsDecimalFault : List ℕ → DecimalFault → Type 0
 IsDecimalFault text Syntax = (whole fraction : List ℕ) → ¬ IsDecimal text whole fraction
-IsDecimalFault text TooFine = (whole fraction : List ℕ) × IsDecimal text whole fraction × ¬ IsFine fraction
+IsDecimalFault text TooFine = (whole fraction : List ℕ) × IsDecimal text whole fraction
+    × ¬ IsFine fraction
 IsDecimalFault text TooLarge = (nanos : ℕ) × IsSeconds text nanos × (2 ^ 63 ≤ nanos)
 
 -- a text of that value, and no text of that value is shorter
@@ -49,7 +52,8 @@ abbrev pub fraction_text : ℕ → List ℕ
 fraction_text zero = []
 fraction_text (suc p) = 46 ∷ fraction_digits 9 (suc p)
 
--- the shortest decimal; a law says of each number below 10 ^ 73 that this is the shortest, and the only one
+-- the shortest decimal; a law says of each number below 10 ^ 73 that this is the shortest, and the
+-- only one
 unfoldable pub short : ℕ → List ℕ
 short nanos = decimal (nanos / 10 ^ 9) ++ fraction_text (nanos % 10 ^ 9)
 

@@ -1,5 +1,6 @@
 -- What reading leaves of a connection, and what a row of the table of recordings tells.
-use Rattle.std.specs.Prelude.{◌≡◌, ◌⊎◌, [], ◌∷◌, ℕ, false, Option, Some, None, Contains, length, IsTrue}
+use Rattle.std.specs.Prelude.{◌≡◌, ◌⊎◌, [], ◌∷◌, ℕ, false, Option, Some, None, Contains, length}
+use Rattle.std.specs.Prelude.{IsTrue}
 use Rattle.sqlite.specs.Order.{Row}
 use Rattle.sqlite.specs.Tree.{Trees}
 use Rattle.sqlite.specs.State.{State, KeepsCommit}
@@ -19,7 +20,8 @@ pub record KeepsRows (old new : State) : Type 0 where
 -- it was, or, as where a transaction was undone, it is what is committed, and none is open
 pub record KeepsShown (old new : State) : Type 0 where
   pub commit : KeepsCommit old new
-  pub shown : IsTrue new.is_open → (new.now ≡ old.now) ⊎ ((new.now ≡ new.committed) × (new.in_transaction ≡ false))
+  pub shown : IsTrue new.is_open → (new.now ≡ old.now)
+      ⊎ ((new.now ≡ new.committed) × (new.in_transaction ≡ false))
   pub mode : IsTrue new.in_transaction → IsTrue old.in_transaction
 
 -- what the check reads of a row
@@ -29,4 +31,5 @@ first_two row = the_id row ∷ the_identity row ∷ []
 -- `Some count`: the row is of a recording with `count` records; `None`: the rows are foreign
 abbrev pub Checks : ℕ → Trees → Row → Option ℕ → Type 0
 Checks cap trees row None = Contains (recordings_in trees) row → IsForeign cap trees
-Checks cap trees row (Some count) = Contains (recordings_in trees) row → (has : HasRecords cap trees row) × (count ≡ length (records_in trees has.id))
+Checks cap trees row (Some count) = Contains (recordings_in trees) row →
+    (has : HasRecords cap trees row) × (count ≡ length (records_in trees has.id))

@@ -1,5 +1,6 @@
 -- What the two walks over the records of a recording find, and what the second puts out.
-use Rattle.std.specs.Prelude.{◌≡◌, ℕ, ◌≤◌, List, [], length, Option, Some, None, Result, MatchResult, All}
+use Rattle.std.specs.Prelude.{◌≡◌, ℕ, ◌≤◌, List, [], length, Option, Some, None, Result}
+use Rattle.std.specs.Prelude.{MatchResult, All}
 use Rattle.std.specs.Io.KnownBytes.{Appends}
 use Rattle.edf_fragment.specs.Failures.{one_more}
 use Rattle.edf_header.specs.Key.{Key, IsKey}
@@ -11,9 +12,11 @@ use Rattle.edf_canonical.specs.File.{second_of, block_of, BlocksFit}
 use Rattle.edf_canonical.specs.Output.{WritesFront, Buffered, Writes}
 use Rattle.edf_export.specs.declared.plan.Plan.{Plan}
 use Rattle.edf_canonical.specs.declared.fault.OutputFault.{OutputFault}
-use Rattle.edf_canonical.specs.declared.fault.OutputFault.TheVariants.{Write as Failed, Memory as NoRoom}
+use Rattle.edf_canonical.specs.declared.fault.OutputFault.TheVariants.{Write as Failed}
+use Rattle.edf_canonical.specs.declared.fault.OutputFault.TheVariants.{Memory as NoRoom}
 use Rattle.edf_export.specs.declared.fault.ExportFault.{ExportFault}
-use Rattle.edf_export.specs.declared.fault.ExportFault.TheVariants.{NoRecording, Store, Memory, Write}
+use Rattle.edf_export.specs.declared.fault.ExportFault.TheVariants.{NoRecording, Store, Memory}
+use Rattle.edf_export.specs.declared.fault.ExportFault.TheVariants.{Write}
 
 -- the longest block of the records has `longest` bytes
 pub record IsLongest (file_start longest : ℕ) (records : List DataRecord) : Type 0 where
@@ -72,4 +75,5 @@ IsPutOut before after bytes result =
 -- just these bytes were written, or a front of them
 abbrev pub IsSentOut : Option (List ℕ) → Option (List ℕ) → List ℕ → Result Unit ExportFault → Type 0
 IsSentOut before after bytes result =
-    MatchResult result (λ _. Appends before after bytes) (λ fault. WritesFront before after bytes × IsWritingFault fault)
+    MatchResult result (λ _. Appends before after bytes) (λ fault. WritesFront before after bytes
+    × IsWritingFault fault)

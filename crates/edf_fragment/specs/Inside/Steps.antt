@@ -1,7 +1,8 @@
 -- What the steps of a reader read: the two parts of a header, all data records, the end.
 use Rattle.std.specs.Prelude.{◌≡◌, ℕ, ◌*◌, ◌≤◌, ◌⊎◌, List, [], ◌∷◌, length, Option}
 use Rattle.std.specs.Io.KnownBytes.{Consumes, IsAtEnd}
-use Rattle.edf_header.specs.Header.{HeaderRecord, FixedPart, IsFixedHeader, AreSignals, Layout, layout_of, least_records, most_records}
+use Rattle.edf_header.specs.Header.{HeaderRecord, FixedPart, IsFixedHeader, AreSignals, Layout}
+use Rattle.edf_header.specs.Header.{layout_of, least_records, most_records}
 use Rattle.edf_header.specs.Fault.{IsClean, IsFirst, SignalsFail}
 use Rattle.edf_header.specs.declared.fault.HeaderFault.{HeaderFault}
 use Rattle.edf_header.specs.declared.fault.HeaderFault.TheVariants.{CutSignals}
@@ -10,7 +11,8 @@ use Rattle.edf_tal.specs.declared.place.Place.TheVariants.{First}
 use Rattle.edf_fragment.specs.Fragment.{DataRecord, AreDataRecords}
 use Rattle.edf_fragment.specs.Reading.{ReadsFewer}
 use Rattle.edf_fragment.specs.declared.fault.FragmentFault.{FragmentFault}
-use Rattle.edf_fragment.specs.declared.fault.FragmentFault.TheVariants.{Header as BadHeader, Trailing, Read, Memory}
+use Rattle.edf_fragment.specs.declared.fault.FragmentFault.TheVariants.{Header as BadHeader}
+use Rattle.edf_fragment.specs.declared.fault.FragmentFault.TheVariants.{Trailing, Read, Memory}
 
 -- the bytes that were read are a fixed part
 pub record ReadsFixed (left rest : Option (List ℕ)) (fixed : FixedPart) : Type 0 where
@@ -19,21 +21,23 @@ pub record ReadsFixed (left rest : Option (List ℕ)) (fixed : FixedPart) : Type
   pub is_fixed : IsFixedHeader bytes fixed
 
 -- the bytes that were read are the signals that go with a fixed part
-pub record ReadsSignals (left rest : Option (List ℕ)) (fixed : FixedPart) (layout : Layout) : Type 0 where
-  pub bytes : List ℕ
-  pub header : HeaderRecord
-  pub read : Consumes left rest bytes
-  pub are_signals : AreSignals bytes header
-  pub same : header.fixed ≡ fixed
-  pub layout_is : layout ≡ layout_of header
+pub record ReadsSignals (left rest : Option (List ℕ)) (fixed : FixedPart) (layout : Layout) : Type 0
+  where
+    pub bytes : List ℕ
+    pub header : HeaderRecord
+    pub read : Consumes left rest bytes
+    pub are_signals : AreSignals bytes header
+    pub same : header.fixed ≡ fixed
+    pub layout_is : layout ≡ layout_of header
 
 -- the bytes that were read have this fault as n signals; where they are too few, no more follow
-pub record ReadsSignalsFault (left rest : Option (List ℕ)) (n : ℕ) (fault : HeaderFault) : Type 0 where
-  pub bytes : List ℕ
-  pub read : Consumes left rest bytes
-  pub within : length bytes ≤ 256 * n
-  pub is_fault : IsFirst (SignalsFail bytes n) fault
-  pub ended : fault ≡ CutSignals → IsAtEnd rest
+pub record ReadsSignalsFault (left rest : Option (List ℕ)) (n : ℕ) (fault : HeaderFault) : Type 0
+  where
+    pub bytes : List ℕ
+    pub read : Consumes left rest bytes
+    pub within : length bytes ≤ 256 * n
+    pub is_fault : IsFirst (SignalsFail bytes n) fault
+    pub ended : fault ≡ CutSignals → IsAtEnd rest
 
 -- memory ran out before a byte of n signals was read, or after signals that have no fault
 pub record LacksSignalsMemory (left rest : Option (List ℕ)) (n : ℕ) : Type 0 where
@@ -60,7 +64,8 @@ IsEndFault left rest Read = Consumes left rest []
 IsEndFault left rest fault = ⊥
 
 -- all data records were read, and the input is at its end
-pub record ReadsRecords (l : Layout) (left rest : Option (List ℕ)) (records : List DataRecord) : Type 0 where
+pub record ReadsRecords (l : Layout) (left rest : Option (List ℕ))
+    (records : List DataRecord) : Type 0 where
   pub bytes : List ℕ
   pub last : Place
   pub read : Consumes left rest bytes

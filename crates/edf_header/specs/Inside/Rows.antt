@@ -6,7 +6,8 @@ use Rattle.edf_header.specs.Fault.{HasAnnotations, IsBadSignal, IsTooLarge}
 use Rattle.edf_header.specs.declared.signal_checks.Check.TheVariants as checks
 use Rattle.edf_header.specs.declared.header_signals.PartBytes.{PartBytes}
 use Rattle.edf_header.specs.declared.fault.HeaderFault.{HeaderFault}
-use Rattle.edf_header.specs.declared.fault.HeaderFault.TheVariants.{Annotations, Physical, Digital, Samples, Size}
+use Rattle.edf_header.specs.declared.fault.HeaderFault.TheVariants.{Annotations, Physical, Digital}
+use Rattle.edf_header.specs.declared.fault.HeaderFault.TheVariants.{Samples, Size}
 
 -- the faults E16 to E20, of the rows alone
 abbrev pub RowsFail : List (List ℕ) → HeaderFault → Type 0

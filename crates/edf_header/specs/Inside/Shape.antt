@@ -1,4 +1,5 @@
--- Words for single steps: a key from its parts, the bytes that stand for a key, and where a check comes in the order of faults.
+-- Words for single steps: a key from its parts, the bytes that stand for a key, and where a check
+-- comes in the order of faults.
 use Rattle.std.specs.Prelude.{◌≡◌, ℕ, ◌*◌, List, All}
 use Rattle.edf_field.specs.Number.{IsDuration, duration_of}
 use Rattle.edf_field.specs.Text.{IsPrintable, IsPatient, FollowsStartdate}
@@ -8,13 +9,21 @@ use Rattle.edf_header.specs.Signal.{samples_in_all}
 use Rattle.edf_header.specs.Header.{FixedPart, is_dated}
 use Rattle.edf_header.specs.Identity.{HasLength, HasMark}
 use Rattle.edf_header.specs.declared.signal_checks.Check.{Check}
-use Rattle.edf_header.specs.declared.signal_checks.Check.TheVariants.{Label, Annotations, Physical, Digital, Samples}
+use Rattle.edf_header.specs.declared.signal_checks.Check.TheVariants.{Label, Annotations, Physical}
+use Rattle.edf_header.specs.declared.signal_checks.Check.TheVariants.{Digital, Samples}
 
 -- the key of a fixed part and ordinary signals
 abbrev pub key_from : FixedPart → List (List ℕ) → Key
-key_from f ss = record { patient = f.patient; dated = is_dated f.startdate; after = f.after; duration = f.duration; signals = ss }
+key_from f ss = record {
+  patient = f.patient;
+  dated = is_dated f.startdate;
+  after = f.after;
+  duration = f.duration;
+  signals = ss;
+}
 
--- what an identity keeps: its bytes, the duration of a data record in nanoseconds, the bytes of a data record's ordinary samples
+-- what an identity keeps: its bytes, the duration of a data record in nanoseconds, the bytes of a
+-- data record's ordinary samples
 pub record IsIdentity (bytes : List ℕ) (duration ordinary_bytes : ℕ) : Type 0 where
   pub back : key_bytes (key_at bytes) ≡ bytes
   pub key : IsKey (key_at bytes)

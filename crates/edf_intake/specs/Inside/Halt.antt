@@ -5,14 +5,16 @@ use Rattle.sqlite.specs.State.{HasCleanDisk}
 use Rattle.edf_fragment.specs.Reading.{CountsFault}
 use Rattle.edf_fragment.specs.Whole.{IsFragmentFault}
 use Rattle.edf_fragment.specs.declared.fault.FragmentFault.{FragmentFault}
-use Rattle.edf_fragment.specs.declared.fault.FragmentFault.TheVariants.{Read as NoRead, Memory as NoMemory}
+use Rattle.edf_fragment.specs.declared.fault.FragmentFault.TheVariants.{Read as NoRead}
+use Rattle.edf_fragment.specs.declared.fault.FragmentFault.TheVariants.{Memory as NoMemory}
 use Rattle.edf_store.specs.Held.{StoreModel, at}
 use Rattle.edf_store.specs.Fault.{IsStoreRefusal}
 use Rattle.edf_store.specs.declared.fault.StoreFault.{StoreFault}
 use Rattle.edf_store.specs.declared.fault.StoreFault.TheVariants as store
 use Rattle.edf_intake.specs.Source.{Source, ReadsSome}
 use Rattle.edf_intake.specs.declared.answer.Refusal.{Refusal}
-use Rattle.edf_intake.specs.declared.answer.Refusal.TheVariants.{Form, Read, Memory, Store as Refused}
+use Rattle.edf_intake.specs.declared.answer.Refusal.TheVariants.{Form, Read, Memory}
+use Rattle.edf_intake.specs.declared.answer.Refusal.TheVariants.{Store as Refused}
 use Rattle.edf_intake.specs.declared.answer.Stop.{Stop}
 use Rattle.edf_intake.specs.declared.answer.Stop.TheVariants.{Input, Store}
 
@@ -29,7 +31,8 @@ refusal_of fault = Refused fault
 
 -- inside a transaction the store refuses with E41, with E42 and its cause, or with E45, which a
 -- clean disk never gives
-pub record IsRefusedInside {S : Type 0} (g : Ghosts S) (new : StoreModel S) (fault : StoreFault) : Type 0 where
+pub record IsRefusedInside {S : Type 0} (g : Ghosts S) (new : StoreModel S)
+    (fault : StoreFault) : Type 0 where
   pub told : (fault ≡ store.Foreign) ⊎ IsStoreRefusal fault
   pub caused : fault ≢ store.Store None
   pub own : HasCleanDisk (at g new) → IsStoreRefusal fault

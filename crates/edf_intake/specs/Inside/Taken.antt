@@ -9,7 +9,8 @@ use Rattle.edf_holdings.specs.Holdings.{Holdings}
 use Rattle.edf_holdings.specs.Reply.{Reply, Overlap, Differs, Full, Accepted, reply, after_one}
 use Rattle.edf_store.specs.Held.{StoreModel, at}
 use Rattle.edf_store.specs.Transaction.{Sees}
-use Rattle.edf_intake.specs.Source.{Source, ReadsWhole, ReadsFault, FailsToRead, ReadsSome, LacksMemory}
+use Rattle.edf_intake.specs.Source.{Source, ReadsWhole, ReadsFault, FailsToRead, ReadsSome}
+use Rattle.edf_intake.specs.Source.{LacksMemory}
 use Rattle.edf_intake.specs.Inside.Halt.{IsRefusedInside}
 use Rattle.edf_intake.specs.declared.answer.Receipt.{Receipt}
 use Rattle.edf_intake.specs.declared.answer.Refusal.{Refusal}
@@ -30,15 +31,18 @@ module _ {S : Type 0} (g : Ghosts S) (old new : StoreModel S) (from to : Source)
     pub records : List DataRecord
     pub read : ReadsWhole from to receipt.identity records
     pub reply_is : HasCleanDisk (at g new) → (h : Holdings) → Sees g old h →
-        reply old.cap h (Fragment receipt.identity records) ≡ Accepted receipt.identity receipt.new receipt.known
-    pub sees : (h : Holdings) → Sees g old h → Sees g new (after_one old.cap h (Fragment receipt.identity records))
+        reply old.cap h (Fragment receipt.identity records) ≡ Accepted receipt.identity receipt.new
+        receipt.known
+    pub sees : (h : Holdings) → Sees g old h →
+        Sees g new (after_one old.cap h (Fragment receipt.identity records))
 
   -- the fragment is refused so
   pub record IsRefused (answer : Reply) : Type 0 where
     pub key : Key
     pub records : List DataRecord
     pub read : ReadsWhole from to key records
-    pub reply_is : HasCleanDisk (at g new) → (h : Holdings) → Sees g old h → reply old.cap h (Fragment key records) ≡ answer
+    pub reply_is : HasCleanDisk (at g new) → (h : Holdings) → Sees g old h →
+        reply old.cap h (Fragment key records) ≡ answer
 
   -- why nothing is to be committed
   abbrev pub IsStop : Stop → Type 0

@@ -24,8 +24,8 @@ pub record OwnBlock (block : List ℕ) (start : ℕ) (list : List Annotation) : 
 abbrev pub NoOwnBlock : List ℕ → Type 0
 NoOwnBlock block = (start : ℕ) (list : List Annotation) → ¬ OwnBlock block start list
 
--- the row is a recording's, and its records are sound ones that lie a duration apart and with which it may begin, at least one
--- and at most the cap
+-- the row is a recording's, and its records are sound ones that lie a duration apart and with which
+-- it may begin, at least one and at most the cap
 pub record HasRecords (cap : ℕ) (trees : Trees) (row : Row) : Type 0 where
   pub id : ℤ
   pub key : Key

@@ -13,7 +13,8 @@ use Rattle.edf_fragment.specs.declared.advance.Status.TheVariants.{Reading}
 use Rattle.edf_canonical.specs.File.{second_of, BlocksFit}
 use Rattle.edf_canonical.specs.Output.{Buffered, Writes, WritesFront}
 use Rattle.edf_canonical.specs.declared.fault.OutputFault.{OutputFault}
-use Rattle.edf_canonical.specs.declared.fault.OutputFault.TheVariants.{Write as FailedWrite, Memory as NoRoom}
+use Rattle.edf_canonical.specs.declared.fault.OutputFault.TheVariants.{Write as FailedWrite}
+use Rattle.edf_canonical.specs.declared.fault.OutputFault.TheVariants.{Memory as NoRoom}
 use Rattle.edf_runs.specs.Runs.{StartFrom, IsListed}
 use Rattle.edf_runs.specs.Read.{ReadsOn}
 use Rattle.edf_runs.specs.Again.{next_start}
@@ -28,7 +29,8 @@ fault_out FailedWrite = Write
 fault_out NoRoom = Memory
 
 -- one more data record was read, which starts at this instant
-pub record StepsOn (l : Layout) (from to : Progress) (left rest : Option (List ℕ)) (instant : ℕ) (r : DataRecord) : Type 0 where
+pub record StepsOn (l : Layout) (from to : Progress) (left rest : Option (List ℕ)) (instant : ℕ)
+    (r : DataRecord) : Type 0 where
   pub going : from.status ≡ Reading
   pub is_answer : IsAnswer l from to left rest (Ok (Some r))
   pub progress : to ≡ progress_after l from (Ok (Some r))
@@ -36,8 +38,10 @@ pub record StepsOn (l : Layout) (from to : Progress) (left rest : Option (List �
   pub sound : IsSoundRecord l.key r
   pub start : r.start ≡ instant
 
--- of these data records the first ones were read, and the input has the others next, as many as may come
-pub record HasOthers (l : Layout) (to : Progress) (rest : Option (List ℕ)) (all records : List DataRecord) : Type 0 where
+-- of these data records the first ones were read, and the input has the others next, as many as may
+-- come
+pub record HasOthers (l : Layout) (to : Progress) (rest : Option (List ℕ))
+    (all records : List DataRecord) : Type 0 where
   pub going : to.status ≡ Reading
   pub others : List DataRecord
   pub parts : all ≡ records ++ others
@@ -48,17 +52,18 @@ pub record HasOthers (l : Layout) (to : Progress) (rest : Option (List ℕ)) (al
   pub are_records : AreDataRecords l to.place bytes others last after
   pub within : to.given + length others ≤ most_records l.count
 
--- the data records that were read so far, as many as `count`; the next one starts at `next`; and where the run
--- came next, they are its first ones
-pub record ReadSoFar (l : Layout) (from to : Progress) (left rest : Option (List ℕ)) (run : Run) (records : List DataRecord) (next count : ℕ) : Type 0 where
+-- the data records that were read so far, as many as `count`; the next one starts at `next`; and
+-- where the run came next, they are its first ones
+pub record ReadSoFar (l : Layout) (from to : Progress) (left rest : Option (List ℕ)) (run : Run)
+    (records : List DataRecord) (next count : ℕ) : Type 0 where
   pub read : ReadsOn l from to left rest records
   pub starts : StartFrom (duration_of l.key.duration) run.first records
   pub counted : length records ≡ count
   pub next_is : next ≡ next_start l run records
   pub listed : (n : ComesNext l from left run) → HasOthers l to rest n.records records
 
--- these are sound ones, and `samples` samples are the fewest that hold the longest of their blocks, 0
--- where there is none
+-- these are sound ones, and `samples` samples are the fewest that hold the longest of their blocks,
+-- 0 where there is none
 pub record ArePut (l : Layout) (run : Run) (records : List DataRecord) (samples : ℕ) : Type 0 where
   pub sound : AllByRecursion (IsSoundRecord l.key) records
   pub within : samples ≤ run.block_samples
@@ -66,14 +71,16 @@ pub record ArePut (l : Layout) (run : Run) (records : List DataRecord) (samples 
   pub least : (fewer : ℕ) → BlocksFit (second_of run.first) fewer records → samples ≤ fewer
 
 -- so far they were read and put
-pub record PutSoFar (l : Layout) (from to : Progress) (left rest : Option (List ℕ)) (before after : Buffered) (run : Run) (next samples count : ℕ) : Type 0 where
+pub record PutSoFar (l : Layout) (from to : Progress) (left rest : Option (List ℕ))
+    (before after : Buffered) (run : Run) (next samples count : ℕ) : Type 0 where
   pub records : List DataRecord
   pub so_far : ReadSoFar l from to left rest run records next count
   pub put : ArePut l run records samples
   pub wrote : Writes before after (run_text run records) after.held
 
 -- all data records of the run were read and put
-pub record IsPutAll (l : Layout) (from to : Progress) (left rest : Option (List ℕ)) (before after : Buffered) (run : Run) : Type 0 where
+pub record IsPutAll (l : Layout) (from to : Progress) (left rest : Option (List ℕ))
+    (before after : Buffered) (run : Run) : Type 0 where
   pub records : List DataRecord
   pub read : ReadsOn l from to left rest records
   pub sound : AllByRecursion (IsSoundRecord l.key) records
@@ -81,7 +88,8 @@ pub record IsPutAll (l : Layout) (from to : Progress) (left rest : Option (List 
   pub put : Writes before after (run_text run records) after.held
 
 -- the first data records of the run were read, of which a front was written
-pub record StopsPutting (l : Layout) (from to : Progress) (left rest : Option (List ℕ)) (before after : Buffered) (run : Run) : Type 0 where
+pub record StopsPutting (l : Layout) (from to : Progress) (left rest : Option (List ℕ))
+    (before after : Buffered) (run : Run) : Type 0 where
   pub records : List DataRecord
   pub mid : Progress
   pub middle : Option (List ℕ)
@@ -93,7 +101,8 @@ pub record StopsPutting (l : Layout) (from to : Progress) (left rest : Option (L
   pub more : ReadsOneMoreAtMost l mid to middle rest (length records) run
 
 -- a header and all data records of the run were written
-pub record IsSent (l : Layout) (from to : Progress) (left rest before after : Option (List ℕ)) (header : List ℕ) (run : Run) : Type 0 where
+pub record IsSent (l : Layout) (from to : Progress) (left rest before after : Option (List ℕ))
+    (header : List ℕ) (run : Run) : Type 0 where
   pub records : List DataRecord
   pub read : ReadsOn l from to left rest records
   pub sound : AllByRecursion (IsSoundRecord l.key) records
@@ -101,7 +110,8 @@ pub record IsSent (l : Layout) (from to : Progress) (left rest before after : Op
   pub wrote : Appends before after (header ++ run_text run records)
 
 -- a front of the header and of the first data records was written
-pub record StopsSending (l : Layout) (from to : Progress) (left rest before after : Option (List ℕ)) (header : List ℕ) (run : Run) : Type 0 where
+pub record StopsSending (l : Layout) (from to : Progress) (left rest before after : Option (List ℕ))
+    (header : List ℕ) (run : Run) : Type 0 where
   pub records : List DataRecord
   pub mid : Progress
   pub middle : Option (List ℕ)

@@ -10,18 +10,38 @@ use Rattle.sqlite_schema.specs.declared.schema.Index.{Index}
 use Rattle.sqlite_schema.specs.declared.schema.Table.{Table}
 
 abbrev pub strict_column : List ℕ → Kind → Bool → Column
-strict_column name kind not_null = record { name = name; kind = kind; is_strict = true; not_null = not_null; default = Null; collation = Binary }
+strict_column name kind not_null = record {
+  name = name;
+  kind = kind;
+  is_strict = true;
+  not_null =
+      not_null;
+  default = Null;
+  collation = Binary;
+}
 
 abbrev pub recording_columns : List Column
-recording_columns = strict_column (codes "id") Integer false ∷ strict_column (codes "identity") Blob true ∷ []
+recording_columns = strict_column (codes "id") Integer false ∷ strict_column (codes "identity") Blob
+    true ∷ []
 
 abbrev pub record_columns : List Column
-record_columns = strict_column (codes "recording") Integer true ∷ strict_column (codes "start") Integer true ∷ strict_column (codes "samples") Blob true ∷ strict_column (codes "block") Blob true ∷ []
+record_columns = strict_column (codes "recording") Integer true ∷ strict_column (codes "start")
+    Integer true ∷ strict_column (codes "samples") Blob true ∷ strict_column (codes "block") Blob
+    true ∷ []
 
 abbrev pub index_of : List ℕ → ℕ → ℕ → List ℕ → Index
-index_of name tree table columns = record { name = name; tree = tree; table = table; columns = columns; order = plain; is_unique = true }
+index_of name tree table columns = record {
+  name = name;
+  tree = tree;
+  table = table;
+  columns =
+      columns;
+  order = plain;
+  is_unique = true;
+}
 
--- the table has one index by the order of bytes, no test, no reference, no default that is computed, and counts no rowids
+-- the table has one index by the order of bytes, no test, no reference, no default that is
+-- computed, and counts no rowids
 pub record IsPlain (t : Table) : Type 0 where
   pub orders : t.orders ≡ plain ∷ []
   pub checks : t.checks ≡ []

@@ -1,7 +1,8 @@
 -- Words of what is known of blocks on the way.
 use Rattle.std.specs.Prelude.{◌≡◌, ℕ, List, [], ◌∷◌, length, sum_by, IsTrue, ◌↔◌}
 use Rattle.std.specs.List.{AllByRecursion, flat_map}
-use Rattle.edf_tal.specs.Tal.{Tal, Annotation, AreTalsAndZeros, AreBlocks, all_tals, HaveUtf8Texts, IsTalInWindow, tal_annotations}
+use Rattle.edf_tal.specs.Tal.{Tal, Annotation, AreTalsAndZeros, AreBlocks, all_tals, HaveUtf8Texts}
+use Rattle.edf_tal.specs.Tal.{IsTalInWindow, tal_annotations}
 use Rattle.edf_tal.specs.Block.{AreRead, HasBadText}
 use Rattle.edf_tal.specs.declared.place.Place.{Place}
 use Rattle.edf_tal.specs.declared.blocks.Sums.{Sums}
@@ -15,15 +16,18 @@ pub record AreSurveyed (blocks : List (List ℕ)) (file_start : ℕ) (sums : Sum
   pub good : HaveUtf8Texts (all_tals tals)
   pub window : IsTrue sums.in_window ↔ AllByRecursion (IsTalInWindow file_start) (all_tals tals)
   pub count_is : sums.count ≡ length (flat_map (tal_annotations file_start) (all_tals tals))
-  pub bytes_is : sums.text_bytes ≡ sum_by (λ a. length a.text) (flat_map (tal_annotations file_start) (all_tals tals))
+  pub bytes_is : sums.text_bytes ≡ sum_by (λ a. length a.text)
+      (flat_map (tal_annotations file_start) (all_tals tals))
 
 -- what blocks that are TALs and zeros are
 abbrev pub HasForm : List (List ℕ) → ℕ → Form → Type 0
 HasForm blocks file_start (Good sums) = AreSurveyed blocks file_start sums
-HasForm blocks file_start (BadText offset) = ((tss : List (List Tal)) × AreBlocks blocks tss) × HasBadText blocks offset
+HasForm blocks file_start (BadText offset) = ((tss : List (List Tal)) × AreBlocks blocks tss)
+    × HasBadText blocks offset
 
 -- the blocks have no fault at this place: they give this start, and a list of this length
-pub record IsChecked (blocks : List (List ℕ)) (file_start : ℕ) (place : Place) (start count : ℕ) : Type 0 where
+pub record IsChecked (blocks : List (List ℕ)) (file_start : ℕ) (place : Place)
+    (start count : ℕ) : Type 0 where
   pub list : List Annotation
   pub read : AreRead blocks file_start place start list
   pub count_is : count ≡ length list
@@ -37,5 +41,6 @@ pub record AreSoundTals (bytes : List ℕ) (file_start : ℕ) (tals : List Tal) 
 -- the same of each block
 abbrev pub AreSoundLists : List (List ℕ) → ℕ → List (List Tal) → Type 0
 AreSoundLists [] file_start [] = Unit {0}
-AreSoundLists (block ∷ blocks) file_start (ts ∷ tss) = AreSoundTals block file_start ts × AreSoundLists blocks file_start tss
+AreSoundLists (block ∷ blocks) file_start (ts ∷ tss) = AreSoundTals block file_start ts
+    × AreSoundLists blocks file_start tss
 AreSoundLists blocks file_start tss = ⊥

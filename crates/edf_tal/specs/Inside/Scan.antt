@@ -1,8 +1,11 @@
 -- Words of the scan's helpers.
-use Rattle.std.specs.Prelude.{◌≡◌, ◌≢◌, ℕ, ◌+◌, ◌^◌, ◌≤◌, min, List, [], ◌∷◌, ◌++◌, length, sum_by, ℤ, pos, neg_ℤ, ◌≤ℤ◌, ◌<ℤ◌, Bool, Option, Some, None, IsTrue, IsUtf8, ◌↔◌, if◌then◌else◌}
+use Rattle.std.specs.Prelude.{◌≡◌, ◌≢◌, ℕ, ◌+◌, ◌^◌, ◌≤◌, min, List, [], ◌∷◌, ◌++◌, length, sum_by}
+use Rattle.std.specs.Prelude.{ℤ, pos, neg_ℤ, ◌≤ℤ◌, ◌<ℤ◌, Bool, Option, Some, None, IsTrue, IsUtf8}
+use Rattle.std.specs.Prelude.{◌↔◌, if◌then◌else◌}
 use Rattle.std.specs.List.{AllByRecursion, flat_map}
 use Rattle.edf_time.specs.Decimal.{IsSeconds}
-use Rattle.edf_tal.specs.Tal.{Tal, IsTal, IsOnset, IsDurationPart, IsText, ended, AreTals, HaveUtf8Texts, IsTalInWindow, tal_annotations}
+use Rattle.edf_tal.specs.Tal.{Tal, IsTal, IsOnset, IsDurationPart, IsText, ended, AreTals}
+use Rattle.edf_tal.specs.Tal.{HaveUtf8Texts, IsTalInWindow, tal_annotations}
 use Rattle.edf_tal.specs.declared.place.Place.{Place}
 use Rattle.edf_tal.specs.declared.place.Place.TheVariants.{First, After}
 
@@ -40,7 +43,8 @@ pub record IsHead (bytes : List ℕ) (z : ℤ) (d : Option ℕ) : Type 0 where
 
 -- the sign and the capped nanoseconds of an onset
 abbrev pub TellsOnset : Bool → ℕ → ℤ → Type 0
-TellsOnset ahead onset z = (m : ℕ) × (onset ≡ capped m) × (z ≡ (if ahead then pos m else neg_ℤ (pos m)))
+TellsOnset ahead onset z = (m : ℕ) × (onset ≡ capped m)
+    × (z ≡ (if ahead then pos m else neg_ℤ (pos m)))
 
 -- the capped nanoseconds of a duration
 abbrev pub TellsDuration : Option ℕ → Option ℕ → Type 0
@@ -88,8 +92,10 @@ pub record FollowsTals (bytes rest : List ℕ) : Type 0 where
   pub parts : bytes ≡ front ++ rest
   pub whole : AreTals front tals
 
--- TALs with UTF-8 texts, and then this rest; whether they keep the window, and how many annotations and bytes of texts they have
-pub record IsSurvey (bytes : List ℕ) (file_start : ℕ) (rest : List ℕ) (in_window : Bool) (count text_bytes : ℕ) : Type 0 where
+-- TALs with UTF-8 texts, and then this rest; whether they keep the window, and how many annotations
+-- and bytes of texts they have
+pub record IsSurvey (bytes : List ℕ) (file_start : ℕ) (rest : List ℕ) (in_window : Bool)
+    (count text_bytes : ℕ) : Type 0 where
   pub front : List ℕ
   pub tals : List Tal
   pub parts : bytes ≡ front ++ rest
@@ -97,7 +103,8 @@ pub record IsSurvey (bytes : List ℕ) (file_start : ℕ) (rest : List ℕ) (in_
   pub good : HaveUtf8Texts tals
   pub window : IsTrue in_window ↔ AllByRecursion (IsTalInWindow file_start) tals
   pub count_is : count ≡ length (flat_map (tal_annotations file_start) tals)
-  pub bytes_is : text_bytes ≡ sum_by (λ a. length a.text) (flat_map (tal_annotations file_start) tals)
+  pub bytes_is : text_bytes ≡ sum_by (λ a. length a.text)
+      (flat_map (tal_annotations file_start) tals)
 
 -- the first data record starts in the second that the header names
 abbrev pub KeepsSecond : Place → ℤ → Type 0
@@ -110,7 +117,8 @@ KeepsOrder (After before duration) start = before + duration ≤ start
 KeepsOrder place start = Unit {0}
 
 -- the texts of a TAL without a fault, and its times
-pub record TellsTal (texts : List ℕ) (ahead : Bool) (onset : ℕ) (duration : Option ℕ) (file_start : ℕ) (t : Tal) : Type 0 where
+pub record TellsTal (texts : List ℕ) (ahead : Bool) (onset : ℕ) (duration : Option ℕ)
+    (file_start : ℕ) (t : Tal) : Type 0 where
   pub texts_are : texts ≡ ended t.texts
   pub are_texts : AllByRecursion IsText t.texts
   pub good : AllByRecursion IsUtf8 t.texts

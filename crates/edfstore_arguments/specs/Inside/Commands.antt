@@ -25,16 +25,23 @@ abbrev pub list_app : App
 list_app = with_rule (new_app (codes "list")) (wanted (codes "STORE"))
 
 abbrev pub export_app : App
-export_app = with_rule (with_rule (new_app (codes "export")) (wanted (codes "STORE"))) (wanted (codes "PLACE"))
+export_app = with_rule (with_rule (new_app (codes "export")) (wanted (codes "STORE")))
+    (wanted (codes "PLACE"))
 
 abbrev pub convert_app : App
 convert_app = with_rule (new_app (codes "convert")) (wanted (codes "FILE"))
 
 abbrev pub edfstore_top : App
-edfstore_top = on_top (λ s. record s { has_version = true; no_binary_name = true; subcommand_required = true }) (new_app (codes "edfstore"))
+edfstore_top = on_top (λ s. record s {
+  has_version = true;
+  no_binary_name = true;
+  subcommand_required = true;
+}) (new_app (codes "edfstore"))
 
 abbrev pub edfstore_app : App
-edfstore_app = with_subcommand (with_subcommand (with_subcommand (with_subcommand edfstore_top take_app.top) list_app.top) export_app.top) convert_app.top
+edfstore_app = with_subcommand (with_subcommand
+    (with_subcommand (with_subcommand edfstore_top take_app.top) list_app.top) export_app.top)
+    convert_app.top
 
 -- parsing reads the command as that, and no argument of it is global
 abbrev pub Reads : Command → App → Type 0

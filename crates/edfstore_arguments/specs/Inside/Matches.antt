@@ -1,5 +1,6 @@
 -- What is asked for, by the values that `clap` found.
-use Rattle.std.specs.Prelude.{List, Option, Some, None, codes, if◌then◌else◌, option_and_then, option_map}
+use Rattle.std.specs.Prelude.{List, Option, Some, None, codes, if◌then◌else◌, option_and_then}
+use Rattle.std.specs.Prelude.{option_map}
 use Rattle.std.specs.Str.{bytes_eq}
 use Rattle.clap.specs.Walk.{Row, all_of, first_of}
 use Rattle.edfstore_arguments.specs.Arguments.{Asked, Text, place_of}
@@ -15,10 +16,13 @@ export_found _ _ = None
 
 -- by the word that was met and the values after it
 abbrev pub found_by : Text → List Row → Option Asked
-found_by word rows = if bytes_eq word (codes "take") then take_found (first_of (codes "STORE") rows) (all_of (codes "FILE") rows)
+found_by word rows = if bytes_eq word (codes "take") then take_found (first_of (codes "STORE") rows)
+    (all_of (codes "FILE") rows)
     else (if bytes_eq word (codes "list") then option_map list (first_of (codes "STORE") rows)
-    else (if bytes_eq word (codes "export") then export_found (first_of (codes "STORE") rows) (first_of (codes "PLACE") rows)
-    else (if bytes_eq word (codes "convert") then option_map convert (first_of (codes "FILE") rows) else None)))
+    else (if bytes_eq word (codes "export") then export_found (first_of (codes "STORE") rows)
+    (first_of (codes "PLACE") rows)
+    else (if bytes_eq word (codes "convert") then option_map convert (first_of (codes "FILE") rows)
+    else None)))
 
 abbrev pub asked_in : Option (Text × List Row) → Option Asked
 asked_in found = option_and_then (λ p. found_by p.0 p.1) found

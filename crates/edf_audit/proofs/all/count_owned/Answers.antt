@@ -14,7 +14,8 @@ use Rattle.edf_audit.specs.Inside.All.{IsAfter, AreCounted, owns}
 use Rattle.edf_audit.specs.Inside.Checked.{KeepsShown, Checks}
 use Rattle.edf_audit.proofs.Refusals.{unread_unchecked}
 use Rattle.edf_audit.proofs.Counts.{counted_none}
-use Rattle.edf_audit.proofs.AllRows.{rows_same, rows_then, row_in, up_more, last_more, id_twice, counted_more, shorter}
+use Rattle.edf_audit.proofs.AllRows.{rows_same, rows_then, row_in, up_more, last_more, id_twice}
+use Rattle.edf_audit.proofs.AllRows.{counted_more, shorter}
 use Rattle.edf_tables.proofs.Keeping.{on_err}
 use Rattle.edf_audit.proofs.Shown.{shown_rows, shown_then}
 use Rattle.edf_audit.proofs.all.count_owned.Goals as goal
@@ -36,9 +37,12 @@ returns-in_default-clause-counts g c clean =
     let inv = c.loop-row.invariant in
     let late : HasCleanDisk was = omega (arith, c.check_recording_row.ensures.survives.clean) in
     let early : HasCleanDisk old = omega (arith, late, inv.crash.clean) in
-    let told = subst (Checks c.args.cap was.now.trees c.row-item.result) c.in_default.is (c.in_ok-count.ensures.told clean) in
-    let here = row_in (recordings_in old.now.trees) c.args.rows.now c.loop-row.row-index c.row-item.result (c.requires.listed early) (search rules) (search rules) in
-    subst (λ (d : Database). Checks c.args.cap d.trees c.row-item.result None) (inv.same late).now_is told here
+    let told = subst (Checks c.args.cap was.now.trees c.row-item.result) c.in_default.is
+    (c.in_ok-count.ensures.told clean) in
+    let here = row_in (recordings_in old.now.trees) c.args.rows.now c.loop-row.row-index
+    c.row-item.result (c.requires.listed early) (search rules) (search rules) in
+    subst (λ (d : Database). Checks c.args.cap d.trees c.row-item.result None)
+    (inv.same late).now_is told here
 
 pub loop-row-preserved : goal.loop-row-preserved
 loop-row-preserved g c =
@@ -46,23 +50,37 @@ loop-row-preserved g c =
     let was = state g.S.Store c.loop-row.conn in
     let now = state g.S.Store c.check_recording_row.new.conn in
     let inv = c.loop-row.invariant in
-    let after : IsAfter c.loop-row.last c.row-item.result c.in-Some-next_id.id = c.in-Some-next_id.ensures in
+    let after : IsAfter c.loop-row.last c.row-item.result c.in-Some-next_id.id =
+    c.in-Some-next_id.ensures in
     record {
       crash = quiet_then old was now _ inv.crash c.check_recording_row.ensures.survives;
-      same = λ clean. rows_then old was now (inv.same (omega (arith, c.check_recording_row.ensures.survives.clean))) (c.in_ok-count.ensures.same clean);
+      same = λ clean. rows_then old was now
+          (inv.same (omega (arith, c.check_recording_row.ensures.survives.clean)))
+          (c.in_ok-count.ensures.same clean);
       counted = λ clean.
-          let late : HasCleanDisk was = omega (arith, c.check_recording_row.ensures.survives.clean) in
+          let late : HasCleanDisk was =
+          omega (arith, c.check_recording_row.ensures.survives.clean) in
           let early : HasCleanDisk old = omega (arith, late, inv.crash.clean) in
-          counted_more c.args.cap old.now was.now c.args.rows.now c.loop-row.row-index c.row-item.result c.loop-row.sum c.in-Some.count c.from.result c.loop-row.last c.in-Some-next_id.id (inv.same late).now_is (c.requires.listed early)
-          (search rules) (search rules) (search rules) (inv.counted late) inv.up_to after (subst (Checks c.args.cap was.now.trees c.row-item.result) c.in-Some.is (c.in_ok-count.ensures.told clean));
-      up_to = rw (to_z-of_z w64 c.in-Some-next_id.id (search rules)) (up_more c.args.rows.now c.loop-row.row-index c.row-item.result c.loop-row.last c.in-Some-next_id.id (search rules) (search rules) inv.up_to after);
-      met = rw (to_z-of_z w64 c.in-Some-next_id.id (search rules)) (last_more c.args.rows.now c.loop-row.row-index c.row-item.result c.loop-row.last c.in-Some-next_id.id (search rules) (search rules) after);
+          counted_more c.args.cap old.now was.now c.args.rows.now c.loop-row.row-index
+          c.row-item.result c.loop-row.sum c.in-Some.count c.from.result c.loop-row.last
+          c.in-Some-next_id.id (inv.same late).now_is (c.requires.listed early)
+          (search rules) (search rules) (search rules) (inv.counted late) inv.up_to after
+          (subst (Checks c.args.cap was.now.trees c.row-item.result) c.in-Some.is
+          (c.in_ok-count.ensures.told clean));
+      up_to = rw (to_z-of_z w64 c.in-Some-next_id.id (search rules))
+          (up_more c.args.rows.now c.loop-row.row-index c.row-item.result c.loop-row.last
+          c.in-Some-next_id.id (search rules) (search rules) inv.up_to after);
+      met = rw (to_z-of_z w64 c.in-Some-next_id.id (search rules))
+          (last_more c.args.rows.now c.loop-row.row-index c.row-item.result c.loop-row.last
+          c.in-Some-next_id.id (search rules) (search rules) after);
       low = search rules;
     }
 
 pub returns-in_err-count-clause-why : goal.returns-in_err-count-clause-why
 returns-in_err-count-clause-why g c clean =
-    let why = unread_unchecked (state g.S.Store c.args.conn.now) (state g.S.Store c.loop-row.conn) (state g.S.Store c.check_recording_row.new.conn) _ _ _ c.loop-row.invariant.crash c.check_recording_row.ensures.survives clean (c.in_err-count.ensures.why clean) in
+    let why = unread_unchecked (state g.S.Store c.args.conn.now) (state g.S.Store c.loop-row.conn)
+    (state g.S.Store c.check_recording_row.new.conn) _ _ _ c.loop-row.invariant.crash
+    c.check_recording_row.ensures.survives clean (c.in_err-count.ensures.why clean) in
     let told = err_from_is_err_and c.from_residual.result c.from_residual.ensures.1 in
     rw (told.1, told.2) why
 
@@ -71,12 +89,20 @@ returns-then-more-ge-MOST_COUNTED-clause-why g c clean =
     let old = state g.S.Store c.args.conn.now in
     let was = state g.S.Store c.loop-row.conn in
     let inv = c.loop-row.invariant in
-    let after : IsAfter c.loop-row.last c.row-item.result c.in-Some-next_id.id = c.in-Some-next_id.ensures in
+    let after : IsAfter c.loop-row.last c.row-item.result c.in-Some-next_id.id =
+    c.in-Some-next_id.ensures in
     let late : HasCleanDisk was = omega (arith, c.check_recording_row.ensures.survives.clean) in
     let early : HasCleanDisk old = omega (arith, late, inv.crash.clean) in
-    let counted : AreCounted c.args.cap old.now.trees (take (c.loop-row.row-index + 1) c.args.rows.now) (c.loop-row.sum + c.from.result) = counted_more c.args.cap old.now was.now c.args.rows.now c.loop-row.row-index c.row-item.result c.loop-row.sum c.in-Some.count c.from.result c.loop-row.last c.in-Some-next_id.id (inv.same late).now_is (c.requires.listed early)
-    (search rules) (search rules) (search rules) (inv.counted late) inv.up_to after (subst (Checks c.args.cap was.now.trees c.row-item.result) c.in-Some.is (c.in_ok-count.ensures.told clean)) in
-    let all = shorter (λ r. list_any (λ g. owns g r) (take (c.loop-row.row-index + 1) c.args.rows.now)) (old.now.trees 2) in
+    let counted : AreCounted c.args.cap old.now.trees
+    (take (c.loop-row.row-index + 1) c.args.rows.now) (c.loop-row.sum + c.from.result) =
+    counted_more c.args.cap old.now was.now c.args.rows.now c.loop-row.row-index
+    c.row-item.result c.loop-row.sum c.in-Some.count c.from.result c.loop-row.last
+    c.in-Some-next_id.id (inv.same late).now_is (c.requires.listed early)
+    (search rules) (search rules) (search rules) (inv.counted late) inv.up_to after
+    (subst (Checks c.args.cap was.now.trees c.row-item.result) c.in-Some.is
+    (c.in_ok-count.ensures.told clean)) in
+    let all = shorter (λ r. list_any (λ g. owns g r)
+    (take (c.loop-row.row-index + 1) c.args.rows.now)) (old.now.trees 2) in
     too_many refl (omega (arith, counted.sums, all, c.if-more-ge-MOST_COUNTED.true))
 
 pub returns-in_default-next_id-clause-counts : goal.returns-in_default-next_id-clause-counts
@@ -86,23 +112,32 @@ returns-in_default-next_id-clause-counts g c clean =
     let inv = c.loop-row.invariant in
     let late : HasCleanDisk was = omega (arith, c.check_recording_row.ensures.survives.clean) in
     let early : HasCleanDisk old = omega (arith, late, inv.crash.clean) in
-    let told = subst (Checks c.args.cap was.now.trees c.row-item.result) c.in-Some.is (c.in_ok-count.ensures.told clean) in
-    let here = row_in (recordings_in old.now.trees) c.args.rows.now c.loop-row.row-index c.row-item.result (c.requires.listed early) (search rules) (search rules) in
-    let has = (subst (λ (d : Database). Checks c.args.cap d.trees c.row-item.result (Some c.in-Some.count)) (inv.same late).now_is told here).0 in
-    id_twice c.args.cap old.now.trees c.args.rows.now c.loop-row.row-index c.row-item.result c.loop-row.last has.id (c.requires.listed early) (c.requires.ordered early) (search rules) (search rules) inv.met (ap (λ (r : Row). column r 0) has.cells) c.in_default-next_id.ensures
+    let told = subst (Checks c.args.cap was.now.trees c.row-item.result) c.in-Some.is
+    (c.in_ok-count.ensures.told clean) in
+    let here = row_in (recordings_in old.now.trees) c.args.rows.now c.loop-row.row-index
+    c.row-item.result (c.requires.listed early) (search rules) (search rules) in
+    let has = (subst (λ (d : Database). Checks c.args.cap d.trees c.row-item.result
+    (Some c.in-Some.count)) (inv.same late).now_is told here).0 in
+    id_twice c.args.cap old.now.trees c.args.rows.now c.loop-row.row-index c.row-item.result
+    c.loop-row.last has.id (c.requires.listed early) (c.requires.ordered early) (search rules)
+    (search rules) inv.met (ap (λ (r : Row). column r 0) has.cells) c.in_default-next_id.ensures
 
 pub returns-in_err-count-clause-refused : goal.returns-in_err-count-clause-refused
 returns-in_err-count-clause-refused g c clean =
     let old = state g.S.Store c.args.conn.now in
     let was = state g.S.Store c.loop-row.conn in
     let late : HasCleanDisk was = omega (arith, c.check_recording_row.ensures.survives.clean) in
-    let kept : KeepsShown old (state g.S.Store c.check_recording_row.new.conn) = shown_then old was _ (c.loop-row.invariant.same late) (c.in_err-count.ensures.refused clean) in
+    let kept : KeepsShown old (state g.S.Store c.check_recording_row.new.conn) =
+    shown_then old was _ (c.loop-row.invariant.same late)
+    (c.in_err-count.ensures.refused clean) in
     on_err _ kept
 
-pub returns-then-more-ge-MOST_COUNTED-clause-refused : goal.returns-then-more-ge-MOST_COUNTED-clause-refused
+pub returns-then-more-ge-MOST_COUNTED-clause-refused :
+    goal.returns-then-more-ge-MOST_COUNTED-clause-refused
 returns-then-more-ge-MOST_COUNTED-clause-refused g c clean =
     let old = state g.S.Store c.args.conn.now in
     let was = state g.S.Store c.loop-row.conn in
     let now = state g.S.Store c.check_recording_row.new.conn in
     let late : HasCleanDisk was = omega (arith, c.check_recording_row.ensures.survives.clean) in
-    shown_rows old now (rows_then old was now (c.loop-row.invariant.same late) (c.in_ok-count.ensures.same clean))
+    shown_rows old now (rows_then old was now (c.loop-row.invariant.same late)
+    (c.in_ok-count.ensures.same clean))

@@ -10,8 +10,10 @@ use Rattle.edf_audit.proofs.all.count_owned.Given as goal
 abbrev pub invariant-loop-row : goal.invariant-loop-row
 invariant-loop-row g l = record {
   crash : Survives (state g.S.Store l.initial.conn) (state g.S.Store l.conn) (λ _. ⊥);
-  same : HasCleanDisk (state g.S.Store l.conn) → KeepsRows (state g.S.Store l.initial.conn) (state g.S.Store l.conn);
-  counted : HasCleanDisk (state g.S.Store l.conn) → AreCounted l.cap (state g.S.Store l.initial.conn).now.trees (take l.row-index l.rows) l.sum;
+  same : HasCleanDisk (state g.S.Store l.conn) →
+      KeepsRows (state g.S.Store l.initial.conn) (state g.S.Store l.conn);
+  counted : HasCleanDisk (state g.S.Store l.conn) →
+      AreCounted l.cap (state g.S.Store l.initial.conn).now.trees (take l.row-index l.rows) l.sum;
   up_to : AllByRecursion (IsUpTo l.last) (take l.row-index l.rows);
   met : IsLastOf l.last (take l.row-index l.rows);
   low : l.sum < 2 ^ 63 - 1;

@@ -9,11 +9,14 @@ use Rattle.edf_audit.proofs.Shown.{file_checked}
 use Rattle.edf_audit.proofs.open.audit_tables.Goals as goal
 
 pub check_all-requires-clause-schema : goal.check_all-requires-clause-schema
-check_all-requires-clause-schema g c clean = tables_both _ _ (c.in_ok-create_tables.ensures.made clean)
+check_all-requires-clause-schema g c clean =
+    tables_both _ _ (c.in_ok-create_tables.ensures.made clean)
 
 pub returns-in_err-create_tables-clause-why : goal.returns-in_err-create_tables-clause-why
 returns-in_err-create_tables-clause-why g c clean =
-    let why : IsUnaudited (state g.S.Store c.args.conn.now) (state g.S.Store c.create_tables.new.conn) _ = unmade (c.in_err-create_tables.ensures.why clean) in
+    let why : IsUnaudited (state g.S.Store c.args.conn.now)
+    (state g.S.Store c.create_tables.new.conn) _ =
+    unmade (c.in_err-create_tables.ensures.why clean) in
     let told = err_from_is_err_and c.from_residual.result c.from_residual.ensures.1 in
     rw (told.1, told.2) why
 
@@ -21,4 +24,7 @@ pub returns-clause-stays : goal.returns-clause-stays
 returns-clause-stays g c clean =
     let mid = state g.S.Store c.create_tables.new.conn in
     let early : HasCleanDisk mid = omega (arith, c.check_all.ensures.survives.clean) in
-    file_checked (state g.S.Store c.args.conn.now) mid (state g.S.Store c.check_all.new.conn) c.check_all.result (c.create_tables.ensures.stays early) (c.in_ok-create_tables.ensures.made early) (c.in_ok-create_tables.ensures.mode early) (c.check_all.ensures.same clean) (c.check_all.ensures.refused clean)
+    file_checked (state g.S.Store c.args.conn.now) mid (state g.S.Store c.check_all.new.conn)
+    c.check_all.result (c.create_tables.ensures.stays early)
+    (c.in_ok-create_tables.ensures.made early) (c.in_ok-create_tables.ensures.mode early)
+    (c.check_all.ensures.same clean) (c.check_all.ensures.refused clean)

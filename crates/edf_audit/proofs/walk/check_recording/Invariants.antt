@@ -8,6 +8,8 @@ abbrev pub invariant-walk : goal.invariant-walk
 invariant-walk g l = record {
   same_reference : l.rows.conn.ghost_name ≡ l.initial.rows.conn.ghost_name;
   crash : Survives (state g.S.Store l.fn.conn) (state g.S.Store l.rows.conn.now) (λ _. ⊥);
-  same : HasCleanDisk (state g.S.Store l.rows.conn.now) → IsUnchanged (state g.S.Store l.fn.conn) (state g.S.Store l.rows.conn.now);
-  stands : HasCleanDisk (state g.S.Store l.rows.conn.now) → Stands g.S.Store l.fn.recording l.fn.identity l.last l.count l.rows.conn.now;
+  same : HasCleanDisk (state g.S.Store l.rows.conn.now) →
+      IsUnchanged (state g.S.Store l.fn.conn) (state g.S.Store l.rows.conn.now);
+  stands : HasCleanDisk (state g.S.Store l.rows.conn.now) →
+      Stands g.S.Store l.fn.recording l.fn.identity l.last l.count l.rows.conn.now;
 }

@@ -4,7 +4,9 @@ use Rattle.edf_canonical.proofs.Puts.{flush-refused, sends-through, fails-throug
 use Rattle.edf_canonical.proofs.output.put_through.Goals as goal
 
 pub returns-in_err-flush : goal.returns-in_err-flush
-returns-in_err-flush g c = let p = err_from_is_err_and c.from_residual.result c.from_residual.ensures.1 in rw (p.1, p.2) (flush-refused _ _ _ _ c.in_err-flush.ensures)
+returns-in_err-flush g c = let p =
+    err_from_is_err_and c.from_residual.result c.from_residual.ensures.1 in
+    rw (p.1, p.2) (flush-refused _ _ _ _ c.in_err-flush.ensures)
 
 pub returns-then-not-send : goal.returns-then-not-send
 returns-then-not-send g c =

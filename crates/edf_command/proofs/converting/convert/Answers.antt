@@ -9,12 +9,27 @@ use Rattle.edf_command.proofs.converting.convert.Goals as goal
 
 pub returns-in_default-clause-converted : goal.returns-in_default-clause-converted
 returns-in_default-clause-converted g c =
-    inr (inr (refl, (nothing-gets (g.O.Output.contents c.args.out.now) (g.O.Output.failures c.args.out.now), c.tell_memory.ensures)))
+    inr (inr (
+      refl,
+      (
+        nothing-gets (g.O.Output.contents c.args.out.now)
+            (g.O.Output.failures c.args.out.now),
+        c.tell_memory.ensures,
+      ),
+    ))
 
 pub returns-in-Ok-submit-clause-converted : goal.returns-in-Ok-submit-clause-converted
 returns-in-Ok-submit-clause-converted g c = inl (record {
-  from = record { left = g.I.Reader.Input.remaining c.in-Ok.reader; failed = g.I.Reader.Input.failures c.in-Ok.reader };
-  to = record { left = g.I.Reader.Input.remaining c.submit.new.input; failed = g.I.Reader.Input.failures c.submit.new.input };
+  from = record {
+    left = g.I.Reader.Input.remaining c.in-Ok.reader;
+    failed =
+        g.I.Reader.Input.failures c.in-Ok.reader;
+  };
+  to = record {
+    left = g.I.Reader.Input.remaining c.submit.new.input;
+    failed =
+        g.I.Reader.Input.failures c.submit.new.input;
+  };
   receipt = c.in-Ok-submit.receipt;
   mid = c.submit.new.store;
   opened = c.in-Ok.ensures.reader;
@@ -26,14 +41,28 @@ returns-in-Ok-submit-clause-converted g c = inl (record {
 
 pub returns-clause-converted : goal.returns-clause-converted
 returns-clause-converted g c = inr (inl (record {
-  from = record { left = g.I.Reader.Input.remaining c.in-Ok.reader; failed = g.I.Reader.Input.failures c.in-Ok.reader };
-  to = record { left = g.I.Reader.Input.remaining c.submit.new.input; failed = g.I.Reader.Input.failures c.submit.new.input };
+  from = record {
+    left = g.I.Reader.Input.remaining c.in-Ok.reader;
+    failed =
+        g.I.Reader.Input.failures c.in-Ok.reader;
+  };
+  to = record {
+    left = g.I.Reader.Input.remaining c.submit.new.input;
+    failed =
+        g.I.Reader.Input.failures c.submit.new.input;
+  };
   refusal = c.in-Err.refusal;
   opened = c.in-Ok.ensures.reader;
   submitted = c.in-Err.ensures.submitted;
   said = λ spell is.
       let text = refused_line spell c.args.file.now c.in-Err.refusal in
-      let told = c.tell.ensures.told text (IfOk-weaker c.refused_line.result _ _ (λ r line. line spell is) c.refused_line.ensures) in
-      let IsSo : Status → Type 0 = λ wanted. IsTold (growth g.F.Output c.args.err.now c.tell.new.out) text wanted c.tell.result in
-      (nothing-gets (g.O.Output.contents c.args.out.now) (g.O.Output.failures c.args.out.now), subst IsSo (c.status_of_number-status.ensures ∙ ap status_of_number c.number.ensures) told);
+      let told = c.tell.ensures.told text
+      (IfOk-weaker c.refused_line.result _ _ (λ r line. line spell is)
+      c.refused_line.ensures) in
+      let IsSo : Status → Type 0 = λ wanted.
+      IsTold (growth g.F.Output c.args.err.now c.tell.new.out) text wanted c.tell.result in (
+        nothing-gets (g.O.Output.contents c.args.out.now) (g.O.Output.failures c.args.out.now),
+        subst IsSo (c.status_of_number-status.ensures ∙ ap status_of_number c.number.ensures)
+            told,
+      );
 }))

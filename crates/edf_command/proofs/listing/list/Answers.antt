@@ -1,4 +1,5 @@
-use Rattle.std.proofs.Common.{Bool, true, false, List, [], length, take, drop, sym, ◌∙◌, refl, subst, inl, inr, take-append-drop}
+use Rattle.std.proofs.Common.{Bool, true, false, List, [], length, take, drop, sym, ◌∙◌, refl}
+use Rattle.std.proofs.Common.{subst, inl, inr, take-append-drop}
 use Rattle.edf_header.specs.Key.{Key}
 use Rattle.edf_holdings.proofs.KeyLists.{keys_are_one}
 use Rattle.edf_store.proofs.Readiness.{stays_then}
@@ -19,7 +20,8 @@ returns-in-Err g c = record {
     fault = c.in-Err.fault;
     told = is-refusal c.in-Err.fault (c.in-Err.ensures.own clean) c.in-Err.ensures.unfailed;
     first = λ keys are. (keys, refl);
-    written = λ spell is. nothing-gets (g.O.Output.contents c.args.out.now) (g.O.Output.failures c.args.out.now);
+    written = λ spell is. nothing-gets (g.O.Output.contents c.args.out.now)
+        (g.O.Output.failures c.args.out.now);
     said = c.tell_refusal.ensures;
   });
 }
@@ -31,10 +33,16 @@ returns-in-Ok-true g c =
     let new = c.put_recordings.new.store in
     let keys = c.in-Ok.recordings.items in
     record {
-      stays = stays_then g.S.Store old mid new c.identities.ensures.stays c.in-Ok-true.ensures.stays;
-      told = inl (c.in-Ok-true.ensures.counted c.in-Ok-true.field-0-test, nothing-gets (g.F.Output.contents c.args.err.now) (g.F.Output.failures c.args.err.now), refl);
+      stays = stays_then g.S.Store old mid new c.identities.ensures.stays
+          c.in-Ok-true.ensures.stays;
+      told = inl (
+        c.in-Ok-true.ensures.counted c.in-Ok-true.field-0-test,
+        nothing-gets (g.F.Output.contents c.args.err.now) (g.F.Output.failures c.args.err.now),
+        refl,
+      );
       listed = λ clean h holds.
-          let are = c.in-Ok.ensures.keys (was-clean g.S.Store mid new c.in-Ok-true.ensures.stays clean) h holds in
+          let are = c.in-Ok.ensures.keys (was-clean g.S.Store mid new c.in-Ok-true.ensures.stays
+          clean) h holds in
           let held : List Key → Type 0 = λ ks. AreHeldBy h ks in
           let all = subst held (sym c.as_slice.ensures.value) (λ k has. (are.held k).0 has) in
           inl (record {
@@ -42,11 +50,16 @@ returns-in-Ok-true g c =
             are_keys = are;
             said = λ spell is.
                 let w = growth g.O.Output c.args.out.now c.put_recordings.new.out in
-                let IsOut : Bool → List Key → Type 0 = λ written ks. ArePut w (first_list_lines spell h ks) (length ks) written in
-                let put = c.in-Ok-true.ensures.put clean h spell (c.identities.ensures.stays.holdings h holds) all is in
-                let done = subst (IsOut true) c.as_slice.ensures.value (subst (λ (b : Bool). IsOut b c.as_slice.result.now) c.in-Ok-true.field-0-test put) in
+                let IsOut : Bool → List Key → Type 0 =
+                λ written ks. ArePut w (first_list_lines spell h ks) (length ks) written in
+                let put = c.in-Ok-true.ensures.put clean h spell
+                (c.identities.ensures.stays.holdings h holds) all is in
+                let done = subst (IsOut true) c.as_slice.ensures.value
+                (subst (λ (b : Bool). IsOut b c.as_slice.result.now) c.in-Ok-true.field-0-test
+                put) in
                 inl (inl (done, refl));
-            silent = nothing-gets (g.F.Output.contents c.args.err.now) (g.F.Output.failures c.args.err.now);
+            silent = nothing-gets (g.F.Output.contents c.args.err.now)
+                (g.F.Output.failures c.args.err.now);
           });
     }
 
@@ -57,10 +70,16 @@ returns-in-Ok-false g c =
     let new = c.put_recordings.new.store in
     let keys = c.in-Ok.recordings.items in
     record {
-      stays = stays_then g.S.Store old mid new c.identities.ensures.stays c.in-Ok-false.ensures.stays;
-      told = inr (inl (nothing-gets (g.F.Output.contents c.args.err.now) (g.F.Output.failures c.args.err.now), refl));
+      stays = stays_then g.S.Store old mid new c.identities.ensures.stays
+          c.in-Ok-false.ensures.stays;
+      told = inr (inl (
+        nothing-gets (g.F.Output.contents c.args.err.now)
+            (g.F.Output.failures c.args.err.now),
+        refl,
+      ));
       listed = λ clean h holds.
-          let are = c.in-Ok.ensures.keys (was-clean g.S.Store mid new c.in-Ok-false.ensures.stays clean) h holds in
+          let are = c.in-Ok.ensures.keys (was-clean g.S.Store mid new c.in-Ok-false.ensures.stays
+          clean) h holds in
           let held : List Key → Type 0 = λ ks. AreHeldBy h ks in
           let all = subst held (sym c.as_slice.ensures.value) (λ k has. (are.held k).0 has) in
           inl (record {
@@ -68,11 +87,16 @@ returns-in-Ok-false g c =
             are_keys = are;
             said = λ spell is.
                 let w = growth g.O.Output c.args.out.now c.put_recordings.new.out in
-                let IsOut : Bool → List Key → Type 0 = λ written ks. ArePut w (first_list_lines spell h ks) (length ks) written in
-                let put = c.in-Ok-false.ensures.put clean h spell (c.identities.ensures.stays.holdings h holds) all is in
-                let done = subst (IsOut false) c.as_slice.ensures.value (subst (λ (b : Bool). IsOut b c.as_slice.result.now) c.in-Ok-false.field-0-test put) in
+                let IsOut : Bool → List Key → Type 0 =
+                λ written ks. ArePut w (first_list_lines spell h ks) (length ks) written in
+                let put = c.in-Ok-false.ensures.put clean h spell
+                (c.identities.ensures.stays.holdings h holds) all is in
+                let done = subst (IsOut false) c.as_slice.ensures.value
+                (subst (λ (b : Bool). IsOut b c.as_slice.result.now) c.in-Ok-false.field-0-test
+                put) in
                 trouble-lines w (first_list_lines spell h keys) (length keys) Done done;
-            silent = nothing-gets (g.F.Output.contents c.args.err.now) (g.F.Output.failures c.args.err.now);
+            silent = nothing-gets (g.F.Output.contents c.args.err.now)
+                (g.F.Output.failures c.args.err.now);
           });
     }
 
@@ -83,10 +107,16 @@ returns g c =
     let new = c.put_recordings.new.store in
     let keys = c.in-Ok.recordings.items in
     record {
-      stays = stays_then g.S.Store old mid new c.identities.ensures.stays c.in-Err-put_recordings.ensures.stays;
-      told = inr (inr (c.in-Err-put_recordings.stop, c.in-Err-put_recordings.ensures.counted, c.tell_refusal-in-Err-put_recordings.ensures));
+      stays = stays_then g.S.Store old mid new c.identities.ensures.stays
+          c.in-Err-put_recordings.ensures.stays;
+      told = inr (inr (
+        c.in-Err-put_recordings.stop,
+        c.in-Err-put_recordings.ensures.counted,
+        c.tell_refusal-in-Err-put_recordings.ensures,
+      ));
       listed = λ clean h holds.
-          let are = c.in-Ok.ensures.keys (was-clean g.S.Store mid new c.in-Err-put_recordings.ensures.stays clean) h holds in
+          let are = c.in-Ok.ensures.keys
+          (was-clean g.S.Store mid new c.in-Err-put_recordings.ensures.stays clean) h holds in
           let held : List Key → Type 0 = λ ks. AreHeldBy h ks in
           let all = subst held (sym c.as_slice.ensures.value) (λ k has. (are.held k).0 has) in
           let stop = c.in-Err-put_recordings.ensures.refused clean in
@@ -95,9 +125,15 @@ returns g c =
             given = take stop.0 keys;
             fault = c.in-Err-put_recordings.stop;
             told = then.0;
-            first = λ others they. (drop stop.0 keys, keys_are_one h others keys they are ∙ sym (take-append-drop stop.0 keys));
+            first = λ others they. (
+              drop stop.0 keys,
+              keys_are_one h others keys they are
+                  ∙ sym (take-append-drop stop.0 keys),
+            );
             written = λ spell is.
-                let IsOut : List Key → Type 0 = λ ks. Gets (growth g.O.Output c.args.out.now c.put_recordings.new.out) (first_list_lines spell h ks stop.0) in
+                let IsOut : List Key → Type 0 = λ ks.
+                Gets (growth g.O.Output c.args.out.now c.put_recordings.new.out)
+                (first_list_lines spell h ks stop.0) in
                 subst IsOut c.as_slice.ensures.value (then.1 spell is);
             said = c.tell_refusal-in-Err-put_recordings.ensures;
           });

@@ -10,7 +10,8 @@ returns-in-Some-clause-put g c clean h spell holds some is =
     let k = c.args.identity.now in
     let IsOne : Option Summary → Type 0 = λ o. IsSummary (h k) o in
     let one = subst IsOne c.in-Some.is (c.in_ok-summary.ensures.summary clean h holds) in
-    c.put_line.ensures.put (list_line spell c.args.place k (h k)) (IfOk-weaker c.list_line.result _ _ (λ r line. line spell (h k) is one) c.list_line.ensures)
+    c.put_line.ensures.put (list_line spell c.args.place k (h k))
+    (IfOk-weaker c.list_line.result _ _ (λ r line. line spell (h k) is one) c.list_line.ensures)
 
 pub returns-in-None-clause-refused : goal.returns-in-None-clause-refused
 returns-in-None-clause-refused g c clean h holds some =

@@ -12,7 +12,8 @@ abbrev pub invariant-loop-at : goal.invariant-loop-at
 invariant-loop-at g l = record {
   stays : Stays g.S.Store l.fn.store l.store;
   counted : g.O.Output.failures l.out ≡ g.O.Output.failures l.fn.out;
-  put : HasCleanDisk (at g.S.Store l.store) → (h : Holdings) → Holds g.S.Store l.fn.store h → AreHeldBy h l.recordings
+  put : HasCleanDisk (at g.S.Store l.store) → (h : Holdings) → Holds g.S.Store l.fn.store h →
+      AreHeldBy h l.recordings
       → (spell : ℕ → List ℕ) → IsSpelling spell
       → Gets (growth g.O.Output l.fn.out l.out) (first_list_lines spell h l.recordings l.at);
 }

@@ -10,6 +10,11 @@ returns-in-Convert-clause-done g c =
     let out = growth g.O.Output c.args.out.now c.convert.new.out in
     let err = growth g.F.Output c.args.err.now c.convert.new.err in
     let bytes = g.I.Inputs.bytes c.args.inputs.now in
-    let Does : Order → Type 0 = λ command. IsDone g.S.Store c.args.store.now c.convert.new.store out err bytes (meaning command) c.convert.result in
-    let Converts : List ℕ → Type 0 = λ name. IsConverted g.S.Store c.args.store.now c.convert.new.store out err (bytes name) name c.convert.result in
-    subst Does (sym c.in-Convert.is) (subst Converts c.as_str.ensures.value c.convert.ensures.converted)
+    let Does : Order → Type 0 = λ command.
+    IsDone g.S.Store c.args.store.now c.convert.new.store out err bytes (meaning command)
+    c.convert.result in
+    let Converts : List ℕ → Type 0 = λ name.
+    IsConverted g.S.Store c.args.store.now c.convert.new.store out err (bytes name) name
+    c.convert.result in
+    subst Does (sym c.in-Convert.is) (subst Converts c.as_str.ensures.value
+    c.convert.ensures.converted)

@@ -15,7 +15,16 @@ pub returns-in-Err : goal.returns-in-Err
 returns-in-Err g c = record {
   stays = c.identities.ensures.stays;
   told = inl (inr (Store c.in-Err.fault, refl, c.tell_refusal.ensures));
-  sent = λ clean h holds. inr (inr (record { fault = c.in-Err.fault; told = is-refusal c.in-Err.fault (c.in-Err.ensures.own clean) c.in-Err.ensures.unfailed; said = (nothing-gets (g.O.Output.contents c.args.out.now) (g.O.Output.failures c.args.out.now), c.tell_refusal.ensures) }));
+  sent = λ clean h holds.
+      inr (inr (record {
+        fault = c.in-Err.fault;
+        told =
+            is-refusal c.in-Err.fault (c.in-Err.ensures.own clean) c.in-Err.ensures.unfailed;
+        said = (
+          nothing-gets (g.O.Output.contents c.args.out.now) (g.O.Output.failures c.args.out.now),
+          c.tell_refusal.ensures,
+        );
+      }));
 }
 
 pub returns-in-Some : goal.returns-in-Some
@@ -25,12 +34,14 @@ returns-in-Some g c =
     let new = c.send_recording.new.store in
     let at : List Key → Option Key = λ keys. at_place keys c.args.place in
     record {
-      stays = stays_then g.S.Store old mid new c.identities.ensures.stays c.send_recording.ensures.stays;
+      stays = stays_then g.S.Store old mid new c.identities.ensures.stays
+          c.send_recording.ensures.stays;
       told = inl c.send_recording.ensures.told;
       sent = λ clean h holds. inl (record {
         keys = c.in-Ok.recordings.items;
         key = c.in-Some.identity.now;
-        are_keys = c.in-Ok.ensures.keys (was-clean g.S.Store mid new c.send_recording.ensures.stays clean) h holds;
+        are_keys = c.in-Ok.ensures.keys (was-clean g.S.Store mid new c.send_recording.ensures.stays
+            clean) h holds;
         is_at = ap at (sym c.as_slice.ensures.value) ∙ sym c.in-Some.ensures;
         sent = c.send_recording.ensures.sent clean h (c.identities.ensures.stays.holdings h holds);
       });
@@ -39,8 +50,13 @@ returns-in-Some g c =
 pub returns : goal.returns
 returns g c =
     let at : List Key → Option Key = λ keys. at_place keys c.args.place in
-    let said : Explains (growth g.O.Output c.args.out.now c.args.out.now) (growth g.F.Output c.args.err.now c.tell_no_recording.new.err) (no_recording_line c.args.place) Refused c.tell_no_recording.result
-    = (nothing-gets (g.O.Output.contents c.args.out.now) (g.O.Output.failures c.args.out.now), c.tell_no_recording.ensures) in
+    let said : Explains (growth g.O.Output c.args.out.now c.args.out.now)
+    (growth g.F.Output c.args.err.now c.tell_no_recording.new.err)
+    (no_recording_line c.args.place) Refused c.tell_no_recording.result
+    = (
+      nothing-gets (g.O.Output.contents c.args.out.now) (g.O.Output.failures c.args.out.now),
+      c.tell_no_recording.ensures,
+    ) in
     record {
       stays = c.identities.ensures.stays;
       told = inr said;

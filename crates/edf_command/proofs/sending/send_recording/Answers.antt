@@ -4,13 +4,32 @@ use Rattle.edf_command.proofs.sending.send_recording.Goals as goal
 
 pub returns-in-Ok-clause-sent : goal.returns-in-Ok-clause-sent
 returns-in-Ok-clause-sent g c clean h holds =
-    inl ((c.in-Ok._len, c.in-Ok.ensures.exported clean h holds), c.in-Ok.ensures.counted, nothing-gets (g.F.Output.contents c.args.err.now) (g.F.Output.failures c.args.err.now), refl)
+    inl (
+      (c.in-Ok._len, c.in-Ok.ensures.exported clean h holds),
+      c.in-Ok.ensures.counted,
+      nothing-gets (g.F.Output.contents c.args.err.now) (g.F.Output.failures c.args.err.now),
+      refl,
+    )
 
 pub returns-in-Ok-clause-told : goal.returns-in-Ok-clause-told
-returns-in-Ok-clause-told g c = inl (c.in-Ok.ensures.counted, nothing-gets (g.F.Output.contents c.args.err.now) (g.F.Output.failures c.args.err.now), refl)
+returns-in-Ok-clause-told g c = inl (
+  c.in-Ok.ensures.counted,
+  nothing-gets (g.F.Output.contents c.args.err.now) (g.F.Output.failures c.args.err.now),
+  refl,
+)
 
 pub returns-in-Err-clause-told : goal.returns-in-Err-clause-told
-returns-in-Err-clause-told g c = inr (c.in-Err.fault, c.in-Err.ensures.counted, c.tell_refusal.ensures)
+returns-in-Err-clause-told g c = inr (
+  c.in-Err.fault,
+  c.in-Err.ensures.counted,
+  c.tell_refusal.ensures,
+)
 
 pub returns-in-Err-clause-sent : goal.returns-in-Err-clause-sent
-returns-in-Err-clause-sent g c clean h holds = inr (c.in-Err.fault, c.in-Err.ensures.refused clean h holds, c.in-Err.ensures.counted, c.tell_refusal.ensures)
+returns-in-Err-clause-sent g c clean h holds =
+    inr (
+      c.in-Err.fault,
+      c.in-Err.ensures.refused clean h holds,
+      c.in-Err.ensures.counted,
+      c.tell_refusal.ensures,
+    )

@@ -8,6 +8,9 @@ use Rattle.edf_command.proofs.sending.tell_refusal.Goals as goal
 pub returns : goal.returns
 returns g c =
     let w = growth g.F.Output c.args.err.now c.tell_bytes.new.out in
-    let IsSo : List ℕ → Type 0 = λ line. IsWritten w line c.status_of_number-status.result c.tell_bytes.result in
-    let IsThen : Status → Type 0 = λ status. IsWritten w (export_refused_line c.args.fault.now) status c.tell_bytes.result in
-    subst IsThen (c.status_of_number-status.ensures ∙ ap status_of_number c.number.ensures) (subst IsSo (c.as_bytes.ensures.value ∙ c.export_refused_line.ensures) c.tell_bytes.ensures)
+    let IsSo : List ℕ → Type 0 = λ line. IsWritten w line c.status_of_number-status.result
+    c.tell_bytes.result in
+    let IsThen : Status → Type 0 = λ status.
+    IsWritten w (export_refused_line c.args.fault.now) status c.tell_bytes.result in
+    subst IsThen (c.status_of_number-status.ensures ∙ ap status_of_number c.number.ensures)
+    (subst IsSo (c.as_bytes.ensures.value ∙ c.export_refused_line.ensures) c.tell_bytes.ensures)

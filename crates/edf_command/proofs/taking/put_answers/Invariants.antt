@@ -6,5 +6,7 @@ use Rattle.edf_program.specs.Output.{growth, Gets}
 use Rattle.edf_command.proofs.taking.put_answers.Given as goal
 
 abbrev pub invariant-loop-file : goal.invariant-loop-file
-invariant-loop-file g l = (spell : ℕ → List ℕ) → IsSpelling spell → Gets (growth g.O.Output l.initial.out l.out)
-    (flat_map (λ p. take_line spell p.0 p.1) (take (length l.yielded) (zip (map string_bytes l.files) l.answers)))
+invariant-loop-file g l = (spell : ℕ → List ℕ) → IsSpelling spell →
+    Gets (growth g.O.Output l.initial.out l.out)
+    (flat_map (λ p. take_line spell p.0 p.1)
+    (take (length l.yielded) (zip (map string_bytes l.files) l.answers)))

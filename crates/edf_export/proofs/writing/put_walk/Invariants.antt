@@ -13,17 +13,22 @@ use Rattle.edf_export.proofs.writing.put_walk.Given as goal
 abbrev pub invariant-loop : goal.invariant-loop
 invariant-loop g l = record {
   going : l.walk.failed ≡ false;
-  ready : IsSomeWalk l.walk.store.now.cap (at g.S.Store l.walk.store.now) l.walk.recording l.walk.after;
+  ready : IsSomeWalk l.walk.store.now.cap (at g.S.Store l.walk.store.now) l.walk.recording
+      l.walk.after;
   same_reference : l.walk.store.ghost_name ≡ l.initial.walk.store.ghost_name;
   stays : Stays g.S.Store l.initial.walk.store.now l.walk.store.now;
   moved : (h : Holdings) (k : Key) →
-      HasGivenFirst l.initial.walk.store.now.cap (at g.S.Store l.initial.walk.store.now) l.initial.walk.recording l.initial.walk.after h k 0 →
-      HasGivenFirst l.walk.store.now.cap (at g.S.Store l.walk.store.now) l.walk.recording l.walk.after h k l.counter;
+      HasGivenFirst l.initial.walk.store.now.cap (at g.S.Store l.initial.walk.store.now)
+      l.initial.walk.recording l.initial.walk.after h k 0 →
+      HasGivenFirst l.walk.store.now.cap (at g.S.Store l.walk.store.now) l.walk.recording
+      l.walk.after h k l.counter;
   wrote : HasCleanDisk (at g.S.Store l.walk.store.now) → (h : Holdings) (k : Key) →
-      HasGivenFirst l.initial.walk.store.now.cap (at g.S.Store l.initial.walk.store.now) l.initial.walk.recording l.initial.walk.after h k 0 →
+      HasGivenFirst l.initial.walk.store.now.cap (at g.S.Store l.initial.walk.store.now)
+      l.initial.walk.recording l.initial.walk.after h k 0 →
       IsPlanOf k (h k) l.fn.plan →
       Writes (buffered g.W.Output l.initial.out l.initial.held.bytes.items)
       (buffered g.W.Output l.out l.held.bytes.items)
-      (flat_map (record_text (second_of l.fn.plan.first) (2 * l.fn.plan.samples)) (take l.counter (h k))) l.held.bytes.items;
+      (flat_map (record_text (second_of l.fn.plan.first) (2 * l.fn.plan.samples))
+      (take l.counter (h k))) l.held.bytes.items;
   count_is : g.W.Output.failures l.out ≡ g.W.Output.failures l.initial.out;
 }

@@ -5,8 +5,10 @@ use Rattle.edf_field.proofs.identification.front_len.Goals as goal
 
 pub returns-then-b-eq32 : goal.returns-then-b-eq32
 returns-then-b-eq32 c =
-    sym (prefix_len_is (λ b. not (eqb b 32)) c.args.text.now c.loop-i.i 0 (omega arith) c.loop-i.invariant (λ lt. grind (arith, nat_tests)))
+    sym (prefix_len_is (λ b. not (eqb b 32)) c.args.text.now c.loop-i.i 0 (omega arith)
+    c.loop-i.invariant (λ lt. grind (arith, nat_tests)))
 
 pub returns : goal.returns
 returns c =
-    sym (prefix_len_is (λ b. not (eqb b 32)) c.args.text.now _ 0 (omega arith) (λ k lt. c.loop-i.invariant k (omega arith)) (λ lt. absurd (omega arith)))
+    sym (prefix_len_is (λ b. not (eqb b 32)) c.args.text.now _ 0 (omega arith)
+    (λ k lt. c.loop-i.invariant k (omega arith)) (λ lt. absurd (omega arith)))

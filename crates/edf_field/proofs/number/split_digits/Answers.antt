@@ -7,4 +7,7 @@ pub split_at-requires : goal.split_at-requires
 split_at-requires c = rw c.digits_end.ensures (prefix_len-le-length is_ascii_digit c.args.text.now)
 
 pub returns-clause-each : goal.returns-clause-each
-returns-clause-each c = rw (c.split_at.ensures.front, c.digits_end.ensures) (front-digits c.args.text.now)
+returns-clause-each c = rw (
+  c.split_at.ensures.front,
+  c.digits_end.ensures,
+) (front-digits c.args.text.now)

@@ -2,13 +2,16 @@ use Rattle.std.proofs.Common.{◌≡◌, ◌<◌, ◌⊎◌, ℕ, inl, inr, [], 
 use Rattle.std.proofs.lemmas.List.{length-take}
 use Rattle.std.specs.Io.KnownBytes.{Consumes}
 use Rattle.edf_header.specs.Header.{least_records}
-use Rattle.edf_fragment.proofs.advance.fill_record.Goals.{else-at-eq0-via-then-at-eq0+else-least_given-progress, else-at-eq0-via-else-at-eq0}
+use Rattle.edf_fragment.proofs.advance.fill_record.Goals.{else-at-eq0-via-then-at-eq0+else-least_given-progress}
+use Rattle.edf_fragment.proofs.advance.fill_record.Goals.{else-at-eq0-via-else-at-eq0}
 use Rattle.edf_fragment.proofs.advance.fill_record.Goals as goal
 
-pub returns-then-least_given-progress-clause-step : goal.returns-then-least_given-progress-clause-step
+pub returns-then-least_given-progress-clause-step :
+    goal.returns-then-least_given-progress-clause-step
 returns-then-least_given-progress-clause-step g c =
     let cut = c.in-Cut.ensures.cut c.in-Cut.at refl in
-    let nil : take c.in-Cut.at c.fill.new.buf ≡ [] = ap (λ (n : ℕ). take n c.fill.new.buf) c.if-at-eq0.true in
+    let nil : take c.in-Cut.at c.fill.new.buf ≡ [] =
+    ap (λ (n : ℕ). take n c.fill.new.buf) c.if-at-eq0.true in
     record {
       least = omega (arith, c.least_given.ensures, c.if-least_given-progress.true);
       most = omega (arith, c.requires.may_come);
@@ -20,8 +23,10 @@ pub returns-else-at-eq0-clause-step : goal.returns-else-at-eq0-clause-step
 returns-else-at-eq0-clause-step g c =
     let cut = c.in-Cut.ensures.cut c.in-Cut.at refl in
     let len = length-take c.in-Cut.at c.fill.new.buf in
-    let there : (c.args.progress.given < least_records c.args.header.now.count) ⊎ (0 < length (take c.in-Cut.at c.fill.new.buf)) = elim c.else-at-eq0.branch [
-      | else-at-eq0-via-then-at-eq0+else-least_given-progress w ↦ inl (omega (arith, w.least_given.ensures, w.if-least_given-progress.false))
+    let there : (c.args.progress.given < least_records c.args.header.now.count)
+    ⊎ (0 < length (take c.in-Cut.at c.fill.new.buf)) = elim c.else-at-eq0.branch [
+      | else-at-eq0-via-then-at-eq0+else-least_given-progress w ↦
+          inl (omega (arith, w.least_given.ensures, w.if-least_given-progress.false))
       | else-at-eq0-via-else-at-eq0 w ↦ inr (omega (arith, cut.0, len, w.if-at-eq0.false))
     ] in
     record {

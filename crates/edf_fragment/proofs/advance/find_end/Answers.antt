@@ -4,7 +4,8 @@ use Rattle.edf_fragment.proofs.Steps.{one_byte, none-read}
 use Rattle.edf_fragment.proofs.advance.find_end.Goals as goal
 
 pub returns-in-Full-clause-step : goal.returns-in-Full-clause-step
-returns-in-Full-clause-step g c = one_byte _ _ c.fill.new.buf (omega arith) (c.in-Full.ensures.full refl)
+returns-in-Full-clause-step g c =
+    one_byte _ _ c.fill.new.buf (omega arith) (c.in-Full.ensures.full refl)
 
 pub returns-in-Cut-clause-step : goal.returns-in-Cut-clause-step
 returns-in-Cut-clause-step g c =

@@ -6,12 +6,20 @@ use Rattle.edf_fragment.proofs.Steps.{was_cut, given_record, told_cut}
 use Rattle.edf_fragment.proofs.advance.read_record.Goals as goal
 
 pub read_blocks-requires-clause-some : goal.read_blocks-requires-clause-some
-read_blocks-requires-clause-some g c = sizes-some c.args.header.now c.as_slice-2.result.now c.sample_bytes.ensures.layout (c.as_slice-2.ensures.value ∙ c.requires.room.sizes)
+read_blocks-requires-clause-some g c =
+    sizes-some c.args.header.now c.as_slice-2.result.now c.sample_bytes.ensures.layout
+    (c.as_slice-2.ensures.value ∙ c.requires.room.sizes)
 
 pub within_limits-requires : goal.within_limits-requires
 within_limits-requires g c =
     read-kept _ _ _ _ _ _
-    (omega (arith, length-take c.in-Ok.samples.len (c.cut_record.new.samples ++ drop (length c.cut_record.new.samples) c.in-Ok.samples.items), c.in-Ok.ensures.len, c.sample_bytes.ensures.limit))
+    (omega (
+      arith,
+      length-take c.in-Ok.samples.len (c.cut_record.new.samples
+          ++ drop (length c.cut_record.new.samples) c.in-Ok.samples.items),
+      c.in-Ok.ensures.len,
+      c.sample_bytes.ensures.limit,
+    ))
     c.in-Ok-read_blocks.ensures
 
 pub returns-in-Ok-read_blocks-clause-step : goal.returns-in-Ok-read_blocks-clause-step
@@ -22,11 +30,16 @@ returns-in-Ok-read_blocks-clause-step g c =
     let rest = g.R.Input.remaining c.fill_record.new.input in
     let whole = c.as_slice.result.now in
     let filled = c.fill_record.new.whole in
-    let cut = was_cut l from left rest c.in_ok-fill_record.field-0 whole filled c.cut_record.new.samples c.as_slice-joined.result.now c.as_slice-2.result.now
-    c.sample_bytes.ensures.layout c.requires.may_come c.in_ok-fill_record.ensures.step c.if-not-branch.false (omega (arith, c.requires.room.whole))
+    let cut = was_cut l from left rest c.in_ok-fill_record.field-0 whole filled
+    c.cut_record.new.samples c.as_slice-joined.result.now c.as_slice-2.result.now
+    c.sample_bytes.ensures.layout c.requires.may_come c.in_ok-fill_record.ensures.step
+    c.if-not-branch.false (omega (arith, c.requires.room.whole))
     (c.as_slice.ensures.value ∙ take_at filled _ _ (omega arith)) c.cut_record.ensures.samples
-    (c.as_slice-joined.ensures.value ∙ take_at c.cut_record.new.joined _ _ (omega arith) ∙ c.cut_record.ensures.joined) (c.as_slice-2.ensures.value ∙ c.requires.room.sizes) in
-    given_record l from left rest whole c.cut_record.new.samples _ c.start.result c.within_limits.result _ cut c.start.ensures c.in-Ok-read_blocks.ensures c.within_limits.ensures
+    (c.as_slice-joined.ensures.value ∙ take_at c.cut_record.new.joined _ _ (omega arith)
+    ∙ c.cut_record.ensures.joined) (c.as_slice-2.ensures.value ∙ c.requires.room.sizes) in
+    given_record l from left rest whole c.cut_record.new.samples _ c.start.result
+    c.within_limits.result _ cut c.start.ensures c.in-Ok-read_blocks.ensures
+    c.within_limits.ensures
     (take_at c.cut_record.new.samples _ c.in-Ok.samples.len (omega arith))
 
 pub returns-in-Err-clause-step : goal.returns-in-Err-clause-step
@@ -37,9 +50,13 @@ returns-in-Err-clause-step g c =
     let rest = g.R.Input.remaining c.fill_record.new.input in
     let whole = c.as_slice.result.now in
     let filled = c.fill_record.new.whole in
-    let cut = was_cut l from left rest c.in_ok-fill_record.field-0 whole filled c.cut_record.new.samples c.as_slice-joined.result.now c.as_slice-2.result.now
-    c.sample_bytes.ensures.layout c.requires.may_come c.in_ok-fill_record.ensures.step c.if-not-branch.false (omega (arith, c.requires.room.whole))
+    let cut = was_cut l from left rest c.in_ok-fill_record.field-0 whole filled
+    c.cut_record.new.samples c.as_slice-joined.result.now c.as_slice-2.result.now
+    c.sample_bytes.ensures.layout c.requires.may_come c.in_ok-fill_record.ensures.step
+    c.if-not-branch.false (omega (arith, c.requires.room.whole))
     (c.as_slice.ensures.value ∙ take_at filled _ _ (omega arith)) c.cut_record.ensures.samples
-    (c.as_slice-joined.ensures.value ∙ take_at c.cut_record.new.joined _ _ (omega arith) ∙ c.cut_record.ensures.joined) (c.as_slice-2.ensures.value ∙ c.requires.room.sizes) in
-    told_cut l from left rest whole c.cut_record.new.samples _ c.start.result (from.given + 1) c.in-Err.fault c.block_refusal.result cut c.start.ensures refl
+    (c.as_slice-joined.ensures.value ∙ take_at c.cut_record.new.joined _ _ (omega arith)
+    ∙ c.cut_record.ensures.joined) (c.as_slice-2.ensures.value ∙ c.requires.room.sizes) in
+    told_cut l from left rest whole c.cut_record.new.samples _ c.start.result (from.given + 1)
+    c.in-Err.fault c.block_refusal.result cut c.start.ensures refl
     c.block_refusal.ensures.memory c.block_refusal.ensures.other c.in-Err.ensures

@@ -1,4 +1,5 @@
-use Rattle.std.proofs.Common.{◌≡◌, ◌*◌, List, ℕ, length, take, arith, refl, sym, ap, subst, ◌∙◌, take_at}
+use Rattle.std.proofs.Common.{◌≡◌, ◌*◌, List, ℕ, length, take, arith, refl, sym, ap, subst, ◌∙◌}
+use Rattle.std.proofs.Common.{take_at}
 use Rattle.std.proofs.lemmas.List.{take_all, length-take}
 use Rattle.std.specs.Io.KnownBytes.{Consumes}
 use Rattle.edf_fragment.proofs.HeaderParts.{told_second}
@@ -15,17 +16,27 @@ returns-in-Ok-read_signals-clause-step g c =
     let len : length buf ≡ c.in-Ok.bytes.len = omega arith in
     let same : slice ≡ buf = c.as_slice.ensures.value ∙ take_at buf _ c.in-Ok.bytes.len len in
     let ok = c.in-Ok-read_signals.ensures in
-    let read : Consumes (g.R.Input.remaining c.args.input.now) (g.R.Input.remaining c.fill.new.input) (take there slice) = elim c.match-fill.branch [
+    let read : Consumes (g.R.Input.remaining c.args.input.now)
+    (g.R.Input.remaining c.fill.new.input) (take there slice) = elim c.match-fill.branch [
       | in-Full w ↦
           let all : there ≡ length buf = omega arith in
-          let bytes : take there slice ≡ buf = ap (take there) same ∙ take_all there buf (omega arith) in
+          let bytes : take there slice ≡ buf = ap (take there) same
+          ∙ take_all there buf (omega arith) in
           subst (Consumes _ _) (sym bytes) (w.in-Full.ensures.full refl)
       | in-Cut w ↦
           let cut = w.in-Cut.ensures.cut w.in-Cut.at refl in
-          let bytes : take there slice ≡ take w.in-Cut.at buf = ap (take there) same ∙ ap (λ (m : ℕ). take m buf) w.there-is in
+          let bytes : take there slice ≡ take w.in-Cut.at buf = ap (take there) same
+          ∙ ap (λ (m : ℕ). take m buf) w.there-is in
           subst (Consumes _ _) (sym bytes) cut.1
     ] in
-    record { bytes = take there slice; header = ok.0; read = read; are_signals = ok.1; same = ok.2; layout_is = ok.3 }
+    record {
+      bytes = take there slice;
+      header = ok.0;
+      read = read;
+      are_signals = ok.1;
+      same = ok.2;
+      layout_is = ok.3;
+    }
 
 pub returns-clause-step : goal.returns-clause-step
 returns-clause-step g c =
@@ -40,17 +51,24 @@ returns-clause-step g c =
     elim c.match-fill.branch [
       | in-Full w ↦
           let all : there ≡ length buf = omega arith in
-          let bytes : take there slice ≡ buf = ap (take there) same ∙ take_all there buf (omega arith) in
-          let count : length (take there slice) ≡ 256 * n = ap (λ (x : List ℕ). length x) bytes ∙ room in
-          told (omega arith) (subst (Consumes _ _) (sym bytes) (w.in-Full.ensures.full refl)) (λ low. absurd (omega arith))
+          let bytes : take there slice ≡ buf = ap (take there) same
+          ∙ take_all there buf (omega arith) in
+          let count : length (take there slice) ≡ 256 * n = ap (λ (x : List ℕ). length x) bytes
+          ∙ room in
+          told (omega arith) (subst (Consumes _ _) (sym bytes) (w.in-Full.ensures.full refl))
+          (λ low. absurd (omega arith))
           c.header_refusal.ensures.memory c.header_refusal.ensures.other c.in-Err.ensures
       | in-Cut w ↦
           let cut = w.in-Cut.ensures.cut w.in-Cut.at refl in
-          let bytes : take there slice ≡ take w.in-Cut.at buf = ap (take there) same ∙ ap (λ (m : ℕ). take m buf) w.there-is in
-          let count : length (take there slice) ≡ length (take w.in-Cut.at buf) = ap (λ (x : List ℕ). length x) bytes in
-          told (omega (arith, length-take w.in-Cut.at buf)) (subst (Consumes _ _) (sym bytes) cut.1) (λ low. cut.2)
+          let bytes : take there slice ≡ take w.in-Cut.at buf = ap (take there) same
+          ∙ ap (λ (m : ℕ). take m buf) w.there-is in
+          let count : length (take there slice) ≡ length (take w.in-Cut.at buf) =
+          ap (λ (x : List ℕ). length x) bytes in
+          told (omega (arith, length-take w.in-Cut.at buf)) (subst (Consumes _ _) (sym bytes) cut.1)
+          (λ low. cut.2)
           c.header_refusal.ensures.memory c.header_refusal.ensures.other c.in-Err.ensures
     ]
 
 pub returns-in-Failed-clause-step : goal.returns-in-Failed-clause-step
-returns-in-Failed-clause-step g c = fewer _ _ _ _ (omega (arith, c.in-Ok.ensures.len)) (c.in-Failed.ensures.stopped refl)
+returns-in-Failed-clause-step g c =
+    fewer _ _ _ _ (omega (arith, c.in-Ok.ensures.len)) (c.in-Failed.ensures.stopped refl)

@@ -16,14 +16,19 @@ records-preserved g c =
     let l = c.args.fragment.now.header in
     let mid = g.R.Input.remaining c.records.input in
     let rest = g.R.Input.remaining c.next.new.input in
-    let step = next_of c.records.fragment.header from to mid rest c.in_ok-record.field-0 r before.status c.in_ok-record.ensures.answer c.in-Some.is in
-    let to_is : to ≡ progress_after l from (Ok (Some r)) = subst (λ (x : Layout). to ≡ progress_after x from (Ok (Some r))) before.header step.0 in
-    let gives : GivesRecord l from mid rest r = subst (λ (x : Layout). GivesRecord x from mid rest r) before.header step.1 in
+    let step = next_of c.records.fragment.header from to mid rest c.in_ok-record.field-0 r
+    before.status c.in_ok-record.ensures.answer c.in-Some.is in
+    let to_is : to ≡ progress_after l from (Ok (Some r)) =
+    subst (λ (x : Layout). to ≡ progress_after x from (Ok (Some r))) before.header step.0 in
+    let gives : GivesRecord l from mid rest r =
+    subst (λ (x : Layout). GivesRecord x from mid rest r) before.header step.1 in
     let list : c.push.new.self.items ≡ c.records.records.items ++ r ∷ [] = search rules in
-    let read = reads_more l (g.R.Input.remaining c.args.input.now) mid rest c.records.records.items from to r before.so_far to_is gives in
+    let read = reads_more l (g.R.Input.remaining c.args.input.now) mid rest c.records.records.items
+    from to r before.so_far to_is gives in
     record {
       header = c.in_ok-record.ensures.header ∙ before.header;
       status = ap (λ (x : Progress). x.status) to_is;
-      so_far = subst (λ (x : List DataRecord). HasRead l (g.R.Input.remaining c.args.input.now) rest x to) (sym list) read;
+      so_far = subst (λ (x : List DataRecord).
+          HasRead l (g.R.Input.remaining c.args.input.now) rest x to) (sym list) read;
       count = c.in_ok-record.ensures.counted ∙ before.count;
     }

@@ -8,7 +8,8 @@ abbrev pub invariant-records : goal.invariant-records
 invariant-records g l = record {
   header : l.fragment.header ≡ l.initial.fragment.header;
   status : l.fragment.progress.status ≡ Reading;
-  so_far : HasRead l.initial.fragment.header (g.R.Input.remaining l.initial.input) (g.R.Input.remaining l.input) l.records.items l.fragment.progress;
+  so_far : HasRead l.initial.fragment.header (g.R.Input.remaining l.initial.input)
+      (g.R.Input.remaining l.input) l.records.items l.fragment.progress;
   count : g.R.Input.failures l.input ≡ g.R.Input.failures l.initial.input;
 }
 

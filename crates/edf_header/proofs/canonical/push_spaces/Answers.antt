@@ -7,7 +7,9 @@ pub loop-init : goal.loop-init
 loop-init c = sym (append-nil c.args.out.now.items)
 
 pub loop-preserved : goal.loop-preserved
-loop-preserved c = spaces-more c.args.out.now.items c.loop.out.items c.push.new.self.items c.loop.counter c.loop.invariant c.in_ok-push.ensures.items
+loop-preserved c = spaces-more c.args.out.now.items c.loop.out.items c.push.new.self.items
+    c.loop.counter c.loop.invariant c.in_ok-push.ensures.items
 
 pub returns : goal.returns
-returns c = spaces-end c.args.out.now.items c.loop.out.items c.loop.counter c.args.count c.loop.invariant c.loop-test.false c.loop.auto.counter-end
+returns c = spaces-end c.args.out.now.items c.loop.out.items c.loop.counter c.args.count
+    c.loop.invariant c.loop-test.false c.loop.auto.counter-end

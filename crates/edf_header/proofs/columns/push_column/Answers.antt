@@ -8,8 +8,12 @@ loop-i-init c = sym (append-nil c.args.out.now.items)
 
 pub loop-i-preserved : goal.loop-i-preserved
 loop-i-preserved c =
-    column-step c.args.rows.now c.args.at c.args.width c.loop-i.i c.args.out.now.items c.loop-i.out.items c.extend_from_slice.new.self.items c.loop-i-test.true c.loop-i.invariant c.in_ok-extend_from_slice.ensures.items
+    column-step c.args.rows.now c.args.at c.args.width c.loop-i.i c.args.out.now.items
+    c.loop-i.out.items c.extend_from_slice.new.self.items c.loop-i-test.true c.loop-i.invariant
+    c.in_ok-extend_from_slice.ensures.items
 
 pub returns : goal.returns
 returns c =
-    column-end c.args.rows.now c.args.last.now c.args.at c.args.width c.loop-i.i c.args.out.now.items c.loop-i.out.items c.extend_from_slice-2.new.self.items c.loop-i-test.false c.loop-i.invariant c.in_ok-extend_from_slice-2.ensures.items
+    column-end c.args.rows.now c.args.last.now c.args.at c.args.width c.loop-i.i
+    c.args.out.now.items c.loop-i.out.items c.extend_from_slice-2.new.self.items
+    c.loop-i-test.false c.loop-i.invariant c.in_ok-extend_from_slice-2.ensures.items

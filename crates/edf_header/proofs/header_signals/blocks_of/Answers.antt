@@ -6,12 +6,15 @@ use Rattle.edf_header.proofs.Blocks.{block-left, block-pushed, place-more}
 use Rattle.edf_header.proofs.RowSteps.{length-signals, one-at}
 use Rattle.edf_header.proofs.Sorted.{member-meets}
 use Rattle.edf_header.proofs.header_signals.blocks_of.Goals as goal
-use Rattle.edf_header.proofs.header_signals.blocks_of.Goals.{then-is_labelled+in_ok-push, else-is_labelled}
+use Rattle.edf_header.proofs.header_signals.blocks_of.Goals.{then-is_labelled+in_ok-push}
+use Rattle.edf_header.proofs.header_signals.blocks_of.Goals.{else-is_labelled}
 
 pub samples_of-requires-clause-samples : goal.samples_of-requires-clause-samples
 samples_of-requires-clause-samples c =
-    let at = one-at c.args.bytes.now c.args.n c.loop-i.i c.row_from-row.result (omega arith) c.row_from-row.ensures in
-    member-meets HasSamples (signals_of c.args.bytes.now c.args.n) c.loop-i.i c.row_from-row.result at.0 at.1 c.requires.each
+    let at = one-at c.args.bytes.now c.args.n c.loop-i.i c.row_from-row.result (omega arith)
+    c.row_from-row.ensures in
+    member-meets HasSamples (signals_of c.args.bytes.now c.args.n) c.loop-i.i c.row_from-row.result
+    at.0 at.1 c.requires.each
 
 pub loop-i-preserved : goal.loop-i-preserved
 loop-i-preserved c =
@@ -21,17 +24,24 @@ loop-i-preserved c =
       elim c.if-is_labelled.branch [
         | then-is_labelled+in_ok-push w ↦
             ap (λ v. v.items) w.blocks-is
-            ∙ block-pushed ss c.loop-i.i r c.loop-i.at c.samples_of.result c.is_labelled.result c.loop-i.blocks.items w.push.new.self.items at.0 at.1 c.loop-i.invariant.1
-            c.is_labelled.ensures.value w.if-is_labelled.true c.samples_of.ensures.value c.loop-i.invariant.0 w.in_ok-push.ensures.items
+            ∙ block-pushed ss c.loop-i.i r c.loop-i.at c.samples_of.result c.is_labelled.result
+            c.loop-i.blocks.items w.push.new.self.items at.0 at.1 c.loop-i.invariant.1
+            c.is_labelled.ensures.value w.if-is_labelled.true c.samples_of.ensures.value
+            c.loop-i.invariant.0 w.in_ok-push.ensures.items
         | else-is_labelled w ↦
             ap (λ v. v.items) w.blocks-is
-            ∙ block-left ss c.loop-i.i r c.loop-i.at c.is_labelled.result c.loop-i.blocks.items at.0 at.1 c.loop-i.invariant.1 c.is_labelled.ensures.value w.if-is_labelled.false c.loop-i.invariant.0
+            ∙ block-left ss c.loop-i.i r c.loop-i.at c.is_labelled.result c.loop-i.blocks.items at.0
+            at.1 c.loop-i.invariant.1 c.is_labelled.ensures.value w.if-is_labelled.false
+            c.loop-i.invariant.0
       ],
-      place-more ss c.loop-i.i r c.loop-i.at c.samples_of.result at.0 at.1 c.loop-i.invariant.1 c.samples_of.ensures.value,
+      place-more ss c.loop-i.i r c.loop-i.at c.samples_of.result at.0 at.1 c.loop-i.invariant.1
+          c.samples_of.ensures.value,
       omega (arith, c.samples_of.ensures.bound),
     )
 
 pub returns : goal.returns
 returns c =
     c.loop-i.invariant.0
-    ∙ ap (λ (l : List (List ℕ)). blocks_from 0 l) (take_all c.loop-i.i (signals_of c.args.bytes.now c.args.n) (omega (arith, length-signals c.args.bytes.now c.args.n)))
+    ∙ ap (λ (l : List (List ℕ)). blocks_from 0 l)
+    (take_all c.loop-i.i (signals_of c.args.bytes.now c.args.n)
+    (omega (arith, length-signals c.args.bytes.now c.args.n)))

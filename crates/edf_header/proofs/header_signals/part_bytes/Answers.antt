@@ -1,15 +1,19 @@
 use Rattle.std.proofs.Common.{◌≤◌, List, ℕ, arith, ap, length, take}
 use Rattle.std.proofs.lemmas.List.Sums.{sum_by_push}
-use Rattle.edf_header.specs.Signal.{HasSamples, labelled, ordinary, samples, samples_in_all, signals_of}
+use Rattle.edf_header.specs.Signal.{HasSamples, labelled, ordinary, samples, samples_in_all}
+use Rattle.edf_header.specs.Signal.{signals_of}
 use Rattle.edf_header.proofs.RowSteps.{length-signals, one-at}
-use Rattle.edf_header.proofs.Sorted.{labelled-all, labelled-kept, labelled-left, member-meets, ordinary-all, ordinary-left, push-more}
+use Rattle.edf_header.proofs.Sorted.{labelled-all, labelled-kept, labelled-left, member-meets}
+use Rattle.edf_header.proofs.Sorted.{ordinary-all, ordinary-left, push-more}
 use Rattle.edf_header.proofs.header_signals.part_bytes.Goals as goal
 use Rattle.edf_header.proofs.header_signals.part_bytes.Goals.{then-is_labelled, else-is_labelled}
 
 pub samples_of-requires-clause-samples : goal.samples_of-requires-clause-samples
 samples_of-requires-clause-samples c =
-    let at = one-at c.args.bytes.now c.args.n c.loop-i.i c.row_from-row.result (omega arith) c.row_from-row.ensures in
-    member-meets HasSamples (signals_of c.args.bytes.now c.args.n) c.loop-i.i c.row_from-row.result at.0 at.1 c.requires.each
+    let at = one-at c.args.bytes.now c.args.n c.loop-i.i c.row_from-row.result (omega arith)
+    c.row_from-row.ensures in
+    member-meets HasSamples (signals_of c.args.bytes.now c.args.n) c.loop-i.i c.row_from-row.result
+    at.0 at.1 c.requires.each
 
 pub loop-i-preserved : goal.loop-i-preserved
 loop-i-preserved c =
@@ -19,13 +23,33 @@ loop-i-preserved c =
     let size = c.samples_of.ensures.value in
     elim c.if-is_labelled.branch [
       | then-is_labelled w ↦
-          let kept = labelled-kept ss c.loop-i.i r c.is_labelled.result at.0 at.1 c.is_labelled.ensures.value w.if-is_labelled.true in
-          let left = ordinary-left ss c.loop-i.i r c.is_labelled.result at.0 at.1 c.is_labelled.ensures.value w.if-is_labelled.true in
-          (omega (arith, ap samples_in_all left), omega (arith, size, ap samples_in_all kept, sum_by_push samples (labelled (take c.loop-i.i ss)) r), omega (arith, c.samples_of.ensures.bound))
+          let kept = labelled-kept ss c.loop-i.i r c.is_labelled.result at.0 at.1
+          c.is_labelled.ensures.value w.if-is_labelled.true in
+          let left = ordinary-left ss c.loop-i.i r c.is_labelled.result at.0 at.1
+          c.is_labelled.ensures.value w.if-is_labelled.true in (
+            omega (arith, ap samples_in_all left),
+            omega (
+              arith,
+              size,
+              ap samples_in_all kept,
+              sum_by_push samples (labelled (take c.loop-i.i ss)) r,
+            ),
+            omega (arith, c.samples_of.ensures.bound),
+          )
       | else-is_labelled w ↦
-          let kept = push-more ss c.loop-i.i r c.is_labelled.result at.0 at.1 c.is_labelled.ensures.value w.if-is_labelled.false in
-          let left = labelled-left ss c.loop-i.i r c.is_labelled.result at.0 at.1 c.is_labelled.ensures.value w.if-is_labelled.false in
-          (omega (arith, size, ap samples_in_all kept, sum_by_push samples (ordinary (take c.loop-i.i ss)) r), omega (arith, ap samples_in_all left), omega (arith, c.samples_of.ensures.bound))
+          let kept = push-more ss c.loop-i.i r c.is_labelled.result at.0 at.1
+          c.is_labelled.ensures.value w.if-is_labelled.false in
+          let left = labelled-left ss c.loop-i.i r c.is_labelled.result at.0 at.1
+          c.is_labelled.ensures.value w.if-is_labelled.false in (
+            omega (
+              arith,
+              size,
+              ap samples_in_all kept,
+              sum_by_push samples (ordinary (take c.loop-i.i ss)) r,
+            ),
+            omega (arith, ap samples_in_all left),
+            omega (arith, c.samples_of.ensures.bound),
+          )
     ]
 
 pub returns : goal.returns

@@ -7,13 +7,16 @@ use Rattle.edf_header.proofs.identity_checks.check_front.Goals as goal
 pub returns-then-not-has_recording : goal.returns-then-not-has_recording
 returns-then-not-has_recording c = (
   iff_false c.has_recording.ensures c.if-not-has_recording.true,
-  clean-4 c.args.bytes.now (c.has_length.ensures.0 c.if-not-has_length.false) c.in_default.ensures (c.is_patient.ensures.0 c.if-not-is_patient.false),
+  clean-4 c.args.bytes.now (c.has_length.ensures.0 c.if-not-has_length.false) c.in_default.ensures
+      (c.is_patient.ensures.0 c.if-not-is_patient.false),
 )
 
 pub returns-in-None : goal.returns-in-None
 returns-in-None c = (
   c.in-None.ensures,
-  clean-5 c.args.bytes.now (c.has_length.ensures.0 c.if-not-has_length.false) c.in_default.ensures (c.is_patient.ensures.0 c.if-not-is_patient.false) (c.has_recording.ensures.0 c.if-not-has_recording.false),
+  clean-5 c.args.bytes.now (c.has_length.ensures.0 c.if-not-has_length.false) c.in_default.ensures
+      (c.is_patient.ensures.0 c.if-not-is_patient.false)
+      (c.has_recording.ensures.0 c.if-not-has_recording.false),
 )
 
 pub returns-in-Some-read_duration : goal.returns-in-Some-read_duration
@@ -26,5 +29,6 @@ returns-in-Some-read_duration c = (
     behind = (c.has_recording.ensures.0 c.if-not-has_recording.false).1;
     duration = (c.in-Some-read_duration.nanos, c.in-Some-read_duration.ensures);
   },
-  duration-value (field c.args.bytes.now 150 8) c.in-Some-read_duration.nanos c.in-Some-read_duration.ensures,
+  duration-value (field c.args.bytes.now 150 8) c.in-Some-read_duration.nanos
+      c.in-Some-read_duration.ensures,
 )

@@ -8,10 +8,12 @@ ordinary_samples-size-requires-clause-each c = sliced-each c.args.bytes.now c.re
 
 pub returns-then-size-gt-MOST_PART_BYTES : goal.returns-then-size-gt-MOST_PART_BYTES
 returns-then-size-gt-MOST_PART_BYTES c =
-    let e = c.ordinary_samples-size.ensures.value ∙ sliced-samples c.args.bytes.now c.requires.label in
+    let e = c.ordinary_samples-size.ensures.value
+    ∙ sliced-samples c.args.bytes.now c.requires.label in
     (omega (arith, e), c.requires.clean)
 
 pub returns : goal.returns
 returns c =
-    let e = c.ordinary_samples-size.ensures.value ∙ sliced-samples c.args.bytes.now c.requires.label in
+    let e = c.ordinary_samples-size.ensures.value
+    ∙ sliced-samples c.args.bytes.now c.requires.label in
     (omega (arith, e), omega arith, clean-11 c.args.bytes.now c.requires.clean (omega (arith, e)))

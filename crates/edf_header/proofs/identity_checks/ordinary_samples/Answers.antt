@@ -6,21 +6,30 @@ use Rattle.edf_header.proofs.identity_checks.ordinary_samples.Goals as goal
 
 pub loop-i-preserved-then-is_labelled : goal.loop-i-preserved-then-is_labelled
 loop-i-preserved-then-is_labelled c =
-    let at = row-one c.args.rows.now c.loop-i.i c.loop-i-test.true in
-    (skip-labelled samples_in_all (rows_of c.args.rows.now) c.loop-i.i _ c.is_labelled.result c.loop-i.total at.0 at.1 c.is_labelled.ensures.value c.if-is_labelled.true c.loop-i.invariant.0, omega arith)
+    let at = row-one c.args.rows.now c.loop-i.i c.loop-i-test.true in (
+      skip-labelled samples_in_all (rows_of c.args.rows.now) c.loop-i.i _ c.is_labelled.result
+          c.loop-i.total at.0 at.1 c.is_labelled.ensures.value c.if-is_labelled.true
+          c.loop-i.invariant.0,
+      omega arith,
+    )
 
 pub loop-i-preserved-in_default : goal.loop-i-preserved-in_default
 loop-i-preserved-in_default c =
     let at = row-one c.args.rows.now c.loop-i.i c.loop-i-test.true in
-    absurd (c.in_default.ensures (member-meets HasSamples (rows_of c.args.rows.now) c.loop-i.i _ at.0 at.1 c.requires.each).whole)
+    absurd (c.in_default.ensures (member-meets HasSamples (rows_of c.args.rows.now) c.loop-i.i _
+    at.0 at.1 c.requires.each).whole)
 
 pub loop-i-preserved : goal.loop-i-preserved
 loop-i-preserved c =
     let at = row-one c.args.rows.now c.loop-i.i c.loop-i-test.true in (
-      add-ordinary (rows_of c.args.rows.now) c.loop-i.i _ c.from-total.result c.loop-i.total c.is_labelled.result at.0 at.1 c.is_labelled.ensures.value c.if-is_labelled.false (c.from-total.ensures ∙ c.in-Some.ensures.1) c.loop-i.invariant.0,
+      add-ordinary (rows_of c.args.rows.now) c.loop-i.i _ c.from-total.result c.loop-i.total
+          c.is_labelled.result at.0 at.1 c.is_labelled.ensures.value c.if-is_labelled.false
+          (c.from-total.ensures ∙ c.in-Some.ensures.1) c.loop-i.invariant.0,
       omega (arith, c.in-Some.ensures.2),
     )
 
 pub returns-clause-value : goal.returns-clause-value
 returns-clause-value c =
-    ended samples_in_all (rows_of c.args.rows.now) c.loop-i.i c.loop-i.total (omega (arith, length-rows (length c.args.rows.now / 256) c.args.rows.now)) c.loop-i.invariant.0
+    ended samples_in_all (rows_of c.args.rows.now) c.loop-i.i c.loop-i.total
+    (omega (arith, length-rows (length c.args.rows.now / 256) c.args.rows.now))
+    c.loop-i.invariant.0

@@ -8,4 +8,6 @@ use Rattle.edf_header.proofs.signal_checks.first_unprintable.Goals as goal
 pub returns : goal.returns
 returns c =
     first-from-position IsPrintable c.args.bytes.now c.position.result
-    (IsFirst-from_position _ _ _ (λ b. ¬ IsPrintable b) IsPrintable c.position.ensures.ran (YieldsList-from_slice c.args.bytes.now cc) (λ x q k. search (rules, tests)) (λ x q k. search (rules, tests)))
+    (IsFirst-from_position _ _ _ (λ b. ¬ IsPrintable b) IsPrintable c.position.ensures.ran
+    (YieldsList-from_slice c.args.bytes.now cc) (λ x q k. search (rules, tests))
+    (λ x q k. search (rules, tests)))

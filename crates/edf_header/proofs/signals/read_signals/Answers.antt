@@ -11,25 +11,37 @@ returns-in-Err c =
     let b = c.args.bytes.now in
     let f = c.args.fixed in
     let len : length b ≡ 256 * f.signal_count = omega arith in
-    inr (first-signals b c.signals-n.result f.signal_count c.in-Err.fault c.signals-n.ensures.value len c.in_default.ensures c.in-Err.ensures)
+    inr (first-signals b c.signals-n.result f.signal_count c.in-Err.fault c.signals-n.ensures.value
+    len c.in_default.ensures c.in-Err.ensures)
 
 pub header_from-requires-clause-signals : goal.header_from-requires-clause-signals
 header_from-requires-clause-signals c =
     let b = c.args.bytes.now in
     let f = c.args.fixed in
     let len : length b ≡ 256 * f.signal_count = omega arith in
-    checked b f c.signals-n.result c.signals-n.ensures.value len c.in_default.ensures c.in-Ok.ensures.0
+    checked b f c.signals-n.result c.signals-n.ensures.value len c.in_default.ensures
+    c.in-Ok.ensures.0
 
 pub returns-in-Ok-header_from : goal.returns-in-Ok-header_from
 returns-in-Ok-header_from c =
     let b = c.args.bytes.now in
     let f = c.args.fixed in
-    let len : length b ≡ 256 * f.signal_count = omega arith in
-    (header_of f (signals_of b f.signal_count), checked b f c.signals-n.result c.signals-n.ensures.value len c.in_default.ensures c.in-Ok.ensures.0, refl, c.in-Ok-header_from.ensures)
+    let len : length b ≡ 256 * f.signal_count = omega arith in (
+      header_of f (signals_of b f.signal_count),
+      checked b f c.signals-n.result c.signals-n.ensures.value len c.in_default.ensures
+          c.in-Ok.ensures.0,
+      refl,
+      c.in-Ok-header_from.ensures,
+    )
 
 pub returns-in-Err-header_from : goal.returns-in-Err-header_from
 returns-in-Err-header_from c =
     let b = c.args.bytes.now in
     let f = c.args.fixed in
     let len : length b ≡ 256 * f.signal_count = omega arith in
-    inl (refl, signals-clean b (header_of f (signals_of b f.signal_count)) (checked b f c.signals-n.result c.signals-n.ensures.value len c.in_default.ensures c.in-Ok.ensures.0))
+    inl (
+      refl,
+      signals-clean b (header_of f (signals_of b f.signal_count))
+          (checked b f c.signals-n.result c.signals-n.ensures.value len c.in_default.ensures
+          c.in-Ok.ensures.0),
+    )

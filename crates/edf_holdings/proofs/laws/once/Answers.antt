@@ -1,4 +1,5 @@
-use Rattle.edf_holdings.proofs.Once.{held_is_known, accepted_again_law, refused_again_law, repeat_taken_out, from_the_front}
+use Rattle.edf_holdings.proofs.Once.{held_is_known, accepted_again_law, refused_again_law}
+use Rattle.edf_holdings.proofs.Once.{repeat_taken_out, from_the_front}
 use Rattle.edf_holdings.proofs.laws.once.Goals as goal
 
 pub returns-clause-held : goal.returns-clause-held

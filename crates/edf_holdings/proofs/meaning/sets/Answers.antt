@@ -1,5 +1,6 @@
 use Rattle.edf_holdings.proofs.KeyLists.{keys_are_one}
-use Rattle.edf_holdings.proofs.InSets.{list_is_set, holdings_are_sets, joined_has_both, all_has_both}
+use Rattle.edf_holdings.proofs.InSets.{list_is_set, holdings_are_sets, joined_has_both}
+use Rattle.edf_holdings.proofs.InSets.{all_has_both}
 use Rattle.edf_holdings.proofs.meaning.sets.Goals as goal
 
 pub returns-clause-list : goal.returns-clause-list

@@ -1,4 +1,5 @@
-use Rattle.edf_holdings.proofs.InSets.{same_key_is_equal, same_record_is_equal, test_is_clash, holds_is_contains}
+use Rattle.edf_holdings.proofs.InSets.{same_key_is_equal, same_record_is_equal, test_is_clash}
+use Rattle.edf_holdings.proofs.InSets.{holds_is_contains}
 use Rattle.edf_holdings.proofs.meaning.tests.Goals as goal
 
 pub returns-clause-key : goal.returns-clause-key

@@ -1,4 +1,5 @@
-use Rattle.std.proofs.Common.{◌≡◌, ◌≤◌, ℕ, length, ◌+◌, ◌++◌, ◌∷◌, [], List, map, take, refl, sym, subst, ◌∙◌, arith, rules}
+use Rattle.std.proofs.Common.{◌≡◌, ◌≤◌, ℕ, length, ◌+◌, ◌++◌, ◌∷◌, [], List, map, take, refl, sym}
+use Rattle.std.proofs.Common.{subst, ◌∙◌, arith, rules}
 use Rattle.std.proofs.Math.ListN.{set}
 use Rattle.std.proofs.lemmas.List.{take_all}
 use Rattle.sqlite_trees.specs.declared.store.Store.{Ghosts}
@@ -12,19 +13,27 @@ use Rattle.edf_intake.proofs.Batches.{none_submitted, next_submitted, ended-next
 use Rattle.edf_intake.proofs.submission.submit_all.Goals as goal
 
 -- all of the list was gone through
-all_submitted : {S X : Type 0} (g : Ghosts S) (old new : StoreModel S) (source : X → Source) (olds nows : List X) (i : ℕ) (answers : List Answer) → length olds ≤ i → length nows ≡ length olds
-    → AreSubmitted g old new (map source (take i olds)) (map source (take i nows)) answers → AreSubmitted g old new (map source olds) (map source nows) answers
+all_submitted : {S X : Type 0} (g : Ghosts S) (old new : StoreModel S) (source : X →
+    Source) (olds nows : List X) (i : ℕ) (answers : List Answer) → length olds ≤ i →
+    length nows ≡ length olds
+    → AreSubmitted g old new (map source (take i olds)) (map source (take i nows)) answers →
+    AreSubmitted g old new (map source olds) (map source nows) answers
 all_submitted g old new source olds nows i answers done same all =
-    subst (λ l. AreSubmitted g old new (map source olds) (map source l) answers) (take_all i nows (omega (arith, done, same)))
-    (subst (λ l. AreSubmitted g old new (map source l) (map source (take i nows)) answers) (take_all i olds done) all)
+    subst (λ l. AreSubmitted g old new (map source olds) (map source l) answers)
+    (take_all i nows (omega (arith, done, same)))
+    (subst (λ l. AreSubmitted g old new (map source l) (map source (take i nows)) answers)
+    (take_all i olds done) all)
 
 pub loop-input-init : goal.loop-input-init
 loop-input-init g c =
     let none : c.in_ok-answers.answers.items ≡ [] = search rules in
     record {
       cap = refl;
-      submitted = subst (λ (l : List Answer). AreSubmitted g.S.Store c.args.store.now c.args.store.now [] [] l) (sym none) (none_submitted g.S.Store c.args.store.now (search rules));
-      ended = subst (λ (l : List Answer). AreEnded g.S.Store c.args.store.now c.args.store.now l) (sym none) refl;
+      submitted = subst (λ (l : List Answer).
+          AreSubmitted g.S.Store c.args.store.now c.args.store.now [] [] l) (sym none)
+          (none_submitted g.S.Store c.args.store.now (search rules));
+      ended = subst (λ (l : List Answer). AreEnded g.S.Store c.args.store.now c.args.store.now l)
+          (sym none) refl;
       others = refl;
       counted = search rules;
       reserved = search rules;
@@ -38,20 +47,39 @@ loop-input-preserved g c =
     let nows = c.loop-input.inputs in
     let old = c.input-item.result in
     let new = c.submit-answer.new.input in
-    let source = λ (r : g.row.R.Denot). let s : Source = record { left = g.R.Input.remaining r; failed = g.R.Input.failures r } in s in
-    let more = olds_more source olds nows i old new c.loop-input-test.true inv.others c.input-item.is in
-    let made = nows_more source olds nows i old new c.loop-input-test.true inv.others c.input-item.is in
-    let step = next_submitted g.S.Store c.args.store.now c.loop-input.store c.submit-answer.new.store (map source (take i olds)) (map source (take i nows)) c.loop-input.answers.items inv.cap inv.submitted
+    let source = λ (r : g.row.R.Denot). let s : Source =
+    record { left = g.R.Input.remaining r; failed = g.R.Input.failures r } in s in
+    let more = olds_more source olds nows i old new c.loop-input-test.true inv.others
+    c.input-item.is in
+    let made = nows_more source olds nows i old new c.loop-input-test.true inv.others
+    c.input-item.is in
+    let step = next_submitted g.S.Store c.args.store.now c.loop-input.store
+    c.submit-answer.new.store (map source (take i olds)) (map source (take i nows))
+    c.loop-input.answers.items inv.cap inv.submitted
     (source old) (source new) c.submit-answer.result
-    (subst (λ (r : g.row.R.Denot). IsSubmitted g.S.Store c.loop-input.store c.submit-answer.new.store (source r) (source new) c.submit-answer.result) (sym c.input-item.is) c.submit-answer.ensures.submitted) in
+    (subst (λ (r : g.row.R.Denot). IsSubmitted g.S.Store c.loop-input.store
+    c.submit-answer.new.store (source r) (source new) c.submit-answer.result)
+    (sym c.input-item.is) c.submit-answer.ensures.submitted) in
     record {
       cap = c.submit-answer.ensures.cap ∙ inv.cap;
-      submitted = subst (λ (l : List Answer). AreSubmitted g.S.Store c.args.store.now c.submit-answer.new.store (map source (take (i + 1) olds)) (map source (take (i + 1) (set nows i new))) l) (sym c.push_reserved.ensures.items)
-          (subst (λ (l : List Source). AreSubmitted g.S.Store c.args.store.now c.submit-answer.new.store (map source (take (i + 1) olds)) l (c.loop-input.answers.items ++ c.submit-answer.result ∷ [])) (sym made)
-          (subst (λ (l : List Source). AreSubmitted g.S.Store c.args.store.now c.submit-answer.new.store l (map source (take i nows) ++ source new ∷ []) (c.loop-input.answers.items ++ c.submit-answer.result ∷ [])) (sym more) step));
-      ended = subst (λ (l : List Answer). AreEnded g.S.Store c.args.store.now c.submit-answer.new.store l) (sym c.push_reserved.ensures.items)
-          (ended-next g.S.Store c.args.store.now c.submit-answer.new.store c.loop-input.answers.items c.submit-answer.result c.submit-answer.ensures.ended);
-      others = others_same source olds nows i old new c.loop-input-test.true inv.others c.input-item.is;
+      submitted = subst (λ (l : List Answer).
+          AreSubmitted g.S.Store c.args.store.now c.submit-answer.new.store
+          (map source (take (i + 1) olds)) (map source (take (i + 1) (set nows i new))) l)
+          (sym c.push_reserved.ensures.items)
+          (subst (λ (l : List Source). AreSubmitted g.S.Store c.args.store.now
+          c.submit-answer.new.store (map source (take (i + 1) olds)) l
+          (c.loop-input.answers.items ++ c.submit-answer.result ∷ [])) (sym made)
+          (subst (λ (l : List Source). AreSubmitted g.S.Store c.args.store.now
+          c.submit-answer.new.store l (map source (take i nows)
+          ++ source new ∷ []) (c.loop-input.answers.items ++ c.submit-answer.result ∷ []))
+          (sym more) step));
+      ended = subst (λ (l : List Answer).
+          AreEnded g.S.Store c.args.store.now c.submit-answer.new.store l)
+          (sym c.push_reserved.ensures.items)
+          (ended-next g.S.Store c.args.store.now c.submit-answer.new.store
+          c.loop-input.answers.items c.submit-answer.result c.submit-answer.ensures.ended);
+      others = others_same source olds nows i old new c.loop-input-test.true inv.others
+          c.input-item.is;
       counted = omega (arith, c.push_reserved.ensures.len, inv.counted);
       reserved = search rules;
     }
@@ -59,12 +87,19 @@ loop-input-preserved g c =
 pub returns-clause-submitted : goal.returns-clause-submitted
 returns-clause-submitted g c =
     let inv = c.loop-input.invariant in
-    let source = λ (r : g.row.R.Denot). let s : Source = record { left = g.R.Input.remaining r; failed = g.R.Input.failures r } in s in
-    all_submitted g.S.Store c.args.store.now c.loop-input.store source c.args.inputs.now c.loop-input.inputs c.loop-input.input-index c.loop-input.answers.items c.loop-input-test.false c.loop-input.auto.inputs inv.submitted
+    let source = λ (r : g.row.R.Denot). let s : Source =
+    record { left = g.R.Input.remaining r; failed = g.R.Input.failures r } in s in
+    all_submitted g.S.Store c.args.store.now c.loop-input.store source c.args.inputs.now
+    c.loop-input.inputs c.loop-input.input-index c.loop-input.answers.items
+    c.loop-input-test.false c.loop-input.auto.inputs inv.submitted
 
 pub returns-clause-answered : goal.returns-clause-answered
 returns-clause-answered g c =
     let inv = c.loop-input.invariant in
-    let source = λ (r : g.row.R.Denot). let s : Source = record { left = g.R.Input.remaining r; failed = g.R.Input.failures r } in s in
-    answers_all g.S.Store c.args.store.now c.loop-input.store (map source c.args.inputs.now) (map source c.loop-input.inputs) c.loop-input.answers.items
-    (all_submitted g.S.Store c.args.store.now c.loop-input.store source c.args.inputs.now c.loop-input.inputs c.loop-input.input-index c.loop-input.answers.items c.loop-input-test.false c.loop-input.auto.inputs inv.submitted)
+    let source = λ (r : g.row.R.Denot). let s : Source =
+    record { left = g.R.Input.remaining r; failed = g.R.Input.failures r } in s in
+    answers_all g.S.Store c.args.store.now c.loop-input.store (map source c.args.inputs.now)
+    (map source c.loop-input.inputs) c.loop-input.answers.items
+    (all_submitted g.S.Store c.args.store.now c.loop-input.store source c.args.inputs.now
+    c.loop-input.inputs c.loop-input.input-index c.loop-input.answers.items
+    c.loop-input-test.false c.loop-input.auto.inputs inv.submitted)

@@ -8,8 +8,16 @@ abbrev pub invariant-loop-input : goal.invariant-loop-input
 invariant-loop-input g l = record {
   cap : l.store.cap ≡ l.initial.store.cap;
   submitted : AreSubmitted g.S.Store l.initial.store l.store
-      (map (λ i. let s : Source = record { left = g.R.Input.remaining i; failed = g.R.Input.failures i } in s) (take l.input-index l.initial.inputs))
-      (map (λ i. let s : Source = record { left = g.R.Input.remaining i; failed = g.R.Input.failures i } in s) (take l.input-index l.inputs)) l.answers.items;
+      (map (λ i. let s : Source = record {
+        left = g.R.Input.remaining i;
+        failed =
+            g.R.Input.failures i;
+      } in s) (take l.input-index l.initial.inputs))
+      (map (λ i. let s : Source = record {
+        left = g.R.Input.remaining i;
+        failed =
+            g.R.Input.failures i;
+      } in s) (take l.input-index l.inputs)) l.answers.items;
   ended : AreEnded g.S.Store l.initial.store l.store l.answers.items;
   others : drop l.input-index l.inputs ≡ drop l.input-index l.initial.inputs;
   counted : vec_len l.answers ≡ l.input-index;

@@ -7,15 +7,22 @@ use Rattle.edf_intake.proofs.walk.step_of.Goals as goal
 
 pub returns-then-not-same : goal.returns-then-not-same
 returns-then-not-same c =
-    let differs : c.args.data_record.now ≢ c.stored-item.result = λ p. both_ways _ c.if-not-same.true (c.same.ensures.1 p) in
-    (c.stored-item.result, sym c.loop-stored.invariant ∙ other_here _ _ _ _ c.loop-stored-test.true c.stored-item.is differs, c.start.ensures.value)
+    let differs : c.args.data_record.now ≢ c.stored-item.result =
+    λ p. both_ways _ c.if-not-same.true (c.same.ensures.1 p) in (
+      c.stored-item.result,
+      sym c.loop-stored.invariant
+          ∙ other_here _ _ _ _ c.loop-stored-test.true c.stored-item.is differs,
+      c.start.ensures.value,
+    )
 
 pub loop-stored-preserved : goal.loop-stored-preserved
 loop-stored-preserved c =
-    sym (same_here _ _ _ _ c.loop-stored-test.true c.stored-item.is (c.same.ensures.0 c.if-not-same.false)) ∙ c.loop-stored.invariant
+    sym (same_here _ _ _ _ c.loop-stored-test.true c.stored-item.is
+    (c.same.ensures.0 c.if-not-same.false)) ∙ c.loop-stored.invariant
 
 pub returns-else-is_empty : goal.returns-else-is_empty
 returns-else-is_empty c =
-    let none : other_of c.args.data_record.now c.args.near.now ≡ None = sym c.loop-stored.invariant ∙ none_left _ _ _ c.loop-stored-test.false in
+    let none : other_of c.args.data_record.now c.args.near.now ≡ None = sym c.loop-stored.invariant
+    ∙ none_left _ _ _ c.loop-stored-test.false in
     let some : 0 < length c.args.near.now = grind (arith, nat_tests) in
     (none, held_of_near _ _ some none)

@@ -4,4 +4,5 @@ use Rattle.edf_holdings.specs.Clash.{other_of}
 use Rattle.edf_intake.proofs.walk.step_of.Given as goal
 
 abbrev pub invariant-loop-stored : goal.invariant-loop-stored
-invariant-loop-stored l = other_of l.data_record (drop l.stored-index l.near) ≡ other_of l.data_record l.near
+invariant-loop-stored l = other_of l.data_record (drop l.stored-index l.near) ≡ other_of
+    l.data_record l.near

@@ -14,14 +14,18 @@ invariant-records g l = record {
   spared : l.transaction.refused ≡ false;
   stays : Stays g.S.Store l.initial.transaction.store.now l.transaction.store.now;
   running : IsRunning g.S.Store l.transaction.store.now;
-  recording : IsOf g.S.Store l.transaction.store.now l.recording.id.row l.initial.fragment.header.key;
+  recording : IsOf g.S.Store l.transaction.store.now l.recording.id.row
+      l.initial.fragment.header.key;
   only : HasNoMore g.S.Store l.initial.transaction.store.now l.transaction.store.now;
   header : l.fragment.header ≡ l.initial.fragment.header;
   status : l.fragment.progress.status ≡ Reading;
   count : g.R.Input.failures l.input ≡ g.R.Input.failures l.initial.input;
-  walking : Walking g.S.Store l.initial.transaction.store.now l.transaction.store.now l.initial.fragment.header
-      (g.R.Input.remaining l.initial.input) (g.R.Input.remaining l.input) l.fragment.progress l.course.tally;
-  gap : HasCleanDisk (at g.S.Store l.transaction.store.now) → IsGapIn g.S.Store l.transaction.store.now l.initial.fragment.header.key l.course.gap;
+  walking : Walking g.S.Store l.initial.transaction.store.now l.transaction.store.now
+      l.initial.fragment.header
+      (g.R.Input.remaining l.initial.input) (g.R.Input.remaining l.input) l.fragment.progress
+      l.course.tally;
+  gap : HasCleanDisk (at g.S.Store l.transaction.store.now) →
+      IsGapIn g.S.Store l.transaction.store.now l.initial.fragment.header.key l.course.gap;
 }
 
 abbrev pub decreases-records : goal.decreases-records

@@ -10,11 +10,14 @@ returns-in-Ok g c =
     let after = g.W.Output.contents c.send.new.out in
     let new = g.W.Output.failures c.send.new.out in
     let w = grown before old after new in
-    let sent = subst (λ (t : List ℕ). IsPut w t c.send.result) c.as_slice.ensures.value (put-sent before old after new c.as_slice.result.now c.send.result c.send.ensures) in
-    let own : IsPutBy w (λ (v : Vec ℕ Global). v.items) c.args.line c.send.result = rw c.in-Ok.is sent in
+    let sent = subst (λ (t : List ℕ). IsPut w t c.send.result) c.as_slice.ensures.value
+    (put-sent before old after new c.as_slice.result.now c.send.result c.send.ensures) in
+    let own : IsPutBy w (λ (v : Vec ℕ Global). v.items) c.args.line c.send.result =
+    rw c.in-Ok.is sent in
     record {
       line = own;
-      put = λ text is. line-put w (λ (v : Vec ℕ Global). v.items) c.args.line c.send.result text own is;
+      put = λ text is. line-put w (λ (v : Vec ℕ Global). v.items) c.args.line c.send.result text own
+          is;
     }
 
 pub returns-in-Err : goal.returns-in-Err
@@ -22,7 +25,8 @@ returns-in-Err g c =
     let before = g.W.Output.contents c.args.out.now in
     let old = g.W.Output.failures c.args.out.now in
     let w = grown before old before old in
-    let own : IsPutBy w (λ (v : Vec ℕ Global). v.items) c.args.line false = rw c.in-Err.is (nothing-gets before old, refl) in
+    let own : IsPutBy w (λ (v : Vec ℕ Global). v.items) c.args.line false =
+    rw c.in-Err.is (nothing-gets before old, refl) in
     record {
       line = own;
       put = λ text is. line-put w (λ (v : Vec ℕ Global). v.items) c.args.line false text own is;

@@ -7,17 +7,21 @@ use Rattle.edf_program.proofs.output.tell.Goals as goal
 pub returns-then-put_line : goal.returns-then-put_line
 returns-then-put_line g c =
     let w = growth g.W.Output c.args.out.now c.put_line.new.out in
-    let own = told-whole w (λ (v : Vec ℕ Global). v.items) c.args.line c.put_line.result c.args.status c.put_line.ensures.line c.if-put_line.true in
+    let own = told-whole w (λ (v : Vec ℕ Global). v.items) c.args.line c.put_line.result
+    c.args.status c.put_line.ensures.line c.if-put_line.true in
     record {
       line = own;
-      told = λ text is. line-told w (λ (v : Vec ℕ Global). v.items) c.args.line c.args.status c.args.status text own is;
+      told = λ text is. line-told w (λ (v : Vec ℕ Global). v.items) c.args.line c.args.status
+          c.args.status text own is;
     }
 
 pub returns-else-put_line : goal.returns-else-put_line
 returns-else-put_line g c =
     let w = growth g.W.Output c.args.out.now c.put_line.new.out in
-    let own = told-trouble w (λ (v : Vec ℕ Global). v.items) c.args.line c.put_line.result c.args.status c.put_line.ensures.line c.if-put_line.false in
+    let own = told-trouble w (λ (v : Vec ℕ Global). v.items) c.args.line c.put_line.result
+    c.args.status c.put_line.ensures.line c.if-put_line.false in
     record {
       line = own;
-      told = λ text is. line-told w (λ (v : Vec ℕ Global). v.items) c.args.line c.args.status Trouble text own is;
+      told = λ text is. line-told w (λ (v : Vec ℕ Global). v.items) c.args.line c.args.status
+          Trouble text own is;
     }

@@ -7,7 +7,8 @@ returns-then-send g c =
     let old = g.W.Output.failures c.args.out.now in
     let after = g.W.Output.contents c.send.new.out in
     let new = g.W.Output.failures c.send.new.out in
-    done-put (grown before old after new) c.args.bytes.now c.send.result c.args.status (put-sent before old after new c.args.bytes.now c.send.result c.send.ensures) c.if-send.true
+    done-put (grown before old after new) c.args.bytes.now c.send.result c.args.status
+    (put-sent before old after new c.args.bytes.now c.send.result c.send.ensures) c.if-send.true
 
 pub returns-else-send : goal.returns-else-send
 returns-else-send g c =
@@ -15,4 +16,6 @@ returns-else-send g c =
     let old = g.W.Output.failures c.args.out.now in
     let after = g.W.Output.contents c.send.new.out in
     let new = g.W.Output.failures c.send.new.out in
-    trouble-put (grown before old after new) c.args.bytes.now c.send.result c.args.status (put-sent before old after new c.args.bytes.now c.send.result c.send.ensures) c.if-send.false
+    trouble-put (grown before old after new) c.args.bytes.now c.send.result c.args.status
+    (put-sent before old after new c.args.bytes.now c.send.result c.send.ensures)
+    c.if-send.false

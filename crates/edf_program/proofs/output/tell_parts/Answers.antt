@@ -7,7 +7,8 @@ use Rattle.edf_program.proofs.Parts.{parts-more, parts-stop}
 use Rattle.edf_program.proofs.output.tell_parts.Goals as goal
 
 pub loop-part-init : goal.loop-part-init
-loop-part-init g c = nothing-gets (g.W.Output.contents c.args.out.now) (g.W.Output.failures c.args.out.now)
+loop-part-init g c = nothing-gets (g.W.Output.contents c.args.out.now)
+    (g.W.Output.failures c.args.out.now)
 
 pub loop-part-preserved : goal.loop-part-preserved
 loop-part-preserved g c =
@@ -17,7 +18,8 @@ loop-part-preserved g c =
     let mid = g.W.Output.failures c.loop-part.out in
     let after = g.W.Output.contents c.send.new.out in
     let new = g.W.Output.failures c.send.new.out in
-    parts-more a old b mid after new (λ part. part.now) c.args.parts.now c.loop-part.part-index _ c.loop-part-test.true c.loop-part.invariant true
+    parts-more a old b mid after new (λ part. part.now) c.args.parts.now c.loop-part.part-index _
+    c.loop-part-test.true c.loop-part.invariant true
     (put-sent b mid after new _ true c.if-not-send.ensures) refl
 
 pub returns-then-not-send : goal.returns-then-not-send
@@ -28,11 +30,18 @@ returns-then-not-send g c =
     let mid = g.W.Output.failures c.loop-part.out in
     let after = g.W.Output.contents c.send.new.out in
     let new = g.W.Output.failures c.send.new.out in
-    parts-stop a old b mid after new (λ part. part.now) c.args.parts.now c.loop-part.part-index _ c.loop-part-test.true c.loop-part.invariant false c.args.status
+    parts-stop a old b mid after new (λ part. part.now) c.args.parts.now c.loop-part.part-index _
+    c.loop-part-test.true c.loop-part.invariant false c.args.status
     (put-sent b mid after new _ false c.if-not-send.ensures) refl
 
 pub returns : goal.returns
 returns g c =
     let parts = c.args.parts.now in
-    let IsOut : List ℕ → Type 0 = λ bytes. Gets (growth g.W.Output c.args.out.now c.loop-part.out) bytes in
-    inl (subst IsOut (ap (flat_map (λ part. part.now)) (take_all c.loop-part.part-index parts (omega (arith, c.loop-part-test.false)))) c.loop-part.invariant, refl)
+    let IsOut : List ℕ → Type 0 = λ bytes.
+    Gets (growth g.W.Output c.args.out.now c.loop-part.out) bytes in
+    inl (
+      subst IsOut (ap (flat_map (λ part. part.now))
+          (take_all c.loop-part.part-index parts (omega (arith, c.loop-part-test.false))))
+          c.loop-part.invariant,
+      refl,
+    )

@@ -4,4 +4,5 @@ use Rattle.edf_program.specs.Output.{growth, Gets}
 use Rattle.edf_program.proofs.output.tell_parts.Given as goal
 
 abbrev pub invariant-loop-part : goal.invariant-loop-part
-invariant-loop-part g l = Gets (growth g.W.Output l.initial.out l.out) (flat_map (λ part. part.now) (take l.part-index l.parts))
+invariant-loop-part g l = Gets (growth g.W.Output l.initial.out l.out)
+    (flat_map (λ part. part.now) (take l.part-index l.parts))

@@ -6,4 +6,5 @@ pub returns-in_default : goal.returns-in_default
 returns-in_default c = unread-block c.args.block.now (search rules)
 
 pub returns : goal.returns
-returns c = other-block c.args.block.now c.in-Some.start c.in-Some.notes.items (search rules) (search rules)
+returns c = other-block c.args.block.now c.in-Some.start c.in-Some.notes.items (search rules)
+    (search rules)

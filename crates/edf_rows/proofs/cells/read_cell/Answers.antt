@@ -3,4 +3,5 @@ use Rattle.edf_rows.proofs.RowCells.{refused-unread, fault-of}
 use Rattle.edf_rows.proofs.cells.read_cell.Goals as goal
 
 pub returns-else-eq : goal.returns-else-eq
-returns-else-eq c = refused-unread c.args.block.now c.in-Err.fault (fault-of c.args.block.now c.in-Err.fault (search rules) (search rules))
+returns-else-eq c = refused-unread c.args.block.now c.in-Err.fault
+    (fault-of c.args.block.now c.in-Err.fault (search rules) (search rules))

@@ -1,10 +1,12 @@
 use Rattle.std.proofs.Common.{rules, None}
-use Rattle.edf_rows.proofs.RowCells.{IsGiven, given-unread, given-made, given-some, given-none, row-gives}
+use Rattle.edf_rows.proofs.RowCells.{IsGiven, given-unread, given-made, given-some, given-none}
+use Rattle.edf_rows.proofs.RowCells.{row-gives}
 use Rattle.edf_rows.proofs.cells.record_from.Goals as goal
 
 pub returns-in_default : goal.returns-in_default
 returns-in_default c =
-    let given : IsGiven c.args.samples.items c.args.block.now None = given-unread _ _ (search rules) in
+    let given : IsGiven c.args.samples.items c.args.block.now None =
+    given-unread _ _ (search rules) in
     record {
       read = given-some _ _ _ given;
       none = given-none _ _ _ given;
@@ -13,7 +15,8 @@ returns-in_default c =
 
 pub returns : goal.returns
 returns c =
-    let given : IsGiven c.args.samples.items c.args.block.now c.new.result = given-made _ _ c.in-Some.start c.in-Some.notes.items _ (search rules) (search rules) in
+    let given : IsGiven c.args.samples.items c.args.block.now c.new.result =
+    given-made _ _ c.in-Some.start c.in-Some.notes.items _ (search rules) (search rules) in
     record {
       read = given-some _ _ _ given;
       none = given-none _ _ _ given;

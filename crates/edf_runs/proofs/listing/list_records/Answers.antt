@@ -1,4 +1,5 @@
-use Rattle.std.proofs.Common.{◌≡◌, ◌<◌, List, ◌++◌, ◌∷◌, [], length, refl, ap, ◌∙◌, sym, subst, rules, arith, Ok, Some}
+use Rattle.std.proofs.Common.{◌≡◌, ◌<◌, List, ◌++◌, ◌∷◌, [], length, refl, ap, ◌∙◌, sym, subst}
+use Rattle.std.proofs.Common.{rules, arith, Ok, Some}
 use Rattle.edf_header.specs.Header.{Layout, IsLayout}
 use Rattle.edf_fragment.specs.Fragment.{DataRecord}
 use Rattle.edf_fragment.specs.Reading.{progress_after, GivesRecord}
@@ -19,8 +20,10 @@ records-init g c =
       status = ap (λ (x : Progress). x.status) c.requires.first;
       so_far = (
         [],
-        subst (λ (p : Progress). HasRead c.args.fragment.now.header left left [] p) (sym c.requires.first) (reads_none c.args.fragment.now.header left),
-        subst (λ (l : List Run). AreListed c.args.duration [] l) (sym c.new-runs.ensures.items) (nothing_listed c.args.duration),
+        subst (λ (p : Progress). HasRead c.args.fragment.now.header left left [] p)
+            (sym c.requires.first) (reads_none c.args.fragment.now.header left),
+        subst (λ (l : List Run). AreListed c.args.duration [] l) (sym c.new-runs.ensures.items)
+            (nothing_listed c.args.duration),
       );
       count = refl;
     }
@@ -35,13 +38,20 @@ records-preserved g c =
     let mid = g.R.Input.remaining c.records.input in
     let rest = g.R.Input.remaining c.next.new.input in
     let records = before.so_far.0 in
-    let step = next_of c.records.fragment.header from to mid rest c.in_ok-record.field-0 r before.status c.in_ok-record.ensures.answer c.in-Some.is in
-    let to_is : to ≡ progress_after l from (Ok (Some r)) = subst (λ (x : Layout). to ≡ progress_after x from (Ok (Some r))) before.header step.0 in
-    let gives : GivesRecord l from mid rest r = subst (λ (x : Layout). GivesRecord x from mid rest r) before.header step.1 in
-    let read = reads_more l (g.R.Input.remaining c.args.input.now) mid rest records from to r before.so_far.1 to_is gives in
-    let layout : IsLayout l = subst (λ (x : Layout). IsLayout x) c.header.ensures c.count-count.ensures.layout in
-    let few : length records < 99_999_999 = omega (arith, layout.count.1, gives.may_come, before.so_far.1.given) in
-    let grows : (rs : List DataRecord) → length rs < 99_999_999 → AreListed c.args.duration rs c.records.runs.items
+    let step = next_of c.records.fragment.header from to mid rest c.in_ok-record.field-0 r
+    before.status c.in_ok-record.ensures.answer c.in-Some.is in
+    let to_is : to ≡ progress_after l from (Ok (Some r)) =
+    subst (λ (x : Layout). to ≡ progress_after x from (Ok (Some r))) before.header step.0 in
+    let gives : GivesRecord l from mid rest r =
+    subst (λ (x : Layout). GivesRecord x from mid rest r) before.header step.1 in
+    let read = reads_more l (g.R.Input.remaining c.args.input.now) mid rest records from to r
+    before.so_far.1 to_is gives in
+    let layout : IsLayout l = subst (λ (x : Layout). IsLayout x) c.header.ensures
+    c.count-count.ensures.layout in
+    let few : length records < 99_999_999 =
+    omega (arith, layout.count.1, gives.may_come, before.so_far.1.given) in
+    let grows : (rs : List DataRecord) → length rs < 99_999_999 →
+    AreListed c.args.duration rs c.records.runs.items
     → AreListed c.args.duration (rs ++ r ∷ []) c.add_record.new.runs.items = search rules in
     record {
       header = c.in_ok-record.ensures.header ∙ before.header;

@@ -11,7 +11,8 @@ invariant-records g l = record {
   header : l.fragment.header ≡ l.initial.fragment.header;
   status : l.fragment.progress.status ≡ Reading;
   so_far : (records : List DataRecord)
-      × HasRead l.initial.fragment.header (g.R.Input.remaining l.initial.input) (g.R.Input.remaining l.input) records l.fragment.progress
+      × HasRead l.initial.fragment.header (g.R.Input.remaining l.initial.input)
+      (g.R.Input.remaining l.input) records l.fragment.progress
       × AreListed l.fn.duration records l.runs.items;
   count : g.R.Input.failures l.input ≡ g.R.Input.failures l.initial.input;
 }

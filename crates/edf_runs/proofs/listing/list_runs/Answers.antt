@@ -8,20 +8,25 @@ use Rattle.edf_runs.specs.Runs.{AreListed}
 use Rattle.edf_runs.proofs.listing.list_runs.Goals as goal
 
 pub returns-in_err-fragment-clause-answer : goal.returns-in_err-fragment-clause-answer
-returns-in_err-fragment-clause-answer g c = let told = open_refused _ _ _ c.in_err-fragment.ensures.step in search rules
+returns-in_err-fragment-clause-answer g c = let told =
+    open_refused _ _ _ c.in_err-fragment.ensures.step in search rules
 
 pub returns-in_err-runs-clause-answer : goal.returns-in_err-runs-clause-answer
 returns-in_err-runs-clause-answer g c =
-    let p = err_from_is_err_and c.from_residual-in_err-runs.result c.from_residual-in_err-runs.ensures.1 in
-    rw (p.1, p.2) (records_refused _ _ _ c.in_ok-fragment.fragment.header _ c.in_ok-fragment.ensures.step.0 c.in_err-runs.ensures.answer)
+    let p = err_from_is_err_and c.from_residual-in_err-runs.result
+    c.from_residual-in_err-runs.ensures.1 in
+    rw (p.1, p.2) (records_refused _ _ _ c.in_ok-fragment.fragment.header _
+    c.in_ok-fragment.ensures.step.0 c.in_err-runs.ensures.answer)
 
 pub returns-clause-answer : goal.returns-clause-answer
 returns-clause-answer g c =
     let l = c.in_ok-fragment.fragment.header in
     let answer = c.in_ok-runs.ensures.answer in
     let header : c.into_header.result ≡ l = c.into_header.ensures ∙ c.in_ok-runs.ensures.header in
-    let key : c.identity.result.now ≡ l.key = c.identity.ensures ∙ ap (λ (x : Layout). x.key) c.header.ensures in
-    let duration : c.duration-duration.result ≡ duration_of l.key.duration = c.duration-duration.ensures.value ∙ ap (λ (k : Key). duration_of k.duration) key in
+    let key : c.identity.result.now ≡ l.key = c.identity.ensures
+    ∙ ap (λ (x : Layout). x.key) c.header.ensures in
+    let duration : c.duration-duration.result ≡ duration_of l.key.duration =
+    c.duration-duration.ensures.value ∙ ap (λ (k : Key). duration_of k.duration) key in
     record {
       layout = l;
       records = answer.0;

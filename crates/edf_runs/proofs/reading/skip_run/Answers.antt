@@ -17,7 +17,11 @@ loop-init g c =
     let left = g.R.Input.remaining c.args.input.now in
     record {
       header = refl;
-      so_far = ([], none_so_far l from left c.args.run.now c.nanos-next.result c.args.fragment.now.within (c.nanos-next.ensures.value ∙ c.first.ensures));
+      so_far = (
+        [],
+        none_so_far l from left c.args.run.now c.nanos-next.result
+            c.args.fragment.now.within (c.nanos-next.ensures.value ∙ c.first.ensures),
+      );
       count = refl;
     }
 
@@ -33,13 +37,22 @@ loop-preserved g c =
     let rest = g.R.Input.remaining c.next_at.new.input in
     let r = c.in_ok-next_at.field-0 in
     let d : c.duration-duration.result ≡ duration_of l.key.duration =
-    c.duration-duration.ensures.value ∙ ap (λ (k : Key). duration_of k.duration) (c.identity.ensures ∙ ap (λ (x : Layout). x.key) c.header-2.ensures) in
-    let step : StepsOn l mid to middle rest c.loop.next r = subst (λ (x : Layout). StepsOn x mid to middle rest c.loop.next r) i.header c.in_ok-next_at.ensures.step in
-    let after : c.nanos.result + c.duration-duration.result ≡ r.start + duration_of l.key.duration = omega (arith, c.nanos.ensures.value, c.start-in-loop.ensures.value, d) in
-    let few : c.loop.counter < c.args.run.now.records = omega (arith, c.records-end.ensures.value) in
+    c.duration-duration.ensures.value ∙ ap (λ (k : Key). duration_of k.duration) (c.identity.ensures
+    ∙ ap (λ (x : Layout). x.key) c.header-2.ensures) in
+    let step : StepsOn l mid to middle rest c.loop.next r =
+    subst (λ (x : Layout). StepsOn x mid to middle rest c.loop.next r) i.header
+    c.in_ok-next_at.ensures.step in
+    let after : c.nanos.result + c.duration-duration.result ≡ r.start + duration_of l.key.duration =
+    omega (arith, c.nanos.ensures.value, c.start-in-loop.ensures.value, d) in
+    let few : c.loop.counter < c.args.run.now.records =
+    omega (arith, c.records-end.ensures.value) in
     record {
       header = c.in_ok-next_at.ensures.header ∙ i.header;
-      so_far = (i.so_far.0 ++ r ∷ [], more_so_far l from mid to left middle rest c.args.run.now i.so_far.0 c.loop.next _ c.loop.counter r i.so_far.1 few step after);
+      so_far = (
+        i.so_far.0 ++ r ∷ [],
+        more_so_far l from mid to left middle rest c.args.run.now i.so_far.0 c.loop.next _
+            c.loop.counter r i.so_far.1 few step after,
+      );
       count = c.in_ok-next_at.ensures.counted ∙ i.count;
     }
 
@@ -58,6 +71,9 @@ returns-in_err-next_at-clause-unchanged g c n same =
     let few : c.loop.counter < run.records = omega (arith, c.records-end.ensures.value) in
     let p = err_from_is_err_and c.from_residual.result c.from_residual.ensures.1 in
     let changed = handed_on c.from_residual.result p.0 fault p.1 p.2 same in
-    let stop : StopsAt l mid to middle rest c.loop.next fault = subst (λ (x : Layout). StopsAt x mid to middle rest c.loop.next fault) i.header c.in_err-next_at.ensures.step in
-    next_as_listed l c.args.fragment.now.progress mid to left middle rest run i.so_far.0 c.loop.next c.loop.counter layout i.so_far.1 few n
+    let stop : StopsAt l mid to middle rest c.loop.next fault =
+    subst (λ (x : Layout). StopsAt x mid to middle rest c.loop.next fault) i.header
+    c.in_err-next_at.ensures.step in
+    next_as_listed l c.args.fragment.now.progress mid to left middle rest run i.so_far.0 c.loop.next
+    c.loop.counter layout i.so_far.1 few n
     (subst (λ (x : WriteFault). StopsAt l mid to middle rest c.loop.next x) changed stop)

@@ -7,7 +7,8 @@ abbrev pub invariant-loop : goal.invariant-loop
 invariant-loop g l = record {
   header : l.fragment.header ≡ l.initial.fragment.header;
   so_far : (records : List DataRecord)
-      × ReadSoFar l.initial.fragment.header l.initial.fragment.progress l.fragment.progress (g.R.Input.remaining l.initial.input)
+      × ReadSoFar l.initial.fragment.header l.initial.fragment.progress l.fragment.progress
+      (g.R.Input.remaining l.initial.input)
       (g.R.Input.remaining l.input) l.fn.run records l.next l.counter;
   count : g.R.Input.failures l.input ≡ g.R.Input.failures l.initial.input;
 }

@@ -6,8 +6,10 @@ use Rattle.edf_runs.proofs.writing.put_records.Given as goal
 abbrev pub invariant-loop : goal.invariant-loop
 invariant-loop g l = record {
   header : l.fragment.header ≡ l.initial.fragment.header;
-  so_far : PutSoFar l.initial.fragment.header l.initial.fragment.progress l.fragment.progress (g.R.Input.remaining l.initial.input) (g.R.Input.remaining l.input)
-      (buffered g.W.Output l.initial.out l.initial.held.bytes.items) (buffered g.W.Output l.out l.held.bytes.items) l.fn.run l.next l.longest l.counter;
+  so_far : PutSoFar l.initial.fragment.header l.initial.fragment.progress l.fragment.progress
+      (g.R.Input.remaining l.initial.input) (g.R.Input.remaining l.input)
+      (buffered g.W.Output l.initial.out l.initial.held.bytes.items)
+      (buffered g.W.Output l.out l.held.bytes.items) l.fn.run l.next l.longest l.counter;
   reads : g.R.Input.failures l.input ≡ g.R.Input.failures l.initial.input;
   writes : g.W.Output.failures l.out ≡ g.W.Output.failures l.initial.out;
 }

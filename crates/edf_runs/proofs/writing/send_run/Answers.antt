@@ -16,7 +16,8 @@ returns-in_err-put-clause-sent g c =
       records = [];
       mid = c.args.fragment.now.progress;
       middle = g.R.Input.remaining c.args.input.now;
-      read = none_read c.args.fragment.now.header c.args.fragment.now.progress (g.R.Input.remaining c.args.input.now) c.args.fragment.now.within;
+      read = none_read c.args.fragment.now.header c.args.fragment.now.progress
+          (g.R.Input.remaining c.args.input.now) c.args.fragment.now.within;
       starts = tt;
       within = omega arith;
       holds = All-nil (λ r. length (block_of (second_of run.first) r) ≤ 2 * run.block_samples);
@@ -28,7 +29,8 @@ pub returns-in_err-put_records-clause-sent : goal.returns-in_err-put_records-cla
 returns-in_err-put_records-clause-sent g c =
     let run = c.args.run.now in
     let e = c.in_err-put_records.ensures.put in
-    let p = err_from_is_err_and c.from_residual-in_err-put_records.result c.from_residual-in_err-put_records.ensures.1 in
+    let p = err_from_is_err_and c.from_residual-in_err-put_records.result
+    c.from_residual-in_err-put_records.ensures.1 in
     rw (p.1) (record {
       records = e.records;
       mid = e.mid;
@@ -37,7 +39,8 @@ returns-in_err-put_records-clause-sent g c =
       starts = e.starts;
       within = e.within;
       holds = e.holds;
-      front = body_stops _ _ c.args.header.now (run_text run e.records) c.new-held.ensures _ c.in_ok-put.ensures.0 e.front.0 e.front.1;
+      front = body_stops _ _ c.args.header.now (run_text run e.records) c.new-held.ensures _
+          c.in_ok-put.ensures.0 e.front.0 e.front.1;
       more = e.more;
     })
 
@@ -46,7 +49,8 @@ returns-in_err-flush-clause-sent g c =
     let run = c.args.run.now in
     let all = c.in_ok-put_records.ensures.put in
     let e = c.in_err-flush.ensures in
-    let p = err_from_is_err_and c.from_residual-in_err-flush.result c.from_residual-in_err-flush.ensures.1 in
+    let p = err_from_is_err_and c.from_residual-in_err-flush.result
+    c.from_residual-in_err-flush.ensures.1 in
     rw (p.1) (record {
       records = all.records;
       mid = c.put_records.new.fragment.progress;
@@ -55,6 +59,7 @@ returns-in_err-flush-clause-sent g c =
       starts = all.listed.starts;
       within = omega (arith, all.listed.count);
       holds = all.listed.holds;
-      front = flush_stops _ _ c.args.header.now (run_text run all.records) c.new-held.ensures _ c.in_ok-put.ensures.0 _ all.put e.0.0 e.0.1;
+      front = flush_stops _ _ c.args.header.now (run_text run all.records) c.new-held.ensures _
+          c.in_ok-put.ensures.0 _ all.put e.0.0 e.0.1;
       more = inl (refl, refl);
     })

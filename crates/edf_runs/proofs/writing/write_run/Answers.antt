@@ -1,4 +1,5 @@
-use Rattle.std.proofs.Common.{◌≡◌, ℕ, ◌+◌, ◌*◌, ◌≤◌, List, length, sym, ap, ◌∙◌, subst, rules, arith}
+use Rattle.std.proofs.Common.{◌≡◌, ℕ, ◌+◌, ◌*◌, ◌≤◌, List, length, sym, ap, ◌∙◌, subst, rules}
+use Rattle.std.proofs.Common.{arith}
 use Rattle.std.proofs.lemmas.Result.{err_from_is_err_and}
 use Rattle.std.proofs.lemmas.Nat.{mul-le}
 use Rattle.edf_header.specs.Key.{Key, IsKey, MayStart}
@@ -11,46 +12,67 @@ use Rattle.edf_runs.proofs.writing.write_run.Goals as goal
 
 pub returns-in_default-clause-refused : goal.returns-in_default-clause-refused
 returns-in_default-clause-refused g c =
-    not_begun c.args.fragment.now.header c.args.fragment.now.progress (g.R.Input.remaining c.args.input.now) (g.W.Output.contents c.args.out.now) c.args.run.now c.args.fragment.now.within
+    not_begun c.args.fragment.now.header c.args.fragment.now.progress
+    (g.R.Input.remaining c.args.input.now) (g.W.Output.contents c.args.out.now) c.args.run.now
+    c.args.fragment.now.within
 
 pub returns-in_err-send_run-clause-refused : goal.returns-in_err-send_run-clause-refused
 returns-in_err-send_run-clause-refused g c =
     let l = c.args.fragment.now.header in
     let run = c.args.run.now in
-    let key : c.identity-identity.result.now ≡ l.key = c.identity-identity.ensures ∙ ap (λ (x : Layout). x.key) c.header.ensures in
+    let key : c.identity-identity.result.now ≡ l.key = c.identity-identity.ensures
+    ∙ ap (λ (x : Layout). x.key) c.header.ensures in
     let text = c.as_slice.result.now in
-    let plain : IsRunHeader c.in-Ok.header.items c.identity-identity.result.now run = c.in-Ok.ensures.header in
+    let plain : IsRunHeader c.in-Ok.header.items c.identity-identity.result.now run =
+    c.in-Ok.ensures.header in
     let header : IsRunHeader text l.key run =
-    subst (λ (t : List ℕ). IsRunHeader t l.key run) (sym c.as_slice.ensures.value) (subst (λ (k : Key). IsRunHeader c.in-Ok.header.items k run) key plain) in
+    subst (λ (t : List ℕ). IsRunHeader t l.key run) (sym c.as_slice.ensures.value)
+    (subst (λ (k : Key). IsRunHeader c.in-Ok.header.items k run) key plain) in
     let dated : c.in_err-send_run.field-0.0 ≡ Undated → ⊥ = search rules in
     let p = err_from_is_err_and c.from_residual.result c.from_residual.ensures.1 in
-    rw (p.1, p.2) (not_written l _ _ _ _ _ _ text run c.in_err-send_run.field-0.0 header c.in_err-send_run.ensures.sent dated)
+    rw (p.1, p.2) (not_written l _ _ _ _ _ _ text run c.in_err-send_run.field-0.0 header
+    c.in_err-send_run.ensures.sent dated)
 
 pub overflow_add-result : goal.overflow_add-result
 overflow_add-result g c =
     let short : length c.in-Ok.header.items ≤ 164_096 = c.in-Ok.ensures.short in
     let len : c.len.result ≤ 164_096 = omega (arith, c.len.ensures, c.in-Ok.header.ok.0, short) in
-    let bytes : c.ordinary_bytes.result + 2 * c.block_samples.result ≤ 5_644_350 = omega (arith, c.ordinary_bytes.ensures.bound, c.block_samples.ensures.few) in
-    let all : c.records.result * (c.ordinary_bytes.result + 2 * c.block_samples.result) ≤ 99_999_999 * 5_644_350 = mul-le _ _ _ _ c.records.ensures.few bytes in
+    let bytes : c.ordinary_bytes.result + 2 * c.block_samples.result ≤ 5_644_350 =
+    omega (arith, c.ordinary_bytes.ensures.bound, c.block_samples.ensures.few) in
+    let all : c.records.result * (c.ordinary_bytes.result + 2 * c.block_samples.result) ≤ 99_999_999
+    * 5_644_350 = mul-le _ _ _ _ c.records.ensures.few bytes in
     omega (arith, len, all)
 
 pub returns-clause-written : goal.returns-clause-written
 returns-clause-written g c =
     let l = c.args.fragment.now.header in
     let run = c.args.run.now in
-    let key : c.identity-identity.result.now ≡ l.key = c.identity-identity.ensures ∙ ap (λ (x : Layout). x.key) c.header.ensures in
+    let key : c.identity-identity.result.now ≡ l.key = c.identity-identity.ensures
+    ∙ ap (λ (x : Layout). x.key) c.header.ensures in
     let text = c.as_slice.result.now in
-    let plain : IsRunHeader c.in-Ok.header.items c.identity-identity.result.now run = c.in-Ok.ensures.header in
+    let plain : IsRunHeader c.in-Ok.header.items c.identity-identity.result.now run =
+    c.in-Ok.ensures.header in
     let header : IsRunHeader text l.key run =
-    subst (λ (t : List ℕ). IsRunHeader t l.key run) (sym c.as_slice.ensures.value) (subst (λ (k : Key). IsRunHeader c.in-Ok.header.items k run) key plain) in
+    subst (λ (t : List ℕ). IsRunHeader t l.key run) (sym c.as_slice.ensures.value)
+    (subst (λ (k : Key). IsRunHeader c.in-Ok.header.items k run) key plain) in
     let is-key : IsKey l.key = subst IsKey key c.ordinary_bytes.ensures.key in
     let begins : MayStart l.key run.first = search rules in
-    let len : c.len.result ≡ length text = omega (arith, c.len.ensures, c.in-Ok.header.ok.0, ap (λ (t : List ℕ). length t) c.as_slice.ensures.value) in
-    let ordinary : c.ordinary_bytes.result ≡ 2 * samples_in_all l.key.signals = c.ordinary_bytes.ensures.value ∙ ap (λ (k : Key). 2 * samples_in_all k.signals) key in
-    let whole : c.len.result + c.records.result * (c.ordinary_bytes.result + 2 * c.block_samples.result)
+    let len : c.len.result ≡ length text =
+    omega (
+      arith,
+      c.len.ensures,
+      c.in-Ok.header.ok.0,
+      ap (λ (t : List ℕ). length t) c.as_slice.ensures.value,
+    ) in
+    let ordinary : c.ordinary_bytes.result ≡ 2 * samples_in_all l.key.signals =
+    c.ordinary_bytes.ensures.value ∙ ap (λ (k : Key). 2 * samples_in_all k.signals) key in
+    let whole : c.len.result + c.records.result
+    * (c.ordinary_bytes.result + 2 * c.block_samples.result)
     ≡ length text + run.records * (2 * samples_in_all l.key.signals + 2 * run.block_samples) =
     ap (λ n. n + c.records.result * (c.ordinary_bytes.result + 2 * c.block_samples.result)) len
-    ∙ ap (λ n. length text + n * (c.ordinary_bytes.result + 2 * c.block_samples.result)) c.records.ensures.value
+    ∙ ap (λ n. length text + n * (c.ordinary_bytes.result + 2 * c.block_samples.result))
+    c.records.ensures.value
     ∙ ap (λ n. length text + run.records * (n + 2 * c.block_samples.result)) ordinary
-    ∙ ap (λ n. length text + run.records * (2 * samples_in_all l.key.signals + 2 * n)) c.block_samples.ensures.value in
+    ∙ ap (λ n. length text + run.records * (2 * samples_in_all l.key.signals + 2 * n))
+    c.block_samples.ensures.value in
     written l _ _ _ _ _ _ text run _ is-key begins header c.in_ok-send_run.ensures.sent whole

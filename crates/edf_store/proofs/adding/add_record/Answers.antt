@@ -13,12 +13,17 @@ use Rattle.edf_store.proofs.Steps.{added_in, none_added}
 use Rattle.edf_store.proofs.adding.add_record.Goals as goal
 
 pub invariant_of-store : goal.invariant_of-store
-invariant_of-store g c = still_sound c.store.inside.cap (state g.S.Store c.store.inside.conn) (state g.S.Store c.insert_record.new.conn) _ c.insert_record.ensures.survives c.in_err-insert_record.ensures.refused c.store.invariant
+invariant_of-store g c = still_sound c.store.inside.cap (state g.S.Store c.store.inside.conn)
+    (state g.S.Store c.insert_record.new.conn) _ c.insert_record.ensures.survives
+    c.in_err-insert_record.ensures.refused c.store.invariant
 
 pub invariant_of-store-2 : goal.invariant_of-store-2
 invariant_of-store-2 g c =
-    still_sound c.store.inside.cap (state g.S.Store c.store.inside.conn) (state g.S.Store c.insert_record.new.conn) _ c.insert_record.ensures.survives
-    (λ clean. record_keeps (state g.S.Store c.store.inside.conn) (state g.S.Store c.insert_record.new.conn) _ (c.in_ok-insert_record.ensures.added clean)) c.store.invariant
+    still_sound c.store.inside.cap (state g.S.Store c.store.inside.conn)
+    (state g.S.Store c.insert_record.new.conn) _ c.insert_record.ensures.survives
+    (λ clean. record_keeps (state g.S.Store c.store.inside.conn)
+    (state g.S.Store c.insert_record.new.conn) _ (c.in_ok-insert_record.ensures.added clean))
+    c.store.invariant
 
 pub returns-clause-added : goal.returns-clause-added
 returns-clause-added g c =
@@ -29,25 +34,44 @@ returns-clause-added g c =
     let room = rw (← c.store.view_is) at c.requires.room in
     let start : c.start_of-start.result ≡ pos r.start = search rules in
     let block : c.as_slice.result.now ≡ block_text 0 r.start r.annotations = search rules in
-    let has : HasCleanDisk new → HasRecord old new (cells c.args.id (pos r.start) r.samples (block_text 0 r.start r.annotations)) =
-    λ clean. rw (to_z-of_z w64 c.args.id c.ranges.id, start, start_fits r.start room.sound.start, c.samples.ensures.value, block) at (c.in_ok-insert_record.ensures.added clean) in
-    rw (← c.store.view_is) (added_in c.store.inside.cap old new _ c.insert_record.ensures.survives c.args.id r has room running)
+    let has : HasCleanDisk new →
+    HasRecord old new (cells c.args.id (pos r.start) r.samples
+    (block_text 0 r.start r.annotations)) =
+    λ clean. rw (
+      to_z-of_z w64 c.args.id c.ranges.id,
+      start,
+      start_fits r.start room.sound.start,
+      c.samples.ensures.value,
+      block,
+    ) at (c.in_ok-insert_record.ensures.added clean) in
+    rw (← c.store.view_is) (added_in c.store.inside.cap old new _ c.insert_record.ensures.survives
+    c.args.id r has room running)
 
 pub returns-clause-only : goal.returns-clause-only
-returns-clause-only g c = rw (← c.store.view_is) (none_added (state g.S.Store c.store.inside.conn) (state g.S.Store c.insert_record.new.conn) _ c.in_ok-insert_record.ensures.added)
+returns-clause-only g c = rw (← c.store.view_is)
+    (none_added (state g.S.Store c.store.inside.conn) (state g.S.Store c.insert_record.new.conn) _
+    c.in_ok-insert_record.ensures.added)
 
 pub returns-in_err-insert_record-clause-stays : goal.returns-in_err-insert_record-clause-stays
-returns-in_err-insert_record-clause-stays g c = rw (← c.store.view_is) (stays_so g.S.Store c.store.inside.cap c.store.inside.conn c.insert_record.new.conn c.insert_record.ensures.survives c.in_err-insert_record.ensures.refused)
+returns-in_err-insert_record-clause-stays g c =
+    rw (← c.store.view_is) (stays_so g.S.Store c.store.inside.cap c.store.inside.conn
+    c.insert_record.new.conn c.insert_record.ensures.survives
+    c.in_err-insert_record.ensures.refused)
 
 pub returns-clause-stays : goal.returns-clause-stays
 returns-clause-stays g c =
-    rw (← c.store.view_is) (stays_so g.S.Store c.store.inside.cap c.store.inside.conn c.insert_record.new.conn c.insert_record.ensures.survives (λ clean. record_keeps (state g.S.Store c.store.inside.conn) (state g.S.Store c.insert_record.new.conn) _ (c.in_ok-insert_record.ensures.added clean)))
+    rw (← c.store.view_is) (stays_so g.S.Store c.store.inside.cap c.store.inside.conn
+    c.insert_record.new.conn c.insert_record.ensures.survives
+    (λ clean. record_keeps (state g.S.Store c.store.inside.conn)
+    (state g.S.Store c.insert_record.new.conn) _ (c.in_ok-insert_record.ensures.added clean)))
 
 pub returns-in_err-insert_record-clause-told : goal.returns-in_err-insert_record-clause-told
-returns-in_err-insert_record-clause-told g c = refused_told _ c.from_residual.result c.from_residual.ensures.1
+returns-in_err-insert_record-clause-told g c =
+    refused_told _ c.from_residual.result c.from_residual.ensures.1
 
 pub returns-in_err-insert_record-clause-caused : goal.returns-in_err-insert_record-clause-caused
-returns-in_err-insert_record-clause-caused g c = refused_caused _ c.from_residual.result c.from_residual.ensures.1
+returns-in_err-insert_record-clause-caused g c =
+    refused_caused _ c.from_residual.result c.from_residual.ensures.1
 
 pub returns-in_default-clause-stays : goal.returns-in_default-clause-stays
 returns-in_default-clause-stays g c = rw (← c.store.view_is) (stays_same g.S.Store _)

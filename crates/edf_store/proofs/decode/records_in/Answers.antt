@@ -19,14 +19,17 @@ pub loop-row-preserved : goal.loop-row-preserved
 loop-row-preserved c =
     let at = c.loop-row in
     let row = c.in-Some.row in
-    let steps : into_iter_items at.row-iterator ≡ row ∷ into_iter_items c.next.new.self = c.in-Some.ensures.steps.0 in (
+    let steps : into_iter_items at.row-iterator ≡ row ∷ into_iter_items c.next.new.self =
+    c.in-Some.ensures.steps.0 in (
       let was = at.invariant.0 in
           let gone = c.in-Some.ensures.steps.1 in
           let short = ap length steps in
           omega arith,
       λ k ds key sound same.
-          let next = next_read (IsSoundRecord k) ds at.records.items row _ _ (at.invariant.1 k ds key sound same) steps in
-          pushed (IsSoundRecord k) ds at.records.items row _ c.in_ok-data_record.data_record c.push.new.self.items next
+          let next = next_read (IsSoundRecord k) ds at.records.items row _ _
+          (at.invariant.1 k ds key sound same) steps in
+          pushed (IsSoundRecord k) ds at.records.items row _ c.in_ok-data_record.data_record
+          c.push.new.self.items next
           (c.in_ok-data_record.ensures.read k next.data_record key next.has next.cells)
           (search rules),
     )
@@ -34,7 +37,8 @@ loop-row-preserved c =
 pub returns-clause-read : goal.returns-clause-read
 returns-clause-read c k ds key sound same =
     let at = c.loop-row in
-    all_read (IsSoundRecord k) ds at.records.items _ (at.invariant.1 k ds key sound same) (no_items _ (sym at.invariant.0 ∙ c.in-None.ensures.steps.0))
+    all_read (IsSoundRecord k) ds at.records.items _ (at.invariant.1 k ds key sound same)
+    (no_items _ (sym at.invariant.0 ∙ c.in-None.ensures.steps.0))
 
 pub returns-in_err-data_record-clause-own : goal.returns-in_err-data_record-clause-own
 returns-in_err-data_record-clause-own c =
@@ -42,5 +46,6 @@ returns-in_err-data_record-clause-own c =
     rw (told.1, told.2)
     (λ k ds key sound same.
     let at = c.loop-row in
-    let next = next_read (IsSoundRecord k) ds at.records.items c.in-Some.row _ _ (at.invariant.1 k ds key sound same) c.in-Some.ensures.steps.0 in
+    let next = next_read (IsSoundRecord k) ds at.records.items c.in-Some.row _ _
+    (at.invariant.1 k ds key sound same) c.in-Some.ensures.steps.0 in
     c.in_err-data_record.ensures.own k next.data_record key next.has next.cells)

@@ -11,4 +11,6 @@ use Rattle.edf_store.proofs.decode.records_in.Given as goal
 
 abbrev pub invariant-loop-row : goal.invariant-loop-row
 invariant-loop-row l = (into_iter_len l.row-iterator ≡ length (into_iter_items l.row-iterator))
-    × ((k : Key) (ds : List DataRecord) → IsKey k → AllByRecursion (IsSoundRecord k) ds → map cells_of l.fn.rows.items ≡ map record_cells ds → IsPartRead (IsSoundRecord k) ds l.records.items (into_iter_items l.row-iterator))
+    × ((k : Key) (ds : List DataRecord) → IsKey k → AllByRecursion (IsSoundRecord k) ds →
+    map cells_of l.fn.rows.items ≡ map record_cells ds →
+    IsPartRead (IsSoundRecord k) ds l.records.items (into_iter_items l.row-iterator))

@@ -13,11 +13,18 @@ returns-in-Err c = record {
   foreign = λ all told.
       let item = c.bytes-item.is in
       let value = c.deref-bytes-items.ensures.value in
-      let is : c.bytes-item.result ≡ slice_index_or c.args.all.items c.loop-bytes.bytes-index c.bytes-item.result = cc in
+      let is : c.bytes-item.result ≡ slice_index_or c.args.all.items c.loop-bytes.bytes-index
+      c.bytes-item.result = cc in
       let within : c.loop-bytes.bytes-index < length c.args.all.items = search rules in
-      let of = subst IsOfKey (sym is) (all_index IsOfKey c.args.all.items all c.loop-bytes.bytes-index c.bytes-item.result within) in
+      let of = subst IsOfKey (sym is) (all_index IsOfKey c.args.all.items all
+      c.loop-bytes.bytes-index c.bytes-item.result within) in
       let bytes : c.as_slice.result.now ≡ c.bytes-item.result.items = search rules in
-      let memory = refused_for_memory c.as_slice.result.now c.in-Err.fault c.in-Err.ensures (of.0, of.1, bytes ∙ of.2) in
-      let clash : ◌≡◌ {A = StoreFault} fault.Memory fault.Foreign = sym (c.refusal_of.ensures.memory memory) ∙ told in
+      let memory = refused_for_memory c.as_slice.result.now c.in-Err.fault c.in-Err.ensures (
+        of.0,
+        of.1,
+        bytes ∙ of.2,
+      ) in
+      let clash : ◌≡◌ {A = StoreFault} fault.Memory fault.Foreign =
+      sym (c.refusal_of.ensures.memory memory) ∙ told in
       absurd (cc);
 }

@@ -20,32 +20,48 @@ returns-in_default-clause-moved g c h k n behind clean =
     let ahead = rw size at c.in_ok-read_ahead.ensures.ahead in
     let empty : length c.read_ahead.new.after.rows.items ≡ 0 = search rules in
     let left : length c.pop_front.new.self.items ≡ 0 = search rules in
-    ended_behind c.read_ahead.new.store.cap (at g.S.Store c.read_ahead.new.store) c.args.recording c.read_ahead.new.after h k n (ahead h k n behind clean) _ refl refl (no_items _ left) (last h k n behind (no_items _ empty))
+    ended_behind c.read_ahead.new.store.cap (at g.S.Store c.read_ahead.new.store) c.args.recording
+    c.read_ahead.new.after h k n (ahead h k n behind clean) _ refl refl (no_items _ left)
+    (last h k n behind (no_items _ empty))
 
 pub returns-in_err-data_record-clause-own : goal.returns-in_err-data_record-clause-own
 returns-in_err-data_record-clause-own g c clean =
     let size = to_z-of_z w64 c.args.recording c.ranges.recording in
     let ahead = rw size at c.in_ok-read_ahead.ensures.ahead in
-    let was_clean : HasCleanDisk (at g.S.Store c.args.store.now) = omega (arith, c.read_ahead.ensures.stays.crash.clean, clean) in
+    let was_clean : HasCleanDisk (at g.S.Store c.args.store.now) =
+    omega (arith, c.read_ahead.ensures.stays.crash.clean, clean) in
     let was = c.requires.ready was_clean in
     let it = ahead was.0 was.1 was.2 (λ _. was.3) clean in
-    let next = record_next c.read_ahead.new.store.cap (at g.S.Store c.read_ahead.new.store) c.args.recording c.read_ahead.new.after was.0 was.1 was.2 it c.in-Some.row c.pop_front.new.self.items c.in-Some.ensures.items in
-    let told = err_from_is_err_and c.from_residual-in_err-data_record.result c.from_residual-in_err-data_record.ensures.1 in
-    rw (told.1, told.2) (c.in_err-data_record.ensures.own was.1 next.data_record it.key next.sound next.cells)
+    let next = record_next c.read_ahead.new.store.cap (at g.S.Store c.read_ahead.new.store)
+    c.args.recording c.read_ahead.new.after was.0 was.1 was.2 it c.in-Some.row
+    c.pop_front.new.self.items c.in-Some.ensures.items in
+    let told = err_from_is_err_and c.from_residual-in_err-data_record.result
+    c.from_residual-in_err-data_record.ensures.1 in
+    rw (told.1, told.2) (c.in_err-data_record.ensures.own was.1 next.data_record it.key next.sound
+    next.cells)
 
 pub returns-clause-step : goal.returns-clause-step
 returns-clause-step g c clean h k n behind =
     let size = to_z-of_z w64 c.args.recording c.ranges.recording in
     let ahead = rw size at c.in_ok-read_ahead.ensures.ahead in
     let it = ahead h k n behind clean in
-    let next = record_next c.read_ahead.new.store.cap (at g.S.Store c.read_ahead.new.store) c.args.recording c.read_ahead.new.after h k n it c.in-Some.row c.pop_front.new.self.items c.in-Some.ensures.items in
-    read_next k (h k) n c.in-Some.row c.pop_front.new.self.items c.in_ok-data_record.data_record next (λ d sound cells. c.in_ok-data_record.ensures.read k d it.key sound cells)
+    let next = record_next c.read_ahead.new.store.cap (at g.S.Store c.read_ahead.new.store)
+    c.args.recording c.read_ahead.new.after h k n it c.in-Some.row c.pop_front.new.self.items
+    c.in-Some.ensures.items in
+    read_next k (h k) n c.in-Some.row c.pop_front.new.self.items c.in_ok-data_record.data_record
+    next (λ d sound cells. c.in_ok-data_record.ensures.read k d it.key sound cells)
 
 pub returns-clause-moved : goal.returns-clause-moved
 returns-clause-moved g c h k n behind clean =
     let size = to_z-of_z w64 c.args.recording c.ranges.recording in
     let ahead = rw size at c.in_ok-read_ahead.ensures.ahead in
     let it = ahead h k n behind clean in
-    let next = record_next c.read_ahead.new.store.cap (at g.S.Store c.read_ahead.new.store) c.args.recording c.read_ahead.new.after h k n it c.in-Some.row c.pop_front.new.self.items c.in-Some.ensures.items in
-    let place = read_next k (h k) n c.in-Some.row c.pop_front.new.self.items c.in_ok-data_record.data_record next (λ d sound cells. c.in_ok-data_record.ensures.read k d it.key sound cells) in
-    then_behind c.read_ahead.new.store.cap (at g.S.Store c.read_ahead.new.store) c.args.recording c.read_ahead.new.after h k n it _ refl c.in_ok-data_record.data_record place (search rules) next.others
+    let next = record_next c.read_ahead.new.store.cap (at g.S.Store c.read_ahead.new.store)
+    c.args.recording c.read_ahead.new.after h k n it c.in-Some.row c.pop_front.new.self.items
+    c.in-Some.ensures.items in
+    let place = read_next k (h k) n c.in-Some.row c.pop_front.new.self.items
+    c.in_ok-data_record.data_record next (λ d sound cells.
+    c.in_ok-data_record.ensures.read k d it.key sound cells) in
+    then_behind c.read_ahead.new.store.cap (at g.S.Store c.read_ahead.new.store) c.args.recording
+    c.read_ahead.new.after h k n it _ refl c.in_ok-data_record.data_record place (search rules)
+    next.others

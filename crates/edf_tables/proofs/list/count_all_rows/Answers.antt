@@ -14,16 +14,25 @@ use Rattle.edf_tables.proofs.SameText.{plain_of, shown_of, unread_of}
 use Rattle.edf_tables.proofs.list.count_all_rows.Goals as goal
 
 pub rows_shown-requires : goal.rows_shown-requires
-rows_shown-requires g c clean = plain_of _ _ _ (plain_at count_all_text _ _ count_all_is (state g.S.Store c.args.conn.now) (c.requires.schema clean)) refl
+rows_shown-requires g c clean =
+    plain_of _ _ _ (plain_at count_all_text _ _ count_all_is (state g.S.Store c.args.conn.now)
+    (c.requires.schema clean)) refl
 
 pub returns-clause-count : goal.returns-clause-count
-returns-clause-count g c clean = if_ok_then c.first_count.result c.first_count.ensures.told (λ found e. count_all_shown found (state g.S.Store c.args.conn.now) (state g.S.Store c.rows_shown.new.conn) c.in_ok-rows.rows.items (c.requires.schema (omega (arith, c.rows_shown.ensures.survives.clean))) (shown_of _ _ _ _ _ _ (c.in_ok-rows.ensures.shown clean) refl) e)
+returns-clause-count g c clean = if_ok_then c.first_count.result c.first_count.ensures.told
+    (λ found e. count_all_shown found (state g.S.Store c.args.conn.now)
+    (state g.S.Store c.rows_shown.new.conn) c.in_ok-rows.rows.items
+    (c.requires.schema (omega (arith, c.rows_shown.ensures.survives.clean)))
+    (shown_of _ _ _ _ _ _ (c.in_ok-rows.ensures.shown clean) refl) e)
 
 pub returns-in_err-rows-clause-why : goal.returns-in_err-rows-clause-why
 returns-in_err-rows-clause-why g c clean =
     let old = state g.S.Store c.args.conn.now in
     let new = state g.S.Store c.rows_shown.new.conn in
-    let why : IsUntold old new c.in_err-rows.field-0.0 = inl (query_unread count_all_text _ _ count_all_is ([]) old new _ (c.requires.schema (omega (arith, c.rows_shown.ensures.survives.clean))) count_all_alone count_all_taken (unread_of _ _ _ _ _ _ (c.in_err-rows.ensures.why clean) refl)) in
+    let why : IsUntold old new c.in_err-rows.field-0.0 =
+    inl (query_unread count_all_text _ _ count_all_is ([]) old new _
+    (c.requires.schema (omega (arith, c.rows_shown.ensures.survives.clean))) count_all_alone
+    count_all_taken (unread_of _ _ _ _ _ _ (c.in_err-rows.ensures.why clean) refl)) in
     let told = err_from_is_err_and c.from_residual.result c.from_residual.ensures.1 in
     rw (told.1, told.2) why
 
@@ -31,16 +40,23 @@ pub returns-clause-why : goal.returns-clause-why
 returns-clause-why g c clean =
     let old = state g.S.Store c.args.conn.now in
     let new = state g.S.Store c.rows_shown.new.conn in
-    untold_if c.first_count.result old new c.in_ok-rows.rows.items (count_all_some old new c.in_ok-rows.rows.items (c.requires.schema (omega (arith, c.rows_shown.ensures.survives.clean))) (shown_of _ _ _ _ _ _ (c.in_ok-rows.ensures.shown clean) refl)) c.first_count.ensures.why
+    untold_if c.first_count.result old new c.in_ok-rows.rows.items
+    (count_all_some old new c.in_ok-rows.rows.items
+    (c.requires.schema (omega (arith, c.rows_shown.ensures.survives.clean)))
+    (shown_of _ _ _ _ _ _ (c.in_ok-rows.ensures.shown clean) refl)) c.first_count.ensures.why
 
 pub returns-in_err-rows-clause-refused : goal.returns-in_err-rows-clause-refused
 returns-in_err-rows-clause-refused g c clean =
     let old = state g.S.Store c.args.conn.now in
     let new = state g.S.Store c.rows_shown.new.conn in
-    let left : IsLeft old new = query_left count_all_text [] old new (plain_at count_all_text _ _ count_all_is old (c.requires.schema (omega (arith, c.rows_shown.ensures.survives.clean)))) _ (unread_of _ _ _ _ _ _ (c.in_err-rows.ensures.why clean) refl) in
+    let left : IsLeft old new = query_left count_all_text [] old new
+    (plain_at count_all_text _ _ count_all_is old
+    (c.requires.schema (omega (arith, c.rows_shown.ensures.survives.clean)))) _
+    (unread_of _ _ _ _ _ _ (c.in_err-rows.ensures.why clean) refl) in
     on_err _ left
 
 pub returns-clause-refused : goal.returns-clause-refused
 returns-clause-refused g c clean =
-    let left : IsLeft (state g.S.Store c.args.conn.now) (state g.S.Store c.rows_shown.new.conn) = inl (c.in_ok-rows.ensures.same clean) in
+    let left : IsLeft (state g.S.Store c.args.conn.now) (state g.S.Store c.rows_shown.new.conn) =
+    inl (c.in_ok-rows.ensures.same clean) in
     on_err c.first_count.result left

@@ -13,16 +13,30 @@ use Rattle.edf_tables.proofs.SameText.{plain_of, shown_of, unread_of}
 use Rattle.edf_tables.proofs.records.count_rows.Goals as goal
 
 pub rows_shown-requires : goal.rows_shown-requires
-rows_shown-requires g c clean = plain_of _ _ _ (plain_at count_text _ _ count_is (state g.S.Store c.args.conn.now) (c.requires.schema clean)) refl
+rows_shown-requires g c clean =
+    plain_of _ _ _ (plain_at count_text _ _ count_is (state g.S.Store c.args.conn.now)
+    (c.requires.schema clean)) refl
 
 pub returns-clause-count : goal.returns-clause-count
-returns-clause-count g c clean = if_ok_then c.first_count.result c.first_count.ensures.told (λ found e. count_shown c.args.recording found (state g.S.Store c.args.conn.now) (state g.S.Store c.rows_shown.new.conn) c.in_ok-rows.rows.items (c.requires.schema (omega (arith, c.rows_shown.ensures.survives.clean))) (shown_of _ _ _ _ _ _ (rw (c.params-to_sql.ensures ∙ ap Int (to_z-of_z w64 c.args.recording c.ranges.recording)) at (c.in_ok-rows.ensures.shown clean)) refl) e)
+returns-clause-count g c clean = if_ok_then c.first_count.result c.first_count.ensures.told
+    (λ found e. count_shown c.args.recording found (state g.S.Store c.args.conn.now)
+    (state g.S.Store c.rows_shown.new.conn) c.in_ok-rows.rows.items
+    (c.requires.schema (omega (arith, c.rows_shown.ensures.survives.clean)))
+    (shown_of _ _ _ _ _ _ (rw (c.params-to_sql.ensures
+    ∙ ap Int (to_z-of_z w64 c.args.recording c.ranges.recording)) at
+    (c.in_ok-rows.ensures.shown clean)) refl) e)
 
 pub returns-in_err-rows-clause-why : goal.returns-in_err-rows-clause-why
 returns-in_err-rows-clause-why g c clean =
     let old = state g.S.Store c.args.conn.now in
     let new = state g.S.Store c.rows_shown.new.conn in
-    let why : IsUntold old new c.in_err-rows.field-0.0 = inl (query_unread count_text _ _ count_is (Int c.args.recording ∷ []) old new _ (c.requires.schema (omega (arith, c.rows_shown.ensures.survives.clean))) count_alone (count_taken c.args.recording) (unread_of _ _ _ _ _ _ (rw (c.params-to_sql.ensures ∙ ap Int (to_z-of_z w64 c.args.recording c.ranges.recording)) at (c.in_err-rows.ensures.why clean)) refl)) in
+    let why : IsUntold old new c.in_err-rows.field-0.0 =
+    inl (query_unread count_text _ _ count_is (Int c.args.recording ∷ []) old new _
+    (c.requires.schema (omega (arith, c.rows_shown.ensures.survives.clean))) count_alone
+    (count_taken c.args.recording)
+    (unread_of _ _ _ _ _ _ (rw (c.params-to_sql.ensures
+    ∙ ap Int (to_z-of_z w64 c.args.recording c.ranges.recording)) at
+    (c.in_err-rows.ensures.why clean)) refl)) in
     let told = err_from_is_err_and c.from_residual.result c.from_residual.ensures.1 in
     rw (told.1, told.2) why
 
@@ -30,4 +44,9 @@ pub returns-clause-why : goal.returns-clause-why
 returns-clause-why g c clean =
     let old = state g.S.Store c.args.conn.now in
     let new = state g.S.Store c.rows_shown.new.conn in
-    untold_if c.first_count.result old new c.in_ok-rows.rows.items (count_some c.args.recording old new c.in_ok-rows.rows.items (c.requires.schema (omega (arith, c.rows_shown.ensures.survives.clean))) (shown_of _ _ _ _ _ _ (rw (c.params-to_sql.ensures ∙ ap Int (to_z-of_z w64 c.args.recording c.ranges.recording)) at (c.in_ok-rows.ensures.shown clean)) refl)) c.first_count.ensures.why
+    untold_if c.first_count.result old new c.in_ok-rows.rows.items
+    (count_some c.args.recording old new c.in_ok-rows.rows.items
+    (c.requires.schema (omega (arith, c.rows_shown.ensures.survives.clean)))
+    (shown_of _ _ _ _ _ _ (rw (c.params-to_sql.ensures
+    ∙ ap Int (to_z-of_z w64 c.args.recording c.ranges.recording)) at
+    (c.in_ok-rows.ensures.shown clean)) refl)) c.first_count.ensures.why

@@ -9,23 +9,33 @@ use Rattle.edf_tables.proofs.transaction.roll_back.Goals as goal
 
 pub returns-clause-undone : goal.returns-clause-undone
 returns-clause-undone g c clean =
-    rolled_back (state g.S.Store c.args.conn.now) (state g.S.Store c.execute.new.self) _ (runs_of _ _ _ _ _ _ (c.in_ok-execute.ensures.runs clean) refl)
+    rolled_back (state g.S.Store c.args.conn.now) (state g.S.Store c.execute.new.self) _
+    (runs_of _ _ _ _ _ _ (c.in_ok-execute.ensures.runs clean) refl)
 
 pub returns-clause-survives : goal.returns-clause-survives
-returns-clause-survives g c = rollback_survives (state g.S.Store c.args.conn.now) (state g.S.Store c.execute.new.self) (crash_of _ _ _ _ _ c.execute.ensures.survives refl)
+returns-clause-survives g c = rollback_survives (state g.S.Store c.args.conn.now)
+    (state g.S.Store c.execute.new.self) (crash_of _ _ _ _ _ c.execute.ensures.survives refl)
 
 pub returns-in_err-execute-clause-survives : goal.returns-in_err-execute-clause-survives
-returns-in_err-execute-clause-survives g c = rollback_survives (state g.S.Store c.args.conn.now) (state g.S.Store c.execute.new.self) (crash_of _ _ _ _ _ c.execute.ensures.survives refl)
+returns-in_err-execute-clause-survives g c =
+    rollback_survives (state g.S.Store c.args.conn.now) (state g.S.Store c.execute.new.self)
+    (crash_of _ _ _ _ _ c.execute.ensures.survives refl)
 
 pub returns-in_err-execute-clause-kept : goal.returns-in_err-execute-clause-kept
-returns-in_err-execute-clause-kept g c clean = write_refused _ _ (state g.S.Store c.args.conn.now) (state g.S.Store c.execute.new.self) _ (c.in_err-execute.ensures.runs clean)
+returns-in_err-execute-clause-kept g c clean =
+    write_refused _ _ (state g.S.Store c.args.conn.now) (state g.S.Store c.execute.new.self) _
+    (c.in_err-execute.ensures.runs clean)
 
 pub returns-clause-kept : goal.returns-clause-kept
 returns-clause-kept g c clean =
-    undone_keeps (state g.S.Store c.args.conn.now) (state g.S.Store c.execute.new.self) (rolled_back (state g.S.Store c.args.conn.now) (state g.S.Store c.execute.new.self) _ (runs_of _ _ _ _ _ _ (c.in_ok-execute.ensures.runs clean) refl))
+    undone_keeps (state g.S.Store c.args.conn.now) (state g.S.Store c.execute.new.self)
+    (rolled_back (state g.S.Store c.args.conn.now) (state g.S.Store c.execute.new.self) _
+    (runs_of _ _ _ _ _ _ (c.in_ok-execute.ensures.runs clean) refl))
 
 pub returns-in_err-execute-clause-why : goal.returns-in_err-execute-clause-why
 returns-in_err-execute-clause-why g c clean =
-    let why = rollback_refused (state g.S.Store c.args.conn.now) (state g.S.Store c.execute.new.self) _ (runs_of _ _ _ _ _ _ (c.in_err-execute.ensures.runs clean) refl) in
+    let why = rollback_refused (state g.S.Store c.args.conn.now)
+    (state g.S.Store c.execute.new.self) _
+    (runs_of _ _ _ _ _ _ (c.in_err-execute.ensures.runs clean) refl) in
     let told = err_from_is_err_and c.from_residual.result c.from_residual.ensures.1 in
     rw (told.1, told.2) why

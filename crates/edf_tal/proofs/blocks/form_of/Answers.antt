@@ -6,8 +6,14 @@ use Rattle.edf_tal.proofs.blocks.form_of.Goals as goal
 pub returns-then-not-are_zeros : goal.returns-then-not-are_zeros
 returns-then-not-are_zeros c =
     let v = c.in-Ok.totals in
-    broken-one c.args.block.now v.rest.now (survey-behind c.args.block.now v.rest.now c.args.file_start v.in_window v.count v.text_bytes c.in-Ok.ensures.0)
-    c.in-Ok.ensures.1 (λ z. absurd (grind (arith, c.are_zeros.ensures.1 z, c.if-not-are_zeros.true)))
+    broken-one c.args.block.now v.rest.now
+    (survey-behind c.args.block.now v.rest.now c.args.file_start v.in_window v.count
+    v.text_bytes c.in-Ok.ensures.0)
+    c.in-Ok.ensures.1 (λ z. absurd (grind (
+      arith,
+      c.are_zeros.ensures.1 z,
+      c.if-not-are_zeros.true,
+    )))
 
 pub returns-then-not-are_zeros-2 : goal.returns-then-not-are_zeros-2
 returns-then-not-are_zeros-2 c =
@@ -17,8 +23,10 @@ returns-then-not-are_zeros-2 c =
 pub returns-else-not-are_zeros : goal.returns-else-not-are_zeros
 returns-else-not-are_zeros c =
     let v = c.in-Ok.totals in
-    surveyed-one c.args.block.now v.rest.now c.args.file_start v.in_window v.count v.text_bytes c.in-Ok.ensures.0 (c.if-not-are_zeros.ensures.0 refl)
+    surveyed-one c.args.block.now v.rest.now c.args.file_start v.in_window v.count v.text_bytes
+    c.in-Ok.ensures.0 (c.if-not-are_zeros.ensures.0 refl)
 
 pub returns-else-not-are_zeros-2 : goal.returns-else-not-are_zeros-2
 returns-else-not-are_zeros-2 c =
-    form-bad c.args.block.now c.in-Err.bad.rest.now c.args.file_start c.in-Err.bad.offset c.in-Err.ensures.0 (c.if-not-are_zeros-2.ensures.0 refl) c.in-Err.ensures.2
+    form-bad c.args.block.now c.in-Err.bad.rest.now c.args.file_start c.in-Err.bad.offset
+    c.in-Err.ensures.0 (c.if-not-are_zeros-2.ensures.0 refl) c.in-Err.ensures.2

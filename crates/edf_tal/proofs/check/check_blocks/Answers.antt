@@ -11,11 +11,18 @@ returns-in_err-sums c = let told = c.in_err-sums.ensures c.args.place in search 
 
 pub check_tals-requires : goal.check_tals-requires
 check_tals-requires c =
-    let parts = cut-first c.args.sizes.now c.args.block.now c.requires.some in
-    (_, subst (λ (bs : List (List ℕ)). AreSurveyed bs c.args.file_start c.in_ok-sums.sums) parts c.in_ok-sums.ensures)
+    let parts = cut-first c.args.sizes.now c.args.block.now c.requires.some in (
+      _,
+      subst (λ (bs : List (List ℕ)). AreSurveyed bs c.args.file_start c.in_ok-sums.sums) parts
+          c.in_ok-sums.ensures,
+    )
 
 pub returns : goal.returns
 returns c =
     let parts = cut-first c.args.sizes.now c.args.block.now c.requires.some in
-    subst (λ (bs : List (List ℕ)). MatchResult c.check_tals.result (λ (x : Checked). IsChecked bs c.args.file_start c.args.place x.start x.count) (IsBlocksFault bs c.args.file_start c.args.place))
-    (sym parts) (c.check_tals.ensures _ (subst (λ (bs : List (List ℕ)). AreSurveyed bs c.args.file_start c.in_ok-sums.sums) parts c.in_ok-sums.ensures))
+    subst (λ (bs : List (List ℕ)). MatchResult c.check_tals.result
+    (λ (x : Checked). IsChecked bs c.args.file_start c.args.place x.start x.count)
+    (IsBlocksFault bs c.args.file_start c.args.place))
+    (sym parts) (c.check_tals.ensures _
+    (subst (λ (bs : List (List ℕ)). AreSurveyed bs c.args.file_start c.in_ok-sums.sums) parts
+    c.in_ok-sums.ensures))

@@ -8,11 +8,16 @@ use Rattle.edf_tal.proofs.read.list_notes.Goals as goal
 use Rattle.edf_tal.proofs.read.list_notes.Goals.{After-split_at}
 
 -- what the blocks give, by the first and those after it
-the-first : (c : After-split_at) (p : Place) (start : ℕ) (list : List Annotation) → AreRead (cut c.args.sizes.now c.args.block.now) c.args.file_start p start list
-    → HasFirst c.args.file_start c.split_at.result.0.now (cut (take (length c.args.sizes.now - 1) (drop 1 c.args.sizes.now)) c.split_at.result.1.now) list
+the-first : (c : After-split_at) (p : Place) (start : ℕ) (list : List Annotation) →
+    AreRead (cut c.args.sizes.now c.args.block.now) c.args.file_start p start list
+    → HasFirst c.args.file_start c.split_at.result.0.now
+    (cut (take (length c.args.sizes.now - 1) (drop 1 c.args.sizes.now)) c.split_at.result.1.now)
+    list
 the-first c p start list r =
-    let parts = cut-split c.args.sizes.now c.args.block.now c.split_at.result.0.now c.split_at.result.1.now c.requires.some c.split_at.ensures.front c.split_at.ensures.back in
-    has-first c.args.file_start p c.split_at.result.0.now _ start list (subst (λ (bs : List (List ℕ)). AreRead bs c.args.file_start p start list) parts r)
+    let parts = cut-split c.args.sizes.now c.args.block.now c.split_at.result.0.now
+    c.split_at.result.1.now c.requires.some c.split_at.ensures.front c.split_at.ensures.back in
+    has-first c.args.file_start p c.split_at.result.0.now _ start list
+    (subst (λ (bs : List (List ℕ)). AreRead bs c.args.file_start p start list) parts r)
 
 pub push_first-requires : goal.push_first-requires
 push_first-requires c =
@@ -23,7 +28,8 @@ push_first-requires c =
 pub push_blocks-requires-clause-sound : goal.push_blocks-requires-clause-sound
 push_blocks-requires-clause-sound c =
     let r = c.requires.read in
-    let h = the-first (goal.at.push_blocks-requires-clause-sound c).After-split_at r.0 r.1 r.2 r.3 in
+    let h = the-first (goal.at.push_blocks-requires-clause-sound c).After-split_at r.0 r.1 r.2
+    r.3 in
     (h.others, h.rest)
 
 pub returns : goal.returns
@@ -32,5 +38,6 @@ returns c = λ p start list r.
     let first = c.in_ok-push_first.ensures h.tals h.sound h.timed in
     let later = c.in_ok-push_blocks.ensures h.others h.rest in
     let rest = flat_map (tal_annotations c.args.file_start) (all_tals h.others) in
-    let none = ap (λ (w : List Annotation). w ++ annotations c.args.file_start h.tals) c.in_ok-list.ensures.items in
+    let none = ap (λ (w : List Annotation). w ++ annotations c.args.file_start h.tals)
+    c.in_ok-list.ensures.items in
     later ∙ ap (λ (w : List Annotation). w ++ rest) (first ∙ none) ∙ sym h.list_is

@@ -5,11 +5,17 @@ use Rattle.edf_tal.proofs.scan.check_texts.Goals as goal
 
 pub overflow_add-count : goal.overflow_add-count
 overflow_add-count c =
-    let room = checked-room c.args.texts.now c.loop-text.rest.now c.loop-text.count c.loop-text.invariant in
+    let room = checked-room c.args.texts.now c.loop-text.rest.now c.loop-text.count
+    c.loop-text.invariant in
     let fits = c.well_formed in
-    omega (arith, ap length c.in-Some.ensures.1, length-append c.in-Some.text.now (20 ∷ c.in-Some.more.now))
+    omega (
+      arith,
+      ap length c.in-Some.ensures.1,
+      length-append c.in-Some.text.now (20 ∷ c.in-Some.more.now),
+    )
 
 pub loop-text-preserved : goal.loop-text-preserved
 loop-text-preserved c =
-    checked-more c.args.texts.now c.loop-text.rest.now c.in-Some.text.now c.in-Some.more.now c.loop-text.count c.loop-text.invariant
+    checked-more c.args.texts.now c.loop-text.rest.now c.in-Some.text.now c.in-Some.more.now
+    c.loop-text.count c.loop-text.invariant
     c.in-Some.ensures.0 c.in-Some.ensures.1 (c.if-not-is_utf8.ensures.0 refl)

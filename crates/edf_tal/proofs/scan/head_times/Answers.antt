@@ -7,6 +7,8 @@ use Rattle.edf_tal.proofs.scan.head_times.Goals as goal
 
 pub returns-in-len1-up : goal.returns-in-len1-up
 returns-in-len1-up c =
-    subst (λ (h : List ℕ). MatchOption c.signed_times.result ((z : ℤ) (d : Option ℕ) → ¬ IsHead h z d)
-    (λ (t : Times). (z : ℤ) × (d : Option ℕ) × IsHead h z d × TellsOnset t.ahead t.onset z × TellsDuration t.duration d))
+    subst (λ (h : List ℕ). MatchOption c.signed_times.result ((z : ℤ) (d : Option ℕ) →
+    ¬ IsHead h z d)
+    (λ (t : Times). (z : ℤ) × (d : Option ℕ) × IsHead h z d × TellsOnset t.ahead t.onset z
+    × TellsDuration t.duration d))
     (head-apart c.args.head.now c.in-len1-up.len_at_least) c.signed_times.ensures

@@ -3,4 +3,5 @@ use Rattle.edf_tal.proofs.Heads.{ended-tests}
 use Rattle.edf_tal.proofs.scan.is_ended.Goals as goal
 
 pub returns-else-is_empty : goal.returns-else-is_empty
-returns-else-is_empty c = ended-tests c.args.bytes.now (grind (arith, c.is_empty.ensures, c.if-is_empty.false))
+returns-else-is_empty c = ended-tests c.args.bytes.now
+    (grind (arith, c.is_empty.ensures, c.if-is_empty.false))

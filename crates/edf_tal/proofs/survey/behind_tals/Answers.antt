@@ -7,8 +7,13 @@ loop-tal-init c = behind-none c.args.bytes.now
 
 pub loop-tal-preserved : goal.loop-tal-preserved
 loop-tal-preserved c =
-    behind-more c.args.bytes.now c.loop-tal.rest.now c.in-Some.tal.texts.now c.in-Some.tal.rest.now c.in-Some.ensures.0 c.loop-tal.invariant c.in-Some.ensures.1
+    behind-more c.args.bytes.now c.loop-tal.rest.now c.in-Some.tal.texts.now c.in-Some.tal.rest.now
+    c.in-Some.ensures.0 c.loop-tal.invariant c.in-Some.ensures.1
 
 pub loop-tal-smaller : goal.loop-tal-smaller
 loop-tal-smaller c =
-    omega (arith, front-shorter c.loop-tal.rest.now c.in-Some.tal.texts.now c.in-Some.tal.rest.now c.in-Some.ensures.0 c.in-Some.ensures.1)
+    omega (
+      arith,
+      front-shorter c.loop-tal.rest.now c.in-Some.tal.texts.now c.in-Some.tal.rest.now
+          c.in-Some.ensures.0 c.in-Some.ensures.1,
+    )

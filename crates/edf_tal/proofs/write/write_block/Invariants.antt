@@ -4,4 +4,5 @@ use Rattle.edf_tal.specs.Canonical.{tal_text, time_keeping}
 use Rattle.edf_tal.proofs.write.write_block.Given as goal
 
 abbrev pub invariant-loop-note : goal.invariant-loop-note
-invariant-loop-note l = l.block.items ≡ flat_map (tal_text l.base) (time_keeping l.fn.start ∷ take l.note-index l.notes)
+invariant-loop-note l = l.block.items ≡ flat_map (tal_text l.base)
+    (time_keeping l.fn.start ∷ take l.note-index l.notes)

@@ -3,13 +3,19 @@ use Rattle.std.proofs.lemmas.List.{nil_from_length}
 use Rattle.sqlite.specs.State.{HasCleanDisk}
 use Rattle.edf_header.specs.Key.{MayStart}
 use Rattle.edf_store.specs.Held.{at, Stays}
-use Rattle.edf_store.specs.Transaction.{SeesOn, EachHasRecordIn, IsAddedIn, MayTakeIn, AreNearIn, IsCountIn}
+use Rattle.edf_store.specs.Transaction.{SeesOn, EachHasRecordIn, IsAddedIn, MayTakeIn, AreNearIn}
+use Rattle.edf_store.specs.Transaction.{IsCountIn}
 use Rattle.edf_store.proofs.Whole.{whole_but, still_but, whole_added}
 use Rattle.edf_tests.proofs.Rooms.{may_take}
 use Rattle.edf_tests.proofs.adding.fill.Goals as goal
 
 pub near-requires-clause-recording : goal.near-requires-clause-recording
-near-requires-clause-recording g c = (c.args.identity.now, c.in_ok-before.ensures.same.ids c.in_ok-id.id.row c.args.identity.now c.in_ok-id.ensures.found, c.duration.ensures.value)
+near-requires-clause-recording g c = (
+  c.args.identity.now,
+  c.in_ok-before.ensures.same.ids c.in_ok-id.id.row c.args.identity.now
+      c.in_ok-id.ensures.found,
+  c.duration.ensures.value,
+)
 
 pub add-requires-clause-room : goal.add-requires-clause-room
 add-requires-clause-room g c =
@@ -24,7 +30,8 @@ add-requires-clause-room g c =
     let cap_a = c.recording.ensures.stays.cap in
     let cap_b = c.count.ensures.stays.cap ∙ cap_a in
     let cap_d = c.near.ensures.stays.cap ∙ cap_b in
-    let oa = subst (λ n. SeesOn n (at g.S.Store c.args.tx.now.store.now) a) cap_a c.in_ok-id.ensures.same in
+    let oa = subst (λ n. SeesOn n (at g.S.Store c.args.tx.now.store.now) a) cap_a
+    c.in_ok-id.ensures.same in
     let ab = subst (λ n. SeesOn n a b) cap_b c.in_ok-before.ensures.same in
     let bd = subst (λ n. SeesOn n b d) cap_d c.in_ok-near.ensures.same in
     let few : c.in_ok-before.before < cap = omega (arith, c.if-before-cap.false, c.requires.cap) in
@@ -32,18 +39,24 @@ add-requires-clause-room g c =
     let none : records ≡ [] = nil_from_length records empty in
     let kept = c.start-start.ensures.kept in
     subst (λ n. MayTakeIn n d id r) (sym cap_d)
-    (may_take cap a b d (λ clean. omega (arith, c.count.ensures.stays.crash.clean, clean)) (λ clean. omega (arith, c.near.ensures.stays.crash.clean, clean)) oa.running ab bd id k r
+    (may_take cap a b d (λ clean. omega (arith, c.count.ensures.stays.crash.clean, clean))
+    (λ clean. omega (arith, c.near.ensures.stays.crash.clean, clean)) oa.running ab bd id k r
     c.in_ok-before.before records c.in_ok-id.ensures.found
-    (λ clean. subst (λ n. IsCountIn n a id c.in_ok-before.before) cap_a (c.in_ok-before.ensures.count clean))
-    (λ clean. subst (λ n. AreNearIn cap b id n records) c.start-start.ensures.value (subst (λ n. AreNearIn n b id c.start-start.result records) cap_b (c.in_ok-near.ensures.near clean)))
+    (λ clean. subst (λ n. IsCountIn n a id c.in_ok-before.before) cap_a
+    (c.in_ok-before.ensures.count clean))
+    (λ clean. subst (λ n. AreNearIn cap b id n records) c.start-start.ensures.value
+    (subst (λ n. AreNearIn n b id c.start-start.result records) cap_b
+    (c.in_ok-near.ensures.near clean)))
     none few
     (record {
-      samples_len = ap length (sym c.samples.ensures.value) ∙ c.if-samples-ordinary_bytes.false ∙ c.ordinary_bytes.ensures.value;
+      samples_len = ap length (sym c.samples.ensures.value) ∙ c.if-samples-ordinary_bytes.false
+          ∙ c.ordinary_bytes.ensures.value;
       start = kept.start;
       limits = kept.size.annotations;
       notes = kept.notes;
     })
-    (λ none_there. subst (λ n. MayStart k n) c.start-start.ensures.value (c.may_start.ensures.0 c.if-not-may_start.false)))
+    (λ none_there. subst (λ n. MayStart k n) c.start-start.ensures.value
+    (c.may_start.ensures.0 c.if-not-may_start.false)))
 
 pub look-requires-clause-whole : goal.look-requires-clause-whole
 look-requires-clause-whole g c =
@@ -65,14 +78,23 @@ look-requires-clause-whole g c =
     let bd = subst (λ n. SeesOn n b d) cap_d c.in_ok-near.ensures.same in
     let added = subst (λ n. IsAddedIn n d e id r) cap_e c.in_ok-add.ensures.added in
     let under = bd.ids id k (ab.ids id k c.in_ok-id.ensures.found) in
-    let but_a = whole_but cap o a (λ clean. omega (arith, c.recording.ensures.stays.crash.clean, clean)) c.requires.running oa k c.in_ok-id.ensures.only c.requires.whole in
-    let but_b = still_but cap a b (λ clean. omega (arith, c.count.ensures.stays.crash.clean, clean)) oa.running ab k c.in_ok-before.ensures.only but_a in
-    let but_d = still_but cap b d (λ clean. omega (arith, c.near.ensures.stays.crash.clean, clean)) ab.running bd k c.in_ok-near.ensures.only but_b in
+    let but_a = whole_but cap o a (λ clean. omega (
+      arith,
+      c.recording.ensures.stays.crash.clean,
+      clean,
+    )) c.requires.running oa k c.in_ok-id.ensures.only c.requires.whole in
+    let but_b = still_but cap a b (λ clean. omega (arith, c.count.ensures.stays.crash.clean, clean))
+    oa.running ab k c.in_ok-before.ensures.only but_a in
+    let but_d = still_but cap b d (λ clean. omega (arith, c.near.ensures.stays.crash.clean, clean))
+    ab.running bd k c.in_ok-near.ensures.only but_b in
     subst (λ n. EachHasRecordIn n e) (sym cap_e)
-    (whole_added cap d e (λ clean. omega (arith, c.add.ensures.stays.crash.clean, clean)) bd.running k id r added under c.in_ok-add.ensures.only but_d)
+    (whole_added cap d e (λ clean. omega (arith, c.add.ensures.stays.crash.clean, clean)) bd.running
+    k id r added under c.in_ok-add.ensures.only but_d)
 
 pub look-requires-clause-recording : goal.look-requires-clause-recording
 look-requires-clause-recording g c =
     let id = c.in_ok-id.id.row in
     let k = c.args.identity.now in
-    c.in_ok-add.ensures.added.ids id k (c.in_ok-near.ensures.same.ids id k (c.in_ok-before.ensures.same.ids id k c.in_ok-id.ensures.found))
+    c.in_ok-add.ensures.added.ids id k
+    (c.in_ok-near.ensures.same.ids id k
+    (c.in_ok-before.ensures.same.ids id k c.in_ok-id.ensures.found))

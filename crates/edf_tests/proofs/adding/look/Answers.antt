@@ -6,7 +6,12 @@ use Rattle.edf_store.proofs.Whole.{still_whole}
 use Rattle.edf_tests.proofs.adding.look.Goals as goal
 
 pub near-requires-clause-recording : goal.near-requires-clause-recording
-near-requires-clause-recording g c = (c.args.identity.now, c.in_ok-after.ensures.same.ids c.args.id.row c.args.identity.now c.requires.recording, c.duration.ensures.value)
+near-requires-clause-recording g c = (
+  c.args.identity.now,
+  c.in_ok-after.ensures.same.ids c.args.id.row c.args.identity.now
+      c.requires.recording,
+  c.duration.ensures.value,
+)
 
 pub returns-clause-whole : goal.returns-clause-whole
 returns-clause-whole g c =
@@ -19,5 +24,7 @@ returns-clause-whole g c =
     let ab = subst (λ n. SeesOn n a b) cap_b c.in_ok-after.ensures.same in
     let bd = subst (λ n. SeesOn n b d) cap_d c.in_ok-near.ensures.same in
     subst (λ n. EachHasRecordIn n d) (sym cap_d)
-    (still_whole cap b d (λ clean. omega (arith, c.near.ensures.stays.crash.clean, clean)) ab.running bd c.in_ok-near.ensures.only
-    (still_whole cap a b (λ clean. omega (arith, c.count.ensures.stays.crash.clean, clean)) c.requires.running ab c.in_ok-after.ensures.only c.requires.whole))
+    (still_whole cap b d (λ clean. omega (arith, c.near.ensures.stays.crash.clean, clean))
+    ab.running bd c.in_ok-near.ensures.only
+    (still_whole cap a b (λ clean. omega (arith, c.count.ensures.stays.crash.clean, clean))
+    c.requires.running ab c.in_ok-after.ensures.only c.requires.whole))

@@ -4,8 +4,10 @@ use Rattle.jiff_core.proofs.SignedLemmas.{signed_arith}
 use Rattle.edf_time.proofs.calendar.date_of.Goals as goal
 use Rattle.edf_time.proofs.calendar.date_of.Goals.{After-from_days_since_min-date}
 
-years : (c : After-from_days_since_min-date) → IsInYears c.from_days_since_min-date.result c.args.days
-years c = in-years c.from_days_since_min-date.result c.args.days c.requires c.from_days_since_min-date.ensures
+years : (c : After-from_days_since_min-date) →
+    IsInYears c.from_days_since_min-date.result c.args.days
+years c = in-years c.from_days_since_min-date.result c.args.days c.requires
+    c.from_days_since_min-date.ensures
 
 pub overflow_cast-result : goal.overflow_cast-result
 overflow_cast-result c =
@@ -16,7 +18,8 @@ pub returns-clause-is_day : goal.returns-clause-is_day
 returns-clause-is_day c =
     let date = c.from_days_since_min-date.result in
     let y = years (goal.at.returns-clause-is_day c).After-from_days_since_min-date in
-    IsDay-date date (unsigned_abs (to_z w16 (of_z w16 date.year))) c.args.days (year-back _ _ y) y.number
+    IsDay-date date (unsigned_abs (to_z w16 (of_z w16 date.year))) c.args.days (year-back _ _ y)
+    y.number
 
 pub returns-clause-from : goal.returns-clause-from
 returns-clause-from c =

@@ -1,4 +1,5 @@
-use Rattle.edf_time.proofs.SomeText.{digits-text, letters-text, date-text, id_date-text, time-text, instant-text}
+use Rattle.edf_time.proofs.SomeText.{digits-text, letters-text, date-text, id_date-text, time-text}
+use Rattle.edf_time.proofs.SomeText.{instant-text}
 use Rattle.edf_time.proofs.laws.each_has_a_text.Goals as goal
 
 pub returns-clause-date : goal.returns-clause-date

@@ -1,6 +1,7 @@
 use Rattle.std.proofs.lemmas.List.Elements.{All-from_recursion}
 use Rattle.edf_time.specs.Civil.{IsVisible}
-use Rattle.edf_time.proofs.VisibleBytes.{date-visible, time-visible, id_date-visible, instant-visible}
+use Rattle.edf_time.proofs.VisibleBytes.{date-visible, time-visible, id_date-visible}
+use Rattle.edf_time.proofs.VisibleBytes.{instant-visible}
 use Rattle.edf_time.proofs.laws.text_bytes.Goals as goal
 
 pub returns : goal.returns

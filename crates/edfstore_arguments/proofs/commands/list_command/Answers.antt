@@ -7,6 +7,8 @@ use Rattle.edfstore_arguments.proofs.commands.list_command.Goals as goal
 
 pub returns : goal.returns
 returns c =
-    let start = told_reads c.new.result c.about.result c.long_about.result c.after_help.result (new_app (codes "list")) _ _ _ (c.new.ensures.app, c.new.ensures.local)
+    let start = told_reads c.new.result c.about.result c.long_about.result c.after_help.result
+    (new_app (codes "list")) _ _ _ (c.new.ensures.app, c.new.ensures.local)
     c.about.ensures c.long_about.ensures c.after_help.ensures in
-    IfOk-weaker c.arg.result _ _ (λ r h. arg_reads c.after_help.result r _ c.wanted.result (wanted (codes "STORE")) start c.wanted.ensures.local c.wanted.ensures.rule h) c.arg.ensures
+    IfOk-weaker c.arg.result _ _ (λ r h. arg_reads c.after_help.result r _ c.wanted.result
+    (wanted (codes "STORE")) start c.wanted.ensures.local c.wanted.ensures.rule h) c.arg.ensures

@@ -8,7 +8,8 @@ use Rattle.edf_header.proofs.identity.Identity.from_header.Goals as goal
 
 pub invariant_of-result : goal.invariant_of-result
 invariant_of-result c =
-    let k = key_from c.args.fixed.now (ordinary (signals_of c.args.signals.now c.args.fixed.now.signal_count)) in
+    let k = key_from c.args.fixed.now
+    (ordinary (signals_of c.args.signals.now c.args.fixed.now.signal_count)) in
     let e = held k c.in_ok-bytes.bytes.items c.in_ok-bytes.ensures c.requires.key in
     let is = keeps k c.in_ok-bytes.bytes.items c.in_ok-bytes.ensures c.requires.key in
     record {
@@ -19,4 +20,6 @@ invariant_of-result c =
     }
 
 pub returns : goal.returns
-returns c = held (key_from c.args.fixed.now (ordinary (signals_of c.args.signals.now c.args.fixed.now.signal_count))) c.in_ok-bytes.bytes.items c.in_ok-bytes.ensures c.requires.key
+returns c = held (key_from c.args.fixed.now
+    (ordinary (signals_of c.args.signals.now c.args.fixed.now.signal_count)))
+    c.in_ok-bytes.bytes.items c.in_ok-bytes.ensures c.requires.key

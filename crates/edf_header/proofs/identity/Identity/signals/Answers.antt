@@ -5,4 +5,9 @@ use Rattle.edf_header.proofs.identity.Identity.signals.Goals as goal
 
 pub returns-clause-count : goal.returns-clause-count
 returns-clause-count c =
-    omega (arith, ap (λ (k : Key). length k.signals) c.self.view_is, c.len.ensures, held-len c.self.inside.bytes.items c.self.invariant.back c.self.invariant.key)
+    omega (
+      arith,
+      ap (λ (k : Key). length k.signals) c.self.view_is,
+      c.len.ensures,
+      held-len c.self.inside.bytes.items c.self.invariant.back c.self.invariant.key,
+    )

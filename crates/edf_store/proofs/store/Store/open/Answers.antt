@@ -6,7 +6,9 @@ use Rattle.edf_store.proofs.store.Store.open.Goals as goal
 
 pub invariant_of-result : goal.invariant_of-result
 invariant_of-result g c =
-    sound_opened c.args.cap (state g.S.Store c.args.conn) (state g.S.Store c.audit.new.conn) c.requires.cap_from c.requires.cap_to (λ clean. rw c.if-kept.true at (c.in_ok-kept.ensures.answers clean))
+    sound_opened c.args.cap (state g.S.Store c.args.conn) (state g.S.Store c.audit.new.conn)
+    c.requires.cap_from c.requires.cap_to (λ clean.
+    rw c.if-kept.true at (c.in_ok-kept.ensures.answers clean))
 
 pub returns-in_err-kept-clause-given_up : goal.returns-in_err-kept-clause-given_up
 returns-in_err-kept-clause-given_up g c =
@@ -22,7 +24,8 @@ returns-in_err-kept-clause-given_up g c =
     })
 
 pub returns-in_err-kept-clause-other : goal.returns-in_err-kept-clause-other
-returns-in_err-kept-clause-other g c none = absurd (let is = sym (c.audit.ensures.other none).0 ∙ c.in_err-kept.was in cc)
+returns-in_err-kept-clause-other g c none =
+    absurd (let is = sym (c.audit.ensures.other none).0 ∙ c.in_err-kept.was in cc)
 
 pub returns-in_err-kept-clause-foreign : goal.returns-in_err-kept-clause-foreign
 returns-in_err-kept-clause-foreign g c stays is =
@@ -30,10 +33,13 @@ returns-in_err-kept-clause-foreign g c stays is =
     absurd (told.2.own (let same = sym told.1 ∙ is in cc))
 
 pub returns-then-kept-clause-opened : goal.returns-then-kept-clause-opened
-returns-then-kept-clause-opened g c = opened g.S.Store c.args.cap c.args.conn c.audit.new.conn (λ clean. rw c.if-kept.true at (c.in_ok-kept.ensures.answers clean)) c.audit.ensures.survives
+returns-then-kept-clause-opened g c =
+    opened g.S.Store c.args.cap c.args.conn c.audit.new.conn
+    (λ clean. rw c.if-kept.true at (c.in_ok-kept.ensures.answers clean)) c.audit.ensures.survives
 
 pub returns-then-kept-clause-other : goal.returns-then-kept-clause-other
-returns-then-kept-clause-other g c none = absurd (let is = sym (c.audit.ensures.other none).0 ∙ c.in_ok-kept.was in cc)
+returns-then-kept-clause-other g c none =
+    absurd (let is = sym (c.audit.ensures.other none).0 ∙ c.in_ok-kept.was in cc)
 
 pub returns-else-kept-clause-given_up : goal.returns-else-kept-clause-given_up
 returns-else-kept-clause-given_up g c = record {
@@ -46,4 +52,6 @@ returns-else-kept-clause-given_up g c = record {
 }
 
 pub returns-else-kept-clause-foreign : goal.returns-else-kept-clause-foreign
-returns-else-kept-clause-foreign g c stays is = rw c.if-kept.false at (c.in_ok-kept.ensures.answers (stays c.audit.new.conn c.audit.ensures.survives))
+returns-else-kept-clause-foreign g c stays is =
+    rw c.if-kept.false at (c.in_ok-kept.ensures.answers
+    (stays c.audit.new.conn c.audit.ensures.survives))
