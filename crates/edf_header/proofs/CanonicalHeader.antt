@@ -13,6 +13,7 @@ use Rattle.edf_header.specs.Signal.{samples}
 use Rattle.edf_header.specs.Key.{Key, IsKey, MayStart, MayStartBy}
 use Rattle.edf_header.specs.Canonical.{annotations_signal, canonical_signals, IsCanonicalHeader}
 use Rattle.edf_header.specs.Spelled.{Texts, IsSpelledBy, IsReadAs, spelled_layout, startdate_day}
+use Rattle.edf_header.specs.declared.limits.TheConstants.{MOST_BLOCK_SAMPLES, MOST_RECORDS}
 use Rattle.edf_header.proofs.SpelledTexts.{printable-by}
 use Rattle.edf_header.proofs.SpelledNumbers.{number-field}
 use Rattle.edf_header.proofs.SpelledHeader.{spelled-reads}
@@ -47,7 +48,7 @@ startdates false date time start may d t =
     subst (IsDateText date) same parts.is_date
 
 says : (b : List ℕ) (k : Key) (start count n : ℕ) → IsKey k → MayStart k start → 1 ≤ count →
-    count ≤ 99_999_999 → 1 ≤ n → n ≤ 2_097_152 → (e : IsCanonicalHeader b k start count n)
+    count ≤ MOST_RECORDS → 1 ≤ n → n ≤ MOST_BLOCK_SAMPLES → (e : IsCanonicalHeader b k start count n)
     → IsSpelledBy k (day_of start) (second_of_day start) count (texts b k start count n e)
     (annotations_signal n)
 says b k start count n key may some few samples-some samples-few e =
@@ -87,7 +88,7 @@ says b k start count n key may some few samples-some samples-few e =
     }
 
 pub canonical-header-reads : (b : List ℕ) (k : Key) (start count n : ℕ) → IsKey k →
-    MayStart k start → 1 ≤ count → count ≤ 99_999_999 → 1 ≤ n → n ≤ 2_097_152 →
+    MayStart k start → 1 ≤ count → count ≤ MOST_RECORDS → 1 ≤ n → n ≤ MOST_BLOCK_SAMPLES →
     IsCanonicalHeader b k start count n
     → IsReadAs b (spelled_layout k (start / 10 ^ 9 * 10 ^ 9) count n)
 canonical-header-reads b k start count n key may some few samples-some samples-few e =

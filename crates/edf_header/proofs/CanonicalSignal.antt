@@ -9,6 +9,7 @@ use Rattle.edf_field.specs.Text.{IsPrintable, spaces, padded_to}
 use Rattle.edf_header.specs.Signal.{IsAnnotationsSignal, HasSamples, samples}
 use Rattle.edf_header.specs.Canonical.{annotations_signal}
 use Rattle.edf_header.specs.Spelled.{IsPrinted}
+use Rattle.edf_header.specs.declared.limits.TheConstants.{MOST_BLOCK_SAMPLES}
 use Rattle.edf_header.proofs.SpelledTexts.{printable-by}
 use Rattle.edf_header.proofs.SpelledNumbers.{number-field, spaces-printable}
 
@@ -46,7 +47,7 @@ pub record IsCanonicalRow (n : ℕ) (row : List ℕ) : Type 0 where
   pub samples_are : HasSamples row
   pub samples_is : samples row ≡ n
 
-pub canonical-row : (n : ℕ) → 1 ≤ n → n ≤ 2_097_152 → IsCanonicalRow n (annotations_signal n)
+pub canonical-row : (n : ℕ) → 1 ≤ n → n ≤ MOST_BLOCK_SAMPLES → IsCanonicalRow n (annotations_signal n)
 canonical-row n some small =
     let f = number-field 8 n (omega arith) (omega arith) (omega arith) in
     let text : List ℕ = padded_to 8 (decimal n) in

@@ -10,9 +10,10 @@ use Rattle.edf_header.specs.Signal.{columns}
 use Rattle.edf_header.specs.Key.{Key}
 use Rattle.edf_header.specs.Canonical.{annotations_signal, canonical_signals, IsCanonicalHeader}
 use Rattle.edf_header.specs.Spelled.{startdate_text}
+use Rattle.edf_header.specs.declared.limits.TheConstants.{MOST_BLOCK_SAMPLES}
 use Rattle.edf_header.proofs.CanonicalSignal.{canonical-row}
 
-pub row-length : (n : ℕ) (row : List ℕ) → 1 ≤ n → n ≤ 2_097_152 → row ≡ annotations_signal n →
+pub row-length : (n : ℕ) (row : List ℕ) → 1 ≤ n → n ≤ MOST_BLOCK_SAMPLES → row ≡ annotations_signal n →
     length row ≡ 256
 row-length n row some few is = ap length is ∙ (canonical-row n some few).printed.len
 

@@ -8,6 +8,7 @@ use Rattle.edf_header.specs.Fault.{FixedPartFails, SignalsFail, IsClean, IsHeade
 use Rattle.edf_header.specs.Canonical.{IsCanonicalHeader}
 use Rattle.edf_header.specs.Spelled.{IsReadAs, spelled_layout}
 use Rattle.edf_header.specs.declared.fault.HeaderFault.{HeaderFault}
+use Rattle.edf_header.specs.declared.limits.TheConstants.{MOST_BLOCK_SAMPLES, MOST_RECORDS}
 use Rattle.edf_header.proofs.Keys as keys
 use Rattle.edf_header.proofs.KeyLaws as key_laws
 use Rattle.edf_header.proofs.FixedLaws as fixed_laws
@@ -77,7 +78,7 @@ pub one-canonical-header : (bytes other : List ℕ) (key : Key) (start count blo
 one-canonical-header = canonical_one.one-canonical-header
 
 pub canonical-header-reads : (bytes : List ℕ) (key : Key) (start count block : ℕ) → IsKey key →
-    MayStart key start → 1 ≤ count → count ≤ 99_999_999 → 1 ≤ block → block ≤ 2_097_152
+    MayStart key start → 1 ≤ count → count ≤ MOST_RECORDS → 1 ≤ block → block ≤ MOST_BLOCK_SAMPLES
     → IsCanonicalHeader bytes key start count block →
     IsReadAs bytes (spelled_layout key (start / 10 ^ 9 * 10 ^ 9) count block)
 canonical-header-reads = canonical_headers.canonical-header-reads

@@ -8,6 +8,7 @@ use Rattle.edf_field.specs.Number.{IsNumber}
 use Rattle.edf_field.specs.Text.{IsPrintable, FollowsStartdate, subfields}
 use Rattle.edf_header.specs.Header.{IsCount, IsPlus}
 use Rattle.edf_header.specs.Fault.{HasCount, HasSignals}
+use Rattle.edf_header.specs.declared.limits.TheConstants.{MOST_SIGNALS}
 use Rattle.edf_header.proofs.Decided.{Decided, like, both, either, negated, less, at-most, same}
 use Rattle.edf_header.proofs.Decided.{same-bytes, same-int, every}
 
@@ -70,6 +71,6 @@ pub signals : (b : List ℕ) → Decided ((n : ℕ) × HasSignals b n)
 signals b =
     like (both (whole (field b 252 4))
     (both (at-most 2 (whole_value (field b 252 4)))
-    (at-most (whole_value (field b 252 4)) 640)))
+    (at-most (whole_value (field b 252 4)) MOST_SIGNALS)))
     (λ p. (whole_value (field b 252 4), (record { whole = p.0; value = refl }, p.1.0, p.1.1)))
     (λ p. (p.1.0.whole, (omega (arith, p.1.0.value, p.1.1), omega (arith, p.1.0.value, p.1.2))))

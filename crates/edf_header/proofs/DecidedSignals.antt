@@ -9,6 +9,7 @@ use Rattle.edf_header.specs.Fault.{HasAnnotations, IsTooLarge}
 use Rattle.edf_header.specs.declared.signal_checks.Check.{Check}
 use Rattle.edf_header.specs.declared.signal_checks.Check.TheVariants.{Label, Annotations, Physical}
 use Rattle.edf_header.specs.declared.signal_checks.Check.TheVariants.{Digital, Samples}
+use Rattle.edf_header.specs.declared.limits.TheConstants.{MOST_BLOCK_BYTES}
 use Rattle.edf_header.proofs.Decided.{Decided, like, both, either, negated, implied, less, at-most}
 use Rattle.edf_header.proofs.Decided.{same-bytes, same-int, less-int, at-most-int, first-bad, every}
 use Rattle.edf_header.proofs.DecidedFields.{physical, differ, signed, whole}
@@ -76,5 +77,5 @@ annotations ss =
     (λ p. (p.annotations_some, (p.annotations, p.ordinary_some)))
 
 pub too-large : (ss : List (List ℕ)) → Decided (IsTooLarge ss)
-too-large ss = either (less 4_194_304 (2 * samples_in_all (ordinary ss)))
-    (less 4_194_304 (2 * samples_in_all (labelled ss)))
+too-large ss = either (less MOST_BLOCK_BYTES (2 * samples_in_all (ordinary ss)))
+    (less MOST_BLOCK_BYTES (2 * samples_in_all (labelled ss)))

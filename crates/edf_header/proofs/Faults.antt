@@ -18,6 +18,7 @@ use Rattle.edf_header.specs.declared.signal_checks.Check.TheVariants.{Physical a
 use Rattle.edf_header.specs.declared.signal_checks.Check.TheVariants.{Digital as CheckDigital}
 use Rattle.edf_header.specs.declared.signal_checks.Check.TheVariants.{Samples as CheckSamples}
 use Rattle.edf_header.specs.declared.identity.IdentityFault.{IdentityFault}
+use Rattle.edf_header.specs.declared.limits.TheConstants.{MOST_BLOCK_BYTES, MOST_ORDINARY_SIGNALS}
 use Rattle.edf_header.specs.declared.identity.IdentityFault.TheVariants.{Length, Unprintable}
 use Rattle.edf_header.specs.declared.identity.IdentityFault.TheVariants.{Patient, Recording}
 use Rattle.edf_header.specs.declared.identity.IdentityFault.TheVariants.{Duration, Label, Physical}
@@ -95,7 +96,7 @@ pub bad-at : (check : Check) (b : List ℕ) (at : ℕ) →
 bad-at check b at bad = subst (λ (l : List (List ℕ)). IsFirstBad (Passes check) l at) (sliced b) bad
 
 pub at-small : (check : Check) (b : List ℕ) (at : ℕ) → HasLength b →
-    IsFirstBad (Passes check) (rows_of (take (length b - 158) (drop 158 b))) at → at < 639
+    IsFirstBad (Passes check) (rows_of (take (length b - 158) (drop 158 b))) at → at < MOST_ORDINARY_SIGNALS
 at-small check b at len bad = omega (
   arith,
   (bad-at check b at bad).within,
@@ -104,7 +105,7 @@ at-small check b at len bad = omega (
 )
 
 -- past the size
-pub clean-11 : (b : List ℕ) → IsCleanKey b 10 → 2 * samples_in_all (signals_at b) ≤ 4_194_304 →
+pub clean-11 : (b : List ℕ) → IsCleanKey b 10 → 2 * samples_in_all (signals_at b) ≤ MOST_BLOCK_BYTES →
     IsCleanKey b 11
 clean-11 b clean size Size lt bad = absurd (omega (arith, bad))
 clean-11 b clean size Memory lt bad = absurd (omega arith)
@@ -113,7 +114,7 @@ clean-11 b clean size e lt bad = clean e (omega arith) bad
 pub is-key : (b : List ℕ) → IsKeyFront b → All (Passes CheckLabel) (signals_at b) →
     All (Passes CheckPhysical) (signals_at b) → All (Passes CheckDigital) (signals_at b) →
     All (Passes CheckSamples) (signals_at b)
-    → 2 * samples_in_all (signals_at b) ≤ 4_194_304 → (key_bytes (key_at b) ≡ b) × IsKey (key_at b)
+    → 2 * samples_in_all (signals_at b) ≤ MOST_BLOCK_BYTES → (key_bytes (key_at b) ≡ b) × IsKey (key_at b)
 is-key b f l p d s size =
     let back = bytes-back b (shaped b f.len f.mark) in
     let n : length (signals_at b) ≡ f.len.0 = count-is b f.len.0 f.len.3 in (
@@ -182,4 +183,4 @@ key-clean k i =
     let back = key-back k i.sized in
     clean-11 (key_bytes k) (clean-by (key_bytes k) (front-of k i)
     (λ check. subst (λ (k : Key). All (Passes check) k.signals) (sym back) (passed k i check)))
-    (subst (λ (k : Key). 2 * samples_in_all k.signals ≤ 4_194_304) (sym back) i.size)
+    (subst (λ (k : Key). 2 * samples_in_all k.signals ≤ MOST_BLOCK_BYTES) (sym back) i.size)

@@ -12,6 +12,7 @@ use Rattle.edf_header.specs.Fault.{IsFirst, header_fault_number}
 use Rattle.edf_header.specs.declared.signal_checks.Check.{Check}
 use Rattle.edf_header.specs.declared.signal_checks.Check.TheVariants as checks
 use Rattle.edf_header.specs.declared.fault.HeaderFault.{HeaderFault}
+use Rattle.edf_header.specs.declared.limits.TheConstants.{MOST_BLOCK_BYTES}
 use Rattle.edf_header.specs.declared.fault.HeaderFault.TheVariants.{CutSignals, UnprintableSignals}
 use Rattle.edf_header.specs.declared.fault.HeaderFault.TheVariants.{Annotations, Physical, Digital}
 use Rattle.edf_header.specs.declared.fault.HeaderFault.TheVariants.{Samples, Size}
@@ -99,11 +100,11 @@ sound-is ss h p d n small = record {
   physical = p;
   digital = d;
   each_samples = n;
-  ordinary_size = elim (cases_lt 4_194_304 (2 * samples_in_all (ordinary ss))) [
+  ordinary_size = elim (cases_lt MOST_BLOCK_BYTES (2 * samples_in_all (ordinary ss))) [
     | inl lt ↦ absurd (small (inl lt))
     | inr le ↦ le
   ];
-  block_size = elim (cases_lt 4_194_304 (2 * samples_in_all (labelled ss))) [
+  block_size = elim (cases_lt MOST_BLOCK_BYTES (2 * samples_in_all (labelled ss))) [
     | inl lt ↦ absurd (small (inr lt))
     | inr le ↦ le
   ];

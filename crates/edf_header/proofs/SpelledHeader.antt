@@ -19,6 +19,7 @@ use Rattle.edf_header.specs.Header.{blocks_from, is_dated, layout_of}
 use Rattle.edf_header.specs.Spelled.{Texts, IsSpelledBy, IsSpelledHeader, IsReadAs, spelled_bytes}
 use Rattle.edf_header.specs.Spelled.{startdate_text, startdate_day, spelled_layout}
 use Rattle.edf_header.specs.declared.signal_checks.Check.TheVariants.{Label}
+use Rattle.edf_header.specs.declared.limits.TheConstants.{MOST_BLOCK_BYTES}
 use Rattle.edf_header.proofs.Blocks.{block-last, block_of}
 use Rattle.edf_header.proofs.SignalKinds.{labelled-last, ordinary-front}
 use Rattle.edf_header.proofs.Strides.{signals-back}
@@ -299,7 +300,7 @@ are-signals k days seconds count t row key s =
       ordinary_some = omega (arith, ap length ordinary-is, key.signals_from);
       are_ordinary = subst (All IsOrdinary) (sym ordinary-is) key.signals;
       each_samples = all-rows HasSamples k row key.each_samples s.row_samples;
-      ordinary_size = subst (λ (l : List (List ℕ)). 2 * samples_in_all l ≤ 4_194_304)
+      ordinary_size = subst (λ (l : List (List ℕ)). 2 * samples_in_all l ≤ MOST_BLOCK_BYTES)
           (sym ordinary-is) key.size;
       block_size = let one : samples_in_all (row ∷ []) ≡ samples row =
           omega (arith, sum_by-cons samples row []) in

@@ -11,6 +11,7 @@ use Rattle.edf_header.specs.Fields.{count_field, duration_field, signals_field}
 use Rattle.edf_header.specs.Signal.{signals_of, labelled, ordinary, samples_in_all}
 use Rattle.edf_header.specs.Signal.{IsAnnotationsSignal, Passes, IsFirstBad}
 use Rattle.edf_header.specs.Header.{IsPlus, IsCount}
+use Rattle.edf_header.specs.declared.limits.TheConstants.{MOST_BLOCK_BYTES, MOST_SIGNALS}
 use Rattle.edf_header.specs.declared.signal_checks.Check.{Check}
 use Rattle.edf_header.specs.declared.signal_checks.Check.TheVariants as checks
 use Rattle.edf_header.specs.declared.fault.HeaderFault.{HeaderFault}
@@ -27,7 +28,7 @@ abbrev pub HasCount : List ℕ → Type 0
 HasCount b = (count : Option ℕ) × IsCount (count_field b) count
 
 abbrev pub HasSignals : List ℕ → ℕ → Type 0
-HasSignals b n = IsNumber (signals_field b) n × (2 ≤ n) × (n ≤ 640)
+HasSignals b n = IsNumber (signals_field b) n × (2 ≤ n) × (n ≤ MOST_SIGNALS)
 
 abbrev pub HasNoSignals : List ℕ → Type 0
 HasNoSignals b = (n : ℕ) → ¬ HasSignals b n
@@ -79,8 +80,8 @@ IsBadSignal check signals signal = (at : ℕ) × IsFirstBad (Passes check) signa
 -- the ordinary signals, or the annotations signals, have too many bytes in a data record
 abbrev pub IsTooLarge : List (List ℕ) → Type 0
 IsTooLarge signals =
-    (4_194_304 < 2 * samples_in_all (ordinary signals))
-    ⊎ (4_194_304 < 2 * samples_in_all (labelled signals))
+    (MOST_BLOCK_BYTES < 2 * samples_in_all (ordinary signals))
+    ⊎ (MOST_BLOCK_BYTES < 2 * samples_in_all (labelled signals))
 
 -- the first byte of the signal part that is not printable; its offset counts from the file's first
 -- byte
@@ -138,6 +139,43 @@ header_fault_number (Digital signal) = 18
 header_fault_number (Samples signal) = 19
 header_fault_number Size = 20
 header_fault_number Memory = 41
+
+-- the names: those of the variants
+abbrev pub header_fault_name : HeaderFault → List ℕ
+header_fault_name Cut = codes "Cut"
+header_fault_name (Unprintable offset) = codes "Unprintable"
+header_fault_name Version = codes "Version"
+header_fault_name Patient = codes "Patient"
+header_fault_name Recording = codes "Recording"
+header_fault_name Startdate = codes "Startdate"
+header_fault_name Starttime = codes "Starttime"
+header_fault_name DatesDiffer = codes "DatesDiffer"
+header_fault_name NotPlus = codes "NotPlus"
+header_fault_name Count = codes "Count"
+header_fault_name Duration = codes "Duration"
+header_fault_name Signals = codes "Signals"
+header_fault_name HeaderBytes = codes "HeaderBytes"
+header_fault_name CutSignals = codes "CutSignals"
+header_fault_name (UnprintableSignals offset) = codes "UnprintableSignals"
+header_fault_name Annotations = codes "Annotations"
+header_fault_name (Physical signal) = codes "Physical"
+header_fault_name (Digital signal) = codes "Digital"
+header_fault_name (Samples signal) = codes "Samples"
+header_fault_name Size = codes "Size"
+header_fault_name Memory = codes "Memory"
+
+-- the offset in the file of a byte that is not printable
+abbrev pub header_fault_offset : HeaderFault → Option ℕ
+header_fault_offset (Unprintable offset) = Some offset
+header_fault_offset (UnprintableSignals offset) = Some offset
+header_fault_offset _ = None
+
+-- the signal that is refused
+abbrev pub header_fault_signal : HeaderFault → Option ℕ
+header_fault_signal (Physical signal) = Some signal
+header_fault_signal (Digital signal) = Some signal
+header_fault_signal (Samples signal) = Some signal
+header_fault_signal _ = None
 
 -- no fault of a lower number is true
 abbrev pub IsClean : (HeaderFault → Type 0) → ℕ → Type 0

@@ -12,6 +12,8 @@ use Rattle.edf_header.specs.Signal.{signals_of, has_label, labelled, ordinary, I
 use Rattle.edf_header.specs.Signal.{HasSamples, IsAnnotationsSignal, samples, samples_in_all}
 use Rattle.edf_header.specs.Key.{Key, IsKey, MayStart, MayStartBy}
 use Rattle.edf_header.specs.declared.header.Block.{Block}
+use Rattle.edf_header.specs.declared.limits.TheConstants.{MOST_RECORDS, MOST_SIGNALS}
+use Rattle.edf_header.specs.declared.limits.TheConstants.{MOST_BLOCK_BYTES, MOST_RECORD_BYTES}
 
 -- what the fixed part says: the patient field; the Startdate subfield's day, or none for X, and
 -- what follows it; the start in nanoseconds; how many data records, or none where the count is -1;
@@ -59,12 +61,12 @@ least_records None = 1
 least_records (Some n) = n
 
 abbrev pub most_records : Option ℕ → ℕ
-most_records None = 99_999_999
+most_records None = MOST_RECORDS
 most_records (Some n) = n
 
 -- a count of 1 to 99,999,999, or none
 abbrev pub IsCountInRange : Option ℕ → Type 0
-IsCountInRange count = (1 ≤ least_records count) × (most_records count ≤ 99_999_999)
+IsCountInRange count = (1 ≤ least_records count) × (most_records count ≤ MOST_RECORDS)
 
 -- the fixed parts that headers have
 pub record IsFixed (f : FixedPart) : Type 0 where
@@ -82,7 +84,7 @@ pub record IsFixed (f : FixedPart) : Type 0 where
   pub duration_printable : All IsPrintable f.duration
   pub is_duration : (nanos : ℕ) × IsDuration f.duration nanos
   pub signals_from : 2 ≤ f.signal_count
-  pub signals_to : f.signal_count ≤ 640
+  pub signals_to : f.signal_count ≤ MOST_SIGNALS
 
 abbrev pub IsPlus : List ℕ → Type 0
 IsPlus reserved = (take 5 reserved ≡ codes "EDF+C") ⊎ (take 5 reserved ≡ codes "EDF+D")
@@ -103,7 +105,7 @@ pub record IsFixedHeader (bytes : List ℕ) (h : FixedPart) : Type 0 where
   pub is_duration : (nanos : ℕ) × IsDuration h.duration nanos
   pub signals : IsNumber (signals_field bytes) h.signal_count
   pub signals_from : 2 ≤ h.signal_count
-  pub signals_to : h.signal_count ≤ 640
+  pub signals_to : h.signal_count ≤ MOST_SIGNALS
 
 -- a header: its fixed part, and its signals in file order, each a row
 pub record HeaderRecord : Type 0 where
@@ -121,8 +123,8 @@ pub record AreSignals (bytes : List ℕ) (h : HeaderRecord) : Type 0 where
   pub ordinary_some : 1 ≤ length (ordinary h.signals)
   pub are_ordinary : All IsOrdinary (ordinary h.signals)
   pub each_samples : All HasSamples h.signals
-  pub ordinary_size : 2 * samples_in_all (ordinary h.signals) ≤ 4_194_304
-  pub block_size : 2 * samples_in_all (labelled h.signals) ≤ 4_194_304
+  pub ordinary_size : 2 * samples_in_all (ordinary h.signals) ≤ MOST_BLOCK_BYTES
+  pub block_size : 2 * samples_in_all (labelled h.signals) ≤ MOST_BLOCK_BYTES
 
 -- the bytes begin with a header
 pub record IsHeader (bytes : List ℕ) (h : HeaderRecord) (rest : List ℕ) : Type 0 where
@@ -194,6 +196,6 @@ pub record IsLayout (l : Layout) : Type 0 where
   pub blocks_bytes : All (λ b. 2 ≤ b.bytes) l.blocks
   pub apart : AreApart 0 l.blocks l.record_bytes
   pub parts : l.record_bytes ≡ 2 * samples_in_all l.key.signals + block_bytes l
-  pub ordinary_size : 2 * samples_in_all l.key.signals ≤ 4_194_304
-  pub block_size : block_bytes l ≤ 4_194_304
-  pub record_size : l.record_bytes ≤ 8_388_608
+  pub ordinary_size : 2 * samples_in_all l.key.signals ≤ MOST_BLOCK_BYTES
+  pub block_size : block_bytes l ≤ MOST_BLOCK_BYTES
+  pub record_size : l.record_bytes ≤ MOST_RECORD_BYTES

@@ -7,6 +7,8 @@ use Rattle.edf_header.specs.Fields.{key_size_before_signals, key_signals_count, 
 use Rattle.edf_header.specs.Signal.{rows, samples_in_all, IsFirstBad}
 use Rattle.edf_header.specs.Key.{key_at}
 use Rattle.edf_header.specs.Fault.{IsBadSignal}
+use Rattle.edf_header.specs.declared.limits.TheConstants.{MOST_BLOCK_BYTES}
+use Rattle.edf_header.specs.declared.limits.TheConstants.{MOST_ORDINARY_SIGNALS}
 use Rattle.edf_header.specs.declared.signal_checks.Check.TheVariants as checks
 use Rattle.edf_header.specs.declared.identity.IdentityFault.{IdentityFault}
 use Rattle.edf_header.specs.declared.identity.IdentityFault.TheVariants.{Length, Unprintable}
@@ -17,7 +19,7 @@ use Rattle.edf_header.specs.declared.identity.IdentityFault.TheVariants.{Memory}
 
 -- 158 bytes, and 256 for each of 1 to 639 signals
 abbrev pub HasLength : List ℕ → Type 0
-HasLength b = (n : ℕ) × (1 ≤ n) × (n ≤ 639) × (length b ≡ key_size_before_signals + 256 * n)
+HasLength b = (n : ℕ) × (1 ≤ n) × (n ≤ MOST_ORDINARY_SIGNALS) × (length b ≡ key_size_before_signals + 256 * n)
 
 -- D, with 10 spaces at the end of its part, or X
 abbrev pub HasMark : List ℕ → Type 0
@@ -44,7 +46,7 @@ KeyFails b (Label signal) = IsBadSignal checks.Label (signals_at b) signal
 KeyFails b (Physical signal) = IsBadSignal checks.Physical (signals_at b) signal
 KeyFails b (Digital signal) = IsBadSignal checks.Digital (signals_at b) signal
 KeyFails b (Samples signal) = IsBadSignal checks.Samples (signals_at b) signal
-KeyFails b Size = 4_194_304 < 2 * samples_in_all (signals_at b)
+KeyFails b Size = MOST_BLOCK_BYTES < 2 * samples_in_all (signals_at b)
 KeyFails b Memory = Unit {0}
 
 -- the order of the faults; `Memory` comes last, so it says that no other is true

@@ -8,6 +8,8 @@ use Rattle.edf_field.specs.Text.{IsPrintable, IsPatient, FollowsStartdate, space
 use Rattle.edf_header.specs.Fields.{key_patient_field, key_mark, key_after_field}
 use Rattle.edf_header.specs.Fields.{key_duration_field, key_signals_count, key_signals_part}
 use Rattle.edf_header.specs.Signal.{rows, IsOrdinary, HasSamples, samples_in_all}
+use Rattle.edf_header.specs.declared.limits.TheConstants.{MOST_BLOCK_BYTES}
+use Rattle.edf_header.specs.declared.limits.TheConstants.{MOST_ORDINARY_SIGNALS}
 
 -- the patient field; whether the Startdate subfield is a date; what follows it, 59 bytes after a
 -- date and 69 after X; the duration field; the ordinary signals' headers
@@ -52,10 +54,10 @@ pub record IsKey (k : Key) : Type 0 where
   pub behind : FollowsStartdate k.after
   pub duration : (nanos : ℕ) × IsDuration k.duration nanos
   pub signals_from : 1 ≤ length k.signals
-  pub signals_to : length k.signals ≤ 639
+  pub signals_to : length k.signals ≤ MOST_ORDINARY_SIGNALS
   pub signals : All IsOrdinary k.signals
   pub each_samples : All HasSamples k.signals
-  pub size : 2 * samples_in_all k.signals ≤ 4_194_304
+  pub size : 2 * samples_in_all k.signals ≤ MOST_BLOCK_BYTES
 
 -- a recording may start there: before 2085 where its Startdate subfield is X, since then two digits
 -- alone name the year

@@ -8,6 +8,7 @@ use Rattle.edf_header.specs.Signal.{columns, samples, samples_in_all, IsAnnotati
 use Rattle.edf_header.specs.Signal.{HasSamples}
 use Rattle.edf_header.specs.Key.{Key}
 use Rattle.edf_header.specs.Header.{HeaderRecord, Layout, IsHeader, IsPlus, layout_of}
+use Rattle.edf_header.specs.declared.limits.TheConstants.{MOST_BLOCK_BYTES}
 
 -- a printable text of a field's width
 pub record IsPrinted (width : ℕ) (text : List ℕ) : Type 0 where
@@ -58,7 +59,7 @@ pub record IsSpelledBy (k : Key) (days seconds records : ℕ) (t : Texts) (row :
     pub row_printed : IsPrinted 256 row
     pub annotations : IsAnnotationsSignal row
     pub row_samples : HasSamples row
-    pub block_size : 2 * samples row ≤ 4_194_304
+    pub block_size : 2 * samples row ≤ MOST_BLOCK_BYTES
 
 -- the bytes spell such a header
 pub record IsSpelledHeader (bytes : List ℕ) (k : Key) (days seconds records : ℕ)

@@ -8,6 +8,7 @@ ghost use Rattle.edf_header.specs.Canonical.{annotations_signal, IsCanonicalHead
 
 use crate::columns::push_columns;
 use crate::identity::Identity;
+use crate::limits::{MOST_BLOCK_SAMPLES, MOST_RECORDS, MOST_SIGNALS};
 use edf_time::{Instant, date_field, id_date_text, time_field};
 use std::alloc::{AllocError, Global};
 
@@ -95,7 +96,7 @@ fn push_numbers(
     count: u32,
     signals: u32,
 ) -> Result<(), AllocError>
-    requires { signals ≤ 640 }
+    requires { signals ≤ MOST_SIGNALS }
     ensures { OnOk result (out.new.items ≡ out.old.items
         ++ (padded_to 8 (decimal (256 + 256 * signals)) ++ (padded_to 44 (codes "EDF+D")
         ++ (padded_to 8 (decimal count)
@@ -116,7 +117,7 @@ fn push_signals(
     rows: &[u8],
     samples: u32,
 ) -> Result<(), AllocError>
-    requires { (1 ≤ samples) × (samples ≤ 2_097_152) }
+    requires { (1 ≤ samples) × (samples ≤ MOST_BLOCK_SAMPLES) }
     ensures { OnOk result (out.new.items
         ≡ out.old.items ++ columns (rows_of rows.now ++ annotations_signal samples ∷ [])) }
 {
@@ -144,8 +145,8 @@ pub fn write_header(
     count: u32,
     block_samples: u32,
 ) -> Result<Vec<u8>, AllocError>
-    requires count { (1 ≤ count) × (count ≤ 99_999_999) }
-    requires samples { (1 ≤ block_samples) × (block_samples ≤ 2_097_152) }
+    requires count { (1 ≤ count) × (count ≤ MOST_RECORDS) }
+    requires samples { (1 ≤ block_samples) × (block_samples ≤ MOST_BLOCK_SAMPLES) }
     requires may_start { MayStart identity.now start }
     ensures { IfOk result (λ v. IsCanonicalHeader v.items identity.now start count block_samples) }
 {

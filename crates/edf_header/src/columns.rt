@@ -5,6 +5,7 @@ ghost use Rattle.edf_header.specs.Fields.{fields};
 ghost use Rattle.edf_header.specs.Signal.{column_of, columns, row_at, rows_of};
 
 use crate::fields::ROW;
+use crate::limits::MOST_SIGNALS;
 use std::alloc::AllocError;
 
 /// Writes one field of all signals in turn, those in rows and then the last.
@@ -45,7 +46,7 @@ pub(crate) fn push_columns(
 /// A field of one of `n` signals, in its column.
 fn column(bytes: &[u8], n: usize, i: usize, at: usize, width: usize) -> &[u8]
     requires size { length bytes.now ≡ 256 * n }
-    requires few { n ≤ 640 }
+    requires few { n ≤ MOST_SIGNALS }
     requires inside { i < n }
     requires place { at + width ≤ 256 }
     ensures { result.now ≡ field bytes.now (n * at + i * width) width }
@@ -57,7 +58,7 @@ fn column(bytes: &[u8], n: usize, i: usize, at: usize, width: usize) -> &[u8]
 /// One of `n` signals in a row, its fields read from their columns.
 pub(crate) fn row_from(bytes: &[u8], n: usize, i: usize) -> [u8; 256]
     requires size { length bytes.now ≡ 256 * n }
-    requires few { n ≤ 640 }
+    requires few { n ≤ MOST_SIGNALS }
     requires inside { i < n }
     ensures { result ≡ row_at bytes.now n i }
 {

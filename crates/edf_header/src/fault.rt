@@ -1,5 +1,6 @@
 ghost use Rattle.std.specs.Prelude.{◌≡◌};
-ghost use Rattle.edf_header.specs.Fault.{header_fault_number};
+ghost use Rattle.edf_header.specs.Fault.{header_fault_number, header_fault_name};
+ghost use Rattle.edf_header.specs.Fault.{header_fault_offset, header_fault_signal};
 
 use thiserror::Error;
 
@@ -105,6 +106,58 @@ impl HeaderFault {
             HeaderFault::Samples { signal: _ } => 19,
             HeaderFault::Size => 20,
             HeaderFault::Memory => 41,
+        }
+    }
+
+    /// Its name, as the variant has it.
+    pub fn name(&self) -> &'static str
+        ensures { result.now ≡ header_fault_name self.now }
+    {
+        match self {
+            HeaderFault::Cut => "Cut",
+            HeaderFault::Unprintable { offset: _ } => "Unprintable",
+            HeaderFault::Version => "Version",
+            HeaderFault::Patient => "Patient",
+            HeaderFault::Recording => "Recording",
+            HeaderFault::Startdate => "Startdate",
+            HeaderFault::Starttime => "Starttime",
+            HeaderFault::DatesDiffer => "DatesDiffer",
+            HeaderFault::NotPlus => "NotPlus",
+            HeaderFault::Count => "Count",
+            HeaderFault::Duration => "Duration",
+            HeaderFault::Signals => "Signals",
+            HeaderFault::HeaderBytes => "HeaderBytes",
+            HeaderFault::CutSignals => "CutSignals",
+            HeaderFault::UnprintableSignals { offset: _ } => "UnprintableSignals",
+            HeaderFault::Annotations => "Annotations",
+            HeaderFault::Physical { signal: _ } => "Physical",
+            HeaderFault::Digital { signal: _ } => "Digital",
+            HeaderFault::Samples { signal: _ } => "Samples",
+            HeaderFault::Size => "Size",
+            HeaderFault::Memory => "Memory",
+        }
+    }
+
+    /// The offset in the file of the byte that is not printable, for E2 and E15.
+    pub fn offset(&self) -> Option<usize>
+        ensures { result ≡ header_fault_offset self.now }
+    {
+        match self {
+            HeaderFault::Unprintable { offset } => Some(*offset),
+            HeaderFault::UnprintableSignals { offset } => Some(*offset),
+            _ => None,
+        }
+    }
+
+    /// The signal that is refused, for E17 to E19.
+    pub fn signal(&self) -> Option<u32>
+        ensures { result ≡ header_fault_signal self.now }
+    {
+        match self {
+            HeaderFault::Physical { signal } => Some(*signal),
+            HeaderFault::Digital { signal } => Some(*signal),
+            HeaderFault::Samples { signal } => Some(*signal),
+            _ => None,
         }
     }
 }

@@ -62,10 +62,6 @@ pub(crate) const KEY_DURATION: usize = 150;
 
 pub(crate) const KEY_SIGNALS: usize = 158;
 
-/// The most bytes that a data record's ordinary samples may have, and the most that its annotations
-/// blocks may have together.
-pub(crate) const MOST_PART_BYTES: u64 = 4_194_304;
-
 /// All fields of a row: where each begins, and its bytes.
 pub(crate) const ROW: [(usize, usize); 10] = [
     (LABEL, TRANSDUCER - LABEL),

@@ -10,6 +10,7 @@ use crate::fixed_fields::{
     check_header_bytes, check_patient, check_plus, check_printable, check_version, field_at,
     read_count, read_nanos, read_signal_count, read_start, read_startdate,
 };
+use crate::limits::MOST_SIGNALS;
 use edf_time::{Day, Instant};
 use std::marker::Model;
 
@@ -52,7 +53,7 @@ impl Fixed {
     pub fn signals(&self) -> usize
         ensures value { result ≡ self.now.signal_count }
         ensures from { 2 ≤ result }
-        ensures to { result ≤ 640 }
+        ensures to { result ≤ MOST_SIGNALS }
         ensures fixed { IsFixed self.now }
     {
         self.signals

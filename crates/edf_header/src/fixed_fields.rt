@@ -16,6 +16,7 @@ use crate::fields::{
     COUNT, DURATION, FIXED_END, HEADER_BYTES, PATIENT, RECORDING, RESERVED, SIGNALS, STARTDATE,
     STARTTIME, VERSION,
 };
+use crate::limits::MOST_SIGNALS;
 use crate::signal_checks::first_unprintable;
 use edf_field::{is_patient, read_duration, read_recording, read_whole};
 use edf_time::{Day, Instant, StartFault, start_of};
@@ -169,7 +170,7 @@ pub(crate) fn read_signal_count(bytes: &[u8; 256]) -> Result<u32, HeaderFault>
         (IsFirst (FixedPartFails bytes.now)) }
 {
     match read_whole(&bytes[SIGNALS..FIXED_END]) {
-        Some(signals) if 2 <= signals && signals <= 640 => Ok(signals),
+        Some(signals) if 2 <= signals && signals <= MOST_SIGNALS as u32 => Ok(signals),
         _ => Err(HeaderFault::Signals),
     }
 }

@@ -14,6 +14,7 @@ use crate::fields::{KEY_DURATION, KEY_MARK, KEY_PATIENT, KEY_SIGNALS};
 use crate::fixed::Fixed;
 use crate::header_signals::push_ordinary;
 use crate::identity_checks::{KeyNumbers, after, check_key};
+use crate::limits::MOST_BLOCK_BYTES;
 use edf_field::next_subfield;
 use edf_time::Instant;
 use std::alloc::{AllocError, Global};
@@ -210,7 +211,7 @@ impl Identity {
     /// How many bytes the ordinary samples of a data record have, two for each: at most 4,194,304.
     pub fn ordinary_bytes(&self) -> usize
         ensures value { result ≡ 2 * samples_in_all self.now.signals }
-        ensures bound { result ≤ 4_194_304 }
+        ensures bound { result ≤ MOST_BLOCK_BYTES }
         ensures key { IsKey self.now }
     {
         self.ordinary_bytes

@@ -10,10 +10,10 @@ ghost use Rattle.edf_header.specs.Identity.{IsFirstKeyFault};
 ghost use Rattle.edf_header.specs.Inside.Shape.{IsIdentity, IsKeyFront, place_of_check};
 
 use crate::fields::{
-    KEY_AFTER, KEY_DURATION, KEY_FILL, KEY_MARK, KEY_PATIENT, KEY_SIGNALS, MOST_PART_BYTES,
-    SAMPLES, SIGNAL_RESERVED,
+    KEY_AFTER, KEY_DURATION, KEY_FILL, KEY_MARK, KEY_PATIENT, KEY_SIGNALS, SAMPLES, SIGNAL_RESERVED,
 };
 use crate::identity::IdentityFault;
+use crate::limits::{MOST_BLOCK_BYTES, MOST_ORDINARY_SIGNALS, MOST_SIGNALS};
 use crate::signal_checks::{Check, first_bad, first_unprintable, is_labelled};
 use edf_field::{are_spaces, is_behind_startdate, is_patient, read_duration, read_whole};
 
@@ -22,7 +22,7 @@ fn has_length(bytes: &[u8]) -> bool
     ensures { IsTrue result ↔ HasLength bytes.now }
 {
     let n = bytes.len().saturating_sub(KEY_SIGNALS) / 256;
-    bytes.len() == KEY_SIGNALS + 256 * n && 1 <= n && n <= 639
+    bytes.len() == KEY_SIGNALS + 256 * n && 1 <= n && n <= MOST_ORDINARY_SIGNALS
 }
 
 /// Whether the mark of the Startdate subfield is there, with its spaces.
@@ -119,15 +119,15 @@ fn check_size(bytes: &[u8]) -> Result<usize, IdentityFault>
     requires samples { All (Passes Check.Samples) (signals_at bytes.now) }
     requires clean { IsCleanKey bytes.now 10 }
     ensures { MatchResult result
-        (λ size. (size ≡ 2 * samples_in_all (signals_at bytes.now)) × (size ≤ 4_194_304)
+        (λ size. (size ≡ 2 * samples_in_all (signals_at bytes.now)) × (size ≤ MOST_BLOCK_BYTES)
         × IsCleanKey bytes.now 11)
         (IsFirstKeyFault bytes.now) }
 {
     let size = 2 * ordinary_samples(&bytes[KEY_SIGNALS..]);
-    if size > MOST_PART_BYTES {
+    if size > MOST_BLOCK_BYTES {
         return Err(IdentityFault::Size);
     }
-    Ok(size as usize)
+    Ok(size)
 }
 
 /// Checks bytes that may be an identity's, and reads what is kept of them.
@@ -149,8 +149,8 @@ pub(crate) fn check_key(bytes: &[u8]) -> Result<KeyNumbers, IdentityFault>
 }
 
 /// How many samples the ordinary signals have in a data record.
-pub(crate) fn ordinary_samples(rows: &[u8]) -> u64
-    requires few { length rows.now ≤ 256 * 640 }
+pub(crate) fn ordinary_samples(rows: &[u8]) -> usize
+    requires few { length rows.now ≤ 256 * MOST_SIGNALS }
     requires each { All HasSamples (rows_of rows.now) }
     ensures value { result ≡ samples_in_all (ordinary (rows_of rows.now)) }
     ensures bound { result ≤ 64_000_000_000 }
@@ -164,7 +164,7 @@ pub(crate) fn ordinary_samples(rows: &[u8]) -> u64
         let Some(n) = read_whole(&row[SAMPLES..SIGNAL_RESERVED]) else {
             continue;
         };
-        total += u64::from(n);
+        total += n as usize;
     }
     total
 }

@@ -11,6 +11,25 @@ ghost use Rattle.edf_header.specs.Identity.{IsCleanKey, IsFirstKeyFault, IsShape
 ghost use Rattle.edf_header.specs.declared.identity.IdentityFault.{IdentityFault};
 ghost use Rattle.edf_header.specs.declared.fault.HeaderFault.{HeaderFault};
 
+use crate::header::Header;
+use crate::identity::Identity;
+
+/// A law: each identity has a key, with the bounds of one.
+pub fn identity_is_key(identity: &Identity)
+    ensures { IsKey identity.now }
+{
+    // what holds of each identity is known where its fields are read
+    let _ = identity.signals();
+}
+
+/// A law: what each header says is a layout, with the bounds of one.
+pub fn header_is_layout(header: &Header)
+    ensures { IsLayout header.now }
+{
+    // what holds of each header is known where its fields are read
+    let _ = header.count();
+}
+
 /// Bytes that spell a fixed part have none of the faults E1 to E13.
 pub fn fixed_has_no_fault()
     ensures { (bytes : List ℕ) (fixed : FixedPart) → IsFixedHeader bytes fixed →

@@ -7,6 +7,8 @@ ghost use Rattle.edf_header.specs.Canonical.{IsCanonicalHeader};
 ghost use Rattle.edf_header.specs.Spelled.{IsSpelledHeader, IsReadAs, spelled_layout};
 ghost use Rattle.edf_header.specs.Signal.{samples};
 
+use crate::limits::{MOST_BLOCK_SAMPLES, MOST_RECORDS};
+
 /// A law: bytes that spell the fields of a header, whatever follows them, are read as what the
 /// fields say.
 pub fn spelled_reads()
@@ -20,7 +22,7 @@ pub fn spelled_reads()
 /// start there.
 pub fn canonical_header_reads()
     ensures { (bytes : List ℕ) (key : Key) (start count block : ℕ) → IsKey key →
-        MayStart key start → 1 ≤ count → count ≤ 99_999_999 → 1 ≤ block → block ≤ 2_097_152 →
+        MayStart key start → 1 ≤ count → count ≤ MOST_RECORDS → 1 ≤ block → block ≤ MOST_BLOCK_SAMPLES →
         IsCanonicalHeader bytes key start count block →
         IsReadAs bytes (spelled_layout key (start / 10 ^ 9 * 10 ^ 9) count block) }
 {}

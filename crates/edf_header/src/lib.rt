@@ -22,6 +22,7 @@ mod identity;
 mod identity_checks;
 pub mod laws;
 pub mod laws_canonical;
+mod limits;
 mod signal_checks;
 mod signals;
 
@@ -30,4 +31,8 @@ pub use fault::HeaderFault;
 pub use fixed::{Fixed, read_fixed};
 pub use header::{Block, Header};
 pub use identity::{Identity, IdentityFault};
+pub use limits::{
+    MOST_BLOCK_BYTES, MOST_BLOCK_SAMPLES, MOST_ORDINARY_SIGNALS, MOST_RECORD_BYTES, MOST_RECORDS,
+    MOST_SIGNALS,
+};
 pub use signals::read_signals;

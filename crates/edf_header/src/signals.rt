@@ -6,18 +6,18 @@ ghost use Rattle.edf_header.specs.Fault.{HasAnnotations, IsBadSignal, IsFirst, I
 ghost use Rattle.edf_header.specs.Inside.Rows.{RowsFail, AreSoundRows, ArePartBytes, header_of};
 
 use crate::fault::HeaderFault;
-use crate::fields::MOST_PART_BYTES;
 use crate::fixed::Fixed;
 use crate::header::Header;
 use crate::header_signals::{PartBytes, blocks_of, count_labelled, first_bad_signal, part_bytes};
 use crate::identity::Identity;
+use crate::limits::{MOST_BLOCK_BYTES, MOST_SIGNALS};
 use crate::signal_checks::{Check, first_unprintable};
 use std::alloc::{AllocError, Global};
 
 /// Whether some signals are annotations signals, with what these must have, and some are not.
 fn has_annotations(bytes: &[u8], n: usize) -> bool
     requires size { length bytes.now ≡ 256 * n }
-    requires few { n ≤ 640 }
+    requires few { n ≤ MOST_SIGNALS }
     ensures { IsTrue result ↔ HasAnnotations (signals_of bytes.now n) }
 {
     let labelled = count_labelled(bytes, n);
@@ -30,7 +30,7 @@ fn has_annotations(bytes: &[u8], n: usize) -> bool
 /// The first signal that fails a check, counted from 1.
 fn bad_signal(check: Check, bytes: &[u8], n: usize) -> Option<u32>
     requires size { length bytes.now ≡ 256 * n }
-    requires few { n ≤ 640 }
+    requires few { n ≤ MOST_SIGNALS }
     ensures { MatchOption result
         (All (Passes check) (signals_of bytes.now n)) (IsBadSignal check (signals_of bytes.now n)) }
 {
@@ -43,7 +43,7 @@ fn bad_signal(check: Check, bytes: &[u8], n: usize) -> Option<u32>
 /// Checks all signals, and finds how many bytes those of either kind have in a data record.
 fn check_signals(bytes: &[u8], n: usize) -> Result<PartBytes, HeaderFault>
     requires size { length bytes.now ≡ 256 * n }
-    requires few { n ≤ 640 }
+    requires few { n ≤ MOST_SIGNALS }
     ensures { MatchResult result
         (λ parts. AreSoundRows (signals_of bytes.now n)
         × ArePartBytes (signals_of bytes.now n) parts)
@@ -62,7 +62,7 @@ fn check_signals(bytes: &[u8], n: usize) -> Result<PartBytes, HeaderFault>
         return Err(HeaderFault::Samples { signal });
     }
     let parts = part_bytes(bytes, n);
-    if parts.ordinary > MOST_PART_BYTES || parts.annotations > MOST_PART_BYTES {
+    if parts.ordinary > MOST_BLOCK_BYTES || parts.annotations > MOST_BLOCK_BYTES {
         return Err(HeaderFault::Size);
     }
     Ok(parts)
@@ -82,15 +82,15 @@ fn header_from(
     ensures { let signals = signals_of bytes.now fixed.now.signal_count in
         IfOk result (λ r. r ≡ layout_of (header_of fixed.now signals)) }
 {
-    let identity = Identity::from_header(alloc, fixed, bytes, parts.ordinary as usize)?;
+    let identity = Identity::from_header(alloc, fixed, bytes, parts.ordinary)?;
     let blocks = blocks_of(alloc, bytes, fixed.signals())?;
     Ok(Header {
         identity,
         start: fixed.start(),
         count: fixed.count(),
         blocks,
-        annotations_bytes: parts.annotations as usize,
-        record_bytes: (parts.ordinary + parts.annotations) as usize,
+        annotations_bytes: parts.annotations,
+        record_bytes: parts.ordinary + parts.annotations,
     })
 }
 

@@ -15,6 +15,11 @@ ghost use Rattle.edf_time.specs.declared.decimal.DecimalFault.{DecimalFault};
 
 use crate::civil::{Day, Instant};
 
+/// An instant lies in the window of the years 1985 to 2184.
+pub fn instant_is_in_window(instant: Instant)
+    ensures { instant < window }
+{}
+
 /// Instants and days are ordered as their numbers are: `<`, `cmp` and their like tell the earlier
 /// from the later.
 pub fn in_order()

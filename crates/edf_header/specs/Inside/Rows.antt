@@ -3,6 +3,7 @@ use Rattle.std.specs.Prelude.{◌≡◌, ℕ, ◌*◌, ◌≤◌, List, All}
 use Rattle.edf_header.specs.Signal.{Passes, labelled, ordinary, samples_in_all}
 use Rattle.edf_header.specs.Header.{FixedPart, HeaderRecord}
 use Rattle.edf_header.specs.Fault.{HasAnnotations, IsBadSignal, IsTooLarge}
+use Rattle.edf_header.specs.declared.limits.TheConstants.{MOST_BLOCK_BYTES}
 use Rattle.edf_header.specs.declared.signal_checks.Check.TheVariants as checks
 use Rattle.edf_header.specs.declared.header_signals.PartBytes.{PartBytes}
 use Rattle.edf_header.specs.declared.fault.HeaderFault.{HeaderFault}
@@ -24,8 +25,8 @@ pub record AreSoundRows (ss : List (List ℕ)) : Type 0 where
   pub physical : All (Passes checks.Physical) ss
   pub digital : All (Passes checks.Digital) ss
   pub each_samples : All (Passes checks.Samples) ss
-  pub ordinary_size : 2 * samples_in_all (ordinary ss) ≤ 4_194_304
-  pub block_size : 2 * samples_in_all (labelled ss) ≤ 4_194_304
+  pub ordinary_size : 2 * samples_in_all (ordinary ss) ≤ MOST_BLOCK_BYTES
+  pub block_size : 2 * samples_in_all (labelled ss) ≤ MOST_BLOCK_BYTES
 
 -- how many bytes the signals of either kind have in a data record
 pub record ArePartBytes (ss : List (List ℕ)) (parts : PartBytes) : Type 0 where

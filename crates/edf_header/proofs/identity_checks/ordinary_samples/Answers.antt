@@ -1,4 +1,4 @@
-use Rattle.std.proofs.Common.{arith, length, ◌/◌, ◌∙◌}
+use Rattle.std.proofs.Common.{arith, length, ◌/◌}
 use Rattle.edf_header.specs.Signal.{HasSamples, rows_of, samples_in_all}
 use Rattle.edf_header.proofs.RowSteps.{length-rows, row-one}
 use Rattle.edf_header.proofs.Sorted.{skip-labelled, add-ordinary, ended, member-meets}
@@ -22,9 +22,9 @@ loop-i-preserved-in_default c =
 pub loop-i-preserved : goal.loop-i-preserved
 loop-i-preserved c =
     let at = row-one c.args.rows.now c.loop-i.i c.loop-i-test.true in (
-      add-ordinary (rows_of c.args.rows.now) c.loop-i.i _ c.from-total.result c.loop-i.total
+      add-ordinary (rows_of c.args.rows.now) c.loop-i.i _ c.in-Some.n c.loop-i.total
           c.is_labelled.result at.0 at.1 c.is_labelled.ensures.value c.if-is_labelled.false
-          (c.from-total.ensures ∙ c.in-Some.ensures.1) c.loop-i.invariant.0,
+          c.in-Some.ensures.1 c.loop-i.invariant.0,
       omega (arith, c.in-Some.ensures.2),
     )
 
