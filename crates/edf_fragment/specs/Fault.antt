@@ -3,7 +3,8 @@ use Rattle.std.specs.Prelude.{◌≡◌, ℕ, ◌+◌, ◌≤◌, ◌<◌, ◌�
 use Rattle.edf_header.specs.Header.{HeaderRecord, IsHeader, Layout, layout_of, least_records}
 use Rattle.edf_header.specs.Header.{most_records}
 use Rattle.edf_header.specs.Fault.{IsHeaderFault, header_fault_number}
-use Rattle.edf_tal.specs.Block.{IsBlocksFault, tal_fault_number}
+use Rattle.edf_tal.specs.Block.{IsBlocksFault}
+use Rattle.edf_tal.specs.Fault.{tal_fault_number}
 use Rattle.edf_tal.specs.declared.place.Place.{Place}
 use Rattle.edf_tal.specs.declared.place.Place.TheVariants.{First}
 use Rattle.edf_tal.specs.declared.place.TalFault.{TalFault}

@@ -2,7 +2,7 @@
 
 ghost use Rattle.std.specs.Prelude.{◌≡◌, ◌++◌, IfOk, codes, decimal, string_bytes};
 ghost use Rattle.edf_header.specs.Fault.{header_fault_number};
-ghost use Rattle.edf_tal.specs.Block.{tal_fault_number};
+ghost use Rattle.edf_tal.specs.Fault.{tal_fault_number};
 ghost use Rattle.edf_program.specs.Text.{fragment_fault_text, header_place, header_words};
 ghost use Rattle.edf_program.specs.Text.{place_text, tal_details};
 

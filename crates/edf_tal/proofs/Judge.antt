@@ -8,7 +8,8 @@ use Rattle.edf_tal.specs.Tal.{Tal, Annotation, IsTal, IsText, ended, AreTalsAndZ
 use Rattle.edf_tal.specs.Tal.{first_tals, all_tals, HaveUtf8Texts, IsTimed, IsTalInWindow, instant}
 use Rattle.edf_tal.specs.Tal.{tal_annotations, annotations, begin}
 use Rattle.edf_tal.specs.Block.{IsBroken, HasBadText, IsWithinLimits, KeepsPlace, BlocksFail}
-use Rattle.edf_tal.specs.Block.{tal_fault_number, IsBlocksFault}
+use Rattle.edf_tal.specs.Fault.{tal_fault_number}
+use Rattle.edf_tal.specs.Block.{IsBlocksFault}
 use Rattle.edf_tal.specs.Inside.Scan.{NoTal, IsTalAtFront, KeepsSecond, KeepsOrder}
 use Rattle.edf_tal.specs.Inside.Blocks.{AreSurveyed, IsChecked}
 use Rattle.edf_tal.specs.declared.blocks.Sums.{Sums}

@@ -5,7 +5,8 @@ use Rattle.std.proofs.lemmas.Bool.{cases_lt}
 use Rattle.edf_tal.specs.Tal.{Tal, Annotation, AreBlocks, first_tals, all_tals, IsTimed}
 use Rattle.edf_tal.specs.Tal.{IsTalInWindow, annotations, begin}
 use Rattle.edf_tal.specs.Block.{AreRead, IsRead, IsWithinLimits, KeepsPlace, BlocksFail}
-use Rattle.edf_tal.specs.Block.{tal_fault_number, IsBlocksFault, IsBlockFault}
+use Rattle.edf_tal.specs.Fault.{tal_fault_number}
+use Rattle.edf_tal.specs.Block.{IsBlocksFault, IsBlockFault}
 use Rattle.edf_tal.specs.declared.place.Place.{Place}
 use Rattle.edf_tal.specs.declared.place.Place.TheVariants.{First, After, Any}
 use Rattle.edf_tal.specs.declared.place.TalFault.{TalFault}

@@ -5,6 +5,7 @@ use Rattle.std.specs.List.{AllByRecursion}
 use Rattle.edf_tal.specs.Tal.{Tal, Annotation, IsOnset, IsDurationPart, IsText, ended, AreTals}
 use Rattle.edf_tal.specs.Tal.{AreTalsAndZeros, AreBlocks, first_tals, all_tals, HaveUtf8Texts}
 use Rattle.edf_tal.specs.Tal.{IsTimed, IsTalInWindow, annotations, begin}
+use Rattle.edf_tal.specs.Fault.{tal_fault_number}
 use Rattle.edf_tal.specs.declared.place.Place.{Place}
 use Rattle.edf_tal.specs.declared.place.Place.TheVariants.{First, After}
 use Rattle.edf_tal.specs.declared.place.TalFault.{TalFault}
@@ -112,16 +113,6 @@ BlocksFail bs s (After before duration) Order =
 BlocksFail bs s place TooMany = (tss : List (List Tal)) × AreBlocks bs tss
     × ¬ IsWithinLimits (annotations s (all_tals tss))
 BlocksFail bs s place fault = ⊥
-
-abbrev pub tal_fault_number : TalFault → ℕ
-tal_fault_number (NotTals offset) = 22
-tal_fault_number (Text offset) = 23
-tal_fault_number NotTimed = 24
-tal_fault_number FirstOnset = 25
-tal_fault_number Window = 26
-tal_fault_number Order = 27
-tal_fault_number TooMany = 28
-tal_fault_number Memory = 41
 
 -- the fault is true, and none of a lower number
 pub record IsBlocksFault (bs : List (List ℕ)) (s : ℕ) (place : Place) (fault : TalFault) : Type 0

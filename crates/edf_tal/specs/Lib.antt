@@ -1,4 +1,5 @@
 pub mod Tal
+pub mod Fault
 pub mod Block
 pub mod Canonical
 pub mod Inside
