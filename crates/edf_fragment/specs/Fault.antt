@@ -1,13 +1,16 @@
 -- When a fragment is refused: the first fault, in the order of header, data records, end.
-use Rattle.std.specs.Prelude.{◌≡◌, ℕ, ◌+◌, ◌≤◌, ◌<◌, ◌⊎◌, List, length}
+use Rattle.std.specs.Prelude.{◌≡◌, ℕ, ◌+◌, ◌≤◌, ◌<◌, ◌⊎◌, List, length, Option, Some, None}
+use Rattle.std.specs.Prelude.{codes}
 use Rattle.edf_header.specs.Header.{HeaderRecord, IsHeader, Layout, layout_of, least_records}
 use Rattle.edf_header.specs.Header.{most_records}
-use Rattle.edf_header.specs.Fault.{IsHeaderFault, header_fault_number}
+use Rattle.edf_header.specs.Fault.{IsHeaderFault, header_fault_number, header_fault_name}
+use Rattle.edf_header.specs.Fault.{header_fault_offset, header_fault_signal}
 use Rattle.edf_tal.specs.Block.{IsBlocksFault}
-use Rattle.edf_tal.specs.Fault.{tal_fault_number}
+use Rattle.edf_tal.specs.Fault.{tal_fault_number, tal_fault_name, tal_fault_offset}
 use Rattle.edf_tal.specs.declared.place.Place.{Place}
 use Rattle.edf_tal.specs.declared.place.Place.TheVariants.{First}
 use Rattle.edf_tal.specs.declared.place.TalFault.{TalFault}
+use Rattle.edf_tal.specs.declared.place.TalFault.TheVariants as tal
 use Rattle.edf_fragment.specs.Fragment.{DataRecord, AreDataRecords, blocks}
 use Rattle.edf_fragment.specs.declared.fault.FragmentFault.{FragmentFault}
 use Rattle.edf_fragment.specs.declared.fault.FragmentFault.TheVariants.{Header as BadHeader}
@@ -73,3 +76,34 @@ fragment_fault_number Trailing = 29
 fragment_fault_number Read = 40
 fragment_fault_number Memory = 41
 fragment_fault_number Failed = 0
+
+abbrev pub fragment_fault_name : FragmentFault → List ℕ
+fragment_fault_name (BadHeader fault) = header_fault_name fault
+fragment_fault_name (CutRecord nth) = codes "CutRecord"
+fragment_fault_name (Tal nth fault) = tal_fault_name fault
+fragment_fault_name Trailing = codes "Trailing"
+fragment_fault_name Read = codes "Read"
+fragment_fault_name Memory = codes "Memory"
+fragment_fault_name Failed = codes "Failed"
+
+-- the data record of a fault of its blocks; want of memory is none of them
+abbrev pub record_of_blocks : ℕ → TalFault → Option ℕ
+record_of_blocks nth tal.Memory = None
+record_of_blocks nth fault = Some nth
+
+-- the data record that the fault names, from 1
+abbrev pub fragment_fault_record : FragmentFault → Option ℕ
+fragment_fault_record (CutRecord nth) = Some nth
+fragment_fault_record (Tal nth fault) = record_of_blocks nth fault
+fragment_fault_record fault = None
+
+-- the offset that it names, from 0: in the file, or in the data record's blocks joined
+abbrev pub fragment_fault_offset : FragmentFault → Option ℕ
+fragment_fault_offset (BadHeader fault) = header_fault_offset fault
+fragment_fault_offset (Tal nth fault) = tal_fault_offset fault
+fragment_fault_offset fault = None
+
+-- the signal that it names, from 1
+abbrev pub fragment_fault_signal : FragmentFault → Option ℕ
+fragment_fault_signal (BadHeader fault) = header_fault_signal fault
+fragment_fault_signal fault = None
