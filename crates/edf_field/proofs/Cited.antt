@@ -1,6 +1,7 @@
 -- The proofs of the public laws, and no others: what other crates' proofs cite.
-use Rattle.std.proofs.Common.{◌≡◌, ℕ, ◌^◌, ◌≤◌, List, length}
+use Rattle.std.proofs.Common.{◌≡◌, ℕ, ◌≤◌, List, length}
 use Rattle.edf_field.specs.Number.{IsDuration, duration_of}
+use Rattle.edf_field.specs.declared.number.TheConstants.{MOST_DURATION}
 use Rattle.edf_field.proofs.Durations as durations
 
 pub duration-value : (field : List ℕ) (nanos : ℕ) → IsDuration field nanos →
@@ -8,5 +9,5 @@ pub duration-value : (field : List ℕ) (nanos : ℕ) → IsDuration field nanos
 duration-value = durations.duration-value
 
 pub duration-bound : (field : List ℕ) (nanos : ℕ) → length field ≤ 8 → IsDuration field nanos →
-    nanos ≤ 10 ^ 17
+    nanos ≤ MOST_DURATION
 duration-bound = durations.duration-bound

@@ -36,7 +36,7 @@ value-none (d ∷ ds) zeros =
     let e : digit_value d ≡ 0 = ap digit_value (All-head (λ (b : ℕ). b ≡ 48) d ds zeros) in
     rw (value-cons d ds, e, value-none ds (All-tail (λ (b : ℕ). b ≡ 48) d ds zeros)) (omega arith)
 
--- what a digit counts that has j - 1 places after it
+-- what a digit counts that has j - 1 decimal places after it
 abbrev unit_of : ℕ → ℕ
 unit_of zero = 0
 unit_of (suc j) = 10 ^ j
@@ -145,9 +145,9 @@ whole-some : (text w f : List ℕ) → IsDecimal text w f → 0 < length w
 whole-some text w [] d = d.0.0
 whole-some text w (c ∷ f) d = d.0.0
 
-behind-dot : (f : List ℕ) → point f ≢ Some []
-behind-dot [] e = cc
-behind-dot (c ∷ f) e = cc
+after-dot : (f : List ℕ) → point f ≢ Some []
+after-dot [] e = cc
+after-dot (c ∷ f) e = cc
 
 -- a decimal and spaces after it
 of-seconds : (text rest : List ℕ) (nanos : ℕ) → IsSeconds text nanos → AreSpaces rest → 0 < nanos →
@@ -169,7 +169,7 @@ of-seconds text rest nanos s blank some =
             ∙ ap (λ (x : List ℕ). s.whole ++ (point_text (point s.fraction) ++ x))
             (spaces-are rest (length rest) refl blank);
       };
-      behind_dot = behind-dot s.fraction;
+      after_dot = after-dot s.fraction;
       value = subst (λ (x : List ℕ). nanos * 10 ^ length x ≡ digits_value 10 (s.whole
           ++ x) * 10 ^ 9) (sym (unpoint s.fraction))
           (exact s.whole s.fraction nanos (fraction-digits text s.whole s.fraction s.parts) s.fine
@@ -232,7 +232,7 @@ from text nanos t =
         whole = t.whole;
         fraction = part;
         parts = decimal t.whole t.point t.number.some t.number.whole_digits t.number.part_digits
-            t.behind_dot;
+            t.after_dot;
         fine = s.fine;
         value = s.value;
       });

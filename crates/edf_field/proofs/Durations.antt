@@ -18,6 +18,7 @@ use Rattle.edf_time.specs.declared.decimal.DecimalFault.TheVariants.{Syntax, Too
 use Rattle.edf_field.specs.Number.{AreSpaces, digits, after_digits, fraction, front_len, IsDuration}
 use Rattle.edf_field.specs.Number.{duration_of}
 use Rattle.edf_field.specs.Grammar.{AreDigits, point_text}
+use Rattle.edf_field.specs.declared.number.TheConstants.{MOST_DURATION}
 use Rattle.edf_field.proofs.Grammar.{front, after, tail-off, fraction-is, spaces-are}
 
 is-digit : (c : ℕ) → digit_value c < 10 → IsTrue (is_ascii_digit c)
@@ -98,7 +99,7 @@ places-small unit (d ∷ ds) all =
     let b = places-small (unit / 10) ds all.1 in
     omega (arith, a, b)
 
-small : (t : List ℕ) (n : ℕ) → length t ≤ 8 → IsSeconds t n → n ≤ 10 ^ 17
+small : (t : List ℕ) (n : ℕ) → length t ≤ 8 → IsSeconds t n → n ≤ MOST_DURATION
 small t n few s =
     let w : digits_value 10 s.whole < 10 ^ length s.whole =
     digits_value-lt 10 s.whole (whole-digits t s.whole s.fraction s.parts) in
@@ -113,7 +114,8 @@ small t n few s =
     places-small (10 ^ 8) s.fraction (fraction-digits t s.whole s.fraction s.parts) in
     omega (arith, w, most, f, s.value)
 
-pub duration-bound : (field : List ℕ) (n : ℕ) → length field ≤ 8 → IsDuration field n → n ≤ 10 ^ 17
+pub duration-bound : (field : List ℕ) (n : ℕ) → length field ≤ 8 → IsDuration field n →
+    n ≤ MOST_DURATION
 duration-bound field n few d = small (take (front_len field) field) n
     (omega (arith, few, length-take (front_len field) field)) d.seconds
 
@@ -127,7 +129,8 @@ none-read field TooFine few f n d =
     none) ∙ fraction-of t f.0 f.1 [] f.2 none) d.seconds.fine)
 none-read field TooLarge few f n d =
     let t = take (front_len field) field in
-    let b : f.0 ≤ 10 ^ 17 = small t f.0 (omega (arith, length-take (front_len field) field)) f.1 in
+    let b : f.0 ≤ MOST_DURATION = small t f.0 (omega (arith, length-take (front_len field) field))
+    f.1 in
     omega (arith, f.2)
 
 pub not-read : (field front : List ℕ) (at : ℕ) (e : DecimalFault) → length field ≤ 8 →

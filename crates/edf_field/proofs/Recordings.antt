@@ -42,7 +42,7 @@ no-day f other none None after p = other (sym (get_or-take 11 f 10 0 (omega arit
 no-day f other none (Some day) after p = none day p.1
 
 -- what follows the Startdate subfield is as it must be, or the field is no recording identification
-pub not-behind : (f : List ℕ) (s : Option ℤ) (after : List ℕ) → IsStartdate f s after →
+pub not-following : (f : List ℕ) (s : Option ℤ) (after : List ℕ) → IsStartdate f s after →
     ¬ FollowsStartdate after → (r : Option ℤ) (rest : List ℕ) → ¬ IsRecording f r rest
-not-behind f s after front none r rest p =
-    none (subst FollowsStartdate (one-after f r s rest after p.front front).1 p.behind)
+not-following f s after front none r rest p =
+    none (subst FollowsStartdate (one-after f r s rest after p.front front).1 p.rest)

@@ -75,7 +75,7 @@ pub record IsDurationText (text : List ℕ) (nanos : ℕ) : Type 0 where
   pub whole : List ℕ
   pub point : Option (List ℕ)
   pub number : IsNumberText text None whole point
-  pub behind_dot : point ≢ Some []
+  pub after_dot : point ≢ Some []
   pub value : nanos * 10 ^ length (unwrap_or point []) ≡ digits_value 10 (whole
       ++ unwrap_or point []) * 10 ^ 9
   pub some : 0 < nanos

@@ -6,7 +6,7 @@ use Rattle.std.specs.Char.{is_ascii_digit}
 use Rattle.std.specs.Str.Parse.{digits_value}
 use Rattle.edf_time.specs.Decimal.{IsSeconds, fraction_value as decimal_places}
 
--- `len` bytes from this place on
+-- `len` bytes from the offset `at` on
 abbrev pub field : List ℕ → ℕ → ℕ → List ℕ
 field bytes at len = take len (drop at bytes)
 

@@ -59,4 +59,4 @@ after_of (Some day) recording = drop 21 recording
 -- the recording identification
 pub record IsRecording (text : List ℕ) (startdate : Option ℤ) (after : List ℕ) : Type 0 where
   pub front : IsStartdate text startdate after
-  pub behind : FollowsStartdate after
+  pub rest : FollowsStartdate after

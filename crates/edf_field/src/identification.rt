@@ -58,7 +58,7 @@ fn is_sex(text: &[u8]) -> bool
     matches!(text, [b'F' | b'M' | b'X'])
 }
 
-/// Whether a subfield is a birthdate: a date dd-MMM-yyyy, or `X`.
+/// Whether a subfield is a birthdate: a date `dd-MMM-yyyy`, or `X`.
 fn is_birthdate(text: &[u8]) -> bool
     ensures { IsTrue result ↔ IsBirthdate text.now }
 {
@@ -79,10 +79,10 @@ pub fn is_patient(text: &[u8]) -> bool
     let Some((sex, rest)) = next_subfield(rest) else {
         return false;
     };
-    let Some((birthdate, behind)) = next_subfield(rest) else {
+    let Some((birthdate, name)) = next_subfield(rest) else {
         return false;
     };
-    next_subfield(behind).is_some() && is_sex(sex) && is_birthdate(birthdate)
+    next_subfield(name).is_some() && is_sex(sex) && is_birthdate(birthdate)
 }
 
 /// Whether a text has three subfields or more.
@@ -98,11 +98,11 @@ fn has_three(text: &[u8]) -> bool
     next_subfield(rest).is_some()
 }
 
-/// Whether what follows a Startdate subfield is a space, and has an investigation code, a
+/// Whether what follows a Startdate subfield begins with a space and has an investigation code, a
 /// technician and an equipment code, and maybe more subfields (EDF+, additional specifications).
 ///
 /// In a recording field it is the 59 bytes after a date, or the 69 after `X`.
-pub fn is_behind_startdate(after: &[u8]) -> bool
+pub fn follows_startdate(after: &[u8]) -> bool
     ensures { IsTrue result ↔ FollowsStartdate after.now }
 {
     match after {
@@ -136,8 +136,7 @@ fn read_startdate(text: &[u8]) -> Option<(Option<Day>, &[u8])>
 /// additional specifications).
 ///
 /// `None` where the field does not begin with `Startdate` and one space, where neither a date
-/// `dd-MMM-yyyy` nor `X` follows, or where what follows that is not as `is_behind_startdate` has
-/// it.
+/// `dd-MMM-yyyy` nor `X` follows, or where the rest is none by `follows_startdate`.
 pub fn read_recording(text: &[u8]) -> Option<(Option<Day>, &[u8])>
     requires { length text.now ≡ 80 }
     ensures { MatchOption result
@@ -147,7 +146,7 @@ pub fn read_recording(text: &[u8]) -> Option<(Option<Day>, &[u8])>
     let Some((startdate, after)) = read_startdate(text) else {
         return None;
     };
-    if !is_behind_startdate(after) {
+    if !follows_startdate(after) {
         return None;
     }
     Some((startdate, after))

@@ -1,8 +1,10 @@
 //! Laws of the texts of fields: each function has a law for a contract, and does nothing.
-ghost use Rattle.std.specs.Prelude.{◌≡◌, ℕ, Bool, List, [], ◌∷◌, Option, ◌^◌, ◌≤◌, length};
+ghost use Rattle.std.specs.Prelude.{◌≡◌, ℕ, Bool, List, [], ◌∷◌, Option, ◌≤◌, length};
 ghost use Rattle.std.specs.Option.{unwrap_or};
 ghost use Rattle.edf_field.specs.Number.{IsDuration, duration_of};
 ghost use Rattle.edf_field.specs.Grammar.{AreDigits, IsSpelledAs, spelled};
+
+use crate::number::MOST_DURATION;
 
 /// A physical value spelled out is read as its digits.
 pub fn physical_read()
@@ -11,11 +13,11 @@ pub fn physical_read()
         IsSpelledAs (spelled sign (d ∷ ds) point n) (d ∷ ds) (unwrap_or point []) }
 {}
 
-/// A duration field has one value, that of its digits, and one of eight bytes at most 100,000,000
+/// A duration field has one value, that of its digits. One of eight bytes is at most 100,000,000
 /// seconds.
 pub fn duration_value()
     ensures value { (field : List ℕ) (nanos : ℕ) → IsDuration field nanos →
         nanos ≡ duration_of field }
     ensures bound { (field : List ℕ) (nanos : ℕ) → length field ≤ 8 → IsDuration field nanos →
-        nanos ≤ 10 ^ 17 }
+        nanos ≤ MOST_DURATION }
 {}

@@ -2,9 +2,9 @@
 //!
 //! - [`read_whole`], [`read_signed`], [`physical_values_differ`], [`are_spaces`]: number texts,
 //!   which only spaces follow.
-//! - [`read_duration`]: the duration of a data record.
+//! - [`read_duration`], [`MOST_DURATION`]: the duration of a data record.
 //! - [`next_subfield`]: the subfields of an identification, one after the other.
-//! - [`is_patient`], [`read_recording`], [`is_behind_startdate`]: the patient and the recording
+//! - [`is_patient`], [`read_recording`], [`follows_startdate`]: the patient and the recording
 //!   identification.
 //! - [`laws_grammar`]: number texts are read exactly where the grammar has them.
 //! - [`laws`]: what the definitions of these texts come to; functions that do nothing, each with a
@@ -17,6 +17,6 @@ pub mod laws_grammar;
 mod number;
 mod physical;
 
-pub use identification::{is_behind_startdate, is_patient, next_subfield, read_recording};
-pub use number::{are_spaces, read_duration, read_signed, read_whole};
+pub use identification::{follows_startdate, is_patient, next_subfield, read_recording};
+pub use number::{MOST_DURATION, are_spaces, read_duration, read_signed, read_whole};
 pub use physical::physical_values_differ;

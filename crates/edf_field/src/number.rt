@@ -8,7 +8,11 @@ ghost use Rattle.edf_field.specs.Number.{whole_value, unsigned, IsSigned, signed
 use crate::identification::front_len;
 use edf_time::read_seconds;
 
-/// The place of the first byte that is no digit, or the length.
+/// The longest duration of a data record, in nanoseconds: eight bytes write less than 100,000,000
+/// seconds.
+pub const MOST_DURATION: u64 = 100_000_000_000_000_000;
+
+/// The index of the first byte that is no digit, or the length.
 fn digits_end(text: &[u8]) -> usize
     ensures { result ≡ digits_len text.now }
 {
@@ -43,7 +47,7 @@ pub fn are_spaces(text: &[u8]) -> bool
     text.iter().all(|b| *b == b' ')
 }
 
-/// The text without its sign, where one is at the front.
+/// The text without the sign at its front, or all of it where it has none.
 pub(crate) fn without_sign(text: &[u8]) -> &[u8]
     ensures value { result.now ≡ unsigned text.now }
     ensures len { length result.now ≤ length text.now }

@@ -6,7 +6,8 @@ ghost use Rattle.edf_field.specs.Number.{unscaled, signed, Differ};
 
 use crate::number::{are_spaces, read_digits, split_digits, without_sign};
 
-/// A number with a sign, as all its digits write it, and how many of them are after the dot.
+/// A physical value: its sign, the number that all its digits write, and how many of them are after
+/// the dot.
 #[derive(Clone, Copy)]
 struct Physical {
     negative: bool,
@@ -16,7 +17,7 @@ struct Physical {
     ghost few: { fraction_len < 8 },
 }
 
-/// The digits after a dot, where one is at the front, and what follows.
+/// The digits after a dot at the front, or none where no dot is there, and what follows.
 fn split_fraction(text: &[u8]) -> (&[u8], &[u8])
     ensures digits { result.0.now ≡ fraction text.now }
     ensures rest { result.1.now ≡ after_fraction text.now }
@@ -30,7 +31,7 @@ fn split_fraction(text: &[u8]) -> (&[u8], &[u8])
     }
 }
 
-/// Reads a physical value, the field of at most eight bytes; `None` where it is none.
+/// Reads a field of at most eight bytes as a physical value; `None` where it is none.
 fn read_physical(field: &[u8]) -> Option<Physical>
     requires { length field.now ≤ 8 }
     ensures { MatchOption result
@@ -51,7 +52,7 @@ fn read_physical(field: &[u8]) -> Option<Physical>
     })
 }
 
-/// Whether two values differ, a zero having no sign.
+/// Whether two values differ: a zero has no sign.
 fn differ(a: Physical, b: Physical) -> bool
     ensures { IsTrue result ↔ (signed a.negative (a.unscaled * 10 ^ b.fraction_len)
         ≢ signed b.negative (b.unscaled * 10 ^ a.fraction_len)) }

@@ -48,7 +48,8 @@ startdates false date time start may d t =
     subst (IsDateText date) same parts.is_date
 
 says : (b : List ℕ) (k : Key) (start count n : ℕ) → IsKey k → MayStart k start → 1 ≤ count →
-    count ≤ MOST_RECORDS → 1 ≤ n → n ≤ MOST_BLOCK_SAMPLES → (e : IsCanonicalHeader b k start count n)
+    count ≤ MOST_RECORDS → 1 ≤ n → n ≤ MOST_BLOCK_SAMPLES →
+    (e : IsCanonicalHeader b k start count n)
     → IsSpelledBy k (day_of start) (second_of_day start) count (texts b k start count n e)
     (annotations_signal n)
 says b k start count n key may some few samples-some samples-few e =

@@ -19,9 +19,9 @@ spaces-end start old i count was past upto =
     was ∙ ap (λ (n : ℕ). start ++ spaces n) e
 
 -- the rows after the first 158 bytes of an identity
-pub rows-behind : (b : List ℕ) (k : Key) → key_at b ≡ k →
+pub rows-after : (b : List ℕ) (k : Key) → key_at b ≡ k →
     rows_of (take (length b - 158) (drop 158 b)) ≡ k.signals
-rows-behind b k is =
+rows-after b k is =
     let all : take (length b - 158) (drop 158 b) ≡ drop 158 b =
     take_all (length b - 158) (drop 158 b) (omega (arith, length-drop 158 b)) in
     ap rows_of all ∙ ap (λ (n : ℕ). rows (n / 256) (drop 158 b)) (length-drop 158 b)

@@ -47,7 +47,8 @@ pub record IsCanonicalRow (n : ℕ) (row : List ℕ) : Type 0 where
   pub samples_are : HasSamples row
   pub samples_is : samples row ≡ n
 
-pub canonical-row : (n : ℕ) → 1 ≤ n → n ≤ MOST_BLOCK_SAMPLES → IsCanonicalRow n (annotations_signal n)
+pub canonical-row : (n : ℕ) → 1 ≤ n → n ≤ MOST_BLOCK_SAMPLES →
+    IsCanonicalRow n (annotations_signal n)
 canonical-row n some small =
     let f = number-field 8 n (omega arith) (omega arith) (omega arith) in
     let text : List ℕ = padded_to 8 (decimal n) in

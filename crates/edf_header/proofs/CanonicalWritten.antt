@@ -13,7 +13,8 @@ use Rattle.edf_header.specs.Spelled.{startdate_text}
 use Rattle.edf_header.specs.declared.limits.TheConstants.{MOST_BLOCK_SAMPLES}
 use Rattle.edf_header.proofs.CanonicalSignal.{canonical-row}
 
-pub row-length : (n : ℕ) (row : List ℕ) → 1 ≤ n → n ≤ MOST_BLOCK_SAMPLES → row ≡ annotations_signal n →
+pub row-length : (n : ℕ) (row : List ℕ) → 1 ≤ n → n ≤ MOST_BLOCK_SAMPLES →
+    row ≡ annotations_signal n →
     length row ≡ 256
 row-length n row some few is = ap length is ∙ (canonical-row n some few).printed.len
 

@@ -1,8 +1,10 @@
 -- The proofs of the public laws that other crates' proofs cite; they cite no other file of these.
 use Rattle.std.proofs.Common.{◌≡◌, ℕ, ◌*◌, ◌/◌, ◌^◌, ◌≤◌, ◌<◌, List, ◌⊎◌}
 use Rattle.edf_field.specs.Number.{duration_of}
+use Rattle.edf_field.specs.declared.number.TheConstants.{MOST_DURATION}
 use Rattle.edf_header.specs.Key.{Key, IsKey, IsSized, MayStart, key_at, key_bytes}
-use Rattle.edf_header.specs.Header.{FixedPart, HeaderRecord, IsFixed, IsFixedHeader, AreSignals}
+use Rattle.edf_header.specs.Header.{HeaderRecord, AreSignals}
+use Rattle.edf_header.specs.Fixed.{FixedPart, IsFixed, IsFixedHeader}
 use Rattle.edf_header.specs.Header.{IsHeader, key_of, layout_of, IsLayout}
 use Rattle.edf_header.specs.Fault.{FixedPartFails, SignalsFail, IsClean, IsHeaderFault}
 use Rattle.edf_header.specs.Canonical.{IsCanonicalHeader}
@@ -28,7 +30,7 @@ one-key = key_laws.one-key
 pub key-duration-some : (k : Key) → IsKey k → 0 < duration_of k.duration
 key-duration-some = key_laws.key-duration-some
 
-pub key-duration-bound : (k : Key) → IsKey k → duration_of k.duration ≤ 10 ^ 17
+pub key-duration-bound : (k : Key) → IsKey k → duration_of k.duration ≤ MOST_DURATION
 key-duration-bound = key_laws.key-duration-bound
 
 -- the fixed part

@@ -6,8 +6,8 @@ use Rattle.edf_field.specs.Number.{field, AreSpaces, IsWhole, IsSigned, IsPhysic
 use Rattle.edf_field.specs.Number.{whole_value, after_digits, after_fraction, digits_len, unsigned}
 use Rattle.edf_field.specs.Number.{IsNumber}
 use Rattle.edf_field.specs.Text.{IsPrintable, FollowsStartdate, subfields}
-use Rattle.edf_header.specs.Header.{IsCount, IsPlus}
-use Rattle.edf_header.specs.Fault.{HasCount, HasSignals}
+use Rattle.edf_header.specs.Fixed.{IsCount, IsPlus}
+use Rattle.edf_header.specs.Condition.{HasCount, HasSignals}
 use Rattle.edf_header.specs.declared.limits.TheConstants.{MOST_SIGNALS}
 use Rattle.edf_header.proofs.Decided.{Decided, like, both, either, negated, less, at-most, same}
 use Rattle.edf_header.proofs.Decided.{same-bytes, same-int, every}
@@ -40,8 +40,8 @@ pub plus : (text : List ℕ) → Decided (IsPlus text)
 plus text = either (same-bytes (take 5 text) (codes "EDF+C"))
     (same-bytes (take 5 text) (codes "EDF+D"))
 
-pub behind-startdate : (after : List ℕ) → Decided (FollowsStartdate after)
-behind-startdate after =
+pub follows-startdate : (after : List ℕ) → Decided (FollowsStartdate after)
+follows-startdate after =
     like (both (same-bytes (take 1 after) (codes " ")) (at-most 3 (length (subfields after))))
     (λ p. record { space = p.0; codes_in = p.1 }) (λ p. (p.space, p.codes_in))
 

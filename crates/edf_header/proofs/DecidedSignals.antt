@@ -5,7 +5,7 @@ use Rattle.edf_field.specs.Number.{field, signed_value}
 use Rattle.edf_header.specs.Signal.{HasDigital, HasPhysical, HasSamples, IsAnnotationsSignal}
 use Rattle.edf_header.specs.Signal.{IsFirstBad, IsLabelled, Passes, labelled, ordinary, samples}
 use Rattle.edf_header.specs.Signal.{samples_in_all}
-use Rattle.edf_header.specs.Fault.{HasAnnotations, IsTooLarge}
+use Rattle.edf_header.specs.Condition.{HasAnnotations, IsTooLarge}
 use Rattle.edf_header.specs.declared.signal_checks.Check.{Check}
 use Rattle.edf_header.specs.declared.signal_checks.Check.TheVariants.{Label, Annotations, Physical}
 use Rattle.edf_header.specs.declared.signal_checks.Check.TheVariants.{Digital, Samples}

@@ -13,7 +13,7 @@ use Rattle.edf_field.specs.Text.{FollowsStartdate, IsBirthdate, IsPatient, IsRec
 use Rattle.edf_field.specs.Text.{subfields}
 use Rattle.edf_header.proofs.Decided.{Decided, like, both, either, less, same, same-bytes, every}
 use Rattle.edf_header.proofs.Decided.{some-below}
-use Rattle.edf_header.proofs.DecidedFields.{spaces, behind-startdate}
+use Rattle.edf_header.proofs.DecidedFields.{spaces, follows-startdate}
 use Rattle.edf_time.proofs.Cited.{some-date, some-yearless, some-id_date}
 
 all-digits : (ds : List ℕ) → Decided (AllDigits 10 ds)
@@ -45,13 +45,13 @@ worth text w f =
     (λ p. record { parts = p.0; fine = p.1.0; some = p.1.1 })
     (λ p. (p.parts, (p.fine, p.some)))
 
--- its parts are those on the two sides of some place
+-- its parts are those on the two sides of some offset
 abbrev IsWorthAt : List ℕ → ℕ → Type 0
 IsWorthAt text at = IsWorth text (take at text) (drop (suc at) text)
 
-behind-dot : (w f : List ℕ) → drop (suc (length w)) (w ++ 46 ∷ f) ≡ f
-behind-dot [] f = refl
-behind-dot (d ∷ w) f = behind-dot w f
+after-dot : (w f : List ℕ) → drop (suc (length w)) (w ++ 46 ∷ f) ≡ f
+after-dot [] f = refl
+after-dot (d ∷ w) f = after-dot w f
 
 worth-at : (text w f : List ℕ) → IsWorth text w f → (at : ℕ) × (at < suc (length text))
     × IsWorthAt text at
@@ -70,7 +70,7 @@ worth-at text w (c ∷ f) is =
     let front : w ≡ take (length w) text =
     sym (ap (take (length w)) e ∙ take_at w (46 ∷ c ∷ f) (length w) refl) in
     let back : c ∷ f ≡ drop (suc (length w)) text =
-    sym (ap (drop (suc (length w))) e ∙ behind-dot w (c ∷ f)) in (
+    sym (ap (drop (suc (length w))) e ∙ after-dot w (c ∷ f)) in (
       length w,
       omega (arith, ap length e, length-append w (46 ∷ c ∷ f)),
       subst (λ (l : List ℕ). IsWorth text (take (length w) text) l) back
@@ -158,34 +158,34 @@ HasRecording text = (startdate : Option ℤ) × (after : List ℕ) × IsRecordin
 from-dated : (text : List ℕ) → IsUndated text ⊎ IsDated text → HasRecording text
 from-dated text p =
     elim p [
-      | inl x ↦ (None, drop 11 text, record { front = (x.0, refl); behind = x.1 })
+      | inl x ↦ (None, drop 11 text, record { front = (x.0, refl); rest = x.1 })
       | inr d ↦ (
         Some d.0.1.0,
         drop 21 text,
-        record { front = (d.0.0, d.0.1.1, refl); behind = d.1 },
+        record { front = (d.0.0, d.0.1.1, refl); rest = d.1 },
       )
     ]
 
 to-dated : (text : List ℕ) (s : Option ℤ) (after : List ℕ) → IsRecording text s after →
     IsUndated text ⊎ IsDated text
-to-dated text None after r = inl (r.front.0, subst FollowsStartdate r.front.1 r.behind)
+to-dated text None after r = inl (r.front.0, subst FollowsStartdate r.front.1 r.rest)
 to-dated text (Some day) after r =
-    inr ((r.front.0, (day, r.front.1)), subst FollowsStartdate r.front.2 r.behind)
+    inr ((r.front.0, (day, r.front.1)), subst FollowsStartdate r.front.2 r.rest)
 
 pub recording : (text : List ℕ) → Decided (HasRecording text)
 recording text =
     like (either (both (same-bytes (take 11 text) (codes "Startdate X"))
-    (behind-startdate (drop 11 text)))
+    (follows-startdate (drop 11 text)))
     (both (both (same-bytes (take 10 text) (codes "Startdate ")) (some-id_date (field text 10 11)))
-    (behind-startdate (drop 21 text))))
+    (follows-startdate (drop 21 text))))
     (from-dated text) (λ r. to-dated text r.0 r.1 r.2)
 
 -- one with X in place of the startdate
 pub undated : (text : List ℕ) → Decided ((after : List ℕ) × IsRecording text None after)
 undated text =
-    like (both (same-bytes (take 11 text) (codes "Startdate X")) (behind-startdate (drop 11 text)))
-    (λ p. (drop 11 text, record { front = (p.0, refl); behind = p.1 }))
-    (λ r. (r.1.front.0, subst FollowsStartdate r.1.front.1 r.1.behind))
+    like (both (same-bytes (take 11 text) (codes "Startdate X")) (follows-startdate (drop 11 text)))
+    (λ p. (drop 11 text, record { front = (p.0, refl); rest = p.1 }))
+    (λ r. (r.1.front.0, subst FollowsStartdate r.1.front.1 r.1.rest))
 
 -- the startdate
 pub date-form : (text : List ℕ) (id : Option ℤ) → Decided (HasDateForm text id)

@@ -2,11 +2,12 @@
 use Rattle.std.proofs.Common.{◌≡◌, ℕ, ◌+◌, ◌-◌, ◌*◌, ◌≤◌, ◌<◌, List, [], ◌++◌, length, take, drop}
 use Rattle.std.proofs.Common.{arith, sym, subst, inl, inr}
 use Rattle.std.proofs.lemmas.Bool.{cases_lt}
-use Rattle.edf_header.specs.Identity.{HasLength, HasMark, IsCleanKey, KeyFails, place_in_order}
+use Rattle.edf_header.specs.Identity.{HasLength, HasMark, IsCleanKey, KeyFails}
+use Rattle.edf_header.specs.Identity.{identity_fault_order}
 use Rattle.edf_header.specs.Identity.{signals_at}
 use Rattle.edf_header.specs.Key.{IsKey, Key, key_at, key_bytes}
 use Rattle.edf_field.specs.Number.{field, IsDuration}
-use Rattle.edf_header.specs.Inside.Shape.{IsKeyFront, place_of_check}
+use Rattle.edf_header.specs.Inside.Shape.{IsKeyFront, check_order}
 use Rattle.edf_header.specs.Signal.{IsFirstBad, Passes, rows_of, samples_in_all}
 use Rattle.edf_field.specs.Text.{IsPrintable, IsPatient, FollowsStartdate}
 use Rattle.std.specs.Prelude.{All}
@@ -31,7 +32,7 @@ pub not-bad : {X : Type 0} (P : X → Type 0) (d : X) (xs : List X) (at : ℕ) �
     ¬ IsFirstBad P xs at
 not-bad P d xs at all bad = bad.bad d (all at d bad.within)
 
-positive : (e : IdentityFault) → ¬ (place_in_order e < 1)
+positive : (e : IdentityFault) → ¬ (identity_fault_order e < 1)
 positive Length lt = omega arith
 positive e lt = omega arith
 
@@ -55,7 +56,7 @@ clean-5 b len printable patient recording e lt bad = absurd (omega arith)
 
 pub clean-6 : (b : List ℕ) → IsKeyFront b → IsCleanKey b 6
 clean-6 b f Duration lt bad = bad f.duration.0 f.duration.1
-clean-6 b f Recording lt bad = bad (f.mark, f.behind)
+clean-6 b f Recording lt bad = bad (f.mark, f.after)
 clean-6 b f Patient lt bad = bad f.patient
 clean-6 b f Length lt bad = bad f.len
 clean-6 b f (Unprintable offset) lt bad = not-bad IsPrintable 0 b offset f.printable bad
@@ -63,7 +64,7 @@ clean-6 b f e lt bad = absurd (omega arith)
 
 -- past the row of a check that all signals pass
 past : (check : Check) (b : List ℕ) → All (Passes check) (signals_at b) → (e : IdentityFault) →
-    place_in_order e ≡ place_of_check check → ¬ KeyFails b e
+    identity_fault_order e ≡ check_order check → ¬ KeyFails b e
 past CheckLabel b all (Label s) eq bad =
     not-bad (Passes CheckLabel) [] (signals_at b) bad.0 all bad.1
 past CheckLabel b all e eq bad = absurd (omega arith)
@@ -78,13 +79,13 @@ past CheckSamples b all (Samples s) eq bad =
     not-bad (Passes CheckSamples) [] (signals_at b) bad.0 all bad.1
 past CheckSamples b all e eq bad = absurd (omega arith)
 
-pub all-passed : (check : Check) (b : List ℕ) → IsCleanKey b (place_of_check check) →
+pub all-passed : (check : Check) (b : List ℕ) → IsCleanKey b (check_order check) →
     All (Passes check) (rows_of (take (length b - 158) (drop 158 b)))
-    → All (Passes check) (signals_at b) × IsCleanKey b (place_of_check check + 1)
+    → All (Passes check) (signals_at b) × IsCleanKey b (check_order check + 1)
 all-passed check b clean all =
     let here = subst (All (Passes check)) (sliced b) all in (
       here,
-      λ e lt bad. elim (cases_lt (place_in_order e) (place_of_check check)) [
+      λ e lt bad. elim (cases_lt (identity_fault_order e) (check_order check)) [
         | inl below ↦ clean e below bad
         | inr le ↦ past check b here e (omega arith) bad
       ],
@@ -96,7 +97,8 @@ pub bad-at : (check : Check) (b : List ℕ) (at : ℕ) →
 bad-at check b at bad = subst (λ (l : List (List ℕ)). IsFirstBad (Passes check) l at) (sliced b) bad
 
 pub at-small : (check : Check) (b : List ℕ) (at : ℕ) → HasLength b →
-    IsFirstBad (Passes check) (rows_of (take (length b - 158) (drop 158 b))) at → at < MOST_ORDINARY_SIGNALS
+    IsFirstBad (Passes check) (rows_of (take (length b - 158) (drop 158 b))) at →
+    at < MOST_ORDINARY_SIGNALS
 at-small check b at len bad = omega (
   arith,
   (bad-at check b at bad).within,
@@ -105,7 +107,8 @@ at-small check b at len bad = omega (
 )
 
 -- past the size
-pub clean-11 : (b : List ℕ) → IsCleanKey b 10 → 2 * samples_in_all (signals_at b) ≤ MOST_BLOCK_BYTES →
+pub clean-11 : (b : List ℕ) → IsCleanKey b 10 →
+    2 * samples_in_all (signals_at b) ≤ MOST_BLOCK_BYTES →
     IsCleanKey b 11
 clean-11 b clean size Size lt bad = absurd (omega (arith, bad))
 clean-11 b clean size Memory lt bad = absurd (omega arith)
@@ -114,7 +117,8 @@ clean-11 b clean size e lt bad = clean e (omega arith) bad
 pub is-key : (b : List ℕ) → IsKeyFront b → All (Passes CheckLabel) (signals_at b) →
     All (Passes CheckPhysical) (signals_at b) → All (Passes CheckDigital) (signals_at b) →
     All (Passes CheckSamples) (signals_at b)
-    → 2 * samples_in_all (signals_at b) ≤ MOST_BLOCK_BYTES → (key_bytes (key_at b) ≡ b) × IsKey (key_at b)
+    → 2 * samples_in_all (signals_at b) ≤ MOST_BLOCK_BYTES → (key_bytes (key_at b) ≡ b)
+    × IsKey (key_at b)
 is-key b f l p d s size =
     let back = bytes-back b (shaped b f.len f.mark) in
     let n : length (signals_at b) ≡ f.len.0 = count-is b f.len.0 f.len.3 in (
@@ -123,7 +127,7 @@ is-key b f l p d s size =
         sized = sized b f.len;
         printable = subst (All IsPrintable) (sym back) f.printable;
         patient = f.patient;
-        behind = f.behind;
+        after = f.after;
         duration = f.duration;
         signals_from = omega (arith, f.len.1);
         signals_to = omega (arith, f.len.2);
@@ -147,7 +151,7 @@ front-of k i =
       patient = subst (λ (k : Key). IsPatient k.patient) (sym back) i.patient;
       mark = key-mark k.dated k.patient k.after (k.duration
           ++ flat_map (λ (s : List ℕ). s) k.signals) i.sized.patient i.sized.after;
-      behind = subst (λ (k : Key). FollowsStartdate k.after) (sym back) i.behind;
+      after = subst (λ (k : Key). FollowsStartdate k.after) (sym back) i.after;
       duration = (
         i.duration.0,
         subst (λ (k : Key). IsDuration k.duration i.duration.0) (sym back)

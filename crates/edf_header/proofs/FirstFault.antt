@@ -6,8 +6,10 @@ use Rattle.edf_time.specs.Civil.{HasDateForm, IsDateText, IsTimeText}
 use Rattle.edf_field.specs.Number.{field, IsDuration, IsNumber}
 use Rattle.edf_field.specs.Text.{IsPrintable, IsRecording}
 use Rattle.edf_header.specs.Signal.{IsFirstBad, Passes, signals_of}
-use Rattle.edf_header.specs.Fault.{DatesAreOther, FixedPartFails, HasNoYear, HasSignals}
-use Rattle.edf_header.specs.Fault.{IsBadSignal, IsClean, IsFirst, IsNoStartdate, SignalsFail}
+use Rattle.edf_header.specs.Fault.{FixedPartFails}
+use Rattle.edf_header.specs.Condition.{DatesAreOther, HasNoYear, HasSignals}
+use Rattle.edf_header.specs.Fault.{IsClean, IsFirst, SignalsFail}
+use Rattle.edf_header.specs.Condition.{IsBadSignal, IsNoStartdate}
 use Rattle.edf_header.specs.Fault.{header_fault_number}
 use Rattle.edf_header.specs.declared.signal_checks.Check.{Check}
 use Rattle.edf_header.specs.declared.signal_checks.Check.TheVariants as checks
@@ -31,7 +33,7 @@ use Rattle.edf_time.proofs.Cited.{some-date, some-startdates, some-time, some-ye
 use Rattle.edf_header.proofs.DecidedTexts as texts
 use Rattle.edf_header.proofs.DecidedSignals as rows
 
--- the place that a fault names, or 0
+-- the offset or the signal that a fault names, or 0
 abbrev spot : HeaderFault → ℕ
 spot (Unprintable offset) = offset
 spot (UnprintableSignals offset) = offset
@@ -40,7 +42,7 @@ spot (Digital signal) = signal
 spot (Samples signal) = signal
 spot e = 0
 
--- the fault of a number, at a place
+-- the fault of a number, with the offset or the signal
 abbrev made : ℕ → ℕ → HeaderFault
 made n at =
     cond (eqb n 1) Cut (cond (eqb n 2) (Unprintable at)
@@ -77,7 +79,7 @@ made-is (Samples at) = refl
 made-is Size = refl
 made-is Memory = refl
 
--- the fault of a number is true at some place
+-- the fault of a number is true of some offset or signal
 abbrev IsTrueAt : (HeaderFault → Type 0) → ℕ → Type 0
 IsTrueAt Holds n = (at : ℕ) × Holds (made n at)
 
@@ -101,7 +103,7 @@ row Holds n named here before =
       | inr first ↦ inr first
     ]
 
--- a fault that names no place
+-- a fault that names no offset and no signal
 plain : {P : Type 0} → Decided P → Decided ((at : ℕ) × P)
 plain d = like d (λ p. (0, p)) (λ p. p.1)
 

@@ -18,8 +18,8 @@ use Rattle.edf_field.proofs.Recordings.{one-after}
 use Rattle.edf_field.specs.Number.{field, whole_value, digits, digits_len, IsNumber, IsWhole}
 use Rattle.edf_field.specs.Text.{IsPrintable, IsStartdate}
 use Rattle.edf_header.specs.Signal.{IsFirstBad}
-use Rattle.edf_header.specs.Header.{FixedPart, IsCount, IsCountInRange, IsFixed, IsFixedHeader}
-use Rattle.edf_header.specs.Header.{is_dated}
+use Rattle.edf_header.specs.Fixed.{FixedPart, IsCount, IsCountInRange, IsFixed, IsFixedHeader}
+use Rattle.edf_header.specs.Fixed.{is_dated}
 use Rattle.edf_header.specs.Key.{MayStartBy}
 use Rattle.edf_header.specs.Fault.{FixedPartFails, IsClean, IsFirst, header_fault_number}
 use Rattle.edf_header.specs.declared.fault.HeaderFault.{HeaderFault}
@@ -256,7 +256,7 @@ is-fixed b h f = record {
       (length-field b 88 80 (omega (arith, f.len))) f.recording.front;
   after_printable = after-printable (field b 88 80) h.startdate h.after
       (All-field IsPrintable b 88 80 f.printable) f.recording.front;
-  is_behind = f.recording.behind;
+  is_after = f.recording.rest;
   in_window = (start-parts (field b 168 8) (field b 176 8) h.startdate h.start f.start).in_window;
   may_start = undated-start (field b 168 8) (field b 176 8) h.startdate h.start f.start;
   whole_second = omega (arith, f.start.4);

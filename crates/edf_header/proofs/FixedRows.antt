@@ -7,7 +7,8 @@ use Rattle.edf_time.specs.declared.civil.StartFault.TheVariants as why
 use Rattle.edf_time.proofs.Cited.{has-form}
 use Rattle.edf_field.specs.Number.{field, IsDuration}
 use Rattle.edf_field.specs.Text.{IsStartdate, IsRecording, after_of}
-use Rattle.edf_header.specs.Fault.{FixedPartFails, IsClean, IsFirst, HasSignals}
+use Rattle.edf_header.specs.Fault.{FixedPartFails, IsClean, IsFirst}
+use Rattle.edf_header.specs.Condition.{HasSignals}
 use Rattle.edf_header.specs.Fault.{header_fault_number}
 use Rattle.edf_header.specs.declared.fault.HeaderFault.{HeaderFault}
 use Rattle.edf_header.specs.declared.fault.HeaderFault.TheVariants.{Recording, Startdate, Starttime}

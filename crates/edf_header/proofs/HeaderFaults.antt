@@ -1,13 +1,14 @@
 -- The faults of the signal part, one row after another.
 use Rattle.std.proofs.Common.{◌≡◌, ℕ, ◌+◌, ◌*◌, Bool, true, false, not, List, [], length, arith}
-use Rattle.std.proofs.Common.{refl, sym, subst, inl, inr, Option, None, Some}
+use Rattle.std.proofs.Common.{refl, sym, ap, subst, inl, inr, Option, None, Some, ◌∙◌}
 use Rattle.std.proofs.lemmas.Bool.{cases_lt, false≢true}
 use Rattle.std.specs.Prelude.{◌⊎◌, ◌↔◌, All, IsTrue, MatchOption, is_some}
 use Rattle.edf_field.specs.Text.{IsPrintable}
-use Rattle.edf_header.specs.Signal.{IsFirstBad, Passes, labelled, ordinary, samples_in_all}
+use Rattle.edf_header.specs.Signal.{Passes, labelled, ordinary, samples_in_all}
 use Rattle.edf_header.specs.Signal.{signals_of}
 use Rattle.edf_header.specs.Inside.Rows.{RowsFail, AreSoundRows}
-use Rattle.edf_header.specs.Fault.{HasAnnotations, IsBadSignal, IsTooLarge, SignalsFail, IsClean}
+use Rattle.edf_header.specs.Fault.{SignalsFail, IsClean}
+use Rattle.edf_header.specs.Condition.{HasAnnotations, IsBadSignal, IsTooLarge}
 use Rattle.edf_header.specs.Fault.{IsFirst, header_fault_number}
 use Rattle.edf_header.specs.declared.signal_checks.Check.{Check}
 use Rattle.edf_header.specs.declared.signal_checks.Check.TheVariants as checks
@@ -128,14 +129,16 @@ pub clean-signals : (b : List ℕ) (n k : ℕ) → length b ≡ 256 * n → All 
     IsClean (RowsFail (signals_of b n)) k → IsClean (SignalsFail b n) k
 clean-signals b n k len printable clean e lt bad = clean e lt (rows-fail b n len printable e bad)
 
-pub first-signals : (b : List ℕ) (n m : ℕ) (e : HeaderFault) → n ≡ m → length b ≡ 256 * m →
-    All IsPrintable b → IsFirst (RowsFail (signals_of b n)) e → IsFirst (SignalsFail b m) e
-first-signals b n m e is len printable first =
+pub first-signals : (b : List ℕ) (ss : List (List ℕ)) (n m : ℕ) (e : HeaderFault) →
+    ss ≡ signals_of b n → n ≡ m → length b ≡ 256 * m → All IsPrintable b →
+    IsFirst (RowsFail ss) e → IsFirst (SignalsFail b m) e
+first-signals b ss n m e each is len printable first =
     let f : IsFirst (RowsFail (signals_of b m)) e =
-    subst (λ (k : ℕ). IsFirst (RowsFail (signals_of b k)) e) is first in
+    subst (λ (rows : List (List ℕ)). IsFirst (RowsFail rows) e) (each ∙ ap (signals_of b) is)
+    first in
     (signals-fail b m e f.0, clean-signals b m (header_fault_number e) len printable f.1)
 
--- what the loops over the signals tell
+-- what the loops over the signals find
 pub one-kind : (ss : List (List ℕ)) (k n : ℕ) → k ≡ length (labelled ss) → length ss ≡ n → (k ≡ 0)
     ⊎ (k ≡ n) → ¬ HasAnnotations ss
 one-kind ss k n is len which h =
@@ -144,18 +147,18 @@ one-kind ss k n is len which h =
       | inr all ↦ omega (arith, h.ordinary_some, kinds-count ss)
     ]
 
-pub kinds-told : (ss : List (List ℕ)) (k n : ℕ) (r : Option ℕ) (told : Bool) →
+pub kinds-decided : (ss : List (List ℕ)) (k n : ℕ) (r : Option ℕ) (answer : Bool) →
     k ≡ length (labelled ss) → length ss ≡ n → (k ≡ 0 → ⊥) → (k ≡ n → ⊥)
-    → is_some r ≡ not told → MatchOption r (All (Passes checks.Annotations) ss)
-    (IsFirstBad (Passes checks.Annotations) ss) → IsTrue told ↔ HasAnnotations ss
-kinds-told ss k n None true is len some all says pass = (
+    → is_some r ≡ not answer → MatchOption r (All (Passes checks.Annotations) ss)
+    (IsBadSignal checks.Annotations ss) → IsTrue answer ↔ HasAnnotations ss
+kinds-decided ss k n None true is len some all says pass = (
   λ _. has-annotations ss (omega (arith, some)) (omega (arith, all, kinds-count ss)) pass,
   λ _. refl,
 )
-kinds-told ss k n None false is len some all says pass = absurd (false≢true says)
-kinds-told ss k n (Some at) true is len some all says bad = absurd (false≢true (sym says))
-kinds-told ss k n (Some at) false is len some all says bad = (
+kinds-decided ss k n None false is len some all says pass = absurd (false≢true says)
+kinds-decided ss k n (Some signal) true is len some all says bad = absurd (false≢true (sym says))
+kinds-decided ss k n (Some signal) false is len some all says bad = (
   λ yes. absurd (false≢true yes),
-  λ h. absurd (not-bad (Passes checks.Annotations) [] ss at
-      (annotations-pass ss h.annotations) bad),
+  λ h. absurd (not-bad (Passes checks.Annotations) [] ss bad.0
+      (annotations-pass ss h.annotations) bad.1),
 )

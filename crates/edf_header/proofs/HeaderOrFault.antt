@@ -7,9 +7,11 @@ use Rattle.edf_time.specs.Civil.{AreStartdates, HasDateForm, IsTimeText}
 use Rattle.edf_field.specs.Number.{field, IsDuration, IsNumber}
 use Rattle.edf_field.specs.Text.{IsPrintable}
 use Rattle.edf_header.specs.Signal.{IsFirstBad, Passes, signals_of}
-use Rattle.edf_header.specs.Header.{AreSignals, FixedPart, HeaderRecord, IsFixedHeader, IsHeader}
+use Rattle.edf_header.specs.Header.{AreSignals, HeaderRecord, IsHeader}
+use Rattle.edf_header.specs.Fixed.{FixedPart, IsFixedHeader}
 use Rattle.edf_header.specs.Inside.Rows.{header_of}
-use Rattle.edf_header.specs.Fault.{FixedPartFails, HasSignals, IsBadSignal, IsClean, IsHeaderFault}
+use Rattle.edf_header.specs.Fault.{FixedPartFails, IsClean, IsHeaderFault}
+use Rattle.edf_header.specs.Condition.{HasSignals, IsBadSignal}
 use Rattle.edf_header.specs.Fault.{SignalsFail}
 use Rattle.edf_header.specs.declared.signal_checks.Check.{Check}
 use Rattle.edf_header.specs.declared.signal_checks.Check.TheVariants as checks
@@ -119,7 +121,7 @@ signal-part s f le clean =
     let physical = all-pass checks.Physical ss (λ k. clean (Physical k) (omega arith)) in
     let digital = all-pass checks.Digital ss (λ k. clean (Digital k) (omega arith)) in
     let samples = all-pass checks.Samples ss (λ k. clean (Samples k) (omega arith)) in
-    are-signals s f (omega (arith, long)) printable
+    are-signals s f (signals_of s f.signal_count) refl (omega (arith, long)) printable
     (sound-is ss annotations physical digital samples (clean Size (omega arith)))
 
 parts : (b : List ℕ) (k : ℕ) → b ≡ take 256 b ++ (field b 256 k ++ drop k (drop 256 b))
@@ -140,9 +142,9 @@ HasHeader b = (h : HeaderRecord) × (rest : List ℕ) × IsHeader b h rest
 abbrev HasFault : List ℕ → Type 0
 HasFault b = (fault : HeaderFault) × IsHeaderFault b fault
 
-behind-fixed : (b : List ℕ) → IsClean (FixedPartFails (take 256 b)) 14 → (f : FixedPart) →
+after-fixed : (b : List ℕ) → IsClean (FixedPartFails (take 256 b)) 14 → (f : FixedPart) →
     IsFixedHeader (take 256 b) f → HasHeader b ⊎ HasFault b
-behind-fixed b clean f is =
+after-fixed b clean f is =
     let n : ℕ = f.signal_count in
     let s : List ℕ = field b 256 (256 * n) in
     elim (signal-rows s n) [
@@ -175,6 +177,6 @@ header-or-fault b =
     elim (fixed-rows (take 256 b)) [
       | inl clean ↦
           let f = fixed-part (take 256 b) (omega (arith, length-take 256 b)) clean in
-          behind-fixed b clean f.0 f.1
+          after-fixed b clean f.0 f.1
       | inr first ↦ inr (first.0, inl first.1)
     ]

@@ -1,6 +1,6 @@
 -- The header that checked rows and a fixed part make, its key and its layout.
 use Rattle.std.proofs.Common.{◌≡◌, ℕ, ◌+◌, ◌*◌, ◌<◌, List, [], ◌∷◌, ◌++◌, length, drop, Bool, true}
-use Rattle.std.proofs.Common.{false, not, arith, refl, sym, ap, ◌∙◌, subst, Option}
+use Rattle.std.proofs.Common.{false, not, arith, sym, ap, ◌∙◌, subst, Option}
 use Rattle.std.proofs.lemmas.List.Elements.{All-nil, All-cons, All-append, All-take, All-drop}
 use Rattle.std.proofs.lemmas.List.Elements.{All-tail, All-head, All-replicate, All-filter}
 use Rattle.std.proofs.lemmas.List.FromFn.{length-map-range_with_len, get_or-map-range_with_len}
@@ -12,7 +12,8 @@ use Rattle.edf_header.specs.Fields.{fields}
 use Rattle.edf_header.specs.Signal.{HasSamples, has_label, ordinary, row_at, row_by, samples_in_all}
 use Rattle.edf_header.specs.Signal.{signals_of}
 use Rattle.edf_header.specs.Key.{IsKey, Key, dated_bytes, key_bytes}
-use Rattle.edf_header.specs.Header.{AreApart, AreSignals, FixedPart, HeaderRecord, IsFixed}
+use Rattle.edf_header.specs.Header.{AreApart, AreSignals, HeaderRecord}
+use Rattle.edf_header.specs.Fixed.{FixedPart, IsFixed}
 use Rattle.edf_header.specs.Header.{block_bytes, blocks_from, key_of, layout_of, IsLayout}
 use Rattle.edf_header.specs.Inside.Rows.{ArePartBytes, AreSoundRows, header_of}
 use Rattle.edf_header.specs.declared.header.Block.{Block}
@@ -92,7 +93,7 @@ header-key b h f s =
       printable = key-printable (key_of h) f.patient_printable f.after_printable
           f.duration_printable (of-ordinary (λ (s : List ℕ). All IsPrintable s) h.signals prints);
       patient = f.is_patient;
-      behind = f.is_behind;
+      after = f.is_after;
       duration = f.is_duration;
       signals_from = s.ordinary_some;
       signals_to = omega (arith, count, signals-count b h s, s.annotations_some, f.signals_to);
@@ -123,27 +124,27 @@ header-layout b h f s =
       record_size = omega (arith, kinds-samples h.signals, s.ordinary_size, s.block_size);
     }
 
-pub are-signals : (b : List ℕ) (f : FixedPart) → length b ≡ 256 * f.signal_count →
-    All IsPrintable b → AreSoundRows (signals_of b f.signal_count) →
-    AreSignals b (header_of f (signals_of b f.signal_count))
-are-signals b f len printable s = record {
+pub are-signals : (b : List ℕ) (f : FixedPart) (ss : List (List ℕ)) →
+    signals_of b f.signal_count ≡ ss → length b ≡ 256 * f.signal_count →
+    All IsPrintable b → AreSoundRows ss → AreSignals b (header_of f ss)
+are-signals b f ss each len printable s = record {
   len = len;
   printable = printable;
-  each = refl;
+  each = each;
   annotations_some = s.annotations.annotations_some;
   are_annotations = s.annotations.annotations;
   ordinary_some = s.annotations.ordinary_some;
-  are_ordinary = are-ordinary (signals_of b f.signal_count) s.physical s.digital;
+  are_ordinary = are-ordinary ss s.physical s.digital;
   each_samples = s.each_samples;
   ordinary_size = s.ordinary_size;
   block_size = s.block_size;
 }
 
-pub checked : (b : List ℕ) (f : FixedPart) (n : ℕ) → n ≡ f.signal_count →
-    length b ≡ 256 * f.signal_count → All IsPrintable b → AreSoundRows (signals_of b n) →
-    AreSignals b (header_of f (signals_of b f.signal_count))
-checked b f n is len printable sound =
-    are-signals b f len printable (subst (λ (k : ℕ). AreSoundRows (signals_of b k)) is sound)
+pub checked : (b : List ℕ) (f : FixedPart) (ss : List (List ℕ)) (n : ℕ) → ss ≡ signals_of b n →
+    n ≡ f.signal_count → length b ≡ 256 * f.signal_count → All IsPrintable b → AreSoundRows ss →
+    AreSignals b (header_of f ss)
+checked b f ss n each is len printable sound =
+    are-signals b f ss (sym (each ∙ ap (signals_of b) is)) len printable sound
 
 -- the layout that is read
 pub layout-made : (f : FixedPart) (ss : List (List ℕ)) (k : Key) (start : ℕ) (count : Option ℕ)

@@ -1,4 +1,4 @@
--- What an identity's bytes keep: the key's parts at their places, its signals as rows.
+-- What an identity's bytes keep: the key's parts where they are, its signals as rows.
 use Rattle.std.proofs.Common.{◌≡◌, ℕ, zero, suc, ◌+◌, ◌-◌, ◌*◌, ◌/◌, List, ◌∷◌, ◌++◌, length}
 use Rattle.std.proofs.Common.{length-append, append_assoc, take, drop, cond, Bool, true, false}
 use Rattle.std.proofs.Common.{arith, refl, sym, ap, ◌∙◌, subst, inl, inr}

@@ -1,7 +1,7 @@
 -- Bytes have one first fault of an identity.
 use Rattle.std.proofs.Common.{◌≡◌, ℕ, List, arith, refl, ap, inl, inr}
 use Rattle.std.proofs.lemmas.Bool.{cases_lt}
-use Rattle.edf_header.specs.Identity.{IsFirstKeyFault, KeyFails, place_in_order, signals_at}
+use Rattle.edf_header.specs.Identity.{IsFirstKeyFault, KeyFails, identity_fault_order, signals_at}
 use Rattle.edf_field.specs.Text.{IsPrintable}
 use Rattle.edf_header.specs.declared.signal_checks.Check.TheVariants as checks
 use Rattle.edf_header.specs.declared.identity.IdentityFault.{IdentityFault}
@@ -12,18 +12,18 @@ use Rattle.edf_header.specs.declared.identity.IdentityFault.TheVariants.{Digital
 use Rattle.edf_header.specs.declared.identity.IdentityFault.TheVariants.{Memory}
 use Rattle.edf_header.proofs.SpelledOnce.{one-first-bad, one-bad-signal}
 
-same-place : (b : List ℕ) (e f : IdentityFault) → IsFirstKeyFault b e → IsFirstKeyFault b f →
-    place_in_order e ≡ place_in_order f
-same-place b e f p q =
-    elim (cases_lt (place_in_order e) (place_in_order f)) [
+same-order : (b : List ℕ) (e f : IdentityFault) → IsFirstKeyFault b e → IsFirstKeyFault b f →
+    identity_fault_order e ≡ identity_fault_order f
+same-order b e f p q =
+    elim (cases_lt (identity_fault_order e) (identity_fault_order f)) [
       | inl lt ↦ absurd (q.1 e lt p.0)
-      | inr le ↦ elim (cases_lt (place_in_order f) (place_in_order e)) [
+      | inr le ↦ elim (cases_lt (identity_fault_order f) (identity_fault_order e)) [
         | inl lt ↦ absurd (p.1 f lt q.0)
         | inr more ↦ omega arith
       ]
     ]
 
-same-fault : (b : List ℕ) (e f : IdentityFault) → place_in_order e ≡ place_in_order f →
+same-fault : (b : List ℕ) (e f : IdentityFault) → identity_fault_order e ≡ identity_fault_order f →
     KeyFails b e → KeyFails b f → e ≡ f
 same-fault b Length Length same p q = refl
 same-fault b Length f same p q = absurd (omega arith)
@@ -55,4 +55,4 @@ same-fault b Memory f same p q = absurd (omega arith)
 
 pub one-key-fault : (b : List ℕ) (e f : IdentityFault) → IsFirstKeyFault b e → IsFirstKeyFault b f →
     e ≡ f
-one-key-fault b e f p q = same-fault b e f (same-place b e f p q) p.0 q.0
+one-key-fault b e f p q = same-fault b e f (same-order b e f p q) p.0 q.0

@@ -52,7 +52,7 @@ pub field-at : (a b c bytes : List ℕ) (at len : ℕ) → bytes ≡ a ++ (b ++ 
 field-at a b c bytes at len is la lb =
     rw is (ap (take len) (drop_at a (b ++ c) at la) ∙ take_at b c len lb)
 
--- the three parts that are at the same place in all keys, m being the 70 bytes after the patient
+-- the three parts that are at the same offsets in all keys, m being the 70 bytes after the patient
 record Parts (p d : List ℕ) (ss : List (List ℕ)) (bytes : List ℕ) : Type 0 where
   patient : field bytes 0 80 ≡ p
   duration : field bytes 150 8 ≡ d

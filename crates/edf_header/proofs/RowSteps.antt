@@ -34,24 +34,17 @@ pub range-field : (bytes : List ℕ) (at end len : ℕ) → at + len ≡ end →
 range-field bytes at end len e = let d : end - at ≡ len = omega arith in rw d refl
 
 -- the column of one row more
-pub column-step : (bytes : List ℕ) (at width i : ℕ) (start old new : List ℕ) →
-    i < length bytes / 256
+pub column-step : (bytes row : List ℕ) (at width i : ℕ) (start old new : List ℕ) →
+    i < length bytes / 256 → row ≡ get_or (rows_of bytes) i []
     → old ≡ start ++ column_of (at, width) (take i (rows_of bytes))
-    → new ≡ old ++ take (at + width - at)
-    (drop at (take (256 * i + 256 - 256 * i) (drop (256 * i) bytes)))
+    → new ≡ old ++ take (at + width - at) (drop at row)
     → new ≡ start ++ column_of (at, width) (take (i + 1) (rows_of bytes))
-column-step bytes at width i start old new lt was is =
+column-step bytes row at width i start old new lt row-is was is =
     let rs : List (List ℕ) = rows_of bytes in
     let inside : i < length rs = omega (arith, length-rows (length bytes / 256) bytes) in
-    let row : take (256 * i + 256 - 256 * i) (drop (256 * i) bytes) ≡ get_or rs i [] =
-    range-field bytes (256 * i) (256 * i + 256) 256 refl
-    ∙ sym (row-is (length bytes / 256) bytes i lt) in
-    let part : take (at + width - at)
-    (drop at (take (256 * i + 256 - 256 * i) (drop (256 * i) bytes))) ≡ field (get_or rs i [])
-    at width =
-    rw row (range-field (get_or rs i []) at (at + width) width refl) in
-    is ∙ ap (λ (l : List ℕ). l ++ take (at + width - at)
-    (drop at (take (256 * i + 256 - 256 * i) (drop (256 * i) bytes)))) was
+    let part : take (at + width - at) (drop at row) ≡ field (get_or rs i []) at width =
+    range-field row at (at + width) width refl ∙ ap (λ (r : List ℕ). field r at width) row-is in
+    is ∙ ap (λ (l : List ℕ). l ++ take (at + width - at) (drop at row)) was
     ∙ ap (λ (l : List ℕ). (start ++ column_of (at, width) (take i rs)) ++ l) part
     ∙ flat_map_more (λ row. field row at width) start (take i rs) (get_or rs i [])
     ∙ ap (λ (l : List (List ℕ)). start ++ column_of (at, width) l) (sym (take_more rs i [] inside))
@@ -233,9 +226,9 @@ pub all-good : (P : List ℕ → Type 0) (ss : List (List ℕ)) (i : ℕ) → le
 all-good P ss i past all k d lt = all k d (omega arith) (omega arith)
 
 -- a signal of a header
-pub one-at : (bytes : List ℕ) (n i : ℕ) (r : List ℕ) → i < n → r ≡ row_at bytes n i →
-    (i < length (signals_of bytes n)) × (r ≡ get_or (signals_of bytes n) i [])
-one-at bytes n i r lt is = (omega (arith, length-signals bytes n), is ∙ sym (row-at bytes n i lt))
+pub one-at : (ss : List (List ℕ)) (n i : ℕ) (r : List ℕ) → i < n → n ≡ length ss →
+    r ≡ get_or ss i [] → (i < length ss) × (r ≡ get_or ss i [])
+one-at ss n i r lt count is = (omega (arith, lt, count), is)
 
 -- what `position` answers, in the words of the first bad member
 pub first-from-position : {X : Type 0} (P : X → Type 0) (xs : List X) (r : Option ℕ) →

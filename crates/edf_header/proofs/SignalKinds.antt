@@ -11,7 +11,7 @@ use Rattle.std.specs.Prelude.{All, codes, filter}
 use Rattle.edf_field.specs.Number.{field}
 use Rattle.edf_header.specs.Signal.{IsAnnotationsSignal, IsLabelled, IsOrdinary, Passes, has_label}
 use Rattle.edf_header.specs.Signal.{labelled, ordinary, samples, samples_in_all}
-use Rattle.edf_header.specs.Fault.{HasAnnotations}
+use Rattle.edf_header.specs.Condition.{HasAnnotations}
 use Rattle.edf_header.specs.declared.signal_checks.Check.TheVariants.{Label, Annotations, Physical}
 use Rattle.edf_header.specs.declared.signal_checks.Check.TheVariants.{Digital}
 

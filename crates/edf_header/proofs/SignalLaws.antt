@@ -1,7 +1,8 @@
 -- Bytes spell one header's signals at most, and then have no fault.
 use Rattle.std.proofs.Common.{◌≡◌, ℕ, List, sym, ap, ◌∙◌, subst}
 use Rattle.edf_header.specs.Signal.{signals_of}
-use Rattle.edf_header.specs.Header.{AreSignals, FixedPart, HeaderRecord, IsHeader, key_of}
+use Rattle.edf_header.specs.Header.{AreSignals, HeaderRecord, IsHeader, key_of}
+use Rattle.edf_header.specs.Fixed.{FixedPart}
 use Rattle.edf_header.specs.Header.{layout_of, IsLayout}
 use Rattle.edf_header.specs.Key.{IsKey}
 use Rattle.edf_header.specs.Fault.{IsClean, SignalsFail}

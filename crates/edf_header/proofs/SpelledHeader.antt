@@ -14,8 +14,10 @@ use Rattle.edf_header.specs.Signal.{columns, labelled, ordinary, samples, sample
 use Rattle.edf_header.specs.Signal.{signals_of, IsAnnotationsSignal, IsLabelled, IsOrdinary}
 use Rattle.edf_header.specs.Signal.{HasSamples, Passes}
 use Rattle.edf_header.specs.Key.{Key, IsSized, IsKey, key_bytes, dated_bytes}
-use Rattle.edf_header.specs.Header.{HeaderRecord, FixedPart, IsFixedHeader, AreSignals, IsPlus}
-use Rattle.edf_header.specs.Header.{blocks_from, is_dated, layout_of}
+use Rattle.edf_header.specs.Header.{HeaderRecord, AreSignals}
+use Rattle.edf_header.specs.Fixed.{FixedPart, IsFixedHeader, IsPlus}
+use Rattle.edf_header.specs.Header.{blocks_from, layout_of}
+use Rattle.edf_header.specs.Fixed.{is_dated}
 use Rattle.edf_header.specs.Spelled.{Texts, IsSpelledBy, IsSpelledHeader, IsReadAs, spelled_bytes}
 use Rattle.edf_header.specs.Spelled.{startdate_text, startdate_day, spelled_layout}
 use Rattle.edf_header.specs.declared.signal_checks.Check.TheVariants.{Label}
@@ -65,23 +67,23 @@ length-recording false id_date after li la = omega arith
 is-recording : (dated : Bool) (id_date after : List ℕ) (days : ℕ) → length id_date ≡ 11 →
     IsIdDate id_date (pos days) → FollowsStartdate after
     → IsRecording (recording dated id_date after) (startdate_day dated days) after
-is-recording true id_date after days li is behind = record {
+is-recording true id_date after days li is follows = record {
   front = (
     refl,
     subst (λ (t : List ℕ). IsIdDate t (pos days)) (sym (take_at id_date after 11 li))
         is,
     sym (drop_at id_date after 11 li),
   );
-  behind = behind;
+  rest = follows;
 }
-is-recording false id_date after days li is behind =
-    record { front = (refl, refl); behind = behind }
+is-recording false id_date after days li is follows =
+    record { front = (refl, refl); rest = follows }
 
 dated-back : (dated : Bool) (days : ℕ) → is_dated (startdate_day dated days) ≡ dated
 dated-back true days = refl
 dated-back false days = refl
 
--- the parts of the fixed part, each in its place
+-- the parts of the fixed part, each at its offset
 record FieldsInPlace (k : Key) (t : Texts) (bytes : List ℕ) : Type 0 where
   len : length bytes ≡ 256
   version : field bytes 0 8 ≡ codes "0       "
@@ -121,19 +123,19 @@ fields-in-place k t s id date time header_bytes reserved count signals =
     ++ (codes "Startdate " ++ (startdate_text k.dated t.id_date ++ (k.after ++ l4)))) 0 8 refl
     refl in
     let p2 : IsPartAt b k.patient (rec ++ l4) 8 80 =
-    part-here b k.patient (rec ++ l4) 8 80 (p1.behind
+    part-here b k.patient (rec ++ l4) 8 80 (p1.rest
     ∙ ap (λ (l : List ℕ). k.patient ++ l) (as-recording k.dated t.id_date k.after l4))
     s.patient in
-    let p3 : IsPartAt b rec l4 88 80 = part-here b rec l4 88 80 p2.behind rec-len in
-    let p4 : IsPartAt b t.date l5 168 8 = part-here b t.date l5 168 8 p3.behind date in
-    let p5 : IsPartAt b t.time l6 176 8 = part-here b t.time l6 176 8 p4.behind time in
+    let p3 : IsPartAt b rec l4 88 80 = part-here b rec l4 88 80 p2.rest rec-len in
+    let p4 : IsPartAt b t.date l5 168 8 = part-here b t.date l5 168 8 p3.rest date in
+    let p5 : IsPartAt b t.time l6 176 8 = part-here b t.time l6 176 8 p4.rest time in
     let p6 : IsPartAt b t.header_bytes l7 184 8 =
-    part-here b t.header_bytes l7 184 8 p5.behind header_bytes in
+    part-here b t.header_bytes l7 184 8 p5.rest header_bytes in
     let p7 : IsPartAt b t.reserved l8 192 44 =
-    part-here b t.reserved l8 192 44 p6.behind reserved in
-    let p8 : IsPartAt b t.count l9 236 8 = part-here b t.count l9 236 8 p7.behind count in
+    part-here b t.reserved l8 192 44 p6.rest reserved in
+    let p8 : IsPartAt b t.count l9 236 8 = part-here b t.count l9 236 8 p7.rest count in
     let p9 : IsPartAt b k.duration t.signal_count 244 8 =
-    part-here b k.duration t.signal_count 244 8 p8.behind s.duration in
+    part-here b k.duration t.signal_count 244 8 p8.rest s.duration in
     let whole : b ≡ codes "0       " ++ (k.patient ++ (rec ++ l4)) =
     ap (λ (l : List ℕ). codes "0       " ++ (k.patient ++ l))
     (as-recording k.dated t.id_date k.after l4) in
@@ -162,7 +164,7 @@ fields-in-place k t s id date time header_bytes reserved count signals =
       reserved = p7.here;
       count = p8.here;
       duration = p9.here;
-      signals = ap (take 4) p9.behind ∙ take_all 4 t.signal_count (omega arith);
+      signals = ap (take 4) p9.rest ∙ take_all 4 t.signal_count (omega arith);
     }
 
 -- the bytes of a key are printable, part by part
@@ -187,9 +189,9 @@ record IsPrintableKey (k : Key) : Type 0 where
 printable-key : (k : Key) → All IsPrintable (key_bytes k) → IsPrintableKey k
 printable-key k all =
     let tail : List ℕ = flat_map (λ (s : List ℕ). s) k.signals in
-    let behind = all-right IsPrintable k.patient (dated_bytes k.dated k.after
+    let others = all-right IsPrintable k.patient (dated_bytes k.dated k.after
     ++ (k.duration ++ tail)) all in
-    let both = after-printable k.dated k.after (k.duration ++ tail) behind in
+    let both = after-printable k.dated k.after (k.duration ++ tail) others in
     record {
       patient = all-left IsPrintable k.patient (dated_bytes k.dated k.after
           ++ (k.duration ++ tail)) all;
@@ -249,7 +251,7 @@ is-fixed k days seconds count t row key s =
       is_patient = key.patient;
       recording = subst (λ (l : List ℕ). IsRecording l (startdate_day k.dated days) k.after)
           (sym p.recording) (is-recording k.dated t.id_date k.after days id.len s.id_date
-          key.behind);
+          key.after);
       start = (
         days,
         seconds,

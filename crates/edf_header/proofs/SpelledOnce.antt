@@ -6,8 +6,10 @@ use Rattle.std.proofs.lemmas.List.{drop-take, take-take}
 use Rattle.edf_field.specs.Number.{field, IsNumber}
 use Rattle.edf_field.specs.Text.{IsPrintable}
 use Rattle.edf_header.specs.Signal.{signals_of, Passes, IsFirstBad}
-use Rattle.edf_header.specs.Header.{HeaderRecord, FixedPart, IsFixedHeader, AreSignals, IsHeader}
-use Rattle.edf_header.specs.Fault.{FixedPartFails, SignalsFail, HasSignals, IsBadSignal, IsFirst}
+use Rattle.edf_header.specs.Header.{HeaderRecord, AreSignals, IsHeader}
+use Rattle.edf_header.specs.Fixed.{FixedPart, IsFixedHeader}
+use Rattle.edf_header.specs.Fault.{FixedPartFails, SignalsFail, IsFirst}
+use Rattle.edf_header.specs.Condition.{HasSignals, IsBadSignal}
 use Rattle.edf_header.specs.Fault.{IsHeaderFault, header_fault_number}
 use Rattle.edf_header.specs.declared.signal_checks.Check.{Check}
 use Rattle.edf_header.specs.declared.signal_checks.Check.TheVariants as checks
@@ -36,8 +38,8 @@ placed b h r i =
     let one : IsPartAt b i.first (i.second ++ r) 0 256 =
     part-here b i.first (i.second ++ r) 0 256 i.parts i.fixed.len in
     let two : IsPartAt b i.second r 256 (256 * h.fixed.signal_count) =
-    part-here b i.second r 256 (256 * h.fixed.signal_count) one.behind i.signals.len in
-    record { fixed = one.here; signals = two.here; rest_is = two.behind }
+    part-here b i.second r 256 (256 * h.fixed.signal_count) one.rest i.signals.len in
+    record { fixed = one.here; signals = two.here; rest_is = two.rest }
 
 pub one-header : (b : List ℕ) (h g : HeaderRecord) (r s : List ℕ) → IsHeader b h r →
     IsHeader b g s → (h ≡ g) × (r ≡ s)

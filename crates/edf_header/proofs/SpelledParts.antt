@@ -76,11 +76,11 @@ length-columns rows each = omega (arith, length-columns-by fields 0 rows tiles e
 -- the next part of bytes that are parts, and what is after it
 pub record IsPartAt (bytes b c : List ℕ) (at len : ℕ) : Type 0 where
   pub here : field bytes at len ≡ b
-  pub behind : drop (at + len) bytes ≡ c
+  pub rest : drop (at + len) bytes ≡ c
 
 pub part-here : (bytes b c : List ℕ) (at len : ℕ) → drop at bytes ≡ b ++ c → length b ≡ len →
     IsPartAt bytes b c at len
 part-here bytes b c at len is lb = record {
   here = ap (take len) is ∙ take_at b c len lb;
-  behind = sym (drop-drop len at bytes) ∙ ap (drop len) is ∙ drop_at b c len lb;
+  rest = sym (drop-drop len at bytes) ∙ ap (drop len) is ∙ drop_at b c len lb;
 }

@@ -5,7 +5,8 @@ use Rattle.edf_time.proofs.Cited.{not-yearless, some-yearless}
 use Rattle.edf_field.proofs.Recordings.{x-no-date, one-after}
 use Rattle.edf_field.specs.Number.{field}
 use Rattle.edf_field.specs.Text.{IsRecording}
-use Rattle.edf_header.specs.Fault.{DatesAreOther, FixedPartFails}
+use Rattle.edf_header.specs.Fault.{FixedPartFails}
+use Rattle.edf_header.specs.Condition.{DatesAreOther}
 use Rattle.edf_header.specs.declared.fault.HeaderFault.TheVariants.{Startdate, DatesDiffer}
 
 -- E6 is true just where the startdate has none of its forms

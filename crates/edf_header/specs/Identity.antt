@@ -6,7 +6,7 @@ use Rattle.edf_header.specs.Fields.{key_patient_field, key_mark, key_fill_field,
 use Rattle.edf_header.specs.Fields.{key_size_before_signals, key_signals_count, key_signals_part}
 use Rattle.edf_header.specs.Signal.{rows, samples_in_all, IsFirstBad}
 use Rattle.edf_header.specs.Key.{key_at}
-use Rattle.edf_header.specs.Fault.{IsBadSignal}
+use Rattle.edf_header.specs.Condition.{IsBadSignal}
 use Rattle.edf_header.specs.declared.limits.TheConstants.{MOST_BLOCK_BYTES}
 use Rattle.edf_header.specs.declared.limits.TheConstants.{MOST_ORDINARY_SIGNALS}
 use Rattle.edf_header.specs.declared.signal_checks.Check.TheVariants as checks
@@ -19,7 +19,8 @@ use Rattle.edf_header.specs.declared.identity.IdentityFault.TheVariants.{Memory}
 
 -- 158 bytes, and 256 for each of 1 to 639 signals
 abbrev pub HasLength : List ℕ → Type 0
-HasLength b = (n : ℕ) × (1 ≤ n) × (n ≤ MOST_ORDINARY_SIGNALS) × (length b ≡ key_size_before_signals + 256 * n)
+HasLength b = (n : ℕ) × (1 ≤ n) × (n ≤ MOST_ORDINARY_SIGNALS)
+    × (length b ≡ key_size_before_signals + 256 * n)
 
 -- D, with 10 spaces at the end of its part, or X
 abbrev pub HasMark : List ℕ → Type 0
@@ -31,11 +32,11 @@ pub record IsShaped (bytes : List ℕ) : Type 0 where
   pub len : length bytes ≡ key_size_before_signals + 256 * signals
   pub dated : ((key_mark bytes ≡ 68) × (key_fill_field bytes ≡ spaces 10)) ⊎ (key_mark bytes ≡ 88)
 
--- its signals
+-- the signals in an identity's bytes
 abbrev pub signals_at : List ℕ → List (List ℕ)
 signals_at b = rows (key_signals_count b) (key_signals_part b)
 
--- the fault is true of the bytes, at its place
+-- the fault is true of the bytes
 abbrev pub KeyFails : List ℕ → IdentityFault → Type 0
 KeyFails b Length = ¬ HasLength b
 KeyFails b (Unprintable offset) = IsFirstBad IsPrintable b offset
@@ -50,23 +51,23 @@ KeyFails b Size = MOST_BLOCK_BYTES < 2 * samples_in_all (signals_at b)
 KeyFails b Memory = Unit {0}
 
 -- the order of the faults; `Memory` comes last, so it says that no other is true
-abbrev pub place_in_order : IdentityFault → ℕ
-place_in_order Length = 1
-place_in_order (Unprintable offset) = 2
-place_in_order Patient = 3
-place_in_order Recording = 4
-place_in_order Duration = 5
-place_in_order (Label signal) = 6
-place_in_order (Physical signal) = 7
-place_in_order (Digital signal) = 8
-place_in_order (Samples signal) = 9
-place_in_order Size = 10
-place_in_order Memory = 11
+abbrev pub identity_fault_order : IdentityFault → ℕ
+identity_fault_order Length = 1
+identity_fault_order (Unprintable offset) = 2
+identity_fault_order Patient = 3
+identity_fault_order Recording = 4
+identity_fault_order Duration = 5
+identity_fault_order (Label signal) = 6
+identity_fault_order (Physical signal) = 7
+identity_fault_order (Digital signal) = 8
+identity_fault_order (Samples signal) = 9
+identity_fault_order Size = 10
+identity_fault_order Memory = 11
 
 -- no fault that comes before is true
 abbrev pub IsCleanKey : List ℕ → ℕ → Type 0
-IsCleanKey b n = (other : IdentityFault) → place_in_order other < n → ¬ KeyFails b other
+IsCleanKey b n = (other : IdentityFault) → identity_fault_order other < n → ¬ KeyFails b other
 
 -- the fault is true, and none before it
 abbrev pub IsFirstKeyFault : List ℕ → IdentityFault → Type 0
-IsFirstKeyFault b fault = KeyFails b fault × IsCleanKey b (place_in_order fault)
+IsFirstKeyFault b fault = KeyFails b fault × IsCleanKey b (identity_fault_order fault)

@@ -20,7 +20,7 @@ pub record Key : Type 0 where
   pub duration : List ℕ
   pub signals : List (List ℕ)
 
--- the parts have the sizes of their places
+-- the parts have the sizes that they have in the bytes
 pub record IsSized (k : Key) : Type 0 where
   pub patient : length k.patient ≡ 80
   pub after : length k.after ≡ (if k.dated then 59 else 69)
@@ -51,7 +51,7 @@ pub record IsKey (k : Key) : Type 0 where
   pub sized : IsSized k
   pub printable : All IsPrintable (key_bytes k)
   pub patient : IsPatient k.patient
-  pub behind : FollowsStartdate k.after
+  pub after : FollowsStartdate k.after
   pub duration : (nanos : ℕ) × IsDuration k.duration nanos
   pub signals_from : 1 ≤ length k.signals
   pub signals_to : length k.signals ≤ MOST_ORDINARY_SIGNALS
@@ -59,8 +59,8 @@ pub record IsKey (k : Key) : Type 0 where
   pub each_samples : All HasSamples k.signals
   pub size : 2 * samples_in_all k.signals ≤ MOST_BLOCK_BYTES
 
--- a recording may start there: before 2085 where its Startdate subfield is X, since then two digits
--- alone name the year
+-- a file of the recording may start at this instant: only before 2085 where the Startdate subfield
+-- is X, since two digits alone name the year then
 abbrev pub MayStartBy : Bool → ℕ → Type 0
 MayStartBy dated start = dated ≡ false → start < two_digit_window
 

@@ -1,7 +1,9 @@
 pub mod Fields
 pub mod Signal
 pub mod Key
+pub mod Fixed
 pub mod Header
+pub mod Condition
 pub mod Fault
 pub mod Canonical
 pub mod Spelled

@@ -7,7 +7,8 @@ use Rattle.edf_field.specs.Number.{IsNumber}
 use Rattle.edf_header.specs.Signal.{columns, samples, samples_in_all, IsAnnotationsSignal}
 use Rattle.edf_header.specs.Signal.{HasSamples}
 use Rattle.edf_header.specs.Key.{Key}
-use Rattle.edf_header.specs.Header.{HeaderRecord, Layout, IsHeader, IsPlus, layout_of}
+use Rattle.edf_header.specs.Header.{HeaderRecord, Layout, IsHeader, layout_of}
+use Rattle.edf_header.specs.Fixed.{IsPlus}
 use Rattle.edf_header.specs.declared.limits.TheConstants.{MOST_BLOCK_BYTES}
 
 -- a printable text of a field's width

@@ -84,7 +84,7 @@ fn push_identifications(
     } else {
         out.push(b'X')?;
     }
-    out.extend_from_slice(identity.behind_startdate())?;
+    out.extend_from_slice(identity.after_startdate())?;
     Ok(())
 }
 

@@ -1,12 +1,97 @@
+//! The signal part of a header, whose fields are in columns: each field of all signals in turn
+//! (EDF, header record). In an identity the fields of one signal are in a row.
 ghost use Rattle.std.specs.Prelude.{◌≡◌, ℕ, ◌+◌, ◌*◌, ◌/◌, ◌%◌, ◌≤◌, ◌<◌, List, [], ◌∷◌, ◌++◌};
-ghost use Rattle.std.specs.Prelude.{length, OnOk};
+ghost use Rattle.std.specs.Prelude.{length, slice_index_or, OnOk};
 ghost use Rattle.edf_field.specs.Number.{field};
 ghost use Rattle.edf_header.specs.Fields.{fields};
-ghost use Rattle.edf_header.specs.Signal.{column_of, columns, row_at, rows_of};
+ghost use Rattle.edf_header.specs.Signal.{column_of, columns, row_at, rows_of, signals_of};
 
 use crate::fields::ROW;
 use crate::limits::MOST_SIGNALS;
 use std::alloc::AllocError;
+use std::marker::Model;
+
+/// The signals of a header, their fields in columns.
+///
+/// Contracts see the signals in file order, each in a row of 256 bytes.
+#[derive(Drop)]
+pub(crate) struct Columns<'a> {
+    bytes: &'a [u8],
+    count: usize,
+}
+
+impl<'a> Model for Columns<'a> {
+    ghost use Rattle.std.specs.Prelude.{◌≡◌, ℕ, ◌*◌, ◌≤◌, List, length};
+    ghost use Rattle.edf_header.specs.Signal.{signals_of};
+    ghost use Rattle.edf_header.specs.declared.limits.TheConstants.{MOST_SIGNALS};
+
+    ghost Value = { List (List ℕ) };
+
+    ghost view = { λ c. signals_of c.bytes.now c.count };
+
+    ghost invariant = { λ c. (length c.bytes.now ≡ 256 * c.count) × (c.count ≤ MOST_SIGNALS) };
+}
+
+impl<'a> Columns<'a> {
+    /// The columns of `count` signals.
+    pub(crate) fn new(bytes: &'a [u8], count: usize) -> Columns<'a>
+        requires size { length bytes.now ≡ 256 * count }
+        requires few { count ≤ MOST_SIGNALS }
+        ensures { result ≡ signals_of bytes.now count }
+    {
+        Columns { bytes, count }
+    }
+
+    /// How many signals there are.
+    pub(crate) fn count(&self) -> usize
+        ensures value { result ≡ length self.now }
+        ensures bound { result ≤ MOST_SIGNALS }
+    {
+        self.count
+    }
+
+    /// One of the signals in a row, which is on the stack: so the checks take no memory.
+    pub(crate) fn row(&self, i: usize) -> [u8; 256]
+        requires { i < length self.now }
+        ensures { result ≡ slice_index_or self.now i [] }
+    {
+        row_from(self.bytes, self.count, i)
+    }
+}
+
+/// A field of one of `n` signals, in its column.
+fn column(bytes: &[u8], n: usize, i: usize, at: usize, width: usize) -> &[u8]
+    requires size { length bytes.now ≡ 256 * n }
+    requires few { n ≤ MOST_SIGNALS }
+    requires inside { i < n }
+    requires fits { at + width ≤ 256 }
+    ensures { result.now ≡ field bytes.now (n * at + i * width) width }
+{
+    let from = n * at + i * width;
+    &bytes[from..from + width]
+}
+
+/// One of `n` signals in a row, its fields read from their columns.
+fn row_from(bytes: &[u8], n: usize, i: usize) -> [u8; 256]
+    requires size { length bytes.now ≡ 256 * n }
+    requires few { n ≤ MOST_SIGNALS }
+    requires inside { i < n }
+    ensures { result ≡ row_at bytes.now n i }
+{
+    let mut row = [0; 256];
+    for (at, width) in &ROW {
+        row[*at..*at + *width].copy_from_slice(column(bytes, n, i, *at, *width));
+    }
+    row
+}
+
+/// One of the rows that lie one after another.
+pub(crate) fn row_in(rows: &[u8], i: usize) -> &[u8; 256]
+    requires { i < length rows.now / 256 }
+    ensures { result.now ≡ slice_index_or (rows_of rows.now) i [] }
+{
+    rows[256 * i..256 * i + 256].as_array().unwrap()
+}
 
 /// Writes one field of all signals in turn, those in rows and then the last.
 fn push_column(
@@ -21,7 +106,7 @@ fn push_column(
         ≡ out.old.items ++ column_of (at, width) (rows_of rows.now ++ last.now ∷ [])) }
 {
     for i in 0..rows.len() / 256 {
-        let row = &rows[256 * i..256 * i + 256];
+        let row = row_in(rows, i);
         out.extend_from_slice(&row[at..at + width])?;
     }
     out.extend_from_slice(&last[at..at + width])?;
@@ -41,30 +126,4 @@ pub(crate) fn push_columns(
         push_column(out, rows, last, *at, *width)?;
     }
     Ok(())
-}
-
-/// A field of one of `n` signals, in its column.
-fn column(bytes: &[u8], n: usize, i: usize, at: usize, width: usize) -> &[u8]
-    requires size { length bytes.now ≡ 256 * n }
-    requires few { n ≤ MOST_SIGNALS }
-    requires inside { i < n }
-    requires place { at + width ≤ 256 }
-    ensures { result.now ≡ field bytes.now (n * at + i * width) width }
-{
-    let from = n * at + i * width;
-    &bytes[from..from + width]
-}
-
-/// One of `n` signals in a row, its fields read from their columns.
-pub(crate) fn row_from(bytes: &[u8], n: usize, i: usize) -> [u8; 256]
-    requires size { length bytes.now ≡ 256 * n }
-    requires few { n ≤ MOST_SIGNALS }
-    requires inside { i < n }
-    ensures { result ≡ row_at bytes.now n i }
-{
-    let mut row = [0; 256];
-    for (at, width) in &ROW {
-        row[*at..*at + *width].copy_from_slice(column(bytes, n, i, *at, *width));
-    }
-    row
 }

@@ -1,7 +1,7 @@
 ghost use Rattle.std.specs.Prelude.{◌≡◌, ◌≤◌, MatchResult};
 ghost use Rattle.edf_field.specs.Number.{IsDuration, duration_of};
 ghost use Rattle.edf_header.specs.Fields.{duration_field};
-ghost use Rattle.edf_header.specs.Header.{IsFixed, IsFixedHeader, fixed_at, is_dated};
+ghost use Rattle.edf_header.specs.Fixed.{IsFixed, IsFixedHeader, fixed_at, is_dated};
 ghost use Rattle.edf_header.specs.Fault.{FixedPartFails, IsFirst};
 
 use crate::fault::HeaderFault;
@@ -35,7 +35,7 @@ pub struct Fixed {
 impl Model for Fixed {
     ghost use Rattle.std.specs.Prelude.{◌≡◌};
     ghost use Rattle.edf_field.specs.Number.{duration_of};
-    ghost use Rattle.edf_header.specs.Header.{FixedPart, IsFixed, fixed_from};
+    ghost use Rattle.edf_header.specs.Fixed.{FixedPart, IsFixed, fixed_from};
 
     ghost Value = { FixedPart };
 
@@ -66,7 +66,7 @@ impl Fixed {
         self.patient.as_slice()
     }
 
-    /// Whether the Startdate subfield is a date.
+    /// Whether the Startdate subfield is a date, and not `X`.
     pub(crate) fn dated(&self) -> bool
         ensures { result ≡ is_dated self.now.startdate }
     {

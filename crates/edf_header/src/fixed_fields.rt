@@ -1,5 +1,5 @@
 //! The fields of a header's fixed part, in the order of their faults: each reader relies on what
-//! those before it found, and tells its own fault alone.
+//! those before it found, and answers with its own fault alone.
 ghost use Rattle.std.specs.Prelude.{◌≡◌, ℕ, ◌+◌, ◌*◌, ◌≤◌, ◌↔◌, All, IsTrue, codes, length};
 ghost use Rattle.std.specs.Prelude.{MatchResult};
 ghost use Rattle.edf_time.specs.Civil.{IsCivil};
@@ -8,8 +8,9 @@ ghost use Rattle.edf_field.specs.Text.{IsPrintable, IsPatient, IsRecording, afte
 ghost use Rattle.edf_header.specs.Fields.{version_field, patient_field, recording_field};
 ghost use Rattle.edf_header.specs.Fields.{startdate_field, starttime_field, header_bytes_field};
 ghost use Rattle.edf_header.specs.Fields.{reserved_field, count_field, duration_field};
-ghost use Rattle.edf_header.specs.Header.{IsCount, IsPlus};
-ghost use Rattle.edf_header.specs.Fault.{FixedPartFails, IsClean, IsFirst, HasSignals};
+ghost use Rattle.edf_header.specs.Fixed.{IsCount, IsPlus};
+ghost use Rattle.edf_header.specs.Fault.{FixedPartFails, IsClean, IsFirst};
+ghost use Rattle.edf_header.specs.Condition.{HasSignals};
 
 use crate::fault::HeaderFault;
 use crate::fields::{

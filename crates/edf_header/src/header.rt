@@ -60,7 +60,7 @@ impl Header {
         &self.identity
     }
 
-    /// The identity of the recording, the rest left.
+    /// The identity of the recording, taken out of the header.
     pub fn into_identity(self) -> Identity
         ensures { result ≡ self.key }
     {

@@ -2,20 +2,21 @@ ghost use Rattle.std.specs.Prelude.{◌≡◌, ◌≤◌, ◌<◌, ◌+◌, ◌*
 ghost use Rattle.std.specs.Prelude.{OnOk, IsTrue, MatchResult, All, length, take, if◌then◌else◌};
 ghost use Rattle.edf_field.specs.Number.{duration_of};
 ghost use Rattle.edf_field.specs.Text.{FollowsStartdate, subfields};
-ghost use Rattle.edf_header.specs.Signal.{rows_of, signals_of, ordinary, samples_in_all};
+ghost use Rattle.edf_header.specs.Signal.{rows_of, ordinary, samples_in_all};
 ghost use Rattle.edf_header.specs.Signal.{HasSamples, Passes};
 ghost use Rattle.edf_header.specs.Key.{Key, IsKey, MayStart, dated_bytes, key_bytes, key_at};
 ghost use Rattle.edf_header.specs.Key.{patient_code, investigation_code};
 ghost use Rattle.edf_header.specs.Identity.{HasLength, HasMark, signals_at, IsCleanKey};
 ghost use Rattle.edf_header.specs.Identity.{IsFirstKeyFault};
-ghost use Rattle.edf_header.specs.Inside.Shape.{key_from, place_of_check};
+ghost use Rattle.edf_header.specs.Inside.Shape.{key_from, check_order};
 
+use crate::columns::Columns;
 use crate::fields::{KEY_DURATION, KEY_MARK, KEY_PATIENT, KEY_SIGNALS};
 use crate::fixed::Fixed;
 use crate::header_signals::push_ordinary;
 use crate::identity_checks::{KeyNumbers, after, check_key};
 use crate::limits::MOST_BLOCK_BYTES;
-use edf_field::next_subfield;
+use edf_field::{MOST_DURATION, next_subfield};
 use edf_time::Instant;
 use std::alloc::{AllocError, Global};
 use std::marker::Model;
@@ -87,7 +88,8 @@ impl Model for Identity {
     ghost invariant = { λ i. IsIdentity i.bytes.items i.duration i.ordinary_bytes };
 }
 
-/// Writes the mark of the Startdate subfield, what follows it and the fill.
+/// Writes the mark of the Startdate subfield, what follows that subfield, and the spaces that fill
+/// the part.
 fn push_mark(out: &mut Vec<u8>, dated: bool, after: &[u8]) -> Result<(), AllocError>
     ensures { OnOk result (out.new.items ≡ out.old.items ++ dated_bytes dated after.now) }
 {
@@ -102,17 +104,16 @@ fn push_mark(out: &mut Vec<u8>, dated: bool, after: &[u8]) -> Result<(), AllocEr
     Ok(())
 }
 
-/// The bytes of an identity, from a header's fixed part and the columns of all its signals.
-fn bytes_from(alloc: Global, fixed: &Fixed, signals: &[u8]) -> Result<Vec<u8>, AllocError>
-    requires { length signals.now ≡ 256 * fixed.now.signal_count }
-    ensures { IfOk result (λ v. v.items ≡ key_bytes
-        (key_from fixed.now (ordinary (signals_of signals.now fixed.now.signal_count)))) }
+/// The bytes of an identity, from a header's fixed part and all its signals.
+fn bytes_from(alloc: Global, fixed: &Fixed, signals: &Columns<'_>) -> Result<Vec<u8>, AllocError>
+    ensures { IfOk result
+        (λ v. v.items ≡ key_bytes (key_from fixed.now (ordinary signals.now))) }
 {
     let mut bytes = Vec::with_capacity(alloc, KEY_SIGNALS)?;
     bytes.extend_from_slice(fixed.patient())?;
     push_mark(&mut bytes, fixed.dated(), fixed.after())?;
     bytes.extend_from_slice(fixed.duration())?;
-    push_ordinary(&mut bytes, signals, fixed.signals())?;
+    push_ordinary(&mut bytes, signals)?;
     Ok(bytes)
 }
 
@@ -140,21 +141,17 @@ impl Identity {
         })
     }
 
-    /// The identity of a header, from its fixed part, the columns of all its signals, and the bytes
-    /// of a data record's ordinary samples.
+    /// The identity of a header, from its fixed part, all its signals, and the bytes of a data
+    /// record's ordinary samples.
     pub(crate) fn from_header(
         alloc: Global,
         fixed: &Fixed,
-        signals: &[u8],
+        signals: &Columns<'_>,
         ordinary_bytes: usize,
     ) -> Result<Identity, AllocError>
-        requires size { length signals.now ≡ 256 * fixed.now.signal_count }
-        requires key { IsKey
-            (key_from fixed.now (ordinary (signals_of signals.now fixed.now.signal_count))) }
-        requires ordinary { ordinary_bytes
-            ≡ 2 * samples_in_all (ordinary (signals_of signals.now fixed.now.signal_count)) }
-        ensures { IfOk result (λ i. i
-            ≡ key_from fixed.now (ordinary (signals_of signals.now fixed.now.signal_count))) }
+        requires key { IsKey (key_from fixed.now (ordinary signals.now)) }
+        requires ordinary { ordinary_bytes ≡ 2 * samples_in_all (ordinary signals.now) }
+        ensures { IfOk result (λ i. i ≡ key_from fixed.now (ordinary signals.now)) }
     {
         let bytes = bytes_from(alloc, fixed, signals)?;
         let duration = fixed.nanos();
@@ -192,8 +189,9 @@ impl Identity {
         self.bytes[KEY_MARK] == b'D'
     }
 
-    /// Whether its recording may start there: where it has no date, before 2085, since then only
-    /// the two digits of the startdate name the year (EDF+, the clipping date).
+    /// Whether a file of its recording may start at `start`. Where the identity has no date, it may
+    /// before 2085 alone, since only two digits of the startdate name the year (EDF+, the clipping
+    /// date).
     pub fn may_start(&self, start: Instant) -> bool
         ensures { IsTrue result ↔ MayStart self.now start }
     {
@@ -221,7 +219,7 @@ impl Identity {
     pub fn duration(&self) -> u64
         ensures value { result ≡ duration_of self.now.duration }
         ensures positive { 0 < result }
-        ensures bound { result ≤ 10 ^ 17 }
+        ensures bound { result ≤ MOST_DURATION }
         ensures key { IsKey self.now }
     {
         self.duration
@@ -256,7 +254,7 @@ impl Identity {
 
     /// What follows the Startdate subfield in the recording field: 59 bytes where the subfield is a
     /// date, else 69.
-    pub(crate) fn behind_startdate(&self) -> &[u8]
+    pub(crate) fn after_startdate(&self) -> &[u8]
         ensures { result.now ≡ self.now.after }
     {
         after(&self.bytes)

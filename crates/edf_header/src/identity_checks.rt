@@ -7,15 +7,16 @@ ghost use Rattle.edf_header.specs.Signal.{samples_in_all, Passes, rows_of, ordin
 ghost use Rattle.edf_header.specs.Key.{key_at};
 ghost use Rattle.edf_header.specs.Identity.{HasLength, HasMark, signals_at, IsCleanKey};
 ghost use Rattle.edf_header.specs.Identity.{IsFirstKeyFault};
-ghost use Rattle.edf_header.specs.Inside.Shape.{IsIdentity, IsKeyFront, place_of_check};
+ghost use Rattle.edf_header.specs.Inside.Shape.{IsIdentity, IsKeyFront, check_order};
 
+use crate::columns::row_in;
 use crate::fields::{
     KEY_AFTER, KEY_DURATION, KEY_FILL, KEY_MARK, KEY_PATIENT, KEY_SIGNALS, SAMPLES, SIGNAL_RESERVED,
 };
 use crate::identity::IdentityFault;
 use crate::limits::{MOST_BLOCK_BYTES, MOST_ORDINARY_SIGNALS, MOST_SIGNALS};
 use crate::signal_checks::{Check, first_bad, first_unprintable, is_labelled};
-use edf_field::{are_spaces, is_behind_startdate, is_patient, read_duration, read_whole};
+use edf_field::{are_spaces, follows_startdate, is_patient, read_duration, read_whole};
 
 /// Whether the length is that of an identity.
 fn has_length(bytes: &[u8]) -> bool
@@ -25,7 +26,7 @@ fn has_length(bytes: &[u8]) -> bool
     bytes.len() == KEY_SIGNALS + 256 * n && 1 <= n && n <= MOST_ORDINARY_SIGNALS
 }
 
-/// Whether the mark of the Startdate subfield is there, with its spaces.
+/// Whether the mark of the Startdate subfield is `D` with its spaces, or `X`.
 fn has_mark(bytes: &[u8]) -> bool
     requires { 158 ≤ length bytes.now }
     ensures { IsTrue result ↔ HasMark bytes.now }
@@ -49,12 +50,12 @@ pub(crate) fn after(bytes: &[u8]) -> &[u8]
     }
 }
 
-/// Whether the recording identification is there, its date left out.
+/// Whether the bytes have a recording identification without its date.
 fn has_recording(bytes: &[u8]) -> bool
     requires { 158 ≤ length bytes.now }
     ensures { IsTrue result ↔ HasMark bytes.now × FollowsStartdate (key_at bytes.now).after }
 {
-    has_mark(bytes) && is_behind_startdate(after(bytes))
+    has_mark(bytes) && follows_startdate(after(bytes))
 }
 
 /// What is read of an identity's bytes: the duration of a data record in nanoseconds, and the bytes
@@ -89,14 +90,14 @@ fn check_front(bytes: &[u8]) -> Result<u64, IdentityFault>
     }
 }
 
-/// Looks for the first signal that fails a check.
+/// Checks that no signal fails a check, or finds the first that does.
 fn check_signals(check: Check, bytes: &[u8]) -> Result<(), IdentityFault>
     requires length { HasLength bytes.now }
     requires ordinary { check ≢ Check.Annotations }
-    requires clean { IsCleanKey bytes.now (place_of_check check) }
+    requires clean { IsCleanKey bytes.now (check_order check) }
     ensures { MatchResult result
         (λ _. All (Passes check) (signals_at bytes.now)
-        × IsCleanKey bytes.now (place_of_check check + 1))
+        × IsCleanKey bytes.now (check_order check + 1))
         (IsFirstKeyFault bytes.now) }
 {
     let Some(at) = first_bad(check, &bytes[KEY_SIGNALS..]) else {
@@ -112,7 +113,7 @@ fn check_signals(check: Check, bytes: &[u8]) -> Result<(), IdentityFault>
     })
 }
 
-/// How many bytes a data record's ordinary samples have, unless it is too large.
+/// How many bytes a data record's ordinary samples have, unless they are too many.
 fn check_size(bytes: &[u8]) -> Result<usize, IdentityFault>
     requires length { HasLength bytes.now }
     requires label { All (Passes Check.Label) (signals_at bytes.now) }
@@ -157,7 +158,7 @@ pub(crate) fn ordinary_samples(rows: &[u8]) -> usize
 {
     let mut total = 0;
     for i in 0..rows.len() / 256 {
-        let row = &rows[256 * i..256 * i + 256];
+        let row = row_in(rows, i);
         if is_labelled(row) {
             continue;
         }

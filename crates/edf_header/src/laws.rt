@@ -5,7 +5,8 @@ ghost use Rattle.edf_field.specs.Number.{duration_of};
 ghost use Rattle.edf_header.specs.Signal.{columns, signals_of};
 ghost use Rattle.edf_header.specs.Key.{Key, IsKey, IsSized, key_bytes, key_at};
 ghost use Rattle.edf_header.specs.Header.{HeaderRecord, AreSignals, IsHeader, key_of, layout_of};
-ghost use Rattle.edf_header.specs.Header.{IsLayout, FixedPart, IsFixed, IsFixedHeader};
+ghost use Rattle.edf_header.specs.Header.{IsLayout};
+ghost use Rattle.edf_header.specs.Fixed.{FixedPart, IsFixed, IsFixedHeader};
 ghost use Rattle.edf_header.specs.Fault.{SignalsFail, IsClean, FixedPartFails, IsFirst};
 ghost use Rattle.edf_header.specs.Identity.{IsCleanKey, IsFirstKeyFault, IsShaped};
 ghost use Rattle.edf_header.specs.declared.identity.IdentityFault.{IdentityFault};
@@ -13,6 +14,7 @@ ghost use Rattle.edf_header.specs.declared.fault.HeaderFault.{HeaderFault};
 
 use crate::header::Header;
 use crate::identity::Identity;
+use edf_field::MOST_DURATION;
 
 /// A law: each identity has a key, with the bounds of one.
 pub fn identity_is_key(identity: &Identity)
@@ -77,7 +79,7 @@ pub fn one_key()
 /// A law: a key's data records last more than 0 and at most 100,000,000 seconds.
 pub fn key_duration()
     ensures some { (k : Key) → IsKey k → 0 < duration_of k.duration }
-    ensures bound { (k : Key) → IsKey k → duration_of k.duration ≤ 10 ^ 17 }
+    ensures bound { (k : Key) → IsKey k → duration_of k.duration ≤ MOST_DURATION }
 {}
 
 /// A law: the bytes of a key have none of the faults of an identity.

@@ -22,8 +22,8 @@ pub fn spelled_reads()
 /// start there.
 pub fn canonical_header_reads()
     ensures { (bytes : List ℕ) (key : Key) (start count block : ℕ) → IsKey key →
-        MayStart key start → 1 ≤ count → count ≤ MOST_RECORDS → 1 ≤ block → block ≤ MOST_BLOCK_SAMPLES →
-        IsCanonicalHeader bytes key start count block →
+        MayStart key start → 1 ≤ count → count ≤ MOST_RECORDS →
+        1 ≤ block → block ≤ MOST_BLOCK_SAMPLES → IsCanonicalHeader bytes key start count block →
         IsReadAs bytes (spelled_layout key (start / 10 ^ 9 * 10 ^ 9) count block) }
 {}
 

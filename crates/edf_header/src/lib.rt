@@ -6,6 +6,8 @@
 //! - [`HeaderFault`]: why a header is refused, E1 to E20.
 //! - [`Identity`], [`IdentityFault`]: to which recording a file belongs, as bytes and back.
 //! - [`write_header`]: the one header that a canonical file has.
+//! - [`MOST_RECORDS`], [`MOST_BLOCK_BYTES`], [`MOST_SIGNALS`] and their like: the limits of what a
+//!   file may hold.
 //! - [`laws`], [`laws_canonical`]: a header says one thing, and what is written is read again;
 //!   functions that do nothing, each with a law for a contract.
 #![tactic(auto)]

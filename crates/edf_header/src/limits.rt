@@ -9,7 +9,7 @@ pub const MOST_RECORDS: u32 = 99_999_999;
 /// annotations blocks have together: 4 MiB.
 pub const MOST_BLOCK_BYTES: usize = 4_194_304;
 
-/// The most samples that fill these bytes, two for each.
+/// The most samples that these bytes hold, two bytes for each.
 pub const MOST_BLOCK_SAMPLES: u32 = MOST_BLOCK_BYTES as u32 / 2;
 
 /// The most bytes of a data record: those of its ordinary samples and of its annotations blocks.

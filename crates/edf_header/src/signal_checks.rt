@@ -4,6 +4,7 @@ ghost use Rattle.edf_header.specs.Signal.{rows_of, has_label, samples, IsLabelle
 ghost use Rattle.edf_header.specs.Signal.{Passes};
 ghost use Rattle.edf_header.specs.Signal.{HasPhysical, HasDigital, HasSamples, IsAnnotationsSignal};
 
+use crate::columns::row_in;
 use crate::fields::{
     DIGITAL_MAXIMUM, DIGITAL_MINIMUM, LABEL, PHYSICAL_MAXIMUM, PHYSICAL_MINIMUM, PREFILTERING,
     SAMPLES, SIGNAL_RESERVED, TRANSDUCER,
@@ -26,8 +27,7 @@ pub enum Check {
 }
 
 /// Whether the physical minimum and maximum are numbers that differ.
-fn has_physical(row: &[u8]) -> bool
-    requires { length row.now ≡ 256 }
+fn has_physical(row: &[u8; 256]) -> bool
     ensures { IsTrue result ↔ HasPhysical row.now }
 {
     physical_values_differ(
@@ -36,9 +36,8 @@ fn has_physical(row: &[u8]) -> bool
     )
 }
 
-/// Whether the digital values are numbers of 16 bits, the maximum the greater.
-fn has_digital(row: &[u8]) -> bool
-    requires { length row.now ≡ 256 }
+/// Whether the digital minimum and maximum are numbers of 16 bits, the maximum the greater.
+fn has_digital(row: &[u8; 256]) -> bool
     ensures { IsTrue result ↔ HasDigital row.now }
 {
     match (
@@ -51,8 +50,7 @@ fn has_digital(row: &[u8]) -> bool
 }
 
 /// Whether the samples are a whole number from 1 on.
-fn has_samples(row: &[u8]) -> bool
-    requires { length row.now ≡ 256 }
+fn has_samples(row: &[u8; 256]) -> bool
     ensures { IsTrue result ↔ HasSamples row.now }
 {
     match read_whole(&row[SAMPLES..SIGNAL_RESERVED]) {
@@ -62,34 +60,33 @@ fn has_samples(row: &[u8]) -> bool
 }
 
 /// Whether a signal has the label of an annotations signal.
-pub(crate) fn is_labelled(row: &[u8]) -> bool
-    requires { length row.now ≡ 256 }
+pub(crate) fn is_labelled(row: &[u8; 256]) -> bool
     ensures value { result ≡ has_label row.now }
     ensures label { IsTrue result ↔ IsLabelled row.now }
 {
     &row[LABEL..TRANSDUCER] == b"EDF Annotations ".as_slice()
 }
 
-/// Whether a signal is an annotations signal, with the digital and physical values that it needs.
-fn is_annotations(row: &[u8]) -> bool
-    requires { length row.now ≡ 256 }
+/// Whether a signal is an annotations signal with the digital and physical values that such a
+/// signal must have.
+fn is_annotations(row: &[u8; 256]) -> bool
     ensures { IsTrue result ↔ IsAnnotationsSignal row.now }
 {
+    if !is_labelled(row) || !has_physical(row) {
+        return false;
+    }
     match (
         read_signed(&row[DIGITAL_MINIMUM..DIGITAL_MAXIMUM]),
         read_signed(&row[DIGITAL_MAXIMUM..PREFILTERING]),
     ) {
-        (Some(low), Some(high)) => {
-            is_labelled(row) && has_physical(row) && low == -32_768 && high == 32_767
-        }
+        (Some(low), Some(high)) => low == -32_768 && high == 32_767,
         _ => false,
     }
 }
 
 /// How many samples a signal has in a data record.
-pub(crate) fn samples_of(row: &[u8]) -> u32
-    requires size { length row.now ≡ 256 }
-    requires samples { HasSamples row.now }
+pub(crate) fn samples_of(row: &[u8; 256]) -> u32
+    requires { HasSamples row.now }
     ensures value { result ≡ samples row.now }
     ensures bound { result < 100_000_000 }
 {
@@ -100,8 +97,7 @@ pub(crate) fn samples_of(row: &[u8]) -> u32
 }
 
 /// Whether a signal passes a check.
-pub(crate) fn passes(check: Check, row: &[u8]) -> bool
-    requires { length row.now ≡ 256 }
+pub(crate) fn passes(check: Check, row: &[u8; 256]) -> bool
     ensures { IsTrue result ↔ Passes check row.now }
 {
     match check {
@@ -113,20 +109,20 @@ pub(crate) fn passes(check: Check, row: &[u8]) -> bool
     }
 }
 
-/// The place of the first signal that fails a check.
+/// The index, from 0, of the first of the rows that fails a check.
 pub(crate) fn first_bad(check: Check, rows: &[u8]) -> Option<usize>
     ensures { MatchOption result
         (All (Passes check) (rows_of rows.now)) (IsFirstBad (Passes check) (rows_of rows.now)) }
 {
     for i in 0..rows.len() / 256 {
-        if !passes(check, &rows[256 * i..256 * i + 256]) {
+        if !passes(check, row_in(rows, i)) {
             return Some(i);
         }
     }
     None
 }
 
-/// The place of the first byte that is not printable.
+/// The index, from 0, of the first byte that is not printable.
 pub(crate) fn first_unprintable(bytes: &[u8]) -> Option<usize>
     ensures { MatchOption result (All IsPrintable bytes.now) (IsFirstBad IsPrintable bytes.now) }
 {

@@ -1,67 +1,53 @@
-ghost use Rattle.std.specs.Prelude.{◌≡◌, ◌*◌, ◌≤◌, ◌↔◌, length};
-ghost use Rattle.std.specs.Prelude.{IfOk, IsTrue, MatchOption, MatchResult, All};
-ghost use Rattle.edf_header.specs.Signal.{signals_of, Passes};
-ghost use Rattle.edf_header.specs.Header.{HeaderRecord, IsFixed, AreSignals, layout_of};
-ghost use Rattle.edf_header.specs.Fault.{HasAnnotations, IsBadSignal, IsFirst, IsSignalsRefusal};
+ghost use Rattle.std.specs.Prelude.{◌≡◌, ◌*◌, ◌≤◌, ◌↔◌, ℕ, List, length};
+ghost use Rattle.std.specs.Prelude.{IfOk, IsTrue, MatchResult};
+ghost use Rattle.edf_header.specs.Header.{HeaderRecord, AreSignals, layout_of};
+ghost use Rattle.edf_header.specs.Fixed.{IsFixed};
+ghost use Rattle.edf_header.specs.Fault.{IsFirst, IsSignalsRefusal};
+ghost use Rattle.edf_header.specs.Condition.{HasAnnotations};
 ghost use Rattle.edf_header.specs.Inside.Rows.{RowsFail, AreSoundRows, ArePartBytes, header_of};
 
+use crate::columns::Columns;
 use crate::fault::HeaderFault;
 use crate::fixed::Fixed;
 use crate::header::Header;
-use crate::header_signals::{PartBytes, blocks_of, count_labelled, first_bad_signal, part_bytes};
+use crate::header_signals::{PartBytes, bad_signal, blocks_of, count_labelled, part_bytes};
 use crate::identity::Identity;
-use crate::limits::{MOST_BLOCK_BYTES, MOST_SIGNALS};
+use crate::limits::MOST_BLOCK_BYTES;
 use crate::signal_checks::{Check, first_unprintable};
 use std::alloc::{AllocError, Global};
 
-/// Whether some signals are annotations signals, with what these must have, and some are not.
-fn has_annotations(bytes: &[u8], n: usize) -> bool
-    requires size { length bytes.now ≡ 256 * n }
-    requires few { n ≤ MOST_SIGNALS }
-    ensures { IsTrue result ↔ HasAnnotations (signals_of bytes.now n) }
+/// Whether some signals are annotations signals that have what these must have, and some are
+/// ordinary.
+fn has_annotations(signals: &Columns<'_>) -> bool
+    ensures { IsTrue result ↔ HasAnnotations signals.now }
 {
-    let labelled = count_labelled(bytes, n);
+    let n = signals.count();
+    let labelled = count_labelled(signals);
     if labelled == 0 || labelled == n {
         return false;
     }
-    first_bad_signal(Check::Annotations, bytes, n).is_none()
-}
-
-/// The first signal that fails a check, counted from 1.
-fn bad_signal(check: Check, bytes: &[u8], n: usize) -> Option<u32>
-    requires size { length bytes.now ≡ 256 * n }
-    requires few { n ≤ MOST_SIGNALS }
-    ensures { MatchOption result
-        (All (Passes check) (signals_of bytes.now n)) (IsBadSignal check (signals_of bytes.now n)) }
-{
-    match first_bad_signal(check, bytes, n) {
-        Some(at) => Some(at as u32 + 1),
-        None => None,
-    }
+    bad_signal(Check::Annotations, signals).is_none()
 }
 
 /// Checks all signals, and finds how many bytes those of either kind have in a data record.
-fn check_signals(bytes: &[u8], n: usize) -> Result<PartBytes, HeaderFault>
-    requires size { length bytes.now ≡ 256 * n }
-    requires few { n ≤ MOST_SIGNALS }
+fn check_signals(signals: &Columns<'_>) -> Result<PartBytes, HeaderFault>
     ensures { MatchResult result
-        (λ parts. AreSoundRows (signals_of bytes.now n)
-        × ArePartBytes (signals_of bytes.now n) parts)
-        (IsFirst (RowsFail (signals_of bytes.now n))) }
+        (λ parts. AreSoundRows signals.now × ArePartBytes signals.now parts)
+        (IsFirst (RowsFail signals.now)) }
 {
-    if !has_annotations(bytes, n) {
+    if !has_annotations(signals) {
         return Err(HeaderFault::Annotations);
     }
-    if let Some(signal) = bad_signal(Check::Physical, bytes, n) {
+    if let Some(signal) = bad_signal(Check::Physical, signals) {
         return Err(HeaderFault::Physical { signal });
     }
-    if let Some(signal) = bad_signal(Check::Digital, bytes, n) {
+    if let Some(signal) = bad_signal(Check::Digital, signals) {
         return Err(HeaderFault::Digital { signal });
     }
-    if let Some(signal) = bad_signal(Check::Samples, bytes, n) {
+    if let Some(signal) = bad_signal(Check::Samples, signals) {
         return Err(HeaderFault::Samples { signal });
     }
-    let parts = part_bytes(bytes, n);
+    let parts = part_bytes(signals);
     if parts.ordinary > MOST_BLOCK_BYTES || parts.annotations > MOST_BLOCK_BYTES {
         return Err(HeaderFault::Size);
     }
@@ -72,18 +58,16 @@ fn check_signals(bytes: &[u8], n: usize) -> Result<PartBytes, HeaderFault>
 fn header_from(
     alloc: Global,
     fixed: &Fixed,
-    bytes: &[u8],
+    signals: &Columns<'_>,
     parts: PartBytes,
 ) -> Result<Header, AllocError>
     requires fixed { IsFixed fixed.now }
-    requires signals { let signals = signals_of bytes.now fixed.now.signal_count in
-        AreSignals bytes.now (header_of fixed.now signals) }
-    requires parts { ArePartBytes (signals_of bytes.now fixed.now.signal_count) parts }
-    ensures { let signals = signals_of bytes.now fixed.now.signal_count in
-        IfOk result (λ r. r ≡ layout_of (header_of fixed.now signals)) }
+    requires signals { (bytes : List ℕ) × AreSignals bytes (header_of fixed.now signals.now) }
+    requires parts { ArePartBytes signals.now parts }
+    ensures { IfOk result (λ r. r ≡ layout_of (header_of fixed.now signals.now)) }
 {
-    let identity = Identity::from_header(alloc, fixed, bytes, parts.ordinary)?;
-    let blocks = blocks_of(alloc, bytes, fixed.signals())?;
+    let identity = Identity::from_header(alloc, fixed, signals, parts.ordinary)?;
+    let blocks = blocks_of(alloc, signals)?;
     Ok(Header {
         identity,
         start: fixed.start(),
@@ -107,7 +91,7 @@ fn header_from(
 /// # Errors
 /// The first of E14 to E20 that is true of the bytes: `CutSignals`, `UnprintableSignals` with the
 /// offset in the file of the first such byte, `Annotations`, `Physical`, `Digital`, `Samples`,
-/// `Size`, as `HeaderFault` tells them; `Memory` where memory runs out and none of them is true.
+/// `Size`, as `HeaderFault` has them; `Memory` where memory runs out and none of them is true.
 pub fn read_signals(alloc: Global, fixed: Fixed, bytes: &[u8]) -> Result<Header, HeaderFault>
     requires { length bytes.now ≤ 256 * fixed.signal_count }
     ensures { MatchResult result
@@ -121,11 +105,12 @@ pub fn read_signals(alloc: Global, fixed: Fixed, bytes: &[u8]) -> Result<Header,
     if let Some(at) = first_unprintable(bytes) {
         return Err(HeaderFault::UnprintableSignals { offset: 256 + at });
     }
-    let parts = match check_signals(bytes, n) {
+    let signals = Columns::new(bytes, n);
+    let parts = match check_signals(&signals) {
         Ok(parts) => parts,
         Err(fault) => return Err(fault),
     };
-    match header_from(alloc, &fixed, bytes, parts) {
+    match header_from(alloc, &fixed, &signals, parts) {
         Ok(header) => Ok(header),
         Err(_) => Err(HeaderFault::Memory),
     }

@@ -3,8 +3,9 @@ use Rattle.std.proofs.Common.{◌≡◌, ℕ, ◌<◌, ◌≤◌, List, [], leng
 use Rattle.std.proofs.lemmas.Bool.Decides.{nat_tests}
 use Rattle.edf_markup.specs.Markup.{cut_mark}
 
-pub cut-told : (limit : ℕ) (text : List ℕ) → limit < length text → cut_mark limit text ≡ codes "..."
-cut-told limit text h = grind (arith, nat_tests)
+pub cut-marked : (limit : ℕ) (text : List ℕ) → limit < length text →
+    cut_mark limit text ≡ codes "..."
+cut-marked limit text h = grind (arith, nat_tests)
 
 pub uncut : (limit : ℕ) (text : List ℕ) → length text ≤ limit → cut_mark limit text ≡ []
 uncut limit text h = grind (arith, nat_tests)

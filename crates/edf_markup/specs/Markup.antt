@@ -14,7 +14,7 @@ piece byte =
     else if nat_le 32 byte && nat_le byte 126 then byte ∷ []
     else []
 
--- what tells that a text of more than `limit` bytes was cut
+-- the mark of a text that was cut, since it has more than `limit` bytes
 abbrev pub cut_mark : ℕ → List ℕ → List ℕ
 cut_mark limit text = if nat_lt limit (length text) then codes "..." else []
 

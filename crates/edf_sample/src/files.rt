@@ -17,7 +17,7 @@ pub struct Signal<'a> {
 }
 
 impl<'a> Signal<'a> {
-    /// The EEG signal of file Q, of two samples.
+    /// The EEG signal of file Q, with two samples in each data record.
     pub fn eeg() -> Signal<'a> {
         Signal {
             label: "EEG Fpz-Cz",
@@ -31,7 +31,7 @@ impl<'a> Signal<'a> {
         }
     }
 
-    /// An annotations signal of `samples` samples.
+    /// An annotations signal with `samples` samples in each data record.
     pub fn annotations(samples: &'a str) -> Signal<'a> {
         Signal {
             label: "EDF Annotations ",
@@ -245,7 +245,7 @@ impl<'a> Header<'a> {
     }
 }
 
-/// Fills a field with spaces.
+/// Appends a text, and spaces to the width of its field.
 pub(crate) fn push_field(file: &mut Vec<u8>, text: &[u8], width: usize) -> Result<(), AllocError> {
     file.extend_from_slice(text)?;
     for _ in text.len()..width {
@@ -254,6 +254,7 @@ pub(crate) fn push_field(file: &mut Vec<u8>, text: &[u8], width: usize) -> Resul
     Ok(())
 }
 
+/// Appends the fixed part of a header.
 fn push_fixed(file: &mut Vec<u8>, header: &Header<'_>) -> Result<(), AllocError> {
     let [date, time] = header.start;
     push_field(file, header.version.as_bytes(), 8)?;
@@ -268,7 +269,7 @@ fn push_fixed(file: &mut Vec<u8>, header: &Header<'_>) -> Result<(), AllocError>
     push_field(file, header.signals.as_bytes(), 4)
 }
 
-/// A field of all signals, in their order.
+/// Appends a field of all signals, in their order.
 fn push_column(
     file: &mut Vec<u8>,
     signals: &[Signal<'_>],
@@ -282,6 +283,7 @@ fn push_column(
     Ok(())
 }
 
+/// Appends the signals, field by field.
 fn push_signals(file: &mut Vec<u8>, signals: &[Signal<'_>]) -> Result<(), AllocError> {
     for column in 0..10usize {
         push_column(file, signals, column)?;

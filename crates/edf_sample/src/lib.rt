@@ -4,11 +4,11 @@
 //! - [`Header`], [`Signal`], [`q`], [`file`]: the header of a file, of one EEG signal and one
 //!   annotations signal or of a list of signals, and the file's bytes.
 //! - [`named`]: small named files.
-//! - [`Source`], [`StopsOnce`], [`Sink`]: readers that give their bytes in pieces and fail, a
-//!   writer that takes them so.
+//! - [`Source`], [`StopsOnce`], [`Sink`]: readers that give their bytes in pieces and fail, and a
+//!   writer that takes its bytes in pieces and fails.
 //! - [`Scarce`]: a machine whose memory runs out.
 //!
-//! Nothing of it is promised but that it is safe: what a test wants is spelled in the test.
+//! It promises safety alone: what a test expects is spelled in the test.
 #![tactic(auto)]
 
 mod files;

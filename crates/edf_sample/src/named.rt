@@ -101,7 +101,7 @@ pub fn file_n3(alloc: Global) -> Result<Vec<u8>, AllocError> {
     )
 }
 
-/// The card's file of the three seconds N1, N2 and N3: 798 bytes.
+/// The three seconds N1, N2 and N3 in one file, as a recorder's card has them: 798 bytes.
 pub fn file_k(alloc: Global) -> Result<Vec<u8>, AllocError> {
     let header = third_of_march("01.00.00").count("3").reserved("EDF+C");
     file(

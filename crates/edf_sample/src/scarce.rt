@@ -48,10 +48,10 @@ impl Scarce {
         }
     }
 
-    /// Leaves one block of `bytes` bytes free, and no other, and tells whether there was one.
+    /// Leaves one block of `bytes` bytes free and no other, and answers whether there was one.
     ///
-    /// The C library keeps freed blocks up to 1,032 bytes in bins by their sizes, which are emptied
-    /// too: a block that small would serve its own size alone. With 0 nothing is free.
+    /// The C library keeps freed blocks of at most 1,032 bytes in bins by their sizes. The bins are
+    /// emptied too, since such a block serves its own size alone. With 0 nothing is free.
     pub fn leave(&mut self, alloc: Global, bytes: usize) -> bool {
         let Ok(block) = Vec::<u8>::with_capacity(alloc, bytes) else {
             return false;

@@ -2,7 +2,8 @@
 
 use std::io::{self, Read, Write};
 
-/// Gives its bytes, at most `step` a read, up to `cut`, and then fails with `kind` each time.
+/// A reader of its bytes up to `cut`, at most `step` in a read. After them each read fails with
+/// `kind`.
 #[derive(Drop)]
 pub struct Source<'a> {
     bytes: &'a [u8],
@@ -13,7 +14,7 @@ pub struct Source<'a> {
 }
 
 impl<'a> Source<'a> {
-    /// All the bytes, at most `step` a read, and then the end.
+    /// A reader of all the bytes, at most `step` in a read, and then of the end.
     pub fn whole(bytes: &'a [u8], step: usize) -> Source<'a> {
         Source {
             bytes,
@@ -24,7 +25,7 @@ impl<'a> Source<'a> {
         }
     }
 
-    /// The bytes up to `cut`, and then failed reads.
+    /// A reader of the bytes up to `cut`, whose later reads fail.
     pub fn failing(bytes: &'a [u8], cut: usize, kind: io::ErrorKind) -> Source<'a> {
         Source {
             bytes,
@@ -57,8 +58,8 @@ impl<'a> Read for Source<'a> {
     }
 }
 
-/// Gives its bytes one a read. At `stop` it gives none or fails, once, and then goes on. It counts
-/// its reads.
+/// A reader of one byte in a read. At `stop` one read gives none or fails, and those after it go
+/// on. It counts its reads.
 #[derive(Drop)]
 pub struct StopsOnce<'a> {
     bytes: &'a [u8],
@@ -105,7 +106,8 @@ impl Read for StopsOnce<'_> {
     }
 }
 
-/// Takes `room` bytes, at most `step` a write, and then fails, or takes none where `full` is set.
+/// A writer of `room` bytes, at most `step` in a write. After them each write fails, or takes none
+/// where `full` is set.
 #[derive(Drop)]
 pub struct Sink<'a> {
     got: &'a mut Vec<u8>,
@@ -115,7 +117,7 @@ pub struct Sink<'a> {
 }
 
 impl<'a> Sink<'a> {
-    /// Takes all.
+    /// A writer that takes all its bytes, at most `step` in a write.
     pub fn whole(got: &'a mut Vec<u8>, step: usize) -> Sink<'a> {
         Sink {
             got,
@@ -125,7 +127,7 @@ impl<'a> Sink<'a> {
         }
     }
 
-    /// Takes `room` bytes, and then fails, or takes none.
+    /// A writer of `room` bytes, whose later writes fail, or take none where `full` is set.
     pub fn of_room(got: &'a mut Vec<u8>, room: usize, full: bool) -> Sink<'a> {
         Sink {
             got,

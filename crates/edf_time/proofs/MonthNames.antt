@@ -29,7 +29,7 @@ pub month_name-letters : (m : ℕ) → 1 ≤ m → m ≤ 12 → month_name m ≡
 month_name-letters = each-month (λ m. month_name m ≡ letters m) refl refl refl refl refl refl refl
     refl refl refl refl refl
 
--- the sum of the last two letters tells the month
+-- the sum of the last two letters names the month
 month_by_sum : ℕ → ℕ
 month_by_sum n =
     cond (eqb n 143) 1 (cond (eqb n 135) 2

@@ -35,7 +35,7 @@ all-digits (d ∷ ds) = both (less (digit_value d) 10) (all-digits ds)
 numeral : (ds : List ℕ) → Decided (IsNumeral 10 ds)
 numeral ds = both (less 0 (length ds)) (all-digits ds)
 
--- a dot at this place, with digits before and after it
+-- a dot at this offset, with digits before and after it
 abbrev IsDottedAt : List ℕ → ℕ → Type 0
 IsDottedAt text at = IsNumeral 10 (take at text) × IsNumeral 10 (drop (suc at) text)
     × (text ≡ take at text ++ 46 ∷ drop (suc at) text)
@@ -58,9 +58,9 @@ made : (text w f : List ℕ) → IsNumeral 10 w → IsNumeral 10 f → text ≡ 
 made text w [] p q e = let some : 0 < length {A = ℕ} [] = q.0 in absurd (omega arith)
 made text w (d ∷ f) p q e = (p, q, e)
 
-behind-dot : (w f : List ℕ) → drop (suc (length w)) (w ++ 46 ∷ f) ≡ f
-behind-dot [] f = refl
-behind-dot (d ∷ w) f = behind-dot w f
+after-dot : (w f : List ℕ) → drop (suc (length w)) (w ++ 46 ∷ f) ≡ f
+after-dot [] f = refl
+after-dot (d ∷ w) f = after-dot w f
 
 to-parts : (text : List ℕ) → IsNumeral 10 text ⊎ HasDot text → HasParts text
 to-parts text (inl n) = (text, [], (n, refl))
@@ -73,7 +73,7 @@ from-parts text (w, c ∷ f, d) =
     let front : take (length w) text ≡ w = ap (take (length w)) d.2
     ∙ take_at w (46 ∷ c ∷ f) (length w) refl in
     let back : drop (suc (length w)) text ≡ c ∷ f = ap (drop (suc (length w))) d.2
-    ∙ behind-dot w (c ∷ f) in
+    ∙ after-dot w (c ∷ f) in
     inr (
       length w,
       omega (arith, ap length d.2, length-append w (46 ∷ c ∷ f)),

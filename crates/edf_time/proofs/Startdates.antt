@@ -30,7 +30,7 @@ digits-whatever date (Some day) a b p (e, inl t) = one-date_day date a b p t
 digits-whatever date (Some day) a b p (e, inr t) =
     absurd (not-yearless date a p (late-yearless date b t))
 
--- as the code tells whether a startdate has a form
+-- how the code decides whether a startdate has a form
 pub answers-form : (date : List ℕ) (r : Option ℕ) (id : Option ℤ) (test : Bool) →
     false ≡ is_some r → true ≡ is_some id
     → MatchOption r ((days : ℕ) → ¬ IsDateText date days) (λ days. IsDateText date days

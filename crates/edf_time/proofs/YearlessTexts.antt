@@ -45,7 +45,7 @@ yearless-exists text m d m-low d-low e y =
     subst (λ (k : ℕ). IsCivilDate (pos 2000) k d) same.1
     (subst (λ (k : ℕ). IsCivilDate (pos 2000) y.month k) same.0 (yearless-in-leap_year text y))
 
--- as the code tells it: whether the leap year has the day
+-- how the code decides it: whether the leap year has the day
 pub answers-yearless : (text : List ℕ) (m d : ℕ) (r : Option ℤ) → m < 100 → d < 100 →
     text ≡ lettered d m
     → MatchOption r ((days : ℤ) → ¬ IsDay 2000 m d days) (λ days. IsDay 2000 m d days)

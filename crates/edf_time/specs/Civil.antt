@@ -6,7 +6,7 @@ use Rattle.edf_time.specs.Decimal.{fraction_text}
 use Rattle.edf_time.specs.declared.civil.StartFault.{StartFault}
 use Rattle.edf_time.specs.declared.civil.StartFault.TheVariants.{Date, Time, Differs}
 
--- the length of the window, from 1985-01-01 00:00:00 up to and without 2185-01-01: in days, and in
+-- the length of the window, from 1985-01-01 00:00:00 to the end of the year 2184: in days, and in
 -- nanoseconds
 abbrev pub window_days : ℕ
 window_days = 73_049
@@ -14,8 +14,7 @@ window_days = 73_049
 abbrev pub window : ℕ
 window = window_days * 86_400 * 10 ^ 9
 
--- the part of it whose years a startdate can name by two digits, 1985 to 2084, up to and without
--- 2085-01-01
+-- the part of it whose years a startdate can name by two digits: 1985 to 2084
 abbrev pub two_digit_days : ℕ
 two_digit_days = 36_525
 
@@ -74,7 +73,7 @@ pub record IsYearlessText (text : List ℕ) : Type 0 where
   pub is_text : text ≡ two_digits day ++ 46 ∷ two_digits month ++ codes ".yy"
   pub is_day : IsDay year month day days
 
--- the same for a day of the years 2085 to 2184
+-- dd.mm.yy with the letters yy, of a day of the years 2085 to 2184
 pub record IsLateDateText (text : List ℕ) (days : ℕ) : Type 0 where
   pub year : ℕ
   pub month : ℕ
@@ -89,7 +88,7 @@ abbrev pub IsDateField : List ℕ → ℕ → Type 0
 IsDateField text days = IsDateText text days ⊎ IsLateDateText text days
 
 -- the startdate and the Startdate subfield name this day. The subfield is a date, or none for X;
--- only a date tells the year of a startdate with the letters yy
+-- only a date has the year of a startdate with the letters yy
 abbrev pub AreStartdates : List ℕ → Option ℤ → ℕ → Type 0
 AreStartdates date None days = IsDateText date days
 AreStartdates date (Some day) days = (day ≡ pos days) × IsDateField date days

@@ -24,7 +24,8 @@ pub(crate) fn day_number(year: u16, month: u8, day: u8) -> Option<i32>
     Some(date.to_plain().days_since_min() as i32 - FIRST_DAY as i32)
 }
 
-/// The same for a year that two digits name, whose days have numbers from 0 on.
+/// The days from 1985-01-01 to this day of a year that two digits of a startdate name: none is
+/// before it.
 pub(crate) fn two_digit_day(year: u16, month: u8, day: u8) -> Option<u32>
     requires from { 1985 ≤ year }
     requires to { year ≤ 2084 }

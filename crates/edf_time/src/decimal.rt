@@ -69,7 +69,7 @@ fn fraction_nanos(digits: &[u8]) -> Result<u64, DecimalFault>
     Ok(nanos)
 }
 
-/// The place of the first dot, or the length.
+/// The index of the first dot, or the length.
 fn first_dot(text: &[u8]) -> usize
     ensures within { result ≤ length text.now }
     ensures before { (k : ℕ) → k < result → slice_index text.now k ≢ 46 }

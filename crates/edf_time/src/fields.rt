@@ -135,7 +135,7 @@ pub fn instant_text(alloc: Global, instant: Instant) -> Result<Vec<u8>, AllocErr
     Ok(text)
 }
 
-/// The same without the fraction: 19 bytes.
+/// An instant to the second, as `yyyy-mm-ddThh:mm:ss`: 19 bytes.
 fn second_text(instant: Instant) -> [u8; 19]
     ensures { IsInstantText (result ++ fraction_text (instant % 10 ^ 9)) instant }
 {

@@ -20,8 +20,8 @@ pub fn instant_is_in_window(instant: Instant)
     ensures { instant < window }
 {}
 
-/// Instants and days are ordered as their numbers are: `<`, `cmp` and their like tell the earlier
-/// from the later.
+/// Instants and days are ordered as their numbers are: of two, the earlier is the lesser by `<`,
+/// `cmp` and their like.
 pub fn in_order()
     ensures instants { (a b : ℕ) → ⟦<Instant as Ord>⟧.cmp a b ≡ nat_cmp a b }
     ensures instants_partly { (a b : ℕ) →
@@ -30,13 +30,14 @@ pub fn in_order()
     ensures days_partly { (a b : ℤ) → ⟦<Day as PartialOrd>⟧.partial_cmp a b ≡ Some (int_cmp a b) }
 {}
 
-/// A digit is one of the bytes 48 to 57, and is worth what it lies above the first of them.
+/// A digit is one of the bytes 48 to 57, and its value is the byte less 48.
 pub fn digits()
     ensures bytes { (b : ℕ) → digit_value b < 10 → (48 ≤ b) × (b ≤ 57) }
     ensures value { (b : ℕ) → 48 ≤ b → b ≤ 57 → digit_value b ≡ b - 48 }
 {}
 
-/// A number has one shortest text. Past 10 ^ 73 nanoseconds `decimal` does not write every digit.
+/// A number below 10 ^ 73 has one shortest text: of a greater one `decimal` does not write every
+/// digit.
 pub fn one_shortest()
     ensures { (n : ℕ) (text : List ℕ) → n < 10 ^ 73 → IsShortest text n → text ≡ short n }
 {}

@@ -1,8 +1,9 @@
 -- The rows of a header's signals: their faults, and what is kept of rows that have none.
 use Rattle.std.specs.Prelude.{◌≡◌, ℕ, ◌*◌, ◌≤◌, List, All}
 use Rattle.edf_header.specs.Signal.{Passes, labelled, ordinary, samples_in_all}
-use Rattle.edf_header.specs.Header.{FixedPart, HeaderRecord}
-use Rattle.edf_header.specs.Fault.{HasAnnotations, IsBadSignal, IsTooLarge}
+use Rattle.edf_header.specs.Header.{HeaderRecord}
+use Rattle.edf_header.specs.Fixed.{FixedPart}
+use Rattle.edf_header.specs.Condition.{HasAnnotations, IsBadSignal, IsTooLarge}
 use Rattle.edf_header.specs.declared.limits.TheConstants.{MOST_BLOCK_BYTES}
 use Rattle.edf_header.specs.declared.signal_checks.Check.TheVariants as checks
 use Rattle.edf_header.specs.declared.header_signals.PartBytes.{PartBytes}

@@ -1,12 +1,12 @@
--- Words for single steps: a key from its parts, the bytes that stand for a key, and where a check
--- comes in the order of faults.
+-- Words for single steps: a key from its parts, the bytes that stand for a key, and where the fault
+-- of a check comes in their order.
 use Rattle.std.specs.Prelude.{◌≡◌, ℕ, ◌*◌, List, All}
 use Rattle.edf_field.specs.Number.{IsDuration, duration_of}
 use Rattle.edf_field.specs.Text.{IsPrintable, IsPatient, FollowsStartdate}
 use Rattle.edf_header.specs.Fields.{key_patient_field, key_duration_field}
 use Rattle.edf_header.specs.Key.{Key, IsKey, key_at, key_bytes}
 use Rattle.edf_header.specs.Signal.{samples_in_all}
-use Rattle.edf_header.specs.Header.{FixedPart, is_dated}
+use Rattle.edf_header.specs.Fixed.{FixedPart, is_dated}
 use Rattle.edf_header.specs.Identity.{HasLength, HasMark}
 use Rattle.edf_header.specs.declared.signal_checks.Check.{Check}
 use Rattle.edf_header.specs.declared.signal_checks.Check.TheVariants.{Label, Annotations, Physical}
@@ -30,13 +30,14 @@ pub record IsIdentity (bytes : List ℕ) (duration ordinary_bytes : ℕ) : Type 
   pub duration_is : duration ≡ duration_of (key_at bytes).duration
   pub ordinary_is : ordinary_bytes ≡ 2 * samples_in_all (key_at bytes).signals
 
--- the place of a signal's fault in the order of an identity's, which has no annotations signals
-abbrev pub place_of_check : Check → ℕ
-place_of_check Annotations = 0
-place_of_check Label = 6
-place_of_check Physical = 7
-place_of_check Digital = 8
-place_of_check Samples = 9
+-- where the fault of a check comes in the order of an identity's faults. An identity has no
+-- annotations signals, and so no fault of that check
+abbrev pub check_order : Check → ℕ
+check_order Annotations = 0
+check_order Label = 6
+check_order Physical = 7
+check_order Digital = 8
+check_order Samples = 9
 
 -- what comes before an identity's signals has no fault
 pub record IsKeyFront (b : List ℕ) : Type 0 where
@@ -44,5 +45,5 @@ pub record IsKeyFront (b : List ℕ) : Type 0 where
   pub printable : All IsPrintable b
   pub patient : IsPatient (key_patient_field b)
   pub mark : HasMark b
-  pub behind : FollowsStartdate (key_at b).after
+  pub after : FollowsStartdate (key_at b).after
   pub duration : (nanos : ℕ) × IsDuration (key_duration_field b) nanos

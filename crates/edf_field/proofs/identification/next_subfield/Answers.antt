@@ -10,13 +10,13 @@ use Rattle.edf_field.proofs.identification.next_subfield.Goals as goal
 pub split_at-requires : goal.split_at-requires
 split_at-requires c = rw c.spaces_len.ensures (prefix_len-le-length (λ b. b == 32) c.args.text.now)
 
-behind-spaces : (text rest : List ℕ) (n : ℕ) → n ≡ spaces_len text → rest ≡ drop n text →
+after-spaces : (text rest : List ℕ) (n : ℕ) → n ≡ spaces_len text → rest ≡ drop n text →
     rest ≡ drop (spaces_len text) text
-behind-spaces text rest n e r = r ∙ ap (λ (k : ℕ). drop k text) e
+after-spaces text rest n e r = r ∙ ap (λ (k : ℕ). drop k text) e
 
 pub returns-then-is_empty : goal.returns-then-is_empty
 returns-then-is_empty c =
-    let e = behind-spaces c.args.text.now c.split_at.result.1.now c.spaces_len.result
+    let e = after-spaces c.args.text.now c.split_at.result.1.now c.spaces_len.result
     c.spaces_len.ensures c.split_at.ensures.back in
     skip-spaces c.args.text.now ∙ ap subfields (sym e
     ∙ nil_from_length c.split_at.result.1.now (grind (arith, nat_tests)))
@@ -28,7 +28,7 @@ split_at-requires-2 c = rw c.front_len.ensures
 pub returns : goal.returns
 returns c =
     let text = c.args.text.now in
-    let e = behind-spaces text c.split_at.result.1.now c.spaces_len.result c.spaces_len.ensures
+    let e = after-spaces text c.split_at.result.1.now c.spaces_len.result c.spaces_len.ensures
     c.split_at.ensures.back in
     let some : 0 < length c.split_at.result.1.now = grind (arith, nat_tests) in
     let more : 0 < front_len c.split_at.result.1.now = rw e (front-some text (rw (sym e) some)) in

@@ -1,7 +1,7 @@
 use Rattle.edf_field.proofs.Cited.{duration-value}
 use Rattle.edf_header.proofs.FixedLaws.{is-fixed}
 use Rattle.edf_field.specs.Number.{field}
-use Rattle.edf_header.specs.Header.{fixed_at}
+use Rattle.edf_header.specs.Fixed.{fixed_at}
 use Rattle.edf_header.proofs.fixed.fixed_of.Goals as goal
 
 pub invariant_of-result : goal.invariant_of-result

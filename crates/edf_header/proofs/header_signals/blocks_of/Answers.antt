@@ -1,26 +1,27 @@
 use Rattle.std.proofs.Common.{List, ℕ, arith, ap, ◌∙◌}
 use Rattle.std.proofs.lemmas.List.{take_all}
 use Rattle.edf_header.specs.Header.{blocks_from}
-use Rattle.edf_header.specs.Signal.{HasSamples, signals_of}
+use Rattle.edf_header.specs.Signal.{HasSamples}
 use Rattle.edf_header.proofs.Blocks.{block-left, block-pushed, place-more}
-use Rattle.edf_header.proofs.RowSteps.{length-signals, one-at}
+use Rattle.edf_header.proofs.RowSteps.{one-at}
 use Rattle.edf_header.proofs.Sorted.{member-meets}
 use Rattle.edf_header.proofs.header_signals.blocks_of.Goals as goal
 use Rattle.edf_header.proofs.header_signals.blocks_of.Goals.{then-is_labelled+in_ok-push}
 use Rattle.edf_header.proofs.header_signals.blocks_of.Goals.{else-is_labelled}
 
-pub samples_of-requires-clause-samples : goal.samples_of-requires-clause-samples
-samples_of-requires-clause-samples c =
-    let at = one-at c.args.bytes.now c.args.n c.loop-i.i c.row_from-row.result (omega arith)
-    c.row_from-row.ensures in
-    member-meets HasSamples (signals_of c.args.bytes.now c.args.n) c.loop-i.i c.row_from-row.result
-    at.0 at.1 c.requires.each
+pub samples_of-requires : goal.samples_of-requires
+samples_of-requires c =
+    let at = one-at c.args.signals.now c.count-n.result c.loop-i.i c.row-row.result (omega arith)
+    c.count-n.ensures.value c.row-row.ensures in
+    member-meets HasSamples c.args.signals.now c.loop-i.i c.row-row.result
+    at.0 at.1 c.requires
 
 pub loop-i-preserved : goal.loop-i-preserved
 loop-i-preserved c =
-    let ss : List (List ℕ) = signals_of c.args.bytes.now c.args.n in
-    let r : List ℕ = c.row_from-row.result in
-    let at = one-at c.args.bytes.now c.args.n c.loop-i.i r (omega arith) c.row_from-row.ensures in (
+    let ss : List (List ℕ) = c.args.signals.now in
+    let r : List ℕ = c.row-row.result in
+    let at = one-at c.args.signals.now c.count-n.result c.loop-i.i r (omega arith)
+    c.count-n.ensures.value c.row-row.ensures in (
       elim c.if-is_labelled.branch [
         | then-is_labelled+in_ok-push w ↦
             ap (λ v. v.items) w.blocks-is
@@ -43,5 +44,5 @@ pub returns : goal.returns
 returns c =
     c.loop-i.invariant.0
     ∙ ap (λ (l : List (List ℕ)). blocks_from 0 l)
-    (take_all c.loop-i.i (signals_of c.args.bytes.now c.args.n)
-    (omega (arith, length-signals c.args.bytes.now c.args.n)))
+    (take_all c.loop-i.i c.args.signals.now
+    (omega (arith, c.count-n.ensures.value)))

@@ -1,6 +1,6 @@
 use Rattle.std.proofs.Common.{List, ℕ, [], ◌∷◌, arith, ap, length, length-append, take, ◌∙◌}
-use Rattle.edf_header.specs.Signal.{labelled, signals_of}
-use Rattle.edf_header.proofs.RowSteps.{length-signals, one-at}
+use Rattle.edf_header.specs.Signal.{labelled}
+use Rattle.edf_header.proofs.RowSteps.{one-at}
 use Rattle.edf_header.proofs.Sorted.{labelled-all, labelled-kept, labelled-left}
 use Rattle.edf_header.proofs.header_signals.count_labelled.Goals as goal
 use Rattle.edf_header.proofs.header_signals.count_labelled.Goals.{then-is_labelled}
@@ -8,9 +8,10 @@ use Rattle.edf_header.proofs.header_signals.count_labelled.Goals.{else-is_labell
 
 pub loop-i-preserved : goal.loop-i-preserved
 loop-i-preserved c =
-    let ss : List (List ℕ) = signals_of c.args.bytes.now c.args.n in
-    let r : List ℕ = c.row_from.result in
-    let at = one-at c.args.bytes.now c.args.n c.loop-i.i r (omega arith) c.row_from.ensures in
+    let ss : List (List ℕ) = c.args.signals.now in
+    let r : List ℕ = c.row.result in
+    let at = one-at c.args.signals.now c.count-n.result c.loop-i.i r (omega arith)
+    c.count-n.ensures.value c.row.ensures in
     elim c.if-is_labelled.branch [
       | then-is_labelled w ↦
           let kept = labelled-kept ss c.loop-i.i r c.is_labelled.result at.0 at.1
@@ -26,5 +27,5 @@ loop-i-preserved c =
 
 pub returns : goal.returns
 returns c = c.loop-i.invariant.0
-    ∙ ap length (labelled-all (signals_of c.args.bytes.now c.args.n) c.loop-i.i
-    (omega (arith, length-signals c.args.bytes.now c.args.n)))
+    ∙ ap length (labelled-all c.args.signals.now c.loop-i.i
+    (omega (arith, c.count-n.ensures.value)))

@@ -1,25 +1,25 @@
 use Rattle.std.proofs.Common.{◌≤◌, List, ℕ, arith, ap, length, take}
 use Rattle.std.proofs.lemmas.List.Sums.{sum_by_push}
 use Rattle.edf_header.specs.Signal.{HasSamples, labelled, ordinary, samples, samples_in_all}
-use Rattle.edf_header.specs.Signal.{signals_of}
-use Rattle.edf_header.proofs.RowSteps.{length-signals, one-at}
+use Rattle.edf_header.proofs.RowSteps.{one-at}
 use Rattle.edf_header.proofs.Sorted.{labelled-all, labelled-kept, labelled-left, member-meets}
 use Rattle.edf_header.proofs.Sorted.{ordinary-all, ordinary-left, push-more}
 use Rattle.edf_header.proofs.header_signals.part_bytes.Goals as goal
 use Rattle.edf_header.proofs.header_signals.part_bytes.Goals.{then-is_labelled, else-is_labelled}
 
-pub samples_of-requires-clause-samples : goal.samples_of-requires-clause-samples
-samples_of-requires-clause-samples c =
-    let at = one-at c.args.bytes.now c.args.n c.loop-i.i c.row_from-row.result (omega arith)
-    c.row_from-row.ensures in
-    member-meets HasSamples (signals_of c.args.bytes.now c.args.n) c.loop-i.i c.row_from-row.result
-    at.0 at.1 c.requires.each
+pub samples_of-requires : goal.samples_of-requires
+samples_of-requires c =
+    let at = one-at c.args.signals.now c.count-n.result c.loop-i.i c.row-row.result (omega arith)
+    c.count-n.ensures.value c.row-row.ensures in
+    member-meets HasSamples c.args.signals.now c.loop-i.i c.row-row.result
+    at.0 at.1 c.requires
 
 pub loop-i-preserved : goal.loop-i-preserved
 loop-i-preserved c =
-    let ss : List (List ℕ) = signals_of c.args.bytes.now c.args.n in
-    let r : List ℕ = c.row_from-row.result in
-    let at = one-at c.args.bytes.now c.args.n c.loop-i.i r (omega arith) c.row_from-row.ensures in
+    let ss : List (List ℕ) = c.args.signals.now in
+    let r : List ℕ = c.row-row.result in
+    let at = one-at c.args.signals.now c.count-n.result c.loop-i.i r (omega arith)
+    c.count-n.ensures.value c.row-row.ensures in
     let size = c.samples_of.ensures.value in
     elim c.if-is_labelled.branch [
       | then-is_labelled w ↦
@@ -54,8 +54,8 @@ loop-i-preserved c =
 
 pub returns : goal.returns
 returns c =
-    let ss : List (List ℕ) = signals_of c.args.bytes.now c.args.n in
-    let past : length ss ≤ c.loop-i.i = omega (arith, length-signals c.args.bytes.now c.args.n) in
+    let ss : List (List ℕ) = c.args.signals.now in
+    let past : length ss ≤ c.loop-i.i = omega (arith, c.count-n.ensures.value) in
     record {
       ordinary = omega (arith, ap samples_in_all (ordinary-all ss c.loop-i.i past));
       annotations = omega (arith, ap samples_in_all (labelled-all ss c.loop-i.i past));

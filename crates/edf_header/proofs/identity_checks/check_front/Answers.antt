@@ -26,7 +26,7 @@ returns-in-Some-read_duration c = (
     printable = c.in_default.ensures;
     patient = c.is_patient.ensures.0 c.if-not-is_patient.false;
     mark = (c.has_recording.ensures.0 c.if-not-has_recording.false).0;
-    behind = (c.has_recording.ensures.0 c.if-not-has_recording.false).1;
+    after = (c.has_recording.ensures.0 c.if-not-has_recording.false).1;
     duration = (c.in-Some-read_duration.nanos, c.in-Some-read_duration.ensures);
   },
   duration-value (field c.args.bytes.now 150 8) c.in-Some-read_duration.nanos

@@ -1,6 +1,6 @@
 use Rattle.std.proofs.Common.{arith, subst, refl}
 use Rattle.edf_header.specs.Identity.{IsCleanKey, signals_at}
-use Rattle.edf_header.specs.Inside.Shape.{place_of_check}
+use Rattle.edf_header.specs.Inside.Shape.{check_order}
 use Rattle.edf_header.specs.Signal.{IsFirstBad, Passes}
 use Rattle.edf_header.proofs.Faults.{all-passed, bad-at, at-small}
 use Rattle.edf_header.proofs.identity_checks.check_signals.Goals as goal
@@ -30,7 +30,7 @@ returns-in-Label c =
             (bad-at c.args.check b c.in-Some.at c.in-Some.ensures),
         refl,
       ),
-      subst (λ k. IsCleanKey b (place_of_check k)) c.in-Label.is c.requires.clean,
+      subst (λ k. IsCleanKey b (check_order k)) c.in-Label.is c.requires.clean,
     )
 
 pub returns-in-Physical : goal.returns-in-Physical
@@ -42,7 +42,7 @@ returns-in-Physical c =
             (bad-at c.args.check b c.in-Some.at c.in-Some.ensures),
         refl,
       ),
-      subst (λ k. IsCleanKey b (place_of_check k)) c.in-Physical.is c.requires.clean,
+      subst (λ k. IsCleanKey b (check_order k)) c.in-Physical.is c.requires.clean,
     )
 
 pub returns-in-Digital : goal.returns-in-Digital
@@ -54,7 +54,7 @@ returns-in-Digital c =
             (bad-at c.args.check b c.in-Some.at c.in-Some.ensures),
         refl,
       ),
-      subst (λ k. IsCleanKey b (place_of_check k)) c.in-Digital.is c.requires.clean,
+      subst (λ k. IsCleanKey b (check_order k)) c.in-Digital.is c.requires.clean,
     )
 
 pub returns-in-Samples : goal.returns-in-Samples
@@ -66,5 +66,5 @@ returns-in-Samples c =
             (bad-at c.args.check b c.in-Some.at c.in-Some.ensures),
         refl,
       ),
-      subst (λ k. IsCleanKey b (place_of_check k)) c.in-Samples.is c.requires.clean,
+      subst (λ k. IsCleanKey b (check_order k)) c.in-Samples.is c.requires.clean,
     )

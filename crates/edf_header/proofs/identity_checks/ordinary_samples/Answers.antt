@@ -8,7 +8,7 @@ pub loop-i-preserved-then-is_labelled : goal.loop-i-preserved-then-is_labelled
 loop-i-preserved-then-is_labelled c =
     let at = row-one c.args.rows.now c.loop-i.i c.loop-i-test.true in (
       skip-labelled samples_in_all (rows_of c.args.rows.now) c.loop-i.i _ c.is_labelled.result
-          c.loop-i.total at.0 at.1 c.is_labelled.ensures.value c.if-is_labelled.true
+          c.loop-i.total at.0 c.row_in-row.ensures c.is_labelled.ensures.value c.if-is_labelled.true
           c.loop-i.invariant.0,
       omega arith,
     )
@@ -17,13 +17,14 @@ pub loop-i-preserved-in_default : goal.loop-i-preserved-in_default
 loop-i-preserved-in_default c =
     let at = row-one c.args.rows.now c.loop-i.i c.loop-i-test.true in
     absurd (c.in_default.ensures (member-meets HasSamples (rows_of c.args.rows.now) c.loop-i.i _
-    at.0 at.1 c.requires.each).whole)
+    at.0 c.row_in-row.ensures c.requires.each).whole)
 
 pub loop-i-preserved : goal.loop-i-preserved
 loop-i-preserved c =
     let at = row-one c.args.rows.now c.loop-i.i c.loop-i-test.true in (
       add-ordinary (rows_of c.args.rows.now) c.loop-i.i _ c.in-Some.n c.loop-i.total
-          c.is_labelled.result at.0 at.1 c.is_labelled.ensures.value c.if-is_labelled.false
+          c.is_labelled.result at.0 c.row_in-row.ensures c.is_labelled.ensures.value
+          c.if-is_labelled.false
           c.in-Some.ensures.1 c.loop-i.invariant.0,
       omega (arith, c.in-Some.ensures.2),
     )

@@ -7,13 +7,13 @@ use Rattle.edf_header.proofs.signal_checks.first_bad.Goals as goal
 pub returns-then-not-passes : goal.returns-then-not-passes
 returns-then-not-passes c =
     let at = row-one c.args.rows.now c.loop-i.i c.loop-i-test.true in
-    bad-here (Passes c.args.check) (rows_of c.args.rows.now) c.loop-i.i _ at.0 at.1
+    bad-here (Passes c.args.check) (rows_of c.args.rows.now) c.loop-i.i _ at.0 c.row_in.ensures
     c.loop-i.invariant (iff_false c.passes.ensures c.if-not-passes.true)
 
 pub loop-i-preserved : goal.loop-i-preserved
 loop-i-preserved c =
     let at = row-one c.args.rows.now c.loop-i.i c.loop-i-test.true in
-    good-more (Passes c.args.check) (rows_of c.args.rows.now) c.loop-i.i _ at.0 at.1
+    good-more (Passes c.args.check) (rows_of c.args.rows.now) c.loop-i.i _ at.0 c.row_in.ensures
     c.loop-i.invariant (c.passes.ensures.0 c.if-not-passes.false)
 
 pub returns : goal.returns

@@ -1,5 +1,4 @@
 use Rattle.std.proofs.Common.{arith, inl, inr}
-use Rattle.edf_header.specs.Signal.{signals_of}
 use Rattle.edf_header.proofs.HeaderFaults.{clean-18, clean-19, clean-20}
 use Rattle.edf_header.proofs.signals.check_signals.Goals as goal
 use Rattle.edf_header.proofs.signals.check_signals.Goals.{then-parts-gt-MOST_BLOCK_BYTES-via-then-parts-gt-MOST_BLOCK_BYTES}
@@ -8,14 +7,14 @@ use Rattle.edf_header.proofs.signals.check_signals.Goals.{then-parts-gt-MOST_BLO
 pub returns-in-Some-bad_signal : goal.returns-in-Some-bad_signal
 returns-in-Some-bad_signal c = (
   c.in-Some-bad_signal.ensures,
-  clean-18 (signals_of c.args.bytes.now c.args.n)
+  clean-18 c.args.signals.now
       (c.has_annotations.ensures.0 c.if-not-has_annotations.false) c.in_default.ensures,
 )
 
 pub returns-in-Some-bad_signal-2 : goal.returns-in-Some-bad_signal-2
 returns-in-Some-bad_signal-2 c = (
   c.in-Some-bad_signal-2.ensures,
-  clean-19 (signals_of c.args.bytes.now c.args.n)
+  clean-19 c.args.signals.now
       (c.has_annotations.ensures.0 c.if-not-has_annotations.false) c.in_default.ensures
       c.in_default-bad_signal.ensures,
 )
@@ -28,7 +27,7 @@ returns-then-parts-gt-MOST_BLOCK_BYTES c = (
     | then-parts-gt-MOST_BLOCK_BYTES-via-else-parts-gt-MOST_BLOCK_BYTES+then-parts-gt-MOST_BLOCK_BYTES-2
         w ↦ inr (omega (arith, c.part_bytes-parts.ensures.annotations))
   ],
-  clean-20 (signals_of c.args.bytes.now c.args.n)
+  clean-20 c.args.signals.now
       (c.has_annotations.ensures.0 c.if-not-has_annotations.false) c.in_default.ensures
       c.in_default-bad_signal.ensures c.in_default-bad_signal-2.ensures,
 )

@@ -4,7 +4,7 @@ use Rattle.std.proofs.lemmas.Iterator.{YieldsList-from_slice, YieldsList-from_ta
 use Rattle.std.proofs.lemmas.Iterator.Consumers.{YieldsList-end}
 use Rattle.std.proofs.lemmas.List.Folds.{flat_map-map}
 use Rattle.edf_markup.specs.Markup.{piece, IsPlain}
-use Rattle.edf_markup.proofs.Cut.{cut-told, uncut}
+use Rattle.edf_markup.proofs.Cut.{cut-marked, uncut}
 use Rattle.edf_markup.proofs.Plain.{plain-escaped}
 use Rattle.edf_markup.proofs.escape.escaped.Goals as goal
 use Rattle.edf_markup.proofs.escape.escaped.Goals.{then-text-limit+in_ok-push_str, else-text-limit}
@@ -16,14 +16,14 @@ returns-clause-text c =
     let end = YieldsList-end (YieldsList-from_take c.args.limit (YieldsList-from_slice text cc) cc)
     c.loop-byte.yielded _ c.loop-byte.yielded_by _ _ c.in-None.is c.next.ensures.steps in
     let pieces = flat_map-map piece (λ byte. byte.now) c.loop-byte.yielded in
-    let told : string_bytes c.loop-byte.out ≡ flat_map piece shown = c.loop-byte.invariant
+    let pieces : string_bytes c.loop-byte.out ≡ flat_map piece shown = c.loop-byte.invariant
     ∙ sym pieces ∙ ap (flat_map piece) end.0 in
     elim c.if-text-limit.branch [
       | then-text-limit+in_ok-push_str w ↦ let mark =
-          cut-told c.args.limit text w.if-text-limit.true in
-          cc (told, mark, ap string_bytes w.out-is, w.in_ok-push_str.ensures.bytes)
+          cut-marked c.args.limit text w.if-text-limit.true in
+          cc (pieces, mark, ap string_bytes w.out-is, w.in_ok-push_str.ensures.bytes)
       | else-text-limit w ↦ let mark = uncut c.args.limit text w.if-text-limit.false in
-          cc (told, mark, ap string_bytes w.out-is, append-nil (flat_map piece shown))
+          cc (pieces, mark, ap string_bytes w.out-is, append-nil (flat_map piece shown))
     ]
 
 pub returns-clause-plain : goal.returns-clause-plain

@@ -2,19 +2,19 @@ use Rattle.std.proofs.Common.{◌≡◌, ℕ, List, length, take, drop, cond, ar
 use Rattle.std.proofs.Common.{Option, Some, None}
 use Rattle.std.proofs.lemmas.List.{take_all}
 use Rattle.edf_field.specs.Text.{after_of}
-use Rattle.edf_header.specs.Header.{FixedPart, is_dated}
+use Rattle.edf_header.specs.Fixed.{FixedPart, is_dated}
 use Rattle.edf_header.proofs.fixed.Fixed.after.Goals as goal
 
-behind-day : (r : List ℕ) (s : Option ℤ) (day : ℤ) → s ≡ Some day →
+after-day : (r : List ℕ) (s : Option ℤ) (day : ℤ) → s ≡ Some day →
     length (after_of s r) ≡ cond (is_dated s) 59 69 → take 59 (drop 21 r) ≡ after_of s r
-behind-day r s day e len =
+after-day r s day e len =
     let l : length (drop 21 r) ≡ 59 =
     subst (λ (o : Option ℤ). length (after_of o r) ≡ cond (is_dated o) 59 69) e len in
     take_all 59 (drop 21 r) (omega arith) ∙ ap (λ (o : Option ℤ). after_of o r) (sym e)
 
-behind-x : (r : List ℕ) (s : Option ℤ) → s ≡ None →
+after-x : (r : List ℕ) (s : Option ℤ) → s ≡ None →
     length (after_of s r) ≡ cond (is_dated s) 59 69 → take 69 (drop 11 r) ≡ after_of s r
-behind-x r s e len =
+after-x r s e len =
     let l : length (drop 11 r) ≡ 69 =
     subst (λ (o : Option ℤ). length (after_of o r) ≡ cond (is_dated o) 59 69) e len in
     take_all 69 (drop 11 r) (omega arith) ∙ ap (λ (o : Option ℤ). after_of o r) (sym e)
@@ -22,11 +22,11 @@ behind-x r s e len =
 pub returns-in-Some : goal.returns-in-Some
 returns-in-Some c =
     let i = c.self.inside in
-    behind-day i.recording i.startdate c.in-Some.field-0 c.in-Some.is c.self.invariant.0.after_len
+    after-day i.recording i.startdate c.in-Some.field-0 c.in-Some.is c.self.invariant.0.after_len
     ∙ ap (λ (f : FixedPart). f.after) c.self.view_is
 
 pub returns-in-None : goal.returns-in-None
 returns-in-None c =
     let i = c.self.inside in
-    behind-x i.recording i.startdate c.in-None.is c.self.invariant.0.after_len
+    after-x i.recording i.startdate c.in-None.is c.self.invariant.0.after_len
     ∙ ap (λ (f : FixedPart). f.after) c.self.view_is
