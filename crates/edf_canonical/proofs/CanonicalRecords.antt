@@ -56,16 +56,16 @@ readable l place base size r is e stands fits =
     (again place base r.start (size - length (block_of base r)) r.annotations stands e.start
     is.in_window e.limits e.notes))
 
-readable-behind : (l : Layout) (before base size : ℕ) (rs : List DataRecord) →
+readable-after : (l : Layout) (before base size : ℕ) (rs : List DataRecord) →
     IsCanonicalLayout l base size
     → AreSound l.key (before + duration_of l.key.duration) rs →
     All (λ r. length (block_of base r) ≤ size) rs →
     AreReadable l (place_after l before) base size rs
-readable-behind l before base size [] is are fit = tt
-readable-behind l before base size (r ∷ rs) is (e, low, more) fit = (
+readable-after l before base size [] is are fit = tt
+readable-after l before base size (r ∷ rs) is (e, low, more) fit = (
   readable l (place_after l before) base size r is e low
       (All-head (λ x. length (block_of base x) ≤ size) r rs fit),
-  readable-behind l r.start base size rs is more
+  readable-after l r.start base size rs is more
       (All-tail (λ x. length (block_of base x) ≤ size) r rs fit),
 )
 
@@ -77,6 +77,6 @@ pub are-readable : (l : Layout) (base size low : ℕ) (r : DataRecord) (rs : Lis
 are-readable l base size low r rs is (e, lower, more) stands fit = (
   readable l First base size r is e stands
       (All-head (λ x. length (block_of base x) ≤ size) r rs fit),
-  readable-behind l r.start base size rs is more
+  readable-after l r.start base size rs is more
       (All-tail (λ x. length (block_of base x) ≤ size) r rs fit),
 )

@@ -13,6 +13,8 @@ use Rattle.edf_header.specs.Key.{Key, IsKey, MayStart}
 use Rattle.edf_header.specs.Header.{Layout, layout_of, least_records, most_records}
 use Rattle.edf_header.specs.Canonical.{IsCanonicalHeader}
 use Rattle.edf_tal.specs.declared.place.Place.TheVariants.{First}
+use Rattle.edf_header.specs.declared.limits.TheConstants.{MOST_RECORDS}
+use Rattle.edf_tal.specs.declared.limits.TheConstants.{MOST_CANONICAL_BLOCK_SAMPLES}
 use Rattle.edf_fragment.specs.Fragment.{DataRecord, AreDataRecords, Spells}
 use Rattle.edf_canonical.specs.File.{second_of, block_of, record_text, IsLaidOut, IsCanonicalFile}
 use Rattle.edf_canonical.proofs.Records.{records-read}
@@ -26,10 +28,11 @@ second-of-high : (n : ℕ) → n < second_of n + 10 ^ 9
 second-of-high n = omega arith
 
 all-bounded : (k : Key) (low base : ℕ) (rs : List DataRecord) → base < window → AreSound k low rs →
-    All (λ r. length (block_of base r) ≤ 2 * 725_023) rs
-all-bounded k low base [] in_window are = All-nil (λ r. length (block_of base r) ≤ 2 * 725_023)
+    All (λ r. length (block_of base r) ≤ 2 * MOST_CANONICAL_BLOCK_SAMPLES) rs
+all-bounded k low base [] in_window are =
+    All-nil (λ r. length (block_of base r) ≤ 2 * MOST_CANONICAL_BLOCK_SAMPLES)
 all-bounded k low base (r ∷ rs) in_window (e, lower, more) =
-    All-cons (λ x. length (block_of base x) ≤ 2 * 725_023) r rs
+    All-cons (λ x. length (block_of base x) ≤ 2 * MOST_CANONICAL_BLOCK_SAMPLES) r rs
     (let b = block-length base r.start r.annotations in_window e.start e.limits e.notes in
     omega arith)
     (all-bounded k (r.start + duration_of k.duration) base rs in_window more)
@@ -51,7 +54,7 @@ canonical-layout-is k start count samples lt =
 
 -- what is laid out so is read again, and so is the records' file
 pub canonical : (file : List ℕ) (k : Key) (r : DataRecord) (rs : List DataRecord) → IsKey k →
-    MayStart k r.start → AreSound k 0 (r ∷ rs) → length (r ∷ rs) ≤ 99_999_999
+    MayStart k r.start → AreSound k 0 (r ∷ rs) → length (r ∷ rs) ≤ MOST_RECORDS
     → IsLaidOut file k r (r ∷ rs) → IsCanonicalFile file k (r ∷ rs)
 canonical file k r rs is-key begins are count laid =
     let samples = laid.samples in
@@ -63,7 +66,8 @@ canonical file k r rs is-key begins are count laid =
     let base = second_of r.start in
     let in-window : r.start < window = are.0.start in
     let base-in : second_of r.start < window = omega (arith, second-of-low r.start) in
-    let few : samples ≤ 725_023 = least 725_023 (all-bounded k 0 base (r ∷ rs) base-in are) in
+    let few : samples ≤ MOST_CANONICAL_BLOCK_SAMPLES =
+    least MOST_CANONICAL_BLOCK_SAMPLES (all-bounded k 0 base (r ∷ rs) base-in are) in
     let some : 1 ≤ samples = some-samples base samples r
     (All-head (λ x. length (block_of base x) ≤ 2 * samples) r rs holds) in
     let body = flat_map (record_text base (2 * samples)) (r ∷ rs) in

@@ -116,9 +116,9 @@ writes-same a b x y left same p = subst (λ (l : List ℕ). Writes a b l left) s
 
 -- ---- answers
 
-counted-behind : (old mid new : ℕ) (fault : OutputFault) → mid ≡ old →
+counted-after : (old mid new : ℕ) (fault : OutputFault) → mid ≡ old →
     CountsOutputFault mid new fault → CountsOutputFault old new fault
-counted-behind old mid new fault same counts =
+counted-after old mid new fault same counts =
     subst (λ (n : ℕ). CountsOutputFault n new fault) same counts
 
 -- a fault of the flush before
@@ -130,13 +130,13 @@ flush-refused a b bytes fault f = (
 )
 
 -- bytes after others that were put
-pub put-behind : (a b c : Buffered) (x y : List ℕ) (result : Result (Unit {0}) OutputFault) →
+pub put-after : (a b c : Buffered) (x y : List ℕ) (result : Result (Unit {0}) OutputFault) →
     Writes a b x b.held → b.failures ≡ a.failures → IsPutThrough b c y result →
     IsPutThrough a c (x ++ y) result
-put-behind a b c x y (Ok u) w same p = (writes-then a b c x y c.held w p.0, p.1 ∙ same)
-put-behind a b c x y (Err fault) w same p = (
+put-after a b c x y (Ok u) w same p = (writes-then a b c x y c.held w p.0, p.1 ∙ same)
+put-after a b c x y (Err fault) w same p = (
   (p.0.0, writes-then a b c x y p.0.0 w p.0.1),
-  counted-behind a.failures b.failures c.failures fault same p.1,
+  counted-after a.failures b.failures c.failures fault same p.1,
 )
 
 -- and after a flush
@@ -144,7 +144,7 @@ pub put-flushed : (a b c : Buffered) (bytes : List ℕ) (result : Result (Unit {
     (u : Unit {0}) → IsFlushed a b (Ok u) → IsPutThrough b c bytes result →
     IsPutThrough a c bytes result
 put-flushed a b c bytes result u f p =
-    put-behind a b c [] bytes result (subst (Writes a b []) (sym f.1) f.0) f.2 p
+    put-after a b c [] bytes result (subst (Writes a b []) (sym f.1) f.0) f.2 p
 
 -- bytes that fail leave those after them
 pub put-fails : (a b : Buffered) (x y : List ℕ) (fault : OutputFault) →
@@ -157,7 +157,7 @@ pub put-then : (a b c : Buffered) (x y all : List ℕ) (u : Unit {0})
     IsPutThrough b c y result → IsPutThrough a c all result
 put-then a b c x y all u result is p q =
     subst (λ (l : List ℕ). IsPutThrough a c l result) (sym is)
-    (put-behind a b c x y result p.0 p.1 q)
+    (put-after a b c x y result p.0 p.1 q)
 
 pub put-stops : (a b : Buffered) (x y all : List ℕ) (fault : OutputFault) → all ≡ x ++ y →
     IsPutThrough a b x (Err fault) → IsPutThrough a b all (Err fault)
@@ -171,7 +171,7 @@ pub put-fails-between : (a b c : Buffered) (x y more all : List ℕ) (fault : Ou
     → IsPutThrough a c all (Err fault)
 put-fails-between a b c x y more all fault w same p is =
     subst (λ (l : List ℕ). IsPutThrough a c l (Err fault)) (sym is)
-    (put-fails a c (x ++ y) more fault (put-behind a b c x y (Err fault) w same p))
+    (put-fails a c (x ++ y) more fault (put-after a b c x y (Err fault) w same p))
 
 -- bytes that are written through, or a front of them
 pub sends-through : (a b c : Buffered) (bytes : List ℕ) (u : Unit {0}) → IsFlushed a b (Ok u) →

@@ -7,6 +7,7 @@ use Rattle.edf_time.specs.Civil.{window, day_of, second_of_day}
 use Rattle.edf_time.proofs.Cited.{date-text, time-text, id_date-text}
 use Rattle.edf_header.specs.Key.{Key, IsKey}
 use Rattle.edf_header.specs.Canonical.{IsCanonicalHeader}
+use Rattle.edf_header.specs.declared.limits.TheConstants.{MOST_RECORDS}
 use Rattle.edf_fragment.specs.Fragment.{DataRecord, Spells}
 use Rattle.edf_fragment.specs.Sound.{AreSound, MayBegin}
 use Rattle.edf_fragment.proofs.Sound.{spelled-key, spelled-sound, spelled-begins, spelled-some}
@@ -70,7 +71,7 @@ some-header k start count samples lt =
     )
 
 pub some-file : (k : Key) (rs : List DataRecord) → IsKey k → AreSound k 0 rs → MayBegin k rs →
-    1 ≤ length rs → length rs ≤ 99_999_999 → (file : List ℕ) × IsCanonicalFile file k rs
+    1 ≤ length rs → length rs ≤ MOST_RECORDS → (file : List ℕ) × IsCanonicalFile file k rs
 some-file k [] is-key are begins some few = absurd (omega arith)
 some-file k (r ∷ rs) is-key are begins some few =
     let base = second_of r.start in

@@ -1,5 +1,5 @@
 -- The canonical EDF+D file of a recording: the one file of its data records.
-use Rattle.std.specs.Prelude.{◌≡◌, ℕ, ◌-◌, ◌*◌, ◌/◌, ◌^◌, ◌≤◌, List, [], ◌∷◌, ◌++◌, length}
+use Rattle.std.specs.Prelude.{◌≡◌, ℕ, ◌+◌, ◌-◌, ◌*◌, ◌/◌, ◌^◌, ◌≤◌, List, [], ◌∷◌, ◌++◌, length}
 use Rattle.std.specs.Prelude.{replicate, All}
 use Rattle.std.specs.List.{flat_map}
 use Rattle.edf_header.specs.Key.{Key}
@@ -14,6 +14,10 @@ second_of instant = instant / 10 ^ 9 * 10 ^ 9
 -- a record's block, its onsets counted from the file's start
 abbrev pub block_of : ℕ → DataRecord → List ℕ
 block_of file_start r = block_text file_start r.start r.annotations
+
+-- how many samples, two bytes each, hold a record's block: half of its bytes, rounded up
+abbrev pub samples_of : ℕ → DataRecord → ℕ
+samples_of file_start r = (length (block_of file_start r) + 1) / 2
 
 -- the block, and then zeros up to `size` bytes
 abbrev pub filled_block : ℕ → ℕ → DataRecord → List ℕ

@@ -7,10 +7,6 @@ use Rattle.edf_fragment.specs.declared.streams.Output.{Ghosts}
 use Rattle.edf_canonical.specs.declared.fault.OutputFault.{OutputFault}
 use Rattle.edf_canonical.specs.declared.fault.OutputFault.TheVariants.{Write, Memory}
 
--- how many bytes are held back at most
-abbrev pub most_held : ℕ
-most_held = 65_536
-
 -- a writer and the buffer before it: what it holds, how many of its writes failed, what is held
 -- back
 pub record Buffered : Type 0 where
@@ -27,7 +23,7 @@ pub record Writes (before after : Buffered) (bytes left : List ℕ) : Type 0 whe
   pub wrote : Appends before.contents after.contents front
   pub parts : before.held ++ bytes ≡ front ++ left
 
--- a write failed where one is told, and none failed before another end
+-- one more write failed where a failed write is the fault, and none where memory ran out
 abbrev pub CountsOutputFault : ℕ → ℕ → OutputFault → Type 0
 CountsOutputFault old new Write = new ≡ one_more old
 CountsOutputFault old new Memory = new ≡ old

@@ -1,17 +1,28 @@
 //! A data record as it is in a canonical file.
 
-ghost use Rattle.std.specs.Prelude.{◌≤◌, length};
-ghost use Rattle.edf_canonical.specs.File.{block_of, filled_block, record_text};
+ghost use Rattle.std.specs.Prelude.{◌≡◌, ◌≤◌, length};
+ghost use Rattle.edf_canonical.specs.File.{block_of, samples_of, filled_block, record_text};
 ghost use Rattle.edf_canonical.specs.Output.{buffered, IsPutThrough};
 
 use crate::fault::OutputFault;
 use crate::output::{Buffer, put, put_zeros};
 use edf_fragment::{Output, Record};
-use edf_tal::write_block;
+use edf_tal::{MOST_CANONICAL_BLOCK_SAMPLES, block_len, write_block};
 use edf_time::Instant;
 use std::alloc::Global;
 
-/// Puts the block of a data record, and then zeros up to `size` bytes.
+/// How many samples, two bytes each, hold the block of a data record, with onsets counted from
+/// `file_start`: half of its bytes, rounded up.
+pub fn samples_of(data_record: &Record, file_start: Instant) -> u32
+    ensures value { result ≡ samples_of file_start data_record.now }
+    ensures some { 1 ≤ result }
+    ensures few { result ≤ MOST_CANONICAL_BLOCK_SAMPLES }
+{
+    let len = block_len(data_record.start(), data_record.notes(), file_start);
+    len.div_ceil(2) as u32
+}
+
+/// Puts the block of a data record, and then zeros, `size` bytes in all.
 fn put_block<W: Output>(
     alloc: Global,
     out: &mut W,
@@ -32,7 +43,12 @@ fn put_block<W: Output>(
     put_zeros(out, held, size - block.len())
 }
 
-/// Puts a data record: its samples, its block and the fill.
+/// Puts a data record as it is in a canonical file: its samples, its block, and then zeros, `size`
+/// bytes from the block on.
+///
+/// # Errors
+/// `Memory` where memory ran out, `Write` where a write failed; a front of the data record may have
+/// been written then.
 pub fn put_record<W: Output>(
     alloc: Global,
     out: &mut W,

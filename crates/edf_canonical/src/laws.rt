@@ -6,6 +6,8 @@ ghost use Rattle.edf_fragment.specs.Fragment.{DataRecord, Spells};
 ghost use Rattle.edf_fragment.specs.Sound.{AreSound, MayBegin};
 ghost use Rattle.edf_canonical.specs.File.{IsCanonicalFile};
 
+use edf_header::MOST_RECORDS;
+
 /// Records have one canonical file at most.
 pub fn one_canonical_file()
     ensures { (file other : List ℕ) (key : Key) (records : List DataRecord) →
@@ -13,11 +15,11 @@ pub fn one_canonical_file()
 {}
 
 /// Sound records of a key with which its recording may begin have a canonical file, where they are
-/// 1 to 99,999,999; and so have those of each fragment.
+/// 1 to `MOST_RECORDS`; and so have those of each fragment.
 pub fn some_canonical_file()
     ensures sound { (key : Key) (records : List DataRecord) →
         IsKey key → AreSound key 0 records → MayBegin key records → 1 ≤ length records →
-        length records ≤ 99_999_999 → (file : List ℕ) × IsCanonicalFile file key records }
+        length records ≤ MOST_RECORDS → (file : List ℕ) × IsCanonicalFile file key records }
     ensures spelled { (bytes : List ℕ) (key : Key) (records : List DataRecord) →
         Spells bytes key records → (file : List ℕ) × IsCanonicalFile file key records }
 {}

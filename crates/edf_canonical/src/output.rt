@@ -2,20 +2,21 @@
 
 ghost use Rattle.std.specs.Prelude.{◌≡◌, ℕ, ◌+◌, ◌-◌, ◌≤◌, ◌++◌, [], List, Option, length, vec_len};
 ghost use Rattle.std.specs.Prelude.{replicate};
-ghost use Rattle.edf_canonical.specs.Output.{buffered, most_held, IsPutThrough, IsFlushed};
+ghost use Rattle.edf_canonical.specs.Output.{buffered, IsPutThrough, IsFlushed};
+ghost use Rattle.edf_canonical.specs.declared.output.TheConstants.{MOST_HELD};
 
 use crate::fault::OutputFault;
 use edf_fragment::{Output, send};
 use std::alloc::Global;
 
-/// How many bytes are held back at most.
-const CAPACITY: usize = 65_536;
+/// The most bytes that are held back: 64 KiB.
+const MOST_HELD: usize = 65_536;
 
 /// Bytes that are held back before they are written.
 #[derive(Drop)]
 pub struct Buffer {
     bytes: Vec<u8>,
-    ghost within: { vec_len bytes ≤ most_held },
+    ghost within: { vec_len bytes ≤ MOST_HELD },
 }
 
 impl Buffer {
@@ -29,7 +30,11 @@ impl Buffer {
     }
 }
 
-/// Writes out what is held.
+/// Writes all that is held back.
+///
+/// # Errors
+/// `Write` where a write failed, or took none of some bytes; a front of what is held was written
+/// then.
 pub fn flush<W: Output>(out: &mut W, held: &mut Buffer) -> Result<(), OutputFault>
     ensures { IsFlushed (buffered W.Output out.old held.old.bytes.items)
         (buffered W.Output out.new held.new.bytes.items) result }
@@ -65,15 +70,20 @@ fn hold<W: Output>(out: &mut W, held: &mut Vec<u8>, bytes: &[u8]) -> Result<(), 
     }
 }
 
-/// Holds these bytes back after those already held where there is room, and else writes.
+/// Holds these bytes back after those already held where there is room for them, and else writes
+/// what is held first.
+///
+/// # Errors
+/// `Write` where a write failed, or took none of some bytes; `Memory` where memory ran out. A front
+/// of what was held and of these bytes was written then.
 pub fn put<W: Output>(out: &mut W, held: &mut Buffer, bytes: &[u8]) -> Result<(), OutputFault>
     ensures { IsPutThrough (buffered W.Output out.old held.old.bytes.items)
         (buffered W.Output out.new held.new.bytes.items) bytes.now result }
 {
-    if bytes.len() >= CAPACITY {
+    if bytes.len() >= MOST_HELD {
         return put_through(out, held, bytes);
     }
-    if bytes.len() <= CAPACITY - held.bytes.len() {
+    if bytes.len() <= MOST_HELD - held.bytes.len() {
         return hold(out, &mut held.bytes, bytes);
     }
     flush(out, held)?;
@@ -81,7 +91,9 @@ pub fn put<W: Output>(out: &mut W, held: &mut Buffer, bytes: &[u8]) -> Result<()
 }
 
 /// The most zeros that are put at once.
-const ZEROS: [u8; 4_096] = [0; 4_096];
+const MOST_ZEROS: usize = 4_096;
+
+const ZEROS: [u8; MOST_ZEROS] = [0; MOST_ZEROS];
 
 /// Puts `count` zeros.
 pub(crate) fn put_zeros<W: Output>(
@@ -94,7 +106,7 @@ pub(crate) fn put_zeros<W: Output>(
 {
     let mut left = count;
     while left > 0 {
-        let piece = left.min(4_096);
+        let piece = left.min(MOST_ZEROS);
         put(out, held, &ZEROS[..piece])?;
         left -= piece;
     }

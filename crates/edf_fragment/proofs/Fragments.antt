@@ -15,15 +15,17 @@ use Rattle.edf_tal.specs.Block.{IsBlocksFault}
 use Rattle.edf_fragment.specs.Fragment.{DataRecord, AreDataRecords, blocks, Spells}
 use Rattle.edf_fragment.specs.Fault.{ReadsUpTo, IsCutRecord, IsRefusedBlock, IsTrailing}
 use Rattle.edf_fragment.specs.Fault.{IsFirstFault}
-use Rattle.edf_fragment.specs.Reading.{ReadsHeader, ReadsHeaderFault, IsOpenFault, EndsThere}
-use Rattle.edf_fragment.specs.Reading.{EndsInRecord, RefusesBlock, FindsMore, IsNextFault, IsNext}
+use Rattle.edf_fragment.specs.Reading.{ReadsHeader, IsOpenFault, EndsThere}
+use Rattle.edf_fragment.specs.Stops.{ReadsHeaderFault}
+use Rattle.edf_fragment.specs.Reading.{IsNextFault, IsNext}
+use Rattle.edf_fragment.specs.Stops.{EndsInRecord, RefusesBlock, FindsMore}
 use Rattle.edf_fragment.specs.Reading.{at_first, progress_after, AnswersIn, IsAnswer}
 use Rattle.edf_fragment.specs.Whole.{HasRead, FailsAfterRecords, ReadsFragment, IsFirstWhereKnown}
 use Rattle.edf_fragment.specs.Whole.{IsFragmentFault}
 use Rattle.edf_fragment.specs.Inside.Steps.{ReadsRecords}
 use Rattle.edf_fragment.specs.declared.advance.Progress.{Progress}
-use Rattle.edf_fragment.specs.declared.advance.Status.{Status}
-use Rattle.edf_fragment.specs.declared.advance.Status.TheVariants.{Reading}
+use Rattle.edf_fragment.specs.declared.advance.ReaderState.{ReaderState}
+use Rattle.edf_fragment.specs.declared.advance.ReaderState.TheVariants.{Reading}
 use Rattle.edf_fragment.specs.declared.fault.FragmentFault.{FragmentFault}
 use Rattle.edf_fragment.specs.declared.fault.FragmentFault.TheVariants.{Header as BadHeader}
 use Rattle.edf_fragment.specs.declared.fault.FragmentFault.TheVariants.{CutRecord, Tal, Trailing}
@@ -76,7 +78,7 @@ first_in_header left rest e f = absurd f
 
 pub open_refused : (left rest : Option (List ℕ)) (e : FragmentFault) → IsOpenFault left rest e →
     IsFragmentFault left rest e
-open_refused left rest e f = record { place = inl f; first = first_in_header left rest e f }
+open_refused left rest e f = record { met = inl f; first = first_in_header left rest e f }
 
 -- ---- a fault after some data records
 
@@ -160,20 +162,20 @@ more_of_all (Some all) (Some one) (Some two) (Some rest) a b h rs p x y is are g
       more = omega (arith, len);
     }
 
-behind_header : (left mid two rest : Option (List ℕ)) (a b : List ℕ) (h : HeaderRecord)
+after_header : (left mid two rest : Option (List ℕ)) (a b : List ℕ) (h : HeaderRecord)
     (rs : List DataRecord) (p : Progress) (e : FragmentFault) → Consumes left mid a →
     Consumes mid two b
     → IsHeader a h [] → AreDataRecords (layout_of h) First b rs p.place [] → p.given ≡ length rs →
     IsNextFault (layout_of h) p two rest e → IsFirstWhereKnown left e
-behind_header left mid two rest a b h rs p (CutRecord nth) x y is are given f =
+after_header left mid two rest a b h rs p (CutRecord nth) x y is are given f =
     cut_of_all left mid two rest a b h rs p nth x y is are given f
-behind_header left mid two rest a b h rs p (Tal nth e) x y is are given f =
+after_header left mid two rest a b h rs p (Tal nth e) x y is are given f =
     block_of_all left mid two rest a b h rs p nth e x y is are given f
-behind_header left mid two rest a b h rs p Trailing x y is are given f =
+after_header left mid two rest a b h rs p Trailing x y is are given f =
     more_of_all left mid two rest a b h rs p x y is are given f
-behind_header left mid two rest a b h rs p Read x y is are given f = tt
-behind_header left mid two rest a b h rs p Memory x y is are given f = tt
-behind_header left mid two rest a b h rs p e x y is are given f = absurd f
+after_header left mid two rest a b h rs p Read x y is are given f = tt
+after_header left mid two rest a b h rs p Memory x y is are given f = tt
+after_header left mid two rest a b h rs p e x y is are given f = absurd f
 
 pub records_refused : (left mid rest : Option (List ℕ)) (l : Layout) (e : FragmentFault) →
     ReadsHeader left mid l → FailsAfterRecords l mid rest e → IsFragmentFault left rest e
@@ -183,8 +185,8 @@ records_refused left mid rest l e a b =
     let fault = subst (λ (x : Layout). IsNextFault x b.progress b.mid rest e) a.layout_is
     b.is_fault in
     record {
-      place = inr (record { layout = l; mid = mid; header = a; behind = b });
-      first = behind_header left mid b.mid rest a.bytes b.before.bytes a.header b.records b.progress
+      met = inr (record { layout = l; mid = mid; header = a; records = b });
+      first = after_header left mid b.mid rest a.bytes b.before.bytes a.header b.records b.progress
           e a.read b.before.read a.is_header are b.before.given fault;
     }
 
@@ -214,24 +216,24 @@ reads_end l left mid rest rs p before ends = record {
 
 -- what a reader answers that goes on
 going : (l : Layout) (p q : Progress) (mid rest : Option (List ℕ))
-    (result : Result (Option DataRecord) FragmentFault) → p.status ≡ Reading →
+    (result : Result (Option DataRecord) FragmentFault) → p.state ≡ Reading →
     IsAnswer l p q mid rest result
     → (q ≡ progress_after l p result) × IsNext l p mid rest result
 going l p q mid rest result on answer =
-    subst (λ (s : Status). AnswersIn s l p q mid rest result) on answer
+    subst (λ (s : ReaderState). AnswersIn s l p q mid rest result) on answer
 
 pub one_more_read : (l : Layout) (left mid rest : Option (List ℕ)) (rs : List DataRecord)
-    (p q : Progress) (r : DataRecord) → HasRead l left mid rs p → p.status ≡ Reading
+    (p q : Progress) (r : DataRecord) → HasRead l left mid rs p → p.state ≡ Reading
     → IsAnswer l p q mid rest (Ok (Some r)) → HasRead l left rest (rs ++ r ∷ []) q
-    × (q.status ≡ Reading)
+    × (q.state ≡ Reading)
 one_more_read l left mid rest rs p q r before on answer =
     let step = going l p q mid rest (Ok (Some r)) on answer in (
       reads_more l left mid rest rs p q r before step.0 step.1,
-      ap (λ (x : Progress). x.status) step.0,
+      ap (λ (x : Progress). x.state) step.0,
     )
 
 pub all_read : (l : Layout) (left one two rest : Option (List ℕ)) (rs : List DataRecord)
-    (p q : Progress) → ReadsHeader left one l → HasRead l one two rs p → p.status ≡ Reading
+    (p q : Progress) → ReadsHeader left one l → HasRead l one two rs p → p.state ≡ Reading
     → IsAnswer l p q two rest (Ok None) → ReadsFragment left rest l rs
 all_read l left one two rest rs p q header before on answer =
     let step = going l p q two rest (Ok None) on answer in
@@ -239,7 +241,7 @@ all_read l left one two rest rs p q header before on answer =
 
 pub refused_then : (l : Layout) (left one two rest : Option (List ℕ)) (rs : List DataRecord)
     (p q : Progress) (e : FragmentFault) → ReadsHeader left one l → HasRead l one two rs p
-    → p.status ≡ Reading → IsAnswer l p q two rest (Err e) → IsFragmentFault left rest e
+    → p.state ≡ Reading → IsAnswer l p q two rest (Err e) → IsFragmentFault left rest e
 refused_then l left one two rest rs p q e header before on answer =
     let step = going l p q two rest (Err e) on answer in
     records_refused left one rest l e header

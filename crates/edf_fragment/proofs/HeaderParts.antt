@@ -20,8 +20,10 @@ use Rattle.edf_header.specs.declared.fault.HeaderFault.TheVariants.{HeaderBytes,
 use Rattle.edf_header.specs.declared.fault.HeaderFault.TheVariants.{UnprintableSignals, Annotations}
 use Rattle.edf_header.specs.declared.fault.HeaderFault.TheVariants.{Physical, Digital, Samples}
 use Rattle.edf_header.specs.declared.fault.HeaderFault.TheVariants.{Size, Memory}
-use Rattle.edf_fragment.specs.Reading.{ReadsFewer, ReadsInSignals, LacksHeaderMemory, ReadsHeader}
-use Rattle.edf_fragment.specs.Reading.{ReadsHeaderFault, IsOpenFault, CountsAnswer}
+use Rattle.edf_fragment.specs.Reading.{ReadsHeader}
+use Rattle.edf_fragment.specs.Stops.{ReadsFewer, ReadsInSignals, LacksHeaderMemory}
+use Rattle.edf_fragment.specs.Reading.{IsOpenFault, CountsAnswer}
+use Rattle.edf_fragment.specs.Stops.{ReadsHeaderFault}
 use Rattle.edf_fragment.specs.Inside.Steps.{ReadsFixed, ReadsSignals, ReadsSignalsFault}
 use Rattle.edf_fragment.specs.Inside.Steps.{LacksSignalsMemory, IsSignalsFault}
 use Rattle.edf_fragment.specs.declared.fault.FragmentFault.{FragmentFault}
@@ -179,7 +181,7 @@ signals-from s n (Samples at) f = omega arith
 signals-from s n Size f = omega arith
 signals-from s n e f = absurd f
 
--- the number of signals that the fixed part tells
+-- the number of signals that the fixed part says
 count-of : (a b : List ℕ) (f : FixedPart) (n : ℕ) → IsFixedHeader a f → HasSignals (a ++ b) n →
     n ≡ f.signal_count
 count-of a b f n fixed has =

@@ -21,10 +21,10 @@ blocks-from at [] bytes = refl
 blocks-from at (row ∷ rows) bytes =
     let size : ℕ = 2 * samples row in
     let next : ℕ = at + size in
-    let behind : drop next bytes ≡ drop size (drop at bytes) = sym (drop-drop size at bytes) in
+    let after : drop next bytes ≡ drop size (drop at bytes) = sym (drop-drop size at bytes) in
     let more : map (λ (b : Block). field bytes b.at b.bytes)
     (blocks_from next rows) ≡ annotations_blocks rows (drop size (drop at bytes)) =
-    blocks-from next rows bytes ∙ ap (annotations_blocks rows) behind in
+    blocks-from next rows bytes ∙ ap (annotations_blocks rows) after in
     let rest = filter (λ (p : List ℕ × List ℕ). has_label p.0)
     (in_turn rows (drop size (drop at bytes))) in
     elim (has_label row) as (λ b. map (λ (b : Block). field bytes b.at b.bytes)
@@ -47,12 +47,12 @@ outside-of from at (row ∷ rows) bytes le all =
     let next : ℕ = at + size in
     let end : next + 2 * samples_in_all rows ≡ length bytes =
     omega (arith, all, sum_by-cons samples row rows) in
-    let behind : drop next bytes ≡ drop size (drop at bytes) = sym (drop-drop size at bytes) in
+    let after : drop next bytes ≡ drop size (drop at bytes) = sym (drop-drop size at bytes) in
     let rest = filter (λ (p : List ℕ × List ℕ). not (has_label p.0))
     (in_turn rows (drop size (drop at bytes))) in
     let others : List ℕ = flat_map (λ (p : List ℕ × List ℕ). p.1) rest in
     let later : ordinary_samples rows (drop next bytes) ≡ others =
-    ap (ordinary_samples rows) behind in
+    ap (ordinary_samples rows) after in
     let none : next - next ≡ 0 = omega arith in
     let closed : outside next (blocks_from next rows) bytes ≡ others =
     outside-of next next rows bytes (omega arith) end

@@ -330,7 +330,7 @@ one-first-fault b Trailing Trailing p q = refl
 one-first-fault b Trailing f p q = absurd q
 one-first-fault b e f p q = absurd p
 
--- a data record that is cut is wanted, or a byte of it is there
+-- a data record that is cut must come, or a byte of it is there
 spelled-cut : (b : List ℕ) (k : Key) (rs : List DataRecord) (n : ℕ) → Spells b k rs →
     ¬ IsCutRecord b n
 spelled-cut b k rs n s f =

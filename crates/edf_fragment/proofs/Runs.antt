@@ -24,8 +24,8 @@ use Rattle.edf_fragment.specs.Fragment.{DataRecord, IsDataRecord, AreDataRecords
 use Rattle.edf_fragment.specs.Reading.{GivesRecord, AnswersIn, IsAnswer, progress_after}
 use Rattle.edf_fragment.specs.Whole.{HasRead}
 use Rattle.edf_fragment.specs.declared.advance.Progress.{Progress}
-use Rattle.edf_fragment.specs.declared.advance.Status.{Status}
-use Rattle.edf_fragment.specs.declared.advance.Status.TheVariants.{Reading}
+use Rattle.edf_fragment.specs.declared.advance.ReaderState.{ReaderState}
+use Rattle.edf_fragment.specs.declared.advance.ReaderState.TheVariants.{Reading}
 use Rattle.edf_fragment.proofs.HeaderParts.{field_front}
 
 -- ---- lists of data records
@@ -84,7 +84,7 @@ first-more b more e enough first =
     subst (λ (x : List ℕ). IsFirst (FixedPartFails x) e) (sym (take-append-le 256 b more enough))
     first
 
--- the place of a fault tells that 256 bytes are there
+-- the number of a fault says that 256 bytes are there
 enough-clean : (b : List ℕ) (n : ℕ) → 1 < n → IsClean (FixedPartFails (take 256 b)) n →
     256 ≤ length b
 enough-clean b n later clean =
@@ -164,12 +164,12 @@ IsHeaderFault-more b more e none (inr (n, clean, has, first)) =
 
 -- what a reader answers that goes on, with a record
 pub next_of : (l : Layout) (p q : Progress) (mid rest : Option (List ℕ)) (o : Option DataRecord)
-    (r : DataRecord) → p.status ≡ Reading
+    (r : DataRecord) → p.state ≡ Reading
     → IsAnswer l p q mid rest (Ok o) → o ≡ Some r → (q ≡ progress_after l p (Ok (Some r)))
     × GivesRecord l p mid rest r
 next_of l p q mid rest o r going answer is =
     subst (λ (x : Option DataRecord). AnswersIn Reading l p q mid rest (Ok x)) is
-    (subst (λ (s : Status). AnswersIn s l p q mid rest (Ok o)) going answer)
+    (subst (λ (s : ReaderState). AnswersIn s l p q mid rest (Ok o)) going answer)
 
 -- one more record was read
 pub reads_more : (l : Layout) (left mid rest : Option (List ℕ)) (rs : List DataRecord)

@@ -13,8 +13,9 @@ use Rattle.edf_header.specs.Header.{HeaderRecord, IsHeader, Layout, layout_of}
 use Rattle.edf_header.proofs.Cited.{key-duration-some}
 use Rattle.edf_header.proofs.Cited.{header-has-layout}
 use Rattle.edf_header.proofs.Cited.{one-header}
-use Rattle.edf_tal.specs.Tal.{Tal, Annotation, IsTimed, begin, first_tals}
+use Rattle.edf_tal.specs.Tal.{Tal, Annotation, IsTimed, record_start, first_tals}
 use Rattle.edf_tal.specs.Block.{AreRead, KeepsPlace}
+use Rattle.edf_header.specs.declared.limits.TheConstants.{MOST_BLOCK_BYTES, MOST_RECORDS}
 use Rattle.edf_tal.specs.declared.place.Place.{Place}
 use Rattle.edf_tal.specs.declared.place.Place.TheVariants.{First, After, Any}
 use Rattle.edf_tal.proofs.Cited.{blocks-read-start, blocks-read-annotations}
@@ -62,7 +63,7 @@ sound-record l place bytes r in_layout is = record {
 
 -- such a record may be kept in memory
 pub read-kept : (bs : List (List ℕ)) (file_start : ℕ) (place : Place) (start : ℕ) (samples : List ℕ)
-    (list : List Annotation) → length samples ≤ 4_194_304
+    (list : List Annotation) → length samples ≤ MOST_BLOCK_BYTES
     → AreRead bs file_start place start list →
     IsValidRecord (record { start = start; samples = samples; annotations = list })
 read-kept bs file_start place start samples list few read = record {
@@ -101,7 +102,7 @@ abs-below (negsuc m) n from to = absurd (omega (arith, ints))
 
 -- it starts in the second that the header names
 in-second : (file_start : ℕ) (ts : List Tal) → IsTimed ts → KeepsPlace First file_start ts →
-    begin file_start ts < file_start + 10 ^ 9
+    record_start file_start ts < file_start + 10 ^ 9
 in-second file_start [] timed keeps = absurd timed
 in-second file_start (t ∷ ts) timed (from, to) =
     abs-below (pos file_start +ℤ t.onset) (file_start + 10 ^ 9) (omega (arith, ints))
@@ -144,7 +145,7 @@ pub spelled-some : (bytes : List ℕ) (k : Key) (rs : List DataRecord) → Spell
 spelled-some bytes k rs s = omega (arith, s.least, (spelled-layout bytes k rs s).count.0)
 
 pub spelled-few : (bytes : List ℕ) (k : Key) (rs : List DataRecord) → Spells bytes k rs →
-    length rs ≤ 99_999_999
+    length rs ≤ MOST_RECORDS
 spelled-few bytes k rs s = omega (arith, s.most, (spelled-layout bytes k rs s).count.1)
 
 pub spelled-sound : (bytes : List ℕ) (k : Key) (rs : List DataRecord) → Spells bytes k rs →
@@ -185,10 +186,10 @@ abbrev pub Begins : List DataRecord → List DataRecord → Type 0
 Begins all rs = (later : List DataRecord) × (all ≡ rs ++ later)
 
 -- no data record is there where nothing is left
-none-behind : (l : Layout) (p q : Place) (x : List ℕ) (rs : List DataRecord) → IsLayout l →
+none-after : (l : Layout) (p q : Place) (x : List ℕ) (rs : List DataRecord) → IsLayout l →
     AreDataRecords l p [] rs q x → 0 < length rs → ⊥
-none-behind l p q x [] i are some = omega (arith, some)
-none-behind l p q x (r ∷ rs) i (front, back, parts, is, more) some =
+none-after l p q x [] i are some = omega (arith, some)
+none-after l p q x (r ∷ rs) i (front, back, parts, is, more) some =
     omega (
       arith,
       is.len,
@@ -206,7 +207,7 @@ not-past l f p q b x rs all i read spelled =
           let on = goes_on l f q p b [] x all rs (omega (arith, more)) spelled read in
           let len : length rs ≡ length all + length on.others =
           ap (λ (z : List DataRecord). length z) on.all ∙ length-append all on.others in
-          absurd (none-behind l q p x on.others i on.are_records (omega (arith, more, len)))
+          absurd (none-after l q p x on.others i on.are_records (omega (arith, more, len)))
       | inr few ↦ few
     ]
 

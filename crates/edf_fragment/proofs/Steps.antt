@@ -10,7 +10,8 @@ use Rattle.edf_tal.specs.declared.place.TalFault.TheVariants.{Tal as NotTals, Te
 use Rattle.edf_tal.specs.declared.place.TalFault.TheVariants.{FirstOnset, Window, Order, TooMany}
 use Rattle.edf_tal.specs.declared.place.TalFault.TheVariants.{Memory as TalMemory}
 use Rattle.edf_fragment.specs.Fragment.{DataRecord, IsDataRecord, blocks, ordinary_bytes}
-use Rattle.edf_fragment.specs.Reading.{ReadsFewer, GivesRecord, EndsThere, RefusesBlock}
+use Rattle.edf_fragment.specs.Reading.{GivesRecord, EndsThere}
+use Rattle.edf_fragment.specs.Stops.{ReadsFewer, RefusesBlock}
 use Rattle.edf_fragment.specs.Reading.{IsNextFault}
 use Rattle.edf_fragment.specs.declared.advance.Progress.{Progress}
 use Rattle.edf_fragment.specs.declared.fault.FragmentFault.{FragmentFault}
@@ -76,7 +77,7 @@ refused_blocks l p left rest whole nth e h is fault =
       refused = fault;
     }
 
--- what is told where they have one, or where memory ran out
+-- the fault where they have one, or where memory ran out
 told_blocks : (l : Layout) (p : Progress) (left rest : Option (List ℕ)) (whole : List ℕ) (nth : ℕ)
     (e : TalFault) (told : FragmentFault)
     → HasWhole l p left rest whole → nth ≡ p.given + 1 → (e ≡ TalMemory → told ≡ Memory) →
@@ -146,7 +147,7 @@ was_cut l p left rest there whole filled samples block sizes i wanted step is-th
       blocks_are = cut-blocks l whole sizes block i whole-len sizes-are block-is;
     }
 
--- the record that it was told to be
+-- the record that it is said to be
 pub given_record : (l : Layout) (p : Progress) (left rest : Option (List ℕ))
     (whole samples : List ℕ) (bs : List (List ℕ)) (s : ℕ) (r t : DataRecord) →
     WasCut l p left rest whole samples bs
@@ -160,7 +161,7 @@ given_record l p left rest whole samples bs s r t c from read same same-samples 
     subst (GivesRecord l p left rest) (sym same)
     (given_whole l p left rest whole t c.has there (same-samples ∙ c.samples_are))
 
--- what is told of its refused blocks
+-- the fault of its refused blocks
 pub told_cut : (l : Layout) (p : Progress) (left rest : Option (List ℕ)) (whole samples : List ℕ)
     (bs : List (List ℕ)) (s nth : ℕ) (e : TalFault) (told : FragmentFault)
     → WasCut l p left rest whole samples bs → s ≡ l.start → nth ≡ p.given + 1 →

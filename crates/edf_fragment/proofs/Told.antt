@@ -34,14 +34,10 @@ AreDataRecords-next l p q b left front back [] r (place, rest) parts is = (
   subst (λ (x : Place). IsDataRecord l x front r) place is,
   (refl, refl),
 )
-AreDataRecords-next l p q b left front back (x ∷ rs) r (first, others, halves, one, more) parts is = (
-  first,
-  others,
-  halves,
-  one,
-  AreDataRecords-next l (place_after l x.start) q others left front
-      back rs r more parts is,
-)
+AreDataRecords-next l p q b left front back (x ∷ rs) r (first, others, halves, one, more) parts is =
+    let next = AreDataRecords-next l (place_after l x.start) q others left front back rs r more
+    parts is in
+    (first, others, halves, one, next)
 
 -- a key and data records, or a fault
 abbrev pub HasAnswer : List ℕ → Type 0
@@ -62,7 +58,7 @@ module _ (b : List ℕ) (h : HeaderRecord) (rest : List ℕ) (is : IsHeader b h 
     are_records = are;
   }
 
-  -- nothing is left, and no more data records are wanted
+  -- nothing is left, and no more data records must come
   ended : (rs : List DataRecord) (last : Place) →
       AreDataRecords (layout_of h) First rest rs last [] →
       least_records (layout_of h).count ≤ length rs
@@ -151,50 +147,51 @@ module _ (b : List ℕ) (h : HeaderRecord) (rest : List ℕ) (is : IsHeader b h 
       }
 
   -- what comes after some data records, where there may be n more
-  walk : (n : ℕ) (rs : List DataRecord) (last : Place) (left : List ℕ) →
+  read-on : (n : ℕ) (rs : List DataRecord) (last : Place) (left : List ℕ) →
       AreDataRecords (layout_of h) First rest rs last left →
       length rs + n ≡ most_records (layout_of h).count → HasAnswer b
-  walk zero rs last left are all = at-end rs last left are (omega (arith, all))
-  walk (suc n) rs last left are all =
+  read-on zero rs last left are all = at-end rs last left are (omega (arith, all))
+  read-on (suc n) rs last left are all =
       elim (cases_lt (length left) (layout_of h).record_bytes) [
         | inl cut ↦ at-cut rs last left are (omega (arith, all)) cut
-        | inr whole ↦ elim (blocks-some-answer (blocks (layout_of h) left) (layout_of h).start last) [
-          | inl r ↦
-              let size = (layout_of h).record_bytes in
-              let one = next-record last left r.0 r.1 whole r.2 in
-              let new : DataRecord = record {
-                start = r.0;
-                samples =
-                    ordinary_bytes (layout_of h) (take size left);
-                annotations = r.1;
-              } in
-              walk n (rs ++ new ∷ []) (place_after (layout_of h) r.0) (drop size left)
-              (AreDataRecords-next (layout_of h) First last rest left (take size left)
-              (drop size left) rs new are (sym (take-append-drop size left)) one)
-              (omega (arith, all, length-append rs (new ∷ [])))
-          | inr f ↦ inr (
-            Tal (length rs + 1) f.0,
-            record {
-              up_to = up-to rs last left are;
-              is_nth = refl;
-              may_come = omega (arith, all);
-              whole = whole;
-              refused = f.1;
-            },
-          )
-        ]
+        | inr whole ↦ let file_start = (layout_of h).start in
+            elim (blocks-some-answer (blocks (layout_of h) left) file_start last) [
+              | inl r ↦
+                  let size = (layout_of h).record_bytes in
+                  let one = next-record last left r.0 r.1 whole r.2 in
+                  let new : DataRecord = record {
+                    start = r.0;
+                    samples =
+                        ordinary_bytes (layout_of h) (take size left);
+                    annotations = r.1;
+                  } in
+                  read-on n (rs ++ new ∷ []) (place_after (layout_of h) r.0) (drop size left)
+                  (AreDataRecords-next (layout_of h) First last rest left (take size left)
+                  (drop size left) rs new are (sym (take-append-drop size left)) one)
+                  (omega (arith, all, length-append rs (new ∷ [])))
+              | inr f ↦ inr (
+                Tal (length rs + 1) f.0,
+                record {
+                  up_to = up-to rs last left are;
+                  is_nth = refl;
+                  may_come = omega (arith, all);
+                  whole = whole;
+                  refused = f.1;
+                },
+              )
+            ]
       ]
 
 some-answer : (b : List ℕ) → HasAnswer b
 some-answer b = elim (header-or-fault b) [
-  | inl h ↦ walk b h.0 h.1 h.2 (most_records (layout_of h.0).count) [] First h.1 (
+  | inl h ↦ read-on b h.0 h.1 h.2 (most_records (layout_of h.0).count) [] First h.1 (
     refl,
     refl,
   ) (omega arith)
   | inr f ↦ inr (BadHeader f.0, f.1)
 ]
 
--- what bytes tell, and that they tell no other
+-- what bytes amount to, and that they amount to nothing else
 pub some-telling : (b : List ℕ) → (t : Told) × Tells b t
 some-telling b = elim (some-answer b) [
   | inl s ↦ (Fragment s.0 s.1, s.2)

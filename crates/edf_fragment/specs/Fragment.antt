@@ -5,6 +5,7 @@ use Rattle.edf_header.specs.Key.{Key}
 use Rattle.edf_header.specs.Header.{HeaderRecord, IsHeader, Layout, layout_of, least_records}
 use Rattle.edf_header.specs.Header.{most_records}
 use Rattle.edf_header.specs.declared.header.Block.{Block}
+use Rattle.edf_header.specs.declared.limits.TheConstants.{MOST_BLOCK_BYTES}
 use Rattle.edf_tal.specs.Tal.{Annotation}
 use Rattle.edf_tal.specs.Block.{AreRead, IsWithinLimits}
 use Rattle.edf_tal.specs.declared.place.Place.{Place}
@@ -19,7 +20,7 @@ pub record DataRecord : Type 0 where
 
 -- the limits of a data record
 pub record IsWithinSize (r : DataRecord) : Type 0 where
-  pub samples : length r.samples ≤ 4_194_304
+  pub samples : length r.samples ≤ MOST_BLOCK_BYTES
   pub annotations : IsWithinLimits r.annotations
 
 -- the annotations blocks of a data record's bytes, in file order
@@ -46,8 +47,8 @@ pub record IsDataRecord (l : Layout) (place : Place) (bytes : List ℕ) (r : Dat
 abbrev pub place_after : Layout → ℕ → Place
 place_after l start = After start (duration_of l.key.duration)
 
--- the bytes begin with these data records, the first at `place`; the next would be at `last`, and
--- the rest is left
+-- the bytes begin with these data records, the first at `place`; one that followed would be at
+-- `last`, and the rest is left
 abbrev pub AreDataRecords : Layout → Place → List ℕ → List DataRecord → Place → List ℕ → Type 0
 AreDataRecords l place bytes [] last rest = (last ≡ place) × (rest ≡ bytes)
 AreDataRecords l place bytes (r ∷ rs) last rest =
@@ -55,7 +56,7 @@ AreDataRecords l place bytes (r ∷ rs) last rest =
     × AreDataRecords l (place_after l r.start) back rs last rest
 
 -- the bytes spell a key and a list of data records, as many as the header says, or, where its count
--- is -1, 1 to 99,999,999; and nothing follows them
+-- is -1, 1 to the most that a file has; and nothing follows them
 pub record Spells (bytes : List ℕ) (k : Key) (records : List DataRecord) : Type 0 where
   pub header : HeaderRecord
   pub rest : List ℕ

@@ -4,6 +4,8 @@ pub mod Signals
 pub mod Sound
 pub mod Fault
 pub mod Told
+pub mod Stops
 pub mod Reading
+pub mod Call
 pub mod Whole
 pub mod Inside

@@ -1,4 +1,4 @@
--- What the data records of a fragment have, told of all of them at once.
+-- What holds of a data record in memory, of one of a recording, and of all those of a fragment.
 use Rattle.std.specs.Prelude.{◌≡◌, ℕ, ◌+◌, ◌*◌, ◌≤◌, ◌<◌, List, [], ◌∷◌, length}
 use Rattle.std.specs.List.{AllByRecursion}
 use Rattle.edf_time.specs.Civil.{window}

@@ -1,4 +1,4 @@
--- What bytes tell: a fragment, or why they are none.
+-- What bytes amount to: a fragment, or why they are none.
 use Rattle.std.specs.Prelude.{ℕ, List}
 use Rattle.edf_header.specs.Key.{Key}
 use Rattle.edf_fragment.specs.Fragment.{DataRecord, Spells}
@@ -10,7 +10,7 @@ pub data Told : Type 0 where
   Fragment : Key → List DataRecord → Told
   Fault : FragmentFault → Told
 
--- the bytes tell this; laws say that each list of bytes tells one thing, and no two
+-- the bytes amount to this; by laws each list of bytes amounts to one thing, and no two
 abbrev pub Tells : List ℕ → Told → Type 0
 Tells bytes (Fragment key records) = Spells bytes key records
 Tells bytes (Fault fault) = IsFirstFault bytes fault

@@ -42,10 +42,10 @@ pub record FailsAfterHeader (left rest : Option (List ℕ)) (fault : FragmentFau
   pub layout : Layout
   pub mid : Option (List ℕ)
   pub header : ReadsHeader left mid layout
-  pub behind : FailsAfterRecords layout mid rest fault
+  pub records : FailsAfterRecords layout mid rest fault
 
--- where the bytes are known, a fault of theirs is the first of all of them; a failed read tells
--- nothing of them, nor does out of memory
+-- where the bytes are known, a fault of theirs is the first of all of them; a failed read says
+-- nothing of them, nor does want of memory
 abbrev pub IsFirstWhereKnown : Option (List ℕ) → FragmentFault → Type 0
 IsFirstWhereKnown left Read = Unit {0}
 IsFirstWhereKnown left Memory = Unit {0}
@@ -55,5 +55,5 @@ IsFirstWhereKnown left fault = IfSome left (λ all. IsFirstFault all fault)
 -- why an input gives no fragment: the fault came in the header, or after it and some data records;
 -- no more was read than the bytes of these and those of the fault
 pub record IsFragmentFault (left rest : Option (List ℕ)) (fault : FragmentFault) : Type 0 where
-  pub place : IsOpenFault left rest fault ⊎ FailsAfterHeader left rest fault
+  pub met : IsOpenFault left rest fault ⊎ FailsAfterHeader left rest fault
   pub first : IsFirstWhereKnown left fault

@@ -1,12 +1,12 @@
 //! How far a reader is, and its next data record.
 
 ghost use Rattle.std.specs.Prelude.{◌≡◌, ◌≢◌, ℕ, ◌+◌, ◌-◌, ◌^◌, ◌<◌, ◌≤◌, length};
-ghost use Rattle.std.specs.Prelude.{IfOk, IfSome, MatchResult};
+ghost use Rattle.std.specs.Prelude.{IfOk, IfSome};
 ghost use Rattle.std.specs.Bool.{MatchBool};
 ghost use Rattle.std.specs.Io.KnownBytes.{Consumes};
 ghost use Rattle.edf_header.specs.Header.{IsLayout, least_records, most_records, block_bytes};
-ghost use Rattle.edf_fragment.specs.Reading.{EndsThere, IsNextFault, IsNext, CountsAnswer};
-ghost use Rattle.edf_fragment.specs.Reading.{progress_after};
+ghost use Rattle.edf_fragment.specs.Reading.{EndsThere, IsNextFault, IsNext, progress_after};
+ghost use Rattle.edf_fragment.specs.Call.{ReadsInput, ValueOr, input_state};
 ghost use Rattle.edf_fragment.specs.Inside.Buffers.{HaveRoom};
 ghost use Rattle.edf_fragment.specs.Inside.Steps.{ReadsEnd, IsEndFault};
 
@@ -14,19 +14,16 @@ use crate::buffers::{Buffers, cut_record};
 use crate::fault::FragmentFault;
 use crate::record::Record;
 use crate::streams::{Filled, Input, fill};
-use edf_header::Header;
+use edf_header::{Header, MOST_BLOCK_BYTES, MOST_RECORDS};
 use edf_tal::{Place, TalFault, read_blocks};
 use std::alloc::Global;
 
-/// The most data records of a fragment whose header has no count of them.
-const MOST_RECORDS: u32 = 99_999_999;
-
-/// Whether a reader may go on.
+/// Whether a reader of data records may go on.
 #[derive(Clone, Copy, Debug, PartialEq, Eq)]
-pub enum Status {
+pub enum ReaderState {
     /// It met neither the end nor a fault.
     Reading,
-    /// It gave the last data record, and the input ended.
+    /// It gave the last data record, and nothing follows.
     Ended,
     /// It met a fault.
     Stopped,
@@ -40,7 +37,7 @@ pub struct Progress {
     /// Where the next one must be.
     pub place: Place,
     /// Whether it may go on.
-    pub status: Status,
+    pub state: ReaderState,
 }
 
 impl Progress {
@@ -54,12 +51,12 @@ impl Progress {
         Progress {
             given: 0,
             place: Place::First,
-            status: Status::Reading,
+            state: ReaderState::Reading,
         }
     }
 }
 
-/// The refusal for a fault of the nth data record's blocks. Out of memory has its own.
+/// The refusal for a fault of the nth data record's blocks. Want of memory is one of its own.
 fn block_refusal(nth: u32, fault: TalFault) -> FragmentFault
     ensures memory { fault ≡ TalFault.Memory → result ≡ FragmentFault.Memory }
     ensures other { fault ≢ TalFault.Memory → result ≡ FragmentFault.Tal nth fault }
@@ -73,7 +70,7 @@ fn block_refusal(nth: u32, fault: TalFault) -> FragmentFault
 /// How many sample bytes a data record has.
 fn sample_bytes(header: &Header) -> usize
     ensures total { result + block_bytes header.now ≡ header.now.record_bytes }
-    ensures limit { result ≤ 4_194_304 }
+    ensures limit { result ≤ MOST_BLOCK_BYTES }
     ensures layout { IsLayout header.now }
 {
     header.record_bytes() - header.block_bytes()
@@ -99,8 +96,8 @@ fn most_given(header: &Header) -> u32
     }
 }
 
-/// Fills a buffer with the next data record; or answers `false` where the input ended before its
-/// first byte, and no more data records are wanted.
+/// Fills a buffer with the next data record. The answer is `false` where none must come, and the
+/// input ended before its first byte.
 fn fill_record<R: Input>(
     input: &mut R,
     header: &Header,
@@ -110,12 +107,11 @@ fn fill_record<R: Input>(
     requires may_come { progress.given < most_records header.now.count }
     requires countable { progress.given < 2 ^ 32 - 1 }
     requires room { length whole.old ≡ header.now.record_bytes }
-    ensures step { MatchResult result
-        (λ there. MatchBool there
-        (Consumes (R.remaining input.old) (R.remaining input.new) whole.new)
-        (EndsThere header.now progress (R.remaining input.old) (R.remaining input.new)))
-        (IsNextFault header.now progress (R.remaining input.old) (R.remaining input.new)) }
-    ensures counted { CountsAnswer (R.failures input.old) (R.failures input.new) result }
+    ensures { ReadsInput
+        (ValueOr (λ left rest there. MatchBool there
+        (Consumes left rest whole.new) (EndsThere header.now progress left rest))
+        (IsNextFault header.now progress))
+        (input_state R.Input input.old) (input_state R.Input input.new) result }
 {
     match fill(input, whole) {
         Filled::Full => Ok(true),
@@ -131,8 +127,8 @@ fn fill_record<R: Input>(
     }
 }
 
-/// Reads the next data record, through buffers with room for it; or finds the end, where no more
-/// data records are wanted.
+/// Reads the next data record, through buffers with room for it. The answer is `None` where none
+/// must come, and the input ended.
 fn read_record<R: Input>(
     alloc: Global,
     input: &mut R,
@@ -143,10 +139,9 @@ fn read_record<R: Input>(
     requires may_come { progress.given < most_records header.now.count }
     requires countable { progress.given < 2 ^ 32 - 1 }
     requires room { HaveRoom header.now buffers.old }
-    ensures step { IsNext header.now progress
-        (R.remaining input.old) (R.remaining input.new) result }
     ensures room { HaveRoom header.now buffers.new }
-    ensures counted { CountsAnswer (R.failures input.old) (R.failures input.new) result }
+    ensures read { ReadsInput (IsNext header.now progress)
+        (input_state R.Input input.old) (input_state R.Input input.new) result }
 {
     let Ok(mut samples) = vec![in alloc; 0u8; sample_bytes(header)] else {
         return Err(FragmentFault::Memory);
@@ -173,12 +168,10 @@ fn read_record<R: Input>(
     }
 }
 
-/// Tells whether nothing follows the last data record.
+/// Finds that nothing follows the last data record.
 fn find_end<R: Input>(input: &mut R) -> Result<(), FragmentFault>
-    ensures step { MatchResult result
-        (λ _. ReadsEnd (R.remaining input.old) (R.remaining input.new))
-        (IsEndFault (R.remaining input.old) (R.remaining input.new)) }
-    ensures counted { CountsAnswer (R.failures input.old) (R.failures input.new) result }
+    ensures { ReadsInput (ValueOr (λ left rest _. ReadsEnd left rest) IsEndFault)
+        (input_state R.Input input.old) (input_state R.Input input.new) result }
 {
     let mut byte = [0u8; 1];
     match fill(input, &mut byte) {
@@ -199,9 +192,8 @@ pub(crate) fn record_or_end<R: Input>(
     requires within { progress.given ≤ most_records header.now.count }
     requires room { HaveRoom header.now buffers.old }
     ensures room { HaveRoom header.now buffers.new }
-    ensures step { IsNext header.now progress
-        (R.remaining input.old) (R.remaining input.new) result }
-    ensures counted { CountsAnswer (R.failures input.old) (R.failures input.new) result }
+    ensures read { ReadsInput (IsNext header.now progress)
+        (input_state R.Input input.old) (input_state R.Input input.new) result }
 {
     if progress.given < most_given(header) {
         read_record(alloc, input, header, progress, buffers)
@@ -211,8 +203,8 @@ pub(crate) fn record_or_end<R: Input>(
     }
 }
 
-/// How far a reader is after an answer.
-pub(crate) fn progress_behind(
+/// How far a reader is after this answer.
+pub(crate) fn progress_after(
     header: &Header,
     progress: Progress,
     answer: &Result<Option<Record>, FragmentFault>,
@@ -227,14 +219,14 @@ pub(crate) fn progress_behind(
                 start: record.start(),
                 duration: header.identity().duration(),
             },
-            status: Status::Reading,
+            state: ReaderState::Reading,
         },
         Ok(None) => Progress {
-            status: Status::Ended,
+            state: ReaderState::Ended,
             ..progress
         },
         Err(_) => Progress {
-            status: Status::Stopped,
+            state: ReaderState::Stopped,
             ..progress
         },
     }

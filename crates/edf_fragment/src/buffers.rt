@@ -9,7 +9,8 @@ ghost use Rattle.edf_fragment.specs.Inside.Buffers.{HaveRoom};
 use edf_header::Header;
 use std::alloc::{AllocError, Global};
 
-/// What each data record of a fragment is read through; a header says how much room they have.
+/// The buffers that each data record of a fragment is read through. The header says how much room
+/// they have.
 #[derive(Drop)]
 pub(crate) struct Buffers {
     /// A whole data record.

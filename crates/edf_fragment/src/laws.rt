@@ -12,9 +12,11 @@ ghost use Rattle.edf_fragment.specs.Sound.{AreSound, MayBegin};
 ghost use Rattle.edf_fragment.specs.Reading.{ReadsHeader, IsOpenFault, IsAnswer, at_first};
 ghost use Rattle.edf_fragment.specs.Whole.{HasRead, ReadsFragment, IsFragmentFault};
 ghost use Rattle.edf_fragment.specs.declared.advance.Progress.{Progress};
-ghost use Rattle.edf_fragment.specs.declared.advance.Status.TheVariants.{Reading};
+ghost use Rattle.edf_fragment.specs.declared.advance.ReaderState.TheVariants.{Reading};
 ghost use Rattle.edf_fragment.specs.declared.fault.FragmentFault.{FragmentFault};
 ghost use Rattle.edf_fragment.specs.declared.fault.FragmentFault.TheVariants.{Read, Memory};
+
+use edf_header::MOST_RECORDS;
 
 /// A data record holds the bytes of each signal in turn, two for each of its samples (EDF, data
 /// records): its annotations blocks are those of the annotations signals, and its ordinary bytes
@@ -45,7 +47,7 @@ pub fn one_fault()
         IsFirstFault bytes fault → IsFirstFault bytes other → fault ≡ other }
 {}
 
-/// Each list of bytes tells one thing: a key with its data records, or a first fault.
+/// Each list of bytes spells a key with its data records or has a first fault: just one of the two.
 pub fn each_tells_one()
     ensures some { (bytes : List ℕ) → (told : Told) × Tells bytes told }
     ensures one { (bytes : List ℕ) (told other : Told) → Tells bytes told →
@@ -53,8 +55,9 @@ pub fn each_tells_one()
 {}
 
 /// What bytes that spell a fragment give it: a key that headers name, with a duration above 0; and
-/// 1 to 99,999,999 data records, where the header's count is unknown too, that lie in the window,
-/// at least a duration apart, and keep the limits; the first before 2085 where the key has no date.
+/// 1 to `MOST_RECORDS` data records, where the header's count is unknown too, that lie in the
+/// window, at least a duration apart, and keep the limits; the first before 2085 where the key has
+/// no date.
 pub fn records_are_sound()
     ensures key { (bytes : List ℕ) (key : Key) (records : List DataRecord) →
         Spells bytes key records → IsKey key }
@@ -63,7 +66,7 @@ pub fn records_are_sound()
     ensures some { (bytes : List ℕ) (key : Key) (records : List DataRecord) →
         Spells bytes key records → 1 ≤ length records }
     ensures few { (bytes : List ℕ) (key : Key) (records : List DataRecord) →
-        Spells bytes key records → length records ≤ 99_999_999 }
+        Spells bytes key records → length records ≤ MOST_RECORDS }
     ensures sound { (bytes : List ℕ) (key : Key) (records : List DataRecord) →
         Spells bytes key records → AreSound key 0 records }
     ensures begins { (bytes : List ℕ) (key : Key) (records : List DataRecord) →
@@ -95,15 +98,15 @@ pub fn records_so_far()
 pub fn answers_join()
     ensures none { (l : Layout) (left : Option (List ℕ)) → HasRead l left left [] at_first }
     ensures more { (l : Layout) (left mid rest : Option (List ℕ)) (records : List DataRecord)
-        (p q : Progress) (r : DataRecord) → HasRead l left mid records p → p.status ≡ Reading →
+        (p q : Progress) (r : DataRecord) → HasRead l left mid records p → p.state ≡ Reading →
         IsAnswer l p q mid rest (Ok (Some r)) →
-        HasRead l left rest (records ++ r ∷ []) q × (q.status ≡ Reading) }
+        HasRead l left rest (records ++ r ∷ []) q × (q.state ≡ Reading) }
     ensures end { (l : Layout) (left one two rest : Option (List ℕ)) (records : List DataRecord)
         (p q : Progress) → ReadsHeader left one l → HasRead l one two records p →
-        p.status ≡ Reading → IsAnswer l p q two rest (Ok None) → ReadsFragment left rest l records }
+        p.state ≡ Reading → IsAnswer l p q two rest (Ok None) → ReadsFragment left rest l records }
     ensures fault { (l : Layout) (left one two rest : Option (List ℕ)) (records : List DataRecord)
         (p q : Progress) (fault : FragmentFault) → ReadsHeader left one l →
-        HasRead l one two records p → p.status ≡ Reading → IsAnswer l p q two rest (Err fault) →
+        HasRead l one two records p → p.state ≡ Reading → IsAnswer l p q two rest (Err fault) →
         IsFragmentFault left rest fault }
     ensures refused { (left rest : Option (List ℕ)) (fault : FragmentFault) →
         IsOpenFault left rest fault → IsFragmentFault left rest fault }

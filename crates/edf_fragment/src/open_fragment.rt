@@ -1,24 +1,25 @@
-ghost use Rattle.std.specs.Prelude.{◌≡◌, ℕ, ◌≤◌, MatchResult, IfOk, IfSome};
+ghost use Rattle.std.specs.Prelude.{◌≡◌, ℕ, ◌≤◌, IfOk, IfSome};
 ghost use Rattle.edf_header.specs.Header.{most_records};
 ghost use Rattle.edf_fragment.specs.Inside.Buffers.{HaveRoom};
 ghost use Rattle.edf_fragment.specs.Sound.{IsSoundRecord};
-ghost use Rattle.edf_fragment.specs.Reading.{ReadsHeader, IsOpenFault, IsAnswer, IsNext};
-ghost use Rattle.edf_fragment.specs.Reading.{CountsAnswer, at_first, progress_after};
+ghost use Rattle.edf_fragment.specs.Reading.{ReadsHeader, IsOpenFault, IsNext, at_first};
+ghost use Rattle.edf_fragment.specs.Reading.{progress_after};
 
-use crate::advance::{Progress, Status, progress_behind, record_or_end};
+use crate::advance::{Progress, ReaderState, progress_after, record_or_end};
 use crate::buffers::Buffers;
 use crate::fault::FragmentFault;
 use crate::opening::read_header;
 use crate::record::Record;
 use crate::streams::Input;
 use edf_header::Header;
+use edf_header::laws::header_is_layout;
 use std::alloc::Global;
 
 /// A fragment whose header was read, and how far its data records were read.
 ///
 /// It doesn't hold the input: each call takes the one that the header was read from. Use it where
-/// the input is wanted again after the last record or after a fault, or where a proof follows it
-/// there; `FragmentReader` holds both, and suits callers that read a fragment and nothing else.
+/// the input is read on after the last record or after a fault, or where a proof follows it there;
+/// `FragmentReader` holds both, and suits callers that read a fragment and nothing else.
 #[derive(Drop)]
 pub struct OpenFragment {
     alloc: Global,
@@ -30,17 +31,18 @@ pub struct OpenFragment {
 }
 
 impl OpenFragment {
+    ghost use Rattle.edf_fragment.specs.Call.{ReadsInput, ValueOr, ReadsNext, input_state};
+
     /// Reads the header, and no byte more.
     ///
     /// # Errors
     /// `Header` where the header is refused, `Read` where a read failed, `Memory` where memory ran
     /// out. The input then is where reading stopped.
     pub fn read<R: Input>(alloc: Global, input: &mut R) -> Result<OpenFragment, FragmentFault>
-        ensures step { MatchResult result
-            (λ o. ReadsHeader (R.remaining input.old) (R.remaining input.new) o.header
-            × (o.progress ≡ at_first))
-            (IsOpenFault (R.remaining input.old) (R.remaining input.new)) }
-        ensures counted { CountsAnswer (R.failures input.old) (R.failures input.new) result }
+        ensures { ReadsInput
+            (ValueOr (λ left rest o. ReadsHeader left rest o.header × (o.progress ≡ at_first))
+            IsOpenFault)
+            (input_state R.Input input.old) (input_state R.Input input.new) result }
     {
         let header = read_header(alloc, input)?;
         let Ok(buffers) = Buffers::of(alloc, &header) else {
@@ -61,7 +63,7 @@ impl OpenFragment {
         &self.header
     }
 
-    /// The header, where no more data records are wanted.
+    /// Gives up the reader, and keeps its header.
     pub fn into_header(self) -> Header
         ensures { result ≡ self.header }
     {
@@ -79,21 +81,17 @@ impl OpenFragment {
     /// input ends.
     ///
     /// # Errors
-    /// `CutRecord` where the input ends inside the data record, or before one that is demanded;
+    /// `CutRecord` where the input ends inside the data record, or before one that must come;
     /// `Tal` where its annotations are refused, `Trailing` where bytes follow the last, `Read`
     /// where a read failed, `Memory` where memory ran out. After any of these, `Failed`.
     pub fn next<R: Input>(&mut self, input: &mut R) -> Result<Option<Record>, FragmentFault>
-        ensures header { self.new.header ≡ self.old.header }
-        ensures answer { IsAnswer self.old.header self.old.progress self.new.progress
-            (R.remaining input.old) (R.remaining input.new) result }
-        ensures sound { IfOk result
-            (λ next. IfSome next (λ r. IsSoundRecord self.old.header.key r)) }
-        ensures counted { CountsAnswer (R.failures input.old) (R.failures input.new) result }
+        ensures { ReadsNext self.old self.new
+            (input_state R.Input input.old) (input_state R.Input input.new) result }
     {
-        match self.progress.status {
-            Status::Reading => self.advance(input),
-            Status::Ended => Ok(None),
-            Status::Stopped => Err(FragmentFault::Failed),
+        match self.progress.state {
+            ReaderState::Reading => self.advance(input),
+            ReaderState::Ended => Ok(None),
+            ReaderState::Stopped => Err(FragmentFault::Failed),
         }
     }
 
@@ -102,14 +100,12 @@ impl OpenFragment {
         ensures header { self.new.header ≡ self.old.header }
         ensures progress { self.new.progress
             ≡ progress_after self.old.header self.old.progress result }
-        ensures step { IsNext self.old.header self.old.progress
-            (R.remaining input.old) (R.remaining input.new) result }
+        ensures read { ReadsInput (IsNext self.old.header self.old.progress)
+            (input_state R.Input input.old) (input_state R.Input input.new) result }
         ensures sound { IfOk result
             (λ next. IfSome next (λ r. IsSoundRecord self.old.header.key r)) }
-        ensures counted { CountsAnswer (R.failures input.old) (R.failures input.new) result }
     {
-        // contracts learn from this call what bounds the header keeps
-        let _few = self.header.count();
+        header_is_layout(&self.header);
         let answer = record_or_end(
             self.alloc,
             input,
@@ -117,7 +113,7 @@ impl OpenFragment {
             self.progress,
             &mut self.buffers,
         );
-        self.progress = progress_behind(&self.header, self.progress, &answer);
+        self.progress = progress_after(&self.header, self.progress, &answer);
         answer
     }
 }

@@ -1,5 +1,6 @@
-ghost use Rattle.std.specs.Prelude.{◌≡◌, ◌≢◌, ℕ, length, MatchResult};
-ghost use Rattle.edf_fragment.specs.Reading.{ReadsHeader, IsOpenFault, CountsAnswer};
+ghost use Rattle.std.specs.Prelude.{◌≡◌, ◌≢◌, ℕ, length};
+ghost use Rattle.edf_fragment.specs.Reading.{ReadsHeader, IsOpenFault};
+ghost use Rattle.edf_fragment.specs.Call.{ReadsInput, ValueOr, input_state};
 ghost use Rattle.edf_fragment.specs.Inside.Steps.{ReadsFixed, ReadsSignals, IsSignalsFault};
 
 use crate::fault::FragmentFault;
@@ -7,7 +8,7 @@ use crate::streams::{Filled, Input, fill};
 use edf_header::{Fixed, Header, HeaderFault, read_fixed, read_signals};
 use std::alloc::Global;
 
-/// The refusal for a header's fault. Out of memory has its own.
+/// The refusal for a header's fault. Want of memory is one of its own.
 fn header_refusal(fault: HeaderFault) -> FragmentFault
     ensures memory { fault ≡ HeaderFault.Memory → result ≡ FragmentFault.Memory }
     ensures other { fault ≢ HeaderFault.Memory → result ≡ FragmentFault.Header fault }
@@ -20,9 +21,8 @@ fn header_refusal(fault: HeaderFault) -> FragmentFault
 
 /// Reads the fixed part, 256 bytes.
 fn read_fixed_part<R: Input>(input: &mut R) -> Result<Fixed, FragmentFault>
-    ensures step { MatchResult result (ReadsFixed (R.remaining input.old) (R.remaining input.new))
-        (IsOpenFault (R.remaining input.old) (R.remaining input.new)) }
-    ensures counted { CountsAnswer (R.failures input.old) (R.failures input.new) result }
+    ensures { ReadsInput (ValueOr ReadsFixed IsOpenFault)
+        (input_state R.Input input.old) (input_state R.Input input.new) result }
 {
     let mut bytes = [0u8; 256];
     match fill(input, &mut bytes) {
@@ -42,10 +42,10 @@ fn read_signal_headers<R: Input>(
     input: &mut R,
     fixed: Fixed,
 ) -> Result<Header, FragmentFault>
-    ensures step { MatchResult result
-        (ReadsSignals (R.remaining input.old) (R.remaining input.new) fixed)
-        (IsSignalsFault (R.remaining input.old) (R.remaining input.new) fixed.signal_count) }
-    ensures counted { CountsAnswer (R.failures input.old) (R.failures input.new) result }
+    ensures { ReadsInput
+        (ValueOr (λ left rest. ReadsSignals left rest fixed)
+        (λ left rest. IsSignalsFault left rest fixed.signal_count))
+        (input_state R.Input input.old) (input_state R.Input input.new) result }
 {
     let Ok(mut bytes) = vec![in alloc; 0u8; 256 * fixed.signals()] else {
         return Err(FragmentFault::Memory);
@@ -63,9 +63,8 @@ fn read_signal_headers<R: Input>(
 
 /// Reads a header, and no byte more.
 pub(crate) fn read_header<R: Input>(alloc: Global, input: &mut R) -> Result<Header, FragmentFault>
-    ensures step { MatchResult result (ReadsHeader (R.remaining input.old) (R.remaining input.new))
-        (IsOpenFault (R.remaining input.old) (R.remaining input.new)) }
-    ensures counted { CountsAnswer (R.failures input.old) (R.failures input.new) result }
+    ensures { ReadsInput (ValueOr ReadsHeader IsOpenFault)
+        (input_state R.Input input.old) (input_state R.Input input.new) result }
 {
     let fixed = read_fixed_part(input)?;
     read_signal_headers(alloc, input, fixed)

@@ -1,7 +1,6 @@
-ghost use Rattle.std.specs.Prelude.{◌≡◌, ℕ, List, Option, IfOk, IfErr, IfSome};
-ghost use Rattle.edf_fragment.specs.Sound.{IsSoundRecord};
-ghost use Rattle.edf_fragment.specs.Reading.{ReadsHeader, IsOpenFault, IsAnswer, CountsAnswer};
-ghost use Rattle.edf_fragment.specs.Reading.{at_first};
+ghost use Rattle.std.specs.Prelude.{◌≡◌, ℕ, List, Option, IfOk, IfErr};
+ghost use Rattle.edf_fragment.specs.Reading.{ReadsHeader, IsOpenFault, at_first};
+ghost use Rattle.edf_fragment.specs.Call.{ReadsNext, input_state};
 
 use crate::fault::FragmentFault;
 use crate::open_fragment::OpenFragment;
@@ -16,9 +15,8 @@ use std::alloc::Global;
 /// those of one data record, and after the last it asks for more, to find that nothing follows. It
 /// holds one data record at a time: its bytes as they are in the file, and what they say.
 ///
-/// Use it where a fragment is read and nothing else. Where the input is wanted again after a fault
-/// or the end, or a proof is to follow it there, use `OpenFragment`, which leaves it with the
-/// caller.
+/// Use it where a fragment is read and nothing else. Where the input is read on after a fault or
+/// the end, or a proof is to follow it there, use `OpenFragment`, which leaves it with the caller.
 pub struct FragmentReader<'a, R> {
     input: &'a mut R,
     fragment: OpenFragment,
@@ -70,7 +68,7 @@ impl<'a, R: Input> FragmentReader<'a, R> {
         self.fragment.header()
     }
 
-    /// The header, where no more data records are wanted.
+    /// Gives up the reader, and keeps its header.
     pub fn into_header(self) -> Header
         ensures { result ≡ self.entry.fragment.header }
     {
@@ -83,19 +81,14 @@ impl<'a, R: Input> FragmentReader<'a, R> {
     /// input ends.
     ///
     /// # Errors
-    /// `CutRecord` where the input ends inside the data record, or before one that is demanded;
+    /// `CutRecord` where the input ends inside the data record, or before one that must come;
     /// `Tal` where its annotations are refused, `Trailing` where bytes follow the last, `Read`
     /// where a read failed, `Memory` where memory ran out. After any of these, `Failed`.
     pub fn next(&mut self) -> Result<Option<Record>, FragmentFault>
         ensures same_reference { self.new.input.ghost_name ≡ self.old.input.ghost_name }
-        ensures header { self.new.fragment.header ≡ self.old.fragment.header }
-        ensures answer { IsAnswer self.old.fragment.header self.old.fragment.progress
-            self.new.fragment.progress
-            (R.remaining self.old.input.now) (R.remaining self.new.input.now) result }
-        ensures sound { IfOk result
-            (λ next. IfSome next (λ r. IsSoundRecord self.old.fragment.header.key r)) }
-        ensures counted { CountsAnswer (R.failures self.old.input.now)
-            (R.failures self.new.input.now) result }
+        ensures next { ReadsNext self.old.fragment self.new.fragment
+            (input_state R.Input self.old.input.now) (input_state R.Input self.new.input.now)
+            result }
     {
         self.fragment.next(self.input)
     }

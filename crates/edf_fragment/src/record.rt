@@ -5,16 +5,19 @@ ghost use Rattle.edf_tal.specs.Tal.{IsAnnotation};
 ghost use Rattle.edf_fragment.specs.Fragment.{DataRecord, IsWithinSize};
 ghost use Rattle.edf_fragment.specs.Sound.{IsValidRecord};
 
-use edf_tal::{Note, same_notes};
+use edf_header::MOST_BLOCK_BYTES;
+use edf_tal::{MOST_ANNOTATIONS, MOST_TEXT_BYTES, Note, same_notes};
 use edf_time::Instant;
+use edf_time::laws::instant_is_in_window;
 use std::marker::Model;
 
 /// A data record: its start, its ordinary sample bytes in signal order, and its annotations in
 /// order.
 ///
 /// A sample is 16 bits, two's complement, the lower byte first (EDF, data records). The
-/// time-keeping annotation is no member of the list; its onset is the start. A record has at most
-/// 4,194,304 sample bytes, 10,000 annotations and 1,000,000 bytes of their texts.
+/// time-keeping annotation is no member of the list; its onset is the start. A data record has at
+/// most `MOST_BLOCK_BYTES` of samples, and `MOST_ANNOTATIONS` annotations with `MOST_TEXT_BYTES` of
+/// texts.
 #[derive(Drop)]
 pub struct Record {
     start: Instant,
@@ -35,18 +38,18 @@ impl Model for Record {
         (record { start = r.start; samples = r.samples.items; annotations = r.notes.items }) };
 }
 
-/// Whether there are at most 10,000 annotations, and 1,000,000 bytes of their texts.
+/// Whether there are at most `MOST_ANNOTATIONS`, with at most `MOST_TEXT_BYTES` of texts.
 fn are_within_limits(notes: &[Note]) -> bool
     ensures limits { IsTrue result ↔ IsWithinLimits notes.now }
     ensures notes { IsTrue result → AllByRecursion IsAnnotation notes.now }
 {
-    if notes.len() > 10_000 {
+    if notes.len() > MOST_ANNOTATIONS {
         return false;
     }
     let mut bytes = 0;
     for note in notes {
         let more = note.text().len();
-        if more > 1_000_000 - bytes {
+        if more > MOST_TEXT_BYTES - bytes {
             return false;
         }
         bytes += more;
@@ -55,16 +58,14 @@ fn are_within_limits(notes: &[Note]) -> bool
 }
 
 impl Record {
-    /// The data record of these parts, or `None` where there are more than 4,194,304 sample bytes,
-    /// 10,000 annotations or 1,000,000 bytes of their texts.
+    /// The data record of these parts, or `None` where they are past the limits of a data record.
     pub fn new(start: Instant, samples: Vec<u8>, notes: Vec<Note>) -> Option<Record>
         ensures { let parts : DataRecord =
             record { start = start; samples = samples.items; annotations = notes.items } in
             MatchOption result (¬ IsWithinSize parts) (λ r. IsValidRecord r × (r ≡ parts)) }
     {
-        // contracts learn from this call that the start lies in the window
-        let _in_window = start.nanos();
-        if samples.len() <= 4_194_304 && are_within_limits(notes.as_slice()) {
+        instant_is_in_window(start);
+        if samples.len() <= MOST_BLOCK_BYTES && are_within_limits(notes.as_slice()) {
             Some(Record::within_limits(start, samples, notes))
         } else {
             None
@@ -93,10 +94,10 @@ impl Record {
         self.start
     }
 
-    /// Its sample bytes: each signal's samples in turn, two bytes each, the lower first.
+    /// Its sample bytes: those of each ordinary signal in turn, two for a sample, the lower first.
     pub fn samples(&self) -> &[u8]
         ensures value { result.now ≡ self.now.samples }
-        ensures limit { length result.now ≤ 4_194_304 }
+        ensures limit { length result.now ≤ MOST_BLOCK_BYTES }
         ensures kept { IsValidRecord self.now }
     {
         self.samples.as_slice()
@@ -111,7 +112,7 @@ impl Record {
         self.notes.as_slice()
     }
 
-    /// Whether start, samples and annotations are the same.
+    /// Whether the two have the same start, samples and annotations.
     pub fn same(&self, other: &Record) -> bool
         ensures { IsTrue result ↔ (self.now ≡ other.now) }
     {

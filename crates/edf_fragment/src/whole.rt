@@ -1,6 +1,7 @@
-ghost use Rattle.std.specs.Prelude.{◌≡◌, ℕ, MatchResult};
-ghost use Rattle.edf_fragment.specs.Reading.{CountsAnswer, at_first};
+ghost use Rattle.std.specs.Prelude.{◌≡◌, ℕ};
+ghost use Rattle.edf_fragment.specs.Reading.{at_first};
 ghost use Rattle.edf_fragment.specs.Whole.{ReadsFragment, FailsAfterRecords, IsFragmentFault};
+ghost use Rattle.edf_fragment.specs.Call.{ReadsInput, ValueOr, input_state};
 ghost use Rattle.edf_fragment.specs.Inside.Steps.{ReadsRecords};
 
 use crate::fault::FragmentFault;
@@ -18,11 +19,10 @@ fn read_records<R: Input>(
 ) -> Result<Vec<Record>, FragmentFault>
     requires { fragment.old.progress ≡ at_first }
     ensures header { fragment.new.header ≡ fragment.old.header }
-    ensures answer { MatchResult result
-        (λ records. ReadsRecords fragment.old.header
-        (R.remaining input.old) (R.remaining input.new) records.items)
-        (FailsAfterRecords fragment.old.header (R.remaining input.old) (R.remaining input.new)) }
-    ensures counted { CountsAnswer (R.failures input.old) (R.failures input.new) result }
+    ensures read { ReadsInput
+        (ValueOr (λ left rest records. ReadsRecords fragment.old.header left rest records.items)
+        (FailsAfterRecords fragment.old.header))
+        (input_state R.Input input.old) (input_state R.Input input.new) result }
 {
     let mut records = Vec::new(alloc);
     'records: loop {
@@ -47,10 +47,9 @@ pub fn read_fragment<R: Input>(
     alloc: Global,
     input: &mut R,
 ) -> Result<(Header, Vec<Record>), FragmentFault>
-    ensures answer { MatchResult result
-        (λ r. ReadsFragment (R.remaining input.old) (R.remaining input.new) r.0 r.1.items)
-        (IsFragmentFault (R.remaining input.old) (R.remaining input.new)) }
-    ensures counted { CountsAnswer (R.failures input.old) (R.failures input.new) result }
+    ensures { ReadsInput
+        (ValueOr (λ left rest r. ReadsFragment left rest r.0 r.1.items) IsFragmentFault)
+        (input_state R.Input input.old) (input_state R.Input input.new) result }
 {
     let mut fragment = OpenFragment::read(alloc, input)?;
     let records = read_records(alloc, &mut fragment, input)?;

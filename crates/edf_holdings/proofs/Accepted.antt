@@ -77,7 +77,7 @@ in_after cap h (t ∷ ts) k r w g m =
       | inr a ↦ inr (record {
         before = t ∷ a.before;
         member = a.member;
-        behind = a.behind;
+        later = a.later;
         splits =
             ap (λ l. t ∷ l) a.splits;
         accepted = a.accepted;
@@ -88,7 +88,7 @@ in_after cap h (t ∷ ts) k r w g m =
         | inr p ↦ inr (record {
           before = [];
           member = t;
-          behind = ts;
+          later = ts;
           splits = refl;
           accepted = p.0;
           has = p.1;
@@ -100,13 +100,13 @@ after_has : (cap : ℕ) (h : Holdings) (ts : List Told) (k : Key) (r : DataRecor
     IsGood cap h → FromAccepted cap h ts k r → In r (after cap h ts k)
 after_has cap h ts k r w g a =
     subst (λ (l : List Told). In r (after cap h l k)) (sym a.splits)
-    (subst (λ (z : Holdings). In r (z k)) (sym (after-append cap h a.before (a.member ∷ a.behind)))
-    (after_grows cap (after_one cap (after cap h a.before) a.member) a.behind k r
-    ((met cap (after cap h a.before) a.member (sound_back a.before (a.member ∷ a.behind) v).0
-    (IsGood-after cap h a.before (sound_front a.before (a.member ∷ a.behind) v) g)).has k r
+    (subst (λ (z : Holdings). In r (z k)) (sym (after-append cap h a.before (a.member ∷ a.later)))
+    (after_grows cap (after_one cap (after cap h a.before) a.member) a.later k r
+    ((met cap (after cap h a.before) a.member (sound_back a.before (a.member ∷ a.later) v).0
+    (IsGood-after cap h a.before (sound_front a.before (a.member ∷ a.later) v) g)).has k r
     a.accepted a.has)))
   where
-    v : AreSoundTold (a.before ++ (a.member ∷ a.behind))
+    v : AreSoundTold (a.before ++ (a.member ∷ a.later))
     v = subst AreSoundTold a.splits w
 
 pub after_has_accepted : AfterHasAccepted

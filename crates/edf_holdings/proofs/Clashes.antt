@@ -66,7 +66,7 @@ first_some d xs (r ∷ rs) p a e = go (find (clashes d r) xs) refl (first_some d
         more (sym (ap (λ (o : Option DataRecord). clash_or r o (first_clash d xs rs)) f) ∙ e) in
         record {
           before = r ∷ i.before;
-          behind = i.behind;
+          later = i.later;
           splits = ap (λ l. r ∷ l) i.splits;
           none_before = λ q x m n c. elim (In-from_Contains (r ∷ i.before) q m) [
             | inl u ↦ both_ways _ (find_none d r xs f x (In-from_Contains xs x n))
@@ -84,7 +84,7 @@ first_some d xs (r ∷ rs) p a e = go (find (clashes d r) xs) refl (first_some d
         let i : IsEarliest d r s xs = find_some d 0 r s xs a f in
         subst (λ (z : DataRecord × DataRecord). IsFirstClash d xs (r ∷ rs) z.0 z.1) pair (record {
           before = [];
-          behind = rs;
+          later = rs;
           splits = refl;
           none_before = λ q x m n c. In-from_Contains [] q m;
           held = Contains-from_In xs s i.held;

@@ -52,7 +52,7 @@ all_longer : (h : Holdings) (ts : List Told) (k : Key) → length (h k) ≤ leng
 all_longer h [] k = omega arith
 all_longer h (t ∷ ts) k = omega (arith, one_longer h t k, all_longer (with_one h t) ts k)
 
--- what is in holdings joined with all that a list tells
+-- what is in holdings joined with all records of a list
 
 -- `Any` by recursion
 abbrev pub IsAmong : Key → DataRecord → List Told → Type 0

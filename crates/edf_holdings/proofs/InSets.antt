@@ -157,10 +157,10 @@ pub first_clash_found : (d : ℕ) (xs rs : List DataRecord) (r s : DataRecord) �
     IsFirstClash d xs rs r s → first_clash d xs rs ≡ Some (r, s)
 first_clash_found d xs rs r s a i =
     ap (first_clash d xs) i.splits
-    ∙ (first_clash-append d xs i.before (r ∷ i.behind)
-    ∙ (ap (λ (o : Option (DataRecord × DataRecord)). option_or o (first_clash d xs (r ∷ i.behind)))
+    ∙ (first_clash-append d xs i.before (r ∷ i.later)
+    ∙ (ap (λ (o : Option (DataRecord × DataRecord)). option_or o (first_clash d xs (r ∷ i.later)))
     (no_first d xs i.before none)
-    ∙ ap (λ (o : Option DataRecord). clash_or r o (first_clash d xs i.behind))
+    ∙ ap (λ (o : Option DataRecord). clash_or r o (first_clash d xs i.later))
     (find_earliest d 0 r s xs a (In-from_Contains xs s i.held) (test_from_Clash d r s i.clash)
     (λ x m t. i.earliest x (Contains-from_In xs x m) (Clash-from_test d r x t)))))
   where

@@ -11,7 +11,7 @@ pub mod InSets
 pub mod Accepted
 pub mod KeyLists
 pub mod Selected
-pub mod Walked
+pub mod OneByOne
 pub mod Added
 pub mod Recut
 pub mod ToldSound

@@ -121,7 +121,7 @@ apart_inserted d low r (x ∷ xs) a l n =
     (λ t. (l, (before e (ltb-true _ _ t), a.1)))
     (λ t. (
       a.0,
-      apart_inserted d (x.start + d) r xs a.1 (behind e (ltb-false _ _ t))
+      apart_inserted d (x.start + d) r xs a.1 (apart-after e (ltb-false _ _ t))
           (λ y m. n y (inr m)),
     )))
   where
@@ -133,8 +133,8 @@ apart_inserted d low r (x ∷ xs) a l n =
           elim q [ inl b ↦ omega arith | inr b ↦ b ]
     ]
 
-    behind : same_record x r ≡ false → x.start ≤ r.start → x.start + d ≤ r.start
-    behind e t = elim (clashes-false d r x (n x (inl refl))) [
+    apart-after : same_record x r ≡ false → x.start ≤ r.start → x.start + d ≤ r.start
+    apart-after e t = elim (clashes-false d r x (n x (inl refl))) [
       | inl p ↦
           absurd (same_record-false x r e (sym p))
       | inr q ↦

@@ -1,4 +1,4 @@
--- What bytes tell is sound.
+-- What bytes amount to is sound.
 use Rattle.edf_fragment.specs.Told.{Fragment, Fault}
 use Rattle.edf_holdings.specs.Laws.{ToldIsSound}
 use Rattle.edf_fragment.proofs.Sound.{spelled-key, spelled-sound, spelled-begins}

@@ -12,7 +12,7 @@ abbrev pub IsFragment : Told → Type 0
 IsFragment (Fragment key records) = Unit {0}
 IsFragment (Fault fault) = ⊥
 
--- the holdings with all records that are told, whether or not they clash
+-- the holdings with all records of a submission, whether or not they clash
 abbrev pub with_one : Holdings → Told → Holdings
 with_one h (Fragment key records) = put key records h
 with_one h (Fault fault) = h
@@ -28,7 +28,7 @@ pub record IsFree (cap : ℕ) (h : Holdings) (tolds : List Told) : Type 0 where
   pub no_clash : (k : Key) → NoClash (duration_of k.duration) (with_all h tolds k)
   pub few : (k : Key) → length (with_all h tolds k) ≤ cap
 
--- the record occurs under this key in what is told
+-- the submission has the record under this key
 abbrev pub Has : Key → DataRecord → Told → Type 0
 Has k r (Fragment key records) = (key ≡ k) × Contains records r
 Has k r (Fault fault) = ⊥

@@ -23,7 +23,7 @@ abbrev pub StaysSound : Type 0
 StaysSound = (cap : ℕ) (h : Holdings) (tolds : List Told) → IsSound cap h → AreSoundTold tolds →
     IsSound cap (after cap h tolds)
 
--- what bytes tell
+-- what bytes amount to is sound
 abbrev pub ToldIsSound : Type 0
 ToldIsSound = (bytes : List ℕ) (told : Told) → Tells bytes told → IsSoundTold told
 

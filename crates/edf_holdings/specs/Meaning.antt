@@ -1,4 +1,4 @@
--- What the definitions say in the words of sets, so that their recursions need no belief.
+-- What the definitions say in the words of sets, for readers who don't follow their recursions.
 use Rattle.std.specs.Prelude.{◌≡◌, ◌≢◌, ℕ, ◌+◌, ◌-◌, ◌<◌, ◌≤◌, ◌↔◌, ◌⊎◌, List, [], ◌∷◌, ◌++◌}
 use Rattle.std.specs.Prelude.{length, Contains, Any, IsTrue, cond}
 use Rattle.edf_field.specs.Number.{duration_of}
@@ -46,7 +46,7 @@ abbrev pub JoinedHasBoth : Type 0
 JoinedHasBoth = (xs records : List DataRecord) (r : DataRecord) →
     Contains (joined xs records) r ↔ (Contains xs r ⊎ Contains records r)
 
--- holdings with all that is told have what was held and what is told, and nothing else
+-- holdings with all that the submissions have: what was held and what they have, and nothing else
 abbrev pub AllHasBoth : Type 0
 AllHasBoth = (h : Holdings) (tolds : List Told) (k : Key) (r : DataRecord) →
     Contains (with_all h tolds k) r ↔ (Contains (h k) r ⊎ Any (Has k r) tolds)
@@ -76,8 +76,8 @@ AcceptedWhereFits = (cap : ℕ) (h : Holdings) (key : Key) (records : List DataR
 -- that it clashes with
 pub record IsFirstClash (d : ℕ) (xs records : List DataRecord) (r s : DataRecord) : Type 0 where
   pub before : List DataRecord
-  pub behind : List DataRecord
-  pub splits : records ≡ before ++ (r ∷ behind)
+  pub later : List DataRecord
+  pub splits : records ≡ before ++ (r ∷ later)
   pub none_before : (q x : DataRecord) → Contains before q → Contains xs x → ¬ Clash d q x
   pub held : Contains xs s
   pub clash : Clash d r s
@@ -122,8 +122,8 @@ pub record FromAccepted (cap : ℕ) (h : Holdings) (tolds : List Told) (k : Key)
     (r : DataRecord) : Type 0 where
   pub before : List Told
   pub member : Told
-  pub behind : List Told
-  pub splits : tolds ≡ before ++ (member ∷ behind)
+  pub later : List Told
+  pub splits : tolds ≡ before ++ (member ∷ later)
   pub accepted : IsAccepted (reply cap (after cap h before) member)
   pub has : Has k r member
 

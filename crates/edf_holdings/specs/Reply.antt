@@ -1,5 +1,5 @@
--- What is answered to a submission, and what it leaves: functions of what its bytes tell and of the
--- holdings that it meets.
+-- What is answered to a submission, and what it leaves: functions of what its bytes amount to and
+-- of the holdings that it meets.
 use Rattle.std.specs.Prelude.{ℕ, ◌+◌, ◌-◌, Bool, not, ◌&&◌, ◌||◌, cond, nat_eq, nat_lt, nat_le}
 use Rattle.std.specs.Prelude.{List, [], ◌∷◌, length, Option, Some, None, find}
 use Rattle.std.specs.List.{list_all}
@@ -13,7 +13,7 @@ use Rattle.edf_holdings.specs.Clash.{clashes}
 use Rattle.edf_holdings.specs.Rising.{joined, new_of}
 use Rattle.edf_holdings.specs.Holdings.{Holdings, put}
 
--- a fragment as bytes spell them: by a law nothing else is told
+-- a fragment as bytes spell them: by a law bytes amount to nothing else
 abbrev pub IsSoundTold : Told → Type 0
 IsSoundTold (Fragment key records) = IsKey key × AreSound key 0 records × MayBegin key records
 IsSoundTold (Fault fault) = Unit {0}

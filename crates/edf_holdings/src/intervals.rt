@@ -5,9 +5,10 @@ ghost use Rattle.edf_holdings.specs.Kind.{IsKind};
 use crate::kind::Clash;
 use edf_fragment::Record;
 
-/// How the data records clash, of which each lasts `duration` nanoseconds.
+/// How two data records clash that last `duration` nanoseconds each.
 ///
-/// `None` where they don't: they are the same, or the one starts no earlier than the other ends.
+/// The answer is `None` where they don't: they are the same, or one starts no earlier than the
+/// other ends.
 pub fn clash(a: &Record, b: &Record, duration: u64) -> Option<Clash>
     requires { 0 < duration }
     ensures { MatchOption result (¬ DoClash duration a.now b.now) (IsKind duration a.now b.now) }

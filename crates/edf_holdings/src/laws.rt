@@ -5,8 +5,8 @@ ghost use Rattle.edf_holdings.specs.Laws.{HeldIsKnown, AcceptedAgain, RefusedAga
 ghost use Rattle.edf_holdings.specs.Laws.{FromTheFront, AnyOrder, Reordered, AloneIsFree, Recut};
 ghost use Rattle.edf_holdings.specs.Laws.{FreeOfSame};
 
-/// What bytes tell is sound, and nothing held; what any list of submissions leaves of sound
-/// holdings is sound, and so is one record more.
+/// What bytes amount to is sound, and so are holdings of nothing. Sound holdings stay so after any
+/// list of submissions, and with one data record more that no other is near.
 pub fn stays_sound()
     ensures told { ToldIsSound }
     ensures none { NothingIsSound }

@@ -1,8 +1,8 @@
 //! What is held of recordings, and what a submission adds to it: definitions, laws about them, and
 //! the test for a clash.
 //!
-//! Holdings are the data records of each key, by rising starts. A submission tells a fragment or a
-//! fault; `reply` says what is answered to it, and `after` what a list of submissions leaves.
+//! Holdings are the data records of each key, by rising starts. A submission is a fragment, or has
+//! a fault; `reply` says what is answered to it, and `after` what a list of submissions leaves.
 //! Nothing here knows of rows, tables or transactions.
 //!
 //! - [`clash`]: whether two data records of one recording clash, and how.

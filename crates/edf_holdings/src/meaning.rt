@@ -28,7 +28,7 @@ pub fn sets()
     ensures keys { KeysAreOne }
 {}
 
-/// What is accepted, what a refusal names, and what is held then.
+/// What is accepted, what a refusal names, and what is held after either.
 pub fn intake()
     ensures fits { FitsIsTold }
     ensures accepted { AcceptedWhereFits }
@@ -41,7 +41,7 @@ pub fn intake()
     ensures own { OwnList }
 {}
 
-/// The records near a start.
+/// The records near a start are two at most, and what is selected by their starts.
 pub fn near()
     ensures two { NearTwo }
     ensures selected { NearIsSelected }

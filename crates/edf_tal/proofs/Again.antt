@@ -15,7 +15,7 @@ use Rattle.edf_time.specs.Civil.{window, IsInWindow}
 use Rattle.edf_time.proofs.Cited.{IsSeconds-short}
 use Rattle.edf_tal.specs.Tal.{Tal, Annotation, IsAnnotation, IsTal, IsOnset, IsDurationPart, ended}
 use Rattle.edf_tal.specs.Tal.{AreTals, AreTalsAndZeros, HaveUtf8Texts, IsTimed, IsTalInWindow}
-use Rattle.edf_tal.specs.Tal.{instant, tal_annotations, annotations, begin}
+use Rattle.edf_tal.specs.Tal.{instant, tal_annotations, annotations, record_start}
 use Rattle.edf_tal.specs.Block.{AreRead, IsRead, IsWithinLimits, KeepsPlace}
 use Rattle.edf_tal.specs.Canonical.{onset_text, duration_text, tal_text, time_keeping, block_text}
 use Rattle.edf_tal.specs.declared.place.Place.{Place}
@@ -27,8 +27,8 @@ use Rattle.edf_tal.proofs.OneAnswer.{SameAnswer, one-read}
 ahead : (base onset : ℕ) → base ≤ onset → pos onset -ℤ pos base ≡ pos (onset - base)
 ahead base onset h = omega (arith, ints)
 
-behind : (base onset : ℕ) → onset < base → pos onset -ℤ pos base ≡ neg_ℤ (pos (base - onset))
-behind base onset h = omega (arith, ints)
+from-before : (base onset : ℕ) → onset < base → pos onset -ℤ pos base ≡ neg_ℤ (pos (base - onset))
+from-before base onset h = omega (arith, ints)
 
 abs-neg : (n : ℕ) → unsigned_abs (neg_ℤ (pos n)) ≡ n
 abs-neg zero = refl
@@ -49,7 +49,7 @@ pub IsOnset-text : (base onset : ℕ) → base < window → onset < window →
 IsOnset-text base onset low in-window =
     elim (cases_lt onset base) [
       | inl less ↦
-          let z = behind base onset less in
+          let z = from-before base onset less in
           let n : unsigned_abs (pos onset -ℤ pos base) ≡ base - onset = ap unsigned_abs z
           ∙ abs-neg (base - onset) in
           inr (
@@ -159,7 +159,7 @@ IsAnnotation-time_keeping start h = record {
 -- the one block of a data record, with these TALs
 read-of : (b : List ℕ) (s : ℕ) (p : Place) (start : ℕ) (list : List Annotation) (ts : List Tal) →
     AreTalsAndZeros b ts → HaveUtf8Texts ts → IsTimed ts → KeepsPlace p s ts
-    → AllByRecursion (IsTalInWindow s) ts → IsWithinLimits list → start ≡ begin s ts →
+    → AllByRecursion (IsTalInWindow s) ts → IsWithinLimits list → start ≡ record_start s ts →
     list ≡ annotations s ts → IsRead b s p start list
 read-of b s p start list ts whole good timed keeps window limits start-is list-is =
     let one = all_tals-one ts in

@@ -18,6 +18,7 @@ use Rattle.edf_tal.specs.Inside.Blocks.{AreSurveyed, HasForm}
 use Rattle.edf_tal.specs.declared.blocks.Sums.{Sums}
 use Rattle.edf_tal.specs.declared.blocks.Form.{Form}
 use Rattle.edf_tal.specs.declared.blocks.Form.TheVariants.{Good, BadText}
+use Rattle.edf_tal.specs.declared.limits.TheConstants.{MOST_ANNOTATIONS, MOST_TEXT_BYTES}
 use Rattle.edf_tal.specs.declared.place.Place.{Place}
 use Rattle.edf_tal.specs.declared.place.Place.TheVariants.{First, After, Any}
 use Rattle.edf_tal.specs.declared.place.TalFault.{TalFault}
@@ -26,8 +27,8 @@ use Rattle.edf_tal.specs.declared.place.TalFault.TheVariants.{FirstOnset, Window
 use Rattle.edf_tal.specs.declared.place.TalFault.TheVariants.{Memory}
 use Rattle.edf_tal.proofs.Unique.{Lacks-text}
 use Rattle.edf_tal.proofs.Decide.{Front, front}
-use Rattle.edf_tal.proofs.Totals.{behind-none, behind-more, behind-behind, front-shorter}
-use Rattle.edf_tal.proofs.Totals.{good-count, survey-none, survey-more, survey-bad, survey-behind}
+use Rattle.edf_tal.proofs.Totals.{after-none, after-more, after-after, front-shorter}
+use Rattle.edf_tal.proofs.Totals.{good-count, survey-none, survey-more, survey-bad, survey-after}
 use Rattle.edf_tal.proofs.Totals.{both-true}
 use Rattle.edf_tal.proofs.Joined.{form-append, form-lists, form-bad, broken-one, broken-front}
 use Rattle.edf_tal.proofs.Joined.{broken-back, surveyed-one, surveyed-none}
@@ -110,7 +111,7 @@ texts-of (x ∷ xs) a =
             good_texts = ((Lacks-text x a.0, u), bad.1.good_texts);
             is_text = bad.1.is_text;
             bad = bad.1.bad;
-            place = refl;
+            at_is = refl;
           },
         )
       ]
@@ -124,7 +125,7 @@ texts-of (x ∷ xs) a =
           good_texts = tt;
           is_text = Lacks-text x a.0;
           bad = never;
-          place = refl;
+          at_is = refl;
         },
       )
     ]
@@ -145,24 +146,24 @@ front-texts bytes texts rest t f =
       | inr bad ↦ inr (bad.0, subst (λ (w : List ℕ). IsBadAmong w bad.0) (sym f.texts_are) bad.1)
     ]
 
--- ---- the walk over the TALs
+-- ---- one TAL after another
 
 -- what comes after the TALs
-behind : (fuel : ℕ) (bytes : List ℕ) → length bytes < fuel → (rest : List ℕ)
+after-tals : (fuel : ℕ) (bytes : List ℕ) → length bytes < fuel → (rest : List ℕ)
     × FollowsTals bytes rest × NoTal rest
-behind zero bytes short = absurd (omega arith)
-behind (suc fuel) bytes short =
+after-tals zero bytes short = absurd (omega arith)
+after-tals (suc fuel) bytes short =
     elim (front bytes) [
       | inl f ↦
           let less = front-shorter bytes f.texts f.rest f.tal f.is_front in
-          let more = behind fuel f.rest (omega arith) in (
+          let more = after-tals fuel f.rest (omega arith) in (
             more.0,
-            behind-behind bytes f.rest more.0
-                (behind-more bytes bytes f.texts f.rest f.tal (behind-none bytes) f.is_front)
+            after-after bytes f.rest more.0
+                (after-more bytes bytes f.texts f.rest f.tal (after-none bytes) f.is_front)
                 more.1,
             more.2,
           )
-      | inr none ↦ (bytes, behind-none bytes, none)
+      | inr none ↦ (bytes, after-none bytes, none)
     ]
 
 -- TALs with good texts, or a text that is no UTF-8
@@ -177,7 +178,7 @@ pub record Surveyed (block : List ℕ) (s : ℕ) : Type 0 where
 pub record IsBadSurvey (block : List ℕ) : Type 0 where
   pub rest : List ℕ
   pub at : ℕ
-  pub is_behind : FollowsTals block rest
+  pub is_after : FollowsTals block rest
   pub last : NoTal rest
   pub bad : IsBadText block at
 
@@ -185,22 +186,22 @@ bad-survey : (block rest : List ℕ) (s : ℕ) (in_window : Bool) (count bytes :
     (at : ℕ) → IsSurvey block s rest in_window count bytes
     → IsBadAmong f.texts at → IsBadSurvey block
 bad-survey block rest s in_window count bytes f at v b =
-    let more = behind (suc (length f.rest)) f.rest (omega arith) in
+    let more = after-tals (suc (length f.rest)) f.rest (omega arith) in
     record {
       rest = more.0;
       at = length block - length f.rest - 1 - length f.texts + at;
-      is_behind = behind-behind block f.rest more.0
-          (behind-more block rest f.texts f.rest f.tal
-          (survey-behind block rest s in_window count bytes v) f.is_front) more.1;
+      is_after = after-after block f.rest more.0
+          (after-more block rest f.texts f.rest f.tal
+          (survey-after block rest s in_window count bytes v) f.is_front) more.1;
       last = more.2;
       bad = survey-bad block rest f.texts f.rest s f.tal in_window count bytes at v f.is_front b;
     }
 
-walk : (fuel : ℕ) (block rest : List ℕ) (s : ℕ) (in_window : Bool) (count bytes : ℕ) →
+survey-from : (fuel : ℕ) (block rest : List ℕ) (s : ℕ) (in_window : Bool) (count bytes : ℕ) →
     length rest < fuel → IsSurvey block s rest in_window count bytes
     → Surveyed block s ⊎ IsBadSurvey block
-walk zero block rest s in_window count bytes short v = absurd (omega arith)
-walk (suc fuel) block rest s in_window count bytes short v =
+survey-from zero block rest s in_window count bytes short v = absurd (omega arith)
+survey-from (suc fuel) block rest s in_window count bytes short v =
     elim (front rest) [
       | inl f ↦ elim (front-texts rest f.texts f.rest f.tal f.is_front) [
         | inl good ↦
@@ -209,7 +210,7 @@ walk (suc fuel) block rest s in_window count bytes short v =
             let here = bit (in-window s f.tal) in
             let sum : length f.tal.texts + (length f.texts - length f.tal.texts) ≡ length f.texts =
             omega arith in
-            walk fuel block f.rest s (in_window && here.0) (count + length f.tal.texts)
+            survey-from fuel block f.rest s (in_window && here.0) (count + length f.tal.texts)
             (bytes + (length f.texts - length f.tal.texts)) (omega arith)
             (survey-more block rest f.texts f.rest s f.tal in_window (in_window && here.0) here.0
             count bytes (length f.tal.texts) (length f.texts - length f.tal.texts)
@@ -227,7 +228,7 @@ walk (suc fuel) block rest s in_window count bytes short v =
     ]
 
 survey : (block : List ℕ) (s : ℕ) → Surveyed block s ⊎ IsBadSurvey block
-survey block s = walk (suc (length block)) block block s true 0 0 (omega arith)
+survey block s = survey-from (suc (length block)) block block s true 0 0 (omega arith)
     (survey-none block s)
 
 -- ---- the first TAL's rules
@@ -252,12 +253,12 @@ true-or-not : (b : Bool) → IsTrue b ⊎ (¬ IsTrue b)
 true-or-not true = inl refl
 true-or-not false = inr (λ h. absurd (let e : false ≡ true = h in cc))
 
-limits : (count bytes : ℕ) → ((count ≤ 10_001) × (bytes ≤ 1_000_000))
-    ⊎ (¬ ((count ≤ 10_001) × (bytes ≤ 1_000_000)))
+limits : (count bytes : ℕ) → ((count ≤ MOST_ANNOTATIONS + 1) × (bytes ≤ MOST_TEXT_BYTES))
+    ⊎ (¬ ((count ≤ MOST_ANNOTATIONS + 1) × (bytes ≤ MOST_TEXT_BYTES)))
 limits count bytes =
-    elim (cases_lt 10_001 count) [
+    elim (cases_lt (MOST_ANNOTATIONS + 1) count) [
       | inl many ↦ inr (λ h. let le = h.0 in absurd (omega arith))
-      | inr few ↦ elim (cases_lt 1_000_000 bytes) [
+      | inr few ↦ elim (cases_lt MOST_TEXT_BYTES bytes) [
         | inl many ↦
             inr (λ h. let le = h.1 in absurd (omega arith))
         | inr short ↦ inl (few, short)
@@ -291,13 +292,13 @@ form b s =
         )
         | inr never ↦ inr (
           length b - length v.rest,
-          broken-one b v.rest (survey-behind b v.rest s v.in_window v.count v.bytes v.is_survey)
+          broken-one b v.rest (survey-after b v.rest s v.in_window v.count v.bytes v.is_survey)
               v.last never,
         )
       ]
       | inr x ↦ elim (zeros x.rest) [
-        | inl z ↦ inl (BadText x.at, form-bad b x.rest s x.at x.is_behind z x.bad)
-        | inr never ↦ inr (length b - length x.rest, broken-one b x.rest x.is_behind x.last never)
+        | inl z ↦ inl (BadText x.at, form-bad b x.rest s x.at x.is_after z x.bad)
+        | inr never ↦ inr (length b - length x.rest, broken-one b x.rest x.is_after x.last never)
       ]
     ]
 

@@ -1,4 +1,4 @@
--- The first text that is no UTF-8 has one place.
+-- The first text that is not UTF-8 begins at one offset.
 use Rattle.std.proofs.Common.{◌≡◌, ℕ, ◌+◌, List, [], ◌∷◌, ◌++◌, length, arith, refl, sym, ap, ◌∙◌}
 use Rattle.std.proofs.Common.{subst, append_assoc, ℤ, Option}
 use Rattle.std.specs.Prelude.{IsUtf8}
@@ -25,7 +25,7 @@ pub record IsBadFront (bytes : List ℕ) (at : ℕ) : Type 0 where
   pub good_texts : AllByRecursion (λ x. IsText x × IsUtf8 x) good
   pub is_text : IsText text
   pub bad : ¬ IsUtf8 text
-  pub place : at ≡ length onset + length duration + 1 + length (ended good)
+  pub at_is : at ≡ length onset + length duration + 1 + length (ended good)
 
 -- after good TALs
 pub record BadParts (bytes : List ℕ) (at : ℕ) : Type 0 where
@@ -37,7 +37,7 @@ pub record BadParts (bytes : List ℕ) (at : ℕ) : Type 0 where
   pub whole : AreTals front tals
   pub good : HaveUtf8Texts tals
   pub bad : IsBadFront rest inner
-  pub place : at ≡ length front + inner
+  pub at_is : at ≡ length front + inner
 
 pub bad-split : (bytes : List ℕ) (at : ℕ) → IsBadText bytes at → BadParts bytes at
 bad-split bytes at b = record {
@@ -60,16 +60,16 @@ bad-split bytes at b = record {
     good_texts = b.good_texts;
     is_text = b.is_text;
     bad = b.bad;
-    place = refl;
+    at_is = refl;
   };
-  place = let e : at ≡ length b.front + length b.onset + length b.duration + 1 + length
-      (ended b.good) = b.place in omega arith;
+  at_is = let e : at ≡ length b.front + length b.onset + length b.duration + 1 + length
+      (ended b.good) = b.at_is in omega arith;
 }
 
 pub bad-join : (bytes front rest : List ℕ) (tals : List Tal) (at inner : ℕ) → bytes ≡ front
     ++ rest → AreTals front tals → HaveUtf8Texts tals
     → IsBadFront rest inner → at ≡ length front + inner → IsBadText bytes at
-bad-join bytes front rest tals at inner e whole good b place = record {
+bad-join bytes front rest tals at inner e whole good b here = record {
   front = front;
   tals = tals;
   onset = b.onset;
@@ -85,8 +85,8 @@ bad-join bytes front rest tals at inner e whole good b place = record {
   good_texts = b.good_texts;
   is_text = b.is_text;
   bad = b.bad;
-  place = let p : inner ≡ length b.onset + length b.duration + 1 + length (ended b.good) =
-      b.place in omega arith;
+  at_is = let p : inner ≡ length b.onset + length b.duration + 1 + length (ended b.good) =
+      b.at_is in omega arith;
 }
 
 -- a text and its end do not begin with 0
@@ -213,8 +213,8 @@ one-front bytes j k b c =
     sym (length-append b.onset b.duration) ∙ ap length s.front ∙ length-append c.onset c.duration in
     let goods : length (ended b.good) ≡ length (ended c.good) =
     ap (λ (x : List (List ℕ)). length (ended x)) g in
-    let p : j ≡ length b.onset + length b.duration + 1 + length (ended b.good) = b.place in
-    let q : k ≡ length c.onset + length c.duration + 1 + length (ended c.good) = c.place in
+    let p : j ≡ length b.onset + length b.duration + 1 + length (ended b.good) = b.at_is in
+    let q : k ≡ length c.onset + length c.duration + 1 + length (ended c.good) = c.at_is in
     omega arith
 
 one-bad : (ts us : List Tal) (front rest front' rest' : List ℕ) (j k : ℕ) → AreTals front ts →
@@ -256,6 +256,6 @@ one-bad-text bytes j k b c =
     let q = bad-split bytes k c in
     let same = one-bad p.tals q.tals p.front p.rest q.front q.rest p.inner q.inner p.whole q.whole
     p.good q.good p.bad q.bad (sym p.parts ∙ q.parts) in
-    let left : j ≡ length p.front + p.inner = p.place in
-    let right : k ≡ length q.front + q.inner = q.place in
+    let left : j ≡ length p.front + p.inner = p.at_is in
+    let right : k ≡ length q.front + q.inner = q.at_is in
     omega (arith, same)

@@ -11,6 +11,7 @@ use Rattle.edf_time.proofs.Cited.{length-short-window}
 use Rattle.edf_time.specs.Civil.{window}
 use Rattle.edf_tal.specs.Tal.{Annotation, IsAnnotation}
 use Rattle.edf_tal.specs.Block.{IsWithinLimits}
+use Rattle.edf_tal.specs.declared.limits.TheConstants.{MOST_CANONICAL_BLOCK_BYTES}
 use Rattle.edf_tal.specs.Canonical.{onset_text, duration_text, tal_text, time_keeping, block_text}
 
 onset-length : (base onset : ℕ) → base < window → onset < window →
@@ -50,7 +51,7 @@ tals-length base (a ∷ list) low (is, all) =
 -- a canonical block within the limits has at most this many bytes
 pub block-length : (base start : ℕ) (list : List Annotation) → base < window → start < window →
     IsWithinLimits list → AllByRecursion IsAnnotation list
-    → length (block_text base start list) ≤ 1_450_045
+    → length (block_text base start list) ≤ MOST_CANONICAL_BLOCK_BYTES
 block-length base start list low start-in limits all =
     let keeps : IsAnnotation (time_keeping start) =
     record { onset = start-in; duration = tt; text = tt; utf8 = IsUtf8-nil } in

@@ -1,4 +1,4 @@
--- The walk over blocks that are cut out of the bytes that they make together.
+-- One after another, the blocks that are cut out of the bytes that they make together.
 use Rattle.std.proofs.Common.{◌≡◌, ℕ, suc, get_or, min, add-one, drop-cons, drop_of_length-le, ◌+◌}
 use Rattle.std.proofs.Common.{◌-◌, ◌≤◌, ◌<◌, List, [], ◌∷◌, ◌++◌, length, map, take, drop, arith}
 use Rattle.std.proofs.Common.{refl, sym, ap, ap₂, ◌∙◌, subst, append_assoc}
@@ -45,7 +45,7 @@ cut-split (n ∷ sizes) block first later some f l =
     (sym (take_all (length (n ∷ sizes) - 1) sizes (omega arith)))
 
 -- the blocks that were gone over, and those that are left
-pub record HasWalked (sizes block : List ℕ) (i : ℕ) (rest : List ℕ) (s : ℕ) (form : Form) : Type 0
+pub record HasSurveyed (sizes block : List ℕ) (i : ℕ) (rest : List ℕ) (s : ℕ) (form : Form) : Type 0
   where
     pub done : List (List ℕ)
     pub parts : cut sizes block ≡ done ++ cut (drop i sizes) rest
@@ -54,43 +54,43 @@ pub record HasWalked (sizes block : List ℕ) (i : ℕ) (rest : List ℕ) (s : �
     pub is_form : HasForm done s form
 
 -- the block that is next, and those after it
-pub record HasNext (sizes : List ℕ) (i : ℕ) (rest front behind : List ℕ) : Type 0 where
-  pub parts : cut (drop i sizes) rest ≡ front ∷ cut (drop (i + 1) sizes) behind
-  pub both : length front + length behind ≡ length rest
-  pub left : sum (drop (i + 1) sizes) ≡ length behind
+pub record HasNext (sizes : List ℕ) (i : ℕ) (rest front later : List ℕ) : Type 0 where
+  pub parts : cut (drop i sizes) rest ≡ front ∷ cut (drop (i + 1) sizes) later
+  pub both : length front + length later ≡ length rest
+  pub left : sum (drop (i + 1) sizes) ≡ length later
 
-pub next-block : (sizes : List ℕ) (i : ℕ) (rest front behind : List ℕ) → i < length sizes →
+pub next-block : (sizes : List ℕ) (i : ℕ) (rest front later : List ℕ) → i < length sizes →
     sum (drop i sizes) ≡ length rest
-    → front ≡ take (get_or sizes i 0) rest → behind ≡ drop (get_or sizes i 0) rest →
-    HasNext sizes i rest front behind
-next-block sizes i rest front behind low left f b =
-    let joined : front ++ behind ≡ rest = ap₂ (λ (x y : List ℕ). x ++ y) f b
+    → front ≡ take (get_or sizes i 0) rest → later ≡ drop (get_or sizes i 0) rest →
+    HasNext sizes i rest front later
+next-block sizes i rest front later low left f b =
+    let joined : front ++ later ≡ rest = ap₂ (λ (x y : List ℕ). x ++ y) f b
     ∙ take-append-drop (get_or sizes i 0) rest in
     let size : length front ≡ min (get_or sizes i 0) (length rest) = ap length f
     ∙ length-take (get_or sizes i 0) rest in
     record {
       parts = ap (λ (ss : List ℕ). cut ss rest) (drop-cons sizes i 0 low)
           ∙ ap₂ (λ (x y : List ℕ). x ∷ cut (drop (suc i) sizes) y) (sym f) (sym b)
-          ∙ ap (λ (n : ℕ). front ∷ cut (drop n sizes) behind) (sym (add-one i));
-      both = omega (arith, ap length joined, length-append front behind);
+          ∙ ap (λ (n : ℕ). front ∷ cut (drop n sizes) later) (sym (add-one i));
+      both = omega (arith, ap length joined, length-append front later);
       left = omega (
         arith,
         left,
         sum_by-drop_more (λ (n : ℕ). n) sizes i 0 low,
         ap length joined,
-        length-append front behind,
+        length-append front later,
         size,
       );
     }
 
-pub walked-next : (sizes block : List ℕ) (i : ℕ) (rest front behind : List ℕ) (s : ℕ)
-    (form next : Form) → (w : HasWalked sizes block i rest s form)
-    → HasNext sizes i rest front behind → HasForm (w.done ++ front ∷ []) s next →
-    HasWalked sizes block (i + 1) behind s next
-walked-next sizes block i rest front behind s form next w n is = record {
+pub surveyed-next : (sizes block : List ℕ) (i : ℕ) (rest front later : List ℕ) (s : ℕ)
+    (form next : Form) → (w : HasSurveyed sizes block i rest s form)
+    → HasNext sizes i rest front later → HasForm (w.done ++ front ∷ []) s next →
+    HasSurveyed sizes block (i + 1) later s next
+surveyed-next sizes block i rest front later s form next w n is = record {
   done = w.done ++ front ∷ [];
   parts = w.parts ∙ ap (λ (x : List (List ℕ)). w.done ++ x) n.parts
-      ∙ sym (append_assoc w.done (front ∷ []) (cut (drop (i + 1) sizes) behind));
+      ∙ sym (append_assoc w.done (front ∷ []) (cut (drop (i + 1) sizes) later));
   left = n.left;
   room = omega (
     arith,
@@ -102,15 +102,15 @@ walked-next sizes block i rest front behind s form next w n is = record {
   is_form = is;
 }
 
-pub walked-begin : (sizes block : List ℕ) (i : ℕ) (rest : List ℕ) (s : ℕ) (form : Form) →
-    (w : HasWalked sizes block i rest s form)
+pub surveyed-begin : (sizes block : List ℕ) (i : ℕ) (rest : List ℕ) (s : ℕ) (form : Form) →
+    (w : HasSurveyed sizes block i rest s form)
     → length block - length rest ≡ sum_by length w.done
-walked-begin sizes block i rest s form w = omega (arith, w.room)
+surveyed-begin sizes block i rest s form w = omega (arith, w.room)
 
-pub walked-fits : (sizes block : List ℕ) (i : ℕ) (rest front behind : List ℕ) (s : ℕ)
-    (form : Form) → (w : HasWalked sizes block i rest s form)
-    → HasNext sizes i rest front behind → sum_by length (w.done ++ front ∷ []) ≤ length block
-walked-fits sizes block i rest front behind s form w n =
+pub surveyed-fits : (sizes block : List ℕ) (i : ℕ) (rest front later : List ℕ) (s : ℕ)
+    (form : Form) → (w : HasSurveyed sizes block i rest s form)
+    → HasNext sizes i rest front later → sum_by length (w.done ++ front ∷ []) ≤ length block
+surveyed-fits sizes block i rest front later s form w n =
     omega (
       arith,
       w.room,
@@ -119,21 +119,21 @@ walked-fits sizes block i rest front behind s form w n =
       sum_by-cons (λ (x : List ℕ). length x) front [],
     )
 
-pub walked-broken : (sizes block : List ℕ) (i : ℕ) (rest front behind : List ℕ) (s : ℕ)
-    (form : Form) (at : ℕ) → HasWalked sizes block i rest s form
-    → HasNext sizes i rest front behind → IsBroken (front ∷ []) at →
+pub surveyed-broken : (sizes block : List ℕ) (i : ℕ) (rest front later : List ℕ) (s : ℕ)
+    (form : Form) (at : ℕ) → HasSurveyed sizes block i rest s form
+    → HasNext sizes i rest front later → IsBroken (front ∷ []) at →
     IsBroken (cut sizes block) (length block - length rest + at)
-walked-broken sizes block i rest front behind s form at w n b =
+surveyed-broken sizes block i rest front later s form at w n b =
     let l = form-lists w.done s form w.is_form in
-    let there : cut sizes block ≡ w.done ++ front ∷ cut (drop (i + 1) sizes) behind = w.parts
+    let there : cut sizes block ≡ w.done ++ front ∷ cut (drop (i + 1) sizes) later = w.parts
     ∙ ap (λ (x : List (List ℕ)). w.done ++ x) n.parts in
-    rw (walked-begin sizes block i rest s form w, there)
-    (broken-back w.done (front ∷ cut (drop (i + 1) sizes) behind) l.0 at l.1
-    (broken-front (front ∷ []) (cut (drop (i + 1) sizes) behind) at b))
+    rw (surveyed-begin sizes block i rest s form w, there)
+    (broken-back w.done (front ∷ cut (drop (i + 1) sizes) later) l.0 at l.1
+    (broken-front (front ∷ []) (cut (drop (i + 1) sizes) later) at b))
 
-pub walked-all : (sizes block : List ℕ) (i : ℕ) (rest : List ℕ) (s : ℕ) (form : Form) →
-    HasWalked sizes block i rest s form → length sizes ≤ i → HasForm (cut sizes block) s form
-walked-all sizes block i rest s form w over =
+pub surveyed-all : (sizes block : List ℕ) (i : ℕ) (rest : List ℕ) (s : ℕ) (form : Form) →
+    HasSurveyed sizes block i rest s form → length sizes ≤ i → HasForm (cut sizes block) s form
+surveyed-all sizes block i rest s form w over =
     let there : w.done ≡ cut sizes block = sym (append-nil w.done)
     ∙ sym (w.parts ∙ ap (λ (ss : List ℕ). w.done
     ++ cut ss rest) (drop_of_length-le sizes over)) in
@@ -170,20 +170,20 @@ next-of s front later (ts ∷ tss) a = record {
   rest = a.1;
 }
 
-pub next-tals : (s : ℕ) (sizes block : List ℕ) (i : ℕ) (rest front behind : List ℕ)
+pub next-tals : (s : ℕ) (sizes block : List ℕ) (i : ℕ) (rest front later : List ℕ)
     (old new : List Annotation) → (h : HasPushedBlocks s sizes block i rest old new)
-    → HasNext sizes i rest front behind → NextTals s front (cut (drop (i + 1) sizes) behind) h.left
-next-tals s sizes block i rest front behind old new h n =
-    next-of s front (cut (drop (i + 1) sizes) behind) h.left
+    → HasNext sizes i rest front later → NextTals s front (cut (drop (i + 1) sizes) later) h.left
+next-tals s sizes block i rest front later old new h n =
+    next-of s front (cut (drop (i + 1) sizes) later) h.left
     (subst (λ (x : List (List ℕ)). AreSoundLists x s h.left) n.parts h.are_left)
 
-pub pushed-more : (s : ℕ) (sizes block : List ℕ) (i : ℕ) (rest front behind : List ℕ)
+pub pushed-more : (s : ℕ) (sizes block : List ℕ) (i : ℕ) (rest front later : List ℕ)
     (old new newer : List Annotation) → (h : HasPushedBlocks s sizes block i rest old new)
-    → HasNext sizes i rest front behind →
-    (t : NextTals s front (cut (drop (i + 1) sizes) behind) h.left) → newer ≡ new
+    → HasNext sizes i rest front later →
+    (t : NextTals s front (cut (drop (i + 1) sizes) later) h.left) → newer ≡ new
     ++ flat_map (tal_annotations s) t.tals
-    → HasPushedBlocks s sizes block (i + 1) behind old newer
-pushed-more s sizes block i rest front behind old new newer h n t is =
+    → HasPushedBlocks s sizes block (i + 1) later old newer
+pushed-more s sizes block i rest front later old new newer h n t is =
     let first = flat_map (tal_annotations s) t.tals in
     let others = flat_map (tal_annotations s) (all_tals t.others) in
     record {

@@ -121,12 +121,12 @@ module _ (bytes body rest head-bytes texts : List ℕ) (no-zeros : Lacks 0 body)
                     record { onset = h.0; duration = h.1; texts = made.0.texts };
                 is_front = made.1;
               })
-          | inr never ↦ inr (λ front behind t f s. let at =
-              front-sides bytes body rest head-bytes texts front behind t no-zeros parts no-twenties
+          | inr never ↦ inr (λ front later t f s. let at =
+              front-sides bytes body rest head-bytes texts front later t no-zeros parts no-twenties
               sides f s in never t.onset t.duration at.head)
         ]
-        | inr never ↦ inr (λ front behind t f s.
-            let at = front-sides bytes body rest head-bytes texts front behind t no-zeros parts
+        | inr never ↦ inr (λ front later t f s.
+            let at = front-sides bytes body rest head-bytes texts front later t no-zeros parts
             no-twenties sides f s in
             never (subst EndsWith20 (sym at.texts) (IsEnded-ended t.texts)))
       ]

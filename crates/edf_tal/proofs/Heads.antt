@@ -226,17 +226,17 @@ texts-of (b ∷ c ∷ tail) nz e =
     ]
 
 -- the TAL at the front, by the first bytes 0 and 20
-pub record Reads (body rest front behind : List ℕ) (t : Tal) (s : IsTal front t) : Type 0 where
+pub record Reads (body rest front later : List ℕ) (t : Tal) (s : IsTal front t) : Type 0 where
   pub body_is : body ≡ (s.onset ++ s.duration) ++ 20 ∷ ended t.texts
-  pub rest_is : rest ≡ behind
+  pub rest_is : rest ≡ later
 
-pub front-body : (bytes body rest front behind : List ℕ) (t : Tal) → Lacks 0 body → bytes ≡ body
-    ++ 0 ∷ rest → bytes ≡ front ++ behind → (s : IsTal front t) → Reads body rest front behind t s
-front-body bytes body rest front behind t lacks e f s =
+pub front-body : (bytes body rest front later : List ℕ) (t : Tal) → Lacks 0 body → bytes ≡ body
+    ++ 0 ∷ rest → bytes ≡ front ++ later → (s : IsTal front t) → Reads body rest front later t s
+front-body bytes body rest front later t lacks e f s =
     let b = (s.onset ++ s.duration) ++ 20 ∷ ended t.texts in
-    let whole : front ++ behind ≡ b ++ 0 ∷ behind = ap (λ (w : List ℕ). w ++ behind) s.parts
-    ∙ append_assoc b (0 ∷ []) behind in
-    let same = same-sides 0 body b rest behind lacks (NoZero-tal front t s) (sym e ∙ f ∙ whole) in
+    let whole : front ++ later ≡ b ++ 0 ∷ later = ap (λ (w : List ℕ). w ++ later) s.parts
+    ∙ append_assoc b (0 ∷ []) later in
+    let same = same-sides 0 body b rest later lacks (NoZero-tal front t s) (sym e ∙ f ∙ whole) in
     record { body_is = same.front; rest_is = same.back }
 
 pub no-zero-byte : (bytes : List ℕ) → Lacks 0 bytes → NoTal bytes
@@ -247,22 +247,22 @@ no-zero-byte bytes lacks front rest t e s =
 
 pub no-twenty : (bytes body rest : List ℕ) → Lacks 0 body → bytes ≡ body ++ 0 ∷ rest →
     Lacks 20 body → NoTal bytes
-no-twenty bytes body rest lacks e none front behind t f s =
+no-twenty bytes body rest lacks e none front later t f s =
     not-both 20 body (s.onset ++ s.duration) (ended t.texts) none
-    (front-body bytes body rest front behind t lacks e f s).body_is
+    (front-body bytes body rest front later t lacks e f s).body_is
 
 pub record Sides (h x : List ℕ) (t : Tal) : Type 0 where
   pub head : IsHead h t.onset t.duration
   pub texts : x ≡ ended t.texts
 
-pub front-sides : (bytes body rest head texts front behind : List ℕ) (t : Tal) → Lacks 0 body →
+pub front-sides : (bytes body rest head texts front later : List ℕ) (t : Tal) → Lacks 0 body →
     bytes ≡ body ++ 0 ∷ rest → Lacks 20 head → body ≡ head ++ 20 ∷ texts
-    → bytes ≡ front ++ behind → IsTal front t → Sides head texts t
-front-sides bytes body rest head texts front behind t lacks e lacks' f g s =
+    → bytes ≡ front ++ later → IsTal front t → Sides head texts t
+front-sides bytes body rest head texts front later t lacks e lacks' f g s =
     let same = same-sides 20 head (s.onset ++ s.duration) texts (ended t.texts) lacks'
     (Lacks-append 20 s.onset s.duration (Lacks-onset 20 s.onset t.onset (omega arith) s.is_onset)
     (Lacks-duration s.duration t.duration s.is_duration))
-    (sym f ∙ (front-body bytes body rest front behind t lacks e g s).body_is) in
+    (sym f ∙ (front-body bytes body rest front later t lacks e g s).body_is) in
     record {
       head = record {
         onset = s.onset;

@@ -141,8 +141,8 @@ one-broken bs m n h k =
     let offset : h.offset ≡ k.offset =
     one-offset h.block h.offset k.offset h.longest
     (subst (λ (b : List ℕ). IsLongestFront b k.offset) (sym s.block) k.longest) in
-    let left : m ≡ sum_by length h.front + h.offset = h.place in
-    let right : n ≡ sum_by length k.front + k.offset = k.place in
+    let left : m ≡ sum_by length h.front + h.offset = h.at_is in
+    let right : n ≡ sum_by length k.front + k.offset = k.at_is in
     let before : sum_by length h.front ≡ sum_by length k.front = ap (sum_by length) s.front in
     omega arith
 
@@ -155,8 +155,8 @@ one-bad-place bs m n h k =
     let offset : h.offset ≡ k.offset =
     one-bad-text h.block h.offset k.offset h.bad
     (subst (λ (b : List ℕ). IsBadText b k.offset) (sym s.block) k.bad) in
-    let left : m ≡ sum_by length h.front + h.offset = h.place in
-    let right : n ≡ sum_by length k.front + k.offset = k.place in
+    let left : m ≡ sum_by length h.front + h.offset = h.at_is in
+    let right : n ≡ sum_by length k.front + k.offset = k.at_is in
     let before : sum_by length h.front ≡ sum_by length k.front = ap (sum_by length) s.front in
     omega arith
 
@@ -172,7 +172,7 @@ broken-front bs cs at h = record {
   whole = h.whole;
   broken = h.broken;
   longest = h.longest;
-  place = h.place;
+  at_is = h.at_is;
 }
 
 pub broken-back : (bs cs : List (List ℕ)) (tss : List (List Tal)) (at : ℕ) → AreBlocks bs tss →
@@ -187,7 +187,7 @@ broken-back bs cs tss at l h = record {
   whole = (tss ++ h.whole.0, lists-append bs h.front tss h.whole.0 l h.whole.1);
   broken = h.broken;
   longest = h.longest;
-  place = let p : at ≡ sum_by length h.front + h.offset = h.place in
+  at_is = let p : at ≡ sum_by length h.front + h.offset = h.at_is in
       omega (arith, sum_by-append length bs h.front);
 }
 
@@ -200,7 +200,7 @@ bad-front bs cs at h = record {
   parts = ap (λ (x : List (List ℕ)). x ++ cs) h.parts ∙ append_assoc h.front (h.block ∷ h.back) cs;
   good = h.good;
   bad = h.bad;
-  place = h.place;
+  at_is = h.at_is;
 }
 
 pub bad-back : (bs cs : List (List ℕ)) (s : ℕ) (sums : Sums) (at : ℕ) → AreSurveyed bs s sums →
@@ -219,7 +219,7 @@ bad-back bs cs s sums at v h = record {
         (all-append IsGood (all_tals v.tals) (all_tals h.good.0) v.good h.good.2),
   );
   bad = h.bad;
-  place = let p : at ≡ sum_by length h.front + h.offset = h.place in
+  at_is = let p : at ≡ sum_by length h.front + h.offset = h.at_is in
       omega (arith, sum_by-append length bs h.front);
 }
 
@@ -323,7 +323,7 @@ broken-one block rest b last not-zeros = record {
   whole = ([], tt);
   broken = not-block block rest b last not-zeros;
   longest = longest-front block rest b last;
-  place = omega arith;
+  at_is = omega arith;
 }
 
 pub form-bad : (block rest : List ℕ) (s at : ℕ) → FollowsTals block rest → AreZeros rest →
@@ -338,7 +338,7 @@ form-bad block rest s at b zeros bad = (
     parts = refl;
     good = ([], tt, tt);
     bad = bad;
-    place = omega arith;
+    at_is = omega arith;
   },
 )
 
@@ -409,7 +409,7 @@ surveyed-room bs s sums v =
 pub broken-room : (bs : List (List ℕ)) (at : ℕ) → IsBroken bs at → at ≤ sum_by length bs
 broken-room bs at h =
     let low : h.offset ≤ length h.block = h.longest.within in
-    let place : at ≡ sum_by length h.front + h.offset = h.place in
+    let here : at ≡ sum_by length h.front + h.offset = h.at_is in
     omega (
       arith,
       ap (sum_by length) h.parts,

@@ -6,13 +6,14 @@ use Rattle.std.specs.List.{AllByRecursion, flat_map}
 use Rattle.std.proofs.lemmas.List.Sums.{sum_by-cons}
 use Rattle.edf_tal.specs.Tal.{Tal, Annotation, IsTal, IsText, ended, AreTalsAndZeros, AreBlocks}
 use Rattle.edf_tal.specs.Tal.{first_tals, all_tals, HaveUtf8Texts, IsTimed, IsTalInWindow, instant}
-use Rattle.edf_tal.specs.Tal.{tal_annotations, annotations, begin}
+use Rattle.edf_tal.specs.Tal.{tal_annotations, annotations, record_start}
 use Rattle.edf_tal.specs.Block.{IsBroken, HasBadText, IsWithinLimits, KeepsPlace, BlocksFail}
 use Rattle.edf_tal.specs.Fault.{tal_fault_number}
 use Rattle.edf_tal.specs.Block.{IsBlocksFault}
 use Rattle.edf_tal.specs.Inside.Scan.{NoTal, IsTalAtFront, KeepsSecond, KeepsOrder}
 use Rattle.edf_tal.specs.Inside.Blocks.{AreSurveyed, IsChecked}
 use Rattle.edf_tal.specs.declared.blocks.Sums.{Sums}
+use Rattle.edf_tal.specs.declared.limits.TheConstants.{MOST_ANNOTATIONS, MOST_TEXT_BYTES}
 use Rattle.edf_tal.specs.declared.place.Place.{Place}
 use Rattle.edf_tal.specs.declared.place.Place.TheVariants.{First, After, Any}
 use Rattle.edf_tal.specs.declared.place.TalFault.{TalFault}
@@ -52,7 +53,7 @@ pub record IsClear (bs : List (List ℕ)) (s : ℕ) (p : Place) (n : ℕ) (tss :
     pub timed : 24 < n → IsTimed (first_tals tss)
     pub second : 25 < n → (p ≡ First → KeepsPlace First s (first_tals tss))
     pub window : 26 < n → AllByRecursion (IsTalInWindow s) (all_tals tss)
-    pub order : 27 < n → KeepsOrder p (begin s (first_tals tss))
+    pub order : 27 < n → KeepsOrder p (record_start s (first_tals tss))
 
 clear : (bs : List (List ℕ)) (s : ℕ) (p : Place) (n : ℕ) (tss : List (List Tal)) →
     IsClear bs s p n tss → (e : TalFault) → tal_fault_number e < n → ¬ BlocksFail bs s p e
@@ -224,7 +225,7 @@ keeps-place First s t ts second order = second
 keeps-place (After before duration) s t ts second order = order
 keeps-place Any s t ts second order = tt
 
--- what is told of a data record by its first TAL, and by what its blocks come to
+-- what the first TAL of a data record says, and what its blocks come to
 module _ (bs : List (List ℕ)) (s : ℕ) (p : Place) (sums : Sums) (t : Tal) (k : Known bs s sums t)
   where
     clear-known : (n : ℕ) → n ≤ 28 → (24 < n → IsEmptyFirst t) → (25 < n → KeepsSecond p t.onset) →
@@ -245,7 +246,8 @@ module _ (bs : List (List ℕ)) (s : ℕ) (p : Place) (sums : Sums) (t : Tal) (k
         Dropped (flat_map (tal_annotations s) (all_tals ((t ∷ k.more) ∷ k.others)))
     first-dropped (xs, e) = dropped-first s t (k.more ++ all_tals k.others) xs e
 
-    within : IsEmptyFirst t → sums.count ≤ 10_001 → sums.text_bytes ≤ 1_000_000 →
+    within : IsEmptyFirst t → sums.count ≤ MOST_ANNOTATIONS + 1 →
+        sums.text_bytes ≤ MOST_TEXT_BYTES →
         IsWithinLimits (annotations s (all_tals ((t ∷ k.more) ∷ k.others)))
     within empty few short =
         let d = first-dropped empty in
@@ -256,7 +258,7 @@ module _ (bs : List (List ℕ)) (s : ℕ) (p : Place) (sums : Sums) (t : Tal) (k
         record { count = omega (arith, d.count); bytes = omega (arith, d.bytes) }
 
     beyond : IsEmptyFirst t → IsWithinLimits (annotations s (all_tals ((t ∷ k.more) ∷ k.others))) →
-        (sums.count ≤ 10_001) × (sums.text_bytes ≤ 1_000_000)
+        (sums.count ≤ MOST_ANNOTATIONS + 1) × (sums.text_bytes ≤ MOST_TEXT_BYTES)
     beyond empty w =
         let d = first-dropped empty in
         let c : sums.count ≡ length (flat_map (tal_annotations s)
@@ -288,7 +290,8 @@ module _ (bs : List (List ℕ)) (s : ℕ) (p : Place) (sums : Sums) (t : Tal) (k
 
     pub fault-many : IsEmptyFirst t → KeepsSecond p t.onset → IsTrue sums.in_window →
         KeepsOrder p (instant s t.onset)
-        → ¬ ((sums.count ≤ 10_001) × (sums.text_bytes ≤ 1_000_000)) → IsBlocksFault bs s p TooMany
+        → ¬ ((sums.count ≤ MOST_ANNOTATIONS + 1) × (sums.text_bytes ≤ MOST_TEXT_BYTES)) →
+        IsBlocksFault bs s p TooMany
     fault-many timed second window order fails = record {
       holds = ((t ∷ k.more) ∷ k.others, k.lists, λ w. fails (beyond timed w));
       first = clear bs s p 28 ((t ∷ k.more) ∷ k.others)
@@ -297,7 +300,7 @@ module _ (bs : List (List ℕ)) (s : ℕ) (p : Place) (sums : Sums) (t : Tal) (k
 
     pub checked : (start : ℕ) → IsEmptyFirst t → KeepsSecond p t.onset → IsTrue sums.in_window →
         start ≡ instant s t.onset → KeepsOrder p start
-        → (sums.count ≤ 10_001) × (sums.text_bytes ≤ 1_000_000) →
+        → (sums.count ≤ MOST_ANNOTATIONS + 1) × (sums.text_bytes ≤ MOST_TEXT_BYTES) →
         IsChecked bs s p start (sums.count - 1)
     checked start empty second window start-is order limits =
         let d = first-dropped empty in

@@ -226,16 +226,17 @@ pub first-timed : (s : ℕ) (rest texts : List ℕ) (t : Tal) (ts : List Tal) �
     NextTal s rest texts t ts → IsTimed ts → (xs : List (List ℕ)) × (t.texts ≡ [] ∷ xs)
 first-timed s rest texts t ts n h = subst IsTimed n.left_is h
 
-pub behind-empty : (s : ℕ) (rest texts : List ℕ) (t : Tal) (ts : List Tal) (xs : List (List ℕ)) →
+pub after-empty : (s : ℕ) (rest texts : List ℕ) (t : Tal) (ts : List Tal) (xs : List (List ℕ)) →
     NextTal s rest texts t ts → t.texts ≡ [] ∷ xs → texts ≡ 20 ∷ ended xs
-behind-empty s rest texts t ts xs n e = n.texts_are ∙ ap ended e
+after-empty s rest texts t ts xs n e = n.texts_are ∙ ap ended e
 
 pub tells-rest : (s : ℕ) (rest texts : List ℕ) (t : Tal) (ts : List Tal) (xs : List (List ℕ))
-    (ahead : Bool) (onset : ℕ) (duration : Option ℕ) (behind : List ℕ) → NextTal s rest texts t ts
-    → t.texts ≡ [] ∷ xs → behind ≡ ended xs → TellsOnset ahead onset t.onset →
+    (ahead : Bool) (onset : ℕ) (duration : Option ℕ) (texts_after : List ℕ) →
+    NextTal s rest texts t ts
+    → t.texts ≡ [] ∷ xs → texts_after ≡ ended xs → TellsOnset ahead onset t.onset →
     TellsDuration duration t.duration →
-    TellsTal behind ahead onset duration s (record t { texts = xs })
-tells-rest s rest texts t ts xs ahead onset duration behind n e b o d = record {
+    TellsTal texts_after ahead onset duration s (record t { texts = xs })
+tells-rest s rest texts t ts xs ahead onset duration texts_after n e b o d = record {
   texts_are = b;
   are_texts = (subst (AllByRecursion IsText) e n.are_texts).1;
   good = (subst (AllByRecursion IsUtf8) e n.good).1;

@@ -3,7 +3,7 @@ use Rattle.std.proofs.Common.{◌≡◌, ℕ, List, [], ◌∷◌, arith, refl, 
 use Rattle.std.specs.List.{AllByRecursion}
 use Rattle.std.proofs.lemmas.Bool.{cases_lt}
 use Rattle.edf_tal.specs.Tal.{Tal, Annotation, AreBlocks, first_tals, all_tals, IsTimed}
-use Rattle.edf_tal.specs.Tal.{IsTalInWindow, annotations, begin}
+use Rattle.edf_tal.specs.Tal.{IsTalInWindow, annotations, record_start}
 use Rattle.edf_tal.specs.Block.{AreRead, IsRead, IsWithinLimits, KeepsPlace, BlocksFail}
 use Rattle.edf_tal.specs.Fault.{tal_fault_number}
 use Rattle.edf_tal.specs.Block.{IsBlocksFault, IsBlockFault}
@@ -25,7 +25,7 @@ pub blocks-one-read : (bs : List (List ℕ)) (s : ℕ) (p : Place) (m n : ℕ) (
 blocks-one-read bs s p m n k l r q =
     let same = one-lists bs r.tals q.tals r.lists q.lists in
     record {
-      start = r.start_is ∙ ap (λ (ts : List (List Tal)). begin s (first_tals ts)) same
+      start = r.start_is ∙ ap (λ (ts : List (List Tal)). record_start s (first_tals ts)) same
           ∙ sym q.start_is;
       list = r.list_is ∙ ap (λ (ts : List (List Tal)). annotations s (all_tals ts)) same
           ∙ sym q.list_is;

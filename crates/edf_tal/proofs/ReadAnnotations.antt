@@ -7,7 +7,7 @@ use Rattle.std.proofs.lemmas.Int.{ints}
 use Rattle.edf_time.specs.Civil.{window}
 use Rattle.edf_tal.specs.Tal.{Tal, Annotation, IsAnnotation, IsText, AreTals, AreBlocks, first_tals}
 use Rattle.edf_tal.specs.Tal.{all_tals, HaveUtf8Texts, IsTimed, IsTalInWindow, instant}
-use Rattle.edf_tal.specs.Tal.{tal_annotations, begin}
+use Rattle.edf_tal.specs.Tal.{tal_annotations, record_start}
 use Rattle.edf_tal.specs.Block.{AreRead, IsRead}
 use Rattle.edf_tal.specs.declared.place.Place.{Place}
 use Rattle.edf_tal.proofs.Joined.{all-append, all-front, all-back}
@@ -61,7 +61,7 @@ of-lists s (b ∷ bs) (ts ∷ tss) ((front, zeros, parts, tals, are), more) g w 
     (all-back (IsTalInWindow s) ts others w)))
 
 begin-below : (s : ℕ) (tss : List (List Tal)) → IsTimed (first_tals tss) →
-    AllByRecursion (IsTalInWindow s) (all_tals tss) → begin s (first_tals tss) < window
+    AllByRecursion (IsTalInWindow s) (all_tals tss) → record_start s (first_tals tss) < window
 begin-below s [] timed w = absurd timed
 begin-below s ([] ∷ tss) timed w = absurd timed
 begin-below s ((t ∷ ts) ∷ tss) timed w = instant-below s t w.0

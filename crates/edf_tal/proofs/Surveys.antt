@@ -1,4 +1,4 @@
--- The walk over the texts of a TAL, and over the TALs of a block.
+-- One after another, the texts of a TAL, and the TALs of a block.
 use Rattle.std.proofs.Common.{◌≡◌, ℕ, ◌+◌, ◌-◌, ◌≤◌, List, [], ◌∷◌, ◌++◌, length, arith, refl, sym}
 use Rattle.std.proofs.Common.{ap, ◌∙◌, append_assoc}
 use Rattle.std.specs.Prelude.{IsUtf8}
@@ -52,7 +52,7 @@ checked-bad texts rest text more count h lacks e bad = record {
   good_texts = h.good;
   is_text = lacks;
   bad = bad;
-  place = omega (arith, ap length h.parts, length-append (ended h.list) rest);
+  at_is = omega (arith, ap length h.parts, length-append (ended h.list) rest);
 }
 
 pub checked-all : (texts rest : List ℕ) (count : ℕ) → HasChecked texts rest count → Lacks 20 rest →

@@ -1,4 +1,4 @@
--- The walk over the TALs of a block.
+-- One after another, the TALs of a block.
 use Rattle.std.proofs.Common.{◌≡◌, ℕ, ◌+◌, ◌-◌, ◌≤◌, ◌<◌, Bool, true, false, ◌&&◌, List, [], ◌∷◌}
 use Rattle.std.proofs.Common.{◌++◌, length, map, arith, refl, sym, ap, ◌∙◌, subst, append_assoc}
 use Rattle.std.proofs.Common.{pos, neg_ℤ, Option, Some, None}
@@ -58,12 +58,12 @@ duration-told None (Some m) t h = absurd t
 duration-told (Some n) None t h = absurd t
 
 -- one TAL more
-pub behind-none : (bytes : List ℕ) → FollowsTals bytes bytes
-behind-none bytes = record { front = []; tals = []; parts = refl; whole = refl }
+pub after-none : (bytes : List ℕ) → FollowsTals bytes bytes
+after-none bytes = record { front = []; tals = []; parts = refl; whole = refl }
 
-pub behind-more : (bytes rest texts more : List ℕ) (t : Tal) → FollowsTals bytes rest →
+pub after-more : (bytes rest texts more : List ℕ) (t : Tal) → FollowsTals bytes rest →
     IsTalAtFront rest texts more t → FollowsTals bytes more
-behind-more bytes rest texts more t b f = record {
+after-more bytes rest texts more t b f = record {
   front = b.front ++ f.front;
   tals = b.tals ++ t ∷ [];
   parts = b.parts ∙ ap (λ (w : List ℕ). b.front ++ w) f.parts
@@ -82,9 +82,9 @@ AreTals-append a b (t ∷ ts) us (f, r, parts, is, more) q = (
   AreTals-append r b ts us more q,
 )
 
-pub behind-behind : (bytes rest more : List ℕ) → FollowsTals bytes rest → FollowsTals rest more →
+pub after-after : (bytes rest more : List ℕ) → FollowsTals bytes rest → FollowsTals rest more →
     FollowsTals bytes more
-behind-behind bytes rest more b c = record {
+after-after bytes rest more b c = record {
   front = b.front ++ c.front;
   tals = b.tals ++ c.tals;
   parts = b.parts ∙ ap (λ (w : List ℕ). b.front ++ w) c.parts
@@ -207,7 +207,7 @@ pub survey-more : (block rest texts more : List ℕ) (s : ℕ) (t : Tal) (in_win
     → IsSurvey block s more next (count + n) (bytes + m)
 survey-more block rest texts more s t in_window next is count bytes n m v f g one both sum =
     let c = counted texts more rest t n f g in
-    let b = behind-more block rest texts more t
+    let b = after-more block rest texts more t
     (record { front = v.front; tals = v.tals; parts = v.parts; whole = v.whole }) f in
     let list = flat_map-append s v.tals t in
     let before : count ≡ length (flat_map (tal_annotations s) v.tals) = v.count_is in
@@ -279,7 +279,7 @@ good-count texts n g =
 
 pub bad-place : (texts : List ℕ) (at : ℕ) → IsBadAmong texts at → at ≤ length texts
 bad-place texts at b =
-    let p : at ≡ length (ended b.good) = b.place in
+    let p : at ≡ length (ended b.good) = b.at_is in
     omega (arith, ap length b.parts, length-append (ended b.good) (b.text ++ 20 ∷ b.back))
 
 -- texts without a byte 0
@@ -328,10 +328,10 @@ bad-front rest texts more t at f b =
       is_text = is-text b.text (Lacks-front 0 b.text (20 ∷ b.back)
           (Lacks-back 0 (ended b.good) (b.text ++ 20 ∷ b.back) none)) b.is_text;
       bad = b.bad;
-      place = let p : at ≡ length (ended b.good) = b.place in omega arith;
+      at_is = let p : at ≡ length (ended b.good) = b.at_is in omega arith;
     }
 
--- the place of the first bad text in the block
+-- where the first bad text begins in the block
 pub survey-bad : (block rest texts more : List ℕ) (s : ℕ) (t : Tal) (in_window : Bool)
     (count bytes at : ℕ) → IsSurvey block s rest in_window count bytes
     → IsTalAtFront rest texts more t → IsBadAmong texts at →
@@ -353,9 +353,9 @@ survey-bad block rest texts more s t in_window count bytes at v f b =
       length-append f.tal.onset f.tal.duration,
     ))
 
-pub survey-behind : (block rest : List ℕ) (s : ℕ) (in_window : Bool) (count bytes : ℕ) →
+pub survey-after : (block rest : List ℕ) (s : ℕ) (in_window : Bool) (count bytes : ℕ) →
     IsSurvey block s rest in_window count bytes → FollowsTals block rest
-survey-behind block rest s in_window count bytes v =
+survey-after block rest s in_window count bytes v =
     record { front = v.front; tals = v.tals; parts = v.parts; whole = v.whole }
 
 pub both-true : (a b : Bool) → IsTrue (a && b) ↔ (IsTrue a × IsTrue b)

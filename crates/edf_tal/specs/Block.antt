@@ -4,8 +4,9 @@ use Rattle.std.specs.Prelude.{sum_by, ℤ, pos, ◌≤ℤ◌, ◌<ℤ◌, Option
 use Rattle.std.specs.List.{AllByRecursion}
 use Rattle.edf_tal.specs.Tal.{Tal, Annotation, IsOnset, IsDurationPart, IsText, ended, AreTals}
 use Rattle.edf_tal.specs.Tal.{AreTalsAndZeros, AreBlocks, first_tals, all_tals, HaveUtf8Texts}
-use Rattle.edf_tal.specs.Tal.{IsTimed, IsTalInWindow, annotations, begin}
+use Rattle.edf_tal.specs.Tal.{IsTimed, IsTalInWindow, annotations, record_start}
 use Rattle.edf_tal.specs.Fault.{tal_fault_number}
+use Rattle.edf_tal.specs.declared.limits.TheConstants.{MOST_ANNOTATIONS, MOST_TEXT_BYTES}
 use Rattle.edf_tal.specs.declared.place.Place.{Place}
 use Rattle.edf_tal.specs.declared.place.Place.TheVariants.{First, After}
 use Rattle.edf_tal.specs.declared.place.TalFault.{TalFault}
@@ -17,13 +18,13 @@ use Rattle.edf_tal.specs.declared.place.TalFault.TheVariants.{Memory}
 -- after the one before
 abbrev pub KeepsPlace : Place → ℕ → List Tal → Type 0
 KeepsPlace First file_start (t ∷ ts) = (pos 0 ≤ℤ t.onset) × (t.onset <ℤ pos (10 ^ 9))
-KeepsPlace (After before duration) file_start ts = before + duration ≤ begin file_start ts
+KeepsPlace (After before duration) file_start ts = before + duration ≤ record_start file_start ts
 KeepsPlace place file_start ts = Unit {0}
 
--- at most 10,000 annotations, and 1,000,000 bytes of texts
+-- the limits of a data record's annotations
 pub record IsWithinLimits (list : List Annotation) : Type 0 where
-  pub count : length list ≤ 10_000
-  pub bytes : sum_by (λ a. length a.text) list ≤ 1_000_000
+  pub count : length list ≤ MOST_ANNOTATIONS
+  pub bytes : sum_by (λ a. length a.text) list ≤ MOST_TEXT_BYTES
 
 -- the blocks give their data record this start and this list: the first block keeps time, and the
 -- lists of all are joined
@@ -36,7 +37,7 @@ pub record AreRead (blocks : List (List ℕ)) (file_start : ℕ) (place : Place)
   pub keeps : KeepsPlace place file_start (first_tals tals)
   pub window : AllByRecursion (IsTalInWindow file_start) (all_tals tals)
   pub limits : IsWithinLimits list
-  pub start_is : start ≡ begin file_start (first_tals tals)
+  pub start_is : start ≡ record_start file_start (first_tals tals)
   pub list_is : list ≡ annotations file_start (all_tals tals)
 
 -- the same of a data record with one block
@@ -51,8 +52,8 @@ pub record IsLongestFront (bytes : List ℕ) (n : ℕ) : Type 0 where
   pub longest : (m : ℕ) (others : List Tal) → m ≤ length bytes → AreTals (take m bytes) others →
       m ≤ n
 
--- the first text that is no UTF-8 is at this place: after whole TALs, and texts of its own TAL,
--- which all are UTF-8
+-- the first text that is not UTF-8 begins at `at`: after whole TALs and texts of its own TAL, all
+-- of which are UTF-8
 pub record IsBadText (bytes : List ℕ) (at : ℕ) : Type 0 where
   pub front : List ℕ
   pub tals : List Tal
@@ -69,7 +70,7 @@ pub record IsBadText (bytes : List ℕ) (at : ℕ) : Type 0 where
   pub good_texts : AllByRecursion (λ x. IsText x × IsUtf8 x) good
   pub is_text : IsText text
   pub bad : ¬ IsUtf8 text
-  pub place : at ≡ length front + length onset + length duration + 1 + length (ended good)
+  pub at_is : at ≡ length front + length onset + length duration + 1 + length (ended good)
 
 -- the first block that is not TALs and zeros: the longest front of whole TALs ends at `offset` in
 -- it, and at `at` in the blocks joined
@@ -82,10 +83,10 @@ pub record IsBroken (blocks : List (List ℕ)) (at : ℕ) : Type 0 where
   pub whole : (tss : List (List Tal)) × AreBlocks front tss
   pub broken : (ts : List Tal) → ¬ AreTalsAndZeros block ts
   pub longest : IsLongestFront block offset
-  pub place : at ≡ sum_by length front + offset
+  pub at_is : at ≡ sum_by length front + offset
 
--- the first text of all blocks that is no UTF-8: it is at `offset` in its block, and at `at` in the
--- blocks joined
+-- the first text of all blocks that is not UTF-8: it is at `offset` in its block, and at `at` in
+-- the blocks joined
 pub record HasBadText (blocks : List (List ℕ)) (at : ℕ) : Type 0 where
   pub front : List (List ℕ)
   pub block : List ℕ
@@ -94,7 +95,7 @@ pub record HasBadText (blocks : List (List ℕ)) (at : ℕ) : Type 0 where
   pub parts : blocks ≡ front ++ block ∷ back
   pub good : (tss : List (List Tal)) × AreBlocks front tss × HaveUtf8Texts (all_tals tss)
   pub bad : IsBadText block offset
-  pub place : at ≡ sum_by length front + offset
+  pub at_is : at ≡ sum_by length front + offset
 
 -- the fault is true of the blocks of a data record that is at this place
 abbrev pub BlocksFail : List (List ℕ) → ℕ → Place → TalFault → Type 0

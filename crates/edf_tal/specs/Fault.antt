@@ -1,5 +1,5 @@
 -- The faults of the blocks of a data record: their numbers, by which they are ordered, their names,
--- and the places that they name.
+-- and the offsets that they name.
 use Rattle.std.specs.Prelude.{ℕ, List, Option, Some, None, codes}
 use Rattle.edf_tal.specs.declared.place.TalFault.{TalFault}
 use Rattle.edf_tal.specs.declared.place.TalFault.TheVariants.{Tal as NotTals, Text, NotTimed}
@@ -26,7 +26,7 @@ tal_fault_name Order = codes "Order"
 tal_fault_name TooMany = codes "TooMany"
 tal_fault_name Memory = codes "Memory"
 
--- the place, which counts from 0 over the blocks joined
+-- the offset, which counts from 0 over the blocks joined
 abbrev pub tal_fault_offset : TalFault → Option ℕ
 tal_fault_offset (NotTals offset) = Some offset
 tal_fault_offset (Text offset) = Some offset

@@ -97,9 +97,9 @@ abbrev pub annotations : ℕ → List Tal → List Annotation
 annotations file_start ts = drop 1 (flat_map (tal_annotations file_start) ts)
 
 -- the data record's start, by the TALs of its first block
-abbrev pub begin : ℕ → List Tal → ℕ
-begin file_start [] = file_start
-begin file_start (t ∷ ts) = instant file_start t.onset
+abbrev pub record_start : ℕ → List Tal → ℕ
+record_start file_start [] = file_start
+record_start file_start (t ∷ ts) = instant file_start t.onset
 
 -- the onset is an instant of the window, and the duration is shorter than the window
 pub record IsTalInWindow (file_start : ℕ) (t : Tal) : Type 0 where

@@ -25,7 +25,7 @@ pub(crate) struct Sums {
     pub(crate) text_bytes: usize,
 }
 
-/// What some blocks are that are TALs and zeros.
+/// What is found in blocks that are TALs and zeros.
 #[derive(Clone, Copy)]
 pub(crate) enum Form {
     /// All their texts are UTF-8.
@@ -40,8 +40,8 @@ fn are_zeros(bytes: &[u8]) -> bool
     bytes.iter().all(|b| *b == 0)
 }
 
-/// What a block is that is TALs and zeros; of any other, where its longest front of whole TALs
-/// ends.
+/// What is found in a block that is TALs and zeros. For any other the answer is where its longest
+/// front of whole TALs ends.
 fn form_of(block: &[u8], file_start: Instant) -> Result<Form, usize>
     ensures { MatchResult result (HasForm (block.now ∷ []) file_start) (IsBroken (block.now ∷ [])) }
 {
@@ -65,7 +65,7 @@ fn form_of(block: &[u8], file_start: Instant) -> Result<Form, usize>
     }
 }
 
-/// What blocks are and those after them, which begin at `start`.
+/// What is found in blocks and in others after them, which begin at `start`.
 fn joined(form: Form, start: usize, next: Form) -> Form
     requires { (s : ℕ) × (before after : List (List ℕ)) ×
         HasForm before s form × (start ≡ sum_by length before) × HasForm after s next
@@ -87,8 +87,8 @@ fn joined(form: Form, start: usize, next: Form) -> Form
     }
 }
 
-/// Goes over the blocks of a data record, each by itself. A text that is not UTF-8 does not end it:
-/// a later block may not be TALs and zeros, which is told first.
+/// Goes over the blocks of a data record, each by itself. A text that is not UTF-8 does not end it,
+/// since a later block that is not TALs and zeros is the first fault.
 pub(crate) fn survey_blocks(
     block: &[u8],
     sizes: &[usize],
@@ -107,7 +107,7 @@ pub(crate) fn survey_blocks(
     });
     for size in sizes {
         let start = block.len() - rest.len();
-        let (front, behind) = rest.split_at(*size);
+        let (front, back) = rest.split_at(*size);
         match form_of(front, file_start) {
             Ok(next) => form = joined(form, start, next),
             Err(offset) => {
@@ -116,7 +116,7 @@ pub(crate) fn survey_blocks(
                 });
             }
         }
-        rest = behind;
+        rest = back;
     }
     match form {
         Form::Good(sums) => Ok(sums),
@@ -141,9 +141,9 @@ pub(crate) fn push_blocks(
 {
     let mut rest = block;
     for size in sizes {
-        let (front, behind) = rest.split_at(*size);
+        let (front, back) = rest.split_at(*size);
         push_tals(alloc, list, front, file_start)?;
-        rest = behind;
+        rest = back;
     }
     Ok(())
 }

@@ -1,21 +1,16 @@
 ghost use Rattle.std.specs.Prelude.{◌≡◌, ℕ, ◌+◌, ◌^◌, ◌≤◌, ◌<◌, ◌↔◌, ℤ, MatchResult, IsTrue};
-ghost use Rattle.std.specs.Prelude.{List, ◌∷◌, length, sum};
+ghost use Rattle.std.specs.Prelude.{List, ◌∷◌};
 ghost use Rattle.edf_tal.specs.Block.{IsBlocksFault, cut};
 ghost use Rattle.edf_tal.specs.Inside.Scan.{TellsOnset, KeepsSecond, KeepsOrder};
-ghost use Rattle.edf_tal.specs.Inside.Blocks.{AreSurveyed, IsChecked};
+ghost use Rattle.edf_tal.specs.Inside.Blocks.{AreSizes, AreSurveyed, IsChecked};
 ghost use Rattle.edf_tal.specs.declared.place.Place.{Place};
 
 use crate::blocks::{Sums, survey_blocks};
+use crate::limits::{MOST_ANNOTATIONS, MOST_TEXT_BYTES};
 use crate::place::{Place, TalFault};
 use crate::scan::{TEXT_END, first_tal};
 use crate::survey::onset_instant;
 use edf_time::Instant;
-
-/// The most annotations that a data record may have, without the time-keeping one.
-const MOST_ANNOTATIONS: usize = 10_000;
-
-/// The most bytes that their texts may have together.
-const MOST_TEXT_BYTES: usize = 1_000_000;
 
 /// What a data record has whose blocks have no fault.
 #[derive(Clone, Copy)]
@@ -63,13 +58,15 @@ fn keeps_order(place: &Place, start: Instant) -> bool
 
 /// Whether annotations, the time-keeping one among them, keep the limits.
 fn is_within_limits(count: usize, text_bytes: usize) -> bool
-    ensures { IsTrue result ↔ ((count ≤ 10_001) × (text_bytes ≤ 1_000_000)) }
+    ensures { IsTrue result
+        ↔ ((count ≤ MOST_ANNOTATIONS + 1) × (text_bytes ≤ MOST_TEXT_BYTES)) }
 {
     count <= MOST_ANNOTATIONS + 1 && text_bytes <= MOST_TEXT_BYTES
 }
 
-/// Checks the TALs of a data record: the time-keeping annotation, then the place, the window, the
-/// order and the limits. Its first block is known, and what all its blocks come to.
+/// Checks the TALs of a data record: the time-keeping annotation, the first onset, the window, the
+/// order and the limits, one after another. `first` is its first block, and `sums` what all its
+/// blocks come to.
 fn check_tals(
     first: &[u8],
     sums: Sums,
@@ -116,8 +113,7 @@ pub(crate) fn check_blocks(
     file_start: Instant,
     place: Place,
 ) -> Result<Checked, TalFault>
-    requires some { 1 ≤ length sizes.now }
-    requires sizes { sum sizes.now ≡ length block.now }
+    requires { AreSizes sizes.now block.now }
     ensures { MatchResult result
         (λ c. IsChecked (cut sizes.now block.now) file_start place c.start c.count)
         (IsBlocksFault (cut sizes.now block.now) file_start place) }

@@ -11,6 +11,8 @@ ghost use Rattle.edf_tal.specs.declared.place.TalFault.TheVariants.{Memory};
 ghost use Rattle.edf_tal.specs.declared.place.Place.{Place};
 ghost use Rattle.edf_tal.specs.declared.place.Place.TheVariants.{First, After, Any};
 
+use crate::limits::MOST_CANONICAL_BLOCK_BYTES;
+
 /// Bytes are one TAL at most.
 pub fn one_tal()
     ensures { (b : List ℕ) (t u : Tal) → IsTal b t → IsTal b u → t ≡ u }
@@ -66,7 +68,7 @@ pub fn read_again()
         list }
 {}
 
-/// What blocks give: an instant of the window, and annotations within the limits.
+/// What blocks give is an instant of the window and annotations within the limits.
 pub fn read_annotations()
     ensures start { (bs : List (List ℕ)) (s : ℕ) (p : Place) (start : ℕ)
         (list : List Annotation) → AreRead bs s p start list → start < window }
@@ -76,7 +78,7 @@ pub fn read_annotations()
         (list : List Annotation) → AreRead bs s p start list → IsWithinLimits list }
 {}
 
-/// What is read at a place is read without a place too.
+/// What is read at some place is read at any place.
 pub fn any_place()
     ensures { (bs : List (List ℕ)) (s : ℕ) (p : Place) (start : ℕ) (list : List Annotation) →
         AreRead bs s p start list → AreRead bs s Any start list }
@@ -91,9 +93,9 @@ pub fn one_writing()
         block_text base m k ≡ block_text base n l → (m ≡ n) × (k ≡ l) }
 {}
 
-/// A canonical block within the limits has at most 1,450,045 bytes.
+/// How many bytes a canonical block within the limits has at most.
 pub fn most_bytes()
     ensures { (base start : ℕ) (list : List Annotation) →
         base < window → start < window → IsWithinLimits list → AllByRecursion IsAnnotation list →
-        length (block_text base start list) ≤ 1_450_045 }
+        length (block_text base start list) ≤ MOST_CANONICAL_BLOCK_BYTES }
 {}

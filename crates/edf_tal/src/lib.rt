@@ -8,6 +8,8 @@
 //! - [`write_block`], [`block_len`]: the one block that a data record of a canonical file has, and
 //!   its length.
 //! - [`same_notes`]: whether two lists have the same annotations.
+//! - [`MOST_ANNOTATIONS`], [`MOST_TEXT_BYTES`]: the limits of a data record's annotations;
+//!   [`MOST_CANONICAL_BLOCK_BYTES`], [`MOST_CANONICAL_BLOCK_SAMPLES`]: those of their block.
 //! - [`laws`]: the blocks of a data record have one answer at each place, and a written block is
 //!   read again; functions that do nothing, each with a law for a contract.
 #![tactic(auto)]
@@ -15,6 +17,7 @@
 mod blocks;
 mod check;
 pub mod laws;
+mod limits;
 mod note;
 mod place;
 mod read;
@@ -22,6 +25,9 @@ mod scan;
 mod survey;
 mod write;
 
+pub use limits::{
+    MOST_ANNOTATIONS, MOST_CANONICAL_BLOCK_BYTES, MOST_CANONICAL_BLOCK_SAMPLES, MOST_TEXT_BYTES,
+};
 pub use note::Note;
 pub use place::{Place, TalFault};
 pub use read::{read_block, read_blocks};

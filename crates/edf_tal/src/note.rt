@@ -8,6 +8,7 @@ ghost use Rattle.edf_time.specs.Civil.{window};
 
 use crate::scan::{TAL_END, TEXT_END};
 use edf_time::Instant;
+use edf_time::laws::instant_is_in_window;
 use std::marker::Model;
 
 /// An annotation of a data record: an instant, a duration in nanoseconds or none, and a text (EDF+,
@@ -57,8 +58,8 @@ pub(crate) fn is_duration(duration: Option<u64>) -> bool
 impl Note {
     /// The annotation, or `None` where no TAL can hold it.
     ///
-    /// `duration` counts nanoseconds and is to be below 6,311,433,600,000,000,000, the length of
-    /// the years 1985 to 2184; `text` is to have no byte 0 or 20.
+    /// `duration` counts nanoseconds. A TAL can hold it where it is shorter than the window of
+    /// instants, the years 1985 to 2184, and the text where it has no byte 0 or 20.
     pub fn new(onset: Instant, duration: Option<u64>, text: String) -> Option<Note>
         ensures found { IsSome result
             ↔ (ForSome duration (λ d. d < window) × IsText (string_bytes text)) }
@@ -78,8 +79,7 @@ impl Note {
         requires text { IsText (string_bytes text) }
         ensures { result ≡ record { onset = onset; duration = duration; text = string_bytes text } }
     {
-        // the call tells the prover that the instant lies in the window
-        let _in_window = onset.nanos();
+        instant_is_in_window(onset);
         Note {
             onset,
             duration,
@@ -95,7 +95,7 @@ impl Note {
         self.onset
     }
 
-    /// Its duration in nanoseconds, or none: below 6,311,433,600,000,000,000.
+    /// Its duration in nanoseconds, shorter than the window of instants, or none.
     pub fn duration(&self) -> Option<u64>
         ensures value { result ≡ self.now.duration }
         ensures note { IsAnnotation self.now }

@@ -5,7 +5,7 @@ ghost use Rattle.edf_time.specs.Civil.{window};
 ghost use Rattle.edf_tal.specs.Tal.{Tal, Annotation, IsText, IsTimed, tal_annotations, annotations};
 ghost use Rattle.edf_tal.specs.Block.{AreRead, IsBlocksRefusal, IsRead, IsBlockRefusal, cut};
 ghost use Rattle.edf_tal.specs.Inside.Scan.{AreTexts, TellsTal};
-ghost use Rattle.edf_tal.specs.Inside.Blocks.{AreSoundTals};
+ghost use Rattle.edf_tal.specs.Inside.Blocks.{AreSizes, AreSoundTals};
 ghost use Rattle.edf_tal.specs.declared.place.Place.{Place};
 
 use crate::blocks::push_blocks;
@@ -31,7 +31,7 @@ fn make_note(
     ensures { IfOk result
         (λ n. n ≡ record { onset = onset; duration = duration; text = text.now }) }
 {
-    // the survey of the block told that its texts are UTF-8
+    // a survey of the block found that its texts are UTF-8
     let text = unsafe { from_utf8_unchecked(text) };
     let copy = String::from_str(alloc, text)?;
     Ok(Note::of_parts(onset, duration, copy))
@@ -98,7 +98,7 @@ pub(crate) fn push_tals(
 }
 
 /// What follows an empty first text.
-fn behind_empty(texts: &[u8]) -> &[u8]
+fn after_empty(texts: &[u8]) -> &[u8]
     requires { (rest : List ℕ) × (texts.now ≡ 20 ∷ rest) }
     ensures { (rest : List ℕ) → texts.now ≡ 20 ∷ rest → result.now ≡ rest }
 {
@@ -122,7 +122,7 @@ fn push_first(
     let Some(first) = first_tal(block) else {
         unreachable!()
     };
-    let texts = behind_empty(first.texts);
+    let texts = after_empty(first.texts);
     push_tal(alloc, list, first.times, texts, file_start)?;
     push_tals(alloc, list, first.rest, file_start)
 }
@@ -135,8 +135,7 @@ fn list_notes(
     count: usize,
     file_start: Instant,
 ) -> Result<Vec<Note>, AllocError>
-    requires some { 1 ≤ length sizes.now }
-    requires sizes { sum sizes.now ≡ length block.now }
+    requires sizes { AreSizes sizes.now block.now }
     requires read { (place : Place) × (start : ℕ) × (list : List Annotation)
         × AreRead (cut sizes.now block.now) file_start place start list }
     ensures { (place : Place) (start : ℕ) (list : List Annotation) →
@@ -163,7 +162,7 @@ fn list_notes(
 /// other annotations, block after block. All annotations of a TAL share its onset and duration.
 ///
 /// # Errors
-/// The first of E22 to E28 that is true, as `TalFault` tells them: `FirstOnset` only at
+/// The first of E22 to E28 that is true, as `TalFault` describes them: `FirstOnset` only at
 /// `Place::First`, `Order` only at `Place::After`. Offsets count from 0 over `block`, so over the
 /// blocks joined; E22 names the first block that is no list of TALs. `Memory` where an allocation
 /// was refused; the blocks then have no fault.
@@ -190,7 +189,7 @@ pub fn read_blocks(
 }
 
 /// The start and the annotations of a data record that has one annotations block, as `read_blocks`
-/// tells them.
+/// reads them.
 ///
 /// # Errors
 /// Those of `read_blocks`.

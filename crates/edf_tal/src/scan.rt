@@ -140,7 +140,7 @@ fn is_utf8(text: &[u8]) -> bool
     simdutf8::basic::from_utf8(text).is_ok()
 }
 
-/// How many texts there are, or the place of the first that is no UTF-8.
+/// How many texts there are, or where the first begins that is not UTF-8.
 pub(crate) fn check_texts(texts: &[u8]) -> Result<usize, usize>
     ensures { MatchResult result (AreGoodTexts texts.now) (IsBadAmong texts.now) }
 {

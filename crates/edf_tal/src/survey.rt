@@ -23,7 +23,7 @@ pub(crate) struct Totals<'a> {
     pub(crate) text_bytes: usize,
 }
 
-/// The first text that is no UTF-8.
+/// The first text that is not UTF-8.
 #[derive(Clone, Copy)]
 pub(crate) struct BadText<'a> {
     pub(crate) offset: usize,
@@ -60,7 +60,7 @@ pub(crate) fn is_in_window(times: Times, file_start: Instant) -> bool
 }
 
 /// What follows the TALs at the front.
-pub(crate) fn behind_tals(bytes: &[u8]) -> &[u8]
+pub(crate) fn after_tals(bytes: &[u8]) -> &[u8]
     ensures whole { FollowsTals bytes.now result.now }
     ensures last { NoTal result.now }
 {
@@ -71,7 +71,7 @@ pub(crate) fn behind_tals(bytes: &[u8]) -> &[u8]
     rest
 }
 
-/// Goes over the TALs at the front.
+/// What the TALs at the front come to, or the first of their texts that is not UTF-8.
 pub(crate) fn survey(block: &[u8], file_start: Instant) -> Result<Totals<'_>, BadText<'_>>
     ensures { MatchResult result
         (λ s. IsSurvey block.now file_start s.rest.now s.in_window s.count s.text_bytes
@@ -93,7 +93,7 @@ pub(crate) fn survey(block: &[u8], file_start: Instant) -> Result<Totals<'_>, Ba
             Err(at) => {
                 return Err(BadText {
                     offset: block.len() - tal.rest.len() - 1 - tal.texts.len() + at,
-                    rest: behind_tals(tal.rest),
+                    rest: after_tals(tal.rest),
                 });
             }
         }

@@ -8,6 +8,7 @@ ghost use Rattle.edf_tal.specs.Tal.{IsAnnotation};
 ghost use Rattle.edf_tal.specs.Block.{IsWithinLimits};
 ghost use Rattle.edf_tal.specs.Canonical.{onset_text, duration_text, tal_text, block_text};
 
+use crate::limits::{MOST_CANONICAL_BLOCK_BYTES, MOST_TEXT_BYTES, MOST_TIMES_BYTES};
 use crate::note::Note;
 use crate::scan::{DURATION_MARK, TAL_END, TEXT_END};
 use edf_time::{Instant, seconds_len, write_seconds};
@@ -107,21 +108,21 @@ fn duration_len(duration: Option<u64>) -> usize
 /// The length of the TAL of one annotation.
 fn annotation_len(base: Instant, onset: Instant, duration: Option<u64>, text: &[u8]) -> usize
     requires duration { IfSome duration (λ d. d < window) }
-    requires text { length text.now ≤ 1_000_000 }
+    requires text { length text.now ≤ MOST_TEXT_BYTES }
     ensures value { result
         ≡ length (tal_text base (record { onset = onset; duration = duration; text = text.now })) }
-    ensures bound { result ≤ 45 + length text.now }
+    ensures bound { result ≤ MOST_TIMES_BYTES + length text.now }
 {
     1 + short_len(distance(base, onset)) + duration_len(duration) + 3 + text.len()
 }
 
 /// The length in bytes of the block that `write_block` writes (EDF+, time-stamped annotations
-/// lists): at most 1,450,045, of 10,000 annotations at most, with texts of 1,000,000 bytes in all.
-/// Contracts also learn what each annotation of the list is.
+/// lists), at most `MOST_CANONICAL_BLOCK_BYTES`. There are at most `MOST_ANNOTATIONS` annotations,
+/// with texts of `MOST_TEXT_BYTES` in all. The contract also says what holds of each of them.
 pub fn block_len(start: Instant, notes: &[Note], base: Instant) -> usize
     requires { IsWithinLimits notes.now }
     ensures value { result ≡ length (block_text base start notes.now) }
-    ensures bound { result ≤ 1_450_045 }
+    ensures bound { result ≤ MOST_CANONICAL_BLOCK_BYTES }
     ensures annotations { AllByRecursion IsAnnotation notes.now }
 {
     let mut len = annotation_len(base, start, None, b"");
@@ -136,8 +137,8 @@ pub fn block_len(start: Instant, notes: &[Note], base: Instant) -> usize
 ///
 /// The time-keeping annotation is alone in the first TAL, then each annotation in a TAL of its own,
 /// in order. Onsets count from `base`, with `+` where they do not lie before it; every decimal is
-/// the shortest. There are at most 10,000 annotations, with texts of 1,000,000 bytes in all, so the
-/// block has at most 1,450,045 bytes.
+/// the shortest. There are at most `MOST_ANNOTATIONS` annotations, with texts of `MOST_TEXT_BYTES`
+/// in all, so the block has at most `MOST_CANONICAL_BLOCK_BYTES`.
 ///
 /// # Errors
 /// Where memory runs out.

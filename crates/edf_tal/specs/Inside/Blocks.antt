@@ -1,5 +1,5 @@
 -- Words of what is known of blocks on the way.
-use Rattle.std.specs.Prelude.{◌≡◌, ℕ, List, [], ◌∷◌, length, sum_by, IsTrue, ◌↔◌}
+use Rattle.std.specs.Prelude.{◌≡◌, ℕ, ◌≤◌, List, [], ◌∷◌, length, sum, sum_by, IsTrue, ◌↔◌}
 use Rattle.std.specs.List.{AllByRecursion, flat_map}
 use Rattle.edf_tal.specs.Tal.{Tal, Annotation, AreTalsAndZeros, AreBlocks, all_tals, HaveUtf8Texts}
 use Rattle.edf_tal.specs.Tal.{IsTalInWindow, tal_annotations}
@@ -8,6 +8,11 @@ use Rattle.edf_tal.specs.declared.place.Place.{Place}
 use Rattle.edf_tal.specs.declared.blocks.Sums.{Sums}
 use Rattle.edf_tal.specs.declared.blocks.Form.{Form}
 use Rattle.edf_tal.specs.declared.blocks.Form.TheVariants.{Good, BadText}
+
+-- the sizes of blocks, of one at least, that are the bytes together
+pub record AreSizes (sizes block : List ℕ) : Type 0 where
+  pub some : 1 ≤ length sizes
+  pub sum_is : sum sizes ≡ length block
 
 -- blocks of TALs with UTF-8 texts, and what these come to
 pub record AreSurveyed (blocks : List (List ℕ)) (file_start : ℕ) (sums : Sums) : Type 0 where

@@ -65,7 +65,7 @@ pub record IsTalAtFront (bytes texts rest : List ℕ) (t : Tal) : Type 0 where
   pub tal : IsTal front t
   pub texts_are : texts ≡ ended t.texts
 
--- the first of the texts that is no UTF-8
+-- the first of the texts that is not UTF-8
 pub record IsBadAmong (texts : List ℕ) (at : ℕ) : Type 0 where
   pub good : List (List ℕ)
   pub text : List ℕ
@@ -74,7 +74,7 @@ pub record IsBadAmong (texts : List ℕ) (at : ℕ) : Type 0 where
   pub good_texts : AllByRecursion (λ x. Lacks 20 x × IsUtf8 x) good
   pub is_text : Lacks 20 text
   pub bad : ¬ IsUtf8 text
-  pub place : at ≡ length (ended good)
+  pub at_is : at ≡ length (ended good)
 
 -- this many texts, all of them UTF-8
 pub record AreGoodTexts (texts : List ℕ) (count : ℕ) : Type 0 where

@@ -30,7 +30,7 @@ invariant_of-held-2 g c =
     record {
       within = omega (
         arith,
-        c.if-bytes-ge-CAPACITY.false,
+        c.if-bytes-ge-MOST_HELD.false,
         c.flush.new.held.bytes.ok.0,
         none,
         c.hold-2.ensures.grown,

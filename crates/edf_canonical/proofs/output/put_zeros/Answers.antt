@@ -2,22 +2,23 @@ use Rattle.std.proofs.Common.{arith, ◌≡◌, ◌∙◌, ap, sym, ℕ, ◌-◌
 use Rattle.std.proofs.Common.{take}
 use Rattle.std.proofs.lemmas.List.{take-replicate, replicate-append-replicate}
 use Rattle.std.proofs.lemmas.Result.{err_from_is_err_and}
+use Rattle.edf_canonical.specs.declared.output.TheConstants.{MOST_ZEROS}
 use Rattle.edf_canonical.proofs.Puts.{writes-then, writes-same, put-fails-between}
 use Rattle.edf_canonical.proofs.output.put_zeros.Goals as goal
 
-zeros-more : (count left piece : ℕ) → piece ≤ left → left ≤ count → piece ≤ 4_096
+zeros-more : (count left piece : ℕ) → piece ≤ left → left ≤ count → piece ≤ MOST_ZEROS
     → replicate {A = ℕ} (count - left) 0
-    ++ take piece (replicate {A = ℕ} 4_096 0) ≡ replicate {A = ℕ} (count - (left - piece)) 0
+    ++ take piece (replicate {A = ℕ} MOST_ZEROS 0) ≡ replicate {A = ℕ} (count - (left - piece)) 0
 zeros-more count left piece low high small =
     ap (λ (l : List ℕ). replicate {A = ℕ} (count - left) 0
-    ++ l) (take-replicate piece 4_096 0 small)
+    ++ l) (take-replicate piece MOST_ZEROS 0 small)
     ∙ replicate-append-replicate (count - left) piece 0
     ∙ ap (λ n. replicate {A = ℕ} n 0) (let e : (count - left) + piece ≡ count - (left - piece) =
     omega arith in e)
 
-zeros-all : (count left piece : ℕ) → piece ≤ left → left ≤ count → piece ≤ 4_096
+zeros-all : (count left piece : ℕ) → piece ≤ left → left ≤ count → piece ≤ MOST_ZEROS
     → replicate {A = ℕ} count 0 ≡ (replicate {A = ℕ} (count - left) 0
-    ++ take piece (replicate {A = ℕ} 4_096 0)) ++ replicate {A = ℕ} (left - piece) 0
+    ++ take piece (replicate {A = ℕ} MOST_ZEROS 0)) ++ replicate {A = ℕ} (left - piece) 0
 zeros-all count left piece low high small =
     sym (ap (λ (l : List ℕ). l ++ replicate {A = ℕ} (left - piece) 0)
     (zeros-more count left piece low high small)

@@ -1,4 +1,4 @@
-use Rattle.std.proofs.Common.{◌+◌, ◌++◌, length, drop, arith, refl, ◌∙◌, take_at}
+use Rattle.std.proofs.Common.{◌+◌, ◌++◌, length, drop, arith, refl, ◌∙◌, take_at, rules}
 use Rattle.std.proofs.lemmas.List.{length-take}
 use Rattle.edf_fragment.proofs.Layouts.{sizes-some}
 use Rattle.edf_fragment.proofs.Sound.{read-kept}
@@ -22,8 +22,8 @@ within_limits-requires g c =
     ))
     c.in-Ok-read_blocks.ensures
 
-pub returns-in-Ok-read_blocks-clause-step : goal.returns-in-Ok-read_blocks-clause-step
-returns-in-Ok-read_blocks-clause-step g c =
+pub returns-in-Ok-read_blocks-clause-read : goal.returns-in-Ok-read_blocks-clause-read
+returns-in-Ok-read_blocks-clause-read g c =
     let l = c.args.header.now in
     let from = c.args.progress in
     let left = g.R.Input.remaining c.args.input.now in
@@ -37,13 +37,16 @@ returns-in-Ok-read_blocks-clause-step g c =
     (c.as_slice.ensures.value ∙ take_at filled _ _ (omega arith)) c.cut_record.ensures.samples
     (c.as_slice-joined.ensures.value ∙ take_at c.cut_record.new.joined _ _ (omega arith)
     ∙ c.cut_record.ensures.joined) (c.as_slice-2.ensures.value ∙ c.requires.room.sizes) in
-    given_record l from left rest whole c.cut_record.new.samples _ c.start.result
-    c.within_limits.result _ cut c.start.ensures c.in-Ok-read_blocks.ensures
-    c.within_limits.ensures
-    (take_at c.cut_record.new.samples _ c.in-Ok.samples.len (omega arith))
+    record {
+      step = given_record l from left rest whole c.cut_record.new.samples _ c.start.result
+          c.within_limits.result _ cut c.start.ensures c.in-Ok-read_blocks.ensures
+          c.within_limits.ensures
+          (take_at c.cut_record.new.samples _ c.in-Ok.samples.len (omega arith));
+      counted = search rules;
+    }
 
-pub returns-in-Err-clause-step : goal.returns-in-Err-clause-step
-returns-in-Err-clause-step g c =
+pub returns-in-Err-clause-read : goal.returns-in-Err-clause-read
+returns-in-Err-clause-read g c =
     let l = c.args.header.now in
     let from = c.args.progress in
     let left = g.R.Input.remaining c.args.input.now in
@@ -57,6 +60,9 @@ returns-in-Err-clause-step g c =
     (c.as_slice.ensures.value ∙ take_at filled _ _ (omega arith)) c.cut_record.ensures.samples
     (c.as_slice-joined.ensures.value ∙ take_at c.cut_record.new.joined _ _ (omega arith)
     ∙ c.cut_record.ensures.joined) (c.as_slice-2.ensures.value ∙ c.requires.room.sizes) in
-    told_cut l from left rest whole c.cut_record.new.samples _ c.start.result (from.given + 1)
-    c.in-Err.fault c.block_refusal.result cut c.start.ensures refl
-    c.block_refusal.ensures.memory c.block_refusal.ensures.other c.in-Err.ensures
+    record {
+      step = told_cut l from left rest whole c.cut_record.new.samples _ c.start.result
+          (from.given + 1) c.in-Err.fault c.block_refusal.result cut c.start.ensures refl
+          c.block_refusal.ensures.memory c.block_refusal.ensures.other c.in-Err.ensures;
+      counted = search rules;
+    }

@@ -6,32 +6,37 @@ use Rattle.edf_fragment.specs.Whole.{ReadsFragment}
 use Rattle.edf_fragment.proofs.Fragments.{open_refused, fragment_read, records_refused}
 use Rattle.edf_fragment.proofs.whole.read_fragment.Goals as goal
 
-pub returns-in_err-fragment-clause-answer : goal.returns-in_err-fragment-clause-answer
-returns-in_err-fragment-clause-answer g c = let told =
-    open_refused _ _ _ c.in_err-fragment.ensures.step in search rules
+pub returns-in_err-fragment : goal.returns-in_err-fragment
+returns-in_err-fragment g c = record {
+  step = let told = open_refused _ _ _ c.in_err-fragment.ensures.step in search rules;
+  counted = search rules;
+}
 
-pub returns-clause-answer : goal.returns-clause-answer
-returns-clause-answer g c =
+pub returns : goal.returns
+returns g c =
     let same : c.into_header.result ≡ c.in_ok-fragment.fragment.header = c.into_header.ensures
     ∙ c.in_ok-records.ensures.header in
     let left = g.R.Input.remaining c.args.input.now in
     let rest = g.R.Input.remaining c.read_records.new.input in
-    subst (λ (l : Layout). ReadsFragment left rest l c.in_ok-records.records.items) (sym same)
-    (fragment_read _ _ _ c.in_ok-fragment.fragment.header _ c.in_ok-fragment.ensures.step.0
-    c.in_ok-records.ensures.answer)
+    record {
+      step = subst (λ (l : Layout). ReadsFragment left rest l c.in_ok-records.records.items)
+          (sym same)
+          (fragment_read _ _ _ c.in_ok-fragment.fragment.header _
+          c.in_ok-fragment.ensures.step.0 c.in_ok-records.ensures.read.step);
+      counted = search rules;
+    }
 
-pub returns-in_err-records-clause-answer : goal.returns-in_err-records-clause-answer
-returns-in_err-records-clause-answer g c =
+pub returns-in_err-records : goal.returns-in_err-records
+returns-in_err-records g c =
     let p = err_from_is_err_and c.from_residual-in_err-records.result
     c.from_residual-in_err-records.ensures.1 in
-    rw (p.1, p.2) (records_refused _ _ _ c.in_ok-fragment.fragment.header _
-    c.in_ok-fragment.ensures.step.0 c.in_err-records.ensures.answer)
-
-pub returns-in_err-records-clause-counted : goal.returns-in_err-records-clause-counted
-returns-in_err-records-clause-counted g c =
-    let told : CountsFault (g.R.Input.failures c.args.input.now)
+    let counted : CountsFault (g.R.Input.failures c.args.input.now)
     (g.R.Input.failures c.read_records.new.input) c.in_err-records.field-0.0 =
     subst (λ (n : ℕ). CountsFault n (g.R.Input.failures c.read_records.new.input)
     c.in_err-records.field-0.0) c.in_ok-fragment.ensures.counted
-    c.in_err-records.ensures.counted in
-    search rules
+    c.in_err-records.ensures.read.counted in
+    rw (p.1, p.2) (record {
+      step = records_refused _ _ _ c.in_ok-fragment.fragment.header _
+          c.in_ok-fragment.ensures.step.0 c.in_err-records.ensures.read.step;
+      counted = counted;
+    })

@@ -27,7 +27,7 @@ records-preserved g c =
     from to r before.so_far to_is gives in
     record {
       header = c.in_ok-record.ensures.header ∙ before.header;
-      status = ap (λ (x : Progress). x.status) to_is;
+      status = ap (λ (x : Progress). x.state) to_is;
       so_far = subst (λ (x : List DataRecord).
           HasRead l (g.R.Input.remaining c.args.input.now) rest x to) (sym list) read;
       count = c.in_ok-record.ensures.counted ∙ before.count;

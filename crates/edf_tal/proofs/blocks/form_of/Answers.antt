@@ -1,13 +1,13 @@
 use Rattle.std.proofs.Common.{refl, arith}
 use Rattle.edf_tal.proofs.Joined.{broken-one, form-bad, surveyed-one}
-use Rattle.edf_tal.proofs.Totals.{survey-behind}
+use Rattle.edf_tal.proofs.Totals.{survey-after}
 use Rattle.edf_tal.proofs.blocks.form_of.Goals as goal
 
 pub returns-then-not-are_zeros : goal.returns-then-not-are_zeros
 returns-then-not-are_zeros c =
     let v = c.in-Ok.totals in
     broken-one c.args.block.now v.rest.now
-    (survey-behind c.args.block.now v.rest.now c.args.file_start v.in_window v.count
+    (survey-after c.args.block.now v.rest.now c.args.file_start v.in_window v.count
     v.text_bytes c.in-Ok.ensures.0)
     c.in-Ok.ensures.1 (λ z. absurd (grind (
       arith,

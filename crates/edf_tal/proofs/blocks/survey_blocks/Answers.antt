@@ -1,8 +1,8 @@
 use Rattle.std.proofs.Common.{[], ◌∷◌, arith, subst}
 use Rattle.edf_tal.specs.Block.{cut}
 use Rattle.edf_tal.specs.Inside.Blocks.{HasForm}
-use Rattle.edf_tal.proofs.Cuts.{HasNext, next-block, walked-next, walked-begin, walked-fits}
-use Rattle.edf_tal.proofs.Cuts.{walked-broken, walked-all}
+use Rattle.edf_tal.proofs.Cuts.{HasNext, next-block, surveyed-next, surveyed-begin, surveyed-fits}
+use Rattle.edf_tal.proofs.Cuts.{surveyed-broken, surveyed-all}
 use Rattle.edf_tal.proofs.Joined.{broken-room}
 use Rattle.edf_tal.proofs.Judge.{fault-tal, fault-text}
 use Rattle.edf_tal.proofs.blocks.survey_blocks.Goals as goal
@@ -21,9 +21,9 @@ pub joined-form-requires : goal.joined-form-requires
 joined-form-requires c =
     let n = the-next (goal.at.joined-form-requires c).After-split_at in
     let w = c.loop-size.invariant in
-    let begun = walked-begin c.args.sizes.now c.args.block.now c.loop-size.size-index
+    let begun = surveyed-begin c.args.sizes.now c.args.block.now c.loop-size.size-index
     c.loop-size.rest.now c.args.file_start c.loop-size.form w in
-    let room = walked-fits c.args.sizes.now c.args.block.now c.loop-size.size-index
+    let room = surveyed-fits c.args.sizes.now c.args.block.now c.loop-size.size-index
     c.loop-size.rest.now c.split_at.result.0.now c.split_at.result.1.now
     c.args.file_start c.loop-size.form w n in
     let fits = c.well_formed in (
@@ -51,7 +51,7 @@ pub returns-in-Err : goal.returns-in-Err
 returns-in-Err c = λ place.
     let n = the-next (goal.at.returns-in-Err c).After-split_at in
     fault-tal _ c.args.file_start place _
-    (walked-broken c.args.sizes.now c.args.block.now c.loop-size.size-index c.loop-size.rest.now
+    (surveyed-broken c.args.sizes.now c.args.block.now c.loop-size.size-index c.loop-size.rest.now
     c.split_at.result.0.now c.split_at.result.1.now
     c.args.file_start c.loop-size.form c.in-Err.offset c.loop-size.invariant n c.in-Err.ensures)
 
@@ -59,9 +59,9 @@ pub loop-size-preserved : goal.loop-size-preserved
 loop-size-preserved c =
     let n = the-next (goal.at.loop-size-preserved c).After-split_at in
     let w = c.loop-size.invariant in
-    let begun = walked-begin c.args.sizes.now c.args.block.now c.loop-size.size-index
+    let begun = surveyed-begin c.args.sizes.now c.args.block.now c.loop-size.size-index
     c.loop-size.rest.now c.args.file_start c.loop-size.form w in
-    walked-next c.args.sizes.now c.args.block.now c.loop-size.size-index c.loop-size.rest.now
+    surveyed-next c.args.sizes.now c.args.block.now c.loop-size.size-index c.loop-size.rest.now
     c.split_at.result.0.now c.split_at.result.1.now
     c.args.file_start c.loop-size.form c.joined-form.result w n
     (c.joined-form.ensures c.args.file_start w.done (c.split_at.result.0.now ∷ []) w.is_form begun
@@ -69,7 +69,8 @@ loop-size-preserved c =
 
 pub returns-in-BadText : goal.returns-in-BadText
 returns-in-BadText c = λ place.
-    let h = walked-all c.args.sizes.now c.args.block.now c.loop-size.size-index c.loop-size.rest.now
+    let h = surveyed-all c.args.sizes.now c.args.block.now c.loop-size.size-index
+    c.loop-size.rest.now
     c.args.file_start c.loop-size.form c.loop-size.invariant c.loop-size-test.false in
     let bad = subst (HasForm (cut c.args.sizes.now c.args.block.now) c.args.file_start)
     c.in-BadText.is h in
@@ -78,6 +79,7 @@ returns-in-BadText c = λ place.
 
 pub returns-in-Good : goal.returns-in-Good
 returns-in-Good c =
-    let h = walked-all c.args.sizes.now c.args.block.now c.loop-size.size-index c.loop-size.rest.now
+    let h = surveyed-all c.args.sizes.now c.args.block.now c.loop-size.size-index
+    c.loop-size.rest.now
     c.args.file_start c.loop-size.form c.loop-size.invariant c.loop-size-test.false in
     subst (HasForm (cut c.args.sizes.now c.args.block.now) c.args.file_start) c.in-Good.is h

@@ -1,6 +1,6 @@
 use Rattle.std.proofs.lemmas.Result.{on_ok_weaker}
 use Rattle.edf_tal.specs.Tal.{ended}
-use Rattle.edf_tal.proofs.Lists.{some-tal, next-tal, first-timed, behind-empty, tells-rest}
+use Rattle.edf_tal.proofs.Lists.{some-tal, next-tal, first-timed, after-empty, tells-rest}
 use Rattle.edf_tal.proofs.Lists.{whole-list}
 use Rattle.edf_tal.proofs.read.push_first.Goals as goal
 
@@ -8,8 +8,8 @@ pub unreachable-requires : goal.unreachable-requires
 unreachable-requires c = let r = c.requires in
     some-tal c.args.file_start c.args.block.now r.0 r.1 r.2 c.in_default.ensures
 
-pub behind_empty-texts-requires : goal.behind_empty-texts-requires
-behind_empty-texts-requires c =
+pub after_empty-texts-requires : goal.after_empty-texts-requires
+after_empty-texts-requires c =
     let r = c.requires in
     let t = c.in-Some.ensures.0 in
     let n = next-tal c.args.file_start c.args.block.now c.in-Some.first.texts.now
@@ -17,7 +17,7 @@ behind_empty-texts-requires c =
     let xs = first-timed c.args.file_start c.in-Some.first.rest.now c.in-Some.first.texts.now t r.0
     n r.2 in (
       ended xs.0,
-      behind-empty c.args.file_start c.in-Some.first.rest.now c.in-Some.first.texts.now t
+      after-empty c.args.file_start c.in-Some.first.rest.now c.in-Some.first.texts.now t
           r.0 xs.0 n xs.1,
     )
 
@@ -29,13 +29,13 @@ push_tal-requires c =
     c.in-Some.first.rest.now t r.0 r.1 c.in-Some.ensures.1 in
     let xs = first-timed c.args.file_start c.in-Some.first.rest.now c.in-Some.first.texts.now t r.0
     n r.2 in
-    let behind = c.behind_empty-texts.ensures (ended xs.0)
-    (behind-empty c.args.file_start c.in-Some.first.rest.now c.in-Some.first.texts.now t r.0
+    let after = c.after_empty-texts.ensures (ended xs.0)
+    (after-empty c.args.file_start c.in-Some.first.rest.now c.in-Some.first.texts.now t r.0
     xs.0 n xs.1) in (
       record t { texts = xs.0 },
       tells-rest c.args.file_start c.in-Some.first.rest.now c.in-Some.first.texts.now t r.0 xs.0
           c.in-Some.first.times.ahead c.in-Some.first.times.onset c.in-Some.first.times.duration
-          c.behind_empty-texts.result.now n xs.1 behind c.in-Some.ensures.2 c.in-Some.ensures.3,
+          c.after_empty-texts.result.now n xs.1 after c.in-Some.ensures.2 c.in-Some.ensures.3,
     )
 
 pub push_tals-requires : goal.push_tals-requires
@@ -53,12 +53,12 @@ returns c = λ ts sound timed.
     c.in-Some.first.rest.now t ts sound c.in-Some.ensures.1 in
     let xs = first-timed c.args.file_start c.in-Some.first.rest.now c.in-Some.first.texts.now t ts n
     timed in
-    let behind = c.behind_empty-texts.ensures (ended xs.0)
-    (behind-empty c.args.file_start c.in-Some.first.rest.now c.in-Some.first.texts.now t ts xs.0
+    let after = c.after_empty-texts.ensures (ended xs.0)
+    (after-empty c.args.file_start c.in-Some.first.rest.now c.in-Some.first.texts.now t ts xs.0
     n xs.1) in
     let told = tells-rest c.args.file_start c.in-Some.first.rest.now c.in-Some.first.texts.now t ts
     xs.0 c.in-Some.first.times.ahead c.in-Some.first.times.onset c.in-Some.first.times.duration
-    c.behind_empty-texts.result.now n xs.1 behind c.in-Some.ensures.2 c.in-Some.ensures.3 in
+    c.after_empty-texts.result.now n xs.1 after c.in-Some.ensures.2 c.in-Some.ensures.3 in
     on_ok_weaker c.push_tals.result
     (whole-list c.args.file_start c.in-Some.first.rest.now c.in-Some.first.texts.now t ts xs.0
     c.args.list.now.items c.push_tal.new.list.items c.push_tals.new.list.items n xs.1

@@ -1,6 +1,6 @@
 use Rattle.std.proofs.Common.{arith, ◌≡◌, ◌+◌, ◌-◌, length, ◌&&◌}
-use Rattle.edf_tal.proofs.Totals.{survey-none, survey-more, survey-room, survey-bad, survey-behind}
-use Rattle.edf_tal.proofs.Totals.{front-shorter, behind-more, behind-behind, good-count, both-true}
+use Rattle.edf_tal.proofs.Totals.{survey-none, survey-more, survey-room, survey-bad, survey-after}
+use Rattle.edf_tal.proofs.Totals.{front-shorter, after-more, after-after, good-count, both-true}
 use Rattle.edf_tal.proofs.survey.survey.Goals as goal
 
 pub loop-tal-init : goal.loop-tal-init
@@ -52,13 +52,13 @@ loop-tal-preserved c =
 
 pub returns-in-Err : goal.returns-in-Err
 returns-in-Err c =
-    let behind = survey-behind c.args.block.now c.loop-tal.rest.now c.args.file_start
+    let after = survey-after c.args.block.now c.loop-tal.rest.now c.args.file_start
     c.loop-tal.in_window c.loop-tal.count c.loop-tal.text_bytes c.loop-tal.invariant in (
-      behind-behind c.args.block.now c.in-Some.tal.rest.now c.behind_tals.result.now
-          (behind-more c.args.block.now c.loop-tal.rest.now c.in-Some.tal.texts.now
-          c.in-Some.tal.rest.now c.in-Some.ensures.0 behind c.in-Some.ensures.1)
-          c.behind_tals.ensures.whole,
-      c.behind_tals.ensures.last,
+      after-after c.args.block.now c.in-Some.tal.rest.now c.after_tals.result.now
+          (after-more c.args.block.now c.loop-tal.rest.now c.in-Some.tal.texts.now
+          c.in-Some.tal.rest.now c.in-Some.ensures.0 after c.in-Some.ensures.1)
+          c.after_tals.ensures.whole,
+      c.after_tals.ensures.last,
       survey-bad c.args.block.now c.loop-tal.rest.now c.in-Some.tal.texts.now c.in-Some.tal.rest.now
           c.args.file_start c.in-Some.ensures.0
           c.loop-tal.in_window c.loop-tal.count c.loop-tal.text_bytes c.in-Err.at

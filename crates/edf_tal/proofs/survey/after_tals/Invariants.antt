@@ -1,6 +1,6 @@
 use Rattle.std.proofs.Common.{length}
 use Rattle.edf_tal.specs.Inside.Scan.{FollowsTals}
-use Rattle.edf_tal.proofs.survey.behind_tals.Given as goal
+use Rattle.edf_tal.proofs.survey.after_tals.Given as goal
 
 abbrev pub invariant-loop-tal : goal.invariant-loop-tal
 invariant-loop-tal l = FollowsTals l.bytes l.rest

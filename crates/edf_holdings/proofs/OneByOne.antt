@@ -111,10 +111,11 @@ pub record Stopped (key : Key) (h : Holdings) (rs : List DataRecord) (starts : �
   pub start : starts.0 ≡ pair.0.start
   pub stored : starts.1 ≡ pair.1.start
 
-abbrev pub Walked : (cap : ℕ) (key : Key) (h : Holdings) (rs : List DataRecord) (t : Holdings)
+abbrev pub TakenOrStopped : (cap : ℕ) (key : Key) (h : Holdings) (rs : List DataRecord)
+    (t : Holdings)
     (new known : ℕ) → Option (ℕ × ℕ) → Type 0
-Walked cap key h rs t new known None = Taken cap key h rs t new known
-Walked cap key h rs t new known (Some starts) = Stopped key h rs starts
+TakenOrStopped cap key h rs t new known None = Taken cap key h rs t new known
+TakenOrStopped cap key h rs t new known (Some starts) = Stopped key h rs starts
 
 pub nothing_read : (cap : ℕ) (key : Key) (h : Holdings) → Taken cap key h [] h 0 0
 nothing_read cap key h = record {
