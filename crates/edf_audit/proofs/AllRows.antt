@@ -23,6 +23,7 @@ use Rattle.sqlite.specs.State.{State, IsUnchanged}
 use Rattle.sqlite_value.specs.Order.{column, value_cmp}
 use Rattle.sqlite_schema.specs.Rules.{Obeys}
 use Rattle.sqlite_trees.proofs.ListLemmas.{all-permutation}
+use Rattle.edf_tables.specs.declared.row.TheConstants.{MOST_COUNTED}
 use Rattle.edf_tables.specs.Schema.{Others, schema_with, HasBoth}
 use Rattle.edf_tables.proofs.Keeping.{same_left, same_keeps, keeps_then}
 use Rattle.edf_rows.specs.Cells.{recording_cells, recordings_in}
@@ -32,7 +33,7 @@ use Rattle.edf_rows.specs.Inside.Shape.{HasRecords}
 use Rattle.edf_rows.proofs.Rows.{here, there, cases_first, no_member}
 use Rattle.edf_rows.proofs.Kept.{held_of, are-kept}
 use Rattle.edf_audit.specs.Inside.All.{IsAfter, IsNotAfter, owns, AreCounted, Answers}
-use Rattle.edf_audit.specs.Inside.Checked.{KeepsRows, Checks}
+use Rattle.edf_audit.specs.Inside.Checked.{KeepsRows, ChecksRow}
 use Rattle.edf_audit.proofs.Counts.{IsUpTo, IsLastOf, is_id, counted_push, up_push}
 use Rattle.edf_audit.proofs.Apart.{other_ids, other_identities}
 
@@ -186,7 +187,7 @@ module _ (cap : ℕ) (trees : Trees) (rows : List Row) (sum : ℕ)
         ∙ it.2))
 
     pub answered : (b : Bool) (all : ℕ) (o : Others) → Obeys (schema_with o) trees →
-        sum < 9223372036854775807 → all ≡ min (length (trees 2)) 9223372036854775807 →
+        sum < MOST_COUNTED → all ≡ min (length (trees 2)) MOST_COUNTED →
         b ≡ nat_eq sum all → Answers cap trees b
     answered true all o obeys low is e =
         kept o obeys (let h : nat_eq sum all ≡ true = sym e in grind (arith, nat_tests, low, is))
@@ -202,8 +203,8 @@ row_in listed rows i row same low is =
 pub told_all : (cap : ℕ) (old mid was now : Database) (rows : List Row) (sum all : ℕ) (b : Bool) →
     mid ≡ old → was ≡ old → now ≡ old → HasBoth old.schema →
     IsPermutation (recordings_in old.trees) rows
-    → AreCounted cap mid.trees rows sum → IsDatabase now → sum < 9223372036854775807 →
-    all ≡ min (length (was.trees 2)) 9223372036854775807 → b ≡ nat_eq sum all →
+    → AreCounted cap mid.trees rows sum → IsDatabase now → sum < MOST_COUNTED →
+    all ≡ min (length (was.trees 2)) MOST_COUNTED → b ≡ nat_eq sum all →
     Answers cap old.trees b
 told_all cap old mid was now rows sum all b m w n has same counted live low is e =
     let obeys : Obeys old.schema old.trees =
@@ -211,7 +212,7 @@ told_all cap old mid was now rows sum all b m w n has same counted live low is e
     answered cap old.trees rows sum same
     (subst (λ (d : Database). AreCounted cap d.trees rows sum) m counted) b all has.others
     (subst (λ s. Obeys s old.trees) has.is obeys) low
-    (is ∙ ap (λ (d : Database). min (length (d.trees 2)) 9223372036854775807) w) e
+    (is ∙ ap (λ (d : Database). min (length (d.trees 2)) MOST_COUNTED) w) e
 
 given_two_in : (trees : Trees) (rows front tail : List Row) (a b : Row) →
     IsPermutation (recordings_in trees) (front ++ a ∷ b ∷ tail) → AreTwoOf (recordings_in trees) a b
@@ -274,11 +275,11 @@ pub counted_more : (cap : ℕ) (old was : Database) (rows : List Row) (i : ℕ) 
     IsPermutation (recordings_in old.trees) rows → i < length rows → row ≡ get_or rows i row →
     more ≡ count
     → AreCounted cap old.trees (take i rows) sum → AllByRecursion (IsUpTo last) (take i rows) →
-    IsAfter last row id → Checks cap was.trees row (Some count) →
+    IsAfter last row id → ChecksRow cap was.trees row (Some count) →
     AreCounted cap old.trees (take (i + 1) rows) (sum + more)
 counted_more cap old was rows i row sum count more last id same listed low is size counted up after
     told =
-    let has = subst (λ (d : Database). Checks cap d.trees row (Some count)) same told
+    let has = subst (λ (d : Database). ChecksRow cap d.trees row (Some count)) same told
     (row_in (recordings_in old.trees) rows i row listed low is) in
     subst (λ n. AreCounted cap old.trees (take (i + 1) rows) (sum + n)) (sym size)
     (subst (λ l. AreCounted cap old.trees l (sum + count)) (more_rows rows i row low is)

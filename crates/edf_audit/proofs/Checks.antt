@@ -12,7 +12,7 @@ use Rattle.sqlite.specs.Tree.{Trees}
 use Rattle.sqlite.specs.State.{State, IsUnchanged}
 use Rattle.sqlite_value.specs.Order.{column}
 use Rattle.edf_header.specs.Key.{Key, IsKey, key_bytes}
-use Rattle.edf_header.specs.Identity.{IsFirstKeyFault, IsCleanKey, place_in_order}
+use Rattle.edf_header.specs.Identity.{IsFirstKeyFault, IsCleanKey, identity_fault_order}
 use Rattle.edf_header.specs.declared.identity.IdentityFault.{IdentityFault}
 use Rattle.edf_header.specs.declared.identity.IdentityFault.TheVariants.{Length, Unprintable}
 use Rattle.edf_header.specs.declared.identity.IdentityFault.TheVariants.{Patient, Recording}
@@ -26,8 +26,8 @@ use Rattle.edf_rows.specs.Cells.{recording_cells, recordings_in, records_in}
 use Rattle.edf_rows.specs.Foreign.{bad_recording, bad_records}
 use Rattle.edf_rows.proofs.Rows.{mapped}
 use Rattle.edf_tables.proofs.Keeping.{same_left}
-use Rattle.edf_audit.specs.Inside.Walk.{ChecksRecords}
-use Rattle.edf_audit.specs.Inside.Checked.{KeepsRows, Checks}
+use Rattle.edf_audit.specs.Inside.Records.{ChecksRecords}
+use Rattle.edf_audit.specs.Inside.Checked.{KeepsRows, ChecksRow}
 
 pub kept_if : {X E : Type 0} (r : Result X E) (a b : State) → OnOk r (IsUnchanged a b) →
     OnOk r (KeepsRows a b)
@@ -51,46 +51,46 @@ is_two trees row c =
     it.2 ∙ sym (ap (λ (r : Row). column r 0 ∷ column r 1 ∷ []) it.2)
 
 pub no_int : (cap : ℕ) (trees : Trees) (row : Row) → ((id : ℤ) → column row 0 ≢ Int id) →
-    Checks cap trees row None
+    ChecksRow cap trees row None
 no_int cap trees row none c =
     bad_recording row c (λ is. none is.id (ap (λ (r : Row). column r 0) is.cells))
 
 pub no_blob : (cap : ℕ) (trees : Trees) (row : Row) →
-    ((bytes : List ℕ) → column row 1 ≢ Blob bytes) → Checks cap trees row None
+    ((bytes : List ℕ) → column row 1 ≢ Blob bytes) → ChecksRow cap trees row None
 no_blob cap trees row none c =
     bad_recording row c (λ is. none (key_bytes is.key) (ap (λ (r : Row). column r 1) is.cells))
 
 blob-bytes : (a b : List ℕ) → ◌≡◌ {A = Value} (Blob a) (Blob b) → a ≡ b
 blob-bytes a b h = cc
 
-place-below : (fault : IdentityFault) → fault ≢ Memory → place_in_order fault < 11
-place-below Length other = omega arith
-place-below (Unprintable offset) other = omega arith
-place-below Patient other = omega arith
-place-below Recording other = omega arith
-place-below Duration other = omega arith
-place-below (Label signal) other = omega arith
-place-below (Physical signal) other = omega arith
-place-below (Digital signal) other = omega arith
-place-below (Samples signal) other = omega arith
-place-below Size other = omega arith
-place-below Memory other = absurd (other refl)
+order-below : (fault : IdentityFault) → fault ≢ Memory → identity_fault_order fault < 11
+order-below Length other = omega arith
+order-below (Unprintable offset) other = omega arith
+order-below Patient other = omega arith
+order-below Recording other = omega arith
+order-below Duration other = omega arith
+order-below (Label signal) other = omega arith
+order-below (Physical signal) other = omega arith
+order-below (Digital signal) other = omega arith
+order-below (Samples signal) other = omega arith
+order-below Size other = omega arith
+order-below Memory other = absurd (other refl)
 
 pub no_key : (cap : ℕ) (trees : Trees) (row : Row) (bytes : List ℕ) (fault : IdentityFault) →
     column row 1 ≡ Blob bytes → IsFirstKeyFault bytes fault → fault ≢ Memory →
-    Checks cap trees row None
+    ChecksRow cap trees row None
 no_key cap trees row bytes fault is first other c = bad_recording row c (λ has.
     let same : key_bytes has.key ≡ bytes =
     blob-bytes (key_bytes has.key) bytes (sym (ap (λ (r : Row). column r 1) has.cells) ∙ is) in
     let clean = key-clean has.key has.is_key in
-    subst (λ b. IsCleanKey b 11) same clean fault (place-below fault other) first.0)
+    subst (λ b. IsCleanKey b 11) same clean fault (order-below fault other) first.0)
 
 pub long : (k : Key) → IsKey k → 0 < duration_of k.duration
 long = lasting
 
 pub told : (cap : ℕ) (trees : Trees) (row : Row) (id : ℤ) (k : Key) (o : Option ℕ) →
     column row 0 ≡ Int id → column row 1 ≡ Blob (key_bytes k) → IsKey k →
-    ChecksRecords cap k (records_in trees id) o → Checks cap trees row o
+    ChecksRecords cap k (records_in trees id) o → ChecksRow cap trees row o
 told cap trees row id k None first second key bad = λ c.
     let cells : row ≡ recording_cells id k = is_two trees row c ∙ (λ i. first i ∷ second i ∷ []) in
     bad_records id k (record { row = subst (Contains (recordings_in trees)) cells c; key = key })
@@ -116,7 +116,7 @@ told cap trees row id k (Some count) first second key has = λ c.
 pub told_if : (cap : ℕ) (trees : Trees) (row : Row) (id : ℤ) (k : Key) (bytes : List ℕ)
     (r : Result (Option ℕ) Error) → column row 0 ≡ Int id → column row 1 ≡ Blob bytes →
     key_bytes k ≡ bytes → IsKey k → IfOk r (ChecksRecords cap k (records_in trees id)) →
-    IfOk r (Checks cap trees row)
+    IfOk r (ChecksRow cap trees row)
 told_if cap trees row id k bytes (Ok o) first second same key h =
     told cap trees row id k o first (second ∙ ap Blob (sym same)) key h
 told_if cap trees row id k bytes (Err e) first second same key h = tt

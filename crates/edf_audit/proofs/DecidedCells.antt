@@ -11,14 +11,16 @@ use Rattle.edf_field.specs.Number.{field}
 use Rattle.edf_field.specs.Text.{IsPrintable}
 use Rattle.edf_header.specs.Key.{Key, IsKey, key_at, key_bytes}
 use Rattle.edf_header.specs.Signal.{samples_in_all}
-use Rattle.edf_header.specs.Identity.{HasLength, HasMark, KeyFails, IsCleanKey, place_in_order}
+use Rattle.edf_header.specs.Identity.{HasLength, HasMark, KeyFails, IsCleanKey}
+use Rattle.edf_header.specs.Identity.{identity_fault_order}
 use Rattle.edf_header.specs.Identity.{signals_at}
 use Rattle.edf_header.specs.Inside.Shape.{IsKeyFront}
+use Rattle.edf_header.specs.declared.limits.TheConstants.{MOST_BLOCK_BYTES}
 use Rattle.edf_header.specs.declared.signal_checks.Check.TheVariants as checks
 use Rattle.edf_header.specs.declared.identity.IdentityFault.{IdentityFault}
 use Rattle.edf_header.specs.declared.identity.IdentityFault.TheVariants as fault
 use Rattle.edf_header.proofs.Decided.{same, same-int, first-bad}
-use Rattle.edf_header.proofs.DecidedFields.{printable, spaces, behind-startdate}
+use Rattle.edf_header.proofs.DecidedFields.{printable, spaces, follows-startdate}
 use Rattle.edf_header.proofs.DecidedTexts.{patient, duration}
 use Rattle.edf_header.proofs.DecidedSignals.{checked}
 use Rattle.edf_header.proofs.Faults.{is-key, key-clean}
@@ -41,7 +43,8 @@ abbrev IsAKey : List ℕ → Type 0
 IsAKey b = (key_bytes (key_at b) ≡ b) × IsKey (key_at b)
 
 -- bytes with a fault are no key's
-no_key_at : (b : List ℕ) (e : IdentityFault) → place_in_order e < 11 → KeyFails b e → (k : Key) →
+no_key_at : (b : List ℕ) (e : IdentityFault) → identity_fault_order e < 11 → KeyFails b e →
+    (k : Key) →
     IsKey k → key_bytes k ≢ b
 no_key_at b e low fails k is e_is =
     subst (λ (l : List ℕ). IsCleanKey l 11) e_is (key-clean k is) e low fails
@@ -57,8 +60,8 @@ has_mark : (b : List ℕ) → Decided (HasMark b)
 has_mark b = either (both (same (slice_index b 80) 68) (spaces (field b 140 10)))
     (same (slice_index b 80) 88)
 
-behind_front : (b : List ℕ) → IsKeyFront b → IsAKey b ⊎ ((k : Key) → IsKey k → key_bytes k ≢ b)
-behind_front b front =
+key_of_front : (b : List ℕ) → IsKeyFront b → IsAKey b ⊎ ((k : Key) → IsKey k → key_bytes k ≢ b)
+key_of_front b front =
     elim (checked checks.Label (signals_at b)) [
       | inr bad ↦ inr (no_key_at b (fault.Label (bad.0 + 1)) (omega arith) (bad.0, bad.1, refl))
       | inl labels ↦ elim (checked checks.Physical (signals_at b)) [
@@ -79,9 +82,9 @@ behind_front b front =
               bad.1,
               refl,
             ))
-            | inl samples ↦ elim (at-most (2 * samples_in_all (signals_at b)) 4_194_304) [
+            | inl samples ↦ elim (at-most (2 * samples_in_all (signals_at b)) MOST_BLOCK_BYTES) [
               | inr never ↦ inr (no_key_at b fault.Size (omega arith)
-                  (elim (Rattle.std.proofs.lemmas.Bool.cases_lt 4_194_304
+                  (elim (Rattle.std.proofs.lemmas.Bool.cases_lt MOST_BLOCK_BYTES
                   (2 * samples_in_all (signals_at b))) [
                     | inl more ↦ more
                     | inr few ↦
@@ -102,16 +105,16 @@ key_or_none b =
         | inr bad ↦ inr (no_key_at b (fault.Unprintable bad.0) (omega arith) bad.1)
         | inl text ↦ elim (patient (field b 0 80)) [
           | inr never ↦ inr (no_key_at b fault.Patient (omega arith) never)
-          | inl person ↦ elim (both (has_mark b) (behind-startdate (key_at b).after)) [
+          | inl person ↦ elim (both (has_mark b) (follows-startdate (key_at b).after)) [
             | inr never ↦ inr (no_key_at b fault.Recording (omega arith) never)
             | inl recording ↦ elim (duration (field b 150 8)) [
               | inr never ↦ inr (no_key_at b fault.Duration (omega arith) (λ n is. never (n, is)))
-              | inl lasts ↦ behind_front b (record {
+              | inl lasts ↦ key_of_front b (record {
                 len = len;
                 printable = text;
                 patient = person;
                 mark = recording.0;
-                behind = recording.1;
+                after = recording.1;
                 duration = lasts;
               })
             ]

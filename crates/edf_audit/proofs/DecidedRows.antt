@@ -37,7 +37,7 @@ use Rattle.edf_rows.proofs.Rows.{here, there}
 use Rattle.edf_rows.proofs.Kept.{two_later, first_two, held_of, are-kept}
 use Rattle.edf_audit.specs.Inside.All.{owns}
 use Rattle.edf_audit.proofs.DecidedCells.{recording_or, row_or}
-use Rattle.edf_audit.proofs.Walks.{is_three, by_start}
+use Rattle.edf_audit.proofs.GivenRows.{is_three, by_start}
 use Rattle.edf_audit.proofs.Apart.{all_at}
 use Rattle.edf_audit.proofs.AllRows.{any_here, owned_by_one}
 

@@ -1,6 +1,7 @@
-pub mod Walks
+pub mod GivenRows
 pub mod Refusals
 pub mod Shown
+pub mod Parts
 pub mod Standing
 pub mod Checks
 pub mod Counts

@@ -5,6 +5,7 @@ use Rattle.sqlite.specs.Tree.{Trees}
 use Rattle.sqlite.specs.declared.error.Error.{Error}
 use Rattle.sqlite.specs.State.{State, HasCleanDisk, Survives}
 use Rattle.edf_tables.specs.Refused.{IsUnread, IsUntold}
+use Rattle.edf_tables.specs.declared.row.TheConstants.{MOST_COUNTED}
 use Rattle.edf_tables.proofs.Refusals.{unread_since, untold_since}
 use Rattle.edf_audit.specs.Refused.{IsUnchecked}
 use Rattle.edf_audit.specs.Refused.IsUnchecked.{untold, too_many}
@@ -27,4 +28,4 @@ pub unchecked_since : (old mid new : State) (P Q : Trees → Type 0) (e : Error)
 unchecked_since old mid new P Q e one two clean same (untold it) =
     untold (untold_since old mid new P Q e one two clean it)
 unchecked_since old mid new P Q e one two clean same (too_many is many) =
-    too_many is (subst (λ (d : Database). 9223372036854775807 ≤ length (d.trees 2)) same many)
+    too_many is (subst (λ (d : Database). MOST_COUNTED ≤ length (d.trees 2)) same many)

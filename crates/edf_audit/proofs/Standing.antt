@@ -28,21 +28,21 @@ use Rattle.edf_header.specs.Key.{Key}
 use Rattle.edf_fragment.specs.Fragment.{DataRecord}
 use Rattle.edf_fragment.specs.Sound.{AreSound, MayBegin}
 use Rattle.edf_tables.specs.Schema.{HasBoth}
-use Rattle.edf_tables.proofs.QueryTexts.{walk_text, walk_is}
+use Rattle.edf_tables.proofs.QueryTexts.{rows_text, rows_is}
 use Rattle.edf_tables.proofs.Shown.{plain_at, answer_of, answer_begun}
 use Rattle.edf_rows.specs.Cells.{record_cells, records_in}
 use Rattle.edf_rows.specs.Foreign.{AreBadRecords, bad_row, too_near, too_few, too_many}
-use Rattle.edf_audit.specs.Inside.Walk.{IsNextRow, IsWrong, MayComeNext, HasSound, IsRowRefused}
-use Rattle.edf_audit.specs.Inside.Walk.{no_memory, unordered}
-use Rattle.edf_audit.proofs.Walks.{last_start, last_push, last_split, no_last, push_sound}
-use Rattle.edf_audit.proofs.Walks.{push_begins, starts_rise, answer_moved, only_sound, by_start}
-use Rattle.edf_audit.proofs.Walks.{is_three, given_member, given_two, late_first}
+use Rattle.edf_audit.specs.Inside.Records.{IsNextRow, IsWrong, MayComeNext, HasSound, IsRowRefused}
+use Rattle.edf_audit.specs.Inside.Records.{no_memory, unordered}
+use Rattle.edf_audit.proofs.GivenRows.{last_start, last_push, last_split, no_last, push_sound}
+use Rattle.edf_audit.proofs.GivenRows.{push_begins, starts_rise, answer_moved, only_sound, by_start}
+use Rattle.edf_audit.proofs.GivenRows.{is_three, given_member, given_two, late_first}
 
 -- these records were given, sound and a duration apart, and this is the last start
 pub record Stands {S : Type 0} (g : Ghosts S) (recording : ℤ) (k : Key) (last : Option ℕ)
     (count : ℕ) (h : Held S) : Type 0 where
   pub records : List DataRecord
-  pub given : HasGiven g walk_text (Int recording ∷ []) h (map record_cells records)
+  pub given : HasGiven g rows_text (Int recording ∷ []) h (map record_cells records)
   pub sound : AreSound k 0 records
   pub begins : MayBegin k records
   pub last_is : last ≡ last_start records
@@ -56,18 +56,18 @@ module _ {S : Type 0} (g : Ghosts S) (recording : ℤ) (k : Key) (long : 0 < dur
   abbrev pub rows_there : List Row
   rows_there = records_in old.now.trees recording
 
-  pub plain_here : IsPlain (understood old.now.schema walk_text)
-  plain_here = plain_at walk_text _ _ walk_is old has
+  pub plain_here : IsPlain (understood old.now.schema rows_text)
+  plain_here = plain_at rows_text _ _ rows_is old has
 
   -- the rows that were given and some more are the recording's, in order
   pub begun : (h : Held S) (rows : List Row) → IsUnchanged old (state g h) →
-      HasGiven g walk_text (Int recording ∷ []) h rows
+      HasGiven g rows_text (Int recording ∷ []) h rows
       → (tail : List Row) × IsPermutation rows_there (rows ++ tail)
       × IsSorted (by_column 0) (rows ++ tail)
   begun h rows same given =
       let there : HasBoth (state g h).now.schema =
       subst (λ (b : Database). HasBoth b.schema) (sym same.0.now_is) has in
-      let it = answer_begun walk_text _ _ walk_is g (Int recording ∷ []) h rows there given in (
+      let it = answer_begun rows_text _ _ rows_is g (Int recording ∷ []) h rows there given in (
         it.0,
         subst (λ (b : Database). IsPermutation (records_in b.trees recording) (rows ++ it.0))
             same.0.now_is (answer_moved (state g h).now.trees recording (rows ++ it.0) it.1),
@@ -75,7 +75,7 @@ module _ {S : Type 0} (g : Ghosts S) (recording : ℤ) (k : Key) (long : 0 < dur
             (overlay (state g h).now.trees []) (rows ++ it.0) it.1 (λ r. refl),
       )
 
-  pub starts : (h : Held S) → HasGiven g walk_text (Int recording ∷ []) h [] →
+  pub starts : (h : Held S) → HasGiven g rows_text (Int recording ∷ []) h [] →
       Stands g recording k None 0 h
   starts h given = record {
     records = [];
@@ -89,12 +89,12 @@ module _ {S : Type 0} (g : Ghosts S) (recording : ℤ) (k : Key) (long : 0 < dur
   -- the row that was given is one of the recording's
   given_row : (records : List DataRecord) (row : Row) (was now : Held S) →
       IsUnchanged old (state g now) →
-      HasGiven g walk_text (Int recording ∷ []) was (map record_cells records) →
+      HasGiven g rows_text (Int recording ∷ []) was (map record_cells records) →
       Advances g was now (Some row)
       → (tail : List Row) × IsPermutation rows_there (map record_cells records ++ row ∷ tail)
   given_row records row was now same given on =
       let it = begun now (map record_cells records
-      ++ row ∷ []) same (on walk_text (Int recording ∷ []) (map record_cells records) given) in (
+      ++ row ∷ []) same (on rows_text (Int recording ∷ []) (map record_cells records) given) in (
         it.0,
         subst (IsPermutation rows_there)
             (append_assoc (map record_cells records) (row ∷ []) it.0) it.1,
@@ -120,8 +120,8 @@ module _ {S : Type 0} (g : Ghosts S) (recording : ℤ) (k : Key) (long : 0 < dur
       (subst (λ l. MayComeNext k l start) stands.last_is next.follows) in
       record {
         records = stands.records ++ r ∷ [];
-        given = subst (HasGiven g walk_text (Int recording ∷ []) now) rows
-            (on walk_text (Int recording ∷ []) (map record_cells stands.records) stands.given);
+        given = subst (HasGiven g rows_text (Int recording ∷ []) now) rows
+            (on rows_text (Int recording ∷ []) (map record_cells stands.records) stands.given);
         sound = push_sound k stands.records r stands.sound next.is_start.row_of.sound follows;
         begins = push_begins k stands.records r stands.begins follows;
         last_is = ap (λ n. Some n) next.is_start.start_is ∙ sym (last_push stands.records r);
@@ -167,7 +167,7 @@ module _ {S : Type 0} (g : Ghosts S) (recording : ℤ) (k : Key) (long : 0 < dur
           let none : rows ≡ [] = ap (map record_cells)
           (no_last stands.records (sym stands.last_is ∙ late.last_is)) in
           let it = begun now (rows ++ row ∷ []) same
-          (on walk_text (Int recording ∷ []) rows stands.given) in
+          (on rows_text (Int recording ∷ []) rows stands.given) in
           let all : (rows ++ row ∷ []) ++ it.0 ≡ row ∷ it.0 =
           ap (λ l. (l ++ row ∷ []) ++ it.0) none in
           late_first cap k rows_there it.0 row late.start (by_start old.now.trees recording)
@@ -182,7 +182,7 @@ module _ {S : Type 0} (g : Ghosts S) (recording : ℤ) (k : Key) (long : 0 < dur
   refused_row count last row was now new e same stands on (unordered is out) =
       let rows = map record_cells stands.records in
       let it = begun now (rows ++ row ∷ []) same
-      (on walk_text (Int recording ∷ []) rows stands.given) in
+      (on rows_text (Int recording ∷ []) rows stands.given) in
       let split = last_split stands.records out.first (sym stands.last_is ∙ out.last_is) in
       let front = map record_cells split.0 in
       let is : rows ≡ front ++ record_cells split.1 ∷ [] = ap (map record_cells) split.2
@@ -214,9 +214,9 @@ module _ {S : Type 0} (g : Ghosts S) (recording : ℤ) (k : Key) (long : 0 < dur
   all_given count last h next same stands on =
       let there : HasBoth (state g h).now.schema =
       subst (λ (b : Database). HasBoth b.schema) (sym same.0.now_is) has in
-      let shown = on walk_text (Int recording ∷ []) (map record_cells stands.records)
+      let shown = on rows_text (Int recording ∷ []) (map record_cells stands.records)
       stands.given in
-      let a = answer_of walk_text _ _ walk_is (Int recording ∷ []) (state g h) (state g next)
+      let a = answer_of rows_text _ _ rows_is (Int recording ∷ []) (state g h) (state g next)
       (map record_cells stands.records) there shown in
       only_sound old.now.trees recording k stands.records long stands.sound
       (subst (λ (b : Database). IsPermutation (records_in b.trees recording)

@@ -9,14 +9,14 @@ use Rattle.edf_tables.specs.Made.{IsOurs, HasTables}
 use Rattle.edf_rows.specs.Rows.{AreKept}
 use Rattle.edf_rows.specs.Foreign.{IsForeign}
 
--- why a file is refused: its schema is not ours; its rows are such as no submissions under the cap
--- leave; or it has a recording, and not the table of the records
+-- why a file is refused: its schema is not ours; no submissions under the cap leave its rows; or it
+-- has a recording, and no table of records
 pub data IsForeignFile (cap : ℕ) (db : Database) : Type 0 where
   other_schema : ¬ IsOurs db → IsForeignFile cap db
   foreign_rows : HasBoth db.schema → IsForeign cap db.trees → IsForeignFile cap db
   only_recordings : db.schema ≡ one_schema → stored_recordings db.trees ≢ [] → IsForeignFile cap db
 
--- the file had our tables, or those that are missing are made; the rows that it had are there, and
+-- the file had our tables, or those that were missing are made; the rows that it had are there, and
 -- stand for holdings; no transaction is open
 pub record PassesAudit (cap : ℕ) (old new : State) : Type 0 where
   pub is_open : IsTrue new.is_open

@@ -1,4 +1,4 @@
 -- Words of private contracts, which no public contract cites.
 pub mod All
-pub mod Walk
+pub mod Records
 pub mod Checked

@@ -5,13 +5,15 @@ use Rattle.sqlite.specs.declared.error.Error.{Error}
 use Rattle.sqlite.specs.declared.error.Error.TheVariants.{SqliteFailure}
 use Rattle.sqlite.specs.State.{State}
 use Rattle.edf_schema.specs.Columns.{stored_records}
+use Rattle.edf_tables.specs.declared.row.TheConstants.{MOST_COUNTED}
 use Rattle.edf_tables.specs.Refused.{IsUnmade, IsUntold}
 
--- the rows are not checked: a query is refused, or the table of records has 2^63 - 1 rows or more
+-- the rows are not checked: a query is refused, or the table of records has more rows than are
+-- counted
 pub data IsUnchecked (old new : State) (e : Error) : Type 0 where
   untold : IsUntold old new e → IsUnchecked old new e
   too_many : e ≡ SqliteFailure IntegerOverflow →
-      9223372036854775807 ≤ length (stored_records old.now.trees) → IsUnchecked old new e
+      MOST_COUNTED ≤ length (stored_records old.now.trees) → IsUnchecked old new e
 
 -- the file is not checked: a table is not made, a transaction was open before the call, or the rows
 -- are not checked

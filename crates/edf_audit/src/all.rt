@@ -1,25 +1,21 @@
 //! All rows of both tables.
 
-ghost use Rattle.std.specs.Prelude.{◌<◌, ◌^◌, ◌-◌, IfOk, IfSome, MatchOption, IsPermutation};
-ghost use Rattle.std.specs.Prelude.{IsSorted, IsTrue};
+ghost use Rattle.std.specs.Prelude.{◌<◌, IfOk, IfSome, MatchOption, IsPermutation, IsSorted};
+ghost use Rattle.std.specs.Prelude.{IsTrue};
 ghost use Rattle.sqlite.specs.Held.{state};
 ghost use Rattle.sqlite.specs.State.{HasCleanDisk};
 ghost use Rattle.edf_schema.specs.Columns.{id_order};
 ghost use Rattle.edf_rows.specs.Cells.{recordings_in};
-ghost use Rattle.edf_audit.specs.Inside.Checked.{KeepsRows, KeepsShown};
+ghost use Rattle.edf_audit.specs.Inside.Checked.{OnlyChecks};
 ghost use Rattle.edf_audit.specs.Refused.{IsUnchecked};
 ghost use Rattle.edf_audit.specs.Inside.All.{IsAfter, IsNotAfter, Counts, Answers};
 ghost use Rattle.edf_tables.specs.Statement.{HasBothTables, tables, IfClean, Gives, Leaves};
-ghost use Rattle.edf_tables.specs.Statement.{FailsAs, LeavesOnErr, IsCrashSafe};
 
 use crate::check::check_recording_row;
-use edf_tables::{count_all_rows, obey, recordings};
+use edf_tables::{MOST_COUNTED, count_all_rows, obey, recordings};
 use sqlite::types::ValueRef;
 use sqlite::{Alter, Connection, Error, ErrorCode, Row};
 use std::alloc::Global;
-
-/// The first number of records that `count_all_rows` does not tell from larger ones.
-const MOST_COUNTED: u64 = 9_223_372_036_854_775_807;
 
 /// The id of a row, if it comes after the last one.
 fn next_id(row: &Row, last: Option<i64>) -> Option<i64>
@@ -43,24 +39,20 @@ fn next_id(row: &Row, last: Option<i64>) -> Option<i64>
 ///
 /// # Errors
 /// `sqlite`'s; `OutOfMemory` where memory runs out; `IntegerOverflow` where the recordings have
-/// `MOST_COUNTED` records or more.
+/// [`MOST_COUNTED`] records or more, since a count of all rows does not tell these numbers apart.
 fn count_owned<S: Alter>(
     alloc: Global,
     conn: &mut Connection<S>,
     rows: &[Row],
     cap: u32,
 ) -> Result<Option<u64>, Error>
-    requires cap { cap < 2 ^ 32 - 1 }
     requires schema { IfClean S.Store conn.old HasBothTables }
     requires listed { IfClean S.Store conn.old (λ s.
         IsPermutation (recordings_in s.now.trees) rows.now) }
     requires ordered { HasCleanDisk (state S.Store conn.old) → IsSorted id_order rows.now }
-    ensures why { FailsAs S.Store conn.old conn.new result IsUnchecked }
+    ensures checks { OnlyChecks S.Store IsUnchecked conn.old conn.new result }
     ensures counts { Gives S.Store conn.new result (Counts cap (tables S.Store conn.old) rows.now) }
-    ensures low { IfOk result (λ o. IfSome o (λ sum. sum < 2 ^ 63 - 1)) }
-    ensures same { Leaves S.Store conn.old conn.new result KeepsRows }
-    ensures refused { LeavesOnErr S.Store conn.old conn.new result KeepsShown }
-    ensures survives { IsCrashSafe S.Store conn.old conn.new }
+    ensures low { IfOk result (λ o. IfSome o (λ sum. sum < MOST_COUNTED)) }
 {
     let mut sum: u64 = 0;
     let mut last = None;
@@ -85,23 +77,23 @@ fn count_owned<S: Alter>(
 ///
 /// # Errors
 /// `sqlite`'s; `OutOfMemory` where memory runs out; `IntegerOverflow` where the recordings have
-/// 9,223,372,036,854,775,807 records or more.
-pub fn check_all<S: Alter>(alloc: Global, conn: &mut Connection<S>, cap: u32) -> Result<bool, Error>
-    requires cap { cap < 2 ^ 32 - 1 }
+/// [`MOST_COUNTED`] records or more.
+pub(crate) fn check_all<S: Alter>(
+    alloc: Global,
+    conn: &mut Connection<S>,
+    cap: u32,
+) -> Result<bool, Error>
     requires schema { IfClean S.Store conn.old HasBothTables }
-    ensures why { FailsAs S.Store conn.old conn.new result IsUnchecked }
+    ensures checks { OnlyChecks S.Store IsUnchecked conn.old conn.new result }
     ensures answers { Gives S.Store conn.new result (Answers cap (tables S.Store conn.old)) }
-    ensures same { Leaves S.Store conn.old conn.new result KeepsRows }
     ensures is_open { Leaves S.Store conn.old conn.new result (λ _ new. IsTrue new.is_open) }
-    ensures refused { LeavesOnErr S.Store conn.old conn.new result KeepsShown }
-    ensures survives { IsCrashSafe S.Store conn.old conn.new }
 {
     let found = recordings(conn)?;
     let Some(sum) = count_owned(alloc, conn, &found, cap)? else {
         return Ok(false);
     };
     let all = count_all_rows(conn)?;
-    // The UNIQUE of the schema keeps identities apart.
+    // The rows obey the UNIQUE of the schema, so no identity occurs twice.
     obey(conn);
     Ok(sum == all)
 }

@@ -1,39 +1,34 @@
 //! One row of the table of recordings, and its records.
 
-ghost use Rattle.std.specs.Prelude.{◌≡◌, ◌<◌, ◌^◌, ◌-◌, IfErr};
-ghost use Rattle.sqlite.specs.State.{IsUnchanged};
+ghost use Rattle.std.specs.Prelude.{◌≡◌, IfErr};
 ghost use Rattle.edf_tables.specs.Refused.{IsUnread};
-ghost use Rattle.edf_audit.specs.Inside.Checked.{KeepsRows, KeepsShown, Checks, first_two};
+ghost use Rattle.edf_audit.specs.Inside.Checked.{OnlyChecks, ChecksRow, first_two};
 ghost use Rattle.edf_rows.specs.Rows.{IsRecordingRow};
-ghost use Rattle.edf_tables.specs.Statement.{HasBothTables, tables, IfClean, Gives, Leaves};
-ghost use Rattle.edf_tables.specs.Statement.{FailsAs, LeavesOnErr, IsCrashSafe};
+ghost use Rattle.edf_tables.specs.Statement.{HasBothTables, tables, IfClean, Gives};
 
-use crate::walk::check_recording;
+use crate::records::check_recording;
 use edf_header::{Identity, IdentityFault};
 use sqlite::types::ValueRef;
 use sqlite::{Alter, Connection, Error, ErrorCode, Row};
 use std::alloc::Global;
 
-/// How many records a recording has, or `None` where the row is no recording, or its records are
-/// bad.
+/// How many records a row's recording has, or `None` where the row is no recording, or its records
+/// are bad.
 ///
 /// # Errors
 /// `sqlite`'s; `OutOfMemory` where memory runs out, and no other where the row is no recording.
-pub fn check_recording_row<S: Alter>(
+pub(crate) fn check_recording_row<S: Alter>(
     alloc: Global,
     conn: &mut Connection<S>,
     row: &Row,
     cap: u32,
 ) -> Result<Option<u32>, Error>
-    requires cap { cap < 2 ^ 32 - 1 }
     requires schema { IfClean S.Store conn.old HasBothTables }
-    ensures why { FailsAs S.Store conn.old conn.new result IsUnread }
+    ensures checks { OnlyChecks S.Store IsUnread conn.old conn.new result }
     ensures other { ¬ IsRecordingRow (first_two row.now) →
         IfErr result (λ e. e ≡ Error.SqliteFailure ErrorCode.OutOfMemory) }
-    ensures told { Gives S.Store conn.new result (Checks cap (tables S.Store conn.old) row.now) }
-    ensures same { Leaves S.Store conn.old conn.new result KeepsRows }
-    ensures refused { LeavesOnErr S.Store conn.old conn.new result KeepsShown }
-    ensures survives { IsCrashSafe S.Store conn.old conn.new }
+    ensures answers { Gives S.Store conn.new result
+        (ChecksRow cap (tables S.Store conn.old) row.now) }
 {
     let Ok(ValueRef::Int(id)) = row.get_ref(0) else {
         return Ok(None);

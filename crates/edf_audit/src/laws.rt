@@ -1,4 +1,4 @@
-//! A law of the rows of both tables: a function that has it for a contract, and does nothing.
+//! A law of the rows of both tables, as the contract of a function that does nothing.
 
 ghost use Rattle.std.specs.Prelude.{◌⊎◌, ℕ};
 ghost use Rattle.sqlite.specs.Tree.{Trees};

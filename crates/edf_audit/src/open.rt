@@ -1,6 +1,6 @@
-//! The tables of a file, made and checked.
+//! The check of a file as a store is opened.
 
-ghost use Rattle.std.specs.Prelude.{◌≡◌, ◌<◌, ◌^◌, ◌-◌, Ok, false, IsTrue};
+ghost use Rattle.std.specs.Prelude.{◌≡◌, Ok, false, IsTrue};
 ghost use Rattle.sqlite.specs.Held.{state};
 ghost use Rattle.sqlite.specs.State.{Survives};
 ghost use Rattle.edf_tables.specs.Made.{IsOurs, HasTables, KeepsFile, IsMadeOf};
@@ -15,13 +15,12 @@ use edf_tables::create_tables;
 use sqlite::{Alter, Connection, Error, ErrorCode};
 use std::alloc::Global;
 
-/// Makes the tables where they are missing in a file that has no other, and tells whether their
-/// rows are those of submissions under the cap.
+/// Makes those of our tables that are missing, and tells whether their rows are those of
+/// submissions under the cap. What another tool put after both tables stays.
 ///
 /// # Errors
-/// Those of `audit`.
+/// Those of [`audit`].
 fn audit_tables<S: Alter>(alloc: Global, conn: &mut Connection<S>, cap: u32) -> Result<bool, Error>
-    requires cap { cap < 2 ^ 32 - 1 }
     requires ours { IfClean S.Store conn.old (λ s. IsOurs s.now) }
     ensures tables { Leaves S.Store conn.old conn.new result
         (λ old new. HasTables old.now new.now) }
@@ -41,21 +40,22 @@ fn audit_tables<S: Alter>(alloc: Global, conn: &mut Connection<S>, cap: u32) -> 
     check_all(alloc, conn, cap)
 }
 
-/// Whether a file is one that submissions under the cap leave; if its tables are ours, those that
-/// are missing are made.
+/// Whether a file is one that submissions under the cap leave. Where its tables are ours, those of
+/// the two that are missing are made.
 ///
-/// They are ours in a file with nothing, with the first alone, or with both first and in their
-/// order, where what comes after them has trees of its own and is no index and no trigger on them.
-/// Any other file is left as it is. Whatever is answered, the committed rows stay, and what is
-/// shown stays or an open transaction is undone: clause `stays`.
+/// The tables are ours in a file that has nothing, the first table alone, or both tables first and
+/// in their order. After both there may be anything that is not on them: it stays as it is, and the
+/// trees of its rows are its own. An index or a trigger on one of the two makes a file another's.
+/// The answer is `false` for a file of other tables, which stays as it is, and for rows that no
+/// submissions leave. Whatever is answered, the committed rows stay, and what is shown stays or an
+/// open transaction is undone: clause `stays`.
 ///
 /// # Errors
 /// `sqlite`'s; the committed rows stay, an open transaction may be undone, and tables may have been
 /// made. Of its own, in `sqlite`'s words: `OutOfMemory` where memory runs out; `TransactionState`
-/// where a transaction is open; `IntegerOverflow` where the recordings have
-/// 9,223,372,036,854,775,807 records or more. A crash leaves no table, the first, or both.
+/// where a transaction is open; `IntegerOverflow` where the recordings have `MOST_COUNTED` of
+/// `edf_tables` records or more. A crash leaves no table, the first, or both.
 pub fn audit<S: Alter>(alloc: Global, conn: &mut Connection<S>, cap: u32) -> Result<bool, Error>
-    requires { cap < 2 ^ 32 - 1 }
     ensures other { ¬ IsOurs (state S.Store conn.old).now →
         (result ≡ Ok false) × (conn.new ≡ conn.old) }
     ensures tables { IsOurs (state S.Store conn.old).now →

@@ -22,28 +22,29 @@ use Rattle.edf_tal.proofs.Cited.{read-start, read-annotations, read-any}
 use Rattle.edf_fragment.specs.Fragment.{DataRecord, IsWithinSize}
 use Rattle.edf_fragment.specs.Sound.{IsValidRecord, IsSoundRecord}
 use Rattle.edf_rows.specs.Foreign.{IsBadRow, bad_samples, bad_block}
-use Rattle.edf_rows.specs.Rows.{IsRowOf, GivesRecord, GivesNoRecord}
-use Rattle.edf_rows.specs.Inside.Shape.{IsUnread, OwnBlock, NoOwnBlock}
+use Rattle.edf_rows.specs.Rows.{IsRowOf, IsRecordFrom, IsNoRecord}
+use Rattle.edf_rows.specs.Inside.Shape.{IsNoBlock, OwnBlock, NoOwnBlock}
 
--- a block that is not written for what it gives is written for nothing
+-- a block is written for nothing else than what is read of it
 pub other-block : (block : List ℕ) (start : ℕ) (list : List Annotation) →
     IsRead block 0 Any start list → block ≢ block_text 0 start list → NoOwnBlock block
 other-block block start list read other s l own =
     let same = one-read block 0 Any start s list l read own.read in
     other (own.written ∙ sym (ap₂ (block_text 0) same.start same.list))
 
-pub refused-unread : (block : List ℕ) (fault : TalFault) → IsBlockFault block 0 Any fault →
-    IsUnread block
-refused-unread block fault refused s l read = read-no-fault block 0 Any s l fault read refused
+pub refused-no_block : (block : List ℕ) (fault : TalFault) → IsBlockFault block 0 Any fault →
+    IsNoBlock block
+refused-no_block block fault refused s l read = read-no-fault block 0 Any s l fault read refused
 
-pub unread-block : (block : List ℕ) → IsUnread block → NoOwnBlock block
-unread-block block none s l own = none s l own.read
+pub no_block-own : (block : List ℕ) → IsNoBlock block → NoOwnBlock block
+no_block-own block none s l own = none s l own.read
 
 pub refused-block : (block : List ℕ) (fault : TalFault) → IsBlockFault block 0 Any fault →
     NoOwnBlock block
-refused-block block fault refused = unread-block block (refused-unread block fault refused)
+refused-block block fault refused = no_block-own block (refused-no_block block fault refused)
 
--- a row with an own block, its start and as many samples as the key says is a data record's
+-- a row is a data record's where its block is written for its start, and its samples are as many
+-- as the key says
 pub row-of : (k : Key) (start : ℕ) (samples block : List ℕ) (list : List Annotation) →
     OwnBlock block start list → length samples ≡ 2 * samples_in_all k.signals
     → IsRowOf k (record { start = start; samples = samples; annotations = list })
@@ -123,7 +124,7 @@ row-read k r start samples block is =
 
 -- the row of a sound data record gives that data record
 pub row-gives : (k : Key) (r : DataRecord) (start : ℤ) (samples block : List ℕ) → IsKey k →
-    IsRowOf k r (Int start ∷ Blob samples ∷ Blob block ∷ []) → GivesRecord samples block r
+    IsRowOf k r (Int start ∷ Blob samples ∷ Blob block ∷ []) → IsRecordFrom samples block r
 row-gives k r start samples block key is = record {
   samples_are = sym (blob-bytes samples _ (ap (λ (row : Row). column row 1) is.cells));
   read = row-read k r start samples block is;
@@ -135,22 +136,22 @@ row-gives k r start samples block key is = record {
 }
 
 -- ---- what samples and a block give
-pub one-given : (samples block : List ℕ) (r s : DataRecord) → GivesRecord samples block r →
-    GivesRecord samples block s → r ≡ s
+pub one-given : (samples block : List ℕ) (r s : DataRecord) → IsRecordFrom samples block r →
+    IsRecordFrom samples block s → r ≡ s
 one-given samples block r s p q =
     let one = one-read block 0 Any r.start s.start r.annotations s.annotations p.read q.read in
     let bytes : r.samples ≡ s.samples = p.samples_are ∙ sym q.samples_are in
     λ i. record { start = one.start i; samples = bytes i; annotations = one.list i }
 
--- the answer is what they give, or `None` where they give nothing
+-- the answer is the data record that they give, or `None` where they give none
 abbrev pub IsGiven : List ℕ → List ℕ → Option DataRecord → Type 0
-IsGiven samples block made = MatchOption made (GivesNoRecord samples block)
-    (GivesRecord samples block)
+IsGiven samples block made = MatchOption made (IsNoRecord samples block)
+    (IsRecordFrom samples block)
 
-pub given-unread : (samples block : List ℕ) → IsUnread block → IsGiven samples block None
-given-unread samples block none r gives = none r.start r.annotations gives.read
+pub given-no_block : (samples block : List ℕ) → IsNoBlock block → IsGiven samples block None
+given-no_block samples block none r gives = none r.start r.annotations gives.read
 
--- what is made of the samples and of what is read
+-- the data record that is made of the samples and of what is read
 pub given-made : (samples block : List ℕ) (read : ℕ) (list : List Annotation)
     (made : Option DataRecord) → IsRead block 0 Any read list
     → (let parts : DataRecord = record { start = read; samples = samples; annotations = list } in
@@ -173,16 +174,16 @@ given-made samples block read list (Some d) is kept = record {
 }
 
 pub given-some : (samples block : List ℕ) (made : Option DataRecord) → IsGiven samples block made →
-    (r : DataRecord) → (made ≡ Some r) ↔ GivesRecord samples block r
+    (r : DataRecord) → (made ≡ Some r) ↔ IsRecordFrom samples block r
 given-some samples block None none r =
     (λ same. absurd (let h : None ≡ Some r = same in cc), λ gives. absurd (none r gives))
 given-some samples block (Some d) is r = (
-  λ same. let e : d ≡ r = cc in subst (GivesRecord samples block) e is,
+  λ same. let e : d ≡ r = cc in subst (IsRecordFrom samples block) e is,
   λ gives. ap Some (one-given samples block d r is gives),
 )
 
 pub given-none : (samples block : List ℕ) (made : Option DataRecord) → IsGiven samples block made →
-    (made ≡ None) ↔ GivesNoRecord samples block
+    (made ≡ None) ↔ IsNoRecord samples block
 given-none samples block None none = (λ same. none, λ no. refl)
 given-none samples block (Some d) is =
     (λ same. absurd (let h : Some d ≡ None = same in cc), λ no. absurd (no d is))

@@ -26,8 +26,8 @@ abbrev pub AreSamples : Key → Row → Type 0
 AreSamples k row = (samples : List ℕ) × (the_samples row ≡ Blob samples)
     × (length samples ≡ 2 * samples_in_all k.signals)
 
--- the cell is the block that is written for the list that is read from it, and the start that is
--- read is the row's
+-- the cell is the block that is written for what is read of it, and the start that is read is the
+-- row's
 pub record IsOwnBlock (row : Row) : Type 0 where
   pub block : List ℕ
   pub start : ℕ
@@ -37,7 +37,7 @@ pub record IsOwnBlock (row : Row) : Type 0 where
   pub written : block ≡ block_text 0 start list
   pub starts : the_start row ≡ Int (pos start)
 
--- why a row is no record of the key: its start, its samples or its block
+-- why a row is no data record of the key: its start, its samples or its block
 pub data IsBadRow (k : Key) (row : Row) : Type 0 where
   bad_start : ((start : ℕ) → ¬ IsStart row start) → IsBadRow k row
   bad_samples : ¬ AreSamples k row → IsBadRow k row

@@ -31,7 +31,7 @@ pub record IsOwned (trees : Trees) (row : Row) : Type 0 where
   pub there : IsThere trees id key
   pub owned : IsTrue (is_of id row)
 
--- a and b are at two places of the list
+-- a and b are two members of the list
 abbrev pub AreTwoOf : List Row → Row → Row → Type 0
 AreTwoOf rows a b = (rest : List Row) × IsPermutation rows (a ∷ b ∷ rest)
 
@@ -62,14 +62,14 @@ pub record IsRowOf (k : Key) (r : DataRecord) (row : Row) : Type 0 where
   pub cells : row ≡ record_cells r
   pub sound : IsSoundRecord k r
 
--- samples and a block give this data record: it has these samples, the start and the annotations
--- that are read from the block, and the size of a data record. Another spelling of the block that
--- is written for it gives the same
-pub record GivesRecord (samples block : List ℕ) (r : DataRecord) : Type 0 where
+-- the data record that samples and a block give: it has these samples, the start and the
+-- annotations that are read of the block, and the size of a data record. Another spelling of the
+-- block that is written for it gives the same
+pub record IsRecordFrom (samples block : List ℕ) (r : DataRecord) : Type 0 where
   pub samples_are : r.samples ≡ samples
   pub read : IsRead block 0 Any r.start r.annotations
   pub size : IsWithinSize r
 
--- they give none
-abbrev pub GivesNoRecord : List ℕ → List ℕ → Type 0
-GivesNoRecord samples block = (r : DataRecord) → ¬ GivesRecord samples block r
+-- samples and a block give no data record
+abbrev pub IsNoRecord : List ℕ → List ℕ → Type 0
+IsNoRecord samples block = (r : DataRecord) → ¬ IsRecordFrom samples block r

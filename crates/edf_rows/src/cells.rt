@@ -1,3 +1,5 @@
+//! The cells of one row.
+
 ghost use Rattle.std.specs.Prelude.{◌≡◌, ◌↔◌, ◌∷◌, [], ℤ, Some, None, List, pos, IfOk, MatchOption};
 ghost use Rattle.sqlite_value.specs.declared.value.Value.TheVariants.{Int, Blob};
 ghost use Rattle.edf_header.specs.Key.{Key, IsKey};
@@ -7,8 +9,8 @@ ghost use Rattle.edf_tal.specs.declared.place.Place.TheVariants.{Any};
 ghost use Rattle.edf_tal.specs.Canonical.{block_text};
 ghost use Rattle.edf_fragment.specs.Fragment.{DataRecord};
 ghost use Rattle.edf_rows.specs.Foreign.{IsBadRow};
-ghost use Rattle.edf_rows.specs.Rows.{IsRowOf, GivesRecord, GivesNoRecord};
-ghost use Rattle.edf_rows.specs.Inside.Shape.{IsUnread, OwnBlock, NoOwnBlock};
+ghost use Rattle.edf_rows.specs.Rows.{IsRowOf, IsRecordFrom, IsNoRecord};
+ghost use Rattle.edf_rows.specs.Inside.Shape.{IsNoBlock, OwnBlock, NoOwnBlock};
 
 use edf_fragment::Record;
 use edf_header::Identity;
@@ -16,7 +18,7 @@ use edf_tal::{Note, Place, TalFault, read_block, write_block};
 use edf_time::Instant;
 use std::alloc::{AllocError, Global};
 
-/// 1985-01-01 00:00:00, from which a stored block's onsets count.
+/// 1985-01-01 00:00:00, from which the onsets of a stored block count.
 fn base() -> Instant
     ensures { result ≡ 0 }
 {
@@ -29,7 +31,7 @@ fn base() -> Instant
 /// The start and the annotations of a stored block; `None` where it is no block.
 fn read_cell(alloc: Global, block: &[u8]) -> Result<Option<(Instant, Vec<Note>)>, AllocError>
     ensures { IfOk result (λ o. MatchOption o
-        (IsUnread block.now)
+        (IsNoBlock block.now)
         (λ r. IsRead block.now 0 Any r.0 r.1.items)) }
 {
     match read_block(alloc, block, base(), Place::Any) {
@@ -44,7 +46,7 @@ fn read_cell(alloc: Global, block: &[u8]) -> Result<Option<(Instant, Vec<Note>)>
     }
 }
 
-/// The start of a block, if it is the block that is written for what it gives.
+/// The start of a block, if the block is the one that is written for what is read of it.
 fn own_start(alloc: Global, block: &[u8]) -> Result<Option<Instant>, AllocError>
     ensures { IfOk result (λ o. MatchOption o
         (NoOwnBlock block.now)
@@ -70,10 +72,10 @@ pub fn start_of(start: Instant) -> i64
 
 /// The start of a row, if its cells are those of a data record of the identity; `None` where the
 /// start is outside the window, the samples are more or fewer than the identity says, or the block
-/// is not the one that is written for what is read from it with that start.
+/// is not the one that is written for this start and the annotations that are read of it.
 ///
 /// # Errors
-/// Where memory runs out, which says nothing of the row.
+/// `AllocError` where memory runs out, which says nothing of the row.
 pub fn check_row(
     alloc: Global,
     identity: &Identity,
@@ -100,21 +102,21 @@ pub fn check_row(
 }
 
 /// The data record that the samples and the block of a row give; `None` where they give none: the
-/// block is refused, or there are more than 4,194,304 sample bytes.
+/// block is refused, or there are more sample bytes than a data record may have.
 ///
-/// Of a row that `check_row` accepts it is the row's data record. The block is not written again to
-/// compare it, so another spelling of it gives the same data record.
+/// Of a row that `check_row` accepts it is the row's data record. The block is not written again
+/// and compared, so another spelling of it gives the same data record.
 ///
 /// # Errors
-/// Where memory runs out, which says nothing of the row.
+/// `AllocError` where memory runs out, which says nothing of the row.
 pub fn record_from(
     alloc: Global,
     samples: Vec<u8>,
     block: &[u8],
 ) -> Result<Option<Record>, AllocError>
     ensures read { IfOk result (λ o. (r : DataRecord) →
-        (o ≡ Some r) ↔ GivesRecord samples.items block.now r) }
-    ensures none { IfOk result (λ o. (o ≡ None) ↔ GivesNoRecord samples.items block.now) }
+        (o ≡ Some r) ↔ IsRecordFrom samples.items block.now r) }
+    ensures none { IfOk result (λ o. (o ≡ None) ↔ IsNoRecord samples.items block.now) }
     ensures row { IfOk result (λ o. (k : Key) (r : DataRecord) (start : ℤ) → IsKey k →
         IsRowOf k r (Int start ∷ Blob samples.items ∷ Blob block.now ∷ []) → o ≡ Some r) }
 {
@@ -128,7 +130,7 @@ pub fn record_from(
 /// 00:00:00 for a base.
 ///
 /// # Errors
-/// Where memory runs out.
+/// `AllocError` where memory runs out.
 pub fn block_of(alloc: Global, data_record: &Record) -> Result<Vec<u8>, AllocError>
     ensures { IfOk result
         (λ v. v.items ≡ block_text 0 data_record.now.start data_record.now.annotations) }

@@ -1,4 +1,4 @@
-//! Laws of the rows: each function has a law for a contract, and does nothing.
+//! Laws of the rows: the contract of each function is a law, and the function does nothing.
 
 ghost use Rattle.std.specs.Prelude.{◌≡◌, ◌↔◌, ℕ};
 ghost use Rattle.sqlite_value.specs.Order.{Row};
@@ -11,13 +11,13 @@ ghost use Rattle.edf_rows.specs.Cells.{record_cells};
 ghost use Rattle.edf_rows.specs.Rows.{StandFor, AreKept};
 ghost use Rattle.edf_rows.specs.Foreign.{IsBadRow, IsForeign};
 
-/// Rows stand for one sound holdings at most.
+/// Two sound holdings that the same rows stand for are equal.
 pub fn one_holdings()
     ensures { (trees : Trees) (h i : Holdings) (c d : ℕ) → StandFor trees h → IsSound c h →
         StandFor trees i → IsSound d i → h ≡ i }
 {}
 
-/// The cells of a sound data record are of no other, and are no bad row.
+/// No two sound data records of a key have the same cells, and none has those of a bad row.
 pub fn one_record()
     ensures one { (k : Key) (r s : DataRecord) → IsSoundRecord k r → IsSoundRecord k s →
         record_cells r ≡ record_cells s → r ≡ s }

@@ -7,8 +7,7 @@
 //! - [`check_row`]: whether the cells of a row are those of a data record.
 //! - [`record_from`]: which data record, by the samples and the block of a row.
 //! - [`block_of`], [`start_of`]: the cells of a data record.
-//! - [`laws`]: rows stand for one holdings at most, and are not foreign where they stand for sound
-//!   ones.
+//! - [`laws`]: rows stand for one holdings at most, and are not foreign where these are sound.
 #![tactic(auto)]
 
 mod cells;

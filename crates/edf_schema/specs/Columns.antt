@@ -51,7 +51,7 @@ the_samples row = column row 1
 abbrev pub the_block : Row → Value
 the_block row = column row 2
 
--- two rows by the column at one place
+-- two rows by one column
 abbrev pub by_column : ℕ → Row → Row → Ordering
 by_column at a b = value_cmp (column a at) (column b at)
 

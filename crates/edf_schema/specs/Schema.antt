@@ -1,39 +1,45 @@
 -- The two tables, as the CREATE texts leave them.
 use Rattle.sqlite_value.specs.declared.keys.Collation.TheVariants.{Binary}
-use Rattle.std.specs.Prelude.{◌≡◌, ◌⊎◌, ◌≤◌, ℕ, true, false, List, [], ◌∷◌, Some, None, IfSome, All}
-use Rattle.std.specs.Prelude.{codes}
+use Rattle.std.specs.Prelude.{◌≡◌, ◌⊎◌, ◌≤◌, ℕ, Bool, true, false, List, [], ◌∷◌, Some, None}
+use Rattle.std.specs.Prelude.{IfSome, All, codes}
 use Rattle.sqlite_value.specs.declared.value.Value.TheVariants.{Null}
 use Rattle.sqlite_schema.specs.declared.schema.Table.{Table}
 use Rattle.sqlite_schema.specs.declared.schema.Schema.{Schema}
 use Rattle.sqlite_schema.specs.declared.schema.Index.{Index}
 use Rattle.sqlite_schema.specs.declared.schema.View.{View}
+use Rattle.sqlite_schema.specs.declared.schema.Column.{Column}
+use Rattle.sqlite_schema.specs.declared.schema.Kind.{Kind}
 use Rattle.sqlite_schema.specs.declared.schema.Kind.TheVariants.{Integer, Blob}
 use Rattle.sqlite_value.specs.Keys.{plain}
 use Rattle.sqlite_schema.specs.Names.{same_name}
 use Rattle.sqlite_catalog.specs.Listing.{automatic}
+
+-- a column of a STRICT table, and whether it is NOT NULL
+abbrev pub strict_column : List ℕ → Kind → Bool → Column
+strict_column name kind not_null = record {
+  name = name;
+  kind = kind;
+  is_strict = true;
+  not_null = not_null;
+  default = Null;
+  collation = Binary;
+}
+
+abbrev pub recording_columns : List Column
+recording_columns =
+    strict_column (codes "id") Integer false ∷ strict_column (codes "identity") Blob true ∷ []
+
+abbrev pub record_columns : List Column
+record_columns =
+    strict_column (codes "recording") Integer true ∷ strict_column (codes "start") Integer true
+    ∷ strict_column (codes "samples") Blob true ∷ strict_column (codes "block") Blob true ∷ []
 
 -- tree 0, and its index of identities tree 1
 abbrev pub recording : Table
 recording = record {
   name = codes "recording";
   tree = 0;
-  columns = (record {
-    name = codes "id";
-    kind = Integer;
-    is_strict = true;
-    not_null = false;
-    default = Null;
-    collation = Binary;
-  })
-      ∷ (record {
-        name = codes "identity";
-        kind = Blob;
-        is_strict = true;
-        not_null = true;
-        default =
-            Null;
-        collation = Binary;
-      }) ∷ [];
+  columns = recording_columns;
   key = Some 0;
   primary = 0 ∷ [];
   uniques = (2 ∷ []) ∷ [];
@@ -53,41 +59,7 @@ abbrev pub records : Table
 records = record {
   name = codes "record";
   tree = 2;
-  columns = (record {
-    name = codes "recording";
-    kind = Integer;
-    is_strict = true;
-    not_null = true;
-    default = Null;
-    collation = Binary;
-  })
-      ∷ (record {
-        name = codes "start";
-        kind = Integer;
-        is_strict = true;
-        not_null = true;
-        default =
-            Null;
-        collation = Binary;
-      })
-      ∷ (record {
-        name = codes "samples";
-        kind = Blob;
-        is_strict = true;
-        not_null = true;
-        default =
-            Null;
-        collation = Binary;
-      })
-      ∷ (record {
-        name = codes "block";
-        kind = Blob;
-        is_strict = true;
-        not_null = true;
-        default =
-            Null;
-        collation = Binary;
-      }) ∷ [];
+  columns = record_columns;
   key = None;
   primary = 1 ∷ 2 ∷ [];
   uniques = (1 ∷ 2 ∷ []) ∷ [];
@@ -118,8 +90,7 @@ pub record Others : Type 0 where
 abbrev pub schema_with : Others → Schema
 schema_with others = record {
   tables = recording ∷ records ∷ others.tables;
-  indexes =
-      identity_index ∷ start_index ∷ others.indexes;
+  indexes = identity_index ∷ start_index ∷ others.indexes;
   views = others.views;
 }
 

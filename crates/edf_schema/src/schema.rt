@@ -6,9 +6,10 @@ ghost use Rattle.edf_schema.specs.Schema.{recording, records, identity_index, st
 ghost use Rattle.edf_schema.specs.Schema.{no_schema, one_schema, IsOtherTree, IsOtherIndex};
 ghost use Rattle.edf_schema.specs.Schema.{IsOtherView, HasBoth, AreOurs};
 ghost use Rattle.sqlite_schema.specs.Names.{same_name};
-ghost use Rattle.edf_schema.specs.Inside.Parts.{recording_columns, record_columns, index_of};
+ghost use Rattle.edf_schema.specs.Schema.{recording_columns, record_columns};
+ghost use Rattle.edf_schema.specs.Inside.Parts.{index_of};
 
-use crate::table::{are_places, is_column, is_one_key, is_plain, is_text};
+use crate::table::{are_columns, is_column, is_one_key, is_plain, is_text};
 use sqlite_schema::names;
 use sqlite_schema::schema::{Column, Index, Kind, Schema, Table, View};
 use sqlite_value::keys::Order;
@@ -45,7 +46,7 @@ fn is_recording(table: &Table) -> bool
         && table.tree == 0
         && are_recording_columns(table.columns.as_slice())
         && table.key == Some(0)
-        && are_places(&table.primary, &[0])
+        && are_columns(&table.primary, &[0])
         && is_one_key(&table.uniques, &[2])
         && is_plain(table)
 }
@@ -57,7 +58,7 @@ fn is_record(table: &Table) -> bool
         && table.tree == 2
         && are_record_columns(table.columns.as_slice())
         && table.key == None
-        && are_places(&table.primary, &[1, 2])
+        && are_columns(&table.primary, &[1, 2])
         && is_one_key(&table.uniques, &[1, 2])
         && is_plain(table)
 }
@@ -68,7 +69,7 @@ fn is_index(index: &Index, name: &[u8], tree: u32, table: u32, columns: &[usize]
     is_text(&index.name, name)
         && index.tree == tree
         && index.table == table
-        && are_places(&index.columns, columns)
+        && are_columns(&index.columns, columns)
         && index.order.digits == 0
         && index.is_unique
 }

@@ -1,10 +1,11 @@
-//! The parts of a table.
+//! The parts of a table, each compared with what our CREATE texts make of it.
 
 ghost use Rattle.std.specs.Prelude.{◌≡◌, ◌↔◌, [], ◌∷◌, IsTrue};
 ghost use Rattle.sqlite_value.specs.declared.value.Value.TheVariants.{Null};
 ghost use Rattle.sqlite_value.specs.declared.keys.Collation.TheVariants.{Binary};
 ghost use Rattle.sqlite_value.specs.Keys.{plain};
-ghost use Rattle.edf_schema.specs.Inside.Parts.{strict_column, IsPlain};
+ghost use Rattle.edf_schema.specs.Schema.{strict_column};
+ghost use Rattle.edf_schema.specs.Inside.Parts.{IsPlainTable};
 
 use sqlite_items::Items;
 use sqlite_schema::schema::{Column, Kind, Stamps, Table};
@@ -17,10 +18,11 @@ pub(crate) fn is_text(bytes: &Bytes, text: &[u8]) -> bool
     bytes.as_slice() == text
 }
 
-pub(crate) fn are_places(places: &Items<usize>, these: &[usize]) -> bool
-    ensures { IsTrue result ↔ (places.now ≡ these.now) }
+/// Whether these are the numbers of the columns, the rowid being column 0.
+pub(crate) fn are_columns(columns: &Items<usize>, these: &[usize]) -> bool
+    ensures { IsTrue result ↔ (columns.now ≡ these.now) }
 {
-    places.as_slice() == these
+    columns.as_slice() == these
 }
 
 pub(crate) fn is_one_key(keys: &Items<Items<usize>>, these: &[usize]) -> bool
@@ -29,7 +31,7 @@ pub(crate) fn is_one_key(keys: &Items<Items<usize>>, these: &[usize]) -> bool
     let [key] = keys.as_slice() else {
         return false;
     };
-    are_places(key, these)
+    are_columns(key, these)
 }
 
 pub(crate) fn is_plain_order(orders: &Items<Order>) -> bool
@@ -68,7 +70,7 @@ fn has_no_stamps(stamps: &Stamps) -> bool
 }
 
 pub(crate) fn is_plain(table: &Table) -> bool
-    ensures { IsTrue result ↔ IsPlain table.now }
+    ensures { IsTrue result ↔ IsPlainTable table.now }
 {
     is_plain_order(&table.orders)
         && table.checks.roots.is_empty()

@@ -9,7 +9,7 @@ use Rattle.edf_tables.specs.Schema.{Others, schema_with}
 use Rattle.edf_tables.proofs.Queries.{plain_query, ordered_query, paged_query, last_query}
 use Rattle.edf_tables.proofs.Queries.{of_recording, start_samples_block, near_terms, after_terms}
 use Rattle.edf_tables.proofs.Queries.{from_terms, count_query, identity_terms}
-use Rattle.edf_tables.proofs.QueryTexts.{near_text, page_text, walk_text, count_text, first_text}
+use Rattle.edf_tables.proofs.QueryTexts.{near_text, page_text, rows_text, count_text, first_text}
 use Rattle.edf_tables.proofs.QueryTexts.{next_text, last_text, id_text, identities_text}
 use Rattle.edf_tables.proofs.QueryTexts.{recordings_text, count_all_text}
 use Rattle.edf_tables.proofs.Refusals.{IsAlone, IsTaken, ungrouped, counted_small}
@@ -41,13 +41,13 @@ page_taken n after most = record {
       (Int n ∷ Int after ∷ Int (pos most) ∷ []) refl refl;
 }
 
-pub walk_alone : (o : Others) → IsAlone (schema_with o) walk_text 1
+pub rows_alone : (o : Others) → IsAlone (schema_with o) rows_text 1
 unfolding understood everything
-walk_alone o = record { whole = omega arith; inputs = refl; plain = (refl, refl) }
+rows_alone o = record { whole = omega arith; inputs = refl; plain = (refl, refl) }
 
-pub walk_taken : (n : ℤ) → IsTaken (ordered_query 2 (of_recording ∷ []) start_samples_block 2)
+pub rows_taken : (n : ℤ) → IsTaken (ordered_query 2 (of_recording ∷ []) start_samples_block 2)
     (Int n ∷ [])
-walk_taken n = record {
+rows_taken n = record {
   typed = λ o. refl;
   small =
       ungrouped (ordered_query 2 (of_recording ∷ []) start_samples_block 2) 2 (Int n ∷ []) refl

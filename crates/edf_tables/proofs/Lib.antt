@@ -23,4 +23,5 @@ pub mod Terms
 pub mod Texts
 pub mod Turns
 pub mod Unadded
+pub mod Unmade
 pub mod Writing

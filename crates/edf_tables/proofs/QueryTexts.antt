@@ -27,8 +27,8 @@ abbrev pub page_text : List ℕ
 page_text = codes
     "SELECT start, samples, block FROM record WHERE recording = ?1 AND start > ?2 ORDER BY start LIMIT ?3"
 
-abbrev pub walk_text : List ℕ
-walk_text = codes "SELECT start, samples, block FROM record WHERE recording = ?1 ORDER BY start"
+abbrev pub rows_text : List ℕ
+rows_text = codes "SELECT start, samples, block FROM record WHERE recording = ?1 ORDER BY start"
 
 abbrev pub count_text : List ℕ
 count_text = codes "SELECT count(*) FROM record WHERE recording = ?1"
@@ -68,10 +68,10 @@ pub page_is : Means page_text (paged_query 2 after_terms start_samples_block 2 (
 unfolding understood everything
 page_is = record { command = λ o. refl; unlisted = λ o. refl; plain = λ o. (refl, refl) }
 
-pub walk_is : Means walk_text (ordered_query 2 (of_recording ∷ []) start_samples_block 2)
+pub rows_is : Means rows_text (ordered_query 2 (of_recording ∷ []) start_samples_block 2)
     start_samples_block_names
 unfolding understood everything
-walk_is = record { command = λ o. refl; unlisted = λ o. refl; plain = λ o. (refl, refl) }
+rows_is = record { command = λ o. refl; unlisted = λ o. refl; plain = λ o. (refl, refl) }
 
 pub count_is : Means count_text (count_query (of_recording ∷ [])) (codes "count(*)" ∷ [])
 unfolding understood everything

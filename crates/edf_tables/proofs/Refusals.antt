@@ -15,7 +15,7 @@ use Rattle.sqlite_sql.specs.Program.{QueryOverflows}
 use Rattle.edf_tables.proofs.Queries.{count_query, count_rows}
 use Rattle.std.proofs.lemmas.Bool.{cases_Bool}
 use Rattle.sqlite_schema.specs.declared.command.Command.{Command}
-use Rattle.sqlite_schema.specs.declared.command.Command.TheVariants.{Select}
+use Rattle.sqlite_schema.specs.declared.command.Command.TheVariants.{Select, Nothing}
 use Rattle.sqlite_schema.specs.declared.command.Returning.{Returning}
 use Rattle.sqlite_typing.specs.Types.{accepts_program}
 use Rattle.sqlite_resolve.specs.declared.compiled.Compiled.{Compiled}
@@ -143,6 +143,21 @@ TurnsDown old new command text params e =
     (Err (Some e)) × IsUnchanged old new)
     ⊎ Fails old new (Does old.step_limit (mode_of old) params old.now text None command
     (Err None)) e)
+
+-- what writes is never refused for its place
+pub writes_at_any_place : (old : State) (command : Command) (e : Error) → IsWrite command →
+    ¬ IsMisplaced old command e
+writes_at_any_place old command e writes (inl (is, inl begins)) = subst IsWrite begins.0 writes
+writes_at_any_place old command e writes (inl (is, inr ends)) =
+    elim ends.0 [ inl k ↦ subst IsWrite k writes | inr k ↦ subst IsWrite k writes ]
+writes_at_any_place old command e writes (inr named) =
+    elim named.2 [ inl k ↦ subst IsWrite k writes | inr k ↦ subst IsWrite k writes ]
+
+-- nothing is done at any place
+pub nothing_at_any_place : (old : State) (e : Error) → ¬ IsMisplaced old Nothing e
+nothing_at_any_place old e (inl (is, inl begins)) = absurd (let k = begins.0 in cc)
+nothing_at_any_place old e (inl (is, inr ends)) = absurd (elim ends.0 [ inl k ↦ cc | inr k ↦ cc ])
+nothing_at_any_place old e (inr named) = absurd (elim named.2 [ inl k ↦ cc | inr k ↦ cc ])
 
 -- a text that is one statement, shows no rows and has no RETURNING
 module _ (sql : List ℕ) (params : Row) (old new : State) (schema : Schema)

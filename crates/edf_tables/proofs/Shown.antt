@@ -26,6 +26,7 @@ use Rattle.sqlite_keyed.specs.Lists.{sort_by}
 use Rattle.sqlite_keyed.proofs.ListLemmas.{ascending-filter, map-map}
 use Rattle.sqlite_keyed.proofs.SortLemmas.{IsPermutation-sort_by}
 use Rattle.edf_tables.specs.declared.row.RecordRow.{RecordRow}
+use Rattle.edf_tables.specs.declared.row.TheConstants.{MOST_COUNTED}
 use Rattle.edf_tables.specs.Cells.{cells_of, first_three}
 use Rattle.edf_tables.specs.Schema.{HasBoth}
 use Rattle.edf_tables.specs.Records.{records_of, HaveRisingStarts, IsReady, starts_after}
@@ -34,8 +35,8 @@ use Rattle.edf_schema.specs.Columns.{by_column, is_of}
 use Rattle.edf_tables.specs.Recordings.{named, IsIdIn, by_identity, AreNamedApart, shown_recording}
 use Rattle.edf_tables.proofs.Queries.{passes, paged_query, of_recording, start_samples_block}
 use Rattle.edf_tables.proofs.Queries.{near_terms, after_terms, from_terms, identity_terms}
-use Rattle.edf_tables.proofs.QueryTexts.{Means, near_text, near_is, page_text, page_is, walk_text}
-use Rattle.edf_tables.proofs.QueryTexts.{walk_is, count_text, count_is, first_text, first_is}
+use Rattle.edf_tables.proofs.QueryTexts.{Means, near_text, near_is, page_text, page_is}
+use Rattle.edf_tables.proofs.QueryTexts.{count_text, count_is, first_text, first_is}
 use Rattle.edf_tables.proofs.QueryTexts.{next_text, next_is, last_text, last_is, id_text, id_is}
 use Rattle.edf_tables.proofs.QueryTexts.{identities_text, identities_is, recordings_text}
 use Rattle.edf_tables.proofs.QueryTexts.{recordings_is, count_all_text, count_all_is}
@@ -127,19 +128,6 @@ page_shown n after most old new rows ready h =
     ready.schema h) ready.rising
     ∙ take-map shown_record most _
 
--- the rows of a walk that were given so far begin the records of the recording
-pub walk_begun : {S : Type 0} (g : Ghosts S) (n : ℤ) (h : Held S) (rows : List Row) →
-    IsReady n (state g h) → HasGiven g walk_text (Int n ∷ []) h rows
-    → (tail : List Row) × (rows ++ tail ≡ map shown_record (records_of n ((state g h).now.trees 2)))
-walk_begun g n h rows ready it =
-    let s = state g h in
-    let read = answer_begun walk_text _ _ walk_is g (Int n ∷ []) h rows ready.schema it in (
-      read.0,
-      records_answer n (Int n ∷ []) (of_recording ∷ []) (λ _. true) (whole n) start_samples_block _
-          (overlay s.now.trees []) (rows ++ read.0) read.1 ready.rising
-          ∙ ap (map shown_record) (filter_true (records_of n (s.now.trees 2))),
-    )
-
 -- typed rows have the cells of these
 pub typed : (found : List RecordRow) (rows xs : List Row) →
     map cells_of found ≡ map first_three rows → rows ≡ map shown_record xs →
@@ -148,14 +136,14 @@ typed found rows xs e is = e ∙ ap (map first_three) is ∙ map-map first_three
 
 number_of : (found m : ℕ) (rows : List Row) →
     option_map (λ row. column row 0) (slice_get rows 0) ≡ Some (Int (pos found)) →
-    rows ≡ (count m ∷ []) ∷ [] → found ≡ min m 9223372036854775807
+    rows ≡ (count m ∷ []) ∷ [] → found ≡ min m MOST_COUNTED
 number_of found m rows h is = let e : Some (count m) ≡ Some (Int (pos found)) = rw is at h in
-    let same : min m 9223372036854775807 ≡ found = cc in sym same
+    let same : min m MOST_COUNTED ≡ found = cc in sym same
 
 pub count_shown : (n : ℤ) (found : ℕ) (old new : State) (rows : List Row) → HasBoth old.now.schema →
     Shown count_text (Int n ∷ []) old new rows →
     option_map (λ row. column row 0) (slice_get rows 0) ≡ Some (Int (pos found))
-    → found ≡ min (length (records_of n (old.now.trees 2))) 9223372036854775807
+    → found ≡ min (length (records_of n (old.now.trees 2))) MOST_COUNTED
 count_shown n found old new rows has h first =
     let size : length (filter (passes (Int n ∷ []) (of_recording ∷ [])) (old.now.trees 2)) ≡ length
     (records_of n (old.now.trees 2)) =
@@ -164,16 +152,16 @@ count_shown n found old new rows has h first =
     (filter (is_of n) (old.now.trees 2))) in
     number_of found _ rows first (counted (of_recording ∷ []) (Int n ∷ [])
     (overlay old.now.trees []) rows (answer_of count_text _ _ count_is (Int n ∷ []) old new rows
-    has h)) ∙ ap (λ m. min m 9223372036854775807) size
+    has h)) ∙ ap (λ m. min m MOST_COUNTED) size
 
 pub count_all_shown : (found : ℕ) (old new : State) (rows : List Row) → HasBoth old.now.schema →
     Shown count_all_text [] old new rows →
     option_map (λ row. column row 0) (slice_get rows 0) ≡ Some (Int (pos found))
-    → found ≡ min (length (old.now.trees 2)) 9223372036854775807
+    → found ≡ min (length (old.now.trees 2)) MOST_COUNTED
 count_all_shown found old new rows has h first =
     number_of found _ rows first (counted [] [] (overlay old.now.trees []) rows
     (answer_of count_all_text _ _ count_all_is [] old new rows has h))
-    ∙ ap (λ l. min (length l) 9223372036854775807) (filter_true (old.now.trees 2))
+    ∙ ap (λ l. min (length l) MOST_COUNTED) (filter_true (old.now.trees 2))
 
 -- a count shows a row
 not_none : (m : ℕ) (rows : List Row) → rows ≡ (count m ∷ []) ∷ [] → rows ≢ []

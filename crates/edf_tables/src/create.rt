@@ -1,4 +1,4 @@
-//! The two tables.
+//! The texts that make the two tables.
 
 ghost use Rattle.std.specs.Prelude.{◌≡◌, ◌⊎◌, [], Ok};
 ghost use Rattle.sqlite.specs.Held.{state};
@@ -13,11 +13,11 @@ ghost use Rattle.edf_tables.specs.Statement.{IfClean, Leaves, FailsAs, KeepsComm
 use edf_schema::has_both;
 use sqlite::{Alter, Connection, Error};
 
-/// Makes the table `recording` where it is missing, in a file that has nothing else. The number is
-/// `sqlite`'s count of changed rows, and nothing is promised of it.
+/// Makes the table `recording` in a file that has nothing, and does nothing where the table is
+/// there alone. The number is `sqlite`'s count of changed rows, and nothing is promised of it.
 ///
 /// # Errors
-/// `sqlite`'s; nothing is committed then. A crash leaves the table as it was, or made.
+/// `sqlite`'s; nothing is committed then. A crash leaves the file as it was, or with the table.
 fn create_recording<S: Alter>(conn: &mut Connection<S>) -> Result<usize, Error>
     requires { IfClean S.Store conn.old (λ s.
         (s.now.schema ≡ no_schema) ⊎ (s.now.schema ≡ one_schema)) }
@@ -38,11 +38,10 @@ fn create_recording<S: Alter>(conn: &mut Connection<S>) -> Result<usize, Error>
     )
 }
 
-/// Makes the table `record` where `recording` is alone. Of the number nothing is promised, as
-/// above.
+/// Makes the table `record` where `recording` is there alone. Nothing is promised of the number.
 ///
 /// # Errors
-/// `sqlite`'s; nothing is committed then. A crash leaves the table as it was, or made.
+/// `sqlite`'s; nothing is committed then. A crash leaves the file as it was, or with the table.
 fn create_records<S: Alter>(conn: &mut Connection<S>) -> Result<usize, Error>
     requires { IfClean S.Store conn.old (λ s. s.now.schema ≡ one_schema) }
     ensures made { Leaves S.Store conn.old conn.new result (λ old new. HasTables old.now new.now) }
@@ -64,12 +63,12 @@ fn create_records<S: Alter>(conn: &mut Connection<S>) -> Result<usize, Error>
     )
 }
 
-/// Makes both tables where they are missing. Where both are there, nothing is done, whatever comes
-/// after them.
+/// Makes those of the two tables that are missing. Where both are there, nothing is done, whatever
+/// comes after them.
 ///
 /// # Errors
 /// `sqlite`'s; the committed rows stay, an open transaction may be undone, and the first table may
-/// have been made. A crash leaves no table, the first, or both.
+/// have been made. A crash leaves the file as it was, with the first table, or with both.
 #[tactic(auto, using(crate::proofs::Tables::after_first, crate::proofs::Tables::both_made, crate::proofs::Tables::first_survives, crate::proofs::Tables::second_survives))]
 pub fn create_tables<S: Alter>(conn: &mut Connection<S>) -> Result<(), Error>
     requires { IfClean S.Store conn.old (λ s. IsOurs s.now) }

@@ -1,4 +1,4 @@
-//! All recordings.
+//! Recordings by their identities, and the number of all rows of `record`.
 
 ghost use Rattle.std.specs.Prelude.{◌≡◌, IsPermutation, IsSorted, length, map, min};
 ghost use Rattle.sqlite.specs.declared.types.Value.TheVariants.{Blob};
@@ -10,13 +10,13 @@ ghost use Rattle.edf_tables.specs.Recordings.{shown_recording};
 ghost use Rattle.edf_tables.specs.Statement.{HasBothTables, tables, IfClean, Gives, OnlyReads};
 ghost use Rattle.edf_tables.specs.Statement.{FailsAs, KeepsCommitted, IsCrashSafe, LeavesOnErr};
 
-use crate::row::{first_count, first_number, identities_in, rows_shown};
+use crate::row::{MOST_COUNTED, first_count, first_number, identities_in, rows_shown};
 use sqlite::{Alter, Connection, Error, Row, params};
 
-/// The id of a recording with this identity.
+/// The id of the recording with this identity, if there is one.
 ///
 /// # Errors
-/// `sqlite`'s, and that of a cell of another type; what is committed stays, and an open transaction
+/// `sqlite`'s, and the one for a cell of another type. What is committed stays; an open transaction
 /// may be undone.
 pub fn select_recording<S: Alter>(
     conn: &mut Connection<S>,
@@ -41,7 +41,7 @@ pub fn select_recording<S: Alter>(
 /// The identities of all recordings, by their bytes.
 ///
 /// # Errors
-/// `sqlite`'s, and that of a cell of another type; what is committed stays, and an open transaction
+/// `sqlite`'s, and the one for a cell of another type. What is committed stays; an open transaction
 /// may be undone.
 pub fn identities<S: Alter>(conn: &mut Connection<S>) -> Result<Vec<Vec<u8>>, Error>
     requires apart { IfClean S.Store conn.old AreNamedApart }
@@ -62,13 +62,13 @@ pub fn identities<S: Alter>(conn: &mut Connection<S>) -> Result<Vec<Vec<u8>>, Er
     identities_in(rows)
 }
 
-/// The id and the identity of all recordings, as they are, also where a cell has another type.
+/// The id and the identity of each recording, by their ids, as the cells are, also where one has
+/// another type than ours.
 ///
-/// They come by their ids; without ORDER BY they would come in the order of the index of
-/// identities.
+/// Without ORDER BY they would come in the order of the index of identities.
 ///
 /// # Errors
-/// `sqlite`'s; what is committed stays, and an open transaction may be undone.
+/// `sqlite`'s. What is committed stays; an open transaction may be undone.
 pub fn recordings<S: Alter>(conn: &mut Connection<S>) -> Result<Vec<Row>, Error>
     requires schema { IfClean S.Store conn.old HasBothTables }
     ensures why { FailsAs S.Store conn.old conn.new result IsUnread }
@@ -84,17 +84,17 @@ pub fn recordings<S: Alter>(conn: &mut Connection<S>) -> Result<Vec<Row>, Error>
     rows_shown(conn, "SELECT id, identity FROM recording ORDER BY id", &[])
 }
 
-/// The number of all record rows, including orphans with no recording; 2^63 - 1 where there are
-/// more.
+/// The number of all rows of `record`, those without a recording too, or [`MOST_COUNTED`] where
+/// there are more.
 ///
 /// # Errors
-/// `sqlite`'s, and that of a cell of another type; what is committed stays, and an open transaction
+/// `sqlite`'s, and the one for a cell of another type. What is committed stays; an open transaction
 /// may be undone.
 pub fn count_all_rows<S: Alter>(conn: &mut Connection<S>) -> Result<u64, Error>
     requires schema { IfClean S.Store conn.old HasBothTables }
     ensures why { FailsAs S.Store conn.old conn.new result IsUntold }
     ensures count { Gives S.Store conn.new result (λ count.
-        count ≡ min (length (stored_records (tables S.Store conn.old))) 9223372036854775807) }
+        count ≡ min (length (stored_records (tables S.Store conn.old))) MOST_COUNTED) }
     ensures same { OnlyReads S.Store conn.old conn.new result }
     ensures kept { KeepsCommitted S.Store conn.old conn.new }
     ensures refused { LeavesOnErr S.Store conn.old conn.new result IsLeft }

@@ -11,13 +11,13 @@ ghost use Rattle.edf_tables.specs.Records.{starts_between, starts_from};
 ghost use Rattle.edf_tables.specs.Statement.{HasBothTables, tables, IfClean, Gives, OnlyReads};
 ghost use Rattle.edf_tables.specs.Statement.{FailsAs, KeepsCommitted, IsCrashSafe};
 
-use crate::row::{RecordRow, first_count, first_number, record_rows, rows_shown};
+use crate::row::{MOST_COUNTED, RecordRow, first_count, first_number, record_rows, rows_shown};
 use sqlite::{Alter, Connection, Error, params};
 
 /// The records of a recording that start after one instant and before another, by their starts.
 ///
 /// # Errors
-/// `sqlite`'s, and that of a cell of another type; what is committed stays, and an open transaction
+/// `sqlite`'s, and the one for a cell of another type. What is committed stays; an open transaction
 /// may be undone.
 pub fn near_rows<S: Alter>(
     conn: &mut Connection<S>,
@@ -47,7 +47,7 @@ pub fn near_rows<S: Alter>(
 /// The first `limit` records of a recording that start after an instant, by their starts.
 ///
 /// # Errors
-/// `sqlite`'s, and that of a cell of another type; what is committed stays, and an open transaction
+/// `sqlite`'s, and the one for a cell of another type. What is committed stays; an open transaction
 /// may be undone.
 pub fn page_rows<S: Alter>(
     conn: &mut Connection<S>,
@@ -74,17 +74,17 @@ pub fn page_rows<S: Alter>(
     record_rows(rows)
 }
 
-/// The number of records of a recording, 2^63 - 1 where there are more.
+/// The number of records of a recording, or [`MOST_COUNTED`] where there are more.
 ///
 /// # Errors
-/// `sqlite`'s, and that of a cell of another type; what is committed stays, and an open transaction
+/// `sqlite`'s, and the one for a cell of another type. What is committed stays; an open transaction
 /// may be undone.
 pub fn count_rows<S: Alter>(conn: &mut Connection<S>, recording: i64) -> Result<u64, Error>
     requires schema { IfClean S.Store conn.old HasBothTables }
     ensures why { FailsAs S.Store conn.old conn.new result IsUntold }
     ensures count { Gives S.Store conn.new result (λ count.
         count ≡ min (length (records_of recording (stored_records (tables S.Store conn.old))))
-        9223372036854775807) }
+        MOST_COUNTED) }
     ensures same { OnlyReads S.Store conn.old conn.new result }
     ensures kept { KeepsCommitted S.Store conn.old conn.new }
     ensures survives { IsCrashSafe S.Store conn.old conn.new }
@@ -100,7 +100,7 @@ pub fn count_rows<S: Alter>(conn: &mut Connection<S>, recording: i64) -> Result<
 /// The first start of a recording's records.
 ///
 /// # Errors
-/// `sqlite`'s, and that of a cell of another type; what is committed stays, and an open transaction
+/// `sqlite`'s, and the one for a cell of another type. What is committed stays; an open transaction
 /// may be undone.
 pub fn first_start<S: Alter>(conn: &mut Connection<S>, recording: i64) -> Result<Option<i64>, Error>
     requires ready { IfClean S.Store conn.old (IsReady recording) }
@@ -123,7 +123,7 @@ pub fn first_start<S: Alter>(conn: &mut Connection<S>, recording: i64) -> Result
 /// The first start of a recording's records that is `from` or later.
 ///
 /// # Errors
-/// `sqlite`'s, and that of a cell of another type; what is committed stays, and an open transaction
+/// `sqlite`'s, and the one for a cell of another type. What is committed stays; an open transaction
 /// may be undone.
 pub fn next_start<S: Alter>(
     conn: &mut Connection<S>,
@@ -151,7 +151,7 @@ pub fn next_start<S: Alter>(
 /// The last start of a recording's records.
 ///
 /// # Errors
-/// `sqlite`'s, and that of a cell of another type; what is committed stays, and an open transaction
+/// `sqlite`'s, and the one for a cell of another type. What is committed stays; an open transaction
 /// may be undone.
 pub fn last_start<S: Alter>(conn: &mut Connection<S>, recording: i64) -> Result<Option<i64>, Error>
     requires ready { IfClean S.Store conn.old (IsReady recording) }

@@ -18,11 +18,10 @@ ghost use Rattle.edf_tables.specs.Statement.{IsCrashSafe};
 use sqlite::types::ValueRef;
 use sqlite::{Alter, Connection, Error, Row};
 
-/// A row of the table `record`, without its recording.
+/// A row of the table `record` as typed values, without its recording.
 #[derive(Debug, PartialEq, Eq, Drop)]
 pub struct RecordRow {
-    /// What orders the rows of a recording: nanoseconds from 1985-01-01 00:00:00, as `edf_rows`
-    /// counts them.
+    /// Nanoseconds from 1985-01-01 00:00:00, by which the rows of a recording are in order.
     pub start: i64,
     /// The sample bytes of the data record.
     pub samples: Vec<u8>,
@@ -30,8 +29,12 @@ pub struct RecordRow {
     pub block: Vec<u8>,
 }
 
+/// The most rows that a count tells of: SQLite's integers have a sign and 63 more bits.
+pub const MOST_COUNTED: u64 = 9_223_372_036_854_775_807;
+
+/// The typed row of a row whose first three columns are a start, samples and a block.
 fn record_row(row: &Row) -> Result<RecordRow, Error>
-    ensures told { IfOk result (λ r. cells_of r ≡ first_three row.now) }
+    ensures value { IfOk result (λ r. cells_of r ≡ first_three row.now) }
     ensures why { IfErr result IsCellRefused }
 {
     Ok(RecordRow {
@@ -41,8 +44,9 @@ fn record_row(row: &Row) -> Result<RecordRow, Error>
     })
 }
 
+/// The same of each of these rows.
 pub(crate) fn record_rows(rows: Vec<Row>) -> Result<Vec<RecordRow>, Error>
-    ensures told { IfOk result (λ found. map cells_of found.items ≡ map first_three rows.items) }
+    ensures value { IfOk result (λ found. map cells_of found.items ≡ map first_three rows.items) }
     ensures why { IfErr result IsCellRefused }
 {
     let mut found = Vec::new(*rows.allocator());
@@ -52,8 +56,9 @@ pub(crate) fn record_rows(rows: Vec<Row>) -> Result<Vec<RecordRow>, Error>
     Ok(found)
 }
 
+/// The bytes in the first column of each row.
 pub(crate) fn identities_in(rows: Vec<Row>) -> Result<Vec<Vec<u8>>, Error>
-    ensures told { IfOk result (λ found.
+    ensures value { IfOk result (λ found.
         map (λ b. Blob b.items) found.items ≡ map (λ row. column row 0) rows.items) }
     ensures why { IfErr result IsCellRefused }
 {
@@ -66,7 +71,7 @@ pub(crate) fn identities_in(rows: Vec<Row>) -> Result<Vec<Vec<u8>>, Error>
 
 /// The number in the first column of the first row, if there is a row.
 pub(crate) fn first_number(rows: Vec<Row>) -> Result<Option<i64>, Error>
-    ensures told { IfOk result (λ found.
+    ensures value { IfOk result (λ found.
         option_map Int found ≡ option_map (λ row. column row 0) (slice_get rows.items 0)) }
     ensures why { IfErr result IsCellRefused }
 {
@@ -78,7 +83,7 @@ pub(crate) fn first_number(rows: Vec<Row>) -> Result<Option<i64>, Error>
 
 /// The count in the first column of the first row.
 pub(crate) fn first_count(rows: Vec<Row>) -> Result<u64, Error>
-    ensures told { IfOk result (λ found.
+    ensures value { IfOk result (λ found.
         option_map (λ row. column row 0) (slice_get rows.items 0) ≡ Some (Int (pos found))) }
     ensures why { IfErr result (λ e. (rows.items ≡ []) ⊎ IsCellRefused e) }
 {
@@ -88,7 +93,8 @@ pub(crate) fn first_count(rows: Vec<Row>) -> Result<u64, Error>
     }
 }
 
-/// What an open connection shows is a database: its rows obey the rules of its schema.
+/// A law of a connection, as a call that does nothing: what an open one shows is a database, whose
+/// rows obey the rules of its schema.
 pub fn obey<S: Alter>(conn: &Connection<S>)
     ensures { IsLive (state S.Store conn.now) }
 {

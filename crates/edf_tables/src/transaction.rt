@@ -1,4 +1,4 @@
-//! A transaction, as the texts that begin and end it.
+//! The texts that begin and end a transaction.
 
 ghost use Rattle.std.specs.Prelude.{◌≡◌, false, true};
 ghost use Rattle.sqlite.specs.Held.{state};
@@ -12,7 +12,7 @@ use sqlite::{Alter, Connection, Error};
 /// Begins a transaction.
 ///
 /// # Errors
-/// `sqlite`'s, also where one is open; what is committed stays.
+/// `sqlite`'s, also where a transaction is open; what is committed stays.
 pub fn begin<S: Alter>(conn: &mut Connection<S>) -> Result<(), Error>
     ensures why { FailsAs S.Store conn.old conn.new result (IsTurnRefused true) }
     ensures begun { Leaves S.Store conn.old conn.new result (λ old new.
@@ -24,11 +24,11 @@ pub fn begin<S: Alter>(conn: &mut Connection<S>) -> Result<(), Error>
     Ok(())
 }
 
-/// Commits the transaction: what it shows is what is held.
+/// Commits the transaction: what it shows is then what is committed.
 ///
 /// # Errors
-/// `sqlite`'s, also where none is open; what was committed before stays, and the transaction is
-/// over. A crash leaves that, or all of the transaction.
+/// `sqlite`'s, also where no transaction is open. What was committed before stays, and the
+/// transaction is over. A crash leaves that, or all of the transaction.
 pub fn commit<S: Alter>(conn: &mut Connection<S>) -> Result<(), Error>
     ensures why { FailsAs S.Store conn.old conn.new result (IsTurnRefused false) }
     ensures committed { Leaves S.Store conn.old conn.new result (λ old new.
@@ -42,10 +42,10 @@ pub fn commit<S: Alter>(conn: &mut Connection<S>) -> Result<(), Error>
     Ok(())
 }
 
-/// Undoes the transaction: what is held is as before it began.
+/// Undoes the transaction: what is shown is again what is committed.
 ///
 /// # Errors
-/// `sqlite`'s, also where none is open; what is committed stays.
+/// `sqlite`'s, also where no transaction is open; what is committed stays.
 pub fn roll_back<S: Alter>(conn: &mut Connection<S>) -> Result<(), Error>
     ensures why { FailsAs S.Store conn.old conn.new result (IsTurnRefused false) }
     ensures undone { Leaves S.Store conn.old conn.new result IsRolledBack }

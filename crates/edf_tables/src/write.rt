@@ -1,4 +1,4 @@
-//! One row more.
+//! The texts that add a row.
 
 ghost use Rattle.std.specs.Prelude.{◌≡◌};
 ghost use Rattle.sqlite.specs.Held.{state};
@@ -16,8 +16,8 @@ use sqlite::{Alter, Connection, Error, params};
 /// Adds a row to `recording`, and answers its id.
 ///
 /// # Errors
-/// `sqlite`'s, also where the identity is there, and `TooBig` above 10^9 bytes; what is committed
-/// stays, and the transaction may be undone.
+/// `sqlite`'s: `TooBig` above 10^9 bytes, and a rule's where a recording has the identity. What is
+/// committed stays; the transaction may be undone.
 pub fn insert_recording<S: Alter>(conn: &mut Connection<S>, identity: &[u8]) -> Result<i64, Error>
     requires { IfClean S.Store conn.old IsInside }
     ensures added { Gives S.Store conn.new result (λ id.
@@ -40,8 +40,8 @@ pub fn insert_recording<S: Alter>(conn: &mut Connection<S>, identity: &[u8]) -> 
 /// of it.
 ///
 /// # Errors
-/// `sqlite`'s, also where the recording has a record of this start, and `TooBig` above 10^9 bytes;
-/// what is committed stays, and the transaction may be undone.
+/// `sqlite`'s: `TooBig` above 10^9 bytes, and a rule's where the recording has a record of this
+/// start. What is committed stays; the transaction may be undone.
 pub fn insert_record<S: Alter>(
     conn: &mut Connection<S>,
     recording: i64,

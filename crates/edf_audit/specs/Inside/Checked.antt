@@ -1,9 +1,13 @@
--- What reading leaves of a connection, and what a row of the table of recordings tells.
+-- What the check does to its connection, and what it answers of a row of the table of recordings.
 use Rattle.std.specs.Prelude.{◌≡◌, ◌⊎◌, [], ◌∷◌, ℕ, false, Option, Some, None, Contains, length}
-use Rattle.std.specs.Prelude.{IsTrue}
+use Rattle.std.specs.Prelude.{Result, IsTrue}
+use Rattle.sqlite.specs.declared.error.Error.{Error}
+use Rattle.sqlite.specs.Held.{Held}
 use Rattle.sqlite.specs.Order.{Row}
 use Rattle.sqlite.specs.Tree.{Trees}
 use Rattle.sqlite.specs.State.{State, KeepsCommit}
+use Rattle.sqlite_trees.specs.declared.store.Store.{Ghosts}
+use Rattle.edf_tables.specs.Statement.{Leaves, LeavesOnErr, FailsAs, IsCrashSafe}
 use Rattle.edf_schema.specs.Columns.{the_id, the_identity}
 use Rattle.edf_rows.specs.Cells.{recordings_in, records_in}
 use Rattle.edf_rows.specs.Foreign.{IsForeign}
@@ -24,12 +28,21 @@ pub record KeepsShown (old new : State) : Type 0 where
       ⊎ ((new.now ≡ new.committed) × (new.in_transaction ≡ false))
   pub mode : IsTrue new.in_transaction → IsTrue old.in_transaction
 
+-- a part of the check reads and changes no row: where it answers, the rows are as they were; where
+-- it fails, it does so for such a reason, and what is committed stays; a crash in it adds nothing
+pub record OnlyChecks {S X : Type 0} (g : Ghosts S) (Why : State → State → Error → Type 0)
+    (old new : Held S) (result : Result X Error) : Type 0 where
+  pub same : Leaves g old new result KeepsRows
+  pub refused : LeavesOnErr g old new result KeepsShown
+  pub why : FailsAs g old new result Why
+  pub survives : IsCrashSafe g old new
+
 -- what the check reads of a row
 abbrev pub first_two : Row → Row
 first_two row = the_id row ∷ the_identity row ∷ []
 
 -- `Some count`: the row is of a recording with `count` records; `None`: the rows are foreign
-abbrev pub Checks : ℕ → Trees → Row → Option ℕ → Type 0
-Checks cap trees row None = Contains (recordings_in trees) row → IsForeign cap trees
-Checks cap trees row (Some count) = Contains (recordings_in trees) row →
+abbrev pub ChecksRow : ℕ → Trees → Row → Option ℕ → Type 0
+ChecksRow cap trees row None = Contains (recordings_in trees) row → IsForeign cap trees
+ChecksRow cap trees row (Some count) = Contains (recordings_in trees) row →
     (has : HasRecords cap trees row) × (count ≡ length (records_in trees has.id))

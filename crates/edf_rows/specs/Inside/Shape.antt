@@ -1,4 +1,4 @@
--- Words of the test of one row.
+-- Words of the check of one row, and of one recording.
 use Rattle.std.specs.Prelude.{◌≡◌, ◌≢◌, ℕ, ◌≤◌, ℤ, List, [], map, length}
 use Rattle.sqlite_trees.specs.Tree.{Trees}
 use Rattle.sqlite_value.specs.Order.{Row}
@@ -11,16 +11,16 @@ use Rattle.edf_fragment.specs.Fragment.{DataRecord}
 use Rattle.edf_fragment.specs.Sound.{AreSound, MayBegin}
 use Rattle.edf_rows.specs.Cells.{record_cells, recording_cells, records_in}
 
--- the block gives nothing
-abbrev pub IsUnread : List ℕ → Type 0
-IsUnread block = (start : ℕ) (list : List Annotation) → ¬ IsRead block 0 Any start list
+-- nothing is read of the block, whichever place it has in a file
+abbrev pub IsNoBlock : List ℕ → Type 0
+IsNoBlock block = (start : ℕ) (list : List Annotation) → ¬ IsRead block 0 Any start list
 
--- the block gives this start and list, and is the one that is written for them
+-- this start and list are read of the block, and it is the one that is written for them
 pub record OwnBlock (block : List ℕ) (start : ℕ) (list : List Annotation) : Type 0 where
   pub read : IsRead block 0 Any start list
   pub written : block ≡ block_text 0 start list
 
--- the block is not written for what it gives
+-- the block is not the one that is written for what is read of it
 abbrev pub NoOwnBlock : List ℕ → Type 0
 NoOwnBlock block = (start : ℕ) (list : List Annotation) → ¬ OwnBlock block start list
 

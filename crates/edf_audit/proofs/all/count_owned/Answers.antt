@@ -11,12 +11,13 @@ use Rattle.sqlite.specs.State.{HasCleanDisk}
 use Rattle.edf_tables.proofs.Commits.{quiet_then, survives_same}
 use Rattle.edf_rows.specs.Cells.{recordings_in}
 use Rattle.edf_audit.specs.Inside.All.{IsAfter, AreCounted, owns}
-use Rattle.edf_audit.specs.Inside.Checked.{KeepsShown, Checks}
+use Rattle.edf_audit.specs.Inside.Checked.{ChecksRow}
 use Rattle.edf_audit.proofs.Refusals.{unread_unchecked}
 use Rattle.edf_audit.proofs.Counts.{counted_none}
 use Rattle.edf_audit.proofs.AllRows.{rows_same, rows_then, row_in, up_more, last_more, id_twice}
 use Rattle.edf_audit.proofs.AllRows.{counted_more, shorter}
-use Rattle.edf_tables.proofs.Keeping.{on_err}
+use Rattle.edf_audit.specs.Refused.{IsUnchecked}
+use Rattle.edf_audit.proofs.Parts.{done, failed}
 use Rattle.edf_audit.proofs.Shown.{shown_rows, shown_then}
 use Rattle.edf_audit.proofs.all.count_owned.Goals as goal
 
@@ -35,13 +36,16 @@ returns-in_default-clause-counts g c clean =
     let old = state g.S.Store c.args.conn.now in
     let was = state g.S.Store c.loop-row.conn in
     let inv = c.loop-row.invariant in
-    let late : HasCleanDisk was = omega (arith, c.check_recording_row.ensures.survives.clean) in
+    let late : HasCleanDisk was = omega (
+      arith,
+      c.check_recording_row.ensures.checks.survives.clean,
+    ) in
     let early : HasCleanDisk old = omega (arith, late, inv.crash.clean) in
-    let told = subst (Checks c.args.cap was.now.trees c.row-item.result) c.in_default.is
-    (c.in_ok-count.ensures.told clean) in
+    let told = subst (ChecksRow c.args.cap was.now.trees c.row-item.result) c.in_default.is
+    (c.in_ok-count.ensures.answers clean) in
     let here = row_in (recordings_in old.now.trees) c.args.rows.now c.loop-row.row-index
     c.row-item.result (c.requires.listed early) (search rules) (search rules) in
-    subst (λ (d : Database). Checks c.args.cap d.trees c.row-item.result None)
+    subst (λ (d : Database). ChecksRow c.args.cap d.trees c.row-item.result None)
     (inv.same late).now_is told here
 
 pub loop-row-preserved : goal.loop-row-preserved
@@ -53,20 +57,20 @@ loop-row-preserved g c =
     let after : IsAfter c.loop-row.last c.row-item.result c.in-Some-next_id.id =
     c.in-Some-next_id.ensures in
     record {
-      crash = quiet_then old was now _ inv.crash c.check_recording_row.ensures.survives;
+      crash = quiet_then old was now _ inv.crash c.check_recording_row.ensures.checks.survives;
       same = λ clean. rows_then old was now
-          (inv.same (omega (arith, c.check_recording_row.ensures.survives.clean)))
-          (c.in_ok-count.ensures.same clean);
+          (inv.same (omega (arith, c.check_recording_row.ensures.checks.survives.clean)))
+          (c.in_ok-count.ensures.checks.same clean);
       counted = λ clean.
           let late : HasCleanDisk was =
-          omega (arith, c.check_recording_row.ensures.survives.clean) in
+          omega (arith, c.check_recording_row.ensures.checks.survives.clean) in
           let early : HasCleanDisk old = omega (arith, late, inv.crash.clean) in
           counted_more c.args.cap old.now was.now c.args.rows.now c.loop-row.row-index
           c.row-item.result c.loop-row.sum c.in-Some.count c.from.result c.loop-row.last
           c.in-Some-next_id.id (inv.same late).now_is (c.requires.listed early)
           (search rules) (search rules) (search rules) (inv.counted late) inv.up_to after
-          (subst (Checks c.args.cap was.now.trees c.row-item.result) c.in-Some.is
-          (c.in_ok-count.ensures.told clean));
+          (subst (ChecksRow c.args.cap was.now.trees c.row-item.result) c.in-Some.is
+          (c.in_ok-count.ensures.answers clean));
       up_to = rw (to_z-of_z w64 c.in-Some-next_id.id (search rules))
           (up_more c.args.rows.now c.loop-row.row-index c.row-item.result c.loop-row.last
           c.in-Some-next_id.id (search rules) (search rules) inv.up_to after);
@@ -76,68 +80,94 @@ loop-row-preserved g c =
       low = search rules;
     }
 
-pub returns-in_err-count-clause-why : goal.returns-in_err-count-clause-why
-returns-in_err-count-clause-why g c clean =
-    let why = unread_unchecked (state g.S.Store c.args.conn.now) (state g.S.Store c.loop-row.conn)
-    (state g.S.Store c.check_recording_row.new.conn) _ _ _ c.loop-row.invariant.crash
-    c.check_recording_row.ensures.survives clean (c.in_err-count.ensures.why clean) in
-    let told = err_from_is_err_and c.from_residual.result c.from_residual.ensures.1 in
-    rw (told.1, told.2) why
-
-pub returns-then-more-ge-MOST_COUNTED-clause-why : goal.returns-then-more-ge-MOST_COUNTED-clause-why
-returns-then-more-ge-MOST_COUNTED-clause-why g c clean =
+pub returns-in_err-count-clause-checks : goal.returns-in_err-count-clause-checks
+returns-in_err-count-clause-checks g c =
     let old = state g.S.Store c.args.conn.now in
     let was = state g.S.Store c.loop-row.conn in
+    let now = state g.S.Store c.check_recording_row.new.conn in
+    let inv = c.loop-row.invariant in
+    failed g.S.Store IsUnchecked c.args.conn.now c.check_recording_row.new.conn _ _
+    (err_from_is_err_and c.from_residual.result c.from_residual.ensures.1)
+    (λ clean. shown_then old was now
+    (inv.same (omega (arith, c.check_recording_row.ensures.checks.survives.clean)))
+    (c.in_err-count.ensures.checks.refused clean))
+    (λ clean. unread_unchecked old was now _ _ _ inv.crash
+    c.check_recording_row.ensures.checks.survives clean (c.in_err-count.ensures.checks.why clean))
+    (quiet_then old was now _ inv.crash c.check_recording_row.ensures.checks.survives)
+
+pub returns-in_default-clause-checks : goal.returns-in_default-clause-checks
+returns-in_default-clause-checks g c =
+    let old = state g.S.Store c.args.conn.now in
+    let was = state g.S.Store c.loop-row.conn in
+    let now = state g.S.Store c.check_recording_row.new.conn in
+    let inv = c.loop-row.invariant in
+    done g.S.Store IsUnchecked c.args.conn.now c.check_recording_row.new.conn _
+    (λ clean. rows_then old was now
+    (inv.same (omega (arith, c.check_recording_row.ensures.checks.survives.clean)))
+    (c.in_ok-count.ensures.checks.same clean))
+    (quiet_then old was now _ inv.crash c.check_recording_row.ensures.checks.survives)
+
+pub returns-in_default-next_id-clause-checks : goal.returns-in_default-next_id-clause-checks
+returns-in_default-next_id-clause-checks g c =
+    let old = state g.S.Store c.args.conn.now in
+    let was = state g.S.Store c.loop-row.conn in
+    let now = state g.S.Store c.check_recording_row.new.conn in
+    let inv = c.loop-row.invariant in
+    done g.S.Store IsUnchecked c.args.conn.now c.check_recording_row.new.conn _
+    (λ clean. rows_then old was now
+    (inv.same (omega (arith, c.check_recording_row.ensures.checks.survives.clean)))
+    (c.in_ok-count.ensures.checks.same clean))
+    (quiet_then old was now _ inv.crash c.check_recording_row.ensures.checks.survives)
+
+pub returns-then-more-ge-MOST_COUNTED-clause-checks :
+    goal.returns-then-more-ge-MOST_COUNTED-clause-checks
+returns-then-more-ge-MOST_COUNTED-clause-checks g c =
+    let old = state g.S.Store c.args.conn.now in
+    let was = state g.S.Store c.loop-row.conn in
+    let now = state g.S.Store c.check_recording_row.new.conn in
     let inv = c.loop-row.invariant in
     let after : IsAfter c.loop-row.last c.row-item.result c.in-Some-next_id.id =
     c.in-Some-next_id.ensures in
-    let late : HasCleanDisk was = omega (arith, c.check_recording_row.ensures.survives.clean) in
-    let early : HasCleanDisk old = omega (arith, late, inv.crash.clean) in
-    let counted : AreCounted c.args.cap old.now.trees
-    (take (c.loop-row.row-index + 1) c.args.rows.now) (c.loop-row.sum + c.from.result) =
-    counted_more c.args.cap old.now was.now c.args.rows.now c.loop-row.row-index
-    c.row-item.result c.loop-row.sum c.in-Some.count c.from.result c.loop-row.last
-    c.in-Some-next_id.id (inv.same late).now_is (c.requires.listed early)
-    (search rules) (search rules) (search rules) (inv.counted late) inv.up_to after
-    (subst (Checks c.args.cap was.now.trees c.row-item.result) c.in-Some.is
-    (c.in_ok-count.ensures.told clean)) in
-    let all = shorter (λ r. list_any (λ g. owns g r)
-    (take (c.loop-row.row-index + 1) c.args.rows.now)) (old.now.trees 2) in
-    too_many refl (omega (arith, counted.sums, all, c.if-more-ge-MOST_COUNTED.true))
+    record {
+      same = λ clean. tt;
+      refused = λ clean. shown_rows old now (rows_then old was now
+          (inv.same (omega (arith, c.check_recording_row.ensures.checks.survives.clean)))
+          (c.in_ok-count.ensures.checks.same clean));
+      why = λ clean.
+          let late : HasCleanDisk was =
+          omega (arith, c.check_recording_row.ensures.checks.survives.clean) in
+          let early : HasCleanDisk old = omega (arith, late, inv.crash.clean) in
+          let counted : AreCounted c.args.cap old.now.trees
+          (take (c.loop-row.row-index + 1) c.args.rows.now) (c.loop-row.sum + c.from.result) =
+          counted_more c.args.cap old.now was.now c.args.rows.now c.loop-row.row-index
+          c.row-item.result c.loop-row.sum c.in-Some.count c.from.result c.loop-row.last
+          c.in-Some-next_id.id (inv.same late).now_is (c.requires.listed early)
+          (search rules) (search rules) (search rules) (inv.counted late) inv.up_to after
+          (subst (ChecksRow c.args.cap was.now.trees c.row-item.result) c.in-Some.is
+          (c.in_ok-count.ensures.answers clean)) in
+          let all = shorter (λ r. list_any (λ g. owns g r)
+          (take (c.loop-row.row-index + 1) c.args.rows.now)) (old.now.trees 2) in
+          too_many refl (omega (arith, counted.sums, all, c.if-more-ge-MOST_COUNTED.true));
+      survives = quiet_then old was now _ inv.crash
+          c.check_recording_row.ensures.checks.survives;
+    }
 
 pub returns-in_default-next_id-clause-counts : goal.returns-in_default-next_id-clause-counts
 returns-in_default-next_id-clause-counts g c clean =
     let old = state g.S.Store c.args.conn.now in
     let was = state g.S.Store c.loop-row.conn in
     let inv = c.loop-row.invariant in
-    let late : HasCleanDisk was = omega (arith, c.check_recording_row.ensures.survives.clean) in
+    let late : HasCleanDisk was = omega (
+      arith,
+      c.check_recording_row.ensures.checks.survives.clean,
+    ) in
     let early : HasCleanDisk old = omega (arith, late, inv.crash.clean) in
-    let told = subst (Checks c.args.cap was.now.trees c.row-item.result) c.in-Some.is
-    (c.in_ok-count.ensures.told clean) in
+    let told = subst (ChecksRow c.args.cap was.now.trees c.row-item.result) c.in-Some.is
+    (c.in_ok-count.ensures.answers clean) in
     let here = row_in (recordings_in old.now.trees) c.args.rows.now c.loop-row.row-index
     c.row-item.result (c.requires.listed early) (search rules) (search rules) in
-    let has = (subst (λ (d : Database). Checks c.args.cap d.trees c.row-item.result
+    let has = (subst (λ (d : Database). ChecksRow c.args.cap d.trees c.row-item.result
     (Some c.in-Some.count)) (inv.same late).now_is told here).0 in
     id_twice c.args.cap old.now.trees c.args.rows.now c.loop-row.row-index c.row-item.result
     c.loop-row.last has.id (c.requires.listed early) (c.requires.ordered early) (search rules)
     (search rules) inv.met (ap (λ (r : Row). column r 0) has.cells) c.in_default-next_id.ensures
-
-pub returns-in_err-count-clause-refused : goal.returns-in_err-count-clause-refused
-returns-in_err-count-clause-refused g c clean =
-    let old = state g.S.Store c.args.conn.now in
-    let was = state g.S.Store c.loop-row.conn in
-    let late : HasCleanDisk was = omega (arith, c.check_recording_row.ensures.survives.clean) in
-    let kept : KeepsShown old (state g.S.Store c.check_recording_row.new.conn) =
-    shown_then old was _ (c.loop-row.invariant.same late)
-    (c.in_err-count.ensures.refused clean) in
-    on_err _ kept
-
-pub returns-then-more-ge-MOST_COUNTED-clause-refused :
-    goal.returns-then-more-ge-MOST_COUNTED-clause-refused
-returns-then-more-ge-MOST_COUNTED-clause-refused g c clean =
-    let old = state g.S.Store c.args.conn.now in
-    let was = state g.S.Store c.loop-row.conn in
-    let now = state g.S.Store c.check_recording_row.new.conn in
-    let late : HasCleanDisk was = omega (arith, c.check_recording_row.ensures.survives.clean) in
-    shown_rows old now (rows_then old was now (c.loop-row.invariant.same late)
-    (c.in_ok-count.ensures.same clean))

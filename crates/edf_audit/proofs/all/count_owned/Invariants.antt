@@ -1,7 +1,8 @@
-use Rattle.std.proofs.Common.{◌<◌, ◌^◌, ◌-◌, take}
+use Rattle.std.proofs.Common.{◌<◌, take}
 use Rattle.std.specs.List.{AllByRecursion}
 use Rattle.sqlite.specs.Held.{state}
 use Rattle.sqlite.specs.State.{HasCleanDisk, Survives}
+use Rattle.edf_tables.specs.declared.row.TheConstants.{MOST_COUNTED}
 use Rattle.edf_audit.specs.Inside.Checked.{KeepsRows}
 use Rattle.edf_audit.specs.Inside.All.{AreCounted}
 use Rattle.edf_audit.proofs.Counts.{IsUpTo, IsLastOf}
@@ -16,5 +17,5 @@ invariant-loop-row g l = record {
       AreCounted l.cap (state g.S.Store l.initial.conn).now.trees (take l.row-index l.rows) l.sum;
   up_to : AllByRecursion (IsUpTo l.last) (take l.row-index l.rows);
   met : IsLastOf l.last (take l.row-index l.rows);
-  low : l.sum < 2 ^ 63 - 1;
+  low : l.sum < MOST_COUNTED;
 }

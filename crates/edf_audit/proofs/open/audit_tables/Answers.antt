@@ -8,9 +8,10 @@ use Rattle.edf_tables.proofs.File.{tables_both}
 use Rattle.edf_audit.proofs.Shown.{file_checked}
 use Rattle.edf_audit.proofs.open.audit_tables.Goals as goal
 
-pub check_all-requires-clause-schema : goal.check_all-requires-clause-schema
-check_all-requires-clause-schema g c clean =
-    tables_both _ _ (c.in_ok-create_tables.ensures.made clean)
+pub check_all-requires : goal.check_all-requires
+check_all-requires g c = record {
+  schema = λ clean. tables_both _ _ (c.in_ok-create_tables.ensures.made clean);
+}
 
 pub returns-in_err-create_tables-clause-why : goal.returns-in_err-create_tables-clause-why
 returns-in_err-create_tables-clause-why g c clean =
@@ -23,8 +24,8 @@ returns-in_err-create_tables-clause-why g c clean =
 pub returns-clause-stays : goal.returns-clause-stays
 returns-clause-stays g c clean =
     let mid = state g.S.Store c.create_tables.new.conn in
-    let early : HasCleanDisk mid = omega (arith, c.check_all.ensures.survives.clean) in
+    let early : HasCleanDisk mid = omega (arith, c.check_all.ensures.checks.survives.clean) in
     file_checked (state g.S.Store c.args.conn.now) mid (state g.S.Store c.check_all.new.conn)
     c.check_all.result (c.create_tables.ensures.stays early)
     (c.in_ok-create_tables.ensures.made early) (c.in_ok-create_tables.ensures.mode early)
-    (c.check_all.ensures.same clean) (c.check_all.ensures.refused clean)
+    (c.check_all.ensures.checks.same clean) (c.check_all.ensures.checks.refused clean)

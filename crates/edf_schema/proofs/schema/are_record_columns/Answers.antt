@@ -1,6 +1,6 @@
 use Rattle.std.proofs.Common.{rules, ◌≡◌, ◌∷◌, [], arith, codes, true, sym, ◌∙◌}
 use Rattle.sqlite_schema.specs.declared.schema.Kind.TheVariants.{Integer, Blob}
-use Rattle.edf_schema.specs.Inside.Parts.{strict_column}
+use Rattle.edf_schema.specs.Schema.{strict_column}
 use Rattle.edf_schema.proofs.Lists.{all_four}
 use Rattle.edf_schema.proofs.schema.are_record_columns.Goals as goal
 
@@ -12,7 +12,8 @@ returns-then-is_column c =
     let first : c.recording-item.result ≡ strict_column (codes "recording") Integer true =
     search rules in
     let second : c.start-item.result ≡ strict_column (codes "start") Integer true = search rules in
-    let third : c.samples-item.result ≡ strict_column (codes "samples") Blob true = search rules in (
+    let third : c.samples-item.result ≡ strict_column (codes "samples") Blob true =
+    search rules in (
       λ h.
           let fourth : c.block-item.result ≡ strict_column (codes "block") Blob true =
           c.is_column-then-is_column.ensures.0 h in

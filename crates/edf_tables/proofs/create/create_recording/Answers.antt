@@ -3,7 +3,7 @@ use Rattle.sqlite.specs.Held.{state}
 use Rattle.sqlite.proofs.StateLemmas.{survives_weaker}
 use Rattle.edf_tables.proofs.Creating.{first_if, first_crash}
 use Rattle.edf_tables.proofs.Keeping.{write_refused}
-use Rattle.edf_tables.proofs.Unadded.{first_unmade}
+use Rattle.edf_tables.proofs.Unmade.{first_unmade}
 use Rattle.edf_tables.proofs.File.{first_file, first_mode}
 use Rattle.edf_tables.proofs.SameText.{crash_of, runs_of}
 use Rattle.edf_tables.proofs.create.create_recording.Goals as goal

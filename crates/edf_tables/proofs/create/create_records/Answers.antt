@@ -3,7 +3,7 @@ use Rattle.sqlite.specs.Held.{state}
 use Rattle.sqlite.proofs.StateLemmas.{survives_weaker}
 use Rattle.edf_tables.proofs.Creating.{second_if, second_crash}
 use Rattle.edf_tables.proofs.Keeping.{write_refused}
-use Rattle.edf_tables.proofs.Unadded.{second_unmade}
+use Rattle.edf_tables.proofs.Unmade.{second_unmade}
 use Rattle.edf_tables.proofs.File.{second_file, second_mode}
 use Rattle.edf_tables.proofs.SameText.{crash_of, runs_of}
 use Rattle.edf_tables.proofs.create.create_records.Goals as goal

@@ -2,7 +2,7 @@ use Rattle.std.proofs.Common.{inl, inr, sym, subst, ◌∙◌, arith, true≢fal
 use Rattle.std.proofs.lemmas.Result.{err_from_is_err_and}
 use Rattle.sqlite.specs.Held.{state}
 use Rattle.edf_tables.specs.Schema.{HasBoth}
-use Rattle.edf_tables.proofs.Unadded.{unmade_since}
+use Rattle.edf_tables.proofs.Unmade.{unmade_since}
 use Rattle.sqlite.specs.State.{HasCleanDisk}
 use Rattle.edf_tables.proofs.File.{file_then}
 use Rattle.edf_tables.proofs.Tables.{after_first, both_made, first_survives, second_survives}

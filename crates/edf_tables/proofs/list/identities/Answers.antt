@@ -17,7 +17,7 @@ rows_shown-requires g c clean =
 
 pub returns-clause-identities : goal.returns-clause-identities
 returns-clause-identities g c clean =
-    if_ok_then c.identities_in.result c.identities_in.ensures.told (λ found e. e
+    if_ok_then c.identities_in.result c.identities_in.ensures.value (λ found e. e
     ∙ identities_shown (state g.S.Store c.args.conn.now) (state g.S.Store c.rows_shown.new.conn)
     c.in_ok-rows.rows.items (c.requires.apart (omega (arith, c.rows_shown.ensures.survives.clean)))
     (shown_of _ _ _ _ _ _ (c.in_ok-rows.ensures.shown clean) refl))

@@ -17,7 +17,7 @@ rows_shown-requires g c clean =
     (c.requires.schema clean)) refl
 
 pub returns-clause-id : goal.returns-clause-id
-returns-clause-id g c clean = if_ok_then c.first_number.result c.first_number.ensures.told
+returns-clause-id g c clean = if_ok_then c.first_number.result c.first_number.ensures.value
     (λ found e. id_shown c.args.identity.now found (state g.S.Store c.args.conn.now)
     (state g.S.Store c.rows_shown.new.conn) c.in_ok-rows.rows.items
     (c.requires.schema (omega (arith, c.rows_shown.ensures.survives.clean)))

@@ -18,7 +18,7 @@ rows_shown-requires g c clean =
     (c.requires.schema clean)) refl
 
 pub returns-clause-count : goal.returns-clause-count
-returns-clause-count g c clean = if_ok_then c.first_count.result c.first_count.ensures.told
+returns-clause-count g c clean = if_ok_then c.first_count.result c.first_count.ensures.value
     (λ found e. count_shown c.args.recording found (state g.S.Store c.args.conn.now)
     (state g.S.Store c.rows_shown.new.conn) c.in_ok-rows.rows.items
     (c.requires.schema (omega (arith, c.rows_shown.ensures.survives.clean)))

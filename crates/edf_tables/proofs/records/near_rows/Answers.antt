@@ -18,7 +18,7 @@ rows_shown-requires g c clean =
     (c.requires.ready clean).schema) refl
 
 pub returns-clause-near : goal.returns-clause-near
-returns-clause-near g c clean = if_ok_then c.record_rows.result c.record_rows.ensures.told
+returns-clause-near g c clean = if_ok_then c.record_rows.result c.record_rows.ensures.value
     (λ found e. typed found.items c.in_ok-rows.rows.items _ e
     (near_shown c.args.recording c.args.after c.args.before (state g.S.Store c.args.conn.now)
     (state g.S.Store c.rows_shown.new.conn) c.in_ok-rows.rows.items

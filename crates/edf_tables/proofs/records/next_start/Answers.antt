@@ -18,7 +18,7 @@ rows_shown-requires g c clean =
     (c.requires.ready clean).schema) refl
 
 pub returns-clause-next : goal.returns-clause-next
-returns-clause-next g c clean = if_ok_then c.first_number.result c.first_number.ensures.told
+returns-clause-next g c clean = if_ok_then c.first_number.result c.first_number.ensures.value
     (λ found e. next_shown c.args.recording c.args.from found (state g.S.Store c.args.conn.now)
     (state g.S.Store c.rows_shown.new.conn) c.in_ok-rows.rows.items
     (c.requires.ready (omega (arith, c.rows_shown.ensures.survives.clean)))

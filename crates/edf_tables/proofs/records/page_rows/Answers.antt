@@ -18,7 +18,7 @@ rows_shown-requires g c clean =
     (c.requires.ready clean).schema) refl
 
 pub returns-clause-page : goal.returns-clause-page
-returns-clause-page g c clean = if_ok_then c.record_rows.result c.record_rows.ensures.told
+returns-clause-page g c clean = if_ok_then c.record_rows.result c.record_rows.ensures.value
     (λ found e. typed found.items c.in_ok-rows.rows.items _ e
     (page_shown c.args.recording c.args.after c.args.limit (state g.S.Store c.args.conn.now)
     (state g.S.Store c.rows_shown.new.conn) c.in_ok-rows.rows.items

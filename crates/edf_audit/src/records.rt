@@ -1,15 +1,14 @@
-//! The rows of one recording, each read once.
+//! The records of one recording, each row read once.
 
-ghost use Rattle.std.specs.Prelude.{◌<◌, ◌^◌, ◌-◌, ℕ, IfOk, IfErr, MatchOption};
+ghost use Rattle.std.specs.Prelude.{◌<◌, IfOk, IfErr, MatchOption};
 ghost use Rattle.edf_field.specs.Number.{duration_of};
 ghost use Rattle.edf_tables.specs.Refused.{IsUnread};
 ghost use Rattle.edf_rows.specs.Cells.{records_in};
 ghost use Rattle.edf_rows.specs.Foreign.{IsBadRow};
-ghost use Rattle.edf_audit.specs.Inside.Checked.{KeepsShown};
-ghost use Rattle.edf_audit.specs.Inside.Walk.{IsStartOf, IsNextRow, IsRowRefused, IsWrong};
-ghost use Rattle.edf_audit.specs.Inside.Walk.{ChecksRecords};
-ghost use Rattle.edf_tables.specs.Statement.{HasBothTables, tables, IfClean, Gives, OnlyReads};
-ghost use Rattle.edf_tables.specs.Statement.{FailsAs, LeavesOnErr, IsCrashSafe};
+ghost use Rattle.edf_audit.specs.Inside.Checked.{OnlyChecks};
+ghost use Rattle.edf_audit.specs.Inside.Records.{IsStartOf, IsNextRow, IsRowRefused, IsWrong};
+ghost use Rattle.edf_audit.specs.Inside.Records.{ChecksRecords};
+ghost use Rattle.edf_tables.specs.Statement.{HasBothTables, tables, IfClean, Gives};
 
 use edf_header::Identity;
 use edf_rows::check_row;
@@ -18,7 +17,10 @@ use sqlite::types::ValueRef;
 use sqlite::{Alter, Connection, Error, ErrorCode, Row, params};
 use std::alloc::{AllocError, Global};
 
-/// The start of a row that is a data record of the identity.
+/// The start of a row, if it is a data record of the identity.
+///
+/// # Errors
+/// `AllocError` where memory runs out.
 fn start_in(alloc: Global, identity: &Identity, row: &Row) -> Result<Option<Instant>, AllocError>
     ensures { IfOk result (λ o.
         MatchOption o (IsBadRow identity.now row.now) (IsStartOf identity.now row.now)) }
@@ -35,18 +37,18 @@ fn start_in(alloc: Global, identity: &Identity, row: &Row) -> Result<Option<Inst
     check_row(alloc, identity, start, samples, block)
 }
 
-/// The start of a row, if it may come after the last, or first.
+/// The start of a row, if it may come after the last one, or as the first.
 ///
 /// # Errors
-/// `OutOfMemory` where memory runs out; `DatabaseCorrupt` where the row comes before the last, as
-/// rows are asked for by their starts.
+/// `OutOfMemory` where memory runs out; `DatabaseCorrupt` where the row starts before the last one,
+/// since the query asks for the rows by their starts.
 fn next_start(
     alloc: Global,
     identity: &Identity,
     row: &Row,
     last: Option<Instant>,
 ) -> Result<Option<Instant>, Error>
-    ensures told { IfOk result (λ o.
+    ensures answer { IfOk result (λ o.
         MatchOption o (IsWrong identity.now last row.now) (IsNextRow identity.now last row.now)) }
     ensures why { IfErr result (IsRowRefused last row.now) }
 {
@@ -73,12 +75,12 @@ fn next_start(
 }
 
 /// How many records a recording has, or `None` where they are not those of submissions: a row is no
-/// record of the identity, two lie less than a duration apart, the first starts after 2084 and the
-/// identity has no date, there is none, or there are more than `cap`.
+/// record of the identity, two start less than a duration apart, the first starts after 2084 and
+/// the identity has no date, there is none, or there are more than `cap`.
 ///
 /// # Errors
 /// `sqlite`'s; `OutOfMemory` where memory runs out.
-pub fn check_recording<S: Alter>(
+pub(crate) fn check_recording<S: Alter>(
     alloc: Global,
     conn: &mut Connection<S>,
     recording: i64,
@@ -86,23 +88,19 @@ pub fn check_recording<S: Alter>(
     cap: u32,
 ) -> Result<Option<u32>, Error>
     requires long { 0 < duration_of identity.now.duration }
-    requires cap { cap < 2 ^ 32 - 1 }
     requires schema { IfClean S.Store conn.old HasBothTables }
-    ensures why { FailsAs S.Store conn.old conn.new result IsUnread }
-    ensures told { Gives S.Store conn.new result
+    ensures checks { OnlyChecks S.Store IsUnread conn.old conn.new result }
+    ensures answers { Gives S.Store conn.new result
         (ChecksRecords cap identity.now (records_in (tables S.Store conn.old) recording)) }
-    ensures same { OnlyReads S.Store conn.old conn.new result }
-    ensures refused { LeavesOnErr S.Store conn.old conn.new result KeepsShown }
-    ensures survives { IsCrashSafe S.Store conn.old conn.new }
 {
     let mut rows = conn.query(
         "SELECT start, samples, block FROM record WHERE recording = ?1 ORDER BY start",
         params![recording],
     )?;
     let mut last = None;
-    'walk: for count in 0..cap + 1 {
+    for count in 0..u64::from(cap) + 1 {
         let Some(row) = rows.next()? else {
-            return Ok(if count == 0 { None } else { Some(count) });
+            return Ok(if count == 0 { None } else { Some(count as u32) });
         };
         match next_start(alloc, identity, &row, last)? {
             Some(start) => last = Some(start),

@@ -1,4 +1,4 @@
--- What a walk over a recording's rows tells.
+-- What is found in a recording's rows, one after another.
 use Rattle.std.specs.Prelude.{◌≡◌, ◌≢◌, ℕ, ◌+◌, ◌≤◌, ◌<◌, ◌⊎◌, pos, List, [], map, length, Option}
 use Rattle.std.specs.Prelude.{Some, None}
 use Rattle.sqlite.specs.declared.types.Value.TheVariants.{Int}
@@ -56,7 +56,7 @@ pub record IsOutOfOrder (last : Option ℕ) (row : Row) : Type 0 where
   pub start_is : the_start row ≡ Int (pos start)
   pub before : start < first
 
--- a row is not told: memory ran out, or it starts before the last
+-- a row has no answer: memory ran out, or the row starts before the last
 pub data IsRowRefused (last : Option ℕ) (row : Row) (e : Error) : Type 0 where
   no_memory : e ≡ SqliteFailure OutOfMemory → IsRowRefused last row e
   unordered : e ≡ SqliteFailure DatabaseCorrupt → IsOutOfOrder last row → IsRowRefused last row e
@@ -76,7 +76,7 @@ pub record HasSound (cap : ℕ) (k : Key) (rows : List Row) (count : ℕ) : Type
   pub few : length records ≤ cap
   pub count_is : count ≡ length records
 
--- how many records a recording has, or that they are bad
+-- `Some count`: the rows are `count` sound records of the recording; `None`: they are bad
 abbrev pub ChecksRecords : ℕ → Key → List Row → Option ℕ → Type 0
 ChecksRecords cap k rows None = AreBadRecords cap k rows
 ChecksRecords cap k rows (Some count) = HasSound cap k rows count

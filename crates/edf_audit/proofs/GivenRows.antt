@@ -40,7 +40,7 @@ use Rattle.edf_schema.specs.Columns.{by_column, is_of}
 use Rattle.edf_rows.specs.Rows.{AreTwoOf}
 use Rattle.edf_rows.specs.Foreign.{AreBadRecords, bad_row, too_late, bad_start}
 use Rattle.edf_rows.proofs.Rows.{here, mapped}
-use Rattle.edf_audit.specs.Inside.Walk.{MayComeNext}
+use Rattle.edf_audit.specs.Inside.Records.{MayComeNext}
 
 -- ---- sorted lists
 module _ {X : Type 0} (cmp : X → X → Ordering) (total : IsTotalOrder cmp) where
