@@ -1,12 +1,8 @@
--- What a transaction sees as it begins, what a call that does nothing leaves, and the refusals that
--- an error of `sqlite`'s becomes.
-use Rattle.std.proofs.Common.{◌≡◌, ◌≢◌, ℕ, true, IsTrue, refl, sym, subst, subst₂, ◌∙◌, arith}
-use Rattle.std.proofs.Common.{Result, IfErr, IsErrAnd, None}
-use Rattle.std.proofs.lemmas.Result.{err_from_is_err_and}
+-- What a transaction sees as it begins, and what a call leaves that does nothing.
+use Rattle.std.proofs.Common.{◌≡◌, ℕ, true, IsTrue, refl, sym, subst, subst₂, ◌∙◌, arith}
 use Rattle.sqlite_trees.specs.declared.store.Store.{Ghosts}
 use Rattle.sqlite.specs.Tree.{Trees}
 use Rattle.sqlite.specs.Effect.{Database}
-use Rattle.sqlite.specs.declared.error.Error.{Error}
 use Rattle.sqlite.specs.State.{State, HasCleanDisk, Survives, Shows}
 use Rattle.edf_holdings.specs.Holdings.{Holdings}
 use Rattle.edf_rows.specs.Rows.{StandFor}
@@ -14,9 +10,6 @@ use Rattle.edf_tables.specs.Schema.{HasBoth}
 use Rattle.edf_tables.specs.Others.{KeepsOthers}
 use Rattle.edf_tables.proofs.Commits.{survives_same}
 use Rattle.edf_tables.proofs.Others.{others_same}
-use Rattle.edf_store.specs.declared.fault.StoreFault.{StoreFault}
-use Rattle.edf_store.specs.declared.fault.StoreFault.TheVariants.{Store, Foreign, Failed}
-use Rattle.edf_store.specs.Fault.{IsStoreRefusal, IsRefusalOf}
 use Rattle.edf_store.specs.Held.{StoreModel, at, AreHeld, IsSoundStore, Stays}
 use Rattle.edf_store.specs.Transaction.{AreSeen, SeesSome}
 use Rattle.edf_store.proofs.Held.{others_committed_same}
@@ -57,23 +50,3 @@ stays_same g store = record {
       others_committed_same (at g store);
   crash = survives_same (at g store) _;
 }
-
-pub refused_always : {A P : Type 0} (e : Error) (r : Result A StoreFault) →
-    IsErrAnd r (IsRefusalOf e) → P → IfErr r (λ _. P)
-refused_always e r h p = let it = err_from_is_err_and r h in rw it.1 p
-
-pub refused_told : {A : Type 0} (e : Error) (r : Result A StoreFault) → IsErrAnd r (IsRefusalOf e) →
-    IfErr r IsStoreRefusal
-refused_told e r h = let p = err_from_is_err_and r h in rw p.1 p.2.told
-
-pub refused_caused : {A : Type 0} (e : Error) (r : Result A StoreFault) →
-    IsErrAnd r (IsRefusalOf e) → IfErr r (λ e. e ≢ Store None)
-refused_caused e r h = let p = err_from_is_err_and r h in rw p.1 p.2.caused
-
-pub refused_own : {A : Type 0} (e : Error) (r : Result A StoreFault) → IsErrAnd r (IsRefusalOf e) →
-    IfErr r (λ e. e ≢ Foreign)
-refused_own e r h = let p = err_from_is_err_and r h in rw p.1 p.2.own
-
-pub refused_unfailed : {A : Type 0} (e : Error) (r : Result A StoreFault) →
-    IsErrAnd r (IsRefusalOf e) → IfErr r (λ e. e ≢ Failed)
-refused_unfailed e r h = let p = err_from_is_err_and r h in rw p.1 p.2.unfailed

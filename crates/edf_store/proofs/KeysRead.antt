@@ -1,7 +1,7 @@
 -- Bytes of a key are refused only where memory ran out, and the identities of all rows are those of
 -- keys.
 use Rattle.std.proofs.Common.{◌≡◌, ℕ, zero, suc, ◌<◌, List, [], ◌∷◌, map, length, slice_get}
-use Rattle.std.proofs.Common.{slice_index_or, Option, Some, None, Result, Ok, Err, IfOk, IfErr, Vec}
+use Rattle.std.proofs.Common.{slice_index_or, Option, Some, None, Vec}
 use Rattle.std.proofs.Common.{Global, refl, ap, subst, ◌∙◌, arith}
 use Rattle.std.proofs.lemmas.List.Elements.{recursion_from_All}
 use Rattle.std.proofs.lemmas.List.Sorted.{IsPermutation-sym}
@@ -23,7 +23,7 @@ use Rattle.edf_store.proofs.Found.{shown}
 use Rattle.edf_store.proofs.Keys.{are_keys}
 use Rattle.std.specs.List.{AllByRecursion}
 use Rattle.edf_header.specs.Key.{Key, IsKey, key_bytes}
-use Rattle.edf_header.specs.Identity.{IsFirstKeyFault, place_in_order}
+use Rattle.edf_header.specs.Identity.{IsFirstKeyFault, identity_fault_order}
 use Rattle.edf_header.specs.declared.identity.IdentityFault.{IdentityFault}
 use Rattle.edf_header.specs.declared.identity.IdentityFault.TheVariants.{Length, Unprintable}
 use Rattle.edf_header.specs.declared.identity.IdentityFault.TheVariants.{Patient, Recording}
@@ -39,7 +39,7 @@ all_place P (y ∷ xs) all zero x e = let same : y ≡ x = cc in subst P same al
 all_place P (y ∷ xs) all (suc n) x e = all_place P xs all.1 n x e
 
 clean : (bytes : List ℕ) (fault : IdentityFault) → IsFirstKeyFault bytes fault → (k : Key) × IsKey k
-    × (bytes ≡ key_bytes k) → place_in_order fault < 11 → ⊥
+    × (bytes ≡ key_bytes k) → identity_fault_order fault < 11 → ⊥
 clean bytes fault first of early =
     key-clean of.0 of.1 fault early (subst (λ (b : List ℕ). IsFirstKeyFault b fault) of.2 first).0
 
@@ -121,16 +121,6 @@ pub keys_read : (cap : ℕ) (trees : Trees) (h : Holdings) (all : List Bytes) (k
     AllByRecursion IsKey keys → AreKeysOf h keys
 keys_read cap trees h all keys kept rows bytes good =
     are_keys cap trees h keys kept good (same_cells keys all bytes ∙ rows)
-
-pub if_both : {T E : Type 0} {P Q R : T → Type 0} (r : Result T E) → IfOk r P → IfOk r Q →
-    ((x : T) → P x → Q x → R x) → IfOk r R
-if_both (Ok x) p q f = f x p q
-if_both (Err e) p q f = tt
-
-pub if_refused : {T E : Type 0} {P R : E → Type 0} (r : Result T E) → IfErr r P →
-    ((e : E) → P e → R e) → IfErr r R
-if_refused (Ok x) p f = tt
-if_refused (Err e) p f = f e p
 
 pub all_index : {X : Type 0} (P : X → Type 0) (xs : List X) → AllByRecursion P xs →
     (n : ℕ) (d : X) → n < length xs → P (slice_index_or xs n d)

@@ -8,6 +8,7 @@ pub mod KeysRead
 pub mod Near
 pub mod Next
 pub mod Opening
+pub mod RowReads
 pub mod Readiness
 pub mod StoredRows
 pub mod Short

@@ -68,19 +68,19 @@ near_shown trees h id k start d stand there =
     from_show _ _ (show_filter _ (meets d start) (near_test start d) (records_of id (trees 2)) (h k)
     (shown_of trees h stand id k there))
 
-behind_test : (after : ℤ) (row : Row) (x : DataRecord) → column row 2 ≡ Int (pos x.start) →
+later_test : (after : ℤ) (row : Row) (x : DataRecord) → column row 2 ≡ Int (pos x.start) →
     starts_after after row ≡ is_gt (int_cmp (pos x.start) after)
-behind_test after row x e = ap (λ v. is_gt (value_cmp v (Int after))) e
+later_test after row x e = ap (λ v. is_gt (value_cmp v (Int after))) e
     ∙ ap is_gt (value_cmp-Int (pos x.start) after)
 
-pub behind_shown : (trees : Trees) (h : Holdings) (id : ℤ) (k : Key) (after : ℤ) (n : ℕ) →
+pub later_shown : (trees : Trees) (h : Holdings) (id : ℤ) (k : Key) (after : ℤ) (n : ℕ) →
     StandFor trees h → IsThere trees id k
     → map shown_record (take n (filter (starts_after after) (records_of id (trees 2)))) ≡ map
     record_cells (take n (filter (λ (r : DataRecord). is_gt (int_cmp (pos r.start) after))
     (h k)))
-behind_shown trees h id k after n stand there =
+later_shown trees h id k after n stand there =
     from_show _ _ (show_take n _ _ (show_filter _
-    (λ (r : DataRecord). is_gt (int_cmp (pos r.start) after)) (behind_test after)
+    (λ (r : DataRecord). is_gt (int_cmp (pos r.start) after)) (later_test after)
     (records_of id (trees 2)) (h k) (shown_of trees h stand id k there)))
 
 pub count_shown : (trees : Trees) (h : Holdings) (id : ℤ) (k : Key) → StandFor trees h →
@@ -112,11 +112,11 @@ later_all after low (x ∷ xs) a l =
     (later_all after (x.start + 1) xs a.1 (omega (arith, a.0, l))))
 
 -- after the record at a place of a rising list come those that follow it
-pub behind_place : (low : ℕ) (xs : List DataRecord) → IsApart 1 low xs → (n : ℕ) (r : DataRecord) →
+pub later_place : (low : ℕ) (xs : List DataRecord) → IsApart 1 low xs → (n : ℕ) (r : DataRecord) →
     slice_get xs n ≡ Some r → filter (λ (y : DataRecord).
     is_gt (int_cmp (pos y.start) (pos r.start))) xs ≡ drop (suc n) xs
-behind_place low [] a n r e = absurd (let x : ◌≡◌ {A = Option DataRecord} None (Some r) = e in cc)
-behind_place low (x ∷ xs) a zero r e =
+later_place low [] a n r e = absurd (let x : ◌≡◌ {A = Option DataRecord} None (Some r) = e in cc)
+later_place low (x ∷ xs) a zero r e =
     let same : x ≡ r = cc in
     let no : is_gt (int_cmp (pos x.start) (pos r.start)) ≡ false =
     sym (ap is_gt (value_cmp-Int (pos x.start) (pos r.start)))
@@ -124,21 +124,21 @@ behind_place low (x ∷ xs) a zero r e =
     (ap (λ (y : DataRecord). pos y.start) same)) in
     rw no (later_all r.start (x.start + 1) xs a.1
     (omega (arith, ap (λ (y : DataRecord). y.start) same)))
-behind_place low (x ∷ xs) a (suc n) r e =
+later_place low (x ∷ xs) a (suc n) r e =
     let up = low_first (x.start + 1) xs a.1 n r e in
     let no : is_gt (int_cmp (pos x.start) (pos r.start)) ≡ false =
     sym (ap is_gt (value_cmp-Int (pos x.start) (pos r.start)))
     ∙ ap is_gt (cell_less (pos x.start) (pos r.start)
     (pos_less x.start r.start (omega (arith, up)))) in
-    rw no (behind_place (x.start + 1) xs a.1 n r e)
+    rw no (later_place (x.start + 1) xs a.1 n r e)
 
-pub behind_start : (low : ℕ) (xs : List DataRecord) → IsApart 1 low xs → (after : ℤ) →
+pub later_start : (low : ℕ) (xs : List DataRecord) → IsApart 1 low xs → (after : ℤ) →
     after <ℤ pos low → filter (λ (r : DataRecord). is_gt (int_cmp (pos r.start) after)) xs ≡ xs
-behind_start low [] a after l = refl
-behind_start low (x ∷ xs) a after l =
+later_start low [] a after l = refl
+later_start low (x ∷ xs) a after l =
     let up = a.0 in
     let yes : is_gt (int_cmp (pos x.start) after) ≡ true =
     sym (ap is_gt (value_cmp-Int (pos x.start) after))
     ∙ ap is_gt (cell_more (pos x.start) after (omega (arith, ints, l, up))) in
     rw yes (ap (λ (l : List DataRecord). x ∷ l)
-    (behind_start (x.start + 1) xs a.1 after (omega (arith, ints, l, up))))
+    (later_start (x.start + 1) xs a.1 after (omega (arith, ints, l, up))))

@@ -44,8 +44,8 @@ at_once : (from : ℕ) (x : DataRecord) → x.start ≡ from → is_from from x 
 at_once from x e = ap is_ge (sym (value_cmp-Int (pos x.start) (pos from))
     ∙ cell_same (pos x.start) (pos from) (ap (λ n. pos n) e))
 
-behind : (from : ℕ) (x : DataRecord) → from < x.start → is_from from x ≡ true
-behind from x l = ap is_ge (sym (value_cmp-Int (pos x.start) (pos from))
+later : (from : ℕ) (x : DataRecord) → from < x.start → is_from from x ≡ true
+later from x l = ap is_ge (sym (value_cmp-Int (pos x.start) (pos from))
     ∙ cell_more (pos x.start) (pos from) (pos_less from x.start l))
 
 abbrev Earlier : ℕ → DataRecord → Type 0
@@ -108,7 +108,7 @@ next_of from low (x ∷ xs) a start e =
         IsNextOf from xs start) → IsNextOf from (x ∷ xs) start
     go (below l) rest = later_from from x xs l start (rest (left (before from x l)))
     go (level s) rest = first_from from x xs a.1 (omega (arith, s)) start (taken (at_once from x s))
-    go (above l) rest = first_from from x xs a.1 (omega (arith, l)) start (taken (behind from x l))
+    go (above l) rest = first_from from x xs a.1 (omega (arith, l)) start (taken (later from x l))
 
 is_next : (from : ℕ) (xs : List DataRecord) (start : Option ℕ) → IsNextOf from xs start →
     IsNextStart from xs start

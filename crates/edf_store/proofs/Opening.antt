@@ -5,6 +5,7 @@ use Rattle.sqlite.specs.Effect.{Database}
 use Rattle.sqlite.specs.Held.{Held, state}
 use Rattle.sqlite.specs.State.{State, HasCleanDisk, Survives}
 use Rattle.edf_tables.specs.Made.{HasTables, IsMadeOf}
+use Rattle.edf_header.specs.declared.limits.TheConstants.{MOST_RECORDS}
 use Rattle.edf_rows.specs.Rows.{AreKept}
 use Rattle.edf_audit.specs.File.{PassesAudit}
 use Rattle.edf_tables.specs.Schema.{HasBoth}
@@ -12,7 +13,7 @@ use Rattle.edf_tables.proofs.File.{tables_both}
 use Rattle.edf_store.specs.Held.{IsSoundStore}
 use Rattle.edf_store.specs.Open.{IsOpened}
 
-pub sound_opened : (cap : ℕ) (old new : State) → 1 ≤ cap → cap ≤ 99_999_999 →
+pub sound_opened : (cap : ℕ) (old new : State) → 1 ≤ cap → cap ≤ MOST_RECORDS →
     (HasCleanDisk new → PassesAudit cap old new) → IsSoundStore cap new
 sound_opened cap old new from to kept = record {
   cap_from = from;

@@ -1,7 +1,7 @@
 -- What the calls of a transaction make of what it sees.
 use Rattle.std.proofs.Common.{◌≡◌, ℕ, ◌≤◌, ℤ, pos, false, true, List, [], ◌∷◌, map, length, min}
 use Rattle.std.proofs.Common.{filter, ◌-ℤ◌, ◌+ℤ◌, Contains, inl, inr, IsTrue, refl, sym, ap, subst}
-use Rattle.std.proofs.Common.{◌∙◌, arith, Some, None, Result, Ok, Err, IfOk}
+use Rattle.std.proofs.Common.{◌∙◌, arith, Some, None}
 use Rattle.sqlite.specs.Tree.{Trees}
 use Rattle.sqlite.specs.Effect.{Database}
 use Rattle.sqlite.specs.State.{State, HasCleanDisk, Survives, KeepsCommit, IsUnchanged, Shows}
@@ -24,28 +24,40 @@ use Rattle.sqlite_keyed.proofs.ListLemmas.{all-filter}
 use Rattle.edf_tables.specs.Row.{cells, named_cells, HasRecord, HasRecording}
 use Rattle.edf_tables.specs.Records.{records_of, shown_record, starts_between, IsReady}
 use Rattle.edf_tables.specs.Recordings.{named, IsIdIn}
-use Rattle.edf_tables.proofs.Commits.{quiet_then}
 use Rattle.edf_tables.proofs.Keeping.{keeps_then, same_left}
 use Rattle.edf_tables.proofs.Held.{record_inside, recording_inside, recording_keeps}
+use Rattle.edf_header.specs.declared.limits.TheConstants.{MOST_RECORDS}
 use Rattle.edf_rows.specs.Cells.{record_cells, recording_cells, records_in}
 use Rattle.edf_rows.specs.Rows.{IsThere, AreKept}
 use Rattle.edf_rows.proofs.Rows.{same-recordings}
 use Rattle.edf_store.specs.Held.{AreHeld, IsSoundStore}
 use Rattle.edf_store.specs.Transaction.{AreSeen, SeesSome, IsTransactionOf, IsUnder, SeesOn}
 use Rattle.edf_store.specs.Transaction.{IsCountIn, AreNearIn, MakesNone, MakesOnly, MayTakeIn}
-use Rattle.edf_store.specs.Transaction.{IsAddedIn, EachHasRecordIn, AreSeenRows}
+use Rattle.edf_store.specs.Transaction.{IsAddedIn, IsFoundOrMadeIn, EachHasRecordIn, AreSeenRows}
 use Rattle.edf_tables.specs.Schema.{HasBoth}
-use Rattle.edf_store.proofs.Held.{still_inside, still_under, others_on}
+use Rattle.edf_store.proofs.Held.{still_inside, still_under, others_on, sees_on}
 use Rattle.edf_store.proofs.Standing.{one_key, stand_more, there_too}
 use Rattle.edf_store.proofs.Found.{found, stand_named, there_now, there_still, there_cases}
 use Rattle.edf_store.proofs.Near.{count_shown, near_shown, rows_rising}
+
+pub none_made : (old new : State) → (HasCleanDisk new → IsUnchanged old new) → MakesNone old new
+none_made old new same clean id k it =
+    subst (λ (d : Database). IsThere d.trees id k) (same clean).0.now_is it
+
+pub none_added : (old new : State) (row : Row) → (HasCleanDisk new → HasRecord old new row) →
+    MakesNone old new
+none_added old new row has clean id k it = record {
+  row = subst (λ (rows : List Row). Contains (map (λ row. column row 0 ∷ column row 2 ∷ []) rows)
+      (recording_cells id k)) (has clean).recordings it.row;
+  key = it.key;
+}
 
 module _ (cap : ℕ) (old new : State) (P : Trees → Type 0) (s : Survives old new P) where
   was_clean : HasCleanDisk new → HasCleanDisk old
   was_clean clean = omega (arith, s.clean)
 
   -- the count of the rows is that of the records
-  pub count_is : (id : ℤ) (count n : ℕ) → HasCleanDisk new → cap ≤ 99_999_999 →
+  pub count_is : (id : ℤ) (count n : ℕ) → HasCleanDisk new → cap ≤ MOST_RECORDS →
       count ≡ min (length (records_of id (old.now.trees 2))) 9223372036854775807 → n ≡ count →
       IsCountIn cap old id n
   count_is id count n clean small is same h k seen under =
@@ -84,6 +96,7 @@ module _ (cap : ℕ) (old new : State) (P : Trees → Type 0) (s : Survives old 
       there =
           λ clean. there_again m q clean (under.there (was_clean clean));
     };
+    only = none_added old new _ has;
   }
     where
       there_again : (m : ℤ) (q : Key) → HasCleanDisk new → IsThere old.now.trees m q →
@@ -155,7 +168,7 @@ module _ (cap : ℕ) (a b : State) (id : ℤ) (k : Key) (bytes : List ℕ) (is :
     (key : IsKey k) (one : Survives a b (λ _. ⊥)) (same : HasCleanDisk b →
     IsUnchanged a b) (running : SeesSome cap a) where
   -- a recording is found
-  pub found_in : (HasCleanDisk b → IsIdIn (named bytes (a.now.trees 0)) (Some id)) → IsUnder b id k
+  found_in : (HasCleanDisk b → IsIdIn (named bytes (a.now.trees 0)) (Some id)) → IsUnder b id k
   found_in has = record {
     key = key;
     there = λ clean.
@@ -163,6 +176,14 @@ module _ (cap : ℕ) (a b : State) (id : ℤ) (k : Key) (bytes : List ℕ) (is :
         subst (λ (d : Database). IsThere d.trees id k) (sym (same clean).0.now_is)
         (found a.now.trees it.0 id k it.1.stand key
         (subst (λ (l : List ℕ). IsIdIn (named l (a.now.trees 0)) (Some id)) is (has clean)));
+  }
+
+  pub is_found : (HasCleanDisk b → IsIdIn (named bytes (a.now.trees 0)) (Some id)) →
+      IsFoundOrMadeIn cap a b k id
+  is_found has = record {
+    found = found_in has;
+    same = sees_on cap a b _ one same running;
+    only = λ clean m q it. inl (none_made a b same clean m q it);
   }
 
   -- or made
@@ -203,7 +224,7 @@ module _ (cap : ℕ) (a b : State) (id : ℤ) (k : Key) (bytes : List ℕ) (is :
         (still_inside cap a b had.0 (same (clean_b clean)) had.1).stand key (unnamed clean) m q
         it
 
-    pub made_under : IsUnder c id k
+    made_under : IsUnder c id k
     made_under = record {
       key = key;
       there = λ clean. let had = running (clean_a clean) in
@@ -211,7 +232,7 @@ module _ (cap : ℕ) (a b : State) (id : ℤ) (k : Key) (bytes : List ℕ) (is :
           (still_inside cap a b had.0 (same (clean_b clean)) had.1).stand key (unnamed clean);
     }
 
-    pub made_sees : SeesOn cap a c
+    made_sees : SeesOn cap a c
     made_sees = record {
       running = λ clean. let it = running (clean_a clean) in (it.0, moved it.0 clean it.1);
       holdings = λ h seen clean. moved h clean (seen (clean_a clean));
@@ -223,7 +244,7 @@ module _ (cap : ℕ) (a b : State) (id : ℤ) (k : Key) (bytes : List ℕ) (is :
           };
     }
 
-    pub made_only : MakesOnly k a c
+    made_only : MakesOnly k a c
     made_only clean m q it =
         let had = running (clean_a clean) in
         elim (there_cases b c id k had.0 (has clean) (made clean).1
@@ -235,8 +256,8 @@ module _ (cap : ℕ) (a b : State) (id : ℤ) (k : Key) (bytes : List ℕ) (is :
               (same (clean_b clean)).0.now_is was)
         ]
 
-    pub made_survives : Survives a c (λ _. ⊥)
-    made_survives = quiet_then a b c _ one two
+    pub is_made : IsFoundOrMadeIn cap a c k id
+    is_made = record { found = made_under; same = made_sees; only = made_only }
 
     pub made_keeps : HasCleanDisk c → KeepsCommit a c
     made_keeps clean = keeps_then a b c (same_left a b (same (clean_b clean)))
@@ -269,11 +290,6 @@ sound_near cap h k d start sound =
     all-filter (IsSoundRecord k) (meets d start) (h k)
     (recursion_from_All (IsSoundRecord k) (h k) (sound.records k))
 
-pub if_ok : {A E : Type 0} (r : Result A E) (P Q : A → Type 0) → ((x : A) → P x → Q x) → IfOk r P →
-    IfOk r Q
-if_ok (Ok x) P Q f p = f x p
-if_ok (Err e) P Q f p = tt
-
 -- what is held when a transaction begins has a record in each recording
 pub whole_begun : (cap : ℕ) (old new : State) (P : Trees → Type 0) → Survives old new P →
     (HasCleanDisk new → Shows old new old.now old.committed true) →
@@ -286,15 +302,3 @@ whole_begun cap old new P s shows settled sound clean h id k seen under none =
     let shown = (seen clean).stand.held id k (under.there clean) in
     kept.1.each id k there (subst (λ (d : Database). records_in d.trees id ≡ map record_cells (h k))
     same shown ∙ ap (map record_cells) none)
-
-pub none_made : (old new : State) → (HasCleanDisk new → IsUnchanged old new) → MakesNone old new
-none_made old new same clean id k it =
-    subst (λ (d : Database). IsThere d.trees id k) (same clean).0.now_is it
-
-pub none_added : (old new : State) (row : Row) → (HasCleanDisk new → HasRecord old new row) →
-    MakesNone old new
-none_added old new row has clean id k it = record {
-  row = subst (λ (rows : List Row). Contains (map (λ row. column row 0 ∷ column row 2 ∷ []) rows)
-      (recording_cells id k)) (has clean).recordings it.row;
-  key = it.key;
-}

@@ -20,12 +20,13 @@ use Rattle.edf_fragment.specs.Sound.{IsSoundRecord}
 use Rattle.edf_holdings.specs.Holdings.{Holdings}
 use Rattle.edf_tables.specs.Schema.{HasBoth}
 use Rattle.edf_tables.specs.Records.{records_of, shown_record, IsReady, HaveRisingStarts}
+use Rattle.edf_header.specs.declared.limits.TheConstants.{MOST_RECORDS}
 use Rattle.edf_rows.specs.Cells.{record_cells}
 use Rattle.edf_rows.specs.Rows.{IsThere, AreKept}
-use Rattle.edf_store.specs.Listed.{IsSummary, start_at}
+use Rattle.edf_store.specs.Overview.{IsSummary, start_at}
 use Rattle.edf_store.specs.Held.{AreHeld}
 use Rattle.edf_store.specs.Inside.Settled.{IsSettled}
-use Rattle.edf_store.specs.declared.listing.Summary.{Summary}
+use Rattle.edf_store.specs.declared.overview.Summary.{Summary}
 use Rattle.edf_store.proofs.StoredRows.{Show, show_from, from_show}
 use Rattle.edf_store.proofs.Standing.{shown_of}
 use Rattle.edf_store.proofs.Near.{count_shown, rows_rising}
@@ -70,12 +71,12 @@ still_ready old new id same it =
     }
 
 module _ (cap : ℕ) (trees : Trees) (h : Holdings) (id : ℤ) (k : Key) (kept : AreKept cap trees h)
-    (there : IsThere trees id k) (small : cap ≤ 99_999_999) where
+    (there : IsThere trees id k) (small : cap ≤ MOST_RECORDS) where
   shown : Show (records_of id (trees 2)) (h k)
   shown = shown_of trees h kept.stand id k there
 
   pub count_of : (count : ℕ) → count ≡ min (length (records_of id (trees 2))) 9223372036854775807 →
-      (count ≡ length (h k)) × (count ≤ 99_999_999)
+      (count ≡ length (h k)) × (count ≤ MOST_RECORDS)
   count_of count e =
       let rows = count_shown trees h id k kept.stand there in
       let few = kept.sound.few k in
@@ -135,7 +136,7 @@ module _ (cap : ℕ) (trees : Trees) (h : Holdings) (id : ℤ) (k : Key) (kept :
       (slice_get (records_of id (trees 2)) 0)
       → option_map Int last ≡ option_map (λ row. column row 2)
       (slice_get (reverse (records_of id (trees 2))) 0)
-      → ((a b : ℕ) → count ≤ 99_999_999 → a < window → b < window → first ≡ Some (pos a) →
+      → ((a b : ℕ) → count ≤ MOST_RECORDS → a < window → b < window → first ≡ Some (pos a) →
       last ≡ Some (pos b) → E) → E
   in_bounds count first last E c f l make =
       let one = has_start (h k) some_of
@@ -157,7 +158,7 @@ LastAt s id start = option_map Int start ≡ option_map (λ row. column row 2)
 
 -- three reads of a store that nothing changes between them
 module _ (cap : ℕ) (a b c d : State) (id : ℤ) (count : ℕ) (first last : Option ℤ)
-    (small : cap ≤ 99_999_999) (settled : HasCleanDisk a → IsSettled cap a)
+    (small : cap ≤ MOST_RECORDS) (settled : HasCleanDisk a → IsSettled cap a)
     (one : Survives a b (λ _. ⊥)) (two : Survives b c (λ _. ⊥)) (three : Survives c d (λ _. ⊥))
     (same : HasCleanDisk b → IsUnchanged a b) (again : HasCleanDisk c → IsUnchanged b c)
     (counted : HasCleanDisk b → CountAt a id count) (began : HasCleanDisk c →
@@ -192,7 +193,7 @@ module _ (cap : ℕ) (a b c d : State) (id : ℤ) (count : ℕ) (first last : Op
         small count first last summary (counted clean_b) began_then ended_then is
 
     pub bounds_read : (HasCleanDisk a → (k : Key) × IsThere a.now.trees id k) → (E : Type 0) →
-        ((x y : ℕ) → count ≤ 99_999_999 → x < window → y < window → first ≡ Some (pos x) →
+        ((x y : ℕ) → count ≤ MOST_RECORDS → x < window → y < window → first ≡ Some (pos x) →
         last ≡ Some (pos y) → E) → E
     bounds_read there E make =
         let it = (settled clean_a).holdings in

@@ -16,8 +16,8 @@ use Rattle.edf_tables.specs.Records.{records_of, shown_record, starts_after, IsR
 use Rattle.edf_rows.specs.Cells.{record_cells}
 use Rattle.edf_rows.specs.Rows.{IsThere, AreKept}
 use Rattle.edf_store.specs.Walk.{starts_later, IsWalkAfter, IsSomeWalk}
-use Rattle.edf_store.specs.declared.progress.Progress.{Progress}
-use Rattle.edf_store.proofs.Near.{behind_shown, behind_place, behind_start, rows_rising}
+use Rattle.edf_store.specs.declared.cursor.Cursor.{Cursor}
+use Rattle.edf_store.proofs.Near.{later_shown, later_place, later_start, rows_rising}
 use Rattle.edf_store.proofs.KeysRead.{all_place}
 use Rattle.edf_store.specs.Inside.Settled.{IsSettled, IsFoundIn}
 
@@ -84,9 +84,9 @@ place_within [] n r e = absurd (let none : ◌≡◌ {A = Option DataRecord} Non
 place_within (x ∷ xs) zero r e = omega arith
 place_within (x ∷ xs) (suc n) r e = let more = place_within xs n r e in omega (arith, more)
 
-pub ready_behind : (cap : ℕ) (s : State) (id : ℤ) (after : Progress) → HasCleanDisk s →
-    IsSomeWalk cap s (Some id) after → IsReady id s
-ready_behind cap s id after clean somewhere =
+pub ready_walking : (cap : ℕ) (s : State) (id : ℤ) (cursor : Cursor) → HasCleanDisk s →
+    IsSomeWalk cap s (Some id) cursor → IsReady id s
+ready_walking cap s id cursor clean somewhere =
     let it = somewhere clean in
     record {
       schema = it.3.schema;
@@ -111,11 +111,11 @@ pub read_next : (k : Key) (records : List DataRecord) (n : ℕ) (row : RecordRow
 read_next k records n row rest r next read = next.place
     ∙ ap Some (sym (read next.data_record next.sound next.cells))
 
-module _ (cap : ℕ) (s : State) (id : ℤ) (after : Progress) (h : Holdings) (k : Key) (n : ℕ)
-    (it : IsWalkAfter cap s (Some id) after h k n) where
+module _ (cap : ℕ) (s : State) (id : ℤ) (cursor : Cursor) (h : Holdings) (k : Key) (n : ℕ)
+    (it : IsWalkAfter cap s (Some id) cursor h k n) where
   -- a statement that changes nothing leaves a walk where it is
-  pub still_behind : (t : State) → IsUnchanged s t → IsWalkAfter cap t (Some id) after h k n
-  still_behind t same = record {
+  pub still_walks : (t : State) → IsUnchanged s t → IsWalkAfter cap t (Some id) cursor h k n
+  still_walks t same = record {
     is_open = same.0.is_open;
     idle = same.0.mode ∙ it.idle;
     settled = same.0.now_is ∙ it.settled ∙ sym same.0.committed_is;
@@ -125,24 +125,25 @@ module _ (cap : ℕ) (s : State) (id : ℤ) (after : Progress) (h : Holdings) (k
     found = subst (λ (d : Database). IsThere d.trees id k) (sym same.0.now_is) it.found;
     within = it.within;
     some = it.some;
-    behind = it.behind;
+    later = it.later;
     ahead = it.ahead;
   }
 
   -- the rows of the next page show the records that come next
   module _ (rows : List RecordRow) (shown : map cells_of rows ≡ map shown_record
-      (take after.limit (filter (starts_after after.start) (records_of id (s.now.trees 2))))) where
-    next_shown : map cells_of rows ≡ map record_cells (take after.limit (drop n (h k)))
-    next_shown = shown ∙ behind_shown s.now.trees h id k after.start after.limit it.kept.stand
-        it.found ∙ ap (λ (l : List DataRecord). map record_cells (take after.limit l)) it.behind
+      (take cursor.limit (filter (starts_after cursor.start)
+      (records_of id (s.now.trees 2))))) where
+    next_shown : map cells_of rows ≡ map record_cells (take cursor.limit (drop n (h k)))
+    next_shown = shown ∙ later_shown s.now.trees h id k cursor.start cursor.limit it.kept.stand
+        it.found ∙ ap (λ (l : List DataRecord). map record_cells (take cursor.limit l)) it.later
 
     pub page_next : ShowFirst rows (drop n (h k))
-    page_next = page_shown rows after.limit (drop n (h k)) next_shown
+    page_next = page_shown rows cursor.limit (drop n (h k)) next_shown
 
     pub none_next : rows ≡ [] → n ≡ length (h k)
-    none_next none = none_left (h k) n after.limit rows it.within it.some next_shown none
+    none_next none = none_left (h k) n cursor.limit rows it.within it.some next_shown none
 
-  pub record_next : (row : RecordRow) (rest : List RecordRow) → after.rows.items ≡ row ∷ rest →
+  pub record_next : (row : RecordRow) (rest : List RecordRow) → cursor.rows.items ≡ row ∷ rest →
       Next k (h k) n row rest
   record_next row rest e =
       let found = row_left (h k) n row rest
@@ -158,10 +159,10 @@ module _ (cap : ℕ) (s : State) (id : ℤ) (after : Progress) (h : Holdings) (k
       }
 
   -- the walk with other rows that were read ahead
-  module _ (next : Progress) (limit : next.limit ≡ after.limit) where
-    pub page_behind : next.start ≡ after.start → ShowFirst next.rows.items (drop n (h k)) →
+  module _ (next : Cursor) (limit : next.limit ≡ cursor.limit) where
+    pub page_walks : next.start ≡ cursor.start → ShowFirst next.rows.items (drop n (h k)) →
         IsWalkAfter cap s (Some id) next h k n
-    page_behind start ahead = record {
+    page_walks start ahead = record {
       is_open = it.is_open;
       idle = it.idle;
       settled = it.settled;
@@ -171,14 +172,14 @@ module _ (cap : ℕ) (s : State) (id : ℤ) (after : Progress) (h : Holdings) (k
       found = it.found;
       within = it.within;
       some = omega (arith, it.some, limit);
-      behind = subst (λ (z : ℤ). filter (starts_later z) (h k) ≡ drop n (h k)) (sym start)
-          it.behind;
+      later = subst (λ (z : ℤ). filter (starts_later z) (h k) ≡ drop n (h k)) (sym start)
+          it.later;
       ahead = ahead;
     }
 
-    pub ended_behind : next.start ≡ after.start → next.rows.items ≡ [] → n ≡ length (h k) →
+    pub walk_ended : next.start ≡ cursor.start → next.rows.items ≡ [] → n ≡ length (h k) →
         IsWalkAfter cap s None next h k n
-    ended_behind start none all = record {
+    walk_ended start none all = record {
       is_open = it.is_open;
       idle = it.idle;
       settled = it.settled;
@@ -188,15 +189,15 @@ module _ (cap : ℕ) (s : State) (id : ℤ) (after : Progress) (h : Holdings) (k
       found = all;
       within = it.within;
       some = omega (arith, it.some, limit);
-      behind = subst (λ (z : ℤ). filter (starts_later z) (h k) ≡ drop n (h k)) (sym start)
-          it.behind;
+      later = subst (λ (z : ℤ). filter (starts_later z) (h k) ≡ drop n (h k)) (sym start)
+          it.later;
       ahead = none_shown next.rows.items (drop n (h k)) none;
     }
 
-    pub then_behind : (r : DataRecord) → slice_get (h k) n ≡ Some r → next.start ≡ pos r.start →
+    pub then_walks : (r : DataRecord) → slice_get (h k) n ≡ Some r → next.start ≡ pos r.start →
         ShowFirst next.rows.items (drop (suc n) (h k)) →
         IsWalkAfter cap s (Some id) next h k (n + 1)
-    then_behind r place start others = record {
+    then_walks r place start others = record {
       is_open = it.is_open;
       idle = it.idle;
       settled = it.settled;
@@ -206,8 +207,8 @@ module _ (cap : ℕ) (s : State) (id : ℤ) (after : Progress) (h : Holdings) (k
       found = it.found;
       within = place_within (h k) n r place;
       some = omega (arith, it.some, limit);
-      behind = subst (λ (z : ℤ). filter (starts_later z) (h k) ≡ drop (n + 1) (h k)) (sym start)
-          (behind_place 0 (h k) (it.kept.sound.rising k) n r place
+      later = subst (λ (z : ℤ). filter (starts_later z) (h k) ≡ drop (n + 1) (h k)) (sym start)
+          (later_place 0 (h k) (it.kept.sound.rising k) n r place
           ∙ ap (λ m. drop m (h k)) (suc_is n));
       ahead = subst (λ (m : ℕ). ShowFirst next.rows.items (drop m (h k))) (suc_is n) others;
     }
@@ -216,11 +217,11 @@ module _ (cap : ℕ) (s : State) (id : ℤ) (after : Progress) (h : Holdings) (k
         suc_is n = omega arith
 
 -- where a walk begins
-pub at_start : (cap : ℕ) (s : State) (id : Option ℤ) (after : Progress) (h : Holdings) (k : Key) →
-    after.start <ℤ pos 0 → 1 ≤ after.limit → after.rows.items ≡ [] → IsSettled cap s →
+pub at_start : (cap : ℕ) (s : State) (id : Option ℤ) (cursor : Cursor) (h : Holdings) (k : Key) →
+    cursor.start <ℤ pos 0 → 1 ≤ cursor.limit → cursor.rows.items ≡ [] → IsSettled cap s →
     AreKept cap s.now.trees h → IsKey k → IsFoundIn s k h id
-    → IsWalkAfter cap s id after h k 0
-at_start cap s id after h k low some none it kept key found = record {
+    → IsWalkAfter cap s id cursor h k 0
+at_start cap s id cursor h k low some none it kept key found = record {
   is_open = it.is_open;
   idle = it.idle;
   settled = it.settled;
@@ -230,8 +231,8 @@ at_start cap s id after h k low some none it kept key found = record {
   found = go id found;
   within = omega arith;
   some = some;
-  behind = behind_start 0 (h k) (kept.sound.rising k) after.start low;
-  ahead = none_shown after.rows.items (h k) none;
+  later = later_start 0 (h k) (kept.sound.rising k) cursor.start low;
+  ahead = none_shown cursor.rows.items (h k) none;
 }
   where
     go : (id : Option ℤ) → IsFoundIn s k h id →

@@ -65,8 +65,8 @@ module _ (cap : ℕ) (a b : State) (was : HasCleanDisk b → HasCleanDisk a) (ru
 
     -- the recording that was made holds the record that is added
     pub whole_added : (made : Key) (id : ℤ) (r : DataRecord) → IsAddedIn cap a b id r →
-        IsUnder a id made → MakesNone a b → IsWholeBut made cap a → EachHasRecordIn cap b
-    whole_added made id r added mine none whole clean h m k seen under =
+        IsUnder a id made → IsWholeBut made cap a → EachHasRecordIn cap b
+    whole_added made id r added mine whole clean h m k seen under =
         let it = running (was clean) in
         let then = added.holdings it.0 made (λ _. it.1) mine clean in
         let now = seen clean in
@@ -74,7 +74,7 @@ module _ (cap : ℕ) (a b : State) (was : HasCleanDisk b → HasCleanDisk a) (ru
         one-holdings b.now.trees (put made (r ∷ []) it.0) h cap cap then.stand then.sound
         now.stand now.sound in
         subst (λ (g : Holdings). g k ≢ []) same
-        (go it.0 (whole (was clean) it.0 m k (λ _. it.1) (under_before clean none m k under))
+        (go it.0 (whole (was clean) it.0 m k (λ _. it.1) (under_before clean added.only m k under))
         (same_key made k) refl)
       where
         go : (g : Holdings) → (k ≢ made → g k ≢ []) → (s : Bool) → same_key made k ≡ s →

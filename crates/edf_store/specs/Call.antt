@@ -1,22 +1,38 @@
--- How a call of a store is answered, on a disk that returns what was written.
-use Rattle.std.specs.Prelude.{◌≡◌, false, Result, IsTrue, IfOk, IfErr, OnOk}
+-- How a call of a store is answered, and what a call outside a transaction leaves.
+use Rattle.std.specs.Prelude.{◌≡◌, false, None, Result, Err, IsTrue, IfOk, IfErr, OnOk}
 use Rattle.sqlite_trees.specs.declared.store.Store.{Ghosts}
 use Rattle.sqlite.specs.State.{HasCleanDisk}
-use Rattle.edf_store.specs.Held.{StoreModel, at}
+use Rattle.edf_store.specs.Fault.{MayRefuse}
+use Rattle.edf_store.specs.Held.{StoreModel, at, Stays}
+use Rattle.edf_store.specs.declared.fault.StoreFault.{StoreFault}
+use Rattle.edf_store.specs.declared.fault.StoreFault.TheVariants.{Store}
 
 module _ {S : Type 0} (g : Ghosts S) where
   -- the connection is in a transaction, on any disk
   abbrev pub IsBusy : StoreModel S → Type 0
   IsBusy store = IsTrue (at g store).in_transaction
 
-  -- a call that is done gives this
-  abbrev pub Gives : {X E : Type 0} → StoreModel S → Result X E → (X → Type 0) → Type 0
-  Gives new result P = HasCleanDisk (at g new) → IfOk result P
+  -- the disk did not always return what was written
+  abbrev pub IsUnclean : StoreModel S → Type 0
+  IsUnclean store = ¬ HasCleanDisk (at g store)
 
-  -- a call is refused for such a reason alone
-  abbrev pub RefusesAs : {X E : Type 0} → StoreModel S → Result X E → (E → Type 0) → Type 0
-  RefusesAs new result P = HasCleanDisk (at g new) → IfErr result P
+  -- on a disk that returns what was written, a call that is done answers with this
+  abbrev pub AnswersWith : {X E : Type 0} → StoreModel S → Result X E → (X → Type 0) → Type 0
+  AnswersWith new result P = HasCleanDisk (at g new) → IfOk result P
 
   -- a call that is done leaves no transaction open
   abbrev pub EndsIdle : {X E : Type 0} → StoreModel S → Result X E → Type 0
   EndsIdle new result = HasCleanDisk (at g new) → OnOk result ((at g new).in_transaction ≡ false)
+
+  -- a call that begins outside a transaction: found in one, it is refused by E42 without a cause,
+  -- and only then; it finds rows foreign only where this holds
+  pub record RefusesBusy {X : Type 0} (old : StoreModel S) (result : Result X StoreFault)
+      (IfForeign : Type 0) : Type 0 where
+    pub busy : IsBusy old → result ≡ Err (Store None)
+    pub why : IfErr result (MayRefuse (IsBusy old) IfForeign ⊥)
+
+  -- what a call leaves that reads outside a transaction: what is held, and no transaction
+  pub record ReadsOutside {X E : Type 0} (old new : StoreModel S) (result : Result X E) : Type 0
+    where
+      pub stays : Stays g old new
+      pub idle : EndsIdle new result

@@ -4,6 +4,7 @@ use Rattle.std.specs.Coded.{Coded, code_by, coded×, coded_ℕ}
 use Rattle.sqlite_trees.specs.declared.store.Store.{Ghosts}
 use Rattle.sqlite.specs.Held.{Held, held_code, state}
 use Rattle.sqlite.specs.State.{State, HasCleanDisk, Survives}
+use Rattle.edf_header.specs.declared.limits.TheConstants.{MOST_RECORDS}
 use Rattle.edf_tables.specs.Schema.{HasBoth}
 use Rattle.edf_tables.specs.Others.{KeepsTrees, KeepsOthers}
 use Rattle.edf_holdings.specs.Holdings.{Holdings}
@@ -33,7 +34,7 @@ Holds g store h = AreHeld store.cap (at g store) h
 -- what is true of every store: the tables are there, and their rows stand for holdings
 pub record IsSoundStore (cap : ℕ) (s : State) : Type 0 where
   pub cap_from : 1 ≤ cap
-  pub cap_to : cap ≤ 99_999_999
+  pub cap_to : cap ≤ MOST_RECORDS
   pub schema : HasCleanDisk s → IsTrue s.is_open → HasBoth s.committed.schema
   pub holdings : HasCleanDisk s → IsTrue s.is_open → (h : Holdings)
       × AreKept cap s.committed.trees h

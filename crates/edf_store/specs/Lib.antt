@@ -2,7 +2,8 @@ pub mod Fault
 pub mod Held
 pub mod Call
 pub mod Transaction
-pub mod Listed
+pub mod StoreTx
+pub mod Overview
 pub mod Walk
 pub mod Open
 pub mod Inside

@@ -1,5 +1,5 @@
 -- How a store is opened.
-use Rattle.std.specs.Prelude.{◌≡◌, ◌⊎◌, ℕ, false, IsTrue}
+use Rattle.std.specs.Prelude.{◌≡◌, ℕ, false, IsTrue}
 use Rattle.sqlite_trees.specs.declared.store.Store.{Ghosts}
 use Rattle.sqlite.specs.Held.{Held, state}
 use Rattle.sqlite.specs.State.{HasCleanDisk, Survives}
@@ -8,7 +8,7 @@ use Rattle.edf_tables.specs.Made.{IsOurs, HasTables, KeepsFile, IsMadeOf}
 use Rattle.edf_rows.specs.Rows.{AreKept}
 use Rattle.edf_audit.specs.File.{IsForeignFile}
 use Rattle.edf_store.specs.Held.{StoreModel, at}
-use Rattle.edf_store.specs.Fault.{IsStoreRefusal}
+use Rattle.edf_store.specs.Fault.{MayRefuse}
 use Rattle.edf_store.specs.declared.fault.StoreFault.{StoreFault}
 use Rattle.edf_store.specs.declared.fault.StoreFault.TheVariants.{Foreign}
 
@@ -24,13 +24,13 @@ pub record IsOpened {S : Type 0} (g : Ghosts S) (conn : Held S) (store : StoreMo
     pub own : HasCleanDisk (at g store) → ¬ IsForeignFile store.cap (state g conn).now
     pub crash : Survives (state g conn) (at g store) (IsMadeOf (state g conn).now)
 
--- the connection is given up somewhere. Where its disk is clean there, its rows are as they were,
--- whatever the refusal is; E45 tells that the file was foreign, and tables of ours are made where
--- they were missing; a crash leaves the same as above
+-- The connection is given up somewhere. Where its disk is clean there, its rows are as they were,
+-- whatever the refusal is. The refusal is E45, or it has a cause. E45 tells that the file was
+-- foreign, and tables of ours are made where they were missing. A crash leaves the same as above.
 pub record IsGivenUp {S : Type 0} (g : Ghosts S) (conn : Held S) (cap : ℕ)
     (fault : StoreFault) : Type 0 where
   pub end : Held S
-  pub told : (fault ≡ Foreign) ⊎ IsStoreRefusal fault
+  pub why : MayRefuse ⊥ (Unit {0}) ⊥ fault
   pub foreign : fault ≡ Foreign → HasCleanDisk (state g end) → IsForeignFile cap (state g conn).now
   pub tables : fault ≡ Foreign → IsOurs (state g conn).now → HasCleanDisk (state g end) →
       HasTables (state g conn).now (state g end).now

@@ -72,7 +72,7 @@ abbrev pub IsCountIn : ℕ → State → ℤ → ℕ → Type 0
 IsCountIn cap s id count = (h : Holdings) (k : Key) → AreSeen cap s h → IsUnder s id k →
     count ≡ length (h k)
 
--- the answer tells whether the recording with `more` more has at most the cap
+-- the answer tells whether the recording would have at most the cap with `more` records more
 abbrev pub TellsRoomIn : ℕ → State → ℤ → ℕ → Bool → Type 0
 TellsRoomIn cap s id more answer = (h : Holdings) (k : Key) → AreSeen cap s h → IsUnder s id k →
     answer ≡ nat_le (length (h k) + more) cap
@@ -98,6 +98,13 @@ pub record IsAddedIn (cap : ℕ) (old new : State) (id : ℤ) (r : DataRecord) :
   pub holdings : (h : Holdings) (k : Key) → AreSeen cap old h → IsUnder old id k →
       AreSeen cap new (put k (r ∷ []) h)
   pub ids : (id : ℤ) (k : Key) → IsUnder old id k → IsUnder new id k
+  pub only : MakesNone old new
+
+-- the key's recording is under this id, and no other is made
+pub record IsFoundOrMadeIn (cap : ℕ) (old new : State) (k : Key) (id : ℤ) : Type 0 where
+  pub found : IsUnder new id k
+  pub same : SeesOn cap old new
+  pub only : MakesOnly k old new
 
 -- each recording holds a record
 abbrev pub EachHasRecordIn : ℕ → State → Type 0
@@ -113,9 +120,9 @@ module _ {S : Type 0} (g : Ghosts S) where
   abbrev pub Sees : StoreModel S → Holdings → Type 0
   Sees store h = AreSeen store.cap (at g store) h
 
-  -- it sees some, as it does from its begin on until a call is refused
-  abbrev pub IsRunning : StoreModel S → Type 0
-  IsRunning store = SeesSome store.cap (at g store)
+  -- it sees some, as it does from where it begins until a call is refused
+  abbrev pub SeesHoldings : StoreModel S → Type 0
+  SeesHoldings store = SeesSome store.cap (at g store)
 
   -- it has the key's recording under this id
   abbrev pub IsOf : StoreModel S → ℤ → Key → Type 0
@@ -147,6 +154,9 @@ module _ {S : Type 0} (g : Ghosts S) where
 
   abbrev pub IsAdded : StoreModel S → StoreModel S → ℤ → DataRecord → Type 0
   IsAdded old new = IsAddedIn new.cap (at g old) (at g new)
+
+  abbrev pub IsFoundOrMade : StoreModel S → StoreModel S → Key → ℤ → Type 0
+  IsFoundOrMade old new = IsFoundOrMadeIn new.cap (at g old) (at g new)
 
   abbrev pub EachHasRecord : StoreModel S → Type 0
   EachHasRecord store = EachHasRecordIn store.cap (at g store)

@@ -1,6 +1,7 @@
 -- How far a walk over the records of a recording has come.
 use Rattle.std.specs.Prelude.{◌≡◌, ℕ, ◌+◌, ◌≤◌, ℤ, pos, Bool, false, List, length, map, take, drop}
-use Rattle.std.specs.Prelude.{filter, slice_get, Option, Some, None, IsTrue, MatchOption}
+use Rattle.std.specs.Prelude.{filter, slice_get, Option, Some, None, IsTrue, MatchOption, true}
+use Rattle.std.specs.Prelude.{Result, Ok, Err, IfOk, IfErr, OnOk, OnErr}
 use Rattle.std.specs.Ordering.{int_cmp, is_gt}
 use Rattle.sqlite_trees.specs.declared.store.Store.{Ghosts}
 use Rattle.sqlite.specs.State.{State, HasCleanDisk}
@@ -11,16 +12,21 @@ use Rattle.edf_tables.specs.Schema.{HasBoth}
 use Rattle.edf_tables.specs.Cells.{cells_of}
 use Rattle.edf_rows.specs.Cells.{record_cells}
 use Rattle.edf_rows.specs.Rows.{IsThere, AreKept}
-use Rattle.edf_store.specs.Held.{StoreModel, at}
-use Rattle.edf_store.specs.declared.progress.Progress.{Progress}
+use Rattle.edf_store.specs.Fault.{MayRefuse}
+use Rattle.edf_store.specs.Held.{StoreModel, at, Holds, Stays}
+use Rattle.edf_store.specs.Call.{IsUnclean}
+use Rattle.edf_store.specs.declared.cursor.Cursor.{Cursor}
+use Rattle.edf_store.specs.declared.fault.StoreFault.{StoreFault}
+use Rattle.edf_store.specs.declared.fault.StoreFault.TheVariants.{Failed}
+use Rattle.edf_store.specs.declared.records.Records.{Records}
 
 abbrev pub starts_later : ℤ → DataRecord → Bool
 starts_later after r = is_gt (int_cmp (pos r.start) after)
 
 -- no transaction is open, and the recording is the key's in these holdings. The first n of its
--- records are given; those that start after `after.start`, which is -1 before the first, come next,
--- and the rows that were read ahead show the first of them. Without a recording none is left
-pub record IsWalkAfter (cap : ℕ) (s : State) (recording : Option ℤ) (after : Progress)
+-- records are given; those that start after `cursor.start`, which is -1 before the first, come
+-- next, and the rows that were read ahead show the first of them. Without a recording none is left
+pub record IsWalkAfter (cap : ℕ) (s : State) (recording : Option ℤ) (cursor : Cursor)
     (h : Holdings) (k : Key) (n : ℕ) : Type 0 where
   pub is_open : IsTrue s.is_open
   pub idle : s.in_transaction ≡ false
@@ -30,27 +36,19 @@ pub record IsWalkAfter (cap : ℕ) (s : State) (recording : Option ℤ) (after :
   pub key : IsKey k
   pub found : MatchOption recording (n ≡ length (h k)) (λ id. IsThere s.now.trees id k)
   pub within : n ≤ length (h k)
-  pub some : 1 ≤ after.limit
-  pub behind : filter (starts_later after.start) (h k) ≡ drop n (h k)
-  pub ahead : map cells_of after.rows.items ≡ map record_cells
-      (take (length after.rows.items) (drop n (h k)))
+  pub some : 1 ≤ cursor.limit
+  pub later : filter (starts_later cursor.start) (h k) ≡ drop n (h k)
+  pub ahead : map cells_of cursor.rows.items ≡ map record_cells
+      (take (length cursor.rows.items) (drop n (h k)))
 
-abbrev pub HasGivenFirst : ℕ → State → Option ℤ → Progress → Holdings → Key → ℕ → Type 0
-HasGivenFirst cap s recording after h k n = HasCleanDisk s → IsWalkAfter cap s recording after h k n
+abbrev pub HasGivenFirst : ℕ → State → Option ℤ → Cursor → Holdings → Key → ℕ → Type 0
+HasGivenFirst cap s recording cursor h k n = HasCleanDisk s →
+    IsWalkAfter cap s recording cursor h k n
 
 -- the walk has given the first records of some key
-abbrev pub IsSomeWalk : ℕ → State → Option ℤ → Progress → Type 0
-IsSomeWalk cap s recording after = HasCleanDisk s → (h : Holdings) × (k : Key) × (n : ℕ)
-    × IsWalkAfter cap s recording after h k n
-
-module _ {S : Type 0} (g : Ghosts S) where
-  -- the walk gave the first n records of the key, and the others come next
-  abbrev pub HasWalked : StoreModel S → Option ℤ → Progress → Holdings → Key → ℕ → Type 0
-  HasWalked store = HasGivenFirst store.cap (at g store)
-
-  -- it gave the first records of some list that is held
-  abbrev pub IsWalking : StoreModel S → Option ℤ → Progress → Type 0
-  IsWalking store = IsSomeWalk store.cap (at g store)
+abbrev pub IsSomeWalk : ℕ → State → Option ℤ → Cursor → Type 0
+IsSomeWalk cap s recording cursor = HasCleanDisk s → (h : Holdings) × (k : Key) × (n : ℕ)
+    × IsWalkAfter cap s recording cursor h k n
 
 -- the answer of one step: the record at this place of the list, or that there is no more
 abbrev pub GivesNext : List DataRecord → ℕ → Option DataRecord → Type 0
@@ -61,3 +59,35 @@ GivesNext records n None = n ≡ length records
 abbrev pub moved : {X : Type 0} → ℕ → Option X → ℕ
 moved n (Some x) = n + 1
 moved n None = n
+
+module _ {S : Type 0} (g : Ghosts S) where
+  -- the walk gave the first n records of the key, and the others come next
+  abbrev pub HasGiven : Records S Cursor → Holdings → Key → ℕ → Type 0
+  HasGiven walk = HasGivenFirst walk.store.now.cap (at g walk.store.now) walk.recording walk.cursor
+
+  -- it gave the first records of some list that is held
+  abbrev pub IsWalking : Records S Cursor → Type 0
+  IsWalking walk = IsSomeWalk walk.store.now.cap (at g walk.store.now) walk.recording walk.cursor
+
+  -- a walk that begins, over what is held of the key
+  pub record BeginsAt (store : StoreModel S) (k : Key) (walk : Records S Cursor) : Type 0 where
+    pub stays : Stays g store walk.store.now
+    pub going : walk.failed ≡ false
+    pub walking : IsWalking walk
+    pub at_first : (h : Holdings) → Holds g store h → HasGiven walk h k 0
+
+  -- What a step leaves: what is held, and a walk that goes on, is over or has failed. Once over it
+  -- stays so. It refuses as foreign where the disk did not return what was written, and by `Failed`
+  -- where it had a fault before, and only then.
+  pub record WalksOn {X : Type 0} (old new : Records S Cursor)
+      (result : Result (Option X) StoreFault) : Type 0 where
+    pub same_reference : new.store.ghost_name ≡ old.store.ghost_name
+    pub stays : Stays g old.store.now new.store.now
+    pub going : OnOk result (new.failed ≡ false)
+    pub walking : OnOk result (IsWalking new)
+    pub ends : IfOk result (λ o. o ≡ None → new.recording ≡ None)
+    pub ended : old.failed ≡ false → old.recording ≡ None →
+        (result ≡ Ok None) × (new.recording ≡ None)
+    pub fails : OnErr result (new.failed ≡ true)
+    pub failed : old.failed ≡ true → result ≡ Err Failed
+    pub why : IfErr result (MayRefuse ⊥ (IsUnclean g new.store.now) (old.failed ≡ true))

@@ -1,37 +1,26 @@
-//! A recording or a data record more.
+//! One recording or one data record more.
 
-ghost use Rattle.std.specs.Prelude.{◌≡◌, ◌≢◌, None, IfOk, IfErr};
-ghost use Rattle.edf_store.specs.Fault.{IsStoreRefusal};
+ghost use Rattle.std.specs.Prelude.{IfOk};
 ghost use Rattle.edf_store.specs.Held.{Stays};
-ghost use Rattle.edf_store.specs.Transaction.{IsRunning, IsOf, SeesAsBefore, HasNoMore, HasAtMost};
-ghost use Rattle.edf_store.specs.Transaction.{MayTake, IsAdded};
+ghost use Rattle.edf_store.specs.Transaction.{SeesHoldings, IsFoundOrMade, MayTake, IsAdded};
 
-use crate::fault::StoreFault;
 use crate::store::Store;
 use edf_fragment::Record;
 use edf_header::Identity;
 use edf_rows::{block_of, start_of};
 use edf_tables::{insert_record, insert_recording, select_recording};
-use sqlite::Alter;
+use sqlite::{Alter, Error};
 
 /// The id of the identity's recording, which is made where it is missing.
 pub(crate) fn find_or_make<S: Alter>(
     store: &mut Store<S>,
     identity: &Identity,
-) -> Result<i64, StoreFault>
-    requires running { IsRunning S.Store store.old }
+) -> Result<i64, Error>
+    requires sees { SeesHoldings S.Store store.old }
     ensures stays { Stays S.Store store.old store.new }
-    ensures found { IfOk result (λ id. IsOf S.Store store.new id identity.now) }
-    ensures same { IfOk result (λ _. SeesAsBefore S.Store store.old store.new) }
-    ensures only { IfOk result (λ _. HasAtMost S.Store identity.now store.old store.new) }
-    ensures told { IfErr result IsStoreRefusal }
-    ensures caused { IfErr result (λ e. e ≢ StoreFault.Store None) }
+    ensures found { IfOk result (IsFoundOrMade S.Store store.old store.new identity.now) }
 {
-    // contracts learn from this call what bounds the identity keeps
-    let _ = identity.signals();
-    let Ok(bytes) = identity.to_bytes(store.alloc) else {
-        return Err(StoreFault::Memory);
-    };
+    let bytes = identity.to_bytes(store.alloc)?;
     if let Some(id) = select_recording(&mut store.conn, bytes.as_slice())? {
         return Ok(id);
     }
@@ -39,22 +28,18 @@ pub(crate) fn find_or_make<S: Alter>(
     Ok(id)
 }
 
+/// Adds a data record to the recording of this id, which may take it.
 pub(crate) fn add_record<S: Alter>(
     store: &mut Store<S>,
     id: i64,
     data_record: &Record,
-) -> Result<(), StoreFault>
-    requires running { IsRunning S.Store store.old }
+) -> Result<(), Error>
+    requires sees { SeesHoldings S.Store store.old }
     requires room { MayTake S.Store store.old id data_record.now }
     ensures stays { Stays S.Store store.old store.new }
     ensures added { IfOk result (λ _. IsAdded S.Store store.old store.new id data_record.now) }
-    ensures only { IfOk result (λ _. HasNoMore S.Store store.old store.new) }
-    ensures told { IfErr result IsStoreRefusal }
-    ensures caused { IfErr result (λ e. e ≢ StoreFault.Store None) }
 {
-    let Ok(block) = block_of(store.alloc, data_record) else {
-        return Err(StoreFault::Memory);
-    };
+    let block = block_of(store.alloc, data_record)?;
     let start = start_of(data_record.start());
     insert_record(
         &mut store.conn,

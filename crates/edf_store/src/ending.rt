@@ -1,27 +1,19 @@
-//! The begin and the end of a transaction.
+//! How a transaction begins and ends.
 
-ghost use Rattle.std.specs.Prelude.{◌≡◌, ◌≢◌, false, None, Err, IsTrue, OnOk, IfOk, IfErr};
-ghost use Rattle.sqlite.specs.State.{HasCleanDisk, Survives};
-ghost use Rattle.edf_holdings.specs.Holdings.{Holdings};
-ghost use Rattle.edf_store.specs.Fault.{IsStoreRefusal};
-ghost use Rattle.edf_store.specs.Held.{at, Holds, KeepsCommittedOthers, Stays};
-ghost use Rattle.edf_store.specs.Transaction.{Sees, IsRunning, EachHasRecord, IsSeen};
-ghost use Rattle.edf_store.specs.Call.{EndsIdle, IsBusy};
+ghost use Rattle.edf_store.specs.Transaction.{SeesHoldings, EachHasRecord};
+ghost use Rattle.edf_store.specs.Call.{RefusesBusy};
+ghost use Rattle.edf_store.specs.StoreTx.{Commits, GivesUp};
+ghost use Rattle.edf_store.specs.Inside.Rows.{Begins};
 
 use crate::fault::StoreFault;
 use crate::store::Store;
 use edf_tables::{begin, commit, roll_back};
-use sqlite::Alter;
+use sqlite::{Alter, Error};
 
+/// Begins a transaction, where the connection is in none.
 pub(crate) fn begin_all<S: Alter>(store: &mut Store<S>) -> Result<(), StoreFault>
-    ensures stays { Stays S.Store store.old store.new }
-    ensures running { IfOk result (λ _. IsRunning S.Store store.new) }
-    ensures sees { IfOk result (λ _.
-        (h : Holdings) → Holds S.Store store.old h → Sees S.Store store.new h) }
-    ensures whole { IfOk result (λ _. EachHasRecord S.Store store.new) }
-    ensures told { IfErr result IsStoreRefusal }
-    ensures busy { IsBusy S.Store store.old → result ≡ Err (StoreFault.Store None) }
-    ensures caused { IfErr result (λ e. e ≡ StoreFault.Store None → IsBusy S.Store store.old) }
+    ensures begun { Begins S.Store store.old store.new result }
+    ensures refuses { RefusesBusy S.Store store.old result ⊥ }
 {
     if !store.conn.is_autocommit() {
         return Err(StoreFault::Store(None));
@@ -30,33 +22,19 @@ pub(crate) fn begin_all<S: Alter>(store: &mut Store<S>) -> Result<(), StoreFault
     Ok(())
 }
 
-pub(crate) fn commit_all<S: Alter>(store: &mut Store<S>) -> Result<(), StoreFault>
-    requires running { IsRunning S.Store store.old }
+/// Makes what the transaction saw what is held.
+pub(crate) fn commit_all<S: Alter>(store: &mut Store<S>) -> Result<(), Error>
+    requires sees { SeesHoldings S.Store store.old }
     requires whole { EachHasRecord S.Store store.old }
-    ensures cap { store.new.cap ≡ store.old.cap }
-    ensures committed { IfOk result (λ _.
-        (h : Holdings) → Sees S.Store store.old h → Holds S.Store store.new h) }
-    ensures refused { IfErr result (λ _.
-        (h : Holdings) → Holds S.Store store.old h → Holds S.Store store.new h) }
-    ensures others { KeepsCommittedOthers (at S.Store store.old) (at S.Store store.new) }
-    ensures survives { Survives (at S.Store store.old) (at S.Store store.new)
-        (IsSeen S.Store store.old) }
-    ensures ended { HasCleanDisk (at S.Store store.new) →
-        (at S.Store store.new).in_transaction ≡ false }
-    ensures is_open { HasCleanDisk (at S.Store store.new) →
-        OnOk result (IsTrue (at S.Store store.new).is_open) }
-    ensures told { IfErr result IsStoreRefusal }
-    ensures caused { IfErr result (λ e. e ≢ StoreFault.Store None) }
+    ensures { Commits S.Store store.old store.new result }
 {
     commit(&mut store.conn)?;
     Ok(())
 }
 
-pub(crate) fn undo<S: Alter>(store: &mut Store<S>) -> Result<(), StoreFault>
-    ensures stays { Stays S.Store store.old store.new }
-    ensures ended { EndsIdle S.Store store.new result }
-    ensures told { IfErr result IsStoreRefusal }
-    ensures caused { IfErr result (λ e. e ≢ StoreFault.Store None) }
+/// Undoes the transaction, if one is open.
+pub(crate) fn undo<S: Alter>(store: &mut Store<S>) -> Result<(), Error>
+    ensures { GivesUp S.Store store.old store.new result }
 {
     roll_back(&mut store.conn)?;
     Ok(())

@@ -1,7 +1,11 @@
-ghost use Rattle.std.specs.Prelude.{◌≡◌};
-ghost use Rattle.edf_store.specs.Fault.{number};
+//! Why a call of the store is refused, and why rows are not read or written.
 
+ghost use Rattle.std.specs.Prelude.{◌≡◌};
+ghost use Rattle.edf_store.specs.Fault.{number, store_fault_name};
+
+use edf_header::IdentityFault;
 use sqlite::{Error, ErrorCode};
+use std::alloc::{AllocError, AllocFailed};
 
 /// Why a call of the store was refused.
 #[derive(Clone, Copy, Debug, PartialEq, Eq, Drop, thiserror::Error)]
@@ -13,8 +17,8 @@ pub enum StoreFault {
     /// transaction that an earlier refusal left.
     #[error("the store failed")]
     Store(Option<Error>),
-    /// E45: the tables hold what no submissions leave.
-    #[error("the tables hold what no submissions leave")]
+    /// E45: the tables hold what no submission leaves.
+    #[error("the tables hold what no submission leaves")]
     Foreign,
     /// An earlier call had a fault, and nothing more can be read.
     #[error("the records met a fault before")]
@@ -33,9 +37,21 @@ impl StoreFault {
             StoreFault::Failed => 0,
         }
     }
+
+    /// Its name: that of the variant.
+    pub fn name(&self) -> &'static str
+        ensures { result.now ≡ store_fault_name self.now }
+    {
+        match self {
+            StoreFault::Memory => "Memory",
+            StoreFault::Store(_) => "Store",
+            StoreFault::Foreign => "Foreign",
+            StoreFault::Failed => "Failed",
+        }
+    }
 }
 
-/// The refusal that one of `sqlite`'s is: `Memory` where memory ran out, else `Store` with the
+/// The refusal that an error of `sqlite` is: `Memory` where memory ran out, else `Store` with the
 /// error.
 impl From<Error> for StoreFault {
     ghost use Rattle.edf_store.specs.Fault.{IsRefusalOf};
@@ -46,6 +62,76 @@ impl From<Error> for StoreFault {
         match error {
             Error::SqliteFailure(ErrorCode::OutOfMemory) => StoreFault::Memory,
             error => StoreFault::Store(Some(error)),
+        }
+    }
+}
+
+/// Why rows were not read. That memory ran out is one of the errors of `sqlite`.
+#[derive(Clone, Copy, Debug, PartialEq, Eq, Drop)]
+pub(crate) enum RowFault {
+    Sqlite(Error),
+    /// They are not rows that submissions leave.
+    Foreign,
+}
+
+impl From<Error> for RowFault {
+    ghost use Rattle.edf_store.specs.declared.fault.RowFault.TheVariants.{Sqlite};
+
+    ghost from_gives = { λ error fault. fault ≡ Sqlite error };
+
+    fn from(error: Error) -> RowFault {
+        RowFault::Sqlite(error)
+    }
+}
+
+impl From<AllocError> for RowFault {
+    ghost use Rattle.sqlite.specs.declared.error.Error.TheVariants.{SqliteFailure};
+    ghost use Rattle.sqlite.specs.declared.error.ErrorCode.TheVariants.{OutOfMemory};
+    ghost use Rattle.edf_store.specs.declared.fault.RowFault.TheVariants.{Sqlite};
+
+    ghost from_gives = { λ _ fault. fault ≡ Sqlite (SqliteFailure OutOfMemory) };
+
+    fn from(error: AllocError) -> RowFault {
+        RowFault::Sqlite(Error::from(error))
+    }
+}
+
+impl<T: Drop> From<AllocFailed<T>> for RowFault {
+    ghost use Rattle.sqlite.specs.declared.error.Error.TheVariants.{SqliteFailure};
+    ghost use Rattle.sqlite.specs.declared.error.ErrorCode.TheVariants.{OutOfMemory};
+    ghost use Rattle.edf_store.specs.declared.fault.RowFault.TheVariants.{Sqlite};
+
+    ghost from_gives = { λ _ fault. fault ≡ Sqlite (SqliteFailure OutOfMemory) };
+
+    fn from(failed: AllocFailed<T>) -> RowFault {
+        RowFault::Sqlite(Error::from(failed))
+    }
+}
+
+/// What it means that the bytes of a row are not an identity's: memory ran out, or the row is
+/// foreign.
+impl From<IdentityFault> for RowFault {
+    ghost use Rattle.edf_store.specs.Fault.{IsFaultOfIdentity};
+
+    ghost from_gives = { IsFaultOfIdentity };
+
+    fn from(fault: IdentityFault) -> RowFault {
+        match fault {
+            IdentityFault::Memory => RowFault::Sqlite(Error::SqliteFailure(ErrorCode::OutOfMemory)),
+            _ => RowFault::Foreign,
+        }
+    }
+}
+
+impl From<RowFault> for StoreFault {
+    ghost use Rattle.edf_store.specs.Fault.{IsRefusalBy};
+
+    ghost from_gives = { IsRefusalBy };
+
+    fn from(fault: RowFault) -> StoreFault {
+        match fault {
+            RowFault::Sqlite(error) => StoreFault::from(error),
+            RowFault::Foreign => StoreFault::Foreign,
         }
     }
 }

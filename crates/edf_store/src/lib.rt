@@ -2,19 +2,20 @@
 //!
 //! - [`Store`]: over a connection of any store that `sqlite` takes. `transaction` begins to add;
 //!   `identities`, `summary` and `records` read what is held.
-//! - [`StoreTx`]: `recording`, `near`, `has_room`, `count` and `add`, until `commit` or `give_up`.
+//! - [`StoreTx`]: `recording`, `near`, `next_start`, `has_room`, `count` and `add`, until `commit`
+//!   or `give_up`.
 //! - [`Records`]: the data records of one recording, one at a time.
 //! - [`StoreFault`]: why a call was refused.
-//! - [`laws`]: the disk of a store in memory stays clean.
+//! - [`laws`]: the disk of a store in memory is always clean.
 #![tactic(auto)]
 
 mod adding;
+mod cursor;
 mod decode;
 mod ending;
 mod fault;
 pub mod laws;
-mod listing;
-mod progress;
+mod overview;
 mod reading;
 mod ready;
 mod records;
@@ -22,7 +23,7 @@ mod store;
 mod transaction;
 
 pub use fault::StoreFault;
-pub use listing::Summary;
+pub use overview::Summary;
 pub use records::Records;
 pub use store::Store;
 pub use transaction::{RecordingId, StoreTx};

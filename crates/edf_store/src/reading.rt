@@ -4,42 +4,35 @@ ghost use Rattle.std.specs.Prelude.{◌≡◌, ◌≢◌, ◌*◌, ◌<◌, ◌�
 ghost use Rattle.std.specs.Prelude.{None, length, IsTrue, IfOk, IfErr};
 ghost use Rattle.std.specs.Option.{option_map};
 ghost use Rattle.edf_time.specs.Civil.{window};
-ghost use Rattle.edf_field.specs.Number.{duration_of};
 ghost use Rattle.edf_header.specs.Key.{Key};
 ghost use Rattle.edf_holdings.specs.Holdings.{Holdings};
-ghost use Rattle.edf_store.specs.Fault.{IsStoreRefusal};
-ghost use Rattle.edf_store.specs.Held.{Stays};
-ghost use Rattle.edf_store.specs.Transaction.{Sees, IsRunning, IsOf, SeesAsBefore, HasNoMore};
-ghost use Rattle.edf_store.specs.Transaction.{AreNear, IsNextStartOf, IsCountOf, TellsRoom};
-ghost use Rattle.edf_store.specs.Call.{Gives, RefusesAs};
+ghost use Rattle.edf_store.specs.Call.{AnswersWith};
+ghost use Rattle.edf_store.specs.Transaction.{Sees, IsOf, AreNear, IsNextStartOf, IsCountOf};
+ghost use Rattle.edf_store.specs.Transaction.{TellsRoom};
+ghost use Rattle.edf_store.specs.Inside.Rows.{HasRecording, HasRecordingOf, ReadsRows};
+ghost use Rattle.edf_store.specs.Inside.Rows.{ReadsOurRows};
 
 use crate::decode::records_in;
-use crate::fault::StoreFault;
-use crate::listing::instant_in;
+use crate::fault::RowFault;
+use crate::overview::instant_in;
 use crate::store::Store;
 use edf_fragment::Record;
 use edf_tables::{count_rows, first_start, last_start, near_rows};
 use edf_time::Instant;
 use sqlite::{Alter, Error};
 
+/// The data records whose intervals of this duration meet the one that begins at `start`.
 pub(crate) fn records_near<S: Alter>(
     store: &mut Store<S>,
     id: i64,
     start: Instant,
     duration: u64,
-) -> Result<Vec<Record>, StoreFault>
-    requires running { IsRunning S.Store store.old }
-    requires recording { (k : Key) × IsOf S.Store store.old id k
-        × (duration ≡ duration_of k.duration) }
-    ensures stays { Stays S.Store store.old store.new }
-    ensures near { Gives S.Store store.new result (λ records.
+) -> Result<Vec<Record>, RowFault>
+    requires recording { HasRecordingOf S.Store store.old id duration }
+    ensures reads { ReadsRows S.Store store.old store.new result }
+    ensures near { ReadsOurRows S.Store store.new result (λ records.
         AreNear S.Store store.old id start records.items) }
-    ensures two { Gives S.Store store.new result (λ records. length records.items ≤ 2) }
-    ensures same { IfOk result (λ _. SeesAsBefore S.Store store.old store.new) }
-    ensures only { IfOk result (λ _. HasNoMore S.Store store.old store.new) }
-    ensures told { RefusesAs S.Store store.new result IsStoreRefusal }
-    ensures unfailed { IfErr result (λ e. e ≢ StoreFault.Failed) }
-    ensures caused { IfErr result (λ e. e ≢ StoreFault.Store None) }
+    ensures two { AnswersWith S.Store store.new result (λ records. length records.items ≤ 2) }
 {
     let begin = start.nanos() as i64;
     let length = duration as i64;
@@ -52,71 +45,54 @@ pub(crate) fn next_start<S: Alter>(
     store: &mut Store<S>,
     id: i64,
     from: Instant,
-) -> Result<Option<Instant>, StoreFault>
-    requires running { IsRunning S.Store store.old }
-    requires recording { (k : Key) × IsOf S.Store store.old id k }
-    ensures stays { Stays S.Store store.old store.new }
-    ensures next { Gives S.Store store.new result (IsNextStartOf S.Store store.old id from) }
-    ensures same { IfOk result (λ _. SeesAsBefore S.Store store.old store.new) }
-    ensures only { IfOk result (λ _. HasNoMore S.Store store.old store.new) }
-    ensures told { RefusesAs S.Store store.new result IsStoreRefusal }
-    ensures unfailed { IfErr result (λ e. e ≢ StoreFault.Failed) }
-    ensures caused { IfErr result (λ e. e ≢ StoreFault.Store None) }
+) -> Result<Option<Instant>, RowFault>
+    requires recording { HasRecording S.Store store.old id }
+    ensures reads { ReadsRows S.Store store.old store.new result }
+    ensures next { ReadsOurRows S.Store store.new result (IsNextStartOf S.Store store.old id from) }
 {
     let next = edf_tables::next_start(&mut store.conn, id, from.nanos() as i64)?;
     start_in(next)
 }
 
 /// The start that the tables gave, if they gave one.
-fn start_in(next: Option<i64>) -> Result<Option<Instant>, StoreFault>
+fn start_in(next: Option<i64>) -> Result<Option<Instant>, RowFault>
     ensures read { IfOk result (λ start. next ≡ option_map pos start) }
-    ensures told { IfErr result (λ e. e ≡ StoreFault.Foreign) }
-    ensures own { IfErr result (λ _. (next ≢ None) × ((n : ℕ) → n < window → next ≢ Some (pos n))) }
+    ensures foreign { IfErr result (λ _.
+        (next ≢ None) × ((n : ℕ) → n < window → next ≢ Some (pos n))) }
 {
     let Some(nanos) = next else {
         return Ok(None);
     };
     match instant_in(Some(nanos)) {
         Some(start) => Ok(Some(start)),
-        None => Err(StoreFault::Foreign),
+        None => Err(RowFault::Foreign),
     }
 }
 
-#[tactic(auto, using(crate::proofs::Steps::none_made))]
-pub(crate) fn count_records<S: Alter>(store: &mut Store<S>, id: i64) -> Result<u32, StoreFault>
-    requires running { IsRunning S.Store store.old }
-    requires recording { (k : Key) × IsOf S.Store store.old id k }
-    ensures stays { Stays S.Store store.old store.new }
-    ensures count { Gives S.Store store.new result (IsCountOf S.Store store.old id) }
-    ensures same { IfOk result (λ _. SeesAsBefore S.Store store.old store.new) }
-    ensures only { IfOk result (λ _. HasNoMore S.Store store.old store.new) }
-    ensures told { IfErr result IsStoreRefusal }
-    ensures caused { IfErr result (λ e. e ≢ StoreFault.Store None) }
+/// How many data records a recording has.
+pub(crate) fn count_records<S: Alter>(store: &mut Store<S>, id: i64) -> Result<u32, Error>
+    requires recording { HasRecording S.Store store.old id }
+    ensures reads { ReadsRows S.Store store.old store.new result }
+    ensures count { AnswersWith S.Store store.new result (IsCountOf S.Store store.old id) }
 {
     let count = count_rows(&mut store.conn, id)?;
     let Ok(count) = u32::try_from(count) else {
-        return Err(StoreFault::from(Error::IntegralValueOutOfRange(0)));
+        return Err(Error::IntegralValueOutOfRange(0));
     };
     Ok(count)
 }
 
-/// Whether a recording has room for `more` data records: where its first start and its last do not
-/// tell, they are counted.
+/// Whether a recording has room for `more` data records. They are counted where the first start and
+/// the last do not tell.
 pub(crate) fn has_room<S: Alter>(
     store: &mut Store<S>,
     id: i64,
     duration: u64,
     more: u32,
-) -> Result<bool, StoreFault>
-    requires running { IsRunning S.Store store.old }
-    requires recording { (k : Key) × IsOf S.Store store.old id k
-        × (duration ≡ duration_of k.duration) }
-    ensures stays { Stays S.Store store.old store.new }
-    ensures room { Gives S.Store store.new result (TellsRoom S.Store store.old id more) }
-    ensures same { IfOk result (λ _. SeesAsBefore S.Store store.old store.new) }
-    ensures only { IfOk result (λ _. HasNoMore S.Store store.old store.new) }
-    ensures told { IfErr result IsStoreRefusal }
-    ensures caused { IfErr result (λ e. e ≢ StoreFault.Store None) }
+) -> Result<bool, Error>
+    requires recording { HasRecordingOf S.Store store.old id duration }
+    ensures reads { ReadsRows S.Store store.old store.new result }
+    ensures room { AnswersWith S.Store store.new result (TellsRoom S.Store store.old id more) }
 {
     let cap = store.cap;
     let short = is_short(store, id, duration, cap.saturating_sub(more))?;
@@ -133,18 +109,12 @@ fn is_short<S: Alter>(
     id: i64,
     duration: u64,
     most: u32,
-) -> Result<bool, StoreFault>
-    requires running { IsRunning S.Store store.old }
-    requires recording { (k : Key) × IsOf S.Store store.old id k
-        × (duration ≡ duration_of k.duration) }
-    ensures stays { Stays S.Store store.old store.new }
-    ensures short { Gives S.Store store.new result (λ short.
+) -> Result<bool, Error>
+    requires recording { HasRecordingOf S.Store store.old id duration }
+    ensures reads { ReadsRows S.Store store.old store.new result }
+    ensures short { AnswersWith S.Store store.new result (λ short.
         IsTrue short → (h : Holdings) (k : Key) → Sees S.Store store.old h →
         IsOf S.Store store.old id k → (0 < length (h k)) × (length (h k) ≤ most)) }
-    ensures same { IfOk result (λ _. SeesAsBefore S.Store store.old store.new) }
-    ensures only { IfOk result (λ _. HasNoMore S.Store store.old store.new) }
-    ensures told { IfErr result IsStoreRefusal }
-    ensures caused { IfErr result (λ e. e ≢ StoreFault.Store None) }
 {
     let first = first_start(&mut store.conn, id)?;
     let last = last_start(&mut store.conn, id)?;

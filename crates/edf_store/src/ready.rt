@@ -1,13 +1,11 @@
 //! What is true before a read outside a transaction.
 
-ghost use Rattle.std.specs.Prelude.{◌≡◌, ◌≢◌, None, Err, OnOk, IfErr};
-ghost use Rattle.sqlite.specs.State.{HasCleanDisk};
 ghost use Rattle.edf_header.specs.Key.{IsKey};
 ghost use Rattle.edf_holdings.specs.Holdings.{Holdings};
 ghost use Rattle.edf_rows.specs.Rows.{AreKept};
-ghost use Rattle.edf_store.specs.Held.{at, Stays};
-ghost use Rattle.edf_store.specs.Inside.Settled.{IsSettled, IsFoundIn, IsAtRest};
-ghost use Rattle.edf_store.specs.Call.{Gives, IsBusy};
+ghost use Rattle.edf_store.specs.Held.{at};
+ghost use Rattle.edf_store.specs.Inside.Settled.{IsFoundIn, IsAtRest, Settles};
+ghost use Rattle.edf_store.specs.Call.{AnswersWith, RefusesBusy};
 ghost use Rattle.edf_tables.specs.Statement.{OnlyReads, KeepsCommitted, IsCrashSafe};
 
 use crate::fault::StoreFault;
@@ -29,13 +27,8 @@ fn run_nothing<S: Alter>(conn: &mut Connection<S>) -> Result<(), Error>
 /// Sees to it that the connection is open and in no transaction, so that its tables are what is
 /// held.
 pub(crate) fn ready<S: Alter>(store: &mut Store<S>) -> Result<(), StoreFault>
-    ensures stays { Stays S.Store store.old store.new }
-    ensures own { IfErr result (λ e. e ≢ StoreFault.Foreign) }
-    ensures unfailed { IfErr result (λ e. e ≢ StoreFault.Failed) }
-    ensures settled { HasCleanDisk (at S.Store store.new) →
-        OnOk result (IsSettled store.new.cap (at S.Store store.new)) }
-    ensures busy { IsBusy S.Store store.old → result ≡ Err (StoreFault.Store None) }
-    ensures caused { IfErr result (λ e. e ≡ StoreFault.Store None → IsBusy S.Store store.old) }
+    ensures settles { Settles S.Store store.old store.new result }
+    ensures refuses { RefusesBusy S.Store store.old result ⊥ }
 {
     if !store.conn.is_autocommit() {
         return Err(StoreFault::Store(None));
@@ -48,24 +41,15 @@ pub(crate) fn ready<S: Alter>(store: &mut Store<S>) -> Result<(), StoreFault>
 pub(crate) fn find<S: Alter>(
     store: &mut Store<S>,
     identity: &Identity,
-) -> Result<Option<i64>, StoreFault>
+) -> Result<Option<i64>, Error>
     requires settled { IsAtRest S.Store store.old }
-    ensures stays { Stays S.Store store.old store.new }
-    ensures own { IfErr result (λ e. e ≢ StoreFault.Foreign) }
-    ensures unfailed { IfErr result (λ e. e ≢ StoreFault.Failed) }
-    ensures caused { IfErr result (λ e. e ≢ StoreFault.Store None) }
     ensures key { IsKey identity.now }
-    ensures settled { HasCleanDisk (at S.Store store.new) →
-        OnOk result (IsSettled store.new.cap (at S.Store store.new)) }
-    ensures found { Gives S.Store store.new result (λ id.
+    ensures settles { Settles S.Store store.old store.new result }
+    ensures found { AnswersWith S.Store store.new result (λ id.
         (h : Holdings) → AreKept store.new.cap (at S.Store store.new).now.trees h →
         IsFoundIn (at S.Store store.new) identity.now h id) }
 {
-    // contracts learn from this call what bounds the identity keeps
-    let _ = identity.signals();
-    let Ok(bytes) = identity.to_bytes(store.alloc) else {
-        return Err(StoreFault::Memory);
-    };
+    let bytes = identity.to_bytes(store.alloc)?;
     let id = select_recording(&mut store.conn, bytes.as_slice())?;
     Ok(id)
 }

@@ -1,21 +1,20 @@
 //! A store, and how a transaction of it begins.
 
-ghost use Rattle.std.specs.Prelude.{◌≡◌, ◌≤◌, false, None, Err, IfOk, IfErr};
+ghost use Rattle.std.specs.Prelude.{◌≡◌, ◌≤◌, false, Err, IfOk, IfErr};
 ghost use Rattle.std.specs.Borrow.{sem, RestsIfErr};
 ghost use Rattle.sqlite.specs.Held.{state};
-ghost use Rattle.edf_holdings.specs.Holdings.{Holdings};
 ghost use Rattle.edf_tables.specs.Made.{IsOurs};
 ghost use Rattle.edf_audit.specs.File.{IsForeignFile};
-ghost use Rattle.edf_store.specs.Fault.{IsStoreRefusal};
-ghost use Rattle.edf_store.specs.Held.{Holds, Stays};
-ghost use Rattle.edf_store.specs.Transaction.{Sees, IsRunning, EachHasRecord};
+ghost use Rattle.edf_store.specs.Held.{Stays};
+ghost use Rattle.edf_store.specs.Call.{RefusesBusy};
+ghost use Rattle.edf_store.specs.StoreTx.{IsBegun};
 ghost use Rattle.edf_store.specs.Open.{IsOpened, IsGivenUp, StaysClean};
-ghost use Rattle.edf_store.specs.Call.{IsBusy};
 
 use crate::ending::begin_all;
 use crate::fault::StoreFault;
 use crate::transaction::StoreTx;
 use edf_audit::audit;
+use edf_header::MOST_RECORDS;
 use sqlite::{Alter, Connection};
 use std::alloc::Global;
 use std::marker::Model;
@@ -51,7 +50,7 @@ impl<S: Alter> Store<S> {
     /// How many data records a recording may have.
     pub fn cap(&self) -> u32
         ensures value { result ≡ self.now.cap }
-        ensures bound { (1 ≤ result) × (result ≤ 99_999_999) }
+        ensures bound { (1 ≤ result) × (result ≤ MOST_RECORDS) }
     {
         self.cap
     }
@@ -78,15 +77,8 @@ impl<S: Alter> Store<S> {
             (RestsIfErr (the_row S.row S.Store) self.entry (λ tx. tx.store.ghost_name) result
             (Stays S.Store self.old)) }
         ensures same_reference { IfOk result (λ tx. tx.store.ghost_name ≡ self.entry.ghost_name) }
-        ensures stays { IfOk result (λ tx. Stays S.Store self.old tx.store.now) }
-        ensures running { IfOk result
-            (λ tx. (tx.refused ≡ false) × IsRunning S.Store tx.store.now) }
-        ensures told { IfErr result IsStoreRefusal }
-        ensures whole { IfOk result (λ tx. EachHasRecord S.Store tx.store.now) }
-        ensures busy { IsBusy S.Store self.old → result ≡ Err (StoreFault.Store None) }
-        ensures caused { IfErr result (λ e. e ≡ StoreFault.Store None → IsBusy S.Store self.old) }
-        ensures sees { IfOk result (λ tx.
-            (h : Holdings) → Holds S.Store self.old h → Sees S.Store tx.store.now h) }
+        ensures begun { IfOk result (IsBegun S.Store self.old) }
+        ensures refuses { RefusesBusy S.Store self.old result ⊥ }
     {
         begin_all(self)?;
         Ok(StoreTx {
@@ -100,19 +92,20 @@ impl<S: Alter + Drop> Store<S> {
     /// The store of a connection that is in no transaction, whose tables are made where they are
     /// missing. Every row is read once.
     ///
-    /// No recording has, or will have, more than `cap` data records; `cap` is 1 to 99,999,999.
+    /// No recording has, or will have, more than `cap` data records; `cap` is at least 1, and at
+    /// most as many as a file may have.
     ///
     /// # Errors
     /// `Foreign` (E45) where the file's schema is not one that this call leaves or completes, or
     /// where it has rows that submissions do not leave under this cap; else `Memory` (E41) or
-    /// `Store` (E42). It leaves our two tables where they come first, in their order, and what
-    /// comes after them has trees of its own and is no index and no trigger on them; it completes a
-    /// file with nothing, or with the first table alone. The connection is given up. Its rows are
-    /// as they were, by clause `stays` of `edf_audit::audit`, and in a file to complete, a missing
-    /// table may have been made.
+    /// `Store` (E42), with its cause. This call leaves our two tables where they come first, in
+    /// their order, and what comes after them has trees of its own and is no index and no trigger
+    /// on them; it completes a file with nothing, or with the first table alone. The connection is
+    /// given up. Its rows are as they were, and in a file to complete, a missing table may have
+    /// been made.
     pub fn open(alloc: Global, mut conn: Connection<S>, cap: u32) -> Result<Store<S>, StoreFault>
         requires cap_from { 1 ≤ cap }
-        requires cap_to { cap ≤ 99_999_999 }
+        requires cap_to { cap ≤ MOST_RECORDS }
         requires autocommit { (state S.Store conn).in_transaction ≡ false }
         ensures cap { IfOk result (λ store. store.cap ≡ cap) }
         ensures opened { IfOk result (IsOpened S.Store conn) }

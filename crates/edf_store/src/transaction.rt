@@ -1,17 +1,15 @@
 //! What a transaction does.
 
-ghost use Rattle.std.specs.Prelude.{◌≡◌, ◌≢◌, ◌≤◌, false, true, None, IsTrue, length, OnOk, IfOk};
-ghost use Rattle.std.specs.Prelude.{IfErr};
-ghost use Rattle.sqlite.specs.State.{HasCleanDisk, Survives};
+ghost use Rattle.std.specs.Prelude.{◌≡◌, ◌≤◌, length, IfOk, IfErr};
 ghost use Rattle.edf_field.specs.Number.{duration_of};
 ghost use Rattle.edf_header.specs.Key.{Key};
-ghost use Rattle.edf_holdings.specs.Holdings.{Holdings};
-ghost use Rattle.edf_store.specs.Fault.{IsStoreRefusal};
-ghost use Rattle.edf_store.specs.Held.{at, Holds, KeepsCommittedOthers, Stays};
-ghost use Rattle.edf_store.specs.Transaction.{Sees, IsRunning, IsOf, SeesAsBefore, HasNoMore};
-ghost use Rattle.edf_store.specs.Transaction.{HasAtMost, AreNear, IsNextStartOf, IsCountOf};
-ghost use Rattle.edf_store.specs.Transaction.{TellsRoom, MayTake, IsAdded, EachHasRecord, IsSeen};
-ghost use Rattle.edf_store.specs.Call.{Gives, RefusesAs, EndsIdle};
+ghost use Rattle.edf_store.specs.Fault.{HasCause};
+ghost use Rattle.edf_store.specs.Call.{AnswersWith};
+ghost use Rattle.edf_store.specs.Transaction.{IsOf, IsFoundOrMade, AreNear, IsNextStartOf};
+ghost use Rattle.edf_store.specs.Transaction.{IsCountOf, TellsRoom, MayTake, IsAdded};
+ghost use Rattle.edf_store.specs.Transaction.{EachHasRecord};
+ghost use Rattle.edf_store.specs.StoreTx.{IsRunning, StaysInside, ReadsInside, Commits, GivesUp};
+ghost use Rattle.edf_store.specs.StoreTx.{HasCauseOrIsUnclean};
 
 use crate::adding::{add_record, find_or_make};
 use crate::ending::{commit_all, undo};
@@ -35,6 +33,7 @@ pub struct RecordingId {
 /// Until then what is held stays, and a crash leaves that.
 pub struct StoreTx<'store, S: Alter> {
     pub(crate) store: &'store mut Store<S>,
+    /// Whether a call was refused. No code reads it: it carries a condition from call to call.
     pub(crate) refused: bool,
 }
 
@@ -44,27 +43,14 @@ impl<S: Alter> StoreTx<'_, S> {
     /// # Errors
     /// `Memory` (E41) or `Store` (E42), and the transaction is to be given up.
     pub fn recording(&mut self, identity: &Identity) -> Result<RecordingId, StoreFault>
-        requires spared { self.old.refused ≡ false }
-        requires running { IsRunning S.Store self.old.store.now }
-        ensures same_reference { self.new.store.ghost_name ≡ self.old.store.ghost_name }
-        ensures stays { Stays S.Store self.old.store.now self.new.store.now }
-        ensures refused { IfErr result (λ _. self.new.refused ≡ true) }
-        ensures spared { IfOk result (λ _. self.new.refused ≡ false) }
-        ensures found { IfOk result (λ id. IsOf S.Store self.new.store.now id.row identity.now) }
-        ensures same { IfOk result (λ _.
-            SeesAsBefore S.Store self.old.store.now self.new.store.now) }
-        ensures only { IfOk result (λ _.
-            HasAtMost S.Store identity.now self.old.store.now self.new.store.now) }
-        ensures told { IfErr result IsStoreRefusal }
-        ensures caused { IfErr result (λ e. e ≢ StoreFault.Store None) }
+        requires running { IsRunning S.Store self.old }
+        ensures leaves { StaysInside S.Store self.old self.new result }
+        ensures found { IfOk result (λ id.
+            IsFoundOrMade S.Store self.old.store.now self.new.store.now identity.now id.row) }
     {
-        match find_or_make(self.store, identity) {
-            Ok(row) => Ok(RecordingId { row }),
-            Err(fault) => {
-                self.refused = true;
-                Err(fault)
-            }
-        }
+        let answer = find_or_make(self.store, identity);
+        self.refused = answer.is_err();
+        Ok(RecordingId { row: answer? })
     }
 
     /// The data records of a recording whose intervals of this duration meet the one that begins at
@@ -79,32 +65,19 @@ impl<S: Alter> StoreTx<'_, S> {
         start: Instant,
         duration: u64,
     ) -> Result<Vec<Record>, StoreFault>
-        requires spared { self.old.refused ≡ false }
-        requires running { IsRunning S.Store self.old.store.now }
+        requires running { IsRunning S.Store self.old }
         requires recording { (k : Key) × IsOf S.Store self.old.store.now id.row k
             × (duration ≡ duration_of k.duration) }
-        ensures same_reference { self.new.store.ghost_name ≡ self.old.store.ghost_name }
-        ensures stays { Stays S.Store self.old.store.now self.new.store.now }
-        ensures refused { IfErr result (λ _. self.new.refused ≡ true) }
-        ensures spared { IfOk result (λ _. self.new.refused ≡ false) }
-        ensures near { Gives S.Store self.new.store.now result (λ records.
+        ensures leaves { ReadsInside S.Store self.old self.new result
+            (HasCauseOrIsUnclean S.Store self.new) }
+        ensures near { AnswersWith S.Store self.new.store.now result (λ records.
             AreNear S.Store self.old.store.now id.row start records.items) }
-        ensures two { Gives S.Store self.new.store.now result
+        ensures two { AnswersWith S.Store self.new.store.now result
             (λ records. length records.items ≤ 2) }
-        ensures same { IfOk result (λ _.
-            SeesAsBefore S.Store self.old.store.now self.new.store.now) }
-        ensures only { IfOk result (λ _. HasNoMore S.Store self.old.store.now self.new.store.now) }
-        ensures told { RefusesAs S.Store self.new.store.now result IsStoreRefusal }
-        ensures unfailed { IfErr result (λ e. e ≢ StoreFault.Failed) }
-        ensures caused { IfErr result (λ e. e ≢ StoreFault.Store None) }
     {
-        match records_near(self.store, id.row, start, duration) {
-            Ok(records) => Ok(records),
-            Err(fault) => {
-                self.refused = true;
-                Err(fault)
-            }
-        }
+        let answer = records_near(self.store, id.row, start, duration);
+        self.refused = answer.is_err();
+        Ok(answer?)
     }
 
     /// The first start of a recording's data records that is `from` or later; `None` where none is.
@@ -118,29 +91,16 @@ impl<S: Alter> StoreTx<'_, S> {
         id: RecordingId,
         from: Instant,
     ) -> Result<Option<Instant>, StoreFault>
-        requires spared { self.old.refused ≡ false }
-        requires running { IsRunning S.Store self.old.store.now }
+        requires running { IsRunning S.Store self.old }
         requires recording { (k : Key) × IsOf S.Store self.old.store.now id.row k }
-        ensures same_reference { self.new.store.ghost_name ≡ self.old.store.ghost_name }
-        ensures stays { Stays S.Store self.old.store.now self.new.store.now }
-        ensures refused { IfErr result (λ _. self.new.refused ≡ true) }
-        ensures spared { IfOk result (λ _. self.new.refused ≡ false) }
-        ensures next { Gives S.Store self.new.store.now result
+        ensures leaves { ReadsInside S.Store self.old self.new result
+            (HasCauseOrIsUnclean S.Store self.new) }
+        ensures next { AnswersWith S.Store self.new.store.now result
             (IsNextStartOf S.Store self.old.store.now id.row from) }
-        ensures same { IfOk result (λ _.
-            SeesAsBefore S.Store self.old.store.now self.new.store.now) }
-        ensures only { IfOk result (λ _. HasNoMore S.Store self.old.store.now self.new.store.now) }
-        ensures told { RefusesAs S.Store self.new.store.now result IsStoreRefusal }
-        ensures unfailed { IfErr result (λ e. e ≢ StoreFault.Failed) }
-        ensures caused { IfErr result (λ e. e ≢ StoreFault.Store None) }
     {
-        match reading::next_start(self.store, id.row, from) {
-            Ok(start) => Ok(start),
-            Err(fault) => {
-                self.refused = true;
-                Err(fault)
-            }
-        }
+        let answer = reading::next_start(self.store, id.row, from);
+        self.refused = answer.is_err();
+        Ok(answer?)
     }
 
     /// How many data records a recording has.
@@ -148,36 +108,23 @@ impl<S: Alter> StoreTx<'_, S> {
     /// # Errors
     /// `Memory` (E41) or `Store` (E42), and the transaction is to be given up.
     pub fn count(&mut self, id: RecordingId) -> Result<u32, StoreFault>
-        requires spared { self.old.refused ≡ false }
-        requires running { IsRunning S.Store self.old.store.now }
+        requires running { IsRunning S.Store self.old }
         requires recording { (k : Key) × IsOf S.Store self.old.store.now id.row k }
-        ensures same_reference { self.new.store.ghost_name ≡ self.old.store.ghost_name }
-        ensures stays { Stays S.Store self.old.store.now self.new.store.now }
-        ensures refused { IfErr result (λ _. self.new.refused ≡ true) }
-        ensures spared { IfOk result (λ _. self.new.refused ≡ false) }
-        ensures count { Gives S.Store self.new.store.now result
+        ensures leaves { ReadsInside S.Store self.old self.new result HasCause }
+        ensures count { AnswersWith S.Store self.new.store.now result
             (IsCountOf S.Store self.old.store.now id.row) }
-        ensures same { IfOk result (λ _.
-            SeesAsBefore S.Store self.old.store.now self.new.store.now) }
-        ensures only { IfOk result (λ _. HasNoMore S.Store self.old.store.now self.new.store.now) }
-        ensures told { IfErr result IsStoreRefusal }
-        ensures caused { IfErr result (λ e. e ≢ StoreFault.Store None) }
     {
-        match count_records(self.store, id.row) {
-            Ok(count) => Ok(count),
-            Err(fault) => {
-                self.refused = true;
-                Err(fault)
-            }
-        }
+        let answer = count_records(self.store, id.row);
+        self.refused = answer.is_err();
+        Ok(answer?)
     }
 
-    /// Whether a recording with `more` data records more has at most the cap. `duration` is the
+    /// Whether a recording has room for `more` data records below the cap. `duration` is the
     /// recording's, in nanoseconds.
     ///
-    /// Data records do not overlap, so where a recording reaches over less time than those take
-    /// that the cap leaves, there is room; only where that does not tell are they counted, each of
-    /// them.
+    /// Data records do not overlap, so there is room where a recording reaches over less time than
+    /// as many data records take as the cap leaves. Only where that does not tell are they counted,
+    /// each of them.
     ///
     /// # Errors
     /// `Memory` (E41) or `Store` (E42), and the transaction is to be given up.
@@ -187,29 +134,16 @@ impl<S: Alter> StoreTx<'_, S> {
         duration: u64,
         more: u32,
     ) -> Result<bool, StoreFault>
-        requires spared { self.old.refused ≡ false }
-        requires running { IsRunning S.Store self.old.store.now }
+        requires running { IsRunning S.Store self.old }
         requires recording { (k : Key) × IsOf S.Store self.old.store.now id.row k
             × (duration ≡ duration_of k.duration) }
-        ensures same_reference { self.new.store.ghost_name ≡ self.old.store.ghost_name }
-        ensures stays { Stays S.Store self.old.store.now self.new.store.now }
-        ensures refused { IfErr result (λ _. self.new.refused ≡ true) }
-        ensures spared { IfOk result (λ _. self.new.refused ≡ false) }
-        ensures room { Gives S.Store self.new.store.now result
+        ensures leaves { ReadsInside S.Store self.old self.new result HasCause }
+        ensures room { AnswersWith S.Store self.new.store.now result
             (TellsRoom S.Store self.old.store.now id.row more) }
-        ensures same { IfOk result (λ _.
-            SeesAsBefore S.Store self.old.store.now self.new.store.now) }
-        ensures only { IfOk result (λ _. HasNoMore S.Store self.old.store.now self.new.store.now) }
-        ensures told { IfErr result IsStoreRefusal }
-        ensures caused { IfErr result (λ e. e ≢ StoreFault.Store None) }
     {
-        match reading::has_room(self.store, id.row, duration, more) {
-            Ok(fits) => Ok(fits),
-            Err(fault) => {
-                self.refused = true;
-                Err(fault)
-            }
-        }
+        let answer = reading::has_room(self.store, id.row, duration, more);
+        self.refused = answer.is_err();
+        Ok(answer?)
     }
 
     /// Adds a data record to a recording, which has none near it and fewer than the cap. The first
@@ -218,26 +152,15 @@ impl<S: Alter> StoreTx<'_, S> {
     /// # Errors
     /// `Memory` (E41) or `Store` (E42), and the transaction is to be given up.
     pub fn add(&mut self, id: RecordingId, data_record: &Record) -> Result<(), StoreFault>
-        requires spared { self.old.refused ≡ false }
-        requires running { IsRunning S.Store self.old.store.now }
+        requires running { IsRunning S.Store self.old }
         requires room { MayTake S.Store self.old.store.now id.row data_record.now }
-        ensures same_reference { self.new.store.ghost_name ≡ self.old.store.ghost_name }
-        ensures stays { Stays S.Store self.old.store.now self.new.store.now }
-        ensures refused { IfErr result (λ _. self.new.refused ≡ true) }
-        ensures spared { IfOk result (λ _. self.new.refused ≡ false) }
+        ensures leaves { StaysInside S.Store self.old self.new result }
         ensures added { IfOk result (λ _.
             IsAdded S.Store self.old.store.now self.new.store.now id.row data_record.now) }
-        ensures only { IfOk result (λ _. HasNoMore S.Store self.old.store.now self.new.store.now) }
-        ensures told { IfErr result IsStoreRefusal }
-        ensures caused { IfErr result (λ e. e ≢ StoreFault.Store None) }
     {
-        match add_record(self.store, id.row, data_record) {
-            Ok(()) => Ok(()),
-            Err(fault) => {
-                self.refused = true;
-                Err(fault)
-            }
-        }
+        let answer = add_record(self.store, id.row, data_record);
+        self.refused = answer.is_err();
+        Ok(answer?)
     }
 
     /// Makes what the transaction sees what is held.
@@ -246,42 +169,26 @@ impl<S: Alter> StoreTx<'_, S> {
     /// `Memory` (E41) or `Store` (E42): what was held before stays, and the transaction is over. A
     /// crash leaves that, or all that the transaction saw, refused or not.
     pub fn commit(self) -> Result<(), StoreFault>
-        requires spared { self.refused ≡ false }
-        requires running { IsRunning S.Store self.store.now }
+        requires running { IsRunning S.Store self }
         requires whole { EachHasRecord S.Store self.store.now }
-        ensures cap { self.exit.0.now.cap ≡ self.entry.store.now.cap }
-        ensures committed { IfOk result (λ _.
-            (h : Holdings) → Sees S.Store self.entry.store.now h →
-            Holds S.Store self.exit.0.now h) }
-        ensures refused { IfErr result (λ _.
-            (h : Holdings) → Holds S.Store self.entry.store.now h →
-            Holds S.Store self.exit.0.now h) }
-        ensures others { KeepsCommittedOthers (at S.Store self.entry.store.now)
-            (at S.Store self.exit.0.now) }
-        ensures survives { Survives (at S.Store self.entry.store.now) (at S.Store self.exit.0.now)
-            (IsSeen S.Store self.entry.store.now) }
-        ensures ended { HasCleanDisk (at S.Store self.exit.0.now) →
-            (at S.Store self.exit.0.now).in_transaction ≡ false }
-        ensures is_open { HasCleanDisk (at S.Store self.exit.0.now) →
-            OnOk result (IsTrue (at S.Store self.exit.0.now).is_open) }
-        ensures told { IfErr result IsStoreRefusal }
-        ensures caused { IfErr result (λ e. e ≢ StoreFault.Store None) }
+        ensures commits { Commits S.Store self.entry.store.now self.exit.0.now result }
+        ensures why { IfErr result HasCause }
     {
         let StoreTx { store, refused: _ } = self;
-        commit_all(store)
+        commit_all(store)?;
+        Ok(())
     }
 
-    /// Undoes the transaction: what was held when it began stays, also where a fault is told.
+    /// Undoes the transaction: what was held when it began stays, also where this call is refused.
     ///
     /// # Errors
     /// `Memory` (E41) or `Store` (E42).
     pub fn give_up(self) -> Result<(), StoreFault>
-        ensures stays { Stays S.Store self.entry.store.now self.exit.0.now }
-        ensures ended { EndsIdle S.Store self.exit.0.now result }
-        ensures told { IfErr result IsStoreRefusal }
-        ensures caused { IfErr result (λ e. e ≢ StoreFault.Store None) }
+        ensures gives_up { GivesUp S.Store self.entry.store.now self.exit.0.now result }
+        ensures why { IfErr result HasCause }
     {
         let StoreTx { store, refused: _ } = self;
-        undo(store)
+        undo(store)?;
+        Ok(())
     }
 }

@@ -1,12 +1,12 @@
 -- Words of the functions that only this crate calls.
-use Rattle.std.specs.Prelude.{◌≡◌, ℕ, ℤ, false, [], Option, MatchOption, IsTrue}
+use Rattle.std.specs.Prelude.{◌≡◌, ℕ, ℤ, false, [], Option, MatchOption, IsTrue, Result, OnOk}
 use Rattle.sqlite_trees.specs.declared.store.Store.{Ghosts}
 use Rattle.sqlite.specs.State.{State, HasCleanDisk}
 use Rattle.edf_header.specs.Key.{Key}
 use Rattle.edf_holdings.specs.Holdings.{Holdings}
 use Rattle.edf_tables.specs.Schema.{HasBoth}
 use Rattle.edf_rows.specs.Rows.{IsThere, AreKept}
-use Rattle.edf_store.specs.Held.{StoreModel, at}
+use Rattle.edf_store.specs.Held.{StoreModel, at, Stays}
 
 -- no transaction is open, and the tables are what is held
 pub record IsSettled (cap : ℕ) (s : State) : Type 0 where
@@ -18,6 +18,12 @@ pub record IsSettled (cap : ℕ) (s : State) : Type 0 where
 
 abbrev pub IsAtRest : {S : Type 0} → Ghosts S → StoreModel S → Type 0
 IsAtRest g store = HasCleanDisk (at g store) → IsSettled store.cap (at g store)
+
+-- what is held stays, and is what the tables are after a function that is done
+pub record Settles {S X E : Type 0} (g : Ghosts S) (old new : StoreModel S)
+    (result : Result X E) : Type 0 where
+  pub stays : Stays g old new
+  pub settled : HasCleanDisk (at g new) → OnOk result (IsSettled new.cap (at g new))
 
 -- the key's recording is under this id, or it holds nothing
 abbrev pub IsFoundIn : State → Key → Holdings → Option ℤ → Type 0

@@ -5,11 +5,11 @@ use Rattle.sqlite.specs.State.{HasCleanDisk}
 use Rattle.edf_tal.specs.Canonical.{block_text}
 use Rattle.edf_tables.specs.Row.{cells, HasRecord}
 use Rattle.edf_tables.proofs.Held.{record_keeps}
-use Rattle.edf_store.proofs.Begun.{stays_same, refused_told, refused_caused}
+use Rattle.edf_store.proofs.Begun.{stays_same}
 use Rattle.edf_store.proofs.Readiness.{stays_so}
 use Rattle.edf_store.proofs.Decoding.{start_fits}
 use Rattle.edf_store.proofs.Held.{still_sound}
-use Rattle.edf_store.proofs.Steps.{added_in, none_added}
+use Rattle.edf_store.proofs.Steps.{added_in}
 use Rattle.edf_store.proofs.adding.add_record.Goals as goal
 
 pub invariant_of-store : goal.invariant_of-store
@@ -30,7 +30,7 @@ returns-clause-added g c =
     let old = state g.S.Store c.store.inside.conn in
     let new = state g.S.Store c.insert_record.new.conn in
     let r = c.args.data_record.now in
-    let running = rw (← c.store.view_is) at c.requires.running in
+    let sees = rw (← c.store.view_is) at c.requires.sees in
     let room = rw (← c.store.view_is) at c.requires.room in
     let start : c.start_of-start.result ≡ pos r.start = search rules in
     let block : c.as_slice.result.now ≡ block_text 0 r.start r.annotations = search rules in
@@ -45,12 +45,7 @@ returns-clause-added g c =
       block,
     ) at (c.in_ok-insert_record.ensures.added clean) in
     rw (← c.store.view_is) (added_in c.store.inside.cap old new _ c.insert_record.ensures.survives
-    c.args.id r has room running)
-
-pub returns-clause-only : goal.returns-clause-only
-returns-clause-only g c = rw (← c.store.view_is)
-    (none_added (state g.S.Store c.store.inside.conn) (state g.S.Store c.insert_record.new.conn) _
-    c.in_ok-insert_record.ensures.added)
+    c.args.id r has room sees)
 
 pub returns-in_err-insert_record-clause-stays : goal.returns-in_err-insert_record-clause-stays
 returns-in_err-insert_record-clause-stays g c =
@@ -65,13 +60,5 @@ returns-clause-stays g c =
     (λ clean. record_keeps (state g.S.Store c.store.inside.conn)
     (state g.S.Store c.insert_record.new.conn) _ (c.in_ok-insert_record.ensures.added clean)))
 
-pub returns-in_err-insert_record-clause-told : goal.returns-in_err-insert_record-clause-told
-returns-in_err-insert_record-clause-told g c =
-    refused_told _ c.from_residual.result c.from_residual.ensures.1
-
-pub returns-in_err-insert_record-clause-caused : goal.returns-in_err-insert_record-clause-caused
-returns-in_err-insert_record-clause-caused g c =
-    refused_caused _ c.from_residual.result c.from_residual.ensures.1
-
-pub returns-in_default-clause-stays : goal.returns-in_default-clause-stays
-returns-in_default-clause-stays g c = rw (← c.store.view_is) (stays_same g.S.Store _)
+pub returns-in_err-block-clause-stays : goal.returns-in_err-block-clause-stays
+returns-in_err-block-clause-stays g c = rw (← c.store.view_is) (stays_same g.S.Store _)

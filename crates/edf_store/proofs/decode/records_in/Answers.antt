@@ -30,22 +30,21 @@ loop-row-preserved c =
           (at.invariant.1 k ds key sound same) steps in
           pushed (IsSoundRecord k) ds at.records.items row _ c.in_ok-data_record.data_record
           c.push.new.self.items next
-          (c.in_ok-data_record.ensures.read k next.data_record key next.has next.cells)
+          (c.in_ok-data_record.ensures k next.data_record key next.has next.cells)
           (search rules),
     )
 
-pub returns-clause-read : goal.returns-clause-read
-returns-clause-read c k ds key sound same =
+pub returns : goal.returns
+returns c k ds key sound same =
     let at = c.loop-row in
     all_read (IsSoundRecord k) ds at.records.items _ (at.invariant.1 k ds key sound same)
     (no_items _ (sym at.invariant.0 ∙ c.in-None.ensures.steps.0))
 
-pub returns-in_err-data_record-clause-own : goal.returns-in_err-data_record-clause-own
-returns-in_err-data_record-clause-own c =
+pub returns-in_err-data_record : goal.returns-in_err-data_record
+returns-in_err-data_record c k ds key sound same =
     let told = err_from_is_err_and c.from_residual.result c.from_residual.ensures.1 in
-    rw (told.1, told.2)
-    (λ k ds key sound same.
     let at = c.loop-row in
     let next = next_read (IsSoundRecord k) ds at.records.items c.in-Some.row _ _
     (at.invariant.1 k ds key sound same) c.in-Some.ensures.steps.0 in
-    c.in_err-data_record.ensures.own k next.data_record key next.has next.cells)
+    rw (told.1, told.2)
+    (c.in_err-data_record.ensures k next.data_record key next.has next.cells)

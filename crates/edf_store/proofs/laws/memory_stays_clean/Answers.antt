@@ -4,4 +4,4 @@ use Rattle.edf_store.proofs.laws.memory_stays_clean.Goals as goal
 
 pub returns : goal.returns
 unfolding doubt
-returns c conn end survives = refl
+returns c conn = refl

@@ -1,10 +1,10 @@
 use Rattle.std.proofs.Common.{rules, w64}
 use Rattle.std.proofs.lemmas.Int.{to_z-of_z}
 use Rattle.sqlite.specs.Held.{state}
-use Rattle.edf_store.proofs.Begun.{refused_told, refused_caused}
 use Rattle.edf_store.proofs.Readiness.{stays_so}
-use Rattle.edf_store.proofs.Held.{still_sound, sees_on}
-use Rattle.edf_store.proofs.Steps.{count_is, none_made}
+use Rattle.edf_store.proofs.Held.{still_sound}
+use Rattle.edf_store.proofs.RowReads.{reads_refused, reads_rows}
+use Rattle.edf_store.proofs.Steps.{count_is}
 use Rattle.edf_store.proofs.reading.count_records.Goals as goal
 
 pub invariant_of-store : goal.invariant_of-store
@@ -30,37 +30,23 @@ returns-clause-count g c clean =
     (state g.S.Store c.count_rows.new.conn) _ c.count_rows.ensures.survives c.args.id
     c.in_ok-count.count c.in-Ok.count clean c.store.invariant.cap_to size (search rules))
 
-pub returns-in_default-clause-stays : goal.returns-in_default-clause-stays
-returns-in_default-clause-stays g c =
-    rw (← c.store.view_is) (stays_so g.S.Store c.store.inside.cap c.store.inside.conn
-    c.count_rows.new.conn c.count_rows.ensures.survives c.count_rows.ensures.kept)
-
-pub returns-clause-stays : goal.returns-clause-stays
-returns-clause-stays g c = rw (← c.store.view_is)
+pub returns-in_err-count-clause-reads : goal.returns-in_err-count-clause-reads
+returns-in_err-count-clause-reads g c =
+    rw (← c.store.view_is) (reads_refused g.S.Store _ _ _ _ c.from_residual.ensures.1
     (stays_so g.S.Store c.store.inside.cap c.store.inside.conn c.count_rows.new.conn
-    c.count_rows.ensures.survives c.count_rows.ensures.kept)
+    c.count_rows.ensures.survives c.count_rows.ensures.kept))
 
-pub returns-in_err-count-clause-stays : goal.returns-in_err-count-clause-stays
-returns-in_err-count-clause-stays g c =
-    rw (← c.store.view_is) (stays_so g.S.Store c.store.inside.cap c.store.inside.conn
-    c.count_rows.new.conn c.count_rows.ensures.survives c.count_rows.ensures.kept)
+pub returns-in_default-clause-reads : goal.returns-in_default-clause-reads
+returns-in_default-clause-reads g c = rw (← c.store.view_is) (record {
+  stays = stays_so g.S.Store c.store.inside.cap c.store.inside.conn c.count_rows.new.conn
+      c.count_rows.ensures.survives c.count_rows.ensures.kept;
+  same = tt;
+  only = tt;
+})
 
-pub returns-in_err-count-clause-told : goal.returns-in_err-count-clause-told
-returns-in_err-count-clause-told g c =
-    refused_told _ c.from_residual.result c.from_residual.ensures.1
-
-pub returns-in_err-count-clause-caused : goal.returns-in_err-count-clause-caused
-returns-in_err-count-clause-caused g c =
-    refused_caused _ c.from_residual.result c.from_residual.ensures.1
-
-pub returns-clause-same : goal.returns-clause-same
-returns-clause-same g c =
-    let running = rw (← c.store.view_is) at c.requires.running in
-    rw (← c.store.view_is) (sees_on c.store.inside.cap (state g.S.Store c.store.inside.conn)
-    (state g.S.Store c.count_rows.new.conn) _ c.count_rows.ensures.survives
-    c.in_ok-count.ensures.same running)
-
-pub returns-clause-only : goal.returns-clause-only
-returns-clause-only g c = rw (← c.store.view_is)
-    (none_made (state g.S.Store c.store.inside.conn) (state g.S.Store c.count_rows.new.conn)
-    c.in_ok-count.ensures.same)
+pub returns-clause-reads : goal.returns-clause-reads
+returns-clause-reads g c =
+    let recording = rw (← c.store.view_is) at c.requires.recording in
+    rw (← c.store.view_is) (reads_rows g.S.Store c.store.inside.cap c.store.inside.conn
+    c.count_rows.new.conn _ c.count_rows.ensures.survives c.count_rows.ensures.kept
+    c.in_ok-count.ensures.same recording.sees)

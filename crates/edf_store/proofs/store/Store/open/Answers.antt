@@ -1,6 +1,7 @@
-use Rattle.std.proofs.Common.{refl, inl, inr, sym, ◌∙◌}
+use Rattle.std.proofs.Common.{sym, ◌∙◌}
 use Rattle.std.proofs.lemmas.Result.{err_from_is_err_and}
 use Rattle.sqlite.specs.Held.{state}
+use Rattle.edf_store.proofs.Faults.{with_cause, cause_is_not_foreign}
 use Rattle.edf_store.proofs.Opening.{opened, sound_opened}
 use Rattle.edf_store.proofs.store.Store.open.Goals as goal
 
@@ -13,12 +14,13 @@ invariant_of-result g c =
 pub returns-in_err-kept-clause-given_up : goal.returns-in_err-kept-clause-given_up
 returns-in_err-kept-clause-given_up g c =
     let told = err_from_is_err_and c.from_residual.result c.from_residual.ensures.1 in
+    let ours = cause_is_not_foreign told.0 told.2.cause in
     rw told.1
     (record {
       end = c.audit.new.conn;
-      told = inr told.2.told;
-      foreign = λ is clean. absurd (told.2.own is);
-      tables = λ is ours clean. absurd (told.2.own is);
+      why = with_cause ⊥ _ ⊥ told.0 told.2.cause;
+      foreign = λ is clean. absurd (ours is);
+      tables = λ is ours' clean. absurd (ours is);
       stays = c.audit.ensures.stays;
       crash = c.audit.ensures.survives;
     })
@@ -30,7 +32,7 @@ returns-in_err-kept-clause-other g c none =
 pub returns-in_err-kept-clause-foreign : goal.returns-in_err-kept-clause-foreign
 returns-in_err-kept-clause-foreign g c stays is =
     let told = err_from_is_err_and c.from_residual.result c.from_residual.ensures.1 in
-    absurd (told.2.own (let same = sym told.1 ∙ is in cc))
+    absurd (cause_is_not_foreign told.0 told.2.cause (let same = sym told.1 ∙ is in cc))
 
 pub returns-then-kept-clause-opened : goal.returns-then-kept-clause-opened
 returns-then-kept-clause-opened g c =
@@ -44,7 +46,7 @@ returns-then-kept-clause-other g c none =
 pub returns-else-kept-clause-given_up : goal.returns-else-kept-clause-given_up
 returns-else-kept-clause-given_up g c = record {
   end = c.audit.new.conn;
-  told = inl refl;
+  why = tt;
   foreign = λ is clean. rw c.if-kept.false at (c.in_ok-kept.ensures.answers clean);
   tables = λ is ours clean. c.in_ok-kept.ensures.tables ours clean;
   stays = c.audit.ensures.stays;
