@@ -25,8 +25,13 @@ use Rattle.edf_rows.specs.Rows.{AreKept}
 use Rattle.edf_store.specs.Held.{StoreModel, at, Holds, Stays}
 use Rattle.edf_store.proofs.Held.{others_committed_then}
 use Rattle.edf_intake.specs.Refusal.{Answer, reply_told}
-use Rattle.edf_intake.specs.Source.{Source, IsOfForm, Hears}
-use Rattle.edf_intake.specs.Submitted.{IsSubmitted, IsEnded}
+use Rattle.edf_fragment.specs.Call.{InputState}
+use Rattle.edf_intake.specs.Input.{IsOfForm, Hears}
+use Rattle.edf_store.specs.declared.fault.StoreFault.{StoreFault}
+use Rattle.edf_store.specs.declared.fault.StoreFault.TheVariants.{Store, Foreign}
+use Rattle.edf_store.specs.declared.fault.StoreFault.TheVariants.{Memory as NoMemory}
+use Rattle.edf_store.specs.declared.fault.StoreFault.TheVariants.{Failed as FailedBefore}
+use Rattle.edf_intake.specs.Submitted.{IsRefusal, IsSubmitted, IsEnded}
 use Rattle.edf_intake.specs.Batch.{Turn, somes, told_in, replies_in, MayBeAnswered, IsTurn}
 use Rattle.edf_intake.specs.Batch.{AreUnended, IsOwnRefusal, AreLeftBy, AreEnded, AreSubmitted}
 use Rattle.edf_intake.specs.Batch.{AnswersAll}
@@ -44,8 +49,14 @@ own-one g mid new was (Err (refusal.Differs start)) own = tt
 own-one g mid new was (Err (refusal.Full held more cap)) own = tt
 own-one g mid new was (Err refusal.Read) own = tt
 own-one g mid new was (Err refusal.Memory) own = tt
-own-one g mid new was (Err (refusal.Store fault)) own =
-    record { other = own.other; told = own.told; own = λ clean. own.own (was clean) }
+own-one g mid new was (Err (refusal.Store fault)) own = by fault own
+  where
+    by : (fault : StoreFault) → IsRefusal g (Unit {0}) mid fault → IsRefusal g (Unit {0}) new fault
+    by NoMemory own = own
+    by (Store (Some error)) own = tt
+    by (Store None) own = tt
+    by Foreign own = λ clean. own (was clean)
+    by FailedBefore own = own
 
 own-later : {S : Type 0} (g : Ghosts S) (mid new : StoreModel S) →
     (HasCleanDisk (at g new) → HasCleanDisk (at g mid)) → (answers : List Answer) →
@@ -61,21 +72,21 @@ after-next : (cap : ℕ) (h : Holdings) (turns : List Turn) (t : Turn) →
 after-next cap h turns t = sym (ap (after cap h) (told-next turns t)
     ∙ after-append cap h (told_in turns) (somes (t.told ∷ [])))
 
-unended-more : (cap : ℕ) (h : Holdings) (behind : List Turn) (t : Turn) (rows : Trees) →
-    AreUnended cap h behind rows → AreUnended cap h (behind ++ t ∷ []) rows
+unended-more : (cap : ℕ) (h : Holdings) (rest : List Turn) (t : Turn) (rows : Trees) →
+    AreUnended cap h rest rows → AreUnended cap h (rest ++ t ∷ []) rows
 unended-more cap h [] t rows none = absurd none
 unended-more cap h (u ∷ us) t rows it = it
 
 left-more : (cap : ℕ) (h : Holdings) (turns : List Turn) (t : Turn) (rows : Trees) →
     AreLeftBy cap h turns rows → AreLeftBy cap h (turns ++ t ∷ []) rows
 left-more cap h turns t rows l = record {
-  before = l.before;
-  behind = l.behind ++ t ∷ [];
-  splits = ap (λ (ts : List Turn). ts ++ t ∷ []) l.splits ∙ append_assoc l.before l.behind (t ∷ []);
+  first = l.first;
+  rest = l.rest ++ t ∷ [];
+  splits = ap (λ (ts : List Turn). ts ++ t ∷ []) l.splits ∙ append_assoc l.first l.rest (t ∷ []);
   stand = elim l.stand [
     | inl kept ↦ inl kept
     | inr unended ↦
-        inr (unended-more cap (after cap h (told_in l.before)) l.behind t rows unended)
+        inr (unended-more cap (after cap h (told_in l.first)) l.rest t rows unended)
   ];
 }
 
@@ -84,13 +95,13 @@ left-last : (cap : ℕ) (h : Holdings) (turns : List Turn) (t : Turn) (rows : Tr
     ⊎ AreUnended cap (after cap h (told_in turns)) (t ∷ []) rows →
     AreLeftBy cap h (turns ++ t ∷ []) rows
 left-last cap h turns t rows (inl kept) = record {
-  before = turns ++ t ∷ [];
-  behind = [];
+  first = turns ++ t ∷ [];
+  rest = [];
   splits = sym (append-nil (turns ++ t ∷ []));
   stand = inl (subst (λ (z : Holdings). AreKept cap rows z) (after-next cap h turns t) kept);
 }
 left-last cap h turns t rows (inr unended) =
-    record { before = turns; behind = t ∷ []; splits = refl; stand = inr unended }
+    record { first = turns; rest = t ∷ []; splits = refl; stand = inr unended }
 
 -- the last of the list is the one that was added
 pub ended-next : {S : Type 0} (g : Ghosts S) (old new : StoreModel S) (answers : List Answer)
@@ -115,16 +126,16 @@ module _ {S : Type 0} (g : Ghosts S) where
         stays.crash;
   }
 
-  module _ (old mid new : StoreModel S) (froms tos : List Source) (answers : List Answer)
+  module _ (old mid new : StoreModel S) (froms tos : List InputState) (answers : List Answer)
       (capped : mid.cap ≡ old.cap) (all : AreSubmitted g old mid froms tos answers) where
     next_turn : (t : Turn) → IsMade g mid new t →
         AreSubmitted g old new (froms ++ t.from ∷ []) (tos ++ t.to ∷ []) (answers ++ t.answer ∷ [])
     next_turn t m = record {
       turns = all.turns ++ t ∷ [];
       froms_are = map-next (λ (u : Turn). u.from) all.turns t
-          ∙ ap (λ (l : List Source). l ++ t.from ∷ []) all.froms_are;
+          ∙ ap (λ (l : List InputState). l ++ t.from ∷ []) all.froms_are;
       tos_are = map-next (λ (u : Turn). u.to) all.turns t
-          ∙ ap (λ (l : List Source). l ++ t.to ∷ []) all.tos_are;
+          ∙ ap (λ (l : List InputState). l ++ t.to ∷ []) all.tos_are;
       answers_are = map-next (λ (u : Turn). u.answer) all.turns t
           ∙ ap (λ (l : List Answer). l ++ t.answer ∷ []) all.answers_are;
       each = all-next IsTurn all.turns t all.each m.is_turn;
@@ -157,7 +168,7 @@ module _ {S : Type 0} (g : Ghosts S) where
           all.crash m.crash;
     }
 
-    pub next_submitted : (from to : Source) (answer : Answer) →
+    pub next_submitted : (from to : InputState) (answer : Answer) →
         IsSubmitted g mid new from to answer →
         AreSubmitted g old new (froms ++ from ∷ []) (tos ++ to ∷ []) (answers ++ answer ∷ [])
     next_submitted from to answer is =
@@ -181,7 +192,7 @@ all_read : (bytes b : List ℕ) (rest : Option (List ℕ)) → Consumes (Some by
 all_read bytes b None read end = absurd read
 all_read bytes b (Some ys) read end = sym (read ∙ (ap (λ (l : List ℕ). b ++ l) end ∙ append-nil b))
 
-heard_tells : (from to : Source) (bytes : List ℕ) (told : Told) → from.left ≡ Some bytes →
+heard_tells : (from to : InputState) (bytes : List ℕ) (told : Told) → from.left ≡ Some bytes →
     Hears from to told → Tells bytes told
 heard_tells from to bytes (Fragment key records) known r =
     let read : Consumes (Some bytes) to.left r.bytes =
@@ -192,7 +203,7 @@ heard_tells from to bytes (Fault fault) known r =
     first_known bytes fault r.of_form (subst (λ (o : Option (List ℕ)). IsFirstWhereKnown o fault)
     known r.is_fault.first)
 
-abbrev IsKnown : Source → Told → Type 0
+abbrev IsKnown : InputState → Told → Type 0
 IsKnown from told = (bytes : List ℕ) × (from.left ≡ Some bytes) × Tells bytes told
 
 same_told : (t : Turn) (x : Told) (y : Reply) → IsTurn t → IsKnown t.from x →
@@ -227,12 +238,12 @@ all_told (t ∷ ts) (x ∷ xs) (y ∷ ys) each known e =
           ∙ ap (λ (l : List Reply). y ∷ l) more.1,
     )
 
-pub answers_all : {S : Type 0} (g : Ghosts S) (old new : StoreModel S) (froms tos : List Source)
+pub answers_all : {S : Type 0} (g : Ghosts S) (old new : StoreModel S) (froms tos : List InputState)
     (answers : List Answer) → AreSubmitted g old new froms tos answers →
     AnswersAll g old new froms answers
 answers_all g old new froms tos answers all tolds given known e h held =
     let said = all_told all.turns tolds given all.each
-    (subst (λ (l : List Source). AllZip IsKnown l tolds) (sym all.froms_are) known)
+    (subst (λ (l : List InputState). AllZip IsKnown l tolds) (sym all.froms_are) known)
     (ap (map reply_told) all.answers_are ∙ e) in (
       (λ clean. sym said.1 ∙ (all.replies_are clean h held ∙ ap (replies old.cap h) said.0)),
       subst (Holds g new) (ap (after old.cap h) said.0) (all.holdings h held),

@@ -11,33 +11,34 @@ use Rattle.edf_holdings.specs.Holdings.{Holdings, put}
 use Rattle.edf_holdings.specs.Reply.{IsSoundTold, Reply, Overlap, Differs, Full, Accepted, reply}
 use Rattle.edf_holdings.specs.Reply.{after_one}
 use Rattle.edf_holdings.proofs.Joining.{IsGood}
-use Rattle.edf_holdings.proofs.Walked.{Taken, Stopped, reply_stopped, reply_full, reply_accepted}
-use Rattle.edf_holdings.proofs.Walked.{after_accepted}
+use Rattle.edf_holdings.proofs.OneByOne.{Taken, Stopped, reply_stopped, reply_full, reply_accepted}
+use Rattle.edf_holdings.proofs.OneByOne.{after_accepted}
 use Rattle.edf_intake.specs.Refusal.{reply_told}
 use Rattle.edf_intake.specs.declared.answer.Refusal.{Refusal}
 use Rattle.edf_intake.specs.declared.answer.Refusal.TheVariants as refusal
-use Rattle.edf_intake.specs.Inside.Step.{IsRoom, CountsAll, NamesClash, IsTally}
-use Rattle.edf_intake.specs.declared.walk.Starts.{Starts}
-use Rattle.edf_intake.specs.declared.walk.Tally.{Tally}
+use Rattle.edf_intake.specs.Inside.Verdict.{IsRoom, CountsAll, NamesClash, AreFindings}
+use Rattle.edf_intake.specs.declared.data_records.Starts.{Starts}
+use Rattle.edf_intake.specs.declared.data_records.Findings.{Findings}
 
 -- where no clash was met
-pub counts_all : (key : Key) (h : Holdings) (records : List DataRecord) (tally : Tally) →
-    tally.clash ≡ None → IsTally key h records tally → CountsAll key h records tally
-counts_all key h records tally none met =
-    subst (λ (o : Option Starts). MatchOption o (CountsAll key h records tally)
+pub counts_all : (key : Key) (h : Holdings) (records : List DataRecord) (findings : Findings) →
+    findings.clash ≡ None → AreFindings key h records findings → CountsAll key h records findings
+counts_all key h records findings none met =
+    subst (λ (o : Option Starts). MatchOption o (CountsAll key h records findings)
     (NamesClash key h records)) none met
 
-pub names_clash : (key : Key) (h : Holdings) (records : List DataRecord) (tally : Tally)
-    (starts : Starts) → tally.clash ≡ Some starts → IsTally key h records tally →
+pub names_clash : (key : Key) (h : Holdings) (records : List DataRecord) (findings : Findings)
+    (starts : Starts) → findings.clash ≡ Some starts → AreFindings key h records findings →
     NamesClash key h records starts
-names_clash key h records tally starts some met =
-    subst (λ (o : Option Starts). MatchOption o (CountsAll key h records tally)
+names_clash key h records findings starts some met =
+    subst (λ (o : Option Starts). MatchOption o (CountsAll key h records findings)
     (NamesClash key h records)) some met
 
-pub taken_of : (cap : ℕ) (key : Key) (h : Holdings) (records : List DataRecord) (tally : Tally) →
-    CountsAll key h records tally →
-    Taken cap key h records (put key records h) tally.new tally.known
-taken_of cap key h records tally k = record {
+pub taken_of : (cap : ℕ) (key : Key) (h : Holdings) (records : List DataRecord)
+    (findings : Findings) →
+    CountsAll key h records findings →
+    Taken cap key h records (put key records h) findings.new findings.known
+taken_of cap key h records findings k = record {
   free = k.free;
   new_is = k.new_is;
   all = k.all;
@@ -84,30 +85,30 @@ clash_told cap key h records starts told differs overlaps k =
 -- `Full` where a fragment has more new records than there is room for: no less room was found than
 -- there is
 pub full_here : (cap room : ℕ) (key : Key) (h : Holdings) (records : List DataRecord)
-    (tally : Tally) → CountsAll key h records tally
-    → IsRoom cap (length (h key)) (length records) room → room < tally.new →
-    reply cap h (Fragment key records) ≡ Full (cap - room) tally.new cap
-full_here cap room key h records tally k it past =
+    (findings : Findings) → CountsAll key h records findings
+    → IsRoom cap (length (h key)) (length records) room → room < findings.new →
+    reply cap h (Fragment key records) ≡ Full (cap - room) findings.new cap
+full_here cap room key h records findings k it past =
     let all : length (h key) + room ≡ cap =
     elim it.enough [ inl same ↦ same | inr many ↦ absurd (omega (arith, many, past, k.all)) ] in
     let same : length (h key) ≡ cap - room = omega (arith, all) in
-    reply_full cap key h records (put key records h) tally.new tally.known
-    (taken_of cap key h records tally k) (omega (arith, past)) (omega (arith, past, all))
-    ∙ ap (λ (n : ℕ). Full n tally.new cap) same
+    reply_full cap key h records (put key records h) findings.new findings.known
+    (taken_of cap key h records findings k) (omega (arith, past)) (omega (arith, past, all))
+    ∙ ap (λ (n : ℕ). Full n findings.new cap) same
 
 pub accepted_here : (cap room : ℕ) (key : Key) (h : Holdings) (records : List DataRecord)
-    (tally : Tally) → CountsAll key h records tally
-    → length (h key) + room ≤ cap → tally.new ≤ room →
-    reply cap h (Fragment key records) ≡ Accepted key tally.new tally.known
-accepted_here cap room key h records tally k all low =
-    reply_accepted cap key h records (put key records h) tally.new tally.known
-    (taken_of cap key h records tally k) (omega (arith, low, all))
+    (findings : Findings) → CountsAll key h records findings
+    → length (h key) + room ≤ cap → findings.new ≤ room →
+    reply cap h (Fragment key records) ≡ Accepted key findings.new findings.known
+accepted_here cap room key h records findings k all low =
+    reply_accepted cap key h records (put key records h) findings.new findings.known
+    (taken_of cap key h records findings k) (omega (arith, low, all))
 
 pub left_here : (cap room : ℕ) (key : Key) (h : Holdings) (records : List DataRecord)
-    (tally : Tally) → IsSoundTold (Fragment key records) → IsGood cap h →
-    CountsAll key h records tally
-    → length (h key) + room ≤ cap → tally.new ≤ room →
+    (findings : Findings) → IsSoundTold (Fragment key records) → IsGood cap h →
+    CountsAll key h records findings
+    → length (h key) + room ≤ cap → findings.new ≤ room →
     put key records h ≡ after_one cap h (Fragment key records)
-left_here cap room key h records tally sound good k all low =
-    after_accepted cap key h records (put key records h) tally.new tally.known sound good
-    (taken_of cap key h records tally k) (omega (arith, low, all))
+left_here cap room key h records findings sound good k all low =
+    after_accepted cap key h records (put key records h) findings.new findings.known sound good
+    (taken_of cap key h records findings k) (omega (arith, low, all))

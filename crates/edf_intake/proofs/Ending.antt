@@ -1,6 +1,7 @@
--- How a submission ends: what its steps left, joined.
-use Rattle.std.proofs.Common.{◌≡◌, ◌⊎◌, ℕ, List, None, Err, IsTrue, refl, sym, subst, ◌∙◌, inl, inr}
+-- How a submission ends: what the calls of its transaction left, one after another.
+use Rattle.std.proofs.Common.{◌≡◌, ℕ, List, Some, None, Ok, Err, refl, sym, subst, ◌∙◌, inl, inr}
 use Rattle.std.proofs.Common.{arith}
+use Rattle.std.specs.Result.{IsErrAnd}
 use Rattle.sqlite_trees.specs.declared.store.Store.{Ghosts}
 use Rattle.sqlite.specs.State.{HasCleanDisk, Survives}
 use Rattle.sqlite.proofs.StateLemmas.{survives_weaker}
@@ -12,60 +13,72 @@ use Rattle.edf_holdings.specs.Holdings.{Holdings}
 use Rattle.edf_holdings.specs.Reply.{Reply, Form, reply, after_one}
 use Rattle.edf_rows.specs.Rows.{AreKept}
 use Rattle.edf_tables.proofs.Commits.{quiet_then}
-use Rattle.edf_store.specs.Held.{StoreModel, at, Holds, Stays, KeepsCommittedOthers}
+use Rattle.edf_store.specs.Held.{StoreModel, at, Holds, Stays}
 use Rattle.edf_store.proofs.Held.{others_committed_then}
-use Rattle.edf_store.specs.Fault.{IsStoreRefusal}
+use Rattle.edf_store.specs.Fault.{MayRefuse, HasCause}
+use Rattle.edf_store.specs.Call.{IsBusy, IsUnclean}
 use Rattle.edf_store.specs.Transaction.{Sees, IsSeen}
+use Rattle.edf_store.specs.StoreTx.{IsBegun, Commits}
 use Rattle.edf_store.specs.declared.fault.StoreFault.{StoreFault}
 use Rattle.edf_store.specs.declared.fault.StoreFault.TheVariants.{Memory, Store, Foreign, Failed}
+use Rattle.edf_store.specs.declared.transaction.StoreTx.{StoreTx}
 use Rattle.edf_store.proofs.Readiness.{stays_then}
-use Rattle.edf_intake.specs.Refusal.{IsStopped, IsInDoubt}
-use Rattle.edf_intake.specs.Source.{Source, ReadsFront}
+use Rattle.edf_intake.specs.Refusal.{Answer, IsStopped, IsInDoubt}
+use Rattle.edf_fragment.specs.Call.{InputState}
+use Rattle.edf_intake.specs.Input.{ReadsFront}
 use Rattle.edf_intake.specs.Submitted.{AreLeft, Accepts, Refuses, StopsThere, IsSubmitted}
-use Rattle.edf_intake.specs.Inside.Halt.{refusal_of}
-use Rattle.edf_intake.specs.Inside.Taken.{IsAcceptedInside, IsStop, IsRefused}
+use Rattle.edf_intake.specs.Inside.Halt.{store_refusal}
+use Rattle.edf_intake.specs.Inside.Taken.{IsAcceptedInside, IsStop, IsConflictInside}
 use Rattle.edf_intake.specs.declared.answer.Receipt.{Receipt}
 use Rattle.edf_intake.specs.declared.answer.Refusal.{Refusal}
 use Rattle.edf_intake.specs.declared.answer.Refusal.TheVariants as refusal
 use Rattle.edf_intake.specs.declared.answer.Stop.TheVariants.{Input}
 
--- a fault of the store, told as a refusal
-pub refused_by : {S : Type 0} (g : Ghosts S) (old new : StoreModel S) (from to : Source)
-    (fault : StoreFault) (told : Refusal)
-    → told ≡ refusal_of fault → StopsThere g old new from to (Err (refusal_of fault)) →
-    (fault ≡ Foreign) ⊎ IsStoreRefusal fault → (HasCleanDisk (at g new) → IsStoreRefusal fault)
-    → IsSubmitted g old new from to (Err told)
-refused_by g old new from to fault told is stops which own =
-    subst (λ (r : Refusal). IsSubmitted g old new from to (Err r)) (sym is)
-    (by fault stops which own)
+-- the refusal for a fault of the store
+pub refused_by : {S : Type 0} (g : Ghosts S) (old new : StoreModel S) (from to : InputState)
+    (fault : StoreFault) (refused : Refusal) → refused ≡ store_refusal fault →
+    StopsThere g old new from to (Err (store_refusal fault)) →
+    MayRefuse (IsBusy g old) (IsUnclean g new) ⊥ fault → IsSubmitted g old new from to (Err refused)
+refused_by g old new from to fault refused is stops why =
+    subst (λ (r : Refusal). IsSubmitted g old new from to (Err r)) (sym is) (by fault stops why)
   where
-    by : (fault : StoreFault) → StopsThere g old new from to (Err (refusal_of fault)) →
-        (fault ≡ Foreign) ⊎ IsStoreRefusal fault → (HasCleanDisk (at g new) → IsStoreRefusal fault)
-        → IsSubmitted g old new from to (Err (refusal_of fault))
-    by Memory stops which own = stops
-    by (Store cause) stops which own = (stops, record { other = λ e. cc; told = which; own = own })
-    by Foreign stops which own = (stops, record { other = λ e. cc; told = which; own = own })
-    by Failed stops which own = (stops, record { other = λ e. cc; told = which; own = own })
+    by : (fault : StoreFault) → StopsThere g old new from to (Err (store_refusal fault)) →
+        MayRefuse (IsBusy g old) (IsUnclean g new) ⊥ fault →
+        IsSubmitted g old new from to (Err (store_refusal fault))
+    by Memory stops why = stops
+    by (Store (Some error)) stops why = (stops, why)
+    by (Store None) stops why = (stops, why)
+    by Foreign stops why = (stops, why)
+    by Failed stops why = (stops, why)
 
-pub is_stopped : (fault : StoreFault) → IsStopped (Err (refusal_of fault))
+-- the same of what the question mark makes of the fault
+pub refused_on : {S : Type 0} (g : Ghosts S) (old new : StoreModel S) (from to : InputState)
+    (fault : StoreFault) (answer : Answer) →
+    IsErrAnd answer (λ refused. refused ≡ store_refusal fault) →
+    StopsThere g old new from to (Err (store_refusal fault)) →
+    MayRefuse (IsBusy g old) (IsUnclean g new) ⊥ fault → IsSubmitted g old new from to answer
+refused_on g old new from to fault (Ok receipt) is stops why = absurd is
+refused_on g old new from to fault (Err refused) is stops why =
+    refused_by g old new from to fault refused is stops why
+
+pub is_stopped : (fault : StoreFault) → IsStopped (Err (store_refusal fault))
 is_stopped Memory = tt
 is_stopped (Store cause) = tt
 is_stopped Foreign = tt
 is_stopped Failed = tt
 
--- only where the store has no cause the refusal has none
-pub without_cause : (fault : StoreFault) → refusal_of fault ≡ refusal.Store (Store None) →
-    fault ≡ Store None
-without_cause Memory e = cc
-without_cause (Store cause) e = cc
-without_cause Foreign e = cc
-without_cause Failed e = cc
+pub stopped_on : (fault : StoreFault) (answer : Answer) →
+    IsErrAnd answer (λ refused. refused ≡ store_refusal fault) → IsStopped answer
+stopped_on fault (Ok receipt) is = absurd is
+stopped_on fault (Err refused) is =
+    subst (λ (r : Refusal). IsStopped (Err r)) (sym is) (is_stopped fault)
 
-in_doubt : (fault : StoreFault) → IsStoreRefusal fault → IsInDoubt (Err (refusal_of fault))
-in_doubt Memory told = tt
-in_doubt (Store cause) told = tt
-in_doubt Foreign told = absurd told
-in_doubt Failed told = absurd told
+in_doubt : (fault : StoreFault) → HasCause fault → IsInDoubt (Err (store_refusal fault))
+in_doubt Memory cause = tt
+in_doubt (Store (Some error)) cause = tt
+in_doubt (Store None) cause = tt
+in_doubt Foreign cause = absurd cause
+in_doubt Failed cause = absurd cause
 
 reply_to_fault : (cap : ℕ) (h : Holdings) (fault : FragmentFault) →
     reply cap h (Fault fault) ≡ Form fault
@@ -73,89 +86,93 @@ unfolding reply
 reply_to_fault cap h fault = refl
 
 -- old was held, a transaction saw it as first, and last as it was to end, and new is held then
-module _ {S : Type 0} (g : Ghosts S) (old first last : StoreModel S) (from to : Source)
-    (begun : Stays g old first) (sees : (h : Holdings) → Holds g old h → Sees g first h)
-    (taken : Stays g first last) where
-  capped : first.cap ≡ old.cap
-  capped = begun.cap
+module _ {S : Type 0} (g : Ghosts S) (old : StoreModel S) (first last : StoreTx S)
+    (from to : InputState) (begun : IsBegun g old first)
+    (taken : Stays g first.store.now last.store.now) where
+  capped : first.store.now.cap ≡ old.cap
+  capped = begun.stays.cap
 
-  stays : Stays g old last
-  stays = stays_then g old first last begun taken
+  stays : Stays g old last.store.now
+  stays = stays_then g old first.store.now last.store.now begun.stays taken
 
   replied : (told : Told) (answer : Reply) →
-      (HasCleanDisk (at g last) → (h : Holdings) → Sees g first h → reply first.cap h told ≡ answer)
-      → HasCleanDisk (at g last) → (h : Holdings) → Holds g old h → reply old.cap h told ≡ answer
+      (HasCleanDisk (at g last.store.now) → (h : Holdings) → Sees g first.store.now h →
+      reply first.store.now.cap h told ≡ answer)
+      → HasCleanDisk (at g last.store.now) → (h : Holdings) → Holds g old h →
+      reply old.cap h told ≡ answer
   replied told answer is clean h held =
-      subst (λ (n : ℕ). reply n h told ≡ answer) capped (is clean h (sees h held))
+      subst (λ (n : ℕ). reply n h told ≡ answer) capped (is clean h (begun.sees h held))
 
-  left : (told : Told) → ((h : Holdings) → Sees g first h →
-      Sees g last (after_one first.cap h told)) → (h : Holdings) → Holds g old h →
-      Sees g last (after_one old.cap h told)
-  left told is h held = subst (λ (n : ℕ). Sees g last (after_one n h told)) capped
-      (is h (sees h held))
+  left : (told : Told) → ((h : Holdings) → Sees g first.store.now h →
+      Sees g last.store.now (after_one first.store.now.cap h told)) → (h : Holdings) →
+      Holds g old h →
+      Sees g last.store.now (after_one old.cap h told)
+  left told is h held = subst (λ (n : ℕ). Sees g last.store.now (after_one n h told)) capped
+      (is h (begun.sees h held))
 
   module _ (new : StoreModel S) where
     -- what a commit may leave
-    crash_left : (told : Told) → ((h : Holdings) → Sees g first h →
-        Sees g last (after_one first.cap h told)) →
-        Survives (at g last) (at g new) (IsSeen g last) →
+    crash_left : (told : Told) → ((h : Holdings) → Sees g first.store.now h →
+        Sees g last.store.now (after_one first.store.now.cap h told)) →
+        Survives (at g last.store.now) (at g new) (IsSeen g last.store.now) →
         Survives (at g old) (at g new) (AreLeft g old new told)
     crash_left told is survives =
-        quiet_then (at g old) (at g last) (at g new) (AreLeft g old new told) stays.crash
-        (survives_weaker (at g last) (at g new) (IsSeen g last) (AreLeft g old new told)
+        quiet_then (at g old) (at g last.store.now) (at g new) (AreLeft g old new told) stays.crash
+        (survives_weaker (at g last.store.now) (at g new) (IsSeen g last.store.now)
+        (AreLeft g old new told)
         (λ clean rows seen h held. subst (λ (n : ℕ). AreKept n rows (after_one old.cap h told))
         stays.cap (seen (after_one old.cap h told) (left told is h held))) survives)
 
-    pub accepts : (receipt : Receipt) → IsAcceptedInside g first last from to receipt →
-        new.cap ≡ last.cap → ((h : Holdings) → Sees g last h → Holds g new h)
-        → KeepsCommittedOthers (at g last) (at g new) →
-        (HasCleanDisk (at g new) → IsTrue (at g new).is_open) →
-        Survives (at g last) (at g new) (IsSeen g last) → Accepts g old new from to receipt
-    accepts receipt t same committed beside is_open survives = record {
+    pub accepts : {X E : Type 0} (x : X) (receipt : Receipt) →
+        IsAcceptedInside g first last from to receipt →
+        Commits g {E = E} last.store.now new (Ok x) → Accepts g old new from to receipt
+    accepts x receipt t done = record {
       records = t.records;
       read = t.read;
       reply_is = λ clean h held. replied (Fragment receipt.identity t.records) _ t.reply_is
-          (omega (arith, survives.clean)) h held;
+          (omega (arith, done.survives.clean)) h held;
       leaves = record {
-        cap = same ∙ stays.cap;
-        holdings = λ h held. committed (after_one old.cap h (Fragment receipt.identity t.records))
+        cap = done.cap ∙ stays.cap;
+        holdings = λ h held. done.committed
+            (after_one old.cap h (Fragment receipt.identity t.records))
             (left (Fragment receipt.identity t.records) t.sees h held);
-        others = others_committed_then (at g old) (at g last) (at g new) stays.others beside;
-        is_open = is_open;
-        crash = crash_left (Fragment receipt.identity t.records) t.sees survives;
+        others = others_committed_then (at g old) (at g last.store.now) (at g new) stays.others
+            done.others;
+        is_open = done.is_open;
+        crash = crash_left (Fragment receipt.identity t.records) t.sees done.survives;
       };
     }
 
     -- the commit was refused
-    pub stops_at_commit : (receipt : Receipt) → IsAcceptedInside g first last from to receipt →
-        new.cap ≡ last.cap → ((h : Holdings) → Holds g last h → Holds g new h)
-        → KeepsCommittedOthers (at g last) (at g new) →
-        Survives (at g last) (at g new) (IsSeen g last) → (fault : StoreFault) →
-        IsStoreRefusal fault → StopsThere g old new from to (Err (refusal_of fault))
-    stops_at_commit receipt t same refused beside survives fault told = inr (
-      in_doubt fault told,
+    pub stops_at_commit : {X : Type 0} (receipt : Receipt) →
+        IsAcceptedInside g first last from to receipt → (fault : StoreFault) →
+        Commits g {X = X} last.store.now new (Err fault) → HasCause fault →
+        StopsThere g old new from to (Err (store_refusal fault))
+    stops_at_commit receipt t fault refused cause = inr (
+      in_doubt fault cause,
       (
         receipt.identity,
         t.records,
         t.read,
         record {
-          cap = same ∙ stays.cap;
-          holdings = λ h held. refused h (stays.holdings h held);
-          others = others_committed_then (at g old) (at g last) (at g new) stays.others beside;
-          crash = crash_left (Fragment receipt.identity t.records) t.sees survives;
+          cap = refused.cap ∙ stays.cap;
+          holdings = λ h held. refused.refused h (stays.holdings h held);
+          others = others_committed_then (at g old) (at g last.store.now) (at g new) stays.others
+              refused.others;
+          crash = crash_left (Fragment receipt.identity t.records) t.sees refused.survives;
         },
       ),
     )
 
     -- the transaction was given up
-    module _ (undone : Stays g last new) where
+    module _ (undone : Stays g last.store.now new) where
       pub all_stays : Stays g old new
-      all_stays = stays_then g old last new stays undone
+      all_stays = stays_then g old last.store.now new stays undone
 
-      was : HasCleanDisk (at g new) → HasCleanDisk (at g last)
+      was : HasCleanDisk (at g new) → HasCleanDisk (at g last.store.now)
       was clean = omega (arith, undone.crash.clean)
 
-      refuses : (answer : Reply) → IsRefused g first last from to answer → (key : Key)
+      refuses : (answer : Reply) → IsConflictInside g first last from to answer → (key : Key)
           × (records : List DataRecord) × Refuses g old new from to (Fragment key records) answer
       refuses answer r = (
         r.key,
@@ -197,10 +214,10 @@ module _ {S : Type 0} (g : Ghosts S) (old first last : StoreModel S) (from to : 
 
       -- and that was refused
       pub stops_at_undo : (told : Refusal) → IsStop g first last from to (Input told) →
-          (fault : StoreFault) → StopsThere g old new from to (Err (refusal_of fault))
+          (fault : StoreFault) → StopsThere g old new from to (Err (store_refusal fault))
       stops_at_undo told r fault = inl (all_stays, front_of told r)
 
       -- or a call before it
       pub stops_before : ReadsFront from to → (fault : StoreFault) →
-          StopsThere g old new from to (Err (refusal_of fault))
+          StopsThere g old new from to (Err (store_refusal fault))
       stops_before front fault = inl (all_stays, front)

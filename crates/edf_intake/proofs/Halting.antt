@@ -1,4 +1,4 @@
--- Why a submission ends early, said of its input.
+-- Why a submission ends early, in words of its input.
 use Rattle.std.proofs.Common.{◌≡◌, ℕ, List, [], Option, Some, None, sym, subst, IfSome}
 use Rattle.edf_header.specs.Header.{Layout}
 use Rattle.edf_fragment.specs.Fault.{IsFirstFault}
@@ -12,9 +12,10 @@ use Rattle.edf_fragment.specs.declared.fault.FragmentFault.TheVariants.{Failed}
 use Rattle.edf_fragment.proofs.Fragments.{reads_none}
 use Rattle.edf_fragment.proofs.OneFragment.{spelled-no-fault}
 use Rattle.sqlite_trees.specs.declared.store.Store.{Ghosts}
-use Rattle.edf_store.specs.Held.{StoreModel}
-use Rattle.edf_intake.specs.Source.{Source, SpellsNothing, ReadsWhole, ReadsSome}
-use Rattle.edf_intake.specs.Inside.Halt.{refusal_by, HaltsThere, IsToldInside}
+use Rattle.edf_store.specs.declared.transaction.StoreTx.{StoreTx}
+use Rattle.edf_fragment.specs.Call.{InputState}
+use Rattle.edf_intake.specs.Input.{SpellsNothing, ReadsWhole, ReadsSome}
+use Rattle.edf_intake.specs.Inside.Halt.{fragment_refusal, HaltsThere}
 use Rattle.edf_intake.specs.Inside.Taken.{IsStop}
 use Rattle.edf_intake.specs.declared.answer.Refusal.{Refusal}
 use Rattle.edf_intake.specs.declared.answer.Stop.{Stop}
@@ -25,11 +26,11 @@ spells_none : (left : Option (List ℕ)) (fault : FragmentFault) →
 spells_none None fault first = tt
 spells_none (Some all) fault first = λ k rs s. spelled-no-fault all k rs fault s first
 
--- a fault of the fragment, told as a refusal
-pub stopped_by : {S : Type 0} (g : Ghosts S) (old new : StoreModel S) (from to : Source)
+-- the refusal for a fault of the fragment
+pub stopped_by : {S : Type 0} (g : Ghosts S) (old new : StoreTx S) (from to : InputState)
     (fault : FragmentFault) → IsFragmentFault from.left to.left fault →
     CountsFault from.failed to.failed fault
-    → IsStop g old new from to (Input (refusal_by fault))
+    → IsStop g old new from to (Input (fragment_refusal fault))
 stopped_by g old new from to (Header e) is n =
     record {
       of_form = tt;
@@ -64,7 +65,7 @@ stopped_by g old new from to Memory is n = record { is_fault = is; counted = n }
 stopped_by g old new from to Failed is n = absurd is.first
 
 -- a header that was read, and no data record
-pub reads_header_alone : (from to : Source) (l : Layout) → ReadsHeader from.left to.left l →
+pub reads_header_alone : (from to : InputState) (l : Layout) → ReadsHeader from.left to.left l →
     to.failed ≡ from.failed → ReadsSome from to
 reads_header_alone from to l header n =
     record {
@@ -73,12 +74,11 @@ reads_header_alone from to l header n =
       records = [];
       progress = at_first;
       header = header;
-      behind =
-          reads_none l to.left;
+      read = reads_none l to.left;
       counted = n;
     }
 
-pub reads_whole : (from to : Source) (l : Layout) (records : List DataRecord) →
+pub reads_whole : (from to : InputState) (l : Layout) (records : List DataRecord) →
     ReadsFragment from.left to.left l records → to.failed ≡ from.failed →
     ReadsWhole from to l.key records
 reads_whole from to l records r n = record {
@@ -91,10 +91,9 @@ reads_whole from to l records r n = record {
 }
 
 -- why the data records stopped, said of the whole submission
-pub halted : {S : Type 0} (g : Ghosts S) (old new : StoreModel S) (from to : Source) (stop : Stop) →
-    HaltsThere from to stop
-    → IsToldInside g new stop → IsStop g old new from to stop
-halted g old new from to (Input told) (fault, is, reads, n) refused =
+pub halted : {S : Type 0} (g : Ghosts S) (old new : StoreTx S) (from to : InputState)
+    (stop : Stop) → HaltsThere g new from to stop → IsStop g old new from to stop
+halted g old new from to (Input answer) (fault, is, reads, n) =
     subst (λ (r : Refusal). IsStop g old new from to (Input r)) (sym is)
     (stopped_by g old new from to fault reads n)
-halted g old new from to (Store fault) reads refused = (reads, refused)
+halted g old new from to (Store fault) stops = stops

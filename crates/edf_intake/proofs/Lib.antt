@@ -1,13 +1,14 @@
 pub mod Ending
 pub mod Passed
-pub mod Walking
+pub mod Meeting
 pub mod Steps
 pub mod Gaps
 pub mod Taking
 pub mod Finding
+pub mod Transactions
 pub mod Conflicts
 pub mod Halting
 pub mod Wholes
-pub mod Places
+pub mod Fronts
 pub mod Turns
 pub mod Batches

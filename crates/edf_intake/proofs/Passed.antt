@@ -1,4 +1,4 @@
--- A look at the record at one place of those that are near.
+-- A look at one of the records that are near, after those before it are passed over.
 use Rattle.std.proofs.Common.{◌≡◌, ℕ, zero, suc, refl, ◌+◌, ◌<◌, ◌≤◌, ◌≢◌, true, not, List, [], ◌∷◌}
 use Rattle.std.proofs.Common.{length, drop, get_or, Some, None, sym, ap, subst, ◌∙◌, arith}
 use Rattle.std.proofs.Common.{drop-cons, add-one}

@@ -1,4 +1,4 @@
--- The loop over the data records of a fragment: its begin, one turn, its end.
+-- The loop over the data records of a fragment: its start, one data record more, its end.
 use Rattle.std.proofs.Common.{◌≡◌, ℕ, ◌+◌, ◌-◌, ◌<◌, ◌≤◌, List, [], ◌∷◌, ◌++◌, length, Option, Some}
 use Rattle.std.proofs.Common.{None, Ok, refl, sym, ap, subst, ◌∙◌, inl, arith}
 use Rattle.sqlite_trees.specs.declared.store.Store.{Ghosts}
@@ -11,21 +11,22 @@ use Rattle.edf_fragment.specs.Sound.{MayBegin}
 use Rattle.edf_fragment.specs.Reading.{ReadsHeader, IsAnswer, at_first}
 use Rattle.edf_fragment.specs.Whole.{HasRead, ReadsFragment}
 use Rattle.edf_fragment.specs.declared.advance.Progress.{Progress}
-use Rattle.edf_fragment.specs.declared.advance.Status.TheVariants.{Reading}
+use Rattle.edf_fragment.specs.declared.advance.ReaderState.TheVariants.{Reading}
 use Rattle.edf_fragment.proofs.Fragments.{reads_none, one_more_read, all_read}
 use Rattle.edf_fragment.proofs.Sound.{read-key, read-sound, read-begins}
 use Rattle.edf_holdings.specs.Rising.{IsApart, joined}
 use Rattle.edf_holdings.specs.Holdings.{Holdings, put}
 use Rattle.edf_holdings.proofs.Members.{In, Within, joined_has}
 use Rattle.edf_holdings.proofs.Joining.{IsGood-from_sound, apart-sound, put_here}
-use Rattle.edf_holdings.proofs.Walked.{Taken, Walked, nothing_read, taken_room}
+use Rattle.edf_holdings.proofs.OneByOne.{Taken, TakenOrStopped, nothing_read, taken_room}
 use Rattle.edf_rows.proofs.Rows.{one-holdings}
 use Rattle.edf_store.specs.Held.{StoreModel, at}
-use Rattle.edf_store.specs.Transaction.{Sees, IsRunning}
-use Rattle.edf_intake.specs.Inside.Step.{CountsNext, IsRoom, IsTally}
-use Rattle.edf_intake.specs.declared.walk.Starts.{Starts}
-use Rattle.edf_intake.specs.declared.walk.Tally.{Tally}
-use Rattle.edf_intake.proofs.Walking.{Walking, starts_of, next_in_all, met_next}
+use Rattle.edf_store.specs.Transaction.{Sees, SeesHoldings}
+use Rattle.edf_intake.specs.Inside.Verdict.{CountsNext, IsRoom, AreFindings}
+use Rattle.edf_intake.specs.Inside.Taken.{MayBeAccepted}
+use Rattle.edf_intake.specs.declared.data_records.Starts.{Starts}
+use Rattle.edf_intake.specs.declared.data_records.Findings.{Findings}
+use Rattle.edf_intake.proofs.Meeting.{MetSoFar, starts_of, next_in_all, met_next}
 
 -- what a transaction sees is one
 pub seen_is_one : {S : Type 0} (g : Ghosts S) (now : StoreModel S) (h t : Holdings) →
@@ -52,9 +53,9 @@ module _ {S : Type 0} (g : Ghosts S) (first : StoreModel S) (l : Layout)
   read_apart rest records p read =
       apart-sound l.key 0 records (read-sound before left rest l records p header read)
 
-  pub at_begin : Walking g first first l left left at_first
+  pub at_start : MetSoFar g first first l left left at_first
       (record { new = 0; known = 0; clash = None })
-  at_begin = record {
+  at_start = record {
     records = [];
     read = reads_none l left;
     met = λ clean h seen. (h, seen, nothing_read first.cap l.key h);
@@ -62,19 +63,20 @@ module _ {S : Type 0} (g : Ghosts S) (first : StoreModel S) (l : Layout)
   }
 
   -- while no clash was met and there is room, the recording has fewer than the cap
-  pub few_seen : (now : StoreModel S) (rest : Option (List ℕ)) (p : Progress) (tally : Tally) →
-      Walking g first now l left rest p tally → IsRunning g first
+  pub few_seen : (now : StoreModel S) (rest : Option (List ℕ)) (p : Progress)
+      (findings : Findings) →
+      MetSoFar g first now l left rest p findings → SeesHoldings g first
       → (HasCleanDisk (at g now) → HasCleanDisk (at g first)) → now.cap ≡ first.cap →
-      HasCleanDisk (at g now) → tally.clash ≡ None → tally.new < room
+      HasCleanDisk (at g now) → findings.clash ≡ None → findings.new < room
       → (h : Holdings) → Sees g now h → length (h l.key) < now.cap
-  few_seen now rest p tally w running was same clean none low h seen =
+  few_seen now rest p findings w running was same clean none low h seen =
       let some = running (was clean) in
       let start : Sees g first some.0 = λ _. some.1 in
       let m = w.met clean some.0 start in
-      let taken : Taken first.cap l.key some.0 w.records m.0 tally.new tally.known =
-      subst (λ (o : Option Starts). Walked first.cap l.key some.0 w.records m.0 tally.new
-      tally.known (starts_of o)) none m.2 in
-      let few = taken_room first.cap l.key some.0 w.records m.0 tally.new tally.known
+      let taken : Taken first.cap l.key some.0 w.records m.0 findings.new findings.known =
+      subst (λ (o : Option Starts). TakenOrStopped first.cap l.key some.0 w.records m.0 findings.new
+      findings.known (starts_of o)) none m.2 in
+      let few = taken_room first.cap l.key some.0 w.records m.0 findings.new findings.known
       (read-key before left l header) (held_apart (was clean) some.0 start)
       (read_apart rest w.records p w.read) taken
       (omega (arith, low, (space (was clean) some.0 start).fits)) in
@@ -86,18 +88,19 @@ module _ {S : Type 0} (g : Ghosts S) (first : StoreModel S) (l : Layout)
   -- and where it holds none then, the next record is the first, with which it may start: each one
   -- before it was put in
   pub first_seen : (now : StoreModel S) (mid rest : Option (List ℕ)) (p q : Progress)
-      (tally : Tally) (r : DataRecord) → Walking g first now l left mid p tally → p.status ≡ Reading
-      → IsAnswer l p q mid rest (Ok (Some r)) → IsRunning g first →
+      (findings : Findings) (r : DataRecord) → MetSoFar g first now l left mid p findings →
+      p.state ≡ Reading
+      → IsAnswer l p q mid rest (Ok (Some r)) → SeesHoldings g first →
       (HasCleanDisk (at g now) → HasCleanDisk (at g first)) → HasCleanDisk (at g now) →
-      tally.clash ≡ None → tally.new < room
+      findings.clash ≡ None → findings.new < room
       → (h : Holdings) → Sees g now h → h l.key ≡ [] → MayStart l.key r.start
-  first_seen now mid rest p q tally r w going answer running was clean none low h seen empty =
+  first_seen now mid rest p q findings r w going answer running was clean none low h seen empty =
       let some = running (was clean) in
       let start : Sees g first some.0 = λ _. some.1 in
       let m = w.met clean some.0 start in
-      let taken : Taken first.cap l.key some.0 w.records m.0 tally.new tally.known =
-      subst (λ (o : Option Starts). Walked first.cap l.key some.0 w.records m.0 tally.new
-      tally.known (starts_of o)) none m.2 in
+      let taken : Taken first.cap l.key some.0 w.records m.0 findings.new findings.known =
+      subst (λ (o : Option Starts). TakenOrStopped first.cap l.key some.0 w.records m.0 findings.new
+      findings.known (starts_of o)) none m.2 in
       let held : h ≡ put l.key w.records some.0 = sym (seen_is_one g now m.0 h clean m.1 seen)
       ∙ taken.whole (omega (arith, low, (space (was clean) some.0 start).fits)) in
       let all : h l.key ≡ joined (some.0 l.key) w.records = ap (λ (z : Holdings). z l.key) held
@@ -111,17 +114,18 @@ module _ {S : Type 0} (g : Ghosts S) (first : StoreModel S) (l : Layout)
       (read-begins before left rest l (w.records ++ r ∷ []) q header read)
 
   -- one record more
-  pub one_turn : (now next : StoreModel S) (mid rest : Option (List ℕ)) (p q : Progress)
-      (from to : Tally) (r : DataRecord) → Walking g first now l left mid p from
-      → p.status ≡ Reading → IsAnswer l p q mid rest (Ok (Some r)) → q.given ≡ p.given + 1 →
+  pub one_more_met : (now next : StoreModel S) (mid rest : Option (List ℕ)) (p q : Progress)
+      (from to : Findings) (r : DataRecord) → MetSoFar g first now l left mid p from
+      → p.state ≡ Reading → IsAnswer l p q mid rest (Ok (Some r)) → q.given ≡ p.given + 1 →
       p.given < most_records l.count
       → (HasCleanDisk (at g next) → HasCleanDisk (at g now)) →
       (HasCleanDisk (at g now) → HasCleanDisk (at g first))
       → (HasCleanDisk (at g next) → (h : Holdings) → Sees g now h → (t : Holdings) × Sees g next t
       × CountsNext room l.key r h from t to)
       → to.new + to.known ≤ from.new + from.known + 1
-      → Walking g first next l left rest q to
-  one_turn now next mid rest p q from to r w going answer given wanted was first_was step counted =
+      → MetSoFar g first next l left rest q to
+  one_more_met now next mid rest p q from to r w going answer given may_come was first_was step
+      counted =
       let read : HasRead l left rest (w.records ++ r ∷ []) q =
       (one_more_read l left mid rest w.records p q r w.read going answer).0 in
       record {
@@ -132,7 +136,7 @@ module _ {S : Type 0} (g : Ghosts S) (first : StoreModel S) (l : Layout)
             let n = step clean m.0 m.1 in
             let some = space (first_was (was clean)) h seen in
             let next = next_in_all first.cap (length (h l.key)) (most_records l.count) room l.key r
-            m.0 from n.0 to some (omega (arith, w.counted, wanted)) n.2 in (
+            m.0 from n.0 to some (omega (arith, w.counted, may_come)) n.2 in (
               n.0,
               n.1,
               met_next first.cap (first.cap - length (h l.key)) l.key h
@@ -143,32 +147,36 @@ module _ {S : Type 0} (g : Ghosts S) (first : StoreModel S) (l : Layout)
         counted = omega (arith, w.counted, counted, given);
       }
 
-  tally_of : (h t : Holdings) (records : List DataRecord) (new known : ℕ) (clash : Option Starts) →
-      Walked first.cap l.key h records t new known (starts_of clash)
-      → IsTally l.key h records (record { new = new; known = known; clash = clash })
-  tally_of h t records new known None k = record { free = k.free; new_is = k.new_is; all = k.all }
-  tally_of h t records new known (Some s) k =
+  findings_of : (h t : Holdings) (records : List DataRecord) (new known : ℕ)
+      (clash : Option Starts) →
+      TakenOrStopped first.cap l.key h records t new known (starts_of clash)
+      → AreFindings l.key h records (record { new = new; known = known; clash = clash })
+  findings_of h t records new known None k =
+      record { free = k.free; new_is = k.new_is; all = k.all }
+  findings_of h t records new known (Some s) k =
       record { pair = k.pair; first = k.first; start = k.start; stored = k.stored }
 
   -- the end
-  pub at_end : (now : StoreModel S) (mid rest : Option (List ℕ)) (p q : Progress) (tally : Tally) →
-      Walking g first now l left mid p tally → p.status ≡ Reading
-      → IsAnswer l p q mid rest (Ok None) → (HasCleanDisk (at g now) → HasCleanDisk (at g first))
-      → (records : List DataRecord)
-      × ((other : Option (List ℕ)) → ReadsHeader other left l → ReadsFragment other rest l records)
-      × (HasCleanDisk (at g now) → (h : Holdings) → Sees g first h → IsTally l.key h records tally
-      × (tally.clash ≡ None → tally.new ≤ room → Sees g now (put l.key records h)))
-  at_end now mid rest p q tally w going answer was = (
-    w.records,
+  pub at_end : (now : StoreModel S) (mid rest : Option (List ℕ)) (p q : Progress)
+      (findings : Findings) → (w : MetSoFar g first now l left mid p findings) →
+      p.state ≡ Reading → IsAnswer l p q mid rest (Ok None) →
+      (HasCleanDisk (at g now) → HasCleanDisk (at g first)) →
+      ((other : Option (List ℕ)) → ReadsHeader other left l →
+      ReadsFragment other rest l w.records)
+      × (HasCleanDisk (at g now) → (h : Holdings) → Sees g first h →
+      AreFindings l.key h w.records findings
+      × (MayBeAccepted room findings → Sees g now (put l.key w.records h)))
+  at_end now mid rest p q findings w going answer was = (
     (λ other head. all_read l other left mid rest w.records p q head w.read going answer),
     (λ clean h seen.
-        let m = w.met clean h seen in (
-          tally_of h m.0 w.records tally.new tally.known tally.clash m.2,
-          (λ none low.
-              let taken : Taken first.cap l.key h w.records m.0 tally.new tally.known =
-              subst (λ (o : Option Starts). Walked first.cap l.key h w.records m.0 tally.new
-              tally.known (starts_of o)) none m.2 in
-              subst (Sees g now) (taken.whole (omega (arith, low, (space (was clean) h seen).fits)))
-              m.1),
+        let t = w.met clean h seen in (
+          findings_of h t.0 w.records findings.new findings.known findings.clash t.2,
+          (λ may.
+              let taken : Taken first.cap l.key h w.records t.0 findings.new findings.known =
+              subst (λ (o : Option Starts). TakenOrStopped first.cap l.key h w.records t.0
+              findings.new
+              findings.known (starts_of o)) may.0 t.2 in
+              subst (Sees g now)
+              (taken.whole (omega (arith, may.1, (space (was clean) h seen).fits))) t.1),
         )),
   )

@@ -13,9 +13,14 @@ use Rattle.edf_holdings.specs.Reply.{IsAccepted, reply, replies, after}
 use Rattle.edf_holdings.proofs.Accepted.{refused_changes_nothing}
 use Rattle.edf_rows.specs.Rows.{AreKept}
 use Rattle.edf_store.specs.Held.{StoreModel, at, Holds, Stays, KeepsCommittedOthers}
+use Rattle.edf_store.specs.Call.{IsBusy}
+use Rattle.edf_store.specs.declared.fault.StoreFault.{StoreFault}
+use Rattle.edf_store.specs.declared.fault.StoreFault.TheVariants.{Memory, Store, Foreign, Failed}
 use Rattle.edf_intake.specs.Refusal.{Answer, reply_told, IsStopped, IsInDoubt}
-use Rattle.edf_intake.specs.Source.{Source, Hears, FailsToRead, ReadsFront}
-use Rattle.edf_intake.specs.Submitted.{AreLeft, Leaves, MayLeave, Refuses, StopsThere, IsSubmitted}
+use Rattle.edf_fragment.specs.Call.{InputState}
+use Rattle.edf_intake.specs.Input.{Hears, FailsToRead, ReadsFront}
+use Rattle.edf_intake.specs.Submitted.{IsRefusal, AreLeft, LeavesSubmitted, MayLeave, Refuses}
+use Rattle.edf_intake.specs.Submitted.{StopsThere, IsSubmitted}
 use Rattle.edf_intake.specs.Batch.{Turn, somes, told_in, replies_in, GoesWith, IsTurn}
 use Rattle.edf_intake.specs.Batch.{MayBeAnswered, AreUnended, IsOwnRefusal}
 use Rattle.edf_intake.specs.declared.answer.Refusal.TheVariants as refusal
@@ -63,7 +68,7 @@ pub record IsMade {S : Type 0} (g : Ghosts S) (old new : StoreModel S) (t : Turn
       AreKept old.cap rows (after old.cap h (somes (t.told ∷ [])))
       ⊎ AreUnended old.cap h (t ∷ []) rows)
 
-sound_told : (from to : Source) (told : Told) → Hears from to told → IsSoundTold told
+sound_told : (from to : InputState) (told : Told) → Hears from to told → IsSoundTold told
 sound_told from to (Fragment key records) r = (
   spelled-key r.bytes key records r.spells,
   spelled-sound r.bytes key records r.spells,
@@ -71,11 +76,11 @@ sound_told from to (Fragment key records) r = (
 )
 sound_told from to (Fault fault) r = tt
 
-module _ {S : Type 0} (g : Ghosts S) (old new : StoreModel S) (from to : Source) where
+module _ {S : Type 0} (g : Ghosts S) (old new : StoreModel S) (from to : InputState) where
   accepted_turn : (answer : Answer) (told : Told) (given : Reply) → IsOwnRefusal g new answer →
       reply_told answer ≡ Some given → MayBeAnswered told given → Hears from to told
       → (HasCleanDisk (at g new) → (h : Holdings) → Holds g old h → reply old.cap h told ≡ given) →
-      Leaves g old new told
+      LeavesSubmitted g old new told
       → IsMade g old new (record { from = from; to = to; answer = answer; told = Some told })
   accepted_turn answer told given own tells may heard is leaves = record {
     own = own;
@@ -153,6 +158,14 @@ module _ {S : Type 0} (g : Ghosts S) (old new : StoreModel S) (from to : Source)
   stopped_turn answer own tells why (inr (doubt, (key, records, read, may))) =
       (None, unended_turn answer (Fragment key records) own tells why doubt read may)
 
+  own_refusal : (fault : StoreFault) → IsRefusal g (IsBusy g old) new fault →
+      IsRefusal g (Unit {0}) new fault
+  own_refusal Memory own = own
+  own_refusal (Store (Some error)) own = tt
+  own_refusal (Store None) own = tt
+  own_refusal Foreign own = own
+  own_refusal Failed own = own
+
   pub turn_of : (answer : Answer) → IsSubmitted g old new from to answer → (told : Option Told)
       × IsMade g old new (record { from = from; to = to; answer = answer; told = told })
   turn_of (Ok receipt) a = (
@@ -187,4 +200,5 @@ module _ {S : Type 0} (g : Ghosts S) (old new : StoreModel S) (from to : Source)
         f.stays,
   )
   turn_of (Err refusal.Memory) s = stopped_turn (Err refusal.Memory) tt refl tt s
-  turn_of (Err (refusal.Store fault)) s = stopped_turn (Err (refusal.Store fault)) s.1 refl tt s.0
+  turn_of (Err (refusal.Store fault)) s =
+      stopped_turn (Err (refusal.Store fault)) (own_refusal fault s.1) refl tt s.0

@@ -1,29 +1,37 @@
 -- A whole fragment that was taken in a transaction.
-use Rattle.std.proofs.Common.{◌≡◌, ◌≢◌, ℕ, ◌≤◌, List, [], length, Some, None, Err, sym, ap, subst}
-use Rattle.std.proofs.Common.{◌∙◌, inl, inr, arith}
+use Rattle.std.proofs.Common.{◌≡◌, ◌≢◌, ℕ, ◌≤◌, List, [], length, Option, Some, Err, sym}
+use Rattle.std.proofs.Common.{ap, subst, ◌∙◌, inl, inr, arith}
 use Rattle.sqlite_trees.specs.declared.store.Store.{Ghosts}
 use Rattle.sqlite.specs.State.{HasCleanDisk}
 use Rattle.edf_header.specs.Key.{Key}
+use Rattle.edf_header.specs.Header.{Layout, most_records}
 use Rattle.edf_fragment.specs.Fragment.{DataRecord}
 use Rattle.edf_fragment.specs.Told.{Fragment}
+use Rattle.edf_fragment.specs.Reading.{ReadsHeader}
+use Rattle.edf_fragment.specs.Whole.{ReadsFragment}
 use Rattle.edf_fragment.proofs.Sound.{spelled-key, spelled-sound, spelled-begins, spelled-some}
 use Rattle.edf_holdings.specs.Rising.{joined}
 use Rattle.edf_holdings.specs.Holdings.{Holdings, put}
 use Rattle.edf_holdings.specs.Reply.{IsSoundTold, reply}
 use Rattle.edf_holdings.proofs.Members.{joined_has}
 use Rattle.edf_holdings.proofs.Joining.{IsGood-from_sound, put_here, put_grows}
-use Rattle.edf_store.specs.Held.{StoreModel, at}
-use Rattle.edf_store.specs.Transaction.{Sees, IsRunning, HasAtMost, HasNoMore, EachHasRecord}
+use Rattle.edf_store.specs.Held.{StoreModel, at, Stays}
+use Rattle.edf_store.specs.Transaction.{Sees, SeesHoldings, HasAtMost, HasNoMore, EachHasRecord}
+use Rattle.edf_store.specs.declared.transaction.StoreTx.{StoreTx}
 use Rattle.edf_intake.specs.Refusal.{reply_told}
-use Rattle.edf_intake.specs.Source.{Source, ReadsWhole}
-use Rattle.edf_intake.specs.Inside.Step.{IsRoom, IsTally}
-use Rattle.edf_intake.specs.Inside.Taken.{IsConflict, IsAcceptedInside, IsStop}
-use Rattle.edf_intake.specs.declared.walk.Tally.{Tally}
+use Rattle.edf_fragment.specs.Call.{InputState}
+use Rattle.edf_intake.specs.Input.{ReadsWhole}
+use Rattle.edf_intake.specs.Inside.Verdict.{IsRoom, AreFindings}
+use Rattle.edf_intake.specs.Inside.Taken.{IsConflict, MayBeAccepted, IsDestination, AreTaken}
+use Rattle.edf_intake.specs.Inside.Taken.{IsAcceptedInside, IsStop}
+use Rattle.edf_intake.specs.declared.data_records.Destination.{Destination}
+use Rattle.edf_intake.specs.declared.data_records.Findings.{Findings}
 use Rattle.edf_intake.specs.declared.answer.Refusal.{Refusal}
 use Rattle.edf_intake.specs.declared.answer.Refusal.TheVariants as refusal
 use Rattle.edf_intake.specs.declared.answer.Stop.TheVariants.{Input}
 use Rattle.edf_intake.proofs.Steps.{seen_is_one, empty_within}
 use Rattle.edf_intake.proofs.Conflicts.{counts_all, accepted_here, left_here}
+use Rattle.edf_intake.proofs.Halting.{reads_whole}
 
 none_there : (xs : List DataRecord) → 1 ≤ length xs → xs ≢ []
 none_there xs some e = absurd (omega (arith, some, ap (λ (l : List DataRecord). length l) e))
@@ -31,7 +39,8 @@ none_there xs some e = absurd (omega (arith, some, ap (λ (l : List DataRecord).
 -- each recording holds a record, if each did and the one that was made takes some
 pub still_whole : {S : Type 0} (g : Ghosts S) (first made last : StoreModel S) (key : Key)
     (records : List DataRecord) → 1 ≤ length records
-    → EachHasRecord g first → IsRunning g first → HasAtMost g key first made → HasNoMore g made last
+    → EachHasRecord g first → SeesHoldings g first → HasAtMost g key first made →
+    HasNoMore g made last
     → (HasCleanDisk (at g last) → HasCleanDisk (at g made)) →
     (HasCleanDisk (at g made) → HasCleanDisk (at g first))
     → (HasCleanDisk (at g last) → (h : Holdings) → Sees g first h →
@@ -53,82 +62,124 @@ still_whole g first made last key records some whole running most none was_made 
           (joined_has (start.0 key) records) (sym (put_here key records start.0) ∙ e)))
     ])
 
-module _ {S : Type 0} (g : Ghosts S) (first made last : StoreModel S) (from to : Source) (key : Key)
-    (records : List DataRecord) (read : ReadsWhole from to key records)
-    (room : ℕ) (tally : Tally)
-    (was_made : HasCleanDisk (at g last) → HasCleanDisk (at g made))
-    (was_first : HasCleanDisk (at g made) → HasCleanDisk (at g first))
-    (same : (h : Holdings) → Sees g first h → Sees g made h)
-    (space : HasCleanDisk (at g made) → (h : Holdings) → Sees g made h →
-    IsRoom first.cap (length (h key)) (length records) room)
-    (met : HasCleanDisk (at g last) → (h : Holdings) → Sees g made h → IsTally key h records tally
-    × (tally.clash ≡ None → tally.new ≤ room → Sees g last (put key records h))) where
-  sound : IsSoundTold (Fragment key records)
+-- room for more than there are is room for those
+fewer : (cap held asked fewer_asked room : ℕ) → fewer_asked ≤ asked → IsRoom cap held asked room →
+    IsRoom cap held fewer_asked room
+fewer cap held asked fewer_asked room few found = record {
+  fits = found.fits;
+  enough = elim found.enough [
+    | inl all ↦ inl all
+    | inr enough ↦ inr (omega (arith, few, enough))
+  ];
+}
+
+-- a whole fragment has no more data records than its header lets it have
+few_records : (left rest : Option (List ℕ)) (l : Layout) (records : List DataRecord) →
+    ReadsFragment left rest l records → length records ≤ most_records l.count
+few_records left rest l records read =
+    subst (λ (x : Layout). length records ≤ most_records x.count) (sym read.layout_is)
+    read.spells.most
+
+-- the transaction saw `first`, its recording was found or made in `made`, and `last` is what it
+-- sees after the data records; the input was read from `from` to `mid` for its header, and then to
+-- `to`
+module _ {S : Type 0} (g : Ghosts S) (first made last : StoreTx S) (from mid to : InputState)
+    (l : Layout) (d : Destination) (findings : Findings)
+    (header : ReadsHeader from.left mid.left l) (unfailed : mid.failed ≡ from.failed)
+    (begun : Stays g first.store.now made.store.now)
+    (stayed : Stays g made.store.now last.store.now)
+    (there : IsDestination g first made l.key (most_records l.count) d)
+    (taken : AreTaken g made last l d.room mid to findings) where
+  was_made : HasCleanDisk (at g last.store.now) → HasCleanDisk (at g made.store.now)
+  was_made clean = omega (arith, stayed.crash.clean)
+
+  was_first : HasCleanDisk (at g made.store.now) → HasCleanDisk (at g first.store.now)
+  was_first clean = omega (arith, begun.crash.clean)
+
+  fragment : ReadsFragment from.left to.left l taken.records
+  fragment = taken.read from.left header
+
+  whole : ReadsWhole from to l.key taken.records
+  whole = reads_whole from to l taken.records fragment (taken.counted ∙ unfailed)
+
+  sound : IsSoundTold (Fragment l.key taken.records)
   sound = (
-    spelled-key read.bytes key records read.spells,
-    spelled-sound read.bytes key records read.spells,
-    spelled-begins read.bytes key records read.spells,
+    spelled-key whole.bytes l.key taken.records whole.spells,
+    spelled-sound whole.bytes l.key taken.records whole.spells,
+    spelled-begins whole.bytes l.key taken.records whole.spells,
   )
 
-  pub some_read : 1 ≤ length records
-  some_read = spelled-some read.bytes key records read.spells
+  space : HasCleanDisk (at g made.store.now) → (h : Holdings) → Sees g made.store.now h →
+      IsRoom first.store.now.cap (length (h l.key)) (length taken.records) d.room
+  space clean h seen =
+      subst (λ (n : ℕ). IsRoom n (length (h l.key)) (length taken.records) d.room) begun.cap
+      (fewer made.store.now.cap (length (h l.key)) (most_records l.count) (length taken.records)
+      d.room
+      (few_records from.left to.left l taken.records fragment) (there.room clean h seen))
 
-  pub put_seen : tally.clash ≡ None → tally.new ≤ room → HasCleanDisk (at g last) → (h : Holdings) →
-      Sees g first h → Sees g last (put key records h)
-  put_seen none low clean h seen = (met clean h (same h seen)).1 none low
+  put_seen : MayBeAccepted d.room findings → HasCleanDisk (at g last.store.now) → (h : Holdings) →
+      Sees g first.store.now h → Sees g last.store.now (put l.key taken.records h)
+  put_seen may clean h seen = (taken.found clean h (there.same h seen)).1 may
 
-  pub is_taken : tally.clash ≡ None → tally.new ≤ room →
+  pub is_accepted : MayBeAccepted d.room findings → EachHasRecord g first.store.now →
+      SeesHoldings g first.store.now →
       IsAcceptedInside g first last from to
-      (record { identity = key; new = tally.new; known = tally.known })
-  is_taken none low = record {
-    records = records;
-    read = read;
+      (record { identity = l.key; new = findings.new; known = findings.known })
+  is_accepted may each running = record {
+    records = taken.records;
+    read = whole;
     reply_is = λ clean h seen.
-        let k = counts_all key h records tally none (met clean h (same h seen)).0 in
-        accepted_here first.cap room key h records tally k
-        (space (was_made clean) h (same h seen)).fits low;
+        let k = counts_all l.key h taken.records findings may.0
+        (taken.found clean h (there.same h seen)).0 in
+        accepted_here first.store.now.cap d.room l.key h taken.records findings k
+        (space (was_made clean) h (there.same h seen)).fits may.1;
     sees = λ h seen clean.
-        let k = counts_all key h records tally none (met clean h (same h seen)).0 in
-        let good = IsGood-from_sound first.cap h (seen (was_first (was_made clean))).sound in
-        subst (Sees g last) (left_here first.cap room key h records tally sound good k
-        (space (was_made clean) h (same h seen)).fits low) (put_seen none low clean h seen)
+        let k = counts_all l.key h taken.records findings may.0
+        (taken.found clean h (there.same h seen)).0 in
+        let good = IsGood-from_sound first.store.now.cap h
+        (seen (was_first (was_made clean))).sound in
+        subst (Sees g last.store.now) (left_here first.store.now.cap d.room l.key h taken.records
+        findings sound good k
+        (space (was_made clean) h (there.same h seen)).fits may.1) (put_seen may clean h seen)
         clean;
+    whole = still_whole g first.store.now made.store.now last.store.now l.key taken.records
+        (spelled-some whole.bytes l.key taken.records whole.spells) each running there.only
+        taken.only was_made was_first (put_seen may);
   }
 
   -- and where it is refused
-  pub is_refused : (told : Refusal) → IsConflict told
-      → ((h : Holdings) → IsRoom first.cap (length (h key)) (length records) room →
-      IsTally key h records tally →
-      reply_told (Err told) ≡ Some (reply first.cap h (Fragment key records)))
-      → IsStop g first last from to (Input told)
-  is_refused told conflict answer =
-      by told conflict (λ clean h seen. answer h (space (was_made clean) h (same h seen))
-      (met clean h (same h seen)).0)
+  pub is_refused : (answer : Refusal) → IsConflict answer
+      → ((h : Holdings) → IsRoom first.store.now.cap (length (h l.key)) (length taken.records)
+      d.room →
+      AreFindings l.key h taken.records findings →
+      reply_told (Err answer) ≡ Some (reply first.store.now.cap h (Fragment l.key taken.records)))
+      → IsStop g first last from to (Input answer)
+  is_refused answer conflict told =
+      by answer conflict (λ clean h seen. told h (space (was_made clean) h (there.same h seen))
+      (taken.found clean h (there.same h seen)).0)
     where
-      by : (told : Refusal) → IsConflict told →
-          (HasCleanDisk (at g last) → (h : Holdings) → Sees g first h →
-          reply_told (Err told) ≡ Some (reply first.cap h (Fragment key records)))
-          → IsStop g first last from to (Input told)
-      by (refusal.Overlap start stored) c e =
-          record {
-            key = key;
-            records = records;
-            read = read;
-            reply_is = λ clean h seen. let p =
-                e clean h seen in cc;
-          }
+      by : (answer : Refusal) → IsConflict answer →
+          (HasCleanDisk (at g last.store.now) → (h : Holdings) → Sees g first.store.now h →
+          reply_told (Err answer) ≡ Some
+          (reply first.store.now.cap h (Fragment l.key taken.records)))
+          → IsStop g first last from to (Input answer)
+      by (refusal.Overlap start stored) c e = record {
+        key = l.key;
+        records = taken.records;
+        read = whole;
+        reply_is = λ clean h seen. let p = e clean h seen in cc;
+      }
       by (refusal.Differs start) c e = record {
-        key = key;
-        records = records;
-        read = read;
+        key = l.key;
+        records = taken.records;
+        read = whole;
         reply_is = λ clean h seen. let p = e clean h seen in cc;
       }
       by (refusal.Full n m cap) c e = record {
-        key = key;
-        records = records;
-        read = read;
-        reply_is =
-            λ clean h seen. let p = e clean h seen in cc;
+        key = l.key;
+        records = taken.records;
+        read = whole;
+        reply_is = λ clean h seen. let p = e clean h seen in cc;
       }
       by (refusal.Form fault) c e = absurd c
       by refusal.Read c e = absurd c

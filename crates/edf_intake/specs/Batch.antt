@@ -13,27 +13,28 @@ use Rattle.edf_store.specs.Held.{StoreModel, at, Holds, KeepsCommittedOthers}
 use Rattle.edf_intake.specs.Refusal.{Answer, reply_told, IsStopped, IsInDoubt}
 use Rattle.edf_intake.specs.Submitted.{IsRefusal, IsEnded}
 use Rattle.edf_intake.specs.declared.answer.Refusal.TheVariants as refusal
-use Rattle.edf_intake.specs.Source.{Source, Hears, FailsToRead, ReadsFront}
+use Rattle.edf_fragment.specs.Call.{InputState}
+use Rattle.edf_intake.specs.Input.{Hears, FailsToRead, ReadsFront}
 
 -- the input's bytes are known, and tell this
-abbrev pub WillTell : Source → Told → Type 0
+abbrev pub WillTell : InputState → Told → Type 0
 WillTell from told = (bytes : List ℕ) × (from.left ≡ Some bytes) × Tells bytes told
 
 module _ {S : Type 0} (g : Ghosts S) (old new : StoreModel S) where
   -- the plain case: where the inputs tell these and each answer tells a reply, the answers are the
   -- replies to the list, and what is held then is what the list leaves
-  abbrev pub AnswersAll : List Source → List Answer → Type 0
+  abbrev pub AnswersAll : List InputState → List Answer → Type 0
   AnswersAll froms answers = (tolds : List Told) (given : List Reply) →
       AllZip WillTell froms tolds →
       map reply_told answers ≡ map Some given → (h : Holdings) → Holds g old h →
       (HasCleanDisk (at g new) → given ≡ replies old.cap h tolds)
       × Holds g new (after old.cap h tolds)
 
--- one input's turn: how it was found and left, its answer, and what it told: nothing, where the
--- answer was E40 to E42 or E45
+-- one input's turn: how it was found and left, its answer, and what it tells: nothing, where the
+-- answer is E40 to E42 or E45
 pub record Turn : Type 0 where
-  pub from : Source
-  pub to : Source
+  pub from : InputState
+  pub to : InputState
   pub answer : Answer
   pub told : Option Told
 
@@ -43,21 +44,22 @@ somes [] = []
 somes (None ∷ os) = somes os
 somes (Some x ∷ os) = x ∷ somes os
 
--- what the inputs told, and the replies that their answers tell, in their order
+-- what the inputs tell, and the replies that their answers tell, in their order
 abbrev pub told_in : List Turn → List Told
 told_in turns = somes (map (λ (t : Turn). t.told) turns)
 
 abbrev pub replies_in : List Turn → List Reply
 replies_in turns = somes (map (λ (t : Turn). reply_told t.answer) turns)
 
--- a faulty file gets `Form`; a good one never does; `Accepted` carries its own key
+-- the answer to a faulty file is `Form`, and that to a good one never is; `Accepted` has the file's
+-- own key
 abbrev pub MayBeAnswered : Told → Reply → Type 0
 MayBeAnswered (Fault fault) answer = answer ≡ Form fault
 MayBeAnswered (Fragment key records) (Form fault) = ⊥
 MayBeAnswered (Fragment key records) (Accepted k new known) = k ≡ key
 MayBeAnswered (Fragment key records) answer = Unit {0}
 
--- the input was read as its answer says: it told this, and the answer tells a reply; or neither
+-- the input was read as its answer says: it tells this, and the answer tells a reply; or neither
 -- tells anything
 abbrev pub GoesWith : Turn → Option Told → Option Reply → Type 0
 GoesWith t (Some told) (Some answer) = Hears t.from t.to told × MayBeAnswered told answer
@@ -67,13 +69,13 @@ GoesWith t told answer = ⊥
 abbrev pub IsTurn : Turn → Type 0
 IsTurn t = GoesWith t t.told (reply_told t.answer)
 
--- where the store refused, the answer says what that of one submission says
+-- where the store refused, the refusal is one that a submission may be answered
 abbrev pub IsOwnRefusal : {S : Type 0} → Ghosts S → StoreModel S → Answer → Type 0
-IsOwnRefusal g new (Err (refusal.Store fault)) = IsRefusal g new fault
+IsOwnRefusal g new (Err (refusal.Store fault)) = IsRefusal g (Unit {0}) new fault
 IsOwnRefusal g new answer = Unit {0}
 
--- the next input's answer is E41 or E42, and the rows stand for what is held with that submitted
--- which it tells
+-- the next input's answer is E41 or E42, and the rows stand for what is held and what that input
+-- tells, submitted to it
 abbrev pub AreUnended : ℕ → Holdings → List Turn → Trees → Type 0
 AreUnended cap h [] rows = ⊥
 AreUnended cap h (t ∷ ts) rows = IsInDoubt t.answer
@@ -82,17 +84,17 @@ AreUnended cap h (t ∷ ts) rows = IsInDoubt t.answer
 -- what a crash may leave: rows that stand for what some first inputs leave, or for that and the
 -- next
 pub record AreLeftBy (cap : ℕ) (h : Holdings) (turns : List Turn) (rows : Trees) : Type 0 where
-  pub before : List Turn
-  pub behind : List Turn
-  pub splits : turns ≡ before ++ behind
-  pub stand : AreKept cap rows (after cap h (told_in before))
-      ⊎ AreUnended cap (after cap h (told_in before)) behind rows
+  pub first : List Turn
+  pub rest : List Turn
+  pub splits : turns ≡ first ++ rest
+  pub stand : AreKept cap rows (after cap h (told_in first))
+      ⊎ AreUnended cap (after cap h (told_in first)) rest rows
 
 module _ {S : Type 0} (g : Ghosts S) (old new : StoreModel S) where
   -- every case: the inputs were submitted in turn. Those answered E40 to E42 or E45 add nothing;
   -- the others are answered and leave what they would without those; a crash leaves what it could
   -- leave before, or what some first inputs leave
-  pub record AreSubmitted (froms tos : List Source) (answers : List Answer) : Type 0 where
+  pub record AreSubmitted (froms tos : List InputState) (answers : List Answer) : Type 0 where
     pub turns : List Turn
     pub froms_are : map (λ (t : Turn). t.from) turns ≡ froms
     pub tos_are : map (λ (t : Turn). t.to) turns ≡ tos

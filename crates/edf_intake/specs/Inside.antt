@@ -1,4 +1,6 @@
+pub mod Transaction
 pub mod Gap
-pub mod Step
+pub mod Verdict
+pub mod Course
 pub mod Halt
 pub mod Taken

@@ -1,5 +1,5 @@
 pub mod Refusal
-pub mod Source
+pub mod Input
 pub mod Submitted
 pub mod Batch
 pub mod Inside

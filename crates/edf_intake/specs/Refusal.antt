@@ -1,7 +1,7 @@
--- The numbers of the refusals, and the answers that tell a reply.
-use Rattle.std.specs.Prelude.{ℕ, Option, Some, None, Result, Ok, Err}
-use Rattle.edf_fragment.specs.Fault.{fragment_fault_number}
-use Rattle.edf_store.specs.Fault.{number, IsStoreRefusal}
+-- The numbers and names of refusals, and the reply that an answer tells.
+use Rattle.std.specs.Prelude.{ℕ, List, codes, Option, Some, None, Result, Ok, Err}
+use Rattle.edf_fragment.specs.Fault.{fragment_fault_number, fragment_fault_name}
+use Rattle.edf_store.specs.Fault.{number, store_fault_name, IsStoreRefusal}
 use Rattle.edf_holdings.specs.Reply.{Reply, Form, Overlap, Differs, Full, Accepted}
 use Rattle.edf_intake.specs.declared.answer.Receipt.{Receipt}
 use Rattle.edf_intake.specs.declared.answer.Refusal.{Refusal}
@@ -16,11 +16,22 @@ refusal_number refusal.Read = 40
 refusal_number refusal.Memory = 41
 refusal_number (refusal.Store fault) = number fault
 
+-- the name of a refusal, which is that of the fault where it is for one
+abbrev pub refusal_name : Refusal → List ℕ
+refusal_name (refusal.Form fault) = fragment_fault_name fault
+refusal_name (refusal.Overlap start stored) = codes "Overlap"
+refusal_name (refusal.Differs start) = codes "Differs"
+refusal_name (refusal.Full held new cap) = codes "Full"
+refusal_name refusal.Read = codes "Read"
+refusal_name refusal.Memory = codes "Memory"
+refusal_name (refusal.Store fault) = store_fault_name fault
+
 -- the answer to one submission
 abbrev pub Answer : Type 0
 Answer = Result Receipt Refusal
 
--- the reply that an answer tells; a failed read, out of memory and a refusal of the store tell none
+-- the reply that an answer tells; a failed read, want of memory and a refusal of the store tell
+-- none
 abbrev pub reply_told : Answer → Option Reply
 reply_told (Ok receipt) = Some (Accepted receipt.identity receipt.new receipt.known)
 reply_told (Err (refusal.Form fault)) = Some (Form fault)

@@ -1,6 +1,6 @@
--- What a submission answers, and what it leaves. Each case says what the input told and what is
--- answered, then what is held after the call, and last what a crash in it may leave.
-use Rattle.std.specs.Prelude.{◌≡◌, ◌≢◌, ◌⊎◌, false, List, None, Ok, Err, IsTrue}
+-- What a submission answers, and what it leaves. Each case says what the input tells and what the
+-- answer is, then what is held after the call, and last what a crash in it may leave.
+use Rattle.std.specs.Prelude.{◌≡◌, ◌⊎◌, false, List, None, Ok, Err, IsTrue}
 use Rattle.sqlite_trees.specs.declared.store.Store.{Ghosts}
 use Rattle.sqlite_trees.specs.Tree.{Trees}
 use Rattle.sqlite.specs.State.{HasCleanDisk, Survives}
@@ -12,58 +12,61 @@ use Rattle.edf_holdings.specs.Reply.{Reply, Form, Overlap, Differs, Full, Accept
 use Rattle.edf_holdings.specs.Reply.{after_one}
 use Rattle.edf_rows.specs.Rows.{AreKept}
 use Rattle.edf_store.specs.Held.{StoreModel, at, Holds, KeepsCommittedOthers, Stays}
-use Rattle.edf_store.specs.Fault.{IsStoreRefusal}
+use Rattle.edf_store.specs.Fault.{MayRefuse}
+use Rattle.edf_store.specs.Call.{IsBusy, IsUnclean}
 use Rattle.edf_store.specs.declared.fault.StoreFault.{StoreFault}
 use Rattle.edf_store.specs.declared.fault.StoreFault.TheVariants as store
 use Rattle.edf_intake.specs.Refusal.{Answer, IsStopped, IsInDoubt}
-use Rattle.edf_intake.specs.Source.{Source, Hears, ReadsWhole, FailsToRead, ReadsFront}
+use Rattle.edf_fragment.specs.Call.{InputState}
+use Rattle.edf_intake.specs.Input.{Hears, ReadsWhole, FailsToRead, ReadsFront}
 use Rattle.edf_intake.specs.declared.answer.Receipt.{Receipt}
 use Rattle.edf_intake.specs.declared.answer.Refusal.TheVariants as refusal
 
--- the store refused, E42 or E45: out of memory is a refusal of its own, E41, and on a clean disk it
--- is not E45
-pub record IsRefusal {S : Type 0} (g : Ghosts S) (new : StoreModel S) (fault : StoreFault) : Type 0
-  where
-    pub other : fault ≢ store.Memory
-    pub told : (fault ≡ store.Foreign) ⊎ IsStoreRefusal fault
-    pub own : HasCleanDisk (at g new) → IsStoreRefusal fault
+-- Why the store refused, with E42 or E45: `sqlite` refused with an error; or the connection was
+-- found in a transaction, only where the condition says so; or rows are foreign, only where the
+-- disk did not return what was written. Where memory ran out, the refusal is E41 and not this one.
+abbrev pub IsRefusal : {S : Type 0} → Ghosts S → (IfBusy : Type 0) → StoreModel S → StoreFault →
+    Type 0
+IsRefusal g IfBusy new store.Memory = ⊥
+IsRefusal g IfBusy new fault = MayRefuse IfBusy (IsUnclean g new) ⊥ fault
 
 module _ {S : Type 0} (g : Ghosts S) (old new : StoreModel S) where
-  -- the answer: whatever was held, this is the reply to what is told
+  -- whatever was held, this is the reply to what the input tells
   abbrev pub RepliesWith : Told → Reply → Type 0
   RepliesWith told answer = HasCleanDisk (at g new) → (h : Holdings) → Holds g old h →
       reply old.cap h told ≡ answer
 
-  -- what a crash may leave: rows that stand for what was held, with what is told submitted to it
+  -- what a crash may leave: rows that stand for what was held, after what the input tells was
+  -- submitted
   abbrev pub AreLeft : Told → Trees → Type 0
   AreLeft told rows = (h : Holdings) → Holds g old h →
       AreKept old.cap rows (after_one old.cap h told)
 
-  -- what is told was submitted: the store holds what that leaves, with what was beside it, and is
-  -- open; a crash leaves what it could leave before, or that
-  pub record Leaves (told : Told) : Type 0 where
+  -- what the input tells was submitted: the store holds what that leaves, with what was beside it,
+  -- and is open; a crash leaves what it could leave before, or that
+  pub record LeavesSubmitted (told : Told) : Type 0 where
     pub cap : new.cap ≡ old.cap
     pub holdings : (h : Holdings) → Holds g old h → Holds g new (after_one old.cap h told)
     pub others : KeepsCommittedOthers (at g old) (at g new)
     pub is_open : HasCleanDisk (at g new) → IsTrue (at g new).is_open
     pub crash : Survives (at g old) (at g new) (AreLeft told)
 
-  -- what is held stays, and what is beside it; yet after a crash the store may hold what is told
-  -- too
+  -- what is held stays, and what is beside it; yet after a crash the store may hold what the input
+  -- tells too
   pub record MayLeave (told : Told) : Type 0 where
     pub cap : new.cap ≡ old.cap
     pub holdings : (h : Holdings) → Holds g old h → Holds g new h
     pub others : KeepsCommittedOthers (at g old) (at g new)
     pub crash : Survives (at g old) (at g new) (AreLeft told)
 
-  module _ (from to : Source) where
+  module _ (from to : InputState) where
     -- the whole input tells a fragment, and this is how it is accepted
     pub record Accepts (receipt : Receipt) : Type 0 where
       pub records : List DataRecord
       pub read : ReadsWhole from to receipt.identity records
       pub reply_is : RepliesWith (Fragment receipt.identity records)
           (Accepted receipt.identity receipt.new receipt.known)
-      pub leaves : Leaves (Fragment receipt.identity records)
+      pub leaves : LeavesSubmitted (Fragment receipt.identity records)
 
     -- the input tells this, and this is how it is refused; what is held stays, and a crash leaves
     -- what it could leave before
@@ -82,7 +85,7 @@ module _ {S : Type 0} (g : Ghosts S) (old new : StoreModel S) where
       pub stays : Stays g old new
 
     -- memory ran out or the store refused; what is held stays. Only after E41 and E42, and where
-    -- the whole input was read and told a fragment, may a crash leave that it was submitted
+    -- the whole input was read and tells a fragment, may a crash leave that it was submitted
     abbrev pub StopsThere : Answer → Type 0
     StopsThere answer = (Stays g old new × ReadsFront from to)
         ⊎ (IsInDoubt answer × ((key : Key) × (records : List DataRecord)
@@ -100,13 +103,13 @@ module _ {S : Type 0} (g : Ghosts S) (old new : StoreModel S) where
     IsSubmitted (Err refusal.Memory) = StopsThere (Err refusal.Memory)  -- E41
     -- E42, E45
     IsSubmitted (Err (refusal.Store fault)) = StopsThere (Err (refusal.Store fault))
-        × IsRefusal g new fault
+        × IsRefusal g (IsBusy g old) new fault
 
--- no transaction is open then, but where memory ran out or the store refused
+-- no transaction is open after it, except where memory ran out or the store refused
 abbrev pub IsEnded : {S : Type 0} → Ghosts S → StoreModel S → Answer → Type 0
 IsEnded g new answer = HasCleanDisk (at g new) → IsStopped answer
     ⊎ ((at g new).in_transaction ≡ false)
 
--- the answer of a store whose connection was found in a transaction: E42 without a cause
+-- the answer where the store's connection was found in a transaction: E42 without a cause
 abbrev pub found_busy : Answer
 found_busy = Err (refusal.Store (store.Store None))

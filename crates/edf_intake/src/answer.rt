@@ -1,8 +1,8 @@
 //! How a submission is answered.
 
 ghost use Rattle.std.specs.Prelude.{◌≡◌};
-ghost use Rattle.edf_intake.specs.Inside.Halt.{refusal_by};
-ghost use Rattle.edf_intake.specs.Refusal.{refusal_number};
+ghost use Rattle.edf_intake.specs.Inside.Halt.{fragment_refusal};
+ghost use Rattle.edf_intake.specs.Refusal.{refusal_number, refusal_name};
 
 use edf_fragment::FragmentFault;
 use edf_header::Identity;
@@ -10,22 +10,22 @@ use edf_store::StoreFault;
 use edf_time::Instant;
 use thiserror::Error;
 
-/// The answer to an accepted fragment: whose it is, and how many of its data records were added and
-/// were there.
+/// The answer to an accepted fragment: of which recording it is, how many of its data records were
+/// added, and how many were held already.
 #[derive(Drop)]
 pub struct Receipt {
     /// The identity of the recording.
     pub identity: Identity,
     /// How many data records were added.
     pub new: u32,
-    /// How many were held before, just as they are.
+    /// How many were held before, as they are in the fragment.
     pub known: u32,
 }
 
 /// Why a fragment is not accepted. What was held before the submission is held after it.
 #[derive(Clone, Copy, Debug, PartialEq, Eq, Drop, Error)]
 pub enum Refusal {
-    /// E1 to E29: the input is no fragment. The fault is neither a failed read nor out of memory.
+    /// E1 to E29: the input is no fragment. The fault is neither a failed read nor want of memory.
     #[error("{0}")]
     Form(FragmentFault),
     /// E30: a data record overlaps a stored one that starts at another instant. It is the first of
@@ -35,8 +35,8 @@ pub enum Refusal {
     /// E31: another data record is stored at this start.
     #[error("another data record is stored at the same start")]
     Differs { start: Instant },
-    /// E32: the recording would have more data records than the cap: those held, and the fragment's
-    /// that are not stored.
+    /// E32: the recording has `held` data records, and with the fragment's `new` ones it would have
+    /// more than `cap`.
     #[error("the recording has {held} data records, and {new} more are past the cap of {cap}")]
     Full { held: u32, new: u32, cap: u32 },
     /// E40: a read failed.
@@ -65,13 +65,28 @@ impl Refusal {
             Refusal::Store(fault) => fault.number(),
         }
     }
+
+    /// The name of the refusal, which is that of the fault where it is for one.
+    pub fn name(&self) -> &'static str
+        ensures { result.now ≡ refusal_name self.now }
+    {
+        match self {
+            Refusal::Form(fault) => fault.name(),
+            Refusal::Overlap { .. } => "Overlap",
+            Refusal::Differs { .. } => "Differs",
+            Refusal::Full { .. } => "Full",
+            Refusal::Read => "Read",
+            Refusal::Memory => "Memory",
+            Refusal::Store(fault) => fault.name(),
+        }
+    }
 }
 
-/// Out of memory has a refusal of its own.
+/// Where memory ran out, the refusal is `Memory`, and not `Store`.
 impl From<StoreFault> for Refusal {
-    ghost use Rattle.edf_intake.specs.Inside.Halt.{refusal_of};
+    ghost use Rattle.edf_intake.specs.Inside.Halt.{store_refusal};
 
-    ghost from_gives = { λ fault refusal. refusal ≡ refusal_of fault };
+    ghost from_gives = { λ fault refusal. refusal ≡ store_refusal fault };
 
     fn from(fault: StoreFault) -> Refusal {
         match fault {
@@ -101,19 +116,20 @@ impl From<StoreFault> for Stop {
 }
 
 impl From<FragmentFault> for Stop {
-    ghost use Rattle.edf_intake.specs.Inside.Halt.{refusal_by};
+    ghost use Rattle.edf_intake.specs.Inside.Halt.{fragment_refusal};
     ghost use Rattle.edf_intake.specs.declared.answer.Stop.TheVariants.{Input};
 
-    ghost from_gives = { λ fault stop. stop ≡ Input (refusal_by fault) };
+    ghost from_gives = { λ fault stop. stop ≡ Input (fragment_refusal fault) };
 
     fn from(fault: FragmentFault) -> Stop {
-        Stop::Input(refusal_by(fault))
+        Stop::Input(fragment_refusal(fault))
     }
 }
 
-/// The refusal for a fault of the fragment. A failed read and out of memory have their own.
-pub(crate) fn refusal_by(fault: FragmentFault) -> Refusal
-    ensures { result ≡ refusal_by fault }
+/// The refusal for a fault of the fragment. A failed read and want of memory have refusals of their
+/// own.
+pub(crate) fn fragment_refusal(fault: FragmentFault) -> Refusal
+    ensures { result ≡ fragment_refusal fault }
 {
     match fault {
         FragmentFault::Read => Refusal::Read,

@@ -9,11 +9,11 @@
 #![tactic(auto)]
 
 mod answer;
+mod data_records;
 mod fragment;
 mod gap;
 pub mod laws;
 mod submission;
-mod walk;
 
 pub use answer::{Receipt, Refusal};
 pub use edf_holdings::{Clash, clash};

@@ -2,7 +2,7 @@
 
 ghost use Rattle.std.specs.Prelude.{◌≡◌, map, IfOk, IfErr};
 ghost use Rattle.edf_intake.specs.Submitted.{IsSubmitted, IsEnded, found_busy};
-ghost use Rattle.edf_intake.specs.Source.{Source};
+ghost use Rattle.edf_fragment.specs.Call.{input_state};
 ghost use Rattle.edf_intake.specs.Batch.{AreSubmitted, AnswersAll, AreEnded};
 ghost use Rattle.edf_store.specs.Call.{IsBusy};
 
@@ -15,21 +15,23 @@ use std::alloc::{AllocError, Global};
 
 /// Submits one fragment, which is accepted whole or refused whole.
 ///
-/// The input is read once, up to its end or to where it has a fault of form, one data record in
-/// memory at a time. A fragment is accepted where none of its data records clashes with a stored
+/// The input is read once, up to its end or up to its first fault of form, with one data record in
+/// memory at a time. The fragment is accepted where none of its data records clashes with a stored
 /// one of its identity, and where it adds none or the recording then has no more than the store's
-/// cap. The input is read to its end also where a record clashes or there is no more room, so a
-/// fault of form is always told before these.
+/// cap. The input is read to its end also where a data record clashes or there is no more room. So
+/// a fault of form is always answered in place of these.
 ///
 /// # Errors
-/// `Form` (E1 to E29), the first fault of the input; else `Overlap` (E30) or `Differs` (E31), for
-/// the first data record that clashes, with the earliest stored one that it clashes with; else
-/// `Full` (E32). `Read` (E40) where a read failed, in place of what would have been found after it
-/// and of E30 to E32. `Memory` (E41) where memory ran out and `Store` (E42, E45) where the store
-/// refused, in place of any other. Where calls of the store were refused, the first is told, and
-/// the one that undoes what was added counts among them. What was held before stays after each
-/// refusal. E45 comes only from a disk that does not give back what was written; E42 without a
-/// cause where the connection was left in a transaction, and then nothing was read.
+/// `Form` (E1 to E29): the first fault of the input. Else `Overlap` (E30) or `Differs` (E31): the
+/// first data record that clashes, and the earliest stored one that it clashes with. Else `Full`
+/// (E32). `Read` (E40) where a read failed, in place of what would have been found after it, and of
+/// E30 to E32. `Memory` (E41) where memory ran out and `Store` (E42, E45) where the store refused a
+/// call, in place of any other. Where it refused more than one call, the first refusal is the
+/// answer; the call that undoes what was added counts among them.
+///
+/// What was held before is held after each refusal. E45 comes only from a disk that does not give
+/// back what was written. E42 has no cause where the connection was left in a transaction, and then
+/// nothing was read.
 pub fn submit<S: Alter, R: Input>(
     alloc: Global,
     store: &mut Store<S>,
@@ -37,10 +39,8 @@ pub fn submit<S: Alter, R: Input>(
 ) -> Result<Receipt, Refusal>
     ensures cap { store.new.cap ≡ store.old.cap }
     ensures submitted { IsSubmitted S.Store store.old store.new
-        (record { left = R.remaining input.old; failed = R.failures input.old })
-        (record { left = R.remaining input.new; failed = R.failures input.new }) result }
+        (input_state R.Input input.old) (input_state R.Input input.new) result }
     ensures ended { IsEnded S.Store store.new result }
-    ensures caused { result ≡ found_busy → IsBusy S.Store store.old }
     ensures busy { IsBusy S.Store store.old → (input.new ≡ input.old) × (result ≡ found_busy) }
 {
     let cap = store.cap();
@@ -74,15 +74,11 @@ pub fn submit_all<S: Alter, R: Input>(
     ensures cap { store.new.cap ≡ store.old.cap }
     ensures nothing { IfErr result (λ _. (store.new ≡ store.old) × (inputs.new ≡ inputs.old)) }
     ensures submitted { IfOk result (λ answers.
-        AreSubmitted S.Store store.old store.new
-        (map (λ i. record { left = R.remaining i; failed = R.failures i }) inputs.old)
-        (map (λ i. record { left = R.remaining i; failed = R.failures i }) inputs.new)
-        answers.items) }
+        AreSubmitted S.Store store.old store.new (map (input_state R.Input) inputs.old)
+        (map (input_state R.Input) inputs.new) answers.items) }
     ensures ended { IfOk result (λ answers. AreEnded S.Store store.old store.new answers.items) }
-    ensures answered { IfOk result (λ answers.
-        AnswersAll S.Store store.old store.new
-        (map (λ i. record { left = R.remaining i; failed = R.failures i }) inputs.old)
-        answers.items) }
+    ensures answered { IfOk result (λ answers. AnswersAll S.Store store.old store.new
+        (map (input_state R.Input) inputs.old) answers.items) }
 {
     let mut answers = Vec::with_capacity(alloc, inputs.len())?;
     for input in inputs.iter_mut() {

@@ -1,11 +1,13 @@
 -- A stretch of time in which none of a recording's stored data records starts.
 use Rattle.std.specs.Prelude.{◌⊎◌, ℕ, ◌≤◌, List, All, Option, IfSome, IsSomeAnd}
 use Rattle.sqlite_trees.specs.declared.store.Store.{Ghosts}
+use Rattle.sqlite.specs.State.{HasCleanDisk}
 use Rattle.edf_header.specs.Key.{Key}
 use Rattle.edf_fragment.specs.Fragment.{DataRecord}
 use Rattle.edf_holdings.specs.Holdings.{Holdings}
-use Rattle.edf_store.specs.Held.{StoreModel}
+use Rattle.edf_store.specs.Held.{StoreModel, at}
 use Rattle.edf_store.specs.Transaction.{Sees}
+use Rattle.edf_store.specs.declared.transaction.StoreTx.{StoreTx}
 use Rattle.edf_intake.specs.declared.gap.Gap.{Gap}
 
 -- the start is not between the gap's ends: it is the first or earlier, or the second or later.
@@ -17,6 +19,11 @@ IsOutside gap start = (start ≤ gap.from) ⊎ IsSomeAnd gap.until (λ until. un
 abbrev pub IsGap : List DataRecord → Gap → Type 0
 IsGap records gap = All (λ r. IsOutside gap r.start) records
 
--- where a gap is known, none of the key's records that the transaction sees starts in it
-abbrev pub IsGapIn : {S : Type 0} → Ghosts S → StoreModel S → Key → Option Gap → Type 0
-IsGapIn g store key gap = (h : Holdings) → Sees g store h → IfSome gap (IsGap (h key))
+module _ {S : Type 0} (g : Ghosts S) where
+  -- where a gap is known, none of the key's records that are seen starts in it
+  abbrev pub IsGapIn : StoreModel S → Key → Option Gap → Type 0
+  IsGapIn store key gap = (h : Holdings) → Sees g store h → IfSome gap (IsGap (h key))
+
+  -- the same of those that the transaction sees, on a disk that returns what was written
+  abbrev pub IsGapInside : StoreTx S → Key → Option Gap → Type 0
+  IsGapInside tx key gap = HasCleanDisk (at g tx.store.now) → IsGapIn tx.store.now key gap

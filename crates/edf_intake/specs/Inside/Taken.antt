@@ -1,22 +1,31 @@
 -- What a fragment met inside a transaction, before that ends.
-use Rattle.std.specs.Prelude.{◌≡◌, List}
+use Rattle.std.specs.Prelude.{◌≡◌, ℕ, ◌≤◌, List, Option, None}
 use Rattle.sqlite_trees.specs.declared.store.Store.{Ghosts}
 use Rattle.sqlite.specs.State.{HasCleanDisk}
 use Rattle.edf_header.specs.Key.{Key}
+use Rattle.edf_header.specs.Header.{Layout}
 use Rattle.edf_fragment.specs.Fragment.{DataRecord}
 use Rattle.edf_fragment.specs.Told.{Fragment}
-use Rattle.edf_holdings.specs.Holdings.{Holdings}
+use Rattle.edf_fragment.specs.Reading.{ReadsHeader, at_first}
+use Rattle.edf_fragment.specs.Whole.{ReadsFragment}
+use Rattle.edf_fragment.specs.declared.advance.Progress.{Progress}
+use Rattle.edf_holdings.specs.Holdings.{Holdings, put}
 use Rattle.edf_holdings.specs.Reply.{Reply, Overlap, Differs, Full, Accepted, reply, after_one}
-use Rattle.edf_store.specs.Held.{StoreModel, at}
-use Rattle.edf_store.specs.Transaction.{Sees}
-use Rattle.edf_intake.specs.Source.{Source, ReadsWhole, ReadsFault, FailsToRead, ReadsSome}
-use Rattle.edf_intake.specs.Source.{LacksMemory}
-use Rattle.edf_intake.specs.Inside.Halt.{IsRefusedInside}
+use Rattle.edf_store.specs.Held.{at}
+use Rattle.edf_store.specs.Transaction.{Sees, IsOf, HasNoMore, HasAtMost, EachHasRecord}
+use Rattle.edf_store.specs.StoreTx.{HasCauseOrIsUnclean}
+use Rattle.edf_store.specs.declared.transaction.StoreTx.{StoreTx}
+use Rattle.edf_fragment.specs.Call.{InputState}
+use Rattle.edf_intake.specs.Input.{ReadsWhole, ReadsFault, FailsToRead, ReadsSome}
+use Rattle.edf_intake.specs.Input.{LacksMemory}
+use Rattle.edf_intake.specs.Inside.Verdict.{IsRoomInside, AreFindings}
 use Rattle.edf_intake.specs.declared.answer.Receipt.{Receipt}
 use Rattle.edf_intake.specs.declared.answer.Refusal.{Refusal}
 use Rattle.edf_intake.specs.declared.answer.Refusal.TheVariants as refusal
 use Rattle.edf_intake.specs.declared.answer.Stop.{Stop}
 use Rattle.edf_intake.specs.declared.answer.Stop.TheVariants.{Input, Store}
+use Rattle.edf_intake.specs.declared.data_records.Destination.{Destination}
+use Rattle.edf_intake.specs.declared.data_records.Findings.{Findings}
 
 -- E30 to E32
 abbrev pub IsConflict : Refusal → Type 0
@@ -25,32 +34,67 @@ IsConflict (refusal.Differs start) = Unit {0}
 IsConflict (refusal.Full held new cap) = Unit {0}
 IsConflict other = ⊥
 
-module _ {S : Type 0} (g : Ghosts S) (old new : StoreModel S) (from to : Source) where
-  -- the fragment is accepted so, and the transaction sees what it leaves
-  pub record IsAcceptedInside (receipt : Receipt) : Type 0 where
-    pub records : List DataRecord
-    pub read : ReadsWhole from to receipt.identity records
-    pub reply_is : HasCleanDisk (at g new) → (h : Holdings) → Sees g old h →
-        reply old.cap h (Fragment receipt.identity records) ≡ Accepted receipt.identity receipt.new
-        receipt.known
-    pub sees : (h : Holdings) → Sees g old h →
-        Sees g new (after_one old.cap h (Fragment receipt.identity records))
+-- nothing clashes, and there is room for what is new
+abbrev pub MayBeAccepted : ℕ → Findings → Type 0
+MayBeAccepted room findings = (findings.clash ≡ None) × (findings.new ≤ room)
 
-  -- the fragment is refused so
-  pub record IsRefused (answer : Reply) : Type 0 where
-    pub key : Key
-    pub records : List DataRecord
-    pub read : ReadsWhole from to key records
-    pub reply_is : HasCleanDisk (at g new) → (h : Holdings) → Sees g old h →
-        reply old.cap h (Fragment key records) ≡ answer
+-- a header was just read, and no data record yet
+pub record HasReadHeader (left : Option (List ℕ)) (layout : Layout) (progress : Progress) : Type 0
+  where
+    pub before : Option (List ℕ)
+    pub header : ReadsHeader before left layout
+    pub none_read : progress ≡ at_first
 
-  -- why nothing is to be committed
-  abbrev pub IsStop : Stop → Type 0
-  IsStop (Input (refusal.Form fault)) = ReadsFault from to fault
-  IsStop (Input (refusal.Overlap start stored)) = IsRefused (Overlap start stored)
-  IsStop (Input (refusal.Differs start)) = IsRefused (Differs start)
-  IsStop (Input (refusal.Full held new_ cap)) = IsRefused (Full held new_ cap)
-  IsStop (Input refusal.Read) = FailsToRead from to
-  IsStop (Input refusal.Memory) = LacksMemory from to
-  IsStop (Input (refusal.Store fault)) = ⊥
-  IsStop (Store fault) = ReadsSome from to × IsRefusedInside g new fault
+module _ {S : Type 0} (g : Ghosts S) (old new : StoreTx S) where
+  -- the key's recording, which was there or was made, and no other was; with room for what is asked
+  -- for, or all that the cap leaves
+  pub record IsDestination (key : Key) (asked : ℕ) (destination : Destination) : Type 0 where
+    pub recording : IsOf g new.store.now destination.id.row key
+    pub same : (h : Holdings) → Sees g old.store.now h → Sees g new.store.now h
+    pub only : HasAtMost g key old.store.now new.store.now
+    pub room : IsRoomInside g new key asked destination.room
+
+  -- all data records up to the end of the input were read, no read failed, and this was found of
+  -- them; what is new was added, where the fragment may be accepted
+  pub record AreTaken (layout : Layout) (room : ℕ) (from to : InputState)
+      (findings : Findings) : Type 0 where
+    pub only : HasNoMore g old.store.now new.store.now
+    pub counted : to.failed ≡ from.failed
+    pub records : List DataRecord
+    pub read : (before : Option (List ℕ)) → ReadsHeader before from.left layout →
+        ReadsFragment before to.left layout records
+    pub found : HasCleanDisk (at g new.store.now) → (h : Holdings) → Sees g old.store.now h →
+        AreFindings layout.key h records findings
+        × (MayBeAccepted room findings → Sees g new.store.now (put layout.key records h))
+
+  module _ (from to : InputState) where
+    -- the fragment is accepted so; the transaction sees what it leaves, and may be committed
+    pub record IsAcceptedInside (receipt : Receipt) : Type 0 where
+      pub records : List DataRecord
+      pub read : ReadsWhole from to receipt.identity records
+      pub reply_is : HasCleanDisk (at g new.store.now) → (h : Holdings) → Sees g old.store.now h →
+          reply old.store.now.cap h (Fragment receipt.identity records)
+          ≡ Accepted receipt.identity receipt.new receipt.known
+      pub sees : (h : Holdings) → Sees g old.store.now h →
+          Sees g new.store.now
+          (after_one old.store.now.cap h (Fragment receipt.identity records))
+      pub whole : EachHasRecord g new.store.now
+
+    -- the fragment is refused so
+    pub record IsConflictInside (answer : Reply) : Type 0 where
+      pub key : Key
+      pub records : List DataRecord
+      pub read : ReadsWhole from to key records
+      pub reply_is : HasCleanDisk (at g new.store.now) → (h : Holdings) → Sees g old.store.now h →
+          reply old.store.now.cap h (Fragment key records) ≡ answer
+
+    -- why nothing is to be committed
+    abbrev pub IsStop : Stop → Type 0
+    IsStop (Input (refusal.Form fault)) = ReadsFault from to fault
+    IsStop (Input (refusal.Overlap start stored)) = IsConflictInside (Overlap start stored)
+    IsStop (Input (refusal.Differs start)) = IsConflictInside (Differs start)
+    IsStop (Input (refusal.Full held new_ cap)) = IsConflictInside (Full held new_ cap)
+    IsStop (Input refusal.Read) = FailsToRead from to
+    IsStop (Input refusal.Memory) = LacksMemory from to
+    IsStop (Input (refusal.Store fault)) = ⊥
+    IsStop (Store fault) = ReadsSome from to × HasCauseOrIsUnclean g new fault

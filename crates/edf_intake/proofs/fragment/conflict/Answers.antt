@@ -7,11 +7,12 @@ pub returns-in-Some-clause-answer : goal.returns-in-Some-clause-answer
 returns-in-Some-clause-answer c key h records room met =
     clash_told c.args.cap key h records _ c.clash_refusal.result c.clash_refusal.ensures.differs
     c.clash_refusal.ensures.overlaps
-    (rw c.in-Some.is (names_clash key h records c.args.tally c.in-Some.starts c.in-Some.is met))
+    (rw c.in-Some.is (names_clash key h records c.args.findings c.in-Some.starts c.in-Some.is met))
 
-pub returns-then-tally-recording-clause-answer : goal.returns-then-tally-recording-clause-answer
-returns-then-tally-recording-clause-answer c key h records room met =
+pub returns-then-findings-destination-clause-answer :
+    goal.returns-then-findings-destination-clause-answer
+returns-then-findings-destination-clause-answer c key h records room met =
     rw c.saturating_sub.ensures (ap (λ (r : Reply). Some r)
-    (sym (full_here c.args.cap c.args.recording.room key h records c.args.tally
-    (counts_all key h records c.args.tally c.in-None.is met)
-    room c.if-tally-recording.true)))
+    (sym (full_here c.args.cap c.args.destination.room key h records c.args.findings
+    (counts_all key h records c.args.findings c.in-None.is met)
+    room c.if-findings-destination.true)))

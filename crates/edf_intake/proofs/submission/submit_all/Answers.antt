@@ -5,23 +5,23 @@ use Rattle.std.proofs.lemmas.List.{take_all}
 use Rattle.sqlite_trees.specs.declared.store.Store.{Ghosts}
 use Rattle.edf_store.specs.Held.{StoreModel}
 use Rattle.edf_intake.specs.Refusal.{Answer}
-use Rattle.edf_intake.specs.Source.{Source}
+use Rattle.edf_fragment.specs.Call.{InputState, input_state}
 use Rattle.edf_intake.specs.Submitted.{IsSubmitted}
 use Rattle.edf_intake.specs.Batch.{AreSubmitted, AreEnded}
-use Rattle.edf_intake.proofs.Places.{olds_more, nows_more, others_same}
+use Rattle.edf_intake.proofs.Fronts.{olds_more, nows_more, others_same}
 use Rattle.edf_intake.proofs.Batches.{none_submitted, next_submitted, ended-next, answers_all}
 use Rattle.edf_intake.proofs.submission.submit_all.Goals as goal
 
 -- all of the list was gone through
-all_submitted : {S X : Type 0} (g : Ghosts S) (old new : StoreModel S) (source : X →
-    Source) (olds nows : List X) (i : ℕ) (answers : List Answer) → length olds ≤ i →
+all_submitted : {S X : Type 0} (g : Ghosts S) (old new : StoreModel S) (state : X →
+    InputState) (olds nows : List X) (i : ℕ) (answers : List Answer) → length olds ≤ i →
     length nows ≡ length olds
-    → AreSubmitted g old new (map source (take i olds)) (map source (take i nows)) answers →
-    AreSubmitted g old new (map source olds) (map source nows) answers
-all_submitted g old new source olds nows i answers done same all =
-    subst (λ l. AreSubmitted g old new (map source olds) (map source l) answers)
+    → AreSubmitted g old new (map state (take i olds)) (map state (take i nows)) answers →
+    AreSubmitted g old new (map state olds) (map state nows) answers
+all_submitted g old new state olds nows i answers done same all =
+    subst (λ l. AreSubmitted g old new (map state olds) (map state l) answers)
     (take_all i nows (omega (arith, done, same)))
-    (subst (λ l. AreSubmitted g old new (map source l) (map source (take i nows)) answers)
+    (subst (λ l. AreSubmitted g old new (map state l) (map state (take i nows)) answers)
     (take_all i olds done) all)
 
 pub loop-input-init : goal.loop-input-init
@@ -47,38 +47,37 @@ loop-input-preserved g c =
     let nows = c.loop-input.inputs in
     let old = c.input-item.result in
     let new = c.submit-answer.new.input in
-    let source = λ (r : g.row.R.Denot). let s : Source =
-    record { left = g.R.Input.remaining r; failed = g.R.Input.failures r } in s in
-    let more = olds_more source olds nows i old new c.loop-input-test.true inv.others
+    let state = input_state g.R.Input in
+    let more = olds_more state olds nows i old new c.loop-input-test.true inv.others
     c.input-item.is in
-    let made = nows_more source olds nows i old new c.loop-input-test.true inv.others
+    let made = nows_more state olds nows i old new c.loop-input-test.true inv.others
     c.input-item.is in
     let step = next_submitted g.S.Store c.args.store.now c.loop-input.store
-    c.submit-answer.new.store (map source (take i olds)) (map source (take i nows))
+    c.submit-answer.new.store (map state (take i olds)) (map state (take i nows))
     c.loop-input.answers.items inv.cap inv.submitted
-    (source old) (source new) c.submit-answer.result
+    (state old) (state new) c.submit-answer.result
     (subst (λ (r : g.row.R.Denot). IsSubmitted g.S.Store c.loop-input.store
-    c.submit-answer.new.store (source r) (source new) c.submit-answer.result)
+    c.submit-answer.new.store (state r) (state new) c.submit-answer.result)
     (sym c.input-item.is) c.submit-answer.ensures.submitted) in
     record {
       cap = c.submit-answer.ensures.cap ∙ inv.cap;
       submitted = subst (λ (l : List Answer).
           AreSubmitted g.S.Store c.args.store.now c.submit-answer.new.store
-          (map source (take (i + 1) olds)) (map source (take (i + 1) (set nows i new))) l)
+          (map state (take (i + 1) olds)) (map state (take (i + 1) (set nows i new))) l)
           (sym c.push_reserved.ensures.items)
-          (subst (λ (l : List Source). AreSubmitted g.S.Store c.args.store.now
-          c.submit-answer.new.store (map source (take (i + 1) olds)) l
+          (subst (λ (l : List InputState). AreSubmitted g.S.Store c.args.store.now
+          c.submit-answer.new.store (map state (take (i + 1) olds)) l
           (c.loop-input.answers.items ++ c.submit-answer.result ∷ [])) (sym made)
-          (subst (λ (l : List Source). AreSubmitted g.S.Store c.args.store.now
-          c.submit-answer.new.store l (map source (take i nows)
-          ++ source new ∷ []) (c.loop-input.answers.items ++ c.submit-answer.result ∷ []))
+          (subst (λ (l : List InputState). AreSubmitted g.S.Store c.args.store.now
+          c.submit-answer.new.store l (map state (take i nows)
+          ++ state new ∷ []) (c.loop-input.answers.items ++ c.submit-answer.result ∷ []))
           (sym more) step));
       ended = subst (λ (l : List Answer).
           AreEnded g.S.Store c.args.store.now c.submit-answer.new.store l)
           (sym c.push_reserved.ensures.items)
           (ended-next g.S.Store c.args.store.now c.submit-answer.new.store
           c.loop-input.answers.items c.submit-answer.result c.submit-answer.ensures.ended);
-      others = others_same source olds nows i old new c.loop-input-test.true inv.others
+      others = others_same state olds nows i old new c.loop-input-test.true inv.others
           c.input-item.is;
       counted = omega (arith, c.push_reserved.ensures.len, inv.counted);
       reserved = search rules;
@@ -87,19 +86,17 @@ loop-input-preserved g c =
 pub returns-clause-submitted : goal.returns-clause-submitted
 returns-clause-submitted g c =
     let inv = c.loop-input.invariant in
-    let source = λ (r : g.row.R.Denot). let s : Source =
-    record { left = g.R.Input.remaining r; failed = g.R.Input.failures r } in s in
-    all_submitted g.S.Store c.args.store.now c.loop-input.store source c.args.inputs.now
+    let state = input_state g.R.Input in
+    all_submitted g.S.Store c.args.store.now c.loop-input.store state c.args.inputs.now
     c.loop-input.inputs c.loop-input.input-index c.loop-input.answers.items
     c.loop-input-test.false c.loop-input.auto.inputs inv.submitted
 
 pub returns-clause-answered : goal.returns-clause-answered
 returns-clause-answered g c =
     let inv = c.loop-input.invariant in
-    let source = λ (r : g.row.R.Denot). let s : Source =
-    record { left = g.R.Input.remaining r; failed = g.R.Input.failures r } in s in
-    answers_all g.S.Store c.args.store.now c.loop-input.store (map source c.args.inputs.now)
-    (map source c.loop-input.inputs) c.loop-input.answers.items
-    (all_submitted g.S.Store c.args.store.now c.loop-input.store source c.args.inputs.now
+    let state = input_state g.R.Input in
+    answers_all g.S.Store c.args.store.now c.loop-input.store (map state c.args.inputs.now)
+    (map state c.loop-input.inputs) c.loop-input.answers.items
+    (all_submitted g.S.Store c.args.store.now c.loop-input.store state c.args.inputs.now
     c.loop-input.inputs c.loop-input.input-index c.loop-input.answers.items
     c.loop-input-test.false c.loop-input.auto.inputs inv.submitted)

@@ -3,7 +3,7 @@ use Rattle.std.proofs.lemmas.Bool.{both_ways}
 use Rattle.std.proofs.lemmas.Bool.Decides.{nat_tests}
 use Rattle.edf_holdings.specs.Clash.{other_of}
 use Rattle.edf_intake.proofs.Passed.{other_here, same_here, none_left, held_of_near}
-use Rattle.edf_intake.proofs.walk.step_of.Goals as goal
+use Rattle.edf_intake.proofs.data_records.verdict_of.Goals as goal
 
 pub returns-then-not-same : goal.returns-then-not-same
 returns-then-not-same c =

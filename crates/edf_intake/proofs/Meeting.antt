@@ -13,42 +13,44 @@ use Rattle.edf_fragment.specs.declared.advance.Progress.{Progress}
 use Rattle.edf_holdings.specs.Clash.{near_of}
 use Rattle.edf_holdings.specs.Rising.{IsApart}
 use Rattle.edf_holdings.specs.Holdings.{Holdings}
-use Rattle.edf_holdings.proofs.Walked.{Taken, Stopped, Walked, still_stopped, after_clash}
-use Rattle.edf_holdings.proofs.Walked.{after_known, after_added, after_full}
+use Rattle.edf_holdings.proofs.OneByOne.{Taken, Stopped, TakenOrStopped, still_stopped, after_clash}
+use Rattle.edf_holdings.proofs.OneByOne.{after_known, after_added, after_full}
 use Rattle.edf_store.specs.Held.{StoreModel, at}
 use Rattle.edf_store.specs.Transaction.{Sees}
-use Rattle.edf_intake.specs.Inside.Step.{IsStep, IsRoom, CountsStep, CountsNext}
-use Rattle.edf_intake.specs.declared.walk.Step.{Step}
-use Rattle.edf_intake.specs.declared.walk.Step.TheVariants.{Clashes, Known, New}
-use Rattle.edf_intake.specs.declared.walk.Starts.{Starts}
-use Rattle.edf_intake.specs.declared.walk.Tally.{Tally}
+use Rattle.edf_intake.specs.Inside.Verdict.{IsVerdict, IsRoom, CountsVerdict, CountsNext}
+use Rattle.edf_intake.specs.declared.data_records.Verdict.{Verdict}
+use Rattle.edf_intake.specs.declared.data_records.Verdict.TheVariants.{Clashes, Known, New}
+use Rattle.edf_intake.specs.declared.data_records.Starts.{Starts}
+use Rattle.edf_intake.specs.declared.data_records.Findings.{Findings}
 
 abbrev pub starts_of : Option Starts → Option (ℕ × ℕ)
 starts_of None = None
 starts_of (Some s) = Some (s.start, s.stored)
 
 -- h was held at the start, these records were met, and t is held now
-abbrev pub Met : ℕ → Key → Holdings → List DataRecord → Holdings → Tally → Type 0
-Met cap key h records t tally = Walked cap key h records t tally.new tally.known
-    (starts_of tally.clash)
+abbrev pub Met : ℕ → Key → Holdings → List DataRecord → Holdings → Findings → Type 0
+Met cap key h records t findings = TakenOrStopped cap key h records t findings.new findings.known
+    (starts_of findings.clash)
 
--- so, where some records were read of the fragment
-pub record Walking {S : Type 0} (g : Ghosts S) (first now : StoreModel S) (l : Layout)
-    (left rest : Option (List ℕ)) (p : Progress) (tally : Tally) : Type 0 where
+-- the same, where some records of the fragment were read
+pub record MetSoFar {S : Type 0} (g : Ghosts S) (first now : StoreModel S) (l : Layout)
+    (left rest : Option (List ℕ)) (p : Progress) (findings : Findings) : Type 0 where
   pub records : List DataRecord
   pub read : HasRead l left rest records p
   pub met : HasCleanDisk (at g now) → (h : Holdings) → Sees g first h → (t : Holdings)
-      × Sees g now t × Met first.cap l.key h records t tally
-  pub counted : tally.new + tally.known ≤ p.given
+      × Sees g now t × Met first.cap l.key h records t findings
+  pub counted : findings.new + findings.known ≤ p.given
 
--- less room than there is, but more than was asked for yet, makes no difference
-counts_wider : (room full wanted : ℕ) (key : Key) (r : DataRecord) (near : List DataRecord)
-    (h : Holdings) (from : Tally) (t : Holdings) (to : Tally) (step : Step) → room ≤ full →
-    (room ≡ full) ⊎ (wanted ≤ room) → from.new < wanted
-    → CountsStep room key r near h from t to step → CountsStep full key r near h from t to step
-counts_wider room full wanted key r near h from t to (Clashes stored) low enough below c = c
-counts_wider room full wanted key r near h from t to Known low enough below c = c
-counts_wider room full wanted key r near h from t to New low enough below (added, past, is) = (
+-- less room than there is makes no difference, if it is more than was needed so far
+counts_wider : (room full asked : ℕ) (key : Key) (r : DataRecord) (near : List DataRecord)
+    (h : Holdings) (from : Findings) (t : Holdings) (to : Findings) (verdict : Verdict) →
+    room ≤ full →
+    (room ≡ full) ⊎ (asked ≤ room) → from.new < asked
+    → CountsVerdict room key r near h from t to verdict →
+    CountsVerdict full key r near h from t to verdict
+counts_wider room full asked key r near h from t to (Clashes stored) low enough below c = c
+counts_wider room full asked key r near h from t to Known low enough below c = c
+counts_wider room full asked key r near h from t to New low enough below (added, past, is) = (
   (λ l. added (elim enough [
     | inl same ↦ omega (arith, l, same)
     | inr many ↦
@@ -58,26 +60,27 @@ counts_wider room full wanted key r near h from t to New low enough below (added
   is,
 )
 
-next_wider : (room full wanted : ℕ) (key : Key) (r : DataRecord) (h : Holdings) (new known : ℕ)
-    (clash : Option Starts) (t : Holdings) (to : Tally) → room ≤ full → (room ≡ full)
-    ⊎ (wanted ≤ room) → new < wanted
+next_wider : (room full asked : ℕ) (key : Key) (r : DataRecord) (h : Holdings) (new known : ℕ)
+    (clash : Option Starts) (t : Holdings) (to : Findings) → room ≤ full → (room ≡ full)
+    ⊎ (asked ≤ room) → new < asked
     → CountsNext room key r h (record { new = new; known = known; clash = clash }) t to →
     CountsNext full key r h (record { new = new; known = known; clash = clash }) t to
-next_wider room full wanted key r h new known None t to low enough below (step, is, counts) = (
-  step,
+next_wider room full asked key r h new known None t to low enough below (verdict, is, counts) = (
+  verdict,
   is,
-  counts_wider room full wanted key r
+  counts_wider room full asked key r
       (near_of (duration_of key.duration) r.start (h key)) h
-      (record { new = new; known = known; clash = None }) t to step low enough below counts,
+      (record { new = new; known = known; clash = None }) t to verdict low enough below counts,
 )
-next_wider room full wanted key r h new known (Some s) t to low enough below same = same
+next_wider room full asked key r h new known (Some s) t to low enough below same = same
 
 -- the same for all the room that there is, where what was found is enough
-pub next_in_all : (cap held wanted room : ℕ) (key : Key) (r : DataRecord) (h : Holdings)
-    (from : Tally) (t : Holdings) (to : Tally) → IsRoom cap held wanted room → from.new < wanted →
+pub next_in_all : (cap held asked room : ℕ) (key : Key) (r : DataRecord) (h : Holdings)
+    (from : Findings) (t : Holdings) (to : Findings) → IsRoom cap held asked room →
+    from.new < asked →
     CountsNext room key r h from t to → CountsNext (cap - held) key r h from t to
-next_in_all cap held wanted room key r h from t to it below next =
-    next_wider room (cap - held) wanted key r h from.new from.known from.clash t to
+next_in_all cap held asked room key r h from t to it below next =
+    next_wider room (cap - held) asked key r h from.new from.known from.clash t to
     (omega (arith, it.fits))
     (elim it.enough [ inl all ↦ inl (omega (arith, all)) | inr many ↦ inr many ]) below next
 
@@ -86,11 +89,11 @@ module _ (cap room : ℕ) (key : Key) (h : Holdings) (is_key : IsKey key)
     (held : IsApart (duration_of key.duration) 0 (h key)) (space : length (h key) + room ≡ cap)
     (rs : List DataRecord) (r : DataRecord)
     (a : IsApart (duration_of key.duration) 0 (rs ++ r ∷ [])) (t : Holdings) where
-  counted_next : (new known : ℕ) (t' : Holdings) (to : Tally) (step : Step) →
+  counted_next : (new known : ℕ) (t' : Holdings) (to : Findings) (verdict : Verdict) →
       Taken cap key h rs t new known
-      → IsStep r (near_of (duration_of key.duration) r.start (t key)) step
-      → CountsStep room key r (near_of (duration_of key.duration) r.start (t key)) t
-      (record { new = new; known = known; clash = None }) t' to step
+      → IsVerdict r (near_of (duration_of key.duration) r.start (t key)) verdict
+      → CountsVerdict room key r (near_of (duration_of key.duration) r.start (t key)) t
+      (record { new = new; known = known; clash = None }) t' to verdict
       → Met cap key h (rs ++ r ∷ []) t' to
   counted_next new known t' to (Clashes stored) k (s, e, q) (same, is) =
       subst (Met cap key h (rs ++ r ∷ []) t') (sym is)
@@ -111,15 +114,16 @@ module _ (cap room : ℕ) (key : Key) (h : Holdings) (is_key : IsKey key)
             (omega (arith, high, space)))
       ])
 
-  next_of : (new known : ℕ) (clash : Option Starts) (t' : Holdings) (to : Tally) →
-      Walked cap key h rs t new known (starts_of clash)
+  next_of : (new known : ℕ) (clash : Option Starts) (t' : Holdings) (to : Findings) →
+      TakenOrStopped cap key h rs t new known (starts_of clash)
       → CountsNext room key r t (record { new = new; known = known; clash = clash }) t' to →
       Met cap key h (rs ++ r ∷ []) t' to
-  next_of new known None t' to k (step, is, counts) = counted_next new known t' to step k is counts
+  next_of new known None t' to k (verdict, is, counts) =
+      counted_next new known t' to verdict k is counts
   next_of new known (Some s) t' to k same =
       subst (Met cap key h (rs ++ r ∷ []) t') (sym same)
       (still_stopped key h rs r (s.start, s.stored) k)
 
-  pub met_next : (from : Tally) (t' : Holdings) (to : Tally) → Met cap key h rs t from →
+  pub met_next : (from : Findings) (t' : Holdings) (to : Findings) → Met cap key h rs t from →
       CountsNext room key r t from t' to → Met cap key h (rs ++ r ∷ []) t' to
   met_next from t' to k next = next_of from.new from.known from.clash t' to k next

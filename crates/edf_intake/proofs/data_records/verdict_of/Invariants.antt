@@ -1,7 +1,7 @@
 -- What is passed over is the record itself.
 use Rattle.std.proofs.Common.{◌≡◌, drop}
 use Rattle.edf_holdings.specs.Clash.{other_of}
-use Rattle.edf_intake.proofs.walk.step_of.Given as goal
+use Rattle.edf_intake.proofs.data_records.verdict_of.Given as goal
 
 abbrev pub invariant-loop-stored : goal.invariant-loop-stored
 invariant-loop-stored l = other_of l.data_record (drop l.stored-index l.near) ≡ other_of

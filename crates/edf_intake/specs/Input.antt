@@ -5,17 +5,12 @@ use Rattle.edf_header.specs.Key.{Key}
 use Rattle.edf_header.specs.Header.{Layout}
 use Rattle.edf_fragment.specs.Fragment.{DataRecord, Spells}
 use Rattle.edf_fragment.specs.Told.{Told, Fragment, Fault}
+use Rattle.edf_fragment.specs.Call.{InputState}
 use Rattle.edf_fragment.specs.Reading.{ReadsHeader, CountsFault}
 use Rattle.edf_fragment.specs.Whole.{HasRead, IsFragmentFault}
 use Rattle.edf_fragment.specs.declared.advance.Progress.{Progress}
 use Rattle.edf_fragment.specs.declared.fault.FragmentFault.{FragmentFault}
 use Rattle.edf_fragment.specs.declared.fault.FragmentFault.TheVariants.{Read, Memory, Failed}
-
--- an input: the bytes that it has left, where these are known, and how many reads of it failed so
--- far
-pub record Source : Type 0 where
-  pub left : Option (List ℕ)
-  pub failed : ℕ
 
 -- E1 to E29
 abbrev pub IsOfForm : FragmentFault → Type 0
@@ -27,7 +22,7 @@ IsOfForm fault = Unit {0}
 abbrev pub SpellsNothing : List ℕ → Type 0
 SpellsNothing bytes = (key : Key) (records : List DataRecord) → ¬ Spells bytes key records
 
-module _ (from to : Source) where
+module _ (from to : InputState) where
   abbrev pub NoReadFailed : Type 0
   NoReadFailed = to.failed ≡ from.failed
 
@@ -39,14 +34,14 @@ module _ (from to : Source) where
     pub spells : Spells bytes key records
     pub counted : NoReadFailed
 
-  -- this is why the input is no fragment; just what tells that was read, and no read failed
+  -- this is why the input is no fragment; just what shows that was read, and no read failed
   pub record ReadsFault (fault : FragmentFault) : Type 0 where
     pub of_form : IsOfForm fault
     pub is_fault : IsFragmentFault from.left to.left fault
     pub none : IfSome from.left SpellsNothing
     pub counted : NoReadFailed
 
-  -- what the input told
+  -- what the input tells
   abbrev pub Hears : Told → Type 0
   Hears (Fragment key records) = ReadsWhole key records
   Hears (Fault fault) = ReadsFault fault
@@ -63,7 +58,7 @@ module _ (from to : Source) where
     pub records : List DataRecord
     pub progress : Progress
     pub header : ReadsHeader from.left mid layout
-    pub behind : HasRead layout mid to.left records progress
+    pub read : HasRead layout mid to.left records progress
     pub counted : NoReadFailed
 
   -- memory ran out while the input was read
@@ -72,8 +67,8 @@ module _ (from to : Source) where
     pub counted : NoReadFailed
 
   -- how far the input was read where memory ran out or the store refused: not at all; a header and
-  -- some data records; up to where memory ran out; as far as an answer needs that the store then
-  -- kept from being told
+  -- some data records; up to where memory ran out; to where a read failed; or as far as a reply
+  -- needs, which the store's refusal then stands in place of
   abbrev pub ReadsFront : Type 0
   ReadsFront = (to ≡ from)
       ⊎ (ReadsSome ⊎ (LacksMemory ⊎ (FailsToRead ⊎ ((told : Told) × Hears told))))

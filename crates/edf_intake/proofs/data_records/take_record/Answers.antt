@@ -1,0 +1,131 @@
+use Rattle.std.proofs.Common.{Result, Ok, sym, ◌∙◌}
+use Rattle.edf_store.specs.StoreTx.{HasCauseOrIsUnclean}
+use Rattle.edf_store.specs.declared.fault.StoreFault.{StoreFault}
+use Rattle.edf_store.proofs.Readiness.{stays_then}
+use Rattle.edf_intake.specs.Inside.Transaction.{KeepsRunning}
+use Rattle.edf_intake.specs.declared.data_records.Course.{Course}
+use Rattle.edf_intake.proofs.Taking.{none_of, clashed_before, clash_met, known_met, full_met}
+use Rattle.edf_intake.proofs.Taking.{may_take, added_met}
+use Rattle.edf_intake.proofs.Transactions.{passed_on, keeps_none}
+use Rattle.edf_intake.proofs.data_records.take_record.Goals as goal
+use Rattle.edf_intake.proofs.data_records.take_record.Goals.{then-findings-room+in_ok-add-in-New}
+use Rattle.edf_intake.proofs.data_records.take_record.Goals.{else-findings-room}
+
+pub returns-then-is_some-clause-leaves : goal.returns-then-is_some-clause-leaves
+returns-then-is_some-clause-leaves g c =
+    keeps_none g.S.Store c.args.transaction.now (Ok c.args.course) c.requires.running.running
+
+pub returns-then-is_some-clause-taken : goal.returns-then-is_some-clause-taken
+returns-then-is_some-clause-taken g c =
+    clashed_before g.S.Store c.args.destination.id.row c.args.identity.now c.args.data_record.now
+    c.args.destination.room c.args.course c.args.transaction.now c.requires.running
+    (sym c.is_some.ensures ∙ c.if-is_some.true) c.requires.next.gap
+
+pub returns-in_err-found-clause-leaves : goal.returns-in_err-found-clause-leaves
+returns-in_err-found-clause-leaves g c =
+    let p = c.in_err-found.ensures.leaves in
+    passed_on c.from_residual.result c.in_err-found.field-0.0 (λ (r : Result Course StoreFault).
+    KeepsRunning g.S.Store c.args.transaction.now c.find_verdict.new.transaction r)
+    c.from_residual.ensures.1
+    (record { same_reference = p.same_reference; stays = p.stays; running = tt })
+
+pub returns-in-Clashes-clause-leaves : goal.returns-in-Clashes-clause-leaves
+returns-in-Clashes-clause-leaves g c =
+    let p = c.in_ok-found.ensures.leaves in
+    record { same_reference = p.same_reference; stays = p.stays; running = p.running }
+
+pub returns-in-Clashes-clause-taken : goal.returns-in-Clashes-clause-taken
+returns-in-Clashes-clause-taken g c =
+    let mid = c.find_verdict.new.transaction in
+    clash_met g.S.Store c.args.destination.id.row c.args.identity.now c.args.data_record.now
+    c.args.destination.room c.args.course c.args.transaction.now c.requires.running mid
+    (HasCauseOrIsUnclean g.S.Store mid) c.in_ok-found.found c.in_ok-found.ensures.leaves
+    c.in_ok-found.ensures.found
+    (none_of c.args.course.findings.clash (sym c.is_some.ensures ∙ c.if-is_some.false))
+    c.start-start.result c.in-Clashes.stored c.start-start.ensures.value c.in-Clashes.is
+
+pub returns-in-Known-clause-leaves : goal.returns-in-Known-clause-leaves
+returns-in-Known-clause-leaves g c =
+    let p = c.in_ok-found.ensures.leaves in
+    record { same_reference = p.same_reference; stays = p.stays; running = p.running }
+
+pub returns-in-Known-clause-taken : goal.returns-in-Known-clause-taken
+returns-in-Known-clause-taken g c =
+    let mid = c.find_verdict.new.transaction in
+    known_met g.S.Store c.args.destination.id.row c.args.identity.now c.args.data_record.now
+    c.args.destination.room c.args.course c.args.transaction.now c.requires.running mid
+    (HasCauseOrIsUnclean g.S.Store mid) c.in_ok-found.found c.in_ok-found.ensures.leaves
+    c.in_ok-found.ensures.found
+    (none_of c.args.course.findings.clash (sym c.is_some.ensures ∙ c.if-is_some.false))
+    c.in-Known.is
+
+pub add-requires-clause-room : goal.add-requires-clause-room
+add-requires-clause-room g c =
+    let mid = c.find_verdict.new.transaction in
+    may_take g.S.Store c.args.destination.id.row c.args.identity.now c.args.data_record.now
+    c.args.destination.room c.args.course c.args.transaction.now c.requires.running mid
+    (HasCauseOrIsUnclean g.S.Store mid) c.in_ok-found.found c.in_ok-found.ensures.leaves
+    c.in_ok-found.ensures.found
+    (none_of c.args.course.findings.clash (sym c.is_some.ensures ∙ c.if-is_some.false))
+    c.in-New.is c.if-findings-room.true c.requires.next
+
+pub returns-in_err-add-in-New-clause-leaves : goal.returns-in_err-add-in-New-clause-leaves
+returns-in_err-add-in-New-clause-leaves g c =
+    let first = c.args.transaction.now in
+    let mid = c.find_verdict.new.transaction in
+    let last = c.add.new.self in
+    let p = c.in_ok-found.ensures.leaves in
+    let q = c.in_err-add-in-New.ensures.leaves in
+    passed_on c.from_residual-in_err-add-in-New.result c.in_err-add-in-New.field-0.0
+    (λ (r : Result Course StoreFault). KeepsRunning g.S.Store first last r)
+    c.from_residual-in_err-add-in-New.ensures.1 (record {
+      same_reference = q.same_reference ∙ p.same_reference;
+      stays = stays_then g.S.Store first.store.now mid.store.now last.store.now p.stays q.stays;
+      running = tt;
+    })
+
+pub returns-after-findings-room-clause-leaves :
+    goal.returns-after-findings-room-clause-leaves
+returns-after-findings-room-clause-leaves g c =
+    let first = c.args.transaction.now.store.now in
+    let mid = c.find_verdict.new.transaction.store.now in
+    let p = c.in_ok-found.ensures.leaves in
+    elim c.if-findings-room.branch [
+      | then-findings-room+in_ok-add-in-New w ↦
+          let q = w.in_ok-add-in-New.ensures.leaves in
+          rw w.transaction-is (record {
+            same_reference = q.same_reference ∙ p.same_reference;
+            stays = stays_then g.S.Store first mid w.add.new.self.store.now p.stays q.stays;
+            running = q.running;
+          })
+      | else-findings-room w ↦ rw w.transaction-is (record {
+        same_reference = p.same_reference;
+        stays = p.stays;
+        running = p.running;
+      })
+    ]
+
+pub returns-after-findings-room-clause-taken :
+    goal.returns-after-findings-room-clause-taken
+returns-after-findings-room-clause-taken g c =
+    let id = c.args.destination.id.row in
+    let key = c.args.identity.now in
+    let r = c.args.data_record.now in
+    let room = c.args.destination.room in
+    let course = c.args.course in
+    let first = c.args.transaction.now in
+    let mid = c.find_verdict.new.transaction in
+    let Why = HasCauseOrIsUnclean g.S.Store mid in
+    let found = c.in_ok-found.found in
+    let read = c.in_ok-found.ensures.leaves in
+    let is = c.in_ok-found.ensures.found in
+    let none = none_of course.findings.clash (sym c.is_some.ensures ∙ c.if-is_some.false) in
+    elim c.if-findings-room.branch [
+      | then-findings-room+in_ok-add-in-New w ↦ rw w.transaction-is
+          (added_met g.S.Store id key r room course first c.requires.running mid Why found read is
+          none c.in-New.is w.if-findings-room.true w.add.new.self
+          w.in_ok-add-in-New.ensures.leaves.stays w.in_ok-add-in-New.ensures.added)
+      | else-findings-room w ↦ rw w.transaction-is
+          (full_met g.S.Store id key r room course first c.requires.running mid Why found read is
+          none c.in-New.is w.if-findings-room.false)
+    ]

@@ -1,0 +1,127 @@
+use Rattle.std.proofs.Common.{Option, IfSome, Result, sym, subst, ◌∙◌, ℕ}
+use Rattle.edf_header.specs.Header.{most_records}
+use Rattle.edf_store.specs.Fault.{HasCause}
+use Rattle.edf_store.specs.StoreTx.{StaysInside}
+use Rattle.edf_store.specs.declared.fault.StoreFault.{StoreFault}
+use Rattle.edf_intake.specs.Inside.Verdict.{IsRoomInside}
+use Rattle.edf_intake.specs.declared.data_records.Destination.{Destination}
+use Rattle.edf_intake.proofs.Taking.{sees_as}
+use Rattle.edf_intake.proofs.Finding.{at_most, room_left}
+use Rattle.edf_intake.proofs.Transactions.{passed_on, reads_then, reads_then_refused, stays_read}
+use Rattle.edf_intake.proofs.Transactions.{stays_read_refused, stays_refused}
+use Rattle.edf_intake.proofs.fragment.find_destination.Goals as goal
+
+pub returns-in_err-id-clause-leaves : goal.returns-in_err-id-clause-leaves
+returns-in_err-id-clause-leaves g c =
+    let first = c.args.transaction.now in
+    let made = c.recording.new.self in
+    let fault = c.in_err-id.field-0.0 in
+    passed_on c.from_residual.result fault
+    (λ (r : Result Destination StoreFault). StaysInside g.S.Store first made r)
+    c.from_residual.ensures.1
+    (stays_refused g.S.Store first made fault c.in_err-id.ensures.leaves)
+
+pub known_room-requires : goal.known_room-requires
+known_room-requires g c = record {
+  running = record {
+    running = c.in_ok-id.ensures.leaves.running;
+    recording = c.in_ok-id.ensures.found.found;
+  };
+}
+
+pub returns-in_err-room-clause-leaves : goal.returns-in_err-room-clause-leaves
+returns-in_err-room-clause-leaves g c =
+    let first = c.args.transaction.now in
+    let made = c.recording.new.self in
+    let asked = c.known_room.new.transaction in
+    let fault = c.in_err-room.field-0.0 in
+    passed_on c.from_residual-in_err-room.result fault
+    (λ (r : Result Destination StoreFault). StaysInside g.S.Store first asked r)
+    c.from_residual-in_err-room.ensures.1
+    (stays_read_refused g.S.Store first made asked c.in_ok-id.id c.in_ok-id.ensures.leaves fault
+    c.in_err-room.ensures.leaves)
+
+pub returns-in-Some-clause-leaves : goal.returns-in-Some-clause-leaves
+returns-in-Some-clause-leaves g c =
+    let d : Destination = record { id = c.in_ok-id.id; room = c.in-Some.room } in
+    stays_read g.S.Store c.args.transaction.now c.recording.new.self c.known_room.new.transaction
+    c.in_ok-id.id c.in_ok-id.ensures.leaves c.in_ok-room.field-0 d c.in_ok-room.ensures.leaves
+
+pub returns-in-Some-clause-found : goal.returns-in-Some-clause-found
+returns-in-Some-clause-found g c =
+    let first = c.args.transaction.now.store.now in
+    let made = c.recording.new.self.store.now in
+    let asked = c.known_room.new.transaction in
+    let key = c.args.identity.now in
+    let found = c.in_ok-id.ensures.found in
+    let read = c.in_ok-room.ensures.leaves in
+    record {
+      recording = read.same.ids c.in_ok-id.id.row key found.found;
+      same = λ h seen. sees_as g.S.Store made asked.store.now read.stays.cap read.same h
+          (sees_as g.S.Store first made c.in_ok-id.ensures.leaves.stays.cap found.same h seen);
+      only = at_most g.S.Store key first made asked.store.now read.stays found.only read.only;
+      room = subst (λ (o : Option ℕ). IfSome o
+          (IsRoomInside g.S.Store asked key (most_records c.args.count))) c.in-Some.is
+          c.in_ok-room.ensures.room;
+    }
+
+pub count-requires-clause-recording : goal.count-requires-clause-recording
+count-requires-clause-recording g c = (
+  c.args.identity.now,
+  c.in_ok-room.ensures.leaves.same.ids c.in_ok-id.id.row c.args.identity.now
+      c.in_ok-id.ensures.found.found,
+)
+
+pub returns-in_err-held-clause-leaves : goal.returns-in_err-held-clause-leaves
+returns-in_err-held-clause-leaves g c =
+    let first = c.args.transaction.now in
+    let made = c.recording.new.self in
+    let asked = c.known_room.new.transaction in
+    let last = c.count.new.self in
+    let fault = c.in_err-held.field-0.0 in
+    passed_on c.from_residual-in_err-held.result fault
+    (λ (r : Result Destination StoreFault). StaysInside g.S.Store first last r)
+    c.from_residual-in_err-held.ensures.1
+    (stays_read_refused g.S.Store first made last c.in_ok-id.id c.in_ok-id.ensures.leaves fault
+    (reads_then_refused g.S.Store {Z = ℕ} made asked last HasCause HasCause c.in_ok-room.field-0
+    c.in_ok-room.ensures.leaves fault c.in_err-held.ensures.leaves))
+
+pub returns-clause-leaves : goal.returns-clause-leaves
+returns-clause-leaves g c =
+    let first = c.args.transaction.now in
+    let made = c.recording.new.self in
+    let asked = c.known_room.new.transaction in
+    let last = c.count.new.self in
+    let held = c.in_ok-held.held in
+    let d : Destination = record { id = c.in_ok-id.id; room = c.saturating_sub-room.result } in
+    stays_read g.S.Store first made last c.in_ok-id.id c.in_ok-id.ensures.leaves held d
+    (reads_then g.S.Store made asked last HasCause HasCause c.in_ok-room.field-0
+    c.in_ok-room.ensures.leaves held held c.in_ok-held.ensures.leaves)
+
+pub returns-clause-found : goal.returns-clause-found
+returns-clause-found g c =
+    let first = c.args.transaction.now.store.now in
+    let made = c.recording.new.self in
+    let asked = c.known_room.new.transaction in
+    let last = c.count.new.self in
+    let id = c.in_ok-id.id.row in
+    let key = c.args.identity.now in
+    let found = c.in_ok-id.ensures.found in
+    let room = c.in_ok-room.ensures.leaves in
+    let held = c.in_ok-held.ensures.leaves in
+    let read = reads_then g.S.Store made asked last HasCause HasCause c.in_ok-room.field-0 room
+    c.in_ok-held.held c.in_ok-held.held held in
+    record {
+      recording = read.same.ids id key found.found;
+      same = λ h seen. sees_as g.S.Store made.store.now last.store.now read.stays.cap read.same h
+          (sees_as g.S.Store first made.store.now c.in_ok-id.ensures.leaves.stays.cap found.same
+          h seen);
+      only = at_most g.S.Store key first made.store.now last.store.now read.stays found.only
+          read.only;
+      room = room_left g.S.Store asked last id key
+          (record { running = room.running; recording = room.same.ids id key found.found })
+          c.in_ok-held.held HasCause held (most_records c.args.count) c.args.cap c.in_ok-held.held
+          c.saturating_sub-room.result
+          (c.requires.cap ∙ sym c.in_ok-id.ensures.leaves.stays.cap ∙ sym room.stays.cap)
+          c.in_ok-held.ensures.count c.saturating_sub-room.ensures;
+    }

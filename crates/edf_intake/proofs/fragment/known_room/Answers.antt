@@ -1,0 +1,24 @@
+use Rattle.std.proofs.Common.{Option, sym, subst, ℕ}
+use Rattle.edf_header.specs.Header.{most_records}
+use Rattle.edf_store.specs.Fault.{HasCause}
+use Rattle.edf_store.specs.Transaction.{TellsRoom}
+use Rattle.edf_intake.specs.Inside.Verdict.{IsRoomInside}
+use Rattle.edf_intake.proofs.Finding.{room_now}
+use Rattle.edf_intake.proofs.fragment.known_room.Goals as goal
+
+pub has_room-requires-clause-recording : goal.has_room-requires-clause-recording
+has_room-requires-clause-recording g c =
+    (c.args.identity.now, c.requires.running.recording, c.duration.ensures.value)
+
+pub returns-then-fits-clause-room : goal.returns-then-fits-clause-room
+returns-then-fits-clause-room g c =
+    let old = c.args.transaction.now in
+    let new = c.has_room.new.self in
+    let id = c.args.id.row in
+    let key = c.args.identity.now in
+    let count = c.in-Some.count in
+    subst (λ (o : Option ℕ). IsRoomInside g.S.Store new key (most_records o) count)
+    (sym c.in-Some.is)
+    (room_now g.S.Store old new id key c.requires.running c.in_ok-fits.fits HasCause
+    c.in_ok-fits.ensures.leaves count (λ clean. subst (TellsRoom g.S.Store old.store.now id count)
+    c.if-fits.true (c.in_ok-fits.ensures.room clean)))

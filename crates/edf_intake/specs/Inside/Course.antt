@@ -1,0 +1,53 @@
+-- What a data record of a fragment must be to come next, and what taking it leaves.
+use Rattle.std.specs.Prelude.{◌≡◌, ℕ, ◌+◌, ◌-◌, ◌^◌, ◌<◌, ◌≤◌, ℤ, [], length, None, IfSome}
+use Rattle.sqlite_trees.specs.declared.store.Store.{Ghosts}
+use Rattle.sqlite.specs.State.{HasCleanDisk}
+use Rattle.edf_header.specs.Key.{Key, MayStart}
+use Rattle.edf_fragment.specs.Fragment.{DataRecord}
+use Rattle.edf_fragment.specs.Sound.{IsSoundRecord}
+use Rattle.edf_holdings.specs.Holdings.{Holdings}
+use Rattle.edf_store.specs.Held.{at}
+use Rattle.edf_store.specs.Transaction.{Sees, IsOf, HasNoMore}
+use Rattle.edf_store.specs.declared.transaction.StoreTx.{StoreTx}
+use Rattle.edf_intake.specs.Inside.Gap.{IsGapIn, IsGapInside}
+use Rattle.edf_intake.specs.Inside.Verdict.{IsVerdictIn, CountsNext}
+use Rattle.edf_intake.specs.declared.data_records.Course.{Course}
+use Rattle.edf_intake.specs.declared.data_records.Found.{Found}
+
+-- no clash was met so far, and there is room
+abbrev pub MayAdd : ℕ → Course → Type 0
+MayAdd room course = (course.findings.clash ≡ None) × (course.findings.new < room)
+
+module _ {S : Type 0} (g : Ghosts S) where
+  -- the record may come next: it is a sound one of its key; where it may be added, the recording
+  -- has fewer than the cap, and may start with it if it holds none; it can be counted, and the gap
+  -- is one
+  pub record MayBeNext (tx : StoreTx S) (key : Key) (r : DataRecord) (room : ℕ)
+      (course : Course) : Type 0 where
+    pub sound : IsSoundRecord key r
+    pub few : HasCleanDisk (at g tx.store.now) → MayAdd room course → (h : Holdings) →
+        Sees g tx.store.now h → length (h key) < tx.store.now.cap
+    pub first : HasCleanDisk (at g tx.store.now) → MayAdd room course → (h : Holdings) →
+        Sees g tx.store.now h → h key ≡ [] → MayStart key r.start
+    pub countable : course.findings.new + course.findings.known < 2 ^ 32 - 1
+    pub gap : IsGapInside g tx key course.gap
+
+  module _ (old new : StoreTx S) (key : Key) (r : DataRecord) where
+    -- what the stored records near it say of it, and a gap that begins where it starts
+    pub record IsFoundFor (found : Found) : Type 0 where
+      pub verdict : HasCleanDisk (at g new.store.now) →
+          IsVerdictIn g old.store.now key r found.verdict
+      pub gap : HasCleanDisk (at g new.store.now) → IsGapIn g old.store.now key found.gap
+      pub from : IfSome found.gap (λ gap. gap.from ≡ r.start)
+
+    -- it was taken: the transaction sees what that makes of what it saw; the recording is there
+    -- under its id, and none was made; it is counted, and the gap is one
+    pub record IsRecordTaken (id : ℤ) (room : ℕ) (from to : Course) : Type 0 where
+      pub recording : IsOf g new.store.now id key
+      pub only : HasNoMore g old.store.now new.store.now
+      pub counts : HasCleanDisk (at g new.store.now) → (h : Holdings) → Sees g old.store.now h →
+          (t : Holdings) × Sees g new.store.now t
+          × CountsNext room key r h from.findings t to.findings
+      pub counted : to.findings.new + to.findings.known
+          ≤ from.findings.new + from.findings.known + 1
+      pub gap : IsGapInside g new key to.gap

@@ -1,0 +1,21 @@
+-- What a part of an intake requires of its transaction, and what it leaves of it.
+use Rattle.std.specs.Prelude.{◌≡◌, ℤ, Result, OnOk}
+use Rattle.sqlite_trees.specs.declared.store.Store.{Ghosts}
+use Rattle.edf_header.specs.Key.{Key}
+use Rattle.edf_store.specs.Held.{Stays}
+use Rattle.edf_store.specs.Transaction.{IsOf}
+use Rattle.edf_store.specs.StoreTx.{IsRunning}
+use Rattle.edf_store.specs.declared.transaction.StoreTx.{StoreTx}
+
+module _ {S : Type 0} (g : Ghosts S) where
+  -- the transaction goes on, and the key's recording is there under this id
+  pub record IsRunningFor (tx : StoreTx S) (id : ℤ) (key : Key) : Type 0 where
+    pub running : IsRunning g tx
+    pub recording : IsOf g tx.store.now id key
+
+  -- what a part leaves that may add: a transaction of the same store, in which what is held stays,
+  -- whatever the answer is; and where that is no fault, the transaction goes on
+  pub record KeepsRunning {X E : Type 0} (old new : StoreTx S) (result : Result X E) : Type 0 where
+    pub same_reference : new.store.ghost_name ≡ old.store.ghost_name
+    pub stays : Stays g old.store.now new.store.now
+    pub running : OnOk result (IsRunning g new)

@@ -1,0 +1,84 @@
+-- What the stored data records say of one of a fragment, and what was found of all of its data
+-- records that were read so far.
+use Rattle.std.specs.Prelude.{◌≡◌, ◌⊎◌, ℕ, ◌+◌, ◌<◌, ◌≤◌, true, List, [], ◌∷◌, length, Some, None}
+use Rattle.std.specs.Prelude.{MatchOption}
+use Rattle.sqlite_trees.specs.declared.store.Store.{Ghosts}
+use Rattle.sqlite.specs.State.{HasCleanDisk}
+use Rattle.edf_field.specs.Number.{duration_of}
+use Rattle.edf_header.specs.Key.{Key}
+use Rattle.edf_fragment.specs.Fragment.{DataRecord}
+use Rattle.edf_holdings.specs.Clash.{near_of, other_of}
+use Rattle.edf_holdings.specs.Rising.{contains_record, new_of}
+use Rattle.edf_holdings.specs.Holdings.{Holdings, put}
+use Rattle.edf_holdings.specs.Reply.{first_clash}
+use Rattle.edf_store.specs.Held.{StoreModel, at}
+use Rattle.edf_store.specs.Transaction.{Sees}
+use Rattle.edf_store.specs.declared.transaction.StoreTx.{StoreTx}
+use Rattle.edf_intake.specs.declared.data_records.Verdict.{Verdict}
+use Rattle.edf_intake.specs.declared.data_records.Verdict.TheVariants.{Clashes, Known, New}
+use Rattle.edf_intake.specs.declared.data_records.Starts.{Starts}
+use Rattle.edf_intake.specs.declared.data_records.Findings.{Findings}
+
+-- room in a recording that holds `held`, never past the cap: all that the cap leaves, or at least
+-- what is asked for
+pub record IsRoom (cap held asked room : ℕ) : Type 0 where
+  pub fits : held + room ≤ cap
+  pub enough : (held + room ≡ cap) ⊎ (asked ≤ room)
+
+-- the key's recording has this room, as the transaction sees it on a disk that returns what was
+-- written
+abbrev pub IsRoomInside : {S : Type 0} → Ghosts S → StoreTx S → Key → ℕ → ℕ → Type 0
+IsRoomInside g tx key asked room = HasCleanDisk (at g tx.store.now) → (h : Holdings) →
+    Sees g tx.store.now h → IsRoom tx.store.now.cap (length (h key)) asked room
+
+-- what the stored records near one say of it
+abbrev pub IsVerdict : DataRecord → List DataRecord → Verdict → Type 0
+IsVerdict r near (Clashes stored) = (s : DataRecord) × (other_of r near ≡ Some s)
+    × (stored ≡ s.start)
+IsVerdict r near Known = (other_of r near ≡ None) × (contains_record near r ≡ true)
+IsVerdict r near New = near ≡ []
+
+-- the same of those of the key's records that the transaction sees
+abbrev pub IsVerdictIn : {S : Type 0} → Ghosts S → StoreModel S → Key → DataRecord → Verdict →
+    Type 0
+IsVerdictIn g store key r verdict = (h : Holdings) → Sees g store h →
+    IsVerdict r (near_of (duration_of key.duration) r.start (h key)) verdict
+
+-- what one record makes of the findings and of the holdings, given the stored ones near it
+abbrev pub CountsVerdict : ℕ → Key → DataRecord → List DataRecord → Holdings → Findings → Holdings →
+    Findings → Verdict → Type 0
+CountsVerdict room key r near h from t to (Clashes stored) = (t ≡ h)
+    × (to ≡ record from { clash = Some (record { start = r.start; stored = stored }) })
+CountsVerdict room key r near h from t to Known = (t ≡ h)
+    × (to ≡ record from { known = from.known + 1 })
+CountsVerdict room key r near h from t to New =
+    (from.new < room → t ≡ put key (r ∷ []) h) × (room ≤ from.new → t ≡ h)
+    × (to ≡ record from { new = from.new + 1 })
+
+-- after a clash nothing counts
+abbrev pub CountsNext : ℕ → Key → DataRecord → Holdings → Findings → Holdings → Findings → Type 0
+CountsNext room key r h from t to = MatchOption from.clash
+    ((verdict : Verdict) × IsVerdict r (near_of (duration_of key.duration) r.start (h key)) verdict
+    × CountsVerdict room key r (near_of (duration_of key.duration) r.start (h key)) h from t to
+    verdict)
+    (λ starts. to ≡ from)
+
+-- no record clashes with one of the key, and the findings count the new and the known
+pub record CountsAll (key : Key) (h : Holdings) (records : List DataRecord)
+    (findings : Findings) : Type 0
+  where
+    pub free : first_clash (duration_of key.duration) (h key) records ≡ None
+    pub new_is : findings.new ≡ new_of (h key) records
+    pub all : findings.known + findings.new ≡ length records
+
+-- the first that clashes starts here, and the earliest that it clashes with there
+pub record NamesClash (key : Key) (h : Holdings) (records : List DataRecord)
+    (starts : Starts) : Type 0 where
+  pub pair : DataRecord × DataRecord
+  pub first : first_clash (duration_of key.duration) (h key) records ≡ Some pair
+  pub start : starts.start ≡ pair.0.start
+  pub stored : starts.stored ≡ pair.1.start
+
+abbrev pub AreFindings : Key → Holdings → List DataRecord → Findings → Type 0
+AreFindings key h records findings = MatchOption findings.clash (CountsAll key h records findings)
+    (NamesClash key h records)

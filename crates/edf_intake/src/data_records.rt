@@ -1,0 +1,229 @@
+//! The data records of a fragment, one after another, inside a transaction.
+
+ghost use Rattle.std.specs.Prelude.{◌≡◌, IfOk, IfErr};
+ghost use Rattle.edf_header.specs.Header.{most_records};
+ghost use Rattle.edf_store.specs.StoreTx.{HasCauseOrIsUnclean, ReadsInside};
+ghost use Rattle.edf_fragment.specs.Call.{input_state};
+ghost use Rattle.edf_intake.specs.Inside.Transaction.{IsRunningFor, KeepsRunning};
+ghost use Rattle.edf_intake.specs.Inside.Gap.{IsGapInside};
+ghost use Rattle.edf_intake.specs.Inside.Verdict.{IsVerdict, IsRoomInside};
+ghost use Rattle.edf_intake.specs.Inside.Course.{IsFoundFor, MayBeNext, IsRecordTaken};
+ghost use Rattle.edf_intake.specs.Inside.Halt.{HaltsAfterHeader};
+ghost use Rattle.edf_intake.specs.Inside.Taken.{HasReadHeader, AreTaken};
+
+use crate::answer::{Stop, fragment_refusal};
+use crate::gap::{Gap, gap_after};
+use edf_fragment::{Input, OpenFragment, Record};
+use edf_header::Identity;
+use edf_store::{RecordingId, StoreFault, StoreTx};
+use edf_time::Instant;
+use sqlite::Alter;
+
+/// What the stored data records near a data record say of it.
+#[derive(Clone, Copy)]
+pub(crate) enum Verdict {
+    /// It clashes with the one that starts there, and with none before that.
+    Clashes { stored: Instant },
+    /// It is stored.
+    Known,
+    /// Nothing is near it.
+    New,
+}
+
+/// What the stored data records near one say of it.
+pub(crate) fn verdict_of(data_record: &Record, near: &[Record]) -> Verdict
+    ensures { IsVerdict data_record.now near.now result }
+{
+    for stored in near {
+        if !data_record.same(stored) {
+            return Verdict::Clashes {
+                stored: stored.start(),
+            };
+        }
+    }
+    if near.is_empty() {
+        Verdict::New
+    } else {
+        Verdict::Known
+    }
+}
+
+/// The starts of a data record and of a stored one with which it clashes.
+#[derive(Clone, Copy)]
+pub(crate) struct Starts {
+    pub(crate) start: Instant,
+    pub(crate) stored: Instant,
+}
+
+/// What was found of the data records of a fragment so far: how many are new and how many are
+/// known, up to the first that clashes.
+#[derive(Clone, Copy)]
+pub(crate) struct Findings {
+    pub(crate) new: u32,
+    pub(crate) known: u32,
+    pub(crate) clash: Option<Starts>,
+}
+
+/// Where the data records of a fragment go: a recording of the transaction, which has room for
+/// `room` more.
+#[derive(Clone, Copy)]
+pub(crate) struct Destination {
+    pub(crate) id: RecordingId,
+    pub(crate) room: u32,
+}
+
+/// What was found of one data record: the verdict on it, and the gap that begins where it starts,
+/// if one is known.
+#[derive(Clone, Copy)]
+struct Found {
+    verdict: Verdict,
+    gap: Option<Gap>,
+}
+
+/// How far the data records of a fragment were taken: what was found of them so far, and the gap
+/// after the last of them, if one is known.
+#[derive(Clone, Copy)]
+struct Course {
+    findings: Findings,
+    gap: Option<Gap>,
+}
+
+/// The verdict on a data record. The store is asked only where the data record does not lie in the
+/// gap: for the stored ones near it, and, where there are none, for the next start.
+fn find_verdict<S: Alter>(
+    transaction: &mut StoreTx<'_, S>,
+    id: RecordingId,
+    identity: &Identity,
+    gap: Option<Gap>,
+    data_record: &Record,
+) -> Result<Found, StoreFault>
+    requires running { IsRunningFor S.Store transaction.old id.row identity.now }
+    requires gap { IsGapInside S.Store transaction.old identity.now gap }
+    // Nothing is added, so the verdict is on what the transaction sees then, too.
+    ensures leaves { ReadsInside S.Store transaction.old transaction.new result
+        (HasCauseOrIsUnclean S.Store transaction.new) }
+    ensures found { IfOk result
+        (IsFoundFor S.Store transaction.old transaction.new identity.now data_record.now) }
+{
+    let start = data_record.start();
+    let duration = identity.duration();
+    if let Some(rest) = gap_after(gap, start, duration) {
+        return Ok(Found {
+            verdict: Verdict::New,
+            gap: Some(rest),
+        });
+    }
+    let near = transaction.near(id, start, duration)?;
+    match verdict_of(data_record, near.as_slice()) {
+        Verdict::New => {
+            let until = transaction.next_start(id, start)?;
+            Ok(Found {
+                verdict: Verdict::New,
+                gap: Some(Gap { from: start, until }),
+            })
+        }
+        verdict => Ok(Found { verdict, gap: None }),
+    }
+}
+
+/// Takes one data record more: it is added where nothing is near it and there is room.
+fn take_record<S: Alter>(
+    transaction: &mut StoreTx<'_, S>,
+    destination: Destination,
+    identity: &Identity,
+    course: Course,
+    data_record: &Record,
+) -> Result<Course, StoreFault>
+    requires running { IsRunningFor S.Store transaction.old destination.id.row identity.now }
+    // The store demands this of a data record that it adds.
+    requires next { MayBeNext S.Store transaction.old identity.now data_record.now
+        destination.room course }
+    // After a refusal the transaction can only be given up.
+    ensures leaves { KeepsRunning S.Store transaction.old transaction.new result }
+    ensures taken { IfOk result (IsRecordTaken S.Store transaction.old transaction.new
+        identity.now data_record.now destination.id.row destination.room course) }
+    ensures why { IfErr result (HasCauseOrIsUnclean S.Store transaction.new) }
+{
+    let findings = course.findings;
+    if findings.clash.is_some() {
+        return Ok(course);
+    }
+    let Destination { id, room } = destination;
+    let start = data_record.start();
+    let found = find_verdict(transaction, id, identity, course.gap, data_record)?;
+    let Found { verdict, gap } = found;
+    match verdict {
+        Verdict::Clashes { stored } => Ok(Course {
+            findings: Findings {
+                clash: Some(Starts { start, stored }),
+                ..findings
+            },
+            gap,
+        }),
+        Verdict::Known => Ok(Course {
+            findings: Findings {
+                known: findings.known + 1,
+                ..findings
+            },
+            gap,
+        }),
+        Verdict::New => {
+            if findings.new < room {
+                transaction.add(id, data_record)?;
+            }
+            Ok(Course {
+                findings: Findings {
+                    new: findings.new + 1,
+                    ..findings
+                },
+                gap,
+            })
+        }
+    }
+}
+
+/// Takes all data records of a fragment whose header was just read, up to the end of the input.
+pub(crate) fn take_records<S: Alter, R: Input>(
+    transaction: &mut StoreTx<'_, S>,
+    destination: Destination,
+    fragment: &mut OpenFragment,
+    input: &mut R,
+) -> Result<Findings, Stop>
+    requires running { IsRunningFor S.Store transaction.old destination.id.row
+        fragment.old.header.key }
+    // As many are added as there is room for, so the room must not reach past the cap.
+    requires room { IsRoomInside S.Store transaction.old fragment.old.header.key
+        (most_records fragment.old.header.count) destination.room }
+    requires header { HasReadHeader (R.remaining input.old) fragment.old.header
+        fragment.old.progress }
+    ensures leaves { KeepsRunning S.Store transaction.old transaction.new result }
+    // The identity is taken from the header after this call.
+    ensures header { fragment.new.header ≡ fragment.old.header }
+    ensures taken { IfOk result (AreTaken S.Store transaction.old transaction.new
+        fragment.old.header destination.room
+        (input_state R.Input input.old) (input_state R.Input input.new)) }
+    ensures halted { IfErr result (HaltsAfterHeader S.Store transaction.new fragment.old.header
+        (input_state R.Input input.old) (input_state R.Input input.new)) }
+{
+    let mut course = Course {
+        findings: Findings {
+            new: 0,
+            known: 0,
+            clash: None,
+        },
+        gap: None,
+    };
+    'records: loop {
+        match fragment.next(input) {
+            Ok(Some(data_record)) => {
+                let identity = fragment.header().identity();
+                match take_record(transaction, destination, identity, course, &data_record) {
+                    Ok(next) => course = next,
+                    Err(fault) => return Err(Stop::Store(fault)),
+                }
+            }
+            Ok(None) => return Ok(course.findings),
+            Err(fault) => return Err(Stop::Input(fragment_refusal(fault))),
+        }
+    }
+}
