@@ -2,6 +2,7 @@
 use Rattle.std.proofs.Common.{◌≡◌, ◌≢◌, ℕ, ◌≤◌, List, [], ◌∷◌, ◌++◌, length}
 use Rattle.std.proofs.Common.{refl, sym, ap, ◌∙◌, subst, arith}
 use Rattle.std.specs.List.{AllByRecursion, AllZip}
+use Rattle.edf_header.specs.declared.limits.TheConstants.{MOST_RECORDS}
 use Rattle.edf_header.specs.Key.{Key}
 use Rattle.edf_fragment.specs.Fragment.{DataRecord}
 use Rattle.edf_fragment.specs.Told.{Told, Fragment, Tells}
@@ -27,7 +28,7 @@ some-long [] some = absurd (some refl)
 some-long (r ∷ rs) some = omega arith
 
 -- what sound holdings hold has a file since it is sound, and is not too long for one by the cap
-only-file : (cap : ℕ) (h : Holdings) (k : Key) → IsSound cap h → cap ≤ 99_999_999 → h k ≢ []
+only-file : (cap : ℕ) (h : Holdings) (k : Key) → IsSound cap h → cap ≤ MOST_RECORDS → h k ≢ []
     → (file : List ℕ) × IsOnlyFile file k (h k)
 only-file cap h k sound low some =
     let told : IsSoundTold (Fragment k (h k)) = held-sound cap h k sound some in

@@ -4,4 +4,5 @@ pub mod Walks
 pub mod Texts
 pub mod Planned
 pub mod Again
+pub mod Calls
 pub mod Headline

@@ -1,7 +1,6 @@
 -- What is written as planned is the recording's canonical file.
 use Rattle.std.proofs.Common.{◌≡◌, ℕ, ◌+◌, ◌*◌, List, [], ◌∷◌, ◌++◌, length, ap, ◌∙◌, subst, All}
 use Rattle.std.specs.Prelude.{Option, None, Some}
-use Rattle.std.specs.List.{flat_map}
 use Rattle.std.specs.Io.KnownBytes.{Appends}
 use Rattle.std.proofs.lemmas.List.Elements.{All-cons, All-nil}
 use Rattle.edf_field.specs.Number.{duration_of}
@@ -10,10 +9,10 @@ use Rattle.edf_header.specs.Signal.{samples_in_all}
 use Rattle.edf_header.specs.Canonical.{IsCanonicalHeader}
 use Rattle.edf_fragment.specs.Fragment.{DataRecord}
 use Rattle.edf_fragment.specs.Sound.{AreSound}
-use Rattle.edf_canonical.specs.File.{second_of, record_text, IsCanonicalFile}
+use Rattle.edf_canonical.specs.File.{second_of, IsCanonicalFile}
 use Rattle.edf_export.specs.Export.{IsExported, StaysInFile, IsNotExported}
 use Rattle.edf_canonical.specs.Output.{WritesFront}
-use Rattle.edf_export.specs.Inside.Walks.{IsPlanOf, IsWritingFault}
+use Rattle.edf_export.specs.Inside.Walks.{IsPlanOf, IsWritingFault, planned_records}
 use Rattle.edf_export.specs.declared.plan.Plan.{Plan}
 use Rattle.edf_export.specs.declared.fault.ExportFault.{ExportFault}
 use Rattle.edf_export.specs.declared.fault.ExportFault.TheVariants.{NoRecording, Store, Memory}
@@ -23,8 +22,7 @@ use Rattle.edf_canonical.proofs.Written.{laid-out, file-length}
 
 -- the file of a plan, its header given
 abbrev pub planned_text : List ℕ → Plan → List DataRecord → List ℕ
-planned_text header plan records = header
-    ++ flat_map (record_text (second_of plan.first) (2 * plan.samples)) records
+planned_text header plan records = header ++ planned_records plan records
 
 sound_sizes : (k : Key) (low : ℕ) (rs : List DataRecord) → AreSound k low rs →
     All (λ r. length r.samples ≡ 2 * samples_in_all k.signals) rs
@@ -45,7 +43,7 @@ planned_file k (r ∷ rs) plan header p is =
     let counted : IsCanonicalHeader header k plan.first (length (r ∷ rs)) plan.samples =
     subst (λ n. IsCanonicalHeader header k plan.first n plan.samples) p.count is in
     let laid = laid-out k (r ∷ rs) r (second_of plan.first) plan.first plan.samples header start
-    (ap second_of start) counted p.holds p.least in
+    (ap second_of start) counted p.samples.holds p.samples.least in
     canonical (planned_text header plan (r ∷ rs)) k r rs p.recording.key p.recording.begins
     p.recording.sound p.recording.few laid
 
@@ -67,7 +65,7 @@ exported before after k records plan header len p is wrote len-is =
           ∙ ap (λ n. length header + n * (2 * samples_in_all k.signals + 2 * plan.samples)) p.count
           ∙ file-length header (second_of plan.first) (2 * plan.samples)
           (2 * samples_in_all k.signals) records (sound_sizes k 0 records p.recording.sound)
-          p.holds;
+          p.samples.holds;
     }
 
 -- a front of the file goes no further than each canonical file
@@ -83,16 +81,16 @@ pub stopped : (before after : Option (List ℕ)) (k : Key) (records : List DataR
     → IsCanonicalHeader header k plan.first plan.records plan.samples →
     WritesFront before after (planned_text header plan records) → IsWritingFault fault
     → IsNotExported before after k records fault
-stopped before after k records plan header NoRecording p is w told = absurd told
-stopped before after k records plan header (Store fault) p is w told = (
+stopped before after k records plan header NoRecording p is w met = absurd met
+stopped before after k records plan header (Store fault) p is w met = (
   stays_in before after k records (planned_text header plan records)
       (planned_file k records plan header p is) w,
-  told,
+  met,
 )
-stopped before after k records plan header Memory p is w told =
+stopped before after k records plan header Memory p is w met =
     stays_in before after k records (planned_text header plan records)
     (planned_file k records plan header p is) w
-stopped before after k records plan header Write p is w told =
+stopped before after k records plan header Write p is w met =
     record {
       file = planned_text header plan records;
       canonical =

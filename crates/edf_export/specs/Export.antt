@@ -1,19 +1,25 @@
 -- What an export does: the canonical file of what is held under a key goes out, or a front of it.
-use Rattle.std.specs.Prelude.{◌≡◌, ℕ, false, List, [], ◌∷◌, length, Option, Result, MatchResult}
+use Rattle.std.specs.Prelude.{◌≡◌, ◌≢◌, ℕ, false, List, [], ◌∷◌, length, codes, Option, None}
+use Rattle.std.specs.Prelude.{Result, Err, MatchResult}
 use Rattle.std.specs.Io.KnownBytes.{Appends, Keeps}
-use Rattle.sqlite.specs.State.{State}
+use Rattle.sqlite_trees.specs.declared.store.Store.{Ghosts}
+use Rattle.sqlite.specs.State.{State, HasCleanDisk}
 use Rattle.edf_header.specs.Key.{Key}
 use Rattle.edf_fragment.specs.Failures.{one_more}
 use Rattle.edf_fragment.specs.Fragment.{DataRecord}
-use Rattle.edf_store.specs.Fault.{number, IsStoreRefusal}
+use Rattle.edf_store.specs.Call.{IsBusy}
+use Rattle.edf_store.specs.Fault.{number, store_fault_name, IsStoreRefusal}
+use Rattle.edf_store.specs.Held.{StoreModel, at, Stays}
+use Rattle.edf_store.specs.declared.fault.StoreFault.TheVariants as store
 use Rattle.edf_canonical.specs.File.{IsCanonicalFile}
 use Rattle.edf_canonical.specs.Output.{WritesFront}
 use Rattle.edf_export.specs.declared.fault.ExportFault.{ExportFault}
 use Rattle.edf_export.specs.declared.fault.ExportFault.TheVariants.{NoRecording, Store, Memory}
 use Rattle.edf_export.specs.declared.fault.ExportFault.TheVariants.{Write}
 
--- the canonical file of the records went out, of which no other bytes are one, and this is its
--- length
+-- ---- the answer, on a disk that returns what was written
+
+-- the canonical file of the records went out, the only one that they have, and this is its length
 pub record IsExported (before after : Option (List ℕ)) (k : Key) (records : List DataRecord)
     (len : ℕ) : Type 0 where
   pub file : List ℕ
@@ -36,9 +42,9 @@ StaysInFile before after k [] = Keeps before after
 StaysInFile before after k (r ∷ rs) = (file : List ℕ) → IsCanonicalFile file k (r ∷ rs) →
     WritesFront before after file
 
--- what went out before each refusal, and of what records: there are none where that is told, and
--- some where a write failed; the store refuses since memory ran out or since `sqlite` refused, and
--- never finds its rows foreign
+-- what went out before each refusal, and of what records: there are none at `NoRecording`, and some
+-- where a write failed. The store refuses since memory ran out or `sqlite` refused, and never since
+-- its rows are foreign
 abbrev pub IsNotExported : Option (List ℕ) → Option (List ℕ) → Key → List DataRecord → ExportFault →
     Type 0
 IsNotExported before after k records NoRecording = (records ≡ []) × Keeps before after
@@ -47,7 +53,9 @@ IsNotExported before after k records (Store fault) = StaysInFile before after k 
 IsNotExported before after k records Memory = StaysInFile before after k records
 IsNotExported before after k records Write = StopsInFile before after k records
 
--- a write failed, or took none of some bytes, where that is told; none did before another refusal
+-- ---- the answer, on any disk
+
+-- a write failed, or took none of some bytes, where the fault is `Write`; none did before another
 abbrev pub CountsExportFault : ℕ → ℕ → ExportFault → Type 0
 CountsExportFault old new NoRecording = new ≡ old
 CountsExportFault old new (Store fault) = new ≡ old
@@ -56,6 +64,16 @@ CountsExportFault old new Write = new ≡ one_more old
 
 abbrev pub CountsExport : ℕ → ℕ → Result ℕ ExportFault → Type 0
 CountsExport old new result = MatchResult result (λ len. new ≡ old) (CountsExportFault old new)
+
+-- a write failed just where that is the answer, nothing went out where nothing is held, and no
+-- refusal is for the fault of an earlier call
+pub record AnswersTruly (before after : Option (List ℕ)) (failed_before failed_after : ℕ)
+    (result : Result ℕ ExportFault) : Type 0 where
+  pub counted : CountsExport failed_before failed_after result
+  pub nothing : result ≡ Err NoRecording → Keeps before after
+  pub unfailed : result ≢ Err (Store store.Failed)
+
+-- ---- the store
 
 -- after a file no transaction is open, nor after a refusal that is not the store's
 abbrev pub IsIdleAfter : State → ExportFault → Type 0
@@ -67,9 +85,31 @@ IsIdleAfter s Write = s.in_transaction ≡ false
 abbrev pub LeavesIdle : {A : Type 0} → State → Result A ExportFault → Type 0
 LeavesIdle s result = MatchResult result (λ _. s.in_transaction ≡ false) (IsIdleAfter s)
 
+module _ {S A : Type 0} (g : Ghosts S) (old new : StoreModel S) (result : Result A ExportFault)
+  where
+    -- what is held stays, and the connection is idle where the disk returned what was written
+    pub record LeavesStore : Type 0 where
+      pub stays : Stays g old new
+      pub idle : HasCleanDisk (at g new) → LeavesIdle (at g new) result
+
+    -- where the connection is found in a transaction, that is the answer, on any disk; and where
+    -- the disk returned what was written, it is the answer there alone
+    pub record AnswersBusy : Type 0 where
+      pub busy : IsBusy g old → result ≡ Err (Store (store.Store None))
+      pub caused : HasCleanDisk (at g new) → result ≡ Err (Store (store.Store None)) → IsBusy g old
+
+-- ---- faults
+
 -- the number of a fault, by which the program names it
 abbrev pub export_fault_number : ExportFault → ℕ
 export_fault_number NoRecording = 44
 export_fault_number (Store fault) = number fault
 export_fault_number Memory = 41
 export_fault_number Write = 43
+
+-- its name; a refusal of the store has a name of its own
+abbrev pub export_fault_name : ExportFault → List ℕ
+export_fault_name NoRecording = codes "NoRecording"
+export_fault_name (Store fault) = store_fault_name fault
+export_fault_name Memory = codes "Memory"
+export_fault_name Write = codes "Write"

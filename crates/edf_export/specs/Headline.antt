@@ -1,6 +1,7 @@
 -- The headline: what any list of submissions leaves, and which lists leave the same files.
 use Rattle.std.specs.Prelude.{◌≡◌, ◌≢◌, ◌⊎◌, ◌↔◌, ℕ, ◌≤◌, List, [], ◌∷◌, ◌++◌, All, Contains}
 use Rattle.std.specs.List.{AllByRecursion, AllZip}
+use Rattle.edf_header.specs.declared.limits.TheConstants.{MOST_RECORDS}
 use Rattle.edf_header.specs.Key.{Key}
 use Rattle.edf_fragment.specs.Fragment.{DataRecord}
 use Rattle.edf_fragment.specs.Told.{Told, Tells}
@@ -36,7 +37,7 @@ module _ (cap : ℕ) (h : Holdings) where
   pub record Headline (tolds : List Told) : Type 0 where
     -- each key that holds something after the list has exactly one canonical file, under every cap
     -- that a store may have
-    pub one_file : cap ≤ 99_999_999 → (k : Key) → after cap h tolds k ≢ [] →
+    pub one_file : cap ≤ MOST_RECORDS → (k : Key) → after cap h tolds k ≢ [] →
         (file : List ℕ) × IsOnlyFile file k (after cap h tolds k)
     -- its records are those that h held and those of the accepted members, each once, rising
     pub its_records : (k : Key) → AreGathered tolds k (after cap h tolds k)

@@ -23,7 +23,7 @@ pub enum ExportFault {
 
 impl ExportFault {
     ghost use Rattle.std.specs.Prelude.{◌≡◌};
-    ghost use Rattle.edf_export.specs.Export.{export_fault_number};
+    ghost use Rattle.edf_export.specs.Export.{export_fault_number, export_fault_name};
 
     /// The refusal's number.
     pub fn number(&self) -> u8
@@ -34,6 +34,18 @@ impl ExportFault {
             ExportFault::Store(fault) => fault.number(),
             ExportFault::Memory => 41,
             ExportFault::Write => 43,
+        }
+    }
+
+    /// Its name: that of the variant, or of the store's fault.
+    pub fn name(&self) -> &'static str
+        ensures { result.now ≡ export_fault_name self.now }
+    {
+        match self {
+            ExportFault::NoRecording => "NoRecording",
+            ExportFault::Store(fault) => fault.name(),
+            ExportFault::Memory => "Memory",
+            ExportFault::Write => "Write",
         }
     }
 }

@@ -9,6 +9,7 @@
 mod fault;
 pub mod laws;
 mod plan;
+mod planning;
 mod recording;
 mod writing;
 

@@ -1,22 +1,22 @@
 //! One recording out of the store, as its canonical file.
 
-ghost use Rattle.std.specs.Prelude.{◌≡◌, ◌≢◌, None, Err, IsTrue, IfOk, IfErr};
-ghost use Rattle.std.specs.Io.KnownBytes.{Keeps};
+ghost use Rattle.std.specs.Prelude.{MatchResult};
 ghost use Rattle.sqlite.specs.State.{HasCleanDisk};
 ghost use Rattle.edf_holdings.specs.Holdings.{Holdings};
-ghost use Rattle.edf_store.specs.Held.{at, Holds, Stays};
-ghost use Rattle.edf_export.specs.Export.{IsExported, IsNotExported, CountsExport, LeavesIdle};
+ghost use Rattle.edf_store.specs.Held.{at, Holds};
+ghost use Rattle.edf_export.specs.Export.{IsExported, IsNotExported, LeavesStore, AnswersTruly};
+ghost use Rattle.edf_export.specs.Export.{AnswersBusy};
 
 use crate::fault::ExportFault;
-use crate::plan::plan_file;
+use crate::planning::plan_file;
 use crate::writing::write_planned;
 use edf_fragment::Output;
 use edf_header::Identity;
-use edf_store::{Store, StoreFault};
+use edf_store::Store;
 use sqlite::Alter;
 use std::alloc::Global;
 
-/// Writes the canonical EDF+D file of what is held under an identity, and tells its length in
+/// Writes the canonical EDF+D file of what is held under an identity, and answers its length in
 /// bytes.
 ///
 /// The data records are in it by rising starts, with onsets that count from the second in which the
@@ -35,23 +35,17 @@ pub fn export<S: Alter, W: Output>(
     identity: &Identity,
     out: &mut W,
 ) -> Result<u64, ExportFault>
-    ensures stays { Stays S.Store store.old store.new }
-    ensures exported { HasCleanDisk (at S.Store store.new) →
-        IfOk result (λ len. (h : Holdings) → Holds S.Store store.old h →
-        IsExported (W.contents out.old) (W.contents out.new) identity.now (h identity.now) len) }
-    ensures refused { HasCleanDisk (at S.Store store.new) →
-        IfErr result (λ fault. (h : Holdings) → Holds S.Store store.old h → IsNotExported
-        (W.contents out.old) (W.contents out.new) identity.now (h identity.now) fault) }
-    ensures nothing { result ≡ Err ExportFault.NoRecording →
-        Keeps (W.contents out.old) (W.contents out.new) }
-    ensures counted { CountsExport (W.failures out.old) (W.failures out.new) result }
-    ensures unfailed { result ≢ Err (ExportFault.Store StoreFault.Failed) }
-    ensures busy { IsTrue (at S.Store store.old).in_transaction →
-        result ≡ Err (ExportFault.Store (StoreFault.Store None)) }
-    ensures caused { HasCleanDisk (at S.Store store.new) →
-        result ≡ Err (ExportFault.Store (StoreFault.Store None)) →
-        IsTrue (at S.Store store.old).in_transaction }
-    ensures idle { HasCleanDisk (at S.Store store.new) → LeavesIdle (at S.Store store.new) result }
+    ensures leaves { LeavesStore S.Store store.old store.new result }
+    // what is in the file, or a front of it: known where the disk returned what was written
+    ensures answered { HasCleanDisk (at S.Store store.new) → (h : Holdings) →
+        Holds S.Store store.old h →
+        MatchResult result
+        (IsExported (W.contents out.old) (W.contents out.new) identity.now (h identity.now))
+        (IsNotExported (W.contents out.old) (W.contents out.new) identity.now (h identity.now)) }
+    // what an answer says on any disk
+    ensures truly { AnswersTruly (W.contents out.old) (W.contents out.new)
+        (W.failures out.old) (W.failures out.new) result }
+    ensures busy { AnswersBusy S.Store store.old store.new result }
 {
     let Some(plan) = plan_file(store, identity)? else {
         return Err(ExportFault::NoRecording);

@@ -9,8 +9,7 @@ use Rattle.std.proofs.lemmas.Grind.{flat_map-append}
 use Rattle.std.proofs.lemmas.List.Elements.{All-nil, All-cons, All-push, All-weaker, All-contains}
 use Rattle.std.proofs.lemmas.List.Elements.{All-contains_itself, Contains-append_left}
 use Rattle.std.proofs.lemmas.List.Elements.{Contains-push}
-use Rattle.edf_tal.specs.Tal.{Annotation}
-use Rattle.edf_tal.specs.Canonical.{block_text}
+use Rattle.edf_header.specs.declared.limits.TheConstants.{MOST_RECORDS}
 use Rattle.edf_fragment.specs.Fragment.{DataRecord}
 use Rattle.edf_canonical.specs.File.{second_of, block_of, BlocksFit}
 use Rattle.edf_runs.specs.Runs.{StartFrom, IsTouching, AreParted, IsRuns, IsListed, AreListed}
@@ -169,8 +168,8 @@ listed_one d run r first last count samples =
     }
 
 pub listed_more : (d : ℕ) (records : List DataRecord) (run new : Run) (r : DataRecord) →
-    IsListed d records run → r.start ≡ run.last + d → length records < 99_999_999
-    → new.first ≡ run.first → new.last ≡ r.start → new.records ≡ min (run.records + 1) 99_999_999
+    IsListed d records run → r.start ≡ run.last + d → length records < MOST_RECORDS
+    → new.first ≡ run.first → new.last ≡ r.start → new.records ≡ min (run.records + 1) MOST_RECORDS
     → new.block_samples ≡ max run.block_samples
     ((length (block_of (second_of run.first) r) + 1) / 2) → IsListed d (records ++ r ∷ []) new
 listed_more d records run new r is next few first last count samples =
@@ -312,15 +311,6 @@ last_few d records before run are =
     let runs : IsRuns d records (l.front ++ l.last ∷ []) =
     subst (IsRuns d records) l.parts are.are_runs in
     omega (arith, l.listed.count, few_in d records l.front l.last runs)
-
--- the length of a record's block, by its parts
-pub block_length : (base start from : ℕ) (notes : List Annotation) (r : DataRecord) → base ≡ from →
-    start ≡ r.start → notes ≡ r.annotations
-    → length (block_text base start notes) ≡ length (block_of from r)
-block_length base start from notes r base-is start-is notes-is =
-    ap (λ n. length (block_text n start notes)) base-is
-    ∙ ap (λ n. length (block_text from n notes)) start-is
-    ∙ ap (λ (l : List Annotation). length (block_text from r.start l)) notes-is
 
 -- before the first
 pub nothing_listed : (d : ℕ) → AreListed d [] []

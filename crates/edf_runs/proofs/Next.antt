@@ -13,10 +13,10 @@ use Rattle.edf_tal.proofs.Cited.{blocks-one-read, blocks-read-no-fault}
 use Rattle.edf_fragment.specs.Fragment.{DataRecord, IsDataRecord, AreDataRecords, place_after}
 use Rattle.edf_fragment.specs.Fragment.{blocks}
 use Rattle.edf_fragment.specs.Reading.{IsAnswer, AnswersIn, IsNext, GivesRecord, EndsThere}
-use Rattle.edf_fragment.specs.Reading.{EndsInRecord, RefusesBlock}
+use Rattle.edf_fragment.specs.Stops.{EndsInRecord, RefusesBlock}
 use Rattle.edf_fragment.specs.declared.advance.Progress.{Progress}
-use Rattle.edf_fragment.specs.declared.advance.Status.{Status}
-use Rattle.edf_fragment.specs.declared.advance.Status.TheVariants.{Reading}
+use Rattle.edf_fragment.specs.declared.advance.ReaderState.{ReaderState}
+use Rattle.edf_fragment.specs.declared.advance.ReaderState.TheVariants.{Reading}
 use Rattle.edf_fragment.specs.declared.fault.FragmentFault.{FragmentFault}
 use Rattle.edf_fragment.specs.declared.fault.FragmentFault.TheVariants.{Header as BadHeader}
 use Rattle.edf_fragment.specs.declared.fault.FragmentFault.TheVariants.{CutRecord, Tal, Trailing}
@@ -26,8 +26,7 @@ use Rattle.edf_fragment.proofs.Fronts.{same_front}
 use Rattle.edf_fragment.proofs.Layouts.{record-some}
 use Rattle.edf_canonical.specs.Output.{Buffered}
 use Rattle.edf_runs.specs.Runs.{StartFrom}
-use Rattle.edf_runs.specs.Again.{fault_again, IsFaultBy, StopsAt}
-use Rattle.edf_runs.specs.Written.{ComesNext}
+use Rattle.edf_runs.specs.Again.{fault_again, IsFaultBy, StopsAt, ComesNext}
 use Rattle.edf_canonical.specs.File.{second_of, block_of, BlocksFit}
 use Rattle.edf_runs.specs.Inside.Steps.{StepsOn, HasOthers, ReadSoFar, PutSoFar}
 use Rattle.edf_runs.specs.declared.run.Run.{Run}
@@ -142,12 +141,12 @@ no_refusal l from left rest all x xs last after nth fault is (
 -- ---- of a run that comes next
 
 reading : (l : Layout) (from to : Progress) (left rest : Option (List ℕ))
-    (answer : Result (Option DataRecord) FragmentFault) → from.status ≡ Reading →
+    (answer : Result (Option DataRecord) FragmentFault) → from.state ≡ Reading →
     IsAnswer l from to left rest answer
     → IsNext l from left rest answer
 reading l from to left rest answer going is =
     let a : AnswersIn Reading l from to left rest answer =
-    subst (λ (s : Status). AnswersIn s l from to left rest answer) going is in
+    subst (λ (s : ReaderState). AnswersIn s l from to left rest answer) going is in
     a.1
 
 pub has_all : (l : Layout) (from : Progress) (left : Option (List ℕ)) (run : Run)
@@ -188,7 +187,7 @@ more_with l from to left rest all records (x ∷ xs) bytes last after instant r 
     let place : to.place ≡ place_after l r.start = ap (λ (z : Progress). z.place) step.progress in
     let given : to.given ≡ from.given + 1 = ap (λ (z : Progress). z.given) step.progress in
     record {
-      going = ap (λ (z : Progress). z.status) step.progress;
+      going = ap (λ (z : Progress). z.state) step.progress;
       others = xs;
       parts = parts ∙ ap (λ (z : DataRecord). records ++ z ∷ xs) f.same
           ∙ sym (append_assoc records (r ∷ []) xs);
@@ -258,7 +257,7 @@ stop_with : (l : Layout) (from to : Progress) (left rest : Option (List ℕ)) (d
     (instant : ℕ)
     → IsLayout l → others ≢ [] → all ≡ records ++ others → left ≡ Some bytes →
     AreDataRecords l from.place bytes others last after
-    → from.given + length others ≤ most_records l.count → from.status ≡ Reading →
+    → from.given + length others ≤ most_records l.count → from.state ≡ Reading →
     StartFrom d at all → instant ≡ at + length records * d →
     ¬ StopsAt l from to left rest instant Changed
 stop_with l from to left rest d at all records [] bytes last after instant layout some parts known

@@ -13,6 +13,7 @@ use Rattle.edf_header.specs.Fields.{startdate_field, starttime_field, reserved_f
 use Rattle.edf_header.specs.Header.{HeaderRecord, FixedPart, IsFixedHeader, IsHeader, IsCount}
 use Rattle.edf_header.specs.Key.{Key, IsKey}
 use Rattle.edf_header.proofs.SpelledTexts.{printable-by}
+use Rattle.edf_header.specs.declared.limits.TheConstants.{MOST_RECORDS}
 use Rattle.edf_fragment.specs.Fragment.{DataRecord, Spells}
 use Rattle.edf_fragment.specs.Sound.{AreSound, MayBegin}
 use Rattle.edf_canonical.proofs.Files.{one-file, its-own}
@@ -35,7 +36,7 @@ front-field front x y at n within = one x ∙ sym (one y)
 -- bytes after others
 back-field : (a b back : List ℕ) (before at n : ℕ) → length a ≡ before → length b ≡ before →
     before ≤ at → field (a ++ back) at n ≡ field (b ++ back) at n
-back-field a b back before at n a-len b-len behind = ap (take n) (one a a-len ∙ sym (one b b-len))
+back-field a b back before at n a-len b-len low = ap (take n) (one a a-len ∙ sym (one b b-len))
   where
     one : (z : List ℕ) → length z ≡ before → drop at (z ++ back) ≡ drop (at - before) back
     one z len =
@@ -80,11 +81,11 @@ module _ (bytes : List ℕ) (long : 197 ≤ length bytes) where
       ∙ ap (λ (l : List ℕ). field l at n) (sym parts)
 
   late : (at n : ℕ) → 197 ≤ at → field (marked_continuous bytes) at n ≡ field bytes at n
-  late at n behind =
+  late at n low =
       back-field (before_mark bytes ++ codes "EDF+C") (before_mark bytes
       ++ old) (after_mark bytes) 197 at n
       (omega (arith, before-len, length-append (before_mark bytes) (codes "EDF+C")))
-      (omega (arith, before-len, old-len, length-append (before_mark bytes) old)) behind
+      (omega (arith, before-len, old-len, length-append (before_mark bytes) old)) low
       ∙ ap (λ (l : List ℕ). field l at n) (append_assoc (before_mark bytes) old (after_mark bytes)
       ∙ sym parts)
 
@@ -186,7 +187,7 @@ long-header bytes h rest is = omega (
 -- ---- the laws
 
 pub some-run-file : (k : Key) (run : List DataRecord) → IsKey k → AreSound k 0 run →
-    MayBegin k run → 1 ≤ length run → length run ≤ 99_999_999
+    MayBegin k run → 1 ≤ length run → length run ≤ MOST_RECORDS
     → IsTouching (duration_of k.duration) run → (file : List ℕ) × IsRunFile file k run
 some-run-file k run key sound begins some few touching =
     let file = some-file k run key sound begins some few in (

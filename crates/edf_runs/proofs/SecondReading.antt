@@ -10,8 +10,8 @@ use Rattle.edf_fragment.specs.Fragment.{DataRecord, AreDataRecords, place_after}
 use Rattle.edf_fragment.specs.Sound.{IsSoundRecord}
 use Rattle.edf_fragment.specs.Reading.{IsAnswer, AnswersIn, GivesRecord, progress_after}
 use Rattle.edf_fragment.specs.declared.advance.Progress.{Progress}
-use Rattle.edf_fragment.specs.declared.advance.Status.{Status}
-use Rattle.edf_fragment.specs.declared.advance.Status.TheVariants.{Reading, Ended, Stopped}
+use Rattle.edf_fragment.specs.declared.advance.ReaderState.{ReaderState}
+use Rattle.edf_fragment.specs.declared.advance.ReaderState.TheVariants.{Reading, Ended, Stopped}
 use Rattle.edf_fragment.specs.declared.fault.FragmentFault.{FragmentFault}
 use Rattle.edf_fragment.proofs.Runs.{AreDataRecords-snoc}
 use Rattle.edf_runs.specs.Read.{ReadsOn}
@@ -24,7 +24,7 @@ use Rattle.edf_runs.proofs.Next.{has_all, has_more}
 
 -- ---- one data record
 
-answered : (s : Status) (l : Layout) (from to : Progress) (left rest : Option (List ℕ))
+answered : (s : ReaderState) (l : Layout) (from to : Progress) (left rest : Option (List ℕ))
     (r : DataRecord) → AnswersIn s l from to left rest (Ok (Some r))
     → (s ≡ Reading) × (to ≡ progress_after l from (Ok (Some r))) × GivesRecord l from left rest r
 answered Reading l from to left rest r is = (refl, is.0, is.1)
@@ -39,7 +39,7 @@ pub steps_on : (l : Layout) (from to : Progress) (left rest : Option (List ℕ))
     (r : DataRecord) → IsAnswer l from to left rest (Ok (Some r)) → IsSoundRecord l.key r
     → r.start ≡ instant → StepsOn l from to left rest instant r
 steps_on l from to left rest instant r is sound start =
-    let a = answered from.status l from to left rest r is in
+    let a = answered from.state l from to left rest r is in
     record {
       going = a.0;
       is_answer = is;
@@ -66,7 +66,7 @@ none_read l from left few =
           (refl, refl);
       given = omega arith;
       within = few;
-      status = refl;
+      state = refl;
     }
 
 one_more : (l : Layout) (from mid to : Progress) (left middle rest : Option (List ℕ))
@@ -76,18 +76,18 @@ one_more l from mid to left middle rest rs instant r before step =
     let gives = step.gives in
     let place : to.place ≡ place_after l r.start = ap (λ (x : Progress). x.place) step.progress in
     let given : to.given ≡ mid.given + 1 = ap (λ (x : Progress). x.given) step.progress in
-    let status = ap (λ (x : Progress). x.status) step.progress in
+    let state = ap (λ (x : Progress). x.state) step.progress in
     let more = AreDataRecords-snoc l from.place mid.place before.bytes gives.bytes rs r
     before.are_records gives.is_record in
     record {
-      going = λ some. sym before.status ∙ step.going;
+      going = λ some. sym before.state ∙ step.going;
       bytes = before.bytes ++ gives.bytes;
       read = Consumes-trans left middle rest before.bytes gives.bytes before.read gives.read;
       are_records = subst (λ (x : Place). AreDataRecords l from.place (before.bytes
           ++ gives.bytes) (rs ++ r ∷ []) x []) (sym place) more;
       given = omega (arith, before.given, given, length-append rs (r ∷ []));
       within = omega (arith, gives.may_come, given);
-      status = status ∙ sym step.going ∙ before.status;
+      state = state ∙ sym step.going ∙ before.state;
     }
 
 pub none_so_far : (l : Layout) (from : Progress) (left : Option (List ℕ)) (run : Run) (next : ℕ) →

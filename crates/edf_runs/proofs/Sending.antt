@@ -1,7 +1,8 @@
 -- A run's file, put out data record by data record.
-use Rattle.std.proofs.Common.{◌≡◌, ℕ, inl, inr, ◌+◌, ◌*◌, ◌/◌, ◌≤◌, ◌<◌, max, List, [], ◌∷◌, ◌++◌}
+use Rattle.std.proofs.Common.{◌≡◌, ◌≢◌, ℕ, inl, inr, ◌+◌, ◌*◌, ◌/◌, ◌≤◌, ◌<◌, max, List, [], ◌∷◌}
+use Rattle.std.proofs.Common.{◌++◌}
 use Rattle.std.proofs.Common.{length, refl, sym, ap, ◌∙◌, subst, arith, append_assoc, append-nil}
-use Rattle.std.proofs.Common.{All, Option}
+use Rattle.std.proofs.Common.{All, Option, Result, Err}
 use Rattle.std.specs.List.{AllByRecursion}
 use Rattle.std.proofs.KnownBytes.{Keeps-refl}
 use Rattle.std.proofs.lemmas.Grind.{flat_map-append}
@@ -13,9 +14,11 @@ use Rattle.edf_header.specs.Signal.{samples_in_all}
 use Rattle.edf_header.specs.Canonical.{IsCanonicalHeader}
 use Rattle.edf_header.specs.Header.{Layout, most_records}
 use Rattle.edf_header.proofs.Cited.{canonical-header-reads}
+use Rattle.edf_header.specs.declared.limits.TheConstants.{MOST_RECORDS, MOST_SIGNALS}
 use Rattle.edf_fragment.specs.Fragment.{DataRecord}
 use Rattle.edf_fragment.specs.Sound.{IsSoundRecord, AreSound}
 use Rattle.edf_fragment.specs.declared.advance.Progress.{Progress}
+use Rattle.edf_fragment.specs.declared.open_fragment.OpenFragment.{OpenFragment}
 use Rattle.edf_canonical.specs.File.{second_of, block_of, record_text, BlocksFit, IsLaidOut}
 use Rattle.edf_canonical.specs.Output.{Buffered, Writes, WritesFront, CountsOutputFault}
 use Rattle.edf_canonical.specs.declared.fault.OutputFault.{OutputFault}
@@ -26,7 +29,8 @@ use Rattle.edf_canonical.proofs.Files.{canonical}
 use Rattle.edf_canonical.proofs.Written.{laid-out, file-length}
 use Rattle.edf_runs.specs.Runs.{StartFrom, IsListed}
 use Rattle.edf_runs.specs.File.{marked_continuous, IsRunFile}
-use Rattle.edf_runs.specs.Written.{CountsReadFault, CountsWriteFault, run_text, IsRunHeader}
+use Rattle.edf_runs.specs.Again.{CountsRereadFault, RereadsRun}
+use Rattle.edf_runs.specs.Written.{CountsFault, run_text, IsRunHeader}
 use Rattle.edf_runs.specs.Written.{ReadsOneMoreAtMost, IsRunWritten, StopsInRun, IsNotWritten}
 use Rattle.edf_runs.specs.Inside.Steps.{ArePut, fault_out, PutSoFar, StepsOn, StopsPutting}
 use Rattle.edf_runs.specs.Inside.Steps.{IsPutAll, IsSent, StopsSending}
@@ -36,49 +40,54 @@ use Rattle.edf_runs.specs.declared.fault.WriteFault.TheVariants.{Undated, Change
 use Rattle.edf_runs.specs.declared.fault.WriteFault.TheVariants.{Write}
 use Rattle.edf_runs.proofs.Growing.{touching_from, samples_hold, samples_least, all_front, all_last}
 use Rattle.edf_runs.proofs.Growing.{last_end}
+use Rattle.edf_runs.proofs.Next.{handed_on}
 use Rattle.edf_runs.proofs.SecondReading.{more_so_far, none_read}
 use Rattle.edf_runs.proofs.RunFiles.{marked-front, marked-len, one-run-file}
 
--- ---- counts
+-- ---- what is counted, and what no call tells
 
-pub counts_read : (old new : ℕ) (fault : WriteFault) → (fault ≡ Read → ⊥) → new ≡ old →
-    CountsReadFault old new fault
-counts_read old new Undated other same = same
-counts_read old new Changed other same = same
-counts_read old new Read other same = absurd (other refl)
-counts_read old new Memory other same = same
-counts_read old new Write other same = same
+-- a fault of the second reading, before which no write failed
+pub reread_counts : (old new writes : ℕ) (fault : WriteFault) → CountsRereadFault old new fault →
+    CountsFault old new writes writes fault × (fault ≢ Undated)
+reread_counts old new writes Undated counts = absurd counts
+reread_counts old new writes Changed counts =
+    ((counts, refl), λ same. let e : ◌≡◌ {A = WriteFault} Changed Undated = same in cc)
+reread_counts old new writes Read counts =
+    ((counts, refl), λ same. let e : ◌≡◌ {A = WriteFault} Read Undated = same in cc)
+reread_counts old new writes Memory counts =
+    ((counts, refl), λ same. let e : ◌≡◌ {A = WriteFault} Memory Undated = same in cc)
+reread_counts old new writes Write counts = absurd counts
 
-pub counts_write : (old new : ℕ) (fault : WriteFault) → (fault ≡ Write → ⊥) → new ≡ old →
-    CountsWriteFault old new fault
-counts_write old new Undated other same = same
-counts_write old new Changed other same = same
-counts_write old new Read other same = same
-counts_write old new Memory other same = same
-counts_write old new Write other same = absurd (other refl)
+-- a fault of the output, before which no read failed
+pub out_counts : (reads old new : ℕ) (fault : OutputFault) → CountsOutputFault old new fault →
+    CountsFault reads reads old new (fault_out fault) × (fault_out fault ≢ Undated)
+out_counts reads old new FailedWrite counts =
+    ((refl, counts), λ same. let e : ◌≡◌ {A = WriteFault} Write Undated = same in cc)
+out_counts reads old new NoRoom counts =
+    ((refl, counts), λ same. let e : ◌≡◌ {A = WriteFault} Memory Undated = same in cc)
 
-pub counts_out : (old new : ℕ) (fault : OutputFault) → CountsOutputFault old new fault →
-    CountsWriteFault old new (fault_out fault)
-counts_out old new FailedWrite counts = counts
-counts_out old new NoRoom counts = counts
+out_same : (fault : OutputFault) → fault_out fault ≢ Changed
+out_same FailedWrite same = let e : ◌≡◌ {A = WriteFault} Write Changed = same in cc
+out_same NoRoom same = let e : ◌≡◌ {A = WriteFault} Memory Changed = same in cc
 
-pub out_unread : (fault : OutputFault) → fault_out fault ≡ Read → ⊥
-out_unread FailedWrite same = let e : ◌≡◌ {A = WriteFault} Write Read = same in cc
-out_unread NoRoom same = let e : ◌≡◌ {A = WriteFault} Memory Read = same in cc
+module _ {A : Type 0} (old new : OpenFragment) (left : Option (List ℕ)) (run : Run)
+    (result : Result A WriteFault) (told : WriteFault) (is : result ≡ Err told) where
+  -- a fault of the output is no change
+  pub reread_out : (fault : OutputFault) → told ≡ fault_out fault → new.header ≡ old.header →
+      RereadsRun old new left run result
+  reread_out fault by header = record {
+    header = header;
+    unchanged = λ n same. out_same fault (handed_on result told (fault_out fault) is by same);
+  }
 
-pub out_dated : (fault : OutputFault) → fault_out fault ≡ Undated → ⊥
-out_dated FailedWrite same = let e : ◌≡◌ {A = WriteFault} Write Undated = same in cc
-out_dated NoRoom same = let e : ◌≡◌ {A = WriteFault} Memory Undated = same in cc
-
-pub counts_read_then : (old mid new : ℕ) (fault : WriteFault) → mid ≡ old →
-    CountsReadFault mid new fault → CountsReadFault old new fault
-counts_read_then old mid new fault same counts =
-    subst (λ n. CountsReadFault n new fault) same counts
-
-pub counts_write_then : (old mid new : ℕ) (fault : WriteFault) → mid ≡ old →
-    CountsWriteFault mid new fault → CountsWriteFault old new fault
-counts_write_then old mid new fault same counts =
-    subst (λ n. CountsWriteFault n new fault) same counts
+  -- a fault that is handed on
+  pub reread_handed_on : {B : Type 0} (fault : WriteFault) → told ≡ fault →
+      RereadsRun {A = B} old new left run (Err fault) → RereadsRun old new left run result
+  reread_handed_on fault by inner = record {
+    header = inner.header;
+    unchanged = λ n same. inner.unchanged n (ap (λ (x : WriteFault). Err x)
+        (handed_on result told fault is by same));
+  }
 
 -- ---- the text of the data records
 
@@ -272,7 +281,7 @@ header_long header k run key begins is = omega (arith, header_len header k run k
 
 pub marked_short : (header : List ℕ) (k : Key) (run : Run) → IsKey k → MayStart k run.first →
     IsCanonicalHeader header k run.first run.records run.block_samples
-    → length (marked_continuous header) ≤ 164_096
+    → length (marked_continuous header) ≤ 256 * (MOST_SIGNALS + 1)
 marked_short header k run key begins is =
     omega (
       arith,
@@ -320,7 +329,7 @@ run_file k [] run header key begins sound is is-header =
     absurd (omega (arith, is.count, run.records_some))
 run_file k (r ∷ rs) run header key begins sound is (plain, is-plain, marked) =
     let d = duration_of k.duration in
-    let few : length (r ∷ rs) ≤ 99_999_999 = omega (arith, is.count, run.records_few) in
+    let few : length (r ∷ rs) ≤ MOST_RECORDS = omega (arith, is.count, run.records_few) in
     let starts : MayStart k r.start = subst (MayStart k) (sym is.starts.0) begins in
     let file = canonical (sent_text plain run (r ∷ rs)) k r rs key starts
     (sound_from k 0 run.first (r ∷ rs) sound is.starts (omega arith)) few

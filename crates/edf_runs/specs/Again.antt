@@ -1,24 +1,31 @@
 -- What a second reading finds of a file whose runs were listed.
-use Rattle.std.specs.Prelude.{◌≡◌, ℕ, ◌+◌, ◌*◌, ◌<◌, ◌⊎◌, List, length, Option, Some, None, Result}
-use Rattle.std.specs.Prelude.{Ok, Err}
+use Rattle.std.specs.Prelude.{◌≡◌, ◌≢◌, ℕ, ◌+◌, ◌*◌, ◌<◌, ◌≤◌, ◌⊎◌, List, length, Option, Some}
+use Rattle.std.specs.Prelude.{None}
+use Rattle.std.specs.Prelude.{Result, Ok, Err, MatchResult}
 use Rattle.edf_field.specs.Number.{duration_of}
 use Rattle.edf_header.specs.Key.{Key}
-use Rattle.edf_header.specs.Header.{Layout}
+use Rattle.edf_header.specs.Header.{Layout, most_records}
 use Rattle.edf_header.specs.declared.fault.HeaderFault.{HeaderFault}
-use Rattle.edf_fragment.specs.Fragment.{DataRecord}
+use Rattle.edf_tal.specs.declared.place.Place.{Place}
+use Rattle.edf_fragment.specs.Failures.{one_more}
+use Rattle.edf_fragment.specs.Fragment.{DataRecord, AreDataRecords}
 use Rattle.edf_fragment.specs.Reading.{ReadsHeader, IsOpenFault, IsAnswer}
 use Rattle.edf_fragment.specs.declared.advance.Progress.{Progress}
+use Rattle.edf_fragment.specs.declared.advance.ReaderState.TheVariants.{Reading}
 use Rattle.edf_fragment.specs.declared.fault.FragmentFault.{FragmentFault}
 use Rattle.edf_fragment.specs.declared.fault.FragmentFault.TheVariants.{Header as BadHeader}
 use Rattle.edf_fragment.specs.declared.fault.FragmentFault.TheVariants.{Read as FailedRead}
 use Rattle.edf_fragment.specs.declared.fault.FragmentFault.TheVariants.{Memory as NoMemory}
-use Rattle.edf_runs.specs.Runs.{StartFrom}
+use Rattle.edf_fragment.specs.declared.open_fragment.OpenFragment.{OpenFragment}
+use Rattle.edf_runs.specs.Runs.{StartFrom, IsListed}
 use Rattle.edf_runs.specs.Read.{ReadsOn}
 use Rattle.edf_runs.specs.declared.run.Run.{Run}
 use Rattle.edf_runs.specs.declared.fault.WriteFault.{WriteFault}
-use Rattle.edf_runs.specs.declared.fault.WriteFault.TheVariants.{Changed, Read, Memory}
+use Rattle.edf_runs.specs.declared.fault.WriteFault.TheVariants.{Undated, Changed, Read, Memory}
+use Rattle.edf_runs.specs.declared.fault.WriteFault.TheVariants.{Write}
 
--- a fault of the second reading: what was listed had no fault of form
+-- why a second reading stops, by the fault that it met: the file had no fault of form when its runs
+-- were listed, so one of form means that it changed
 abbrev pub fault_again : FragmentFault → WriteFault
 fault_again FailedRead = Read
 fault_again NoMemory = Memory
@@ -43,8 +50,7 @@ IsFaultBy instant (Ok (Some r)) fault = (fault ≡ Changed) × (¬ (r.start ≡ 
 IsFaultBy instant (Ok None) fault = fault ≡ Changed
 IsFaultBy instant (Err refused) fault = fault ≡ fault_again refused
 
--- one more call for a data record was made, which was to start at this instant, and this is the
--- fault
+-- one more data record was asked for, which was to start at this instant, and this is the fault
 pub record StopsAt (l : Layout) (from to : Progress) (left rest : Option (List ℕ)) (instant : ℕ)
     (fault : WriteFault) : Type 0 where
   pub answer : Result (Option DataRecord) FragmentFault
@@ -63,7 +69,7 @@ pub record PassesRun (l : Layout) (from to : Progress) (left rest : Option (List
   pub starts : StartFrom (duration_of l.key.duration) run.first records
   pub count : length records ≡ run.records
 
--- fewer were read, and then the next one was not such a one
+-- fewer were read, and the next was refused
 pub record StopsBefore (l : Layout) (from to : Progress) (left rest : Option (List ℕ)) (run : Run)
     (fault : WriteFault) : Type 0 where
   pub records : List DataRecord
@@ -73,3 +79,34 @@ pub record StopsBefore (l : Layout) (from to : Progress) (left rest : Option (Li
   pub starts : StartFrom (duration_of l.key.duration) run.first records
   pub fewer : length records < run.records
   pub stop : StopsAt l mid to middle rest (next_start l run records) fault
+
+-- the run comes next: the input has such data records, whose number the header allows
+pub record ComesNext (l : Layout) (from : Progress) (left : Option (List ℕ)) (run : Run) : Type 0
+  where
+    pub going : from.state ≡ Reading
+    pub bytes : List ℕ
+    pub known : left ≡ Some bytes
+    pub records : List DataRecord
+    pub last : Place
+    pub rest : List ℕ
+    pub are_records : AreDataRecords l from.place bytes records last rest
+    pub within : from.given + length records ≤ most_records l.count
+    pub listed : IsListed (duration_of l.key.duration) records run
+
+-- a call that reads the run again leaves the header, and finds no change where the run comes next
+pub record RereadsRun {A : Type 0} (old new : OpenFragment) (left : Option (List ℕ)) (run : Run)
+    (result : Result A WriteFault) : Type 0 where
+  pub header : new.header ≡ old.header
+  pub unchanged : ComesNext old.header old.progress left run → result ≢ Err Changed
+
+-- a second reading stops for what it reads or for want of memory; a read failed where the fault is
+-- `Read`, and none did before another
+abbrev pub CountsRereadFault : ℕ → ℕ → WriteFault → Type 0
+CountsRereadFault old new Undated = ⊥
+CountsRereadFault old new Changed = new ≡ old
+CountsRereadFault old new Read = new ≡ one_more old
+CountsRereadFault old new Memory = new ≡ old
+CountsRereadFault old new Write = ⊥
+
+abbrev pub CountsRereads : {A : Type 0} → ℕ → ℕ → Result A WriteFault → Type 0
+CountsRereads old new result = MatchResult result (λ _. new ≡ old) (CountsRereadFault old new)

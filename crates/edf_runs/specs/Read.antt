@@ -6,9 +6,9 @@ use Rattle.edf_header.specs.Header.{Layout, most_records}
 use Rattle.edf_fragment.specs.Fragment.{DataRecord, AreDataRecords}
 use Rattle.edf_fragment.specs.Whole.{ReadsFragment}
 use Rattle.edf_fragment.specs.declared.advance.Progress.{Progress}
-use Rattle.edf_fragment.specs.declared.advance.Status.TheVariants.{Reading}
+use Rattle.edf_fragment.specs.declared.advance.ReaderState.TheVariants.{Reading}
 use Rattle.edf_runs.specs.Runs.{AreListed}
-use Rattle.edf_runs.specs.declared.listing.Listing.{Listing}
+use Rattle.edf_runs.specs.declared.run_list.Listing.{Listing}
 
 -- the whole input was read, and these are the key and the runs of what it spells
 pub record ReadsRuns (left rest : Option (List ℕ)) (listing : Listing) : Type 0 where
@@ -21,10 +21,10 @@ pub record ReadsRuns (left rest : Option (List ℕ)) (listing : Listing) : Type 
 -- these data records were read next, and no byte more
 pub record ReadsOn (l : Layout) (from to : Progress) (left rest : Option (List ℕ))
     (records : List DataRecord) : Type 0 where
-  pub going : records ≢ [] → from.status ≡ Reading
+  pub going : records ≢ [] → from.state ≡ Reading
   pub bytes : List ℕ
   pub read : Consumes left rest bytes
   pub are_records : AreDataRecords l from.place bytes records to.place []
   pub given : to.given ≡ from.given + length records
   pub within : to.given ≤ most_records l.count
-  pub status : to.status ≡ from.status
+  pub state : to.state ≡ from.state

@@ -20,8 +20,8 @@ pub record AreRunFiles (k : Key) (runs : List (List DataRecord)) (files : List (
 
 -- the runs of a file, submitted in any order and as often as one likes to a store that holds no
 -- data record of its recording, are all accepted; then the store holds just the file's data records
--- of it, so that their file is that of the whole, and of others what it held. (A run has no file
--- where the Startdate subfield is X and the run starts in 2085 or later.)
+-- of it, so that their file is that of the whole, and of other recordings what it held. (A run has
+-- no file where the Startdate subfield is X and the run starts in 2085 or later.)
 abbrev pub RunsRejoin : Type 0
 RunsRejoin = (cap : ℕ) (h : Holdings) (bytes : List ℕ) (k : Key) (records : List DataRecord)
     (runs : List (List DataRecord))

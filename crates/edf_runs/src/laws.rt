@@ -1,7 +1,8 @@
-//! Laws of runs: each function has laws for a contract, and does nothing.
+//! Laws of runs: the contract of each function is laws, and its body does nothing.
 
 ghost use Rattle.std.specs.Prelude.{◌≡◌, ℕ, ◌≤◌, List, length};
 ghost use Rattle.edf_field.specs.Number.{duration_of};
+ghost use Rattle.edf_header.specs.declared.limits.TheConstants.{MOST_RECORDS};
 ghost use Rattle.edf_header.specs.Key.{Key, IsKey};
 ghost use Rattle.edf_fragment.specs.Fragment.{DataRecord};
 ghost use Rattle.edf_fragment.specs.Sound.{AreSound, MayBegin};
@@ -17,12 +18,12 @@ pub fn each_has_its_runs()
         IsRuns d records runs → IsRuns d records others → runs ≡ others }
 {}
 
-/// Sound data records without a gap, of a key with which a recording may begin so, have one file as
-/// a run, where they are 1 to 99,999,999; and it is read again, as a file without a gap.
+/// Sound data records without a gap have one file as a run, where there are 1 to `MOST_RECORDS`
+/// and a header can name when the first starts; the file is read again, as one without a gap.
 pub fn a_runs_file()
     ensures some { (key : Key) (run : List DataRecord) →
         IsKey key → AreSound key 0 run → MayBegin key run → 1 ≤ length run →
-        length run ≤ 99_999_999 → IsTouching (duration_of key.duration) run →
+        length run ≤ MOST_RECORDS → IsTouching (duration_of key.duration) run →
         (file : List ℕ) × IsRunFile file key run }
     ensures one { (file other : List ℕ) (key : Key) (run : List DataRecord) →
         IsRunFile file key run → IsRunFile other key run → file ≡ other }
@@ -30,9 +31,9 @@ pub fn a_runs_file()
         IsRunFile file key run → IsContinuous file key run }
 {}
 
-/// Nothing is lost where a file is split into its runs. Their files, submitted in any order to
-/// holdings that have none of the recording, are all accepted, and leave just the data records of
-/// the whole file.
+/// Nothing is lost where a file is split into its runs. The files of the runs, submitted in any
+/// order to holdings that have nothing of the recording, are all accepted, and leave just the data
+/// records of the whole file.
 pub fn nothing_is_lost_by_splitting()
     ensures { RunsRejoin }
 {}

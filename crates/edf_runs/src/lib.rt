@@ -4,23 +4,23 @@
 //! - [`list_runs`]: the runs of a file, from any reader, with one data record in memory: a
 //!   [`Listing`] of its [`Run`]s.
 //! - [`add_record`]: the same for a caller that reads itself.
-//! - [`reopen`], [`skip_run`], [`write_run`]: a second reading, past runs and over one whose file is
-//!   written; [`WriteFault`]: why it is not.
+//! - [`reopen`], [`skip_run`], [`write_run`]: a second reading, past runs and over one whose file
+//!   is written; [`WriteFault`]: why it is not.
 //! - [`laws`]: each list of data records has its runs; a run's file is read again; nothing is lost
-//!   where a file is split into its runs. Functions that do nothing, each with a law for a contract.
+//!   where a file is split into its runs. These functions do nothing: their contracts are laws.
 #![tactic(auto)]
 
 mod adding;
 mod fault;
 pub mod laws;
-mod listing;
 mod reading;
 mod run;
+mod run_list;
 mod writing;
 
 pub use adding::add_record;
 pub use fault::WriteFault;
-pub use listing::{Listing, list_runs};
 pub use reading::{reopen, skip_run};
 pub use run::Run;
+pub use run_list::{Listing, list_runs};
 pub use writing::write_run;

@@ -1,18 +1,20 @@
 //! Data records of a file that is read a second time.
 
-ghost use Rattle.std.specs.Prelude.{◌≡◌, ◌≢◌, Err, MatchResult};
+ghost use Rattle.std.specs.Prelude.{◌≡◌, MatchResult};
 ghost use Rattle.edf_fragment.specs.Reading.{ReadsHeader, at_first};
 ghost use Rattle.edf_runs.specs.Again.{fault_again, IsNotReopened, PassesRun, StopsBefore, StopsAt};
-ghost use Rattle.edf_runs.specs.Written.{CountsReads, ComesNext};
+ghost use Rattle.edf_runs.specs.Again.{RereadsRun, CountsRereads};
 ghost use Rattle.edf_runs.specs.Inside.Steps.{StepsOn};
 
 use crate::fault::WriteFault;
-use crate::listing::Listing;
 use crate::run::Run;
+use crate::run_list::Listing;
 use edf_fragment::{FragmentFault, Input, OpenFragment, Record};
+use edf_header::laws::header_is_layout;
 use std::alloc::Global;
 
-/// The fault for one of the second reading: what was listed had no fault of form.
+/// Why a second reading stops, by the fault that it met. The file had no fault of form when its
+/// runs were listed, so one of form means that it changed.
 fn fault_again(fault: FragmentFault) -> WriteFault
     ensures { result ≡ fault_again fault }
 {
@@ -23,7 +25,7 @@ fn fault_again(fault: FragmentFault) -> WriteFault
     }
 }
 
-/// Reads the header of a file again whose runs were listed.
+/// Reads again the header of a file whose runs were listed.
 ///
 /// # Errors
 /// `Changed` where the header is refused now, or names another recording; `Read` where a read
@@ -37,7 +39,7 @@ pub fn reopen<R: Input>(
         (λ fragment. ReadsHeader (R.remaining input.old) (R.remaining input.new) fragment.header
         × (fragment.progress ≡ at_first) × (fragment.header.key ≡ listing.now.identity))
         (IsNotReopened (R.remaining input.old) (R.remaining input.new) listing.now.identity) }
-    ensures counted { CountsReads (R.failures input.old) (R.failures input.new) result }
+    ensures counted { CountsRereads (R.failures input.old) (R.failures input.new) result }
 {
     match OpenFragment::read(alloc, input) {
         Ok(fragment) => {
@@ -63,9 +65,7 @@ pub(crate) fn next_at<R: Input>(
         (R.remaining input.old) (R.remaining input.new) instant)
         (StopsAt fragment.old.header fragment.old.progress fragment.new.progress
         (R.remaining input.old) (R.remaining input.new) instant) }
-    ensures counted { CountsReads (R.failures input.old) (R.failures input.new) result }
-    ensures unwritten { result ≢ Err WriteFault.Write }
-    ensures dated { result ≢ Err WriteFault.Undated }
+    ensures counted { CountsRereads (R.failures input.old) (R.failures input.new) result }
 {
     match fragment.next(input) {
         Ok(Some(data_record)) => {
@@ -90,18 +90,15 @@ pub fn skip_run<R: Input>(
     input: &mut R,
     run: &Run,
 ) -> Result<(), WriteFault>
-    ensures header { fragment.new.header ≡ fragment.old.header }
+    ensures reread { RereadsRun fragment.old fragment.new (R.remaining input.old) run.now result }
     ensures answer { MatchResult result
         (λ _. PassesRun fragment.old.header fragment.old.progress fragment.new.progress
         (R.remaining input.old) (R.remaining input.new) run.now)
         (StopsBefore fragment.old.header fragment.old.progress fragment.new.progress
         (R.remaining input.old) (R.remaining input.new) run.now) }
-    ensures unchanged { ComesNext fragment.old.header fragment.old.progress
-        (R.remaining input.old) run.now → result ≢ Err WriteFault.Changed }
-    ensures counted { CountsReads (R.failures input.old) (R.failures input.new) result }
+    ensures counted { CountsRereads (R.failures input.old) (R.failures input.new) result }
 {
-    // contracts learn from this call how a data record is laid out
-    let _count = fragment.header().count();
+    header_is_layout(fragment.header());
     let duration = fragment.header().identity().duration();
     let mut next = run.first().nanos();
     for _ in 0..run.records() {

@@ -1,9 +1,11 @@
 ghost use Rattle.std.specs.Prelude.{◌≡◌, ◌≤◌};
+ghost use Rattle.edf_header.specs.declared.limits.TheConstants.{MOST_RECORDS};
+ghost use Rattle.edf_tal.specs.declared.limits.TheConstants.{MOST_CANONICAL_BLOCK_SAMPLES};
 
 use edf_time::Instant;
 
-/// A run: data records each of which starts where the one before ends. It is what is known of them
-/// once they were read.
+/// What is known of a run once it was read: data records, each of which starts where the one before
+/// ends.
 #[derive(Clone, Copy, Debug, PartialEq, Eq, Drop)]
 pub struct Run {
     pub(crate) first: Instant,
@@ -11,9 +13,9 @@ pub struct Run {
     pub(crate) records: u32,
     pub(crate) block_samples: u32,
     ghost records_some: { 1 ≤ records },
-    ghost records_few: { records ≤ 99_999_999 },
+    ghost records_few: { records ≤ MOST_RECORDS },
     ghost block_some: { 1 ≤ block_samples },
-    ghost block_few: { block_samples ≤ 725_023 },
+    ghost block_few: { block_samples ≤ MOST_CANONICAL_BLOCK_SAMPLES },
 }
 
 impl Run {
@@ -31,21 +33,22 @@ impl Run {
         self.last
     }
 
-    /// How many data records it has, 1 to 99,999,999.
+    /// How many data records it has, 1 to [`MOST_RECORDS`](edf_header::MOST_RECORDS).
     pub fn records(&self) -> u32
         ensures value { result ≡ self.now.records }
         ensures some { 1 ≤ result }
-        ensures few { result ≤ 99_999_999 }
+        ensures few { result ≤ MOST_RECORDS }
     {
         self.records
     }
 
-    /// How many samples, two bytes each, the annotations signal of its file has in each data record:
-    /// the fewest that hold its longest block, with onsets counted from the second of its start.
+    /// How many samples, two bytes each, the annotations signal of its file has in a data record:
+    /// the fewest that hold its longest block, with onsets counted from the second in which it
+    /// starts.
     pub fn block_samples(&self) -> u32
         ensures value { result ≡ self.now.block_samples }
         ensures some { 1 ≤ result }
-        ensures few { result ≤ 725_023 }
+        ensures few { result ≤ MOST_CANONICAL_BLOCK_SAMPLES }
     {
         self.block_samples
     }

@@ -1,24 +1,23 @@
 //! The file of a run, written data record by data record in a second reading.
 
-ghost use Rattle.std.specs.Prelude.{◌≡◌, ◌≢◌, ◌+◌, ◌/◌, ◌≤◌, ◌↔◌, Err, IfOk, IfErr, MatchResult};
+ghost use Rattle.std.specs.Prelude.{◌≡◌, ◌≢◌, ◌+◌, ◌*◌, ◌≤◌, ◌↔◌, Err, IfOk, IfErr, MatchResult};
 ghost use Rattle.std.specs.Prelude.{length};
 ghost use Rattle.edf_header.specs.Key.{MayStart};
-ghost use Rattle.edf_canonical.specs.File.{block_of};
 ghost use Rattle.edf_canonical.specs.Output.{buffered};
 ghost use Rattle.edf_runs.specs.File.{marked_continuous};
 ghost use Rattle.edf_runs.specs.Written.{IsRunWritten, IsRunHeader, IsNotWritten};
-ghost use Rattle.edf_runs.specs.Written.{CountsReads, CountsWrites, ComesNext};
+ghost use Rattle.edf_runs.specs.Again.{RereadsRun};
+ghost use Rattle.edf_runs.specs.Written.{CountsCalls};
 ghost use Rattle.edf_runs.specs.Inside.Steps.{IsPutAll, StopsPutting, IsSent, StopsSending};
+ghost use Rattle.edf_runs.specs.Inside.Steps.{CountsSending};
 
-use crate::adding::samples_for;
 use crate::fault::WriteFault;
 use crate::reading::next_at;
 use crate::run::Run;
-use edf_canonical::{Buffer, OutputFault, flush, put, put_record};
-use edf_fragment::{Input, OpenFragment, Output, Record};
-use edf_header::{Identity, write_header};
-use edf_tal::block_len;
-use edf_time::Instant;
+use edf_canonical::{Buffer, OutputFault, flush, put, put_record, samples_of};
+use edf_fragment::{Input, OpenFragment, Output};
+use edf_header::laws::{header_is_layout, identity_is_key};
+use edf_header::{Identity, MOST_SIGNALS, write_header};
 use std::alloc::{AllocError, Global};
 
 impl From<OutputFault> for WriteFault {
@@ -52,10 +51,9 @@ fn marked_continuous(alloc: Global, plain: &[u8]) -> Result<Vec<u8>, AllocError>
 fn run_header(alloc: Global, identity: &Identity, run: &Run) -> Result<Vec<u8>, AllocError>
     requires { MayStart identity.now run.now.first }
     ensures header { IfOk result (λ header. IsRunHeader header.items identity.now run.now) }
-    ensures short { IfOk result (λ header. length header.items ≤ 164_096) }
+    ensures short { IfOk result (λ header. length header.items ≤ 256 * (MOST_SIGNALS + 1)) }
 {
-    // contracts learn from this call that headers name such an identity
-    let _duration = identity.duration();
+    identity_is_key(identity);
     let plain = write_header(
         alloc,
         identity,
@@ -67,14 +65,6 @@ fn run_header(alloc: Global, identity: &Identity, run: &Run) -> Result<Vec<u8>, 
     Ok(header)
 }
 
-/// How many samples hold the block of a data record, with onsets counted from `base`.
-fn samples_of(data_record: &Record, base: Instant) -> u32
-    ensures { result ≡ (length (block_of base data_record.now) + 1) / 2 }
-{
-    let len = block_len(data_record.start(), data_record.notes(), base);
-    samples_for(len)
-}
-
 /// Reads the data records of a run and puts them.
 fn put_records<R: Input, W: Output>(
     alloc: Global,
@@ -84,7 +74,7 @@ fn put_records<R: Input, W: Output>(
     out: &mut W,
     held: &mut Buffer,
 ) -> Result<(), WriteFault>
-    ensures header { fragment.new.header ≡ fragment.old.header }
+    ensures reread { RereadsRun fragment.old fragment.new (R.remaining input.old) run.now result }
     ensures put { MatchResult result
         (λ _. IsPutAll fragment.old.header fragment.old.progress fragment.new.progress
         (R.remaining input.old) (R.remaining input.new)
@@ -94,14 +84,10 @@ fn put_records<R: Input, W: Output>(
         (R.remaining input.old) (R.remaining input.new)
         (buffered W.Output out.old held.old.bytes.items)
         (buffered W.Output out.new held.new.bytes.items) run.now) }
-    ensures unchanged { ComesNext fragment.old.header fragment.old.progress
-        (R.remaining input.old) run.now → result ≢ Err WriteFault.Changed }
-    ensures reads_counted { CountsReads (R.failures input.old) (R.failures input.new) result }
-    ensures writes_counted { CountsWrites (W.failures out.old) (W.failures out.new) result }
-    ensures dated { result ≢ Err WriteFault.Undated }
+    ensures counted { CountsSending (R.failures input.old) (R.failures input.new)
+        (W.failures out.old) (W.failures out.new) result }
 {
-    // contracts learn from this call how a data record is laid out
-    let _count = fragment.header().count();
+    header_is_layout(fragment.header());
     let duration = fragment.header().identity().duration();
     let base = run.first().second();
     let size = 2 * run.block_samples() as usize;
@@ -132,7 +118,7 @@ fn send_run<R: Input, W: Output>(
     header: &[u8],
     out: &mut W,
 ) -> Result<(), WriteFault>
-    ensures header { fragment.new.header ≡ fragment.old.header }
+    ensures reread { RereadsRun fragment.old fragment.new (R.remaining input.old) run.now result }
     ensures sent { MatchResult result
         (λ _. IsSent fragment.old.header fragment.old.progress fragment.new.progress
         (R.remaining input.old) (R.remaining input.new) (W.contents out.old) (W.contents out.new)
@@ -140,11 +126,8 @@ fn send_run<R: Input, W: Output>(
         (λ _. StopsSending fragment.old.header fragment.old.progress fragment.new.progress
         (R.remaining input.old) (R.remaining input.new) (W.contents out.old) (W.contents out.new)
         header.now run.now) }
-    ensures unchanged { ComesNext fragment.old.header fragment.old.progress
-        (R.remaining input.old) run.now → result ≢ Err WriteFault.Changed }
-    ensures reads_counted { CountsReads (R.failures input.old) (R.failures input.new) result }
-    ensures writes_counted { CountsWrites (W.failures out.old) (W.failures out.new) result }
-    ensures dated { result ≢ Err WriteFault.Undated }
+    ensures counted { CountsSending (R.failures input.old) (R.failures input.new)
+        (W.failures out.old) (W.failures out.new) result }
 {
     let mut held = Buffer::new(alloc);
     put(out, &mut held, header)?;
@@ -170,7 +153,7 @@ pub fn write_run<R: Input, W: Output>(
     run: &Run,
     out: &mut W,
 ) -> Result<u64, WriteFault>
-    ensures header { fragment.new.header ≡ fragment.old.header }
+    ensures reread { RereadsRun fragment.old fragment.new (R.remaining input.old) run.now result }
     ensures written { IfOk result
         (IsRunWritten fragment.old.header fragment.old.progress fragment.new.progress
         (R.remaining input.old) (R.remaining input.new) (W.contents out.old) (W.contents out.new)
@@ -181,10 +164,8 @@ pub fn write_run<R: Input, W: Output>(
         run.now) }
     ensures dated { (result ≢ Err WriteFault.Undated)
         ↔ MayStart fragment.old.header.key run.now.first }
-    ensures unchanged { ComesNext fragment.old.header fragment.old.progress
-        (R.remaining input.old) run.now → result ≢ Err WriteFault.Changed }
-    ensures reads_counted { CountsReads (R.failures input.old) (R.failures input.new) result }
-    ensures writes_counted { CountsWrites (W.failures out.old) (W.failures out.new) result }
+    ensures counted { CountsCalls (R.failures input.old) (R.failures input.new)
+        (W.failures out.old) (W.failures out.new) result }
 {
     let identity = fragment.header().identity();
     if !identity.may_start(run.first()) {

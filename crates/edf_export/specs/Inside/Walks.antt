@@ -1,14 +1,15 @@
 -- What the two walks over the records of a recording find, and what the second puts out.
-use Rattle.std.specs.Prelude.{◌≡◌, ℕ, ◌≤◌, List, [], length, Option, Some, None, Result}
-use Rattle.std.specs.Prelude.{MatchResult, All}
+use Rattle.std.specs.Prelude.{◌≡◌, ℕ, ◌*◌, ◌≤◌, List, [], length, Option, Some, None, Result}
+use Rattle.std.specs.Prelude.{MatchResult}
+use Rattle.std.specs.List.{flat_map}
 use Rattle.std.specs.Io.KnownBytes.{Appends}
-use Rattle.edf_fragment.specs.Failures.{one_more}
+use Rattle.edf_header.specs.declared.limits.TheConstants.{MOST_RECORDS}
 use Rattle.edf_header.specs.Key.{Key, IsKey}
 use Rattle.edf_fragment.specs.Fragment.{DataRecord}
 use Rattle.edf_fragment.specs.Sound.{AreSound, MayBegin}
 use Rattle.edf_store.specs.Fault.{IsStoreRefusal}
-use Rattle.edf_store.specs.Listed.{start_at}
-use Rattle.edf_canonical.specs.File.{second_of, block_of, BlocksFit}
+use Rattle.edf_store.specs.Overview.{start_at}
+use Rattle.edf_canonical.specs.File.{second_of, record_text, BlocksFit}
 use Rattle.edf_canonical.specs.Output.{WritesFront, Buffered, Writes}
 use Rattle.edf_export.specs.declared.plan.Plan.{Plan}
 use Rattle.edf_canonical.specs.declared.fault.OutputFault.{OutputFault}
@@ -18,10 +19,10 @@ use Rattle.edf_export.specs.declared.fault.ExportFault.{ExportFault}
 use Rattle.edf_export.specs.declared.fault.ExportFault.TheVariants.{NoRecording, Store, Memory}
 use Rattle.edf_export.specs.declared.fault.ExportFault.TheVariants.{Write}
 
--- the longest block of the records has `longest` bytes
-pub record IsLongest (file_start longest : ℕ) (records : List DataRecord) : Type 0 where
-  pub holds : All (λ r. length (block_of file_start r) ≤ longest) records
-  pub least : (n : ℕ) → All (λ r. length (block_of file_start r) ≤ n) records → longest ≤ n
+-- `samples` samples hold the block of every record, and no fewer do
+pub record HoldBlocks (file_start samples : ℕ) (records : List DataRecord) : Type 0 where
+  pub holds : BlocksFit file_start samples records
+  pub least : (fewer : ℕ) → BlocksFit file_start fewer records → samples ≤ fewer
 
 -- the records are sound ones of the key with which its recording may begin, and at most `cap`
 pub record IsSoundRecording (cap : ℕ) (k : Key) (records : List DataRecord) : Type 0 where
@@ -32,33 +33,27 @@ pub record IsSoundRecording (cap : ℕ) (k : Key) (records : List DataRecord) : 
 
 -- the plan is that of the records' file
 pub record IsPlanOf (k : Key) (records : List DataRecord) (plan : Plan) : Type 0 where
-  pub recording : IsSoundRecording 99_999_999 k records
+  pub recording : IsSoundRecording MOST_RECORDS k records
   pub count : plan.records ≡ length records
   pub first : start_at records 0 ≡ Some plan.first
-  pub holds : BlocksFit (second_of plan.first) plan.samples records
-  pub least : (fewer : ℕ) → BlocksFit (second_of plan.first) fewer records → plan.samples ≤ fewer
+  pub samples : HoldBlocks (second_of plan.first) plan.samples records
 
 -- there is a plan where there are records
 abbrev pub IsPlanned : Key → List DataRecord → Option Plan → Type 0
 IsPlanned k records None = records ≡ []
 IsPlanned k records (Some plan) = IsPlanOf k records plan
 
--- a fault of the output, told as one of the export
+-- the data records as they are in the planned file
+abbrev pub planned_records : Plan → List DataRecord → List ℕ
+planned_records plan records =
+    flat_map (record_text (second_of plan.first) (2 * plan.samples)) records
+
+-- the fault of an export that one of the output is
 abbrev pub export_fault_of : OutputFault → ExportFault
 export_fault_of Failed = Write
 export_fault_of NoRoom = Memory
 
--- a write failed where that is told, and none did before another refusal; something is held
-abbrev pub CountsWritingFault : ℕ → ℕ → ExportFault → Type 0
-CountsWritingFault old new NoRecording = ⊥
-CountsWritingFault old new (Store fault) = new ≡ old
-CountsWritingFault old new Memory = new ≡ old
-CountsWritingFault old new Write = new ≡ one_more old
-
-abbrev pub CountsWriting : {A : Type 0} → ℕ → ℕ → Result A ExportFault → Type 0
-CountsWriting old new result = MatchResult result (λ _. new ≡ old) (CountsWritingFault old new)
-
--- a fault met while a file is written
+-- why a file of this plan is not written to its end
 abbrev pub IsWritingFault : ExportFault → Type 0
 IsWritingFault NoRecording = ⊥
 IsWritingFault (Store fault) = IsStoreRefusal fault

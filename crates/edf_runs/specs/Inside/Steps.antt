@@ -1,5 +1,6 @@
 -- One step of a second reading, and of the writing beside it.
-use Rattle.std.specs.Prelude.{◌≡◌, ℕ, ◌+◌, ◌≤◌, List, ◌++◌, length, Option, Some, Ok}
+use Rattle.std.specs.Prelude.{◌≡◌, ◌≢◌, ℕ, ◌+◌, ◌≤◌, List, ◌++◌, length, Option, Some, Ok, Result}
+use Rattle.std.specs.Prelude.{MatchResult}
 use Rattle.std.specs.List.{AllByRecursion}
 use Rattle.std.specs.Io.KnownBytes.{Appends}
 use Rattle.edf_field.specs.Number.{duration_of}
@@ -9,7 +10,7 @@ use Rattle.edf_fragment.specs.Fragment.{DataRecord, AreDataRecords}
 use Rattle.edf_fragment.specs.Sound.{IsSoundRecord}
 use Rattle.edf_fragment.specs.Reading.{GivesRecord, IsAnswer, progress_after}
 use Rattle.edf_fragment.specs.declared.advance.Progress.{Progress}
-use Rattle.edf_fragment.specs.declared.advance.Status.TheVariants.{Reading}
+use Rattle.edf_fragment.specs.declared.advance.ReaderState.TheVariants.{Reading}
 use Rattle.edf_canonical.specs.File.{second_of, BlocksFit}
 use Rattle.edf_canonical.specs.Output.{Buffered, Writes, WritesFront}
 use Rattle.edf_canonical.specs.declared.fault.OutputFault.{OutputFault}
@@ -17,21 +18,27 @@ use Rattle.edf_canonical.specs.declared.fault.OutputFault.TheVariants.{Write as 
 use Rattle.edf_canonical.specs.declared.fault.OutputFault.TheVariants.{Memory as NoRoom}
 use Rattle.edf_runs.specs.Runs.{StartFrom, IsListed}
 use Rattle.edf_runs.specs.Read.{ReadsOn}
-use Rattle.edf_runs.specs.Again.{next_start}
-use Rattle.edf_runs.specs.Written.{run_text, ReadsOneMoreAtMost, ComesNext}
+use Rattle.edf_runs.specs.Again.{next_start, ComesNext}
+use Rattle.edf_runs.specs.Written.{run_text, ReadsOneMoreAtMost, CountsFault}
 use Rattle.edf_runs.specs.declared.run.Run.{Run}
 use Rattle.edf_runs.specs.declared.fault.WriteFault.{WriteFault}
-use Rattle.edf_runs.specs.declared.fault.WriteFault.TheVariants.{Memory, Write}
+use Rattle.edf_runs.specs.declared.fault.WriteFault.TheVariants.{Undated, Memory, Write}
 
 -- a fault of the output
 abbrev pub fault_out : OutputFault → WriteFault
 fault_out FailedWrite = Write
 fault_out NoRoom = Memory
 
+-- calls are counted so, and a header can name when the run starts
+abbrev pub CountsSending : {A : Type 0} → ℕ → ℕ → ℕ → ℕ → Result A WriteFault → Type 0
+CountsSending reads reads' writes writes' result =
+    MatchResult result (λ _. (reads' ≡ reads) × (writes' ≡ writes))
+    (λ fault. CountsFault reads reads' writes writes' fault × (fault ≢ Undated))
+
 -- one more data record was read, which starts at this instant
 pub record StepsOn (l : Layout) (from to : Progress) (left rest : Option (List ℕ)) (instant : ℕ)
     (r : DataRecord) : Type 0 where
-  pub going : from.status ≡ Reading
+  pub going : from.state ≡ Reading
   pub is_answer : IsAnswer l from to left rest (Ok (Some r))
   pub progress : to ≡ progress_after l from (Ok (Some r))
   pub gives : GivesRecord l from left rest r
@@ -42,7 +49,7 @@ pub record StepsOn (l : Layout) (from to : Progress) (left rest : Option (List �
 -- come
 pub record HasOthers (l : Layout) (to : Progress) (rest : Option (List ℕ))
     (all records : List DataRecord) : Type 0 where
-  pub going : to.status ≡ Reading
+  pub going : to.state ≡ Reading
   pub others : List DataRecord
   pub parts : all ≡ records ++ others
   pub bytes : List ℕ

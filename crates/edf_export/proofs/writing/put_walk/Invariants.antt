@@ -1,34 +1,25 @@
-use Rattle.std.proofs.Common.{◌≡◌, ◌*◌, false, take}
-use Rattle.std.specs.List.{flat_map}
+use Rattle.std.proofs.Common.{◌≡◌, false, take}
 use Rattle.sqlite.specs.State.{HasCleanDisk}
 use Rattle.edf_header.specs.Key.{Key}
 use Rattle.edf_holdings.specs.Holdings.{Holdings}
 use Rattle.edf_store.specs.Held.{at, Stays}
-use Rattle.edf_store.specs.Walk.{HasGivenFirst, IsSomeWalk}
-use Rattle.edf_canonical.specs.File.{second_of, record_text}
+use Rattle.edf_store.specs.Walk.{HasGiven, IsWalking}
 use Rattle.edf_canonical.specs.Output.{buffered, Writes}
-use Rattle.edf_export.specs.Inside.Walks.{IsPlanOf}
+use Rattle.edf_export.specs.Inside.Walks.{IsPlanOf, planned_records}
 use Rattle.edf_export.proofs.writing.put_walk.Given as goal
 
 abbrev pub invariant-loop : goal.invariant-loop
 invariant-loop g l = record {
   going : l.walk.failed ≡ false;
-  ready : IsSomeWalk l.walk.store.now.cap (at g.S.Store l.walk.store.now) l.walk.recording
-      l.walk.after;
+  ready : IsWalking g.S.Store l.walk;
   same_reference : l.walk.store.ghost_name ≡ l.initial.walk.store.ghost_name;
   stays : Stays g.S.Store l.initial.walk.store.now l.walk.store.now;
   moved : (h : Holdings) (k : Key) →
-      HasGivenFirst l.initial.walk.store.now.cap (at g.S.Store l.initial.walk.store.now)
-      l.initial.walk.recording l.initial.walk.after h k 0 →
-      HasGivenFirst l.walk.store.now.cap (at g.S.Store l.walk.store.now) l.walk.recording
-      l.walk.after h k l.counter;
+      HasGiven g.S.Store l.initial.walk h k 0 → HasGiven g.S.Store l.walk h k l.counter;
   wrote : HasCleanDisk (at g.S.Store l.walk.store.now) → (h : Holdings) (k : Key) →
-      HasGivenFirst l.initial.walk.store.now.cap (at g.S.Store l.initial.walk.store.now)
-      l.initial.walk.recording l.initial.walk.after h k 0 →
-      IsPlanOf k (h k) l.fn.plan →
+      HasGiven g.S.Store l.initial.walk h k 0 → IsPlanOf k (h k) l.fn.plan →
       Writes (buffered g.W.Output l.initial.out l.initial.held.bytes.items)
       (buffered g.W.Output l.out l.held.bytes.items)
-      (flat_map (record_text (second_of l.fn.plan.first) (2 * l.fn.plan.samples))
-      (take l.counter (h k))) l.held.bytes.items;
+      (planned_records l.fn.plan (take l.counter (h k))) l.held.bytes.items;
   count_is : g.W.Output.failures l.out ≡ g.W.Output.failures l.initial.out;
 }

@@ -4,13 +4,28 @@ use Rattle.edf_header.specs.Canonical.{IsCanonicalHeader}
 use Rattle.edf_header.specs.Signal.{samples_in_all}
 use Rattle.edf_export.proofs.Exports.{none_out}
 use Rattle.edf_export.proofs.Planned.{exported, stopped}
+use Rattle.edf_export.proofs.Walks.{stays_same}
 use Rattle.edf_export.proofs.writing.write_planned.Goals as goal
 
-pub returns-in_default-clause-refused : goal.returns-in_default-clause-refused
-returns-in_default-clause-refused g c clean h held plan = none_out _ _ _
+-- ---- there is no memory for the header
 
-pub returns-in_err-send_recording-clause-refused : goal.returns-in_err-send_recording-clause-refused
-returns-in_err-send_recording-clause-refused g c clean =
+pub returns-in_default-clause-leaves : goal.returns-in_default-clause-leaves
+returns-in_default-clause-leaves g c =
+    record { stays = stays_same g.S.Store c.args.store.now; idle = c.requires.idle }
+
+pub returns-in_default-clause-written : goal.returns-in_default-clause-written
+returns-in_default-clause-written g c clean h held plan = none_out _ _ _
+
+-- ---- the file is not sent
+
+pub returns-in_err-send_recording-clause-leaves : goal.returns-in_err-send_recording-clause-leaves
+returns-in_err-send_recording-clause-leaves g c =
+    let l = c.in_err-send_recording.ensures.leaves in
+    let p = err_from_is_err_and c.from_residual.result c.from_residual.ensures.1 in
+    record { stays = l.stays; idle = λ clean. rw (p.1, p.2) (l.idle clean) }
+
+pub returns-in_err-send_recording-clause-written : goal.returns-in_err-send_recording-clause-written
+returns-in_err-send_recording-clause-written g c clean h held plan =
     let k = c.args.identity.now in
     let text = c.as_slice.result.now in
     let is-header : IsCanonicalHeader text k c.args.plan.first c.args.plan.records
@@ -18,13 +33,23 @@ returns-in_err-send_recording-clause-refused g c clean =
     subst (λ (t : List ℕ). IsCanonicalHeader t k c.args.plan.first c.args.plan.records
     c.args.plan.samples) (sym c.as_slice.ensures.value) c.in-Ok.ensures in
     let p = err_from_is_err_and c.from_residual.result c.from_residual.ensures.1 in
-    rw (p.1, p.2) (λ h held plan.
     let sent = c.in_err-send_recording.ensures.sent clean h held plan in
-    stopped _ _ k (h k) c.args.plan text c.in_err-send_recording.field-0.0 plan is-header sent.0
-    sent.1)
+    rw (p.1, p.2) (stopped _ _ k (h k) c.args.plan text c.in_err-send_recording.field-0.0 plan
+    is-header sent.0 sent.1)
 
-pub returns-clause-exported : goal.returns-clause-exported
-returns-clause-exported g c clean h held plan =
+pub returns-in_err-send_recording-clause-counted : goal.returns-in_err-send_recording-clause-counted
+returns-in_err-send_recording-clause-counted g c =
+    let p = err_from_is_err_and c.from_residual.result c.from_residual.ensures.1 in
+    rw (p.1, p.2) c.in_err-send_recording.ensures.counted
+
+-- ---- it is sent
+
+pub returns-clause-leaves : goal.returns-clause-leaves
+returns-clause-leaves g c =
+    let l = c.in_ok-send_recording.ensures.leaves in record { stays = l.stays; idle = l.idle }
+
+pub returns-clause-written : goal.returns-clause-written
+returns-clause-written g c clean h held plan =
     let k = c.args.identity.now in
     let text = c.as_slice.result.now in
     let is-header : IsCanonicalHeader text k c.args.plan.first c.args.plan.records

@@ -56,8 +56,8 @@ loop-preserved g c =
       count = c.in_ok-next_at.ensures.counted ∙ i.count;
     }
 
-pub returns-in_err-next_at-clause-unchanged : goal.returns-in_err-next_at-clause-unchanged
-returns-in_err-next_at-clause-unchanged g c n same =
+pub returns-in_err-next_at-clause-reread : goal.returns-in_err-next_at-clause-reread
+returns-in_err-next_at-clause-reread g c =
     let i = c.loop.invariant in
     let l = c.args.fragment.now.header in
     let run = c.args.run.now in
@@ -67,13 +67,17 @@ returns-in_err-next_at-clause-unchanged g c n same =
     let middle = g.R.Input.remaining c.loop.input in
     let rest = g.R.Input.remaining c.next_at.new.input in
     let fault = c.in_err-next_at.field-0.0 in
-    let layout : IsLayout l = subst IsLayout c.header.ensures c.count-count.ensures.layout in
+    let layout : IsLayout l = subst IsLayout c.header.ensures c.header_is_layout.ensures in
     let few : c.loop.counter < run.records = omega (arith, c.records-end.ensures.value) in
     let p = err_from_is_err_and c.from_residual.result c.from_residual.ensures.1 in
-    let changed = handed_on c.from_residual.result p.0 fault p.1 p.2 same in
     let stop : StopsAt l mid to middle rest c.loop.next fault =
     subst (λ (x : Layout). StopsAt x mid to middle rest c.loop.next fault) i.header
     c.in_err-next_at.ensures.step in
-    next_as_listed l c.args.fragment.now.progress mid to left middle rest run i.so_far.0 c.loop.next
-    c.loop.counter layout i.so_far.1 few n
-    (subst (λ (x : WriteFault). StopsAt l mid to middle rest c.loop.next x) changed stop)
+    record {
+      header = c.in_err-next_at.ensures.header ∙ i.header;
+      unchanged = λ n same.
+          let changed = handed_on c.from_residual.result p.0 fault p.1 p.2 same in
+          next_as_listed l c.args.fragment.now.progress mid to left middle rest run i.so_far.0
+          c.loop.next c.loop.counter layout i.so_far.1 few n
+          (subst (λ (x : WriteFault). StopsAt l mid to middle rest c.loop.next x) changed stop);
+    }

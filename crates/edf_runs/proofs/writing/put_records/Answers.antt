@@ -13,7 +13,7 @@ use Rattle.edf_runs.specs.Inside.Steps.{StepsOn}
 use Rattle.edf_runs.proofs.Next.{next_as_listed, block_as_listed, longest_as_listed, end_as_listed}
 use Rattle.edf_runs.proofs.Next.{handed_on}
 use Rattle.edf_runs.proofs.SecondReading.{none_so_far}
-use Rattle.edf_runs.proofs.Sending.{none_put, put_more, all_put, stops_in_put}
+use Rattle.edf_runs.proofs.Sending.{none_put, put_more, all_put, stops_in_put, reread_counts}
 use Rattle.edf_runs.proofs.writing.put_records.Goals as goal
 use Rattle.edf_runs.proofs.writing.put_records.Goals.{then-longest-block_samples-via-then-longest-block_samples}
 use Rattle.edf_runs.proofs.writing.put_records.Goals.{then-longest-block_samples-via-else-longest-block_samples+then-next-nanos}
@@ -62,7 +62,7 @@ loop-preserved g c =
     let after : c.nanos.result + c.duration-duration.result ≡ r.start + duration_of l.key.duration =
     omega (arith, c.nanos.ensures.value, c.start.ensures.value, duration) in
     let here : c.samples_of-samples.result ≡ (length (block_of (second_of run.first) r) + 1) / 2 =
-    c.samples_of-samples.ensures ∙ ap (λ (n : ℕ). (length (block_of n r) + 1) / 2) base in
+    c.samples_of-samples.ensures.value ∙ ap (λ (n : ℕ). (length (block_of n r) + 1) / 2) base in
     let fits : c.samples_of-samples.result ≤ run.block_samples =
     omega (arith, c.block_samples-in-loop.ensures.value) in
     let few : c.loop.counter < run.records = omega (arith, c.records-end.ensures.value) in
@@ -104,7 +104,7 @@ returns-in_err-put_record-clause-put g c =
     subst (λ (x : Layout). StepsOn x mid to middle rest c.loop.next r) i.header
     c.in_ok-data_record.ensures.step in
     let here : c.samples_of-samples.result ≡ (length (block_of (second_of run.first) r) + 1) / 2 =
-    c.samples_of-samples.ensures ∙ ap (λ (n : ℕ). (length (block_of n r) + 1) / 2) base in
+    c.samples_of-samples.ensures.value ∙ ap (λ (n : ℕ). (length (block_of n r) + 1) / 2) base in
     let fits : c.samples_of-samples.result ≤ run.block_samples =
     omega (arith, c.block_samples-in-loop.ensures.value) in
     let few : c.loop.counter < run.records = omega (arith, c.records-end.ensures.value) in
@@ -136,8 +136,8 @@ returns-clause-put g c =
     omega (arith, c.nanos-else-longest-block_samples.ensures.value, c.last.ensures, duration) in
     all_put l _ _ _ _ _ _ run c.loop.next c.loop.longest c.loop.counter i.so_far all same ends
 
-pub returns-in_err-data_record-clause-unchanged : goal.returns-in_err-data_record-clause-unchanged
-returns-in_err-data_record-clause-unchanged g c n same =
+pub returns-in_err-data_record-clause-reread : goal.returns-in_err-data_record-clause-reread
+returns-in_err-data_record-clause-reread g c =
     let i = c.loop.invariant in
     let l = c.args.fragment.now.header in
     let run = c.args.run.now in
@@ -147,20 +147,31 @@ returns-in_err-data_record-clause-unchanged g c n same =
     let middle = g.R.Input.remaining c.loop.input in
     let rest = g.R.Input.remaining c.next_at.new.input in
     let fault = c.in_err-data_record.field-0.0 in
-    let layout : IsLayout l = subst IsLayout c.header.ensures c.count-count.ensures.layout in
+    let layout : IsLayout l = subst IsLayout c.header.ensures c.header_is_layout.ensures in
     let few : c.loop.counter < run.records = omega (arith, c.records-end.ensures.value) in
     let p = err_from_is_err_and c.from_residual.result c.from_residual.ensures.1 in
-    let changed = handed_on c.from_residual.result p.0 fault p.1 p.2 same in
     let stop : StopsAt l mid to middle rest c.loop.next fault =
     subst (λ (x : Layout). StopsAt x mid to middle rest c.loop.next fault) i.header
     c.in_err-data_record.ensures.step in
-    next_as_listed l c.args.fragment.now.progress mid to left middle rest run i.so_far.records
-    c.loop.next c.loop.counter layout i.so_far.so_far few n
-    (subst (λ (x : WriteFault). StopsAt l mid to middle rest c.loop.next x) changed stop)
+    record {
+      header = c.in_err-data_record.ensures.header ∙ i.header;
+      unchanged = λ n same.
+          let changed = handed_on c.from_residual.result p.0 fault p.1 p.2 same in
+          next_as_listed l c.args.fragment.now.progress mid to left middle rest run i.so_far.records
+          c.loop.next c.loop.counter layout i.so_far.so_far few n
+          (subst (λ (x : WriteFault). StopsAt l mid to middle rest c.loop.next x) changed stop);
+    }
 
-pub returns-then-samples-block_samples-clause-unchanged :
-    goal.returns-then-samples-block_samples-clause-unchanged
-returns-then-samples-block_samples-clause-unchanged g c n same =
+pub returns-in_err-data_record-clause-counted : goal.returns-in_err-data_record-clause-counted
+returns-in_err-data_record-clause-counted g c =
+    let i = c.loop.invariant in
+    let p = err_from_is_err_and c.from_residual.result c.from_residual.ensures.1 in
+    rw (p.1, p.2, ← i.reads, ← i.writes) (reread_counts _ _ _ c.in_err-data_record.field-0.0
+    c.in_err-data_record.ensures.counted)
+
+pub returns-then-samples-block_samples-clause-reread :
+    goal.returns-then-samples-block_samples-clause-reread
+returns-then-samples-block_samples-clause-reread g c =
     let i = c.loop.invariant in
     let l = c.args.fragment.now.header in
     let run = c.args.run.now in
@@ -177,16 +188,24 @@ returns-then-samples-block_samples-clause-unchanged g c n same =
     subst (λ (x : Layout). StepsOn x mid to middle rest c.loop.next r) i.header
     c.in_ok-data_record.ensures.step in
     let here : c.samples_of-samples.result ≡ (length (block_of (second_of run.first) r) + 1) / 2 =
-    c.samples_of-samples.ensures ∙ ap (λ (n : ℕ). (length (block_of n r) + 1) / 2) base in
-    let fits = block_as_listed l c.args.fragment.now.progress mid to left middle rest run
-    i.so_far.records c.loop.next c.loop.counter c.samples_of-samples.result r i.so_far.so_far
-    few
-    step here n in
-    omega (arith, fits, c.block_samples-in-loop.ensures.value, c.if-samples-block_samples.true)
+    c.samples_of-samples.ensures.value ∙ ap (λ (n : ℕ). (length (block_of n r) + 1) / 2) base in
+    record {
+      header = c.in_ok-data_record.ensures.header ∙ i.header;
+      unchanged = λ n same.
+          let fits = block_as_listed l c.args.fragment.now.progress mid to left middle rest run
+          i.so_far.records c.loop.next c.loop.counter c.samples_of-samples.result r i.so_far.so_far
+          few step here n in
+          omega (
+            arith,
+            fits,
+            c.block_samples-in-loop.ensures.value,
+            c.if-samples-block_samples.true,
+          );
+    }
 
-pub returns-then-longest-block_samples-clause-unchanged :
-    goal.returns-then-longest-block_samples-clause-unchanged
-returns-then-longest-block_samples-clause-unchanged g c n same =
+pub returns-then-longest-block_samples-clause-reread :
+    goal.returns-then-longest-block_samples-clause-reread
+returns-then-longest-block_samples-clause-reread g c =
     let i = c.loop.invariant in
     let l = c.args.fragment.now.header in
     let run = c.args.run.now in
@@ -194,19 +213,23 @@ returns-then-longest-block_samples-clause-unchanged g c n same =
     c.duration-duration.ensures.value ∙ ap (λ (k : Key). duration_of k.duration) (c.identity.ensures
     ∙ ap (λ (x : Layout). x.key) c.header-2.ensures) in
     let all : c.loop.counter ≡ run.records = omega (arith, c.records-end.ensures.value) in
-    let longest = longest_as_listed l _ _ _ _ _ _ run c.loop.next c.loop.longest c.loop.counter
-    i.so_far all n in
-    let ends = end_as_listed l _ _ _ _ run i.so_far.records c.loop.next c.loop.counter
-    i.so_far.so_far all n in
-    elim c.then-longest-block_samples.branch [
-      | then-longest-block_samples-via-then-longest-block_samples w ↦
-          w.if-longest-block_samples.true (longest ∙ sym c.block_samples-2.ensures.value)
-      | then-longest-block_samples-via-else-longest-block_samples+then-next-nanos w ↦
-          w.if-next-nanos.true (omega (
-            arith,
-            ends,
-            w.nanos-else-longest-block_samples.ensures.value,
-            w.last.ensures,
-            duration,
-          ))
-    ]
+    record {
+      header = i.header;
+      unchanged = λ n same.
+          let longest = longest_as_listed l _ _ _ _ _ _ run c.loop.next c.loop.longest
+          c.loop.counter i.so_far all n in
+          let ends = end_as_listed l _ _ _ _ run i.so_far.records c.loop.next c.loop.counter
+          i.so_far.so_far all n in
+          elim c.then-longest-block_samples.branch [
+            | then-longest-block_samples-via-then-longest-block_samples w ↦
+                w.if-longest-block_samples.true (longest ∙ sym c.block_samples-2.ensures.value)
+            | then-longest-block_samples-via-else-longest-block_samples+then-next-nanos w ↦
+                w.if-next-nanos.true (omega (
+                  arith,
+                  ends,
+                  w.nanos-else-longest-block_samples.ensures.value,
+                  w.last.ensures,
+                  duration,
+                ))
+          ];
+    }

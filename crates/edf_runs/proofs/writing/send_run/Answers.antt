@@ -5,6 +5,7 @@ use Rattle.edf_canonical.specs.File.{second_of, block_of}
 use Rattle.edf_canonical.proofs.Sent.{header_stops, body_stops, flush_stops}
 use Rattle.edf_runs.specs.Written.{run_text}
 use Rattle.edf_runs.proofs.SecondReading.{none_read}
+use Rattle.edf_runs.proofs.Sending.{reread_out, reread_handed_on, out_counts}
 use Rattle.edf_runs.proofs.writing.send_run.Goals as goal
 
 pub returns-in_err-put-clause-sent : goal.returns-in_err-put-clause-sent
@@ -63,3 +64,29 @@ returns-in_err-flush-clause-sent g c =
           c.in_ok-put.ensures.0 _ all.put e.0.0 e.0.1;
       more = inl (refl, refl);
     })
+
+pub returns-in_err-put-clause-reread : goal.returns-in_err-put-clause-reread
+returns-in_err-put-clause-reread g c =
+    let p = err_from_is_err_and c.from_residual.result c.from_residual.ensures.1 in
+    reread_out _ _ _ c.args.run.now c.from_residual.result p.0 p.1 c.in_err-put.field-0.0 p.2
+    refl
+
+pub returns-in_err-put_records-clause-reread : goal.returns-in_err-put_records-clause-reread
+returns-in_err-put_records-clause-reread g c =
+    let p = err_from_is_err_and c.from_residual-in_err-put_records.result
+    c.from_residual-in_err-put_records.ensures.1 in
+    reread_handed_on _ _ _ c.args.run.now c.from_residual-in_err-put_records.result p.0 p.1
+    c.in_err-put_records.field-0.0 p.2
+    c.in_err-put_records.ensures.reread
+
+pub returns-in_err-flush-clause-reread : goal.returns-in_err-flush-clause-reread
+returns-in_err-flush-clause-reread g c =
+    let p = err_from_is_err_and c.from_residual-in_err-flush.result
+    c.from_residual-in_err-flush.ensures.1 in
+    reread_out _ _ _ c.args.run.now c.from_residual-in_err-flush.result p.0 p.1
+    c.in_err-flush.field-0.0 p.2 c.in_ok-put_records.ensures.reread.header
+
+pub returns-in_err-put-clause-counted : goal.returns-in_err-put-clause-counted
+returns-in_err-put-clause-counted g c =
+    let p = err_from_is_err_and c.from_residual.result c.from_residual.ensures.1 in
+    rw (p.1, p.2) (out_counts _ _ _ c.in_err-put.field-0.0 c.in_err-put.ensures.1)

@@ -5,9 +5,12 @@ use Rattle.std.proofs.lemmas.Nat.{mul-le}
 use Rattle.edf_header.specs.Key.{Key, IsKey, MayStart}
 use Rattle.edf_header.specs.Header.{Layout}
 use Rattle.edf_header.specs.Signal.{samples_in_all}
+use Rattle.edf_header.specs.declared.limits.TheConstants.{MOST_RECORDS, MOST_BLOCK_BYTES}
+use Rattle.edf_header.specs.declared.limits.TheConstants.{MOST_SIGNALS}
+use Rattle.edf_tal.specs.declared.limits.TheConstants.{MOST_CANONICAL_BLOCK_SAMPLES}
 use Rattle.edf_runs.specs.Written.{IsRunHeader}
 use Rattle.edf_runs.specs.declared.fault.WriteFault.TheVariants.{Undated}
-use Rattle.edf_runs.proofs.Sending.{written, not_begun, not_written}
+use Rattle.edf_runs.proofs.Sending.{written, not_begun, not_written, reread_handed_on}
 use Rattle.edf_runs.proofs.writing.write_run.Goals as goal
 
 pub returns-in_default-clause-refused : goal.returns-in_default-clause-refused
@@ -35,12 +38,16 @@ returns-in_err-send_run-clause-refused g c =
 
 pub overflow_add-result : goal.overflow_add-result
 overflow_add-result g c =
-    let short : length c.in-Ok.header.items ≤ 164_096 = c.in-Ok.ensures.short in
-    let len : c.len.result ≤ 164_096 = omega (arith, c.len.ensures, c.in-Ok.header.ok.0, short) in
-    let bytes : c.ordinary_bytes.result + 2 * c.block_samples.result ≤ 5_644_350 =
+    let short : length c.in-Ok.header.items ≤ 256 * (MOST_SIGNALS + 1) = c.in-Ok.ensures.short in
+    let len : c.len.result ≤ 256 * (MOST_SIGNALS + 1) =
+    omega (arith, c.len.ensures, c.in-Ok.header.ok.0, short) in
+    let bytes : c.ordinary_bytes.result + 2 * c.block_samples.result ≤ MOST_BLOCK_BYTES
+    + 2 * MOST_CANONICAL_BLOCK_SAMPLES =
     omega (arith, c.ordinary_bytes.ensures.bound, c.block_samples.ensures.few) in
-    let all : c.records.result * (c.ordinary_bytes.result + 2 * c.block_samples.result) ≤ 99_999_999
-    * 5_644_350 = mul-le _ _ _ _ c.records.ensures.few bytes in
+    let all : c.records.result * (c.ordinary_bytes.result + 2
+    * c.block_samples.result) ≤ MOST_RECORDS
+    * (MOST_BLOCK_BYTES + 2 * MOST_CANONICAL_BLOCK_SAMPLES) =
+    mul-le _ _ _ _ c.records.ensures.few bytes in
     omega (arith, len, all)
 
 pub returns-clause-written : goal.returns-clause-written
@@ -76,3 +83,9 @@ returns-clause-written g c =
     ∙ ap (λ n. length text + run.records * (2 * samples_in_all l.key.signals + 2 * n))
     c.block_samples.ensures.value in
     written l _ _ _ _ _ _ text run _ is-key begins header c.in_ok-send_run.ensures.sent whole
+
+pub returns-in_err-send_run-clause-reread : goal.returns-in_err-send_run-clause-reread
+returns-in_err-send_run-clause-reread g c =
+    let p = err_from_is_err_and c.from_residual.result c.from_residual.ensures.1 in
+    reread_handed_on _ _ _ c.args.run.now c.from_residual.result p.0 p.1
+    c.in_err-send_run.field-0.0 p.2 c.in_err-send_run.ensures.reread

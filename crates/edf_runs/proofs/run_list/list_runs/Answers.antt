@@ -5,7 +5,7 @@ use Rattle.edf_header.specs.Key.{Key}
 use Rattle.edf_header.specs.Header.{Layout}
 use Rattle.edf_fragment.proofs.Fragments.{open_refused, fragment_read, records_refused}
 use Rattle.edf_runs.specs.Runs.{AreListed}
-use Rattle.edf_runs.proofs.listing.list_runs.Goals as goal
+use Rattle.edf_runs.proofs.run_list.list_runs.Goals as goal
 
 pub returns-in_err-fragment-clause-answer : goal.returns-in_err-fragment-clause-answer
 returns-in_err-fragment-clause-answer g c = let told =

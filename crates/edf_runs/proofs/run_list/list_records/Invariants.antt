@@ -1,15 +1,15 @@
 use Rattle.std.proofs.Common.{◌≡◌, ◌-◌, List}
 use Rattle.edf_header.specs.Header.{most_records}
 use Rattle.edf_fragment.specs.Fragment.{DataRecord}
-use Rattle.edf_fragment.specs.declared.advance.Status.TheVariants.{Reading}
+use Rattle.edf_fragment.specs.declared.advance.ReaderState.TheVariants.{Reading}
 use Rattle.edf_fragment.specs.Whole.{HasRead}
 use Rattle.edf_runs.specs.Runs.{AreListed}
-use Rattle.edf_runs.proofs.listing.list_records.Given as goal
+use Rattle.edf_runs.proofs.run_list.list_records.Given as goal
 
 abbrev pub invariant-records : goal.invariant-records
 invariant-records g l = record {
   header : l.fragment.header ≡ l.initial.fragment.header;
-  status : l.fragment.progress.status ≡ Reading;
+  state : l.fragment.progress.state ≡ Reading;
   so_far : (records : List DataRecord)
       × HasRead l.initial.fragment.header (g.R.Input.remaining l.initial.input)
       (g.R.Input.remaining l.input) records l.fragment.progress

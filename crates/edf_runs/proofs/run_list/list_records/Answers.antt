@@ -1,6 +1,7 @@
 use Rattle.std.proofs.Common.{◌≡◌, ◌<◌, List, ◌++◌, ◌∷◌, [], length, refl, ap, ◌∙◌, sym, subst}
 use Rattle.std.proofs.Common.{rules, arith, Ok, Some}
 use Rattle.edf_header.specs.Header.{Layout, IsLayout}
+use Rattle.edf_header.specs.declared.limits.TheConstants.{MOST_RECORDS}
 use Rattle.edf_fragment.specs.Fragment.{DataRecord}
 use Rattle.edf_fragment.specs.Reading.{progress_after, GivesRecord}
 use Rattle.edf_fragment.specs.Whole.{HasRead}
@@ -10,14 +11,14 @@ use Rattle.edf_fragment.proofs.Runs.{next_of, reads_more}
 use Rattle.edf_runs.specs.Runs.{AreListed}
 use Rattle.edf_runs.specs.declared.run.Run.{Run}
 use Rattle.edf_runs.proofs.Growing.{nothing_listed}
-use Rattle.edf_runs.proofs.listing.list_records.Goals as goal
+use Rattle.edf_runs.proofs.run_list.list_records.Goals as goal
 
 pub records-init : goal.records-init
 records-init g c =
     let left = g.R.Input.remaining c.args.input.now in
     record {
       header = refl;
-      status = ap (λ (x : Progress). x.status) c.requires.first;
+      state = ap (λ (x : Progress). x.state) c.requires.first;
       so_far = (
         [],
         subst (λ (p : Progress). HasRead c.args.fragment.now.header left left [] p)
@@ -39,7 +40,7 @@ records-preserved g c =
     let rest = g.R.Input.remaining c.next.new.input in
     let records = before.so_far.0 in
     let step = next_of c.records.fragment.header from to mid rest c.in_ok-record.field-0 r
-    before.status c.in_ok-record.ensures.answer c.in-Some.is in
+    before.state c.in_ok-record.ensures.answer c.in-Some.is in
     let to_is : to ≡ progress_after l from (Ok (Some r)) =
     subst (λ (x : Layout). to ≡ progress_after x from (Ok (Some r))) before.header step.0 in
     let gives : GivesRecord l from mid rest r =
@@ -47,15 +48,15 @@ records-preserved g c =
     let read = reads_more l (g.R.Input.remaining c.args.input.now) mid rest records from to r
     before.so_far.1 to_is gives in
     let layout : IsLayout l = subst (λ (x : Layout). IsLayout x) c.header.ensures
-    c.count-count.ensures.layout in
-    let few : length records < 99_999_999 =
+    c.header_is_layout.ensures in
+    let few : length records < MOST_RECORDS =
     omega (arith, layout.count.1, gives.may_come, before.so_far.1.given) in
-    let grows : (rs : List DataRecord) → length rs < 99_999_999 →
+    let grows : (rs : List DataRecord) → length rs < MOST_RECORDS →
     AreListed c.args.duration rs c.records.runs.items
     → AreListed c.args.duration (rs ++ r ∷ []) c.add_record.new.runs.items = search rules in
     record {
       header = c.in_ok-record.ensures.header ∙ before.header;
-      status = ap (λ (x : Progress). x.status) to_is;
+      state = ap (λ (x : Progress). x.state) to_is;
       so_far = (records ++ r ∷ [], read, grows records few before.so_far.2);
       count = c.in_ok-record.ensures.counted ∙ before.count;
     }

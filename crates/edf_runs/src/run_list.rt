@@ -8,11 +8,13 @@ ghost use Rattle.edf_runs.specs.Read.{ReadsRuns};
 
 use crate::adding::add_record;
 use crate::run::Run;
+use edf_field::MOST_DURATION;
 use edf_fragment::{FragmentFault, Input, OpenFragment};
 use edf_header::Identity;
+use edf_header::laws::header_is_layout;
 use std::alloc::Global;
 
-/// What a file was found to hold: whose it is, and its runs in time order.
+/// What a file holds: the recording that it belongs to, and its runs in time order.
 #[derive(Drop)]
 pub struct Listing {
     /// The identity of the recording.
@@ -41,7 +43,7 @@ fn list_records<R: Input>(
     duration: u64,
 ) -> Result<Vec<Run>, FragmentFault>
     requires first { fragment.old.progress ≡ at_first }
-    requires duration { duration ≤ 10 ^ 17 }
+    requires duration { duration ≤ MOST_DURATION }
     ensures header { fragment.new.header ≡ fragment.old.header }
     ensures answer { MatchResult result
         (λ runs. (records : List DataRecord) × ReadsRecords fragment.old.header
@@ -50,8 +52,7 @@ fn list_records<R: Input>(
         (FailsAfterRecords fragment.old.header (R.remaining input.old) (R.remaining input.new)) }
     ensures counted { CountsAnswer (R.failures input.old) (R.failures input.new) result }
 {
-    // contracts learn from this call how many data records there may be
-    let _count = fragment.header().count();
+    header_is_layout(fragment.header());
     let mut runs = Vec::new(alloc);
     'records: loop {
         match fragment.next(input)? {
