@@ -3,7 +3,7 @@ use Rattle.std.proofs.Common.{◌≡◌, ◌++◌, ◌∙◌, ℕ, List, take, d
 use Rattle.std.proofs.lemmas.List.{map-append}
 use Rattle.std.specs.Global.{Global}
 use Rattle.std.specs.Prelude.{String, string_bytes}
-use Rattle.edf_command.specs.Run.{OpensFront}
+use Rattle.edf_command.specs.Taking.{OpensFront}
 
 pub opens-front : (before after : List (List ℕ)) (files : List (String Global)) (i : ℕ)
     → after ≡ before ++ map (λ (file : String Global). string_bytes file) (take i files)

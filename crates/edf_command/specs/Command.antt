@@ -1,15 +1,16 @@
 -- What the program does with its words, before a command is run.
-use Rattle.std.specs.Prelude.{◌⊎◌, String, List, ℕ, [], Option, Some, None, Result, Ok, Err, codes}
+use Rattle.std.specs.Prelude.{◌≢◌, String, List, [], Option, Some, None, Result, Ok, Err, codes}
 use Rattle.std.specs.Prelude.{if◌then◌else◌}
 use Rattle.std.specs.Global.{Global}
 use Rattle.std.specs.Str.{bytes_eq}
 use Rattle.edfstore_arguments.specs.Arguments.{Asked, Text, AreValues, AskFor, AskForNothing}
 use Rattle.edfstore_arguments.specs.Arguments.Asked.{take, list, export, convert}
 use Rattle.edfstore_arguments.specs.declared.order.Order.{Order}
-use Rattle.edf_command.specs.Lines.{command_memory_line}
-use Rattle.edf_program.specs.Output.{Growth, Gets, IsWritten}
+use Rattle.edf_program.specs.Output.{Growth, Gets}
+use Rattle.edf_program.specs.Words.{IsFaultTold}
 use Rattle.edf_program.specs.declared.status.Status.{Status}
-use Rattle.edf_program.specs.declared.status.Status.TheVariants.{Done, Usage, Trouble}
+use Rattle.edf_program.specs.declared.words.CommandFault.{CommandFault}
+use Rattle.edf_program.specs.declared.words.CommandFault.TheVariants.{Memory}
 
 -- the path of a store's file; `:memory:` has none
 abbrev pub path_of : Text → Option Text
@@ -24,19 +25,16 @@ store_path (export store place) = path_of store
 store_path (convert file) = None
 
 module _ (out err : Growth) where
-  -- what `clap` says: help, or why nothing can be done
-  pub record IsExplained (status : Status) : Type 0 where
-    pub text : List ℕ
-    pub said : (IsWritten out text Done status × Gets err [])
-        ⊎ (Gets out [] × IsWritten err text Usage status)
-
-  abbrev pub LacksCommandMemory : Status → Type 0
-  LacksCommandMemory status = Gets out [] × IsWritten err command_memory_line Trouble status
+  -- why there is no command, as it is written: the words ask for nothing, or there is no memory for
+  -- them
+  pub record IsNoCommand (words : List (String Global)) (status : Status) : Type 0 where
+    pub fault : CommandFault
+    pub told : IsFaultTold out err fault status
+    pub nothing : fault ≢ Memory → AreValues words → AskForNothing words
 
   -- the command that the words ask for, where no word begins with `-`, and nothing is written; or
-  -- they ask for nothing; or there is no memory for them
+  -- there is none
   abbrev pub IsCommandRead : List (String Global) → Result Order Status → Type 0
   IsCommandRead words (Ok command) = (AreValues words → AskFor words command) × Gets out []
       × Gets err []
-  IsCommandRead words (Err status) = ((AreValues words → AskForNothing words) × IsExplained status)
-      ⊎ LacksCommandMemory status
+  IsCommandRead words (Err status) = IsNoCommand words status

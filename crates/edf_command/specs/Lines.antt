@@ -6,25 +6,33 @@ use Rattle.std.specs.List.{flat_map, zip}
 use Rattle.edf_header.specs.Key.{Key, patient_code, investigation_code}
 use Rattle.edf_fragment.specs.Fragment.{DataRecord}
 use Rattle.edf_holdings.specs.Holdings.{Holdings}
+use Rattle.edf_store.specs.Fault.{number, store_fault_name}
 use Rattle.edf_store.specs.declared.fault.StoreFault.{StoreFault}
 use Rattle.edf_intake.specs.Refusal.{Answer, refusal_number}
 use Rattle.edf_intake.specs.declared.answer.Refusal.{Refusal}
-use Rattle.edf_export.specs.Export.{export_fault_number}
+use Rattle.edf_export.specs.Export.{export_fault_number, export_fault_name}
 use Rattle.edf_export.specs.declared.fault.ExportFault.{ExportFault}
-use Rattle.edf_command.specs.Refusals.{refusal_text, store_text, export_text}
+use Rattle.edf_command.specs.Refusals.{refusal_text}
+use Rattle.edf_program.specs.Text.{refused_line, memory_line}
 use Rattle.edf_program.specs.Status.{status_of_number}
 use Rattle.edf_program.specs.declared.status.Status.{Status}
 use Rattle.edf_program.specs.declared.status.Status.TheVariants.{Done, Refused, Trouble}
 
 -- ---- take
 
--- `FILE accepted new=N known=K` or `FILE refused T`
-abbrev pub take_line : (ℕ → List ℕ) → List ℕ → Answer → List ℕ
-take_line spell name (Ok receipt) = name
-    ++ (codes " accepted new=" ++ (decimal receipt.new
-    ++ (codes " known=" ++ (decimal receipt.known ++ (10 ∷ [])))))
-take_line spell name (Err refusal) = name
+-- `FILE accepted new=N known=K`
+abbrev pub accepted_line : List ℕ → ℕ → ℕ → List ℕ
+accepted_line name new known = name ++ (codes " accepted new="
+    ++ (decimal new ++ (codes " known=" ++ (decimal known ++ (10 ∷ [])))))
+
+-- `FILE refused T`, also of `convert`
+abbrev pub refused_file_line : (ℕ → List ℕ) → List ℕ → Refusal → List ℕ
+refused_file_line spell name refusal = name
     ++ (codes " refused " ++ (refusal_text spell refusal ++ (10 ∷ [])))
+
+abbrev pub take_line : (ℕ → List ℕ) → List ℕ → Answer → List ℕ
+take_line spell name (Ok receipt) = accepted_line name receipt.new receipt.known
+take_line spell name (Err refusal) = refused_file_line spell name refusal
 
 -- a line a file, in the order of the words
 abbrev pub take_lines : (ℕ → List ℕ) → List (List ℕ) → List Answer → List ℕ
@@ -51,7 +59,7 @@ take_status answers = fold (λ status answer. worse status (answer_status answer
 
 -- no memory for the readers or the answers
 abbrev pub take_memory_line : List ℕ
-take_memory_line = codes "take refused E41 Memory" ++ (10 ∷ [])
+take_memory_line = memory_line (codes "take")
 
 -- ---- list
 
@@ -77,7 +85,7 @@ abbrev pub first_list_lines : (ℕ → List ℕ) → Holdings → List Key → �
 first_list_lines spell h keys n = list_lines spell h 1 (take n keys)
 
 abbrev pub list_refused_line : StoreFault → List ℕ
-list_refused_line fault = codes "list refused " ++ (store_text fault ++ (10 ∷ []))
+list_refused_line fault = refused_line (codes "list") (number fault) (store_fault_name fault)
 
 -- ---- export
 
@@ -85,26 +93,14 @@ abbrev pub no_recording_line : ℕ → List ℕ
 no_recording_line place = codes "no recording at place " ++ (decimal place ++ (10 ∷ []))
 
 abbrev pub export_refused_line : ExportFault → List ℕ
-export_refused_line fault = codes "export refused " ++ (export_text fault ++ (10 ∷ []))
+export_refused_line fault = refused_line (codes "export") (export_fault_number fault)
+    (export_fault_name fault)
 
 abbrev pub export_status : ExportFault → Status
 export_status fault = status_of_number (export_fault_number fault)
-
--- ---- convert
-
-abbrev pub refused_line : (ℕ → List ℕ) → List ℕ → Refusal → List ℕ
-refused_line spell name refusal = take_line spell name (Err refusal)
-
--- no memory for the reader
-abbrev pub convert_memory_line : List ℕ → List ℕ
-convert_memory_line name = name ++ (codes " refused E41 Memory" ++ (10 ∷ []))
 
 -- ---- before a command is run
 
 -- the store can't be opened
 abbrev pub store_refused_line : StoreFault → List ℕ
-store_refused_line fault = codes "store refused " ++ (store_text fault ++ (10 ∷ []))
-
--- no memory for the words
-abbrev pub command_memory_line : List ℕ
-command_memory_line = codes "command refused E41 Memory" ++ (10 ∷ [])
+store_refused_line fault = refused_line (codes "store") (number fault) (store_fault_name fault)

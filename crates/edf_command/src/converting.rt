@@ -1,27 +1,18 @@
 //! `convert`: one file to its canonical form.
 
 ghost use Rattle.std.specs.Prelude.{◌≡◌, ◌∷◌, [], ℕ, List};
-ghost use Rattle.edf_command.specs.Lines.{convert_memory_line};
-ghost use Rattle.edf_program.specs.Output.{growth, IsWritten};
-ghost use Rattle.edf_command.specs.Run.{IsConverted, HasOpened};
+ghost use Rattle.edf_program.specs.Output.{growth};
+ghost use Rattle.edf_command.specs.Run.{IsConverted};
+ghost use Rattle.edf_command.specs.Taking.{HasOpened};
 
-use crate::sending::send_recording;
-use crate::taking::refused_line;
+use crate::exporting::export_recording;
+use crate::taking::refused_file_line;
 use edf_fragment::Output;
 use edf_intake::submit;
-use edf_program::{Inputs, Status, status_of_number, tell, tell_pair};
+use edf_program::{Inputs, Status, status_of_number, tell, tell_memory};
 use edf_store::Store;
 use sqlite::Alter;
 use std::alloc::Global;
-
-/// Prints that there is no memory for the reader. Printing takes none.
-fn tell_memory<F: Output>(err: &mut F, name: &str) -> Status
-    ensures { IsWritten
-        (growth F.Output err.old err.new) (convert_memory_line name.now) Status.Trouble result }
-{
-    let line = b" refused E41 Memory\n";
-    tell_pair(err, name.as_bytes(), line, Status::Trouble)
-}
 
 /// Takes one file into the store and writes the canonical file of its recording.
 pub(crate) fn convert<S: Alter, I: Inputs, O: Output, F: Output>(
@@ -42,10 +33,10 @@ pub(crate) fn convert<S: Alter, I: Inputs, O: Output, F: Output>(
         return tell_memory(err, file);
     };
     match submit(alloc, store, &mut reader) {
-        Ok(receipt) => send_recording(alloc, store, &receipt.identity, out, err),
+        Ok(receipt) => export_recording(alloc, store, &receipt.identity, out, err),
         Err(refusal) => {
             let status = status_of_number(refusal.number());
-            tell(err, refused_line(alloc, file, &refusal), status)
+            tell(err, refused_file_line(alloc, file, &refusal), status)
         }
     }
 }

@@ -11,15 +11,15 @@
 #![tactic(auto)]
 
 mod converting;
+mod exporting;
 mod listing;
 mod program;
 mod refusal;
 mod running;
-mod sending;
 mod taking;
 
-pub use edf_program::{Inputs, Status};
-pub use edfstore_arguments::{CommandFault, Order, parse};
+pub use edf_program::{CommandFault, Inputs, Status};
+pub use edfstore_arguments::{Order, parse};
 pub use program::{read_command, refuse_store, store_path};
 pub use refusal::refusal_text;
 pub use running::run;

@@ -1,46 +1,25 @@
 //! `list`: a line for each recording.
 
-ghost use Rattle.std.specs.Prelude.{◌≡◌, ◌≢◌, ◌++◌, ◌∷◌, [], ℕ, Some, List, true, IfOk, IfErr};
-ghost use Rattle.std.specs.Prelude.{MatchResult, codes, length};
-ghost use Rattle.edf_header.specs.Key.{patient_code, investigation_code};
+ghost use Rattle.std.specs.Prelude.{◌≡◌, ◌≢◌, [], ℕ, Some, List, true, IfOk, IfErr, MatchResult};
+ghost use Rattle.std.specs.Prelude.{length};
 ghost use Rattle.sqlite.specs.State.{HasCleanDisk};
 ghost use Rattle.edf_fragment.specs.Fragment.{DataRecord};
 ghost use Rattle.edf_holdings.specs.Holdings.{Holdings};
 ghost use Rattle.edf_store.specs.Fault.{IsStoreRefusal};
 ghost use Rattle.edf_store.specs.Held.{at, Holds, Stays};
-ghost use Rattle.edf_store.specs.Listed.{IsSummary};
+ghost use Rattle.edf_store.specs.Overview.{IsSummary};
 ghost use Rattle.edf_command.specs.Lines.{list_line, first_list_lines, list_refused_line};
-ghost use Rattle.edf_program.specs.Output.{growth, Gets, IsLinePut, ArePut, IsWritten};
+ghost use Rattle.edf_program.specs.Output.{growth, Gets, IsLinePut, AreLinesPut, IsWritten};
 ghost use Rattle.edf_command.specs.Refusals.{IsSpelling};
-ghost use Rattle.edf_command.specs.Run.{AreHeldBy, IsListed};
+ghost use Rattle.edf_command.specs.Listing.{AreHeldBy, AreRecordingsListed};
 
 use crate::refusal::{joined, spelled};
 use edf_fragment::Output;
 use edf_header::Identity;
-use edf_program::{Status, put_line, tell_bytes};
+use edf_program::{Status, put_line, tell_refused};
 use edf_store::{Store, StoreFault, Summary};
 use sqlite::Alter;
 use std::alloc::{AllocError, Global};
-
-/// The codes of a recording, which end its line.
-fn codes_text(alloc: Global, identity: &Identity) -> Result<Vec<u8>, AllocError>
-    ensures { IfOk result (λ r. r.items ≡ codes " patient=" ++ (patient_code identity.now
-        ++ (codes " investigation=" ++ (investigation_code identity.now ++ (10 ∷ []))))) }
-{
-    let investigation = joined(
-        alloc,
-        b" investigation=",
-        identity.investigation_code(),
-        b"\n",
-    )?;
-    let text = joined(
-        alloc,
-        b" patient=",
-        identity.patient_code(),
-        investigation.as_slice(),
-    )?;
-    Ok(text)
-}
 
 /// The line of a recording.
 fn list_line(
@@ -53,13 +32,22 @@ fn list_line(
         IsSpelling spell → IsSummary records (Some summary.now) →
         r.items ≡ list_line spell place identity.now records) }
 {
-    let records = summary.records;
-    let counts = format!(in alloc; "{place} records={records}")?;
-    let start = spelled(alloc, summary.first)?;
-    let codes = codes_text(alloc, identity)?;
-    let rest = joined(alloc, b" first=", start.as_slice(), codes.as_slice())?;
-    let line = joined(alloc, counts.as_bytes(), b"", rest.as_slice())?;
-    Ok(line)
+    let place = format!(in alloc; "{place}")?;
+    let records = format!(in alloc; "{}", summary.records)?;
+    let first = spelled(alloc, summary.first)?;
+    let parts = [
+        place.as_bytes(),
+        b" records=",
+        records.as_bytes(),
+        b" first=",
+        first.as_slice(),
+        b" patient=",
+        identity.patient_code(),
+        b" investigation=",
+        identity.investigation_code(),
+        b"\n",
+    ];
+    joined(alloc, &parts)
 }
 
 /// Writes the line of a recording that is held.
@@ -101,7 +89,8 @@ fn put_recordings<S: Alter, O: Output>(
         O.failures out.new ≡ O.failures out.old) (λ _. O.failures out.new ≡ O.failures out.old) }
     ensures put { HasCleanDisk (at S.Store store.new) →
         IfOk result (λ written. (h : Holdings) (spell : ℕ → List ℕ) → Holds S.Store store.old h →
-        AreHeldBy h recordings.now → IsSpelling spell → ArePut (growth O.Output out.old out.new)
+        AreHeldBy h recordings.now → IsSpelling spell →
+        AreLinesPut (growth O.Output out.old out.new)
         (first_list_lines spell h recordings.now) (length recordings.now) written) }
     ensures refused { HasCleanDisk (at S.Store store.new) → IfErr result (λ fault.
         (n : ℕ) × ((h : Holdings) → Holds S.Store store.old h → AreHeldBy h recordings.now →
@@ -116,25 +105,12 @@ fn put_recordings<S: Alter, O: Output>(
     Ok(true)
 }
 
-/// The line that the store refused. It is ready made, so that it can be printed where memory ran
-/// out.
-fn list_refused_line(fault: &StoreFault) -> &'static str
-    ensures { result.now ≡ list_refused_line fault.now }
-{
-    match fault {
-        StoreFault::Memory => "list refused E41 Memory\n",
-        StoreFault::Store(_) => "list refused E42 Store\n",
-        StoreFault::Foreign => "list refused E45 Foreign\n",
-        StoreFault::Failed => "list refused E0 Failed\n",
-    }
-}
-
-/// Prints why no more is listed.
+/// Prints why no more is listed. Printing takes no memory.
 fn tell_refusal<F: Output>(err: &mut F, fault: &StoreFault) -> Status
     ensures { IsWritten
         (growth F.Output err.old err.new) (list_refused_line fault.now) Status.Trouble result }
 {
-    tell_bytes(err, list_refused_line(fault).as_bytes(), Status::Trouble)
+    tell_refused(err, "list", fault.number(), fault.name(), Status::Trouble)
 }
 
 /// Writes a line for each recording that is held, in the order of their identities' bytes.
@@ -144,7 +120,7 @@ pub(crate) fn list<S: Alter, O: Output, F: Output>(
     out: &mut O,
     err: &mut F,
 ) -> Status
-    ensures { IsListed S.Store store.old store.new (growth O.Output out.old out.new)
+    ensures { AreRecordingsListed S.Store store.old store.new (growth O.Output out.old out.new)
         (growth F.Output err.old err.new) result }
 {
     let recordings = match store.identities() {

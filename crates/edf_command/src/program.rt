@@ -7,9 +7,9 @@ ghost use Rattle.edf_command.specs.Lines.{store_refused_line};
 ghost use Rattle.edf_program.specs.Output.{growth, IsWritten};
 
 use edf_fragment::Output;
-use edf_program::{Status, tell_bytes};
+use edf_program::{Status, tell_fault, tell_refused};
 use edf_store::StoreFault;
-use edfstore_arguments::{CommandFault, Order, parse};
+use edfstore_arguments::{Order, parse};
 use std::alloc::Global;
 
 /// The command that the words after the program's name ask for.
@@ -28,12 +28,7 @@ pub fn read_command<O: Output, F: Output>(
 {
     match parse(alloc, words) {
         Ok(command) => Ok(command),
-        Err(CommandFault::Help(text)) => Err(tell_bytes(out, text.as_bytes(), Status::Done)),
-        Err(CommandFault::Usage(text)) => Err(tell_bytes(err, text.as_bytes(), Status::Usage)),
-        Err(CommandFault::Memory) => {
-            let line = b"command refused E41 Memory\n";
-            Err(tell_bytes(err, line, Status::Trouble))
-        }
+        Err(fault) => Err(tell_fault(&fault, out, err)),
     }
 }
 
@@ -55,23 +50,11 @@ pub fn store_path(command: &Order) -> Option<&str>
     }
 }
 
-/// The line that a store can't be opened. It is ready made, so that it can be printed where memory
-/// ran out.
-fn store_refused_line(fault: &StoreFault) -> &'static str
-    ensures { result.now ≡ store_refused_line fault.now }
-{
-    match fault {
-        StoreFault::Memory => "store refused E41 Memory\n",
-        StoreFault::Store(_) => "store refused E42 Store\n",
-        StoreFault::Foreign => "store refused E45 Foreign\n",
-        StoreFault::Failed => "store refused E0 Failed\n",
-    }
-}
-
-/// Prints that the store of a command can't be opened. The command is not run.
+/// Prints why the store of a command can't be opened. The command is not run. Printing takes no
+/// memory.
 pub fn refuse_store<F: Output>(fault: &StoreFault, err: &mut F) -> Status
     ensures { IsWritten
         (growth F.Output err.old err.new) (store_refused_line fault.now) Status.Trouble result }
 {
-    tell_bytes(err, store_refused_line(fault).as_bytes(), Status::Trouble)
+    tell_refused(err, "store", fault.number(), fault.name(), Status::Trouble)
 }

@@ -1,40 +1,23 @@
 //! The texts of refusals.
 
-ghost use Rattle.std.specs.Prelude.{◌≡◌, ℕ, ◌++◌, ◌∷◌, [], List, IfOk, codes, decimal};
-ghost use Rattle.std.specs.Prelude.{string_bytes};
-ghost use Rattle.edf_command.specs.Refusals.{IsSpelling, store_text, refusal_text};
+ghost use Rattle.std.specs.Prelude.{◌≡◌, ℕ, ◌++◌, List, IfOk, codes};
+ghost use Rattle.std.specs.List.{flat_map};
+ghost use Rattle.edf_command.specs.Refusals.{IsSpelling, details, refusal_text};
 
 use edf_intake::Refusal;
-use edf_program::fragment_fault_text;
-use edf_store::StoreFault;
+use edf_program::fragment_details;
+use edf_time::laws::instant_is_in_window;
 use edf_time::{Instant, instant_text};
 use std::alloc::{AllocError, Global};
 
-fn store_text(alloc: Global, fault: &StoreFault) -> Result<String, AllocError>
-    ensures { IfOk result (λ r. string_bytes r ≡ store_text fault.now) }
+/// The parts of a text, one after another.
+pub(crate) fn joined(alloc: Global, parts: &[&[u8]]) -> Result<Vec<u8>, AllocError>
+    ensures { IfOk result (λ r. r.items ≡ flat_map (λ part. part.now) parts.now) }
 {
-    let number = fault.number();
-    match fault {
-        StoreFault::Memory => format!(in alloc; "E{number} Memory"),
-        StoreFault::Store(_) => format!(in alloc; "E{number} Store"),
-        StoreFault::Foreign => format!(in alloc; "E{number} Foreign"),
-        StoreFault::Failed => format!(in alloc; "E{number} Failed"),
+    let mut text = Vec::new(alloc);
+    for part in parts {
+        text.extend_from_slice(part)?;
     }
-}
-
-/// Three texts, one after another.
-#[tactic(auto, using(std::proofs::Common::append_assoc))]
-pub(crate) fn joined(
-    alloc: Global,
-    first: &[u8],
-    second: &[u8],
-    third: &[u8],
-) -> Result<Vec<u8>, AllocError>
-    ensures { IfOk result (λ r. r.items ≡ first.now ++ (second.now ++ third.now)) }
-{
-    let mut text = Vec::from_slice(alloc, first)?;
-    text.extend_from_slice(second)?;
-    text.extend_from_slice(third)?;
     Ok(text)
 }
 
@@ -42,50 +25,51 @@ pub(crate) fn joined(
 pub(crate) fn spelled(alloc: Global, instant: Instant) -> Result<Vec<u8>, AllocError>
     ensures { IfOk result (λ r. (spell : ℕ → List ℕ) → IsSpelling spell → r.items ≡ spell instant) }
 {
-    // The spelling is known in the window, where the instant lies.
-    let _nanos = instant.nanos();
+    // An instant of the window has one spelling.
+    instant_is_in_window(instant);
     let text = instant_text(alloc, instant)?;
     Ok(text)
 }
 
-/// The text of an overlap: where the record starts, and where the stored one does.
-fn overlap_text(
-    alloc: Global,
-    number: u8,
-    start: Instant,
-    stored: Instant,
-) -> Result<Vec<u8>, AllocError>
-    ensures { IfOk result
-        (λ r. (spell : ℕ → List ℕ) → IsSpelling spell → r.items ≡ codes "E" ++ (decimal number
-        ++ (codes " Overlap start=" ++ (spell start ++ (codes " stored=" ++ spell stored))))) }
+/// Where the data records start that overlap.
+fn overlap_details(alloc: Global, start: Instant, stored: Instant) -> Result<Vec<u8>, AllocError>
+    ensures { IfOk result (λ r. (spell : ℕ → List ℕ) → IsSpelling spell →
+        r.items ≡ codes " start=" ++ (spell start ++ (codes " stored=" ++ spell stored))) }
 {
-    let digits = format!(in alloc; "E{number}")?;
     let first = spelled(alloc, start)?;
     let second = spelled(alloc, stored)?;
-    let starts = joined(alloc, first.as_slice(), b" stored=", second.as_slice())?;
-    let text = joined(
-        alloc,
-        digits.as_bytes(),
-        b" Overlap start=",
-        starts.as_slice(),
-    )?;
-    Ok(text)
+    let parts = [
+        b" start=".as_slice(),
+        first.as_slice(),
+        b" stored=",
+        second.as_slice(),
+    ];
+    joined(alloc, &parts)
 }
 
-/// The text of two records that differ, which start there.
-fn differs_text(alloc: Global, number: u8, start: Instant) -> Result<Vec<u8>, AllocError>
+/// Where the data records start that differ.
+fn differs_details(alloc: Global, start: Instant) -> Result<Vec<u8>, AllocError>
     ensures { IfOk result (λ r. (spell : ℕ → List ℕ) → IsSpelling spell →
-        r.items ≡ codes "E" ++ (decimal number ++ (codes " Differs start=" ++ spell start))) }
+        r.items ≡ codes " start=" ++ spell start) }
 {
-    let digits = format!(in alloc; "E{number}")?;
     let first = spelled(alloc, start)?;
-    let text = joined(
-        alloc,
-        digits.as_bytes(),
-        b" Differs start=",
-        first.as_slice(),
-    )?;
-    Ok(text)
+    joined(alloc, &[b" start=".as_slice(), first.as_slice()])
+}
+
+/// What a refusal names, each after its label.
+fn refusal_details(alloc: Global, refusal: &Refusal) -> Result<Vec<u8>, AllocError>
+    ensures { IfOk result
+        (λ r. (spell : ℕ → List ℕ) → IsSpelling spell → r.items ≡ details spell refusal.now) }
+{
+    match refusal {
+        Refusal::Form(fault) => Ok(fragment_details(alloc, fault)?.into_bytes()),
+        Refusal::Overlap { start, stored } => overlap_details(alloc, *start, *stored),
+        Refusal::Differs { start } => differs_details(alloc, *start),
+        Refusal::Full { held, new, cap } => {
+            Ok(format!(in alloc; " held={held} new={new} cap={cap}")?.into_bytes())
+        }
+        _ => Ok(Vec::new(alloc)),
+    }
 }
 
 /// The text of a refusal: `E` and its number, its name, and the details.
@@ -98,26 +82,14 @@ pub fn refusal_text(alloc: Global, refusal: &Refusal) -> Result<Vec<u8>, AllocEr
     ensures { IfOk result
         (λ r. (spell : ℕ → List ℕ) → IsSpelling spell → r.items ≡ refusal_text spell refusal.now) }
 {
-    let number = refusal.number();
-    match refusal {
-        Refusal::Form(fault) => {
-            let text = fragment_fault_text(alloc, fault)?;
-            Ok(text.into_bytes())
-        }
-        Refusal::Overlap { start, stored } => {
-            let overlap = overlap_text(alloc, number, *start, *stored)?;
-            Ok(overlap)
-        }
-        Refusal::Differs { start } => differs_text(alloc, number, *start),
-        Refusal::Full { held, new, cap } => {
-            let full = format!(in alloc; "E{number} Full held={held} new={new} cap={cap}")?;
-            Ok(full.into_bytes())
-        }
-        Refusal::Read => Ok(format!(in alloc; "E{number} Read")?.into_bytes()),
-        Refusal::Memory => Ok(format!(in alloc; "E{number} Memory")?.into_bytes()),
-        Refusal::Store(fault) => {
-            let text = store_text(alloc, fault)?;
-            Ok(text.into_bytes())
-        }
-    }
+    let number = format!(in alloc; "{}", refusal.number())?;
+    let details = refusal_details(alloc, refusal)?;
+    let parts = [
+        b"E".as_slice(),
+        number.as_bytes(),
+        b" ",
+        refusal.name().as_bytes(),
+        details.as_slice(),
+    ];
+    joined(alloc, &parts)
 }

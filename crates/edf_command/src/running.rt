@@ -3,11 +3,12 @@
 ghost use Rattle.std.specs.Prelude.{◌≡◌, ℕ, List};
 ghost use Rattle.edfstore_arguments.specs.Arguments.{meaning};
 ghost use Rattle.edf_program.specs.Output.{growth};
-ghost use Rattle.edf_command.specs.Run.{IsDone, HasOpened, files_of};
+ghost use Rattle.edf_command.specs.Run.{IsDone, files_of};
+ghost use Rattle.edf_command.specs.Taking.{HasOpened};
 
 use crate::converting::convert;
+use crate::exporting::export_place;
 use crate::listing::list;
-use crate::sending::send_place;
 use crate::taking::take;
 use edf_fragment::Output;
 use edf_program::{Inputs, Status};
@@ -43,7 +44,7 @@ pub fn run<S: Alter, I: Inputs, O: Output, F: Output>(
             take(alloc, files.as_slice(), store, inputs, out, err)
         }
         Order::List { store: _ } => list(alloc, store, out, err),
-        Order::Export { store: _, place } => send_place(alloc, *place, store, out, err),
+        Order::Export { store: _, place } => export_place(alloc, *place, store, out, err),
         Order::Convert { file } => convert(alloc, file.as_str(), store, inputs, out, err),
     }
 }

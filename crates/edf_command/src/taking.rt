@@ -1,17 +1,17 @@
 //! `take`: files into the store.
 
-ghost use Rattle.std.specs.Prelude.{◌≡◌, ◌++◌, ◌∷◌, ℕ, [], List, IfOk, MatchResult, length, map};
-ghost use Rattle.std.specs.Prelude.{string_bytes, codes, decimal};
-ghost use Rattle.edf_command.specs.Lines.{answer_status, take_line, first_take_lines, take_status};
-ghost use Rattle.edf_command.specs.Lines.{worse};
-ghost use Rattle.edf_command.specs.Refusals.{IsSpelling, refusal_text};
-ghost use Rattle.edf_program.specs.Output.{growth, ArePut};
-ghost use Rattle.edf_command.specs.Run.{IsTaken, HasOpened, OpensFront};
+ghost use Rattle.std.specs.Prelude.{◌≡◌, ◌++◌, ℕ, List, IfOk, MatchResult, length, map};
+ghost use Rattle.std.specs.Prelude.{string_bytes};
+ghost use Rattle.edf_command.specs.Lines.{accepted_line, refused_file_line, take_line};
+ghost use Rattle.edf_command.specs.Lines.{first_take_lines, answer_status, take_status, worse};
+ghost use Rattle.edf_command.specs.Refusals.{IsSpelling};
+ghost use Rattle.edf_program.specs.Output.{growth, AreLinesPut};
+ghost use Rattle.edf_command.specs.Taking.{IsTaken, HasOpened, OpensFront};
 
 use crate::refusal::{joined, refusal_text};
 use edf_fragment::Output;
 use edf_intake::{Receipt, Refusal, submit_all};
-use edf_program::{Inputs, Status, put_line, status_of_number, tell_bytes};
+use edf_program::{Inputs, Status, put_line, status_of_number, tell_memory};
 use edf_store::Store;
 use sqlite::Alter;
 use std::alloc::{AllocError, Global};
@@ -38,25 +38,24 @@ fn open_all<I: Inputs>(
 }
 
 /// The line of a refused file.
-pub(crate) fn refused_line(
+pub(crate) fn refused_file_line(
     alloc: Global,
     name: &str,
     refusal: &Refusal,
 ) -> Result<Vec<u8>, AllocError>
     ensures { IfOk result (λ r. (spell : ℕ → List ℕ) → IsSpelling spell →
-        r.items ≡ name.now
-        ++ (codes " refused " ++ (refusal_text spell refusal.now ++ (10 ∷ [])))) }
+        r.items ≡ refused_file_line spell name.now refusal.now) }
 {
-    let mut text = refusal_text(alloc, refusal)?;
-    text.push(b'\n')?;
-    let line = joined(alloc, name.as_bytes(), b" refused ", text.as_slice())?;
-    Ok(line)
+    let text = refusal_text(alloc, refusal)?;
+    joined(
+        alloc,
+        &[name.as_bytes(), b" refused ", text.as_slice(), b"\n"],
+    )
 }
 
 /// The line of an accepted file.
 fn accepted_line(alloc: Global, name: &str, new: u32, known: u32) -> Result<Vec<u8>, AllocError>
-    ensures { IfOk result (λ r. r.items ≡ name.now ++ (codes " accepted new="
-        ++ (decimal new ++ (codes " known=" ++ (decimal known ++ (10 ∷ [])))))) }
+    ensures { IfOk result (λ r. r.items ≡ accepted_line name.now new known) }
 {
     let line = format!(in alloc; "{name} accepted new={new} known={known}\n")?;
     Ok(line.into_bytes())
@@ -76,7 +75,7 @@ fn take_line(
             let line = accepted_line(alloc, name, receipt.new, receipt.known)?;
             Ok(line)
         }
-        Err(refusal) => refused_line(alloc, name, refusal),
+        Err(refusal) => refused_file_line(alloc, name, refusal),
     }
 }
 
@@ -87,9 +86,10 @@ fn put_answers<O: Output>(
     files: &[String],
     answers: &[Result<Receipt, Refusal>],
 ) -> bool
-    ensures { (spell : ℕ → List ℕ) → IsSpelling spell → ArePut (growth O.Output out.old out.new)
-        (first_take_lines spell
-        (map string_bytes files.now) answers.now) (length answers.now) result }
+    ensures { (spell : ℕ → List ℕ) → IsSpelling spell →
+        AreLinesPut (growth O.Output out.old out.new)
+        (first_take_lines spell (map string_bytes files.now) answers.now)
+        (length answers.now) result }
 {
     for (file, answer) in files.iter().zip(answers) {
         if !put_line(out, take_line(alloc, file.as_str(), answer)) {
@@ -148,10 +148,10 @@ pub(crate) fn take<S: Alter, I: Inputs, O: Output, F: Output>(
     ensures same { (name : List ℕ) → I.bytes inputs.new name ≡ I.bytes inputs.old name }
 {
     let Ok(mut readers) = open_all(alloc, inputs, files) else {
-        return tell_bytes(err, b"take refused E41 Memory\n", Status::Trouble);
+        return tell_memory(err, "take");
     };
     let Ok(answers) = submit_all(alloc, store, readers.as_mut_slice()) else {
-        return tell_bytes(err, b"take refused E41 Memory\n", Status::Trouble);
+        return tell_memory(err, "take");
     };
     if put_answers(alloc, out, files, answers.as_slice()) {
         take_status(answers.as_slice())

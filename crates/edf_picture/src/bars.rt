@@ -11,8 +11,8 @@ use crate::ticks::write_ticks;
 use crate::times::{DAY, clock_label, date_label, instant_label, span_text};
 use std::alloc::{AllocError, Global};
 
-/// Writes a row with data records, its bars and gaps, and the ticks above them. Tells whether runs
-/// and gaps are drawn as one.
+/// Writes a row with data records, its bars and gaps, and the ticks above them, and answers whether
+/// some runs and gaps are drawn as one.
 pub(crate) fn write_data_row(
     svg: &mut String,
     recording: &Recording<'_>,
@@ -95,8 +95,8 @@ fn mark_title(alloc: Global, mark: &Mark) -> Result<String, AllocError> {
     format!(in alloc; "{records}, {from} to {to}")
 }
 
-/// With more gaps than this in a row their lengths are not told.
-const TOLD: u32 = 12;
+/// With more gaps than this in a row, their number is written in place of their lengths.
+const MOST_LENGTHS: u32 = 12;
 
 /// Writes the lengths of the gaps below them, where they fit, or how many gaps there are.
 fn write_lengths(
@@ -109,7 +109,7 @@ fn write_lengths(
         return Ok(());
     };
     let mut labels = Labels::new(alloc);
-    if all.gaps > TOLD {
+    if all.gaps > MOST_LENGTHS {
         let text = counted(alloc, u64::from(all.gaps), "gap")?;
         labels.offer(Label::new(all.middle(row), text, 0))?;
     } else {
@@ -144,7 +144,8 @@ fn offer_lengths(
     Ok(())
 }
 
-/// The length of a gap, told where the larger part of it is, or how many gaps there are.
+/// The length of a gap, written in the row that has the larger part of it, or how many gaps there
+/// are.
 fn length_text(alloc: Global, mark: &Mark) -> Result<Option<String>, AllocError> {
     if mark.is_mixed() {
         return Ok(Some(counted(alloc, u64::from(mark.gaps), "gap")?));
@@ -155,7 +156,7 @@ fn length_text(alloc: Global, mark: &Mark) -> Result<Option<String>, AllocError>
     Ok(Some(span_text(alloc, mark.whole.length())?))
 }
 
-/// Writes when a row begins: its clock reading, and its day where that is told.
+/// Writes when a row begins: its clock reading, and its day if that is asked for.
 pub(crate) fn write_row_start(
     svg: &mut String,
     alloc: Global,

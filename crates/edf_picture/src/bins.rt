@@ -2,7 +2,7 @@ use crate::extent::Extent;
 use std::alloc::{AllocError, Global};
 use std::collections::BTreeMap;
 
-/// Annotations near one another.
+/// Annotations with onsets near one another.
 #[derive(Clone, Copy)]
 pub(crate) struct Bin {
     /// The earliest onset.
@@ -10,7 +10,7 @@ pub(crate) struct Bin {
     pub(crate) count: u32,
 }
 
-/// So many bins are kept. Past them the bins grow wider.
+/// How many bins are kept. Where more would be needed, the bins grow wider.
 const BINS: usize = 32_768;
 
 /// Counts of annotations by their onsets, in bounded memory.
@@ -47,7 +47,7 @@ impl Bins {
         Ok(())
     }
 
-    /// Puts a bin to what is near it.
+    /// Adds a bin beside those near it.
     fn count(&mut self, bin: Bin) -> Result<(), AllocError> {
         let place = bin.first.checked_div(self.width).unwrap_or(0);
         let near = self.bins.entry(place)?.or_insert(Bin {

@@ -12,13 +12,13 @@ const COLUMNS: u64 = ACROSS * 2;
 #[derive(Drop)]
 pub(crate) struct Columns<'a> {
     recording: Recording<'a>,
-    /// The runs, as one where the gap between them is narrower than a column.
+    /// The runs; two are one where the gap between them is narrower than a column.
     runs: Vec<Extent>,
     /// The columns from the left on, up to where the stages are known.
     shown: Vec<Option<Stage>>,
     /// The last epoch, which ends at the next one at the latest.
     open: Option<Epoch>,
-    /// Those of the epochs before it.
+    /// The lengths of the epochs before it.
     lengths: Lengths,
 }
 
@@ -30,7 +30,7 @@ pub(crate) fn list_columns(
 ) -> Result<Vec<Option<Stage>>, AllocError> {
     let mut columns = Columns {
         recording: *recording,
-        runs: list_runs(alloc, recording)?,
+        runs: joined_runs(alloc, recording)?,
         shown: Vec::new(alloc),
         open: None,
         lengths: Lengths::None,
@@ -40,7 +40,7 @@ pub(crate) fn list_columns(
 }
 
 /// The runs, each with the next one where the gap between them is narrower than a column.
-fn list_runs(alloc: Global, recording: &Recording<'_>) -> Result<Vec<Extent>, AllocError> {
+fn joined_runs(alloc: Global, recording: &Recording<'_>) -> Result<Vec<Extent>, AllocError> {
     let column = recording.all.length() / COLUMNS;
     let mut runs = Vec::new(alloc);
     let mut open: Option<Extent> = None;
@@ -85,7 +85,7 @@ impl Columns<'_> {
         self.show(epoch, run.map_or(end, |run| end.min(run.to)))
     }
 
-    /// The one of the runs that has the instant.
+    /// The run that has the instant.
     fn run_at(&self, at: u64) -> Option<Extent> {
         let next = self.runs.partition_point(|run| run.from <= at);
         let run = *self.runs.get(next.checked_sub(1)?)?;

@@ -91,7 +91,7 @@ impl Sketch {
         }
     }
 
-    /// Draws the hypnogram, where a stage is told.
+    /// Draws the hypnogram, if an annotation names a stage.
     fn draw_stages(
         &self,
         alloc: Global,
@@ -133,7 +133,8 @@ impl Sketch {
         Ok(())
     }
 
-    /// Draws a row, after one of a day, and tells its own day.
+    /// Draws a row, and answers its day, which is written where it is not `day`: that of the last
+    /// row with data before it.
     fn draw_row(
         &self,
         recording: &Recording<'_>,

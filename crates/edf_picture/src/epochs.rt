@@ -2,21 +2,21 @@ use crate::extent::Extent;
 use crate::stages::Stage;
 use crate::times::SECOND;
 
-/// A time in one stage, as an annotation tells it.
+/// A time in one stage, by an annotation.
 #[derive(Clone, Copy)]
 pub(crate) struct Epoch {
     pub(crate) onset: u64,
-    /// How long it holds, where that is told.
+    /// How long it holds, if the annotation has a duration.
     pub(crate) duration: Option<u64>,
     pub(crate) stage: Stage,
 }
 
-/// How long an epoch holds where nothing tells.
+/// How long an epoch holds where neither its duration nor another epoch says it.
 const ALONE: u64 = 30 * SECOND;
 
 impl Epoch {
-    /// When it ends: the next one, where there is one, begins then, and those before it agree on a
-    /// length, or on none.
+    /// When it ends. `next` is the onset of the next one, if there is one; `agreed` is the length
+    /// on which those before it agree.
     pub(crate) fn end(self, next: Option<u64>, agreed: Option<u64>) -> u64 {
         let end = match (self.duration.or(agreed), next) {
             (Some(length), _) => self.onset.saturating_add(length),
@@ -26,8 +26,7 @@ impl Epoch {
         next.map_or(end, |next| end.min(next))
     }
 
-    /// Its length where that is known: by its duration, or by the next one, at which it ends, in the
-    /// same run.
+    /// Its length if that is known: its duration, or the time to the next one in the same run.
     pub(crate) fn length(self, next: Option<u64>, end: u64, run: Option<Extent>) -> Option<u64> {
         if self.duration.is_some() {
             return self.duration;

@@ -39,13 +39,13 @@ pub(crate) struct Heading {
     annotations: String,
 }
 
-/// Longer codes get a line each.
+/// Where the codes have more characters than this, each has a line of its own.
 const ONE_LINE: usize = 52;
 
-/// So many characters of a code are shown in a line.
+/// How many characters of a code are shown in a line.
 const SHOWN: usize = 60;
 
-/// More than a text of the header has.
+/// More characters than a text of the header has.
 const ALL: usize = 1_000;
 
 const STYLE: &str = "<style>\
@@ -124,7 +124,7 @@ fn write_line(svg: &mut String, class: &str, y: u64, text: &String) -> Result<()
 }
 
 impl Title<'_> {
-    /// Both codes, each cut after so many characters.
+    /// Both codes, each cut after the characters that a line shows.
     fn line(&self, alloc: Global, limit: usize) -> Result<String, AllocError> {
         let patient = escaped(alloc, self.patient, limit)?;
         let investigation = escaped(alloc, self.investigation, limit)?;

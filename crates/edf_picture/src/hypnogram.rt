@@ -28,7 +28,7 @@ const FLOOR: u64 = TOP + 4 * STEP;
 pub(crate) const HEIGHT: u64 = FLOOR + 56;
 
 impl Hypnogram {
-    /// A hypnogram, where a stage is told.
+    /// A hypnogram, if an annotation names a stage.
     pub(crate) fn of(stages: &Stages) -> Option<Hypnogram> {
         if stages.is_empty() {
             return None;

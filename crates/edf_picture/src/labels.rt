@@ -14,7 +14,7 @@ pub(crate) struct Label {
     weight: u64,
 }
 
-/// Labels side by side, none over another.
+/// Labels side by side, of which none covers another.
 #[derive(Drop)]
 pub(crate) struct Labels {
     placed: Vec<Label>,
@@ -68,7 +68,7 @@ impl Labels {
         Ok(())
     }
 
-    /// Whether the label fits where the last ones are left out.
+    /// Whether the label fits without the last `left_out` of those before it.
     fn fits_after(&self, left_out: usize, label: &Label) -> bool {
         match self.placed.iter().rev().nth(left_out) {
             Some(before) => before.is_clear_of(label),

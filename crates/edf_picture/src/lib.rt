@@ -6,7 +6,7 @@
 //!
 //! A row shows an hour, and from 36 hours on a day or more, so that at most 40 rows have data. Rows
 //! that lie in one gap are one thin row. Runs are bars, gaps are hatched, and annotations are ticks
-//! above the bars, taller where there are more. Runs and gaps too narrow to be told apart are drawn
+//! above the bars, taller where there are more. Runs and gaps too narrow to be seen apart are drawn
 //! as one, and its title says how many there are.
 //!
 //! Stages of sleep are a hypnogram above the rows. Texts `Sleep stage` with `W`, `N1`, `N2`, `N3`,

@@ -3,7 +3,7 @@ use crate::pixels::{LEFT, Pixels, RIGHT};
 use crate::recording::Recording;
 use std::alloc::{AllocError, Global};
 
-/// A run, a gap, or several too short to be told apart, as one row shows it.
+/// A run, a gap, or several too short to be seen apart, as one row shows it.
 #[derive(Clone, Copy)]
 pub(crate) struct Mark {
     /// The time of all of it.

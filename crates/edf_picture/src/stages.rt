@@ -12,7 +12,7 @@ pub(crate) enum Stage {
     Two,
     /// The third and the fourth of the older names.
     Three,
-    /// No stage: nobody could tell it, or the sleeper moved.
+    /// No stage: it could not be scored, or the sleeper moved.
     Untold,
 }
 
@@ -32,7 +32,7 @@ fn named_stage(text: &str) -> Option<(Stage, bool)> {
     }
 }
 
-/// So many changes of the stage are kept, the first ones.
+/// How many changes of the stage are kept: the first ones.
 const CHANGES: usize = 32_768;
 
 /// The stages of a recording, in bounded memory.
@@ -67,8 +67,8 @@ impl Stages {
         self.left_out.is_some()
     }
 
-    /// Takes the stage that an annotation names, if it names one, and tells whether it does. A
-    /// duration of 0 is none.
+    /// Takes the stage that an annotation names, and answers whether it names one. A duration of 0
+    /// is none.
     pub(crate) fn add(
         &mut self,
         onset: u64,
@@ -89,7 +89,8 @@ impl Stages {
         Ok(true)
     }
 
-    /// Puts an epoch to its place in time. Of those with one onset the last that is told counts.
+    /// Adds an epoch in the order of onsets. Of those with one onset the last that was added
+    /// counts.
     fn put(&mut self, epoch: Epoch) -> Result<(), AllocError> {
         if self.left_out.is_some_and(|onset| onset <= epoch.onset) {
             return Ok(());
@@ -108,7 +109,7 @@ impl Stages {
         Some(*series)
     }
 
-    /// Puts an epoch behind the series, or between two epochs of it, or in place of one.
+    /// Adds an epoch after the series, or between two epochs of it, or in place of one.
     fn put_into(&mut self, series: Series, epoch: Epoch) -> Result<(), AllocError> {
         if series.has(epoch) {
             return Ok(());

@@ -33,7 +33,7 @@ pub(crate) fn seconds_text(alloc: Global, nanos: u64) -> Result<String, AllocErr
     Ok(text)
 }
 
-/// Two days or more. The hours are told up to ten days, and from four years on the years.
+/// Two days or more: with the hours up to ten days, and in years from four years on.
 fn days_text(alloc: Global, days: u64, hours: u64) -> Result<String, AllocError> {
     if days >= 1_461 {
         let tenths = days.saturating_mul(40) / 1_461;

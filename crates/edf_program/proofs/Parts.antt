@@ -10,7 +10,7 @@ use Rattle.std.proofs.lemmas.Grind.{flat_map-append}
 use Rattle.edf_program.specs.Output.{Gets, IsPut, IsWritten}
 use Rattle.edf_program.specs.declared.status.Status.{Status}
 use Rattle.edf_program.specs.declared.status.Status.TheVariants.{Trouble}
-use Rattle.edf_program.proofs.Puts.{grown, gets-behind, front-behind}
+use Rattle.edf_program.proofs.Puts.{grown, gets-after, front-after}
 
 pub lines-more : {X : Type 0} (f : X → List ℕ) (xs : List X) (i : ℕ) (d : X) → i < length xs
     → flat_map f (take (i + 1) xs) ≡ flat_map f (take i xs) ++ f (get_or xs i d)
@@ -32,7 +32,7 @@ module _ (a : Option (List ℕ)) (old : ℕ) (b : Option (List ℕ)) (mid : ℕ)
   pub parts-more : (written : Bool) → IsPut (grown b mid c new) (f (get_or xs i d)) written →
       written ≡ true → Gets (grown a old c new) (flat_map f (take (i + 1) xs))
   parts-more true put e = subst (Gets (grown a old c new)) (sym (lines-more f xs i d within))
-      (gets-behind a old b mid c new (flat_map f (take i xs)) (f (get_or xs i d)) done put)
+      (gets-after a old b mid c new (flat_map f (take i xs)) (f (get_or xs i d)) done put)
   parts-more false put e = absurd (false≢true e)
 
   -- a part that was not written whole
@@ -41,7 +41,7 @@ module _ (a : Option (List ℕ)) (old : ℕ) (b : Option (List ℕ)) (mid : ℕ)
       IsWritten (grown a old c new) (flat_map f xs) wanted Trouble
   parts-stop false wanted put e =
       inr (
-        front-behind a old b mid c new (flat_map f (take i xs)) (f (get_or xs i d))
+        front-after a old b mid c new (flat_map f (take i xs)) (f (get_or xs i d))
             (flat_map f (drop (i + 1) xs)) (flat_map f xs) (lines-split f xs i d within) done put,
         refl,
       )

@@ -1,4 +1,4 @@
--- What is put and told, from what `send` did.
+-- What is written, and what is answered, from what `send` did.
 use Rattle.std.proofs.Common.{◌≡◌, ◌⊎◌, ℕ, ◌<◌, Bool, true, false, List, [], ◌++◌, length, take}
 use Rattle.std.proofs.Common.{drop, refl, sym, ap, ◌∙◌, subst, inl, inr, take-append-drop}
 use Rattle.std.proofs.Common.{append_assoc}
@@ -109,9 +109,9 @@ nothing-gets known failed = (Appends-nil known, refl)
 
 module _ (a : Option (List ℕ)) (old : ℕ) (b : Option (List ℕ)) (mid : ℕ) (c : Option (List ℕ))
     (new : ℕ) where
-  pub gets-behind : (done more : List ℕ) → Gets (grown a old b mid) done →
+  pub gets-after : (done more : List ℕ) → Gets (grown a old b mid) done →
       Gets (grown b mid c new) more → Gets (grown a old c new) (done ++ more)
-  gets-behind done more first then = (
+  gets-after done more first then = (
     Appends-trans a b c done more first.0 then.0,
     then.1
         ∙ first.1,
@@ -120,13 +120,13 @@ module _ (a : Option (List ℕ)) (old : ℕ) (b : Option (List ℕ)) (mid : ℕ)
   pub gets-no_more : (done : List ℕ) → Gets (grown a old b mid) done → Gets (grown b mid c new) [] →
       Gets (grown a old c new) done
   gets-no_more done first then = subst (Gets (grown a old c new)) (append-nil done)
-      (gets-behind done [] first then)
+      (gets-after done [] first then)
 
   -- some bytes were written, and then a front of those after them
-  pub front-behind : (done line rest all : List ℕ) → all ≡ done ++ (line ++ rest) →
+  pub front-after : (done line rest all : List ℕ) → all ≡ done ++ (line ++ rest) →
       Gets (grown a old b mid) done → GetsFront (grown b mid c new) line →
       GetsFront (grown a old c new) all
-  front-behind done line rest all e first then = (
+  front-after done line rest all e first then = (
     record {
       front = done ++ then.0.front;
       left = then.0.left ++ rest;
@@ -139,38 +139,11 @@ module _ (a : Option (List ℕ)) (old : ℕ) (b : Option (List ℕ)) (mid : ℕ)
   )
 
   -- some lines were written, and the next one was not
-  pub stops-behind : (lines : ℕ → List ℕ) (count n : ℕ) (line rest : List ℕ) → n < count →
+  pub stops-after : (lines : ℕ → List ℕ) (count n : ℕ) (line rest : List ℕ) → n < count →
       lines count ≡ lines n ++ (line ++ rest) → Gets (grown a old b mid) (lines n)
       → IsLinePut (grown b mid c new) line false → GetsFront (grown a old c new) (lines count)
       ⊎ LacksText (grown a old c new) lines count
-  stops-behind lines count n line rest lt e first (inl cut) =
-      inl (front-behind (lines n) line rest (lines count) e first cut)
-  stops-behind lines count n line rest lt e first (inr none) =
+  stops-after lines count n line rest lt e first (inl cut) =
+      inl (front-after (lines n) line rest (lines count) e first cut)
+  stops-after lines count n line rest lt e first (inr none) =
       inr (record { written = n; fewer = lt; wrote = gets-no_more (lines n) first none })
-
-  -- some bytes were written, and others after them or a front of those
-  pub written-behind : (done more : List ℕ) (written : Bool) (wanted status : Status) →
-      IsPut (grown a old b mid) done written → written ≡ true
-      → IsWritten (grown b mid c new) more wanted status →
-      IsWritten (grown a old c new) (done ++ more) wanted status
-  written-behind done more true wanted status first e (inl whole) =
-      inl (gets-behind done more first whole.0, whole.1)
-  written-behind done more true wanted status first e (inr cut) =
-      inr (
-        front-behind done more [] (done ++ more)
-            (ap (λ (l : List ℕ). done ++ l) (sym (append-nil more))) first cut.0,
-        cut.1,
-      )
-  written-behind done more false wanted status first e then = absurd (false≢true e)
-
--- a front of the first bytes was written, and no more
-pub cut-before : (a : Option (List ℕ)) (old : ℕ) (b : Option (List ℕ)) (mid : ℕ)
-    (done more : List ℕ) (written : Bool) (wanted : Status) →
-    IsPut (grown a old b mid) done written → written ≡ false
-    → IsWritten (grown a old b mid) (done ++ more) wanted Trouble
-cut-before a old b mid done more false wanted first e =
-    inr (
-      front-behind a old a old b mid [] done more (done ++ more) refl (nothing-gets a old) first,
-      refl,
-    )
-cut-before a old b mid done more true wanted first e = absurd (false≢true (sym e))

@@ -1,3 +1,4 @@
 pub mod Status
 pub mod Output
 pub mod Text
+pub mod Words

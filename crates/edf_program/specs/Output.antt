@@ -50,11 +50,12 @@ abbrev pub IsLinePut : Growth → List ℕ → Bool → Type 0
 IsLinePut w text written = MatchBool written (Gets w text) (GetsFront w text ⊎ Gets w [])
 
 -- `count` lines were written; or a write failed, or memory for the text of one was refused
-abbrev pub ArePut : Growth → (ℕ → List ℕ) → ℕ → Bool → Type 0
-ArePut w lines count written = MatchBool written (Gets w (lines count)) (GetsFront w (lines count)
+abbrev pub AreLinesPut : Growth → (ℕ → List ℕ) → ℕ → Bool → Type 0
+AreLinesPut w lines count written =
+    MatchBool written (Gets w (lines count)) (GetsFront w (lines count)
     ⊎ LacksText w lines count)
 
--- ---- what is answered by the status that is wanted, and by trouble
+-- ---- what is answered by a status: the one that was asked for, or trouble
 
 abbrev pub IsWritten : Growth → List ℕ → Status → Status → Type 0
 IsWritten w bytes wanted status = (Gets w bytes × (status ≡ wanted))

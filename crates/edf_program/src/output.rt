@@ -1,6 +1,6 @@
 //! Writing lines.
 
-ghost use Rattle.std.specs.Prelude.{◌≡◌, ◌++◌, ℕ, [], List, false, IfOk, MatchResult};
+ghost use Rattle.std.specs.Prelude.{◌≡◌, ℕ, [], List, false, IfOk, MatchResult};
 ghost use Rattle.std.specs.List.{flat_map};
 ghost use Rattle.edf_program.specs.Output.{growth, Gets, IsPut, IsLinePut, IsWritten, IsTold};
 
@@ -28,17 +28,6 @@ pub fn tell_bytes<W: Output>(out: &mut W, bytes: &[u8], status: Status) -> Statu
 {
     if send(out, bytes) {
         status
-    } else {
-        Status::Trouble
-    }
-}
-
-/// Writes bytes in two parts and answers a status; trouble where they are not written whole.
-pub fn tell_pair<W: Output>(out: &mut W, first: &[u8], second: &[u8], status: Status) -> Status
-    ensures { IsWritten (growth W.Output out.old out.new) (first.now ++ second.now) status result }
-{
-    if send(out, first) {
-        tell_bytes(out, second, status)
     } else {
         Status::Trouble
     }

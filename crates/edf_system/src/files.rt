@@ -13,9 +13,10 @@ use std::fs::File;
 use std::io::{self, BufReader, Read, Stdin};
 use std::rc::Rc;
 
-/// How many bytes of a file, and of standard input, are asked for at once.
+/// How many bytes of a file are asked for at once.
 const PIECE: usize = 16_384;
 
+/// How many bytes of standard input are asked for at once.
 const STREAM_PIECE: usize = 65_536;
 
 /// Opens FILE arguments; repeated `-` continues standard input.
@@ -58,62 +59,66 @@ impl<'rt> Files<'rt> {
     }
 }
 
-/// Where a reader reads from. A file is opened at its first read, and closed at its end.
+/// How far a reader is. A file is opened at its first read, and closed at its end.
 #[derive(Drop)]
-enum Place {
+enum FileState {
+    /// The file is not open yet.
     Closed,
-    Open(BufReader<File>),
+    /// The file is read.
+    File(BufReader<File>),
+    /// Standard input is read.
     Stream(Rc<RefCell<BufReader<Stdin>>>),
+    /// All was read.
     Ended,
 }
 
 /// A reader of a file or of standard input, which shows progress, and prints why a read failed.
 #[derive(Drop)]
-pub struct Source<'rt> {
+pub struct FileReader<'rt> {
     rt: &'rt HostRuntime,
     terminal: &'rt Terminal<'rt>,
     name: String,
     is_begun: bool,
-    place: Place,
+    state: FileState,
 }
 
-impl Source<'_> {
+impl FileReader<'_> {
     /// Opens the file, if it is not open yet.
     fn begin(&mut self) -> io::Result<()> {
         if !self.is_begun {
             self.is_begun = true;
             self.terminal.begin_file();
         }
-        if let Place::Closed = self.place {
+        if let FileState::Closed = self.state {
             let file = File::open(self.rt, self.name.as_str())?;
-            self.place = Place::Open(BufReader::with_capacity(self.rt.alloc(), PIECE, file)?);
+            self.state = FileState::File(BufReader::with_capacity(self.rt.alloc(), PIECE, file)?);
         }
         Ok(())
     }
 
-    /// Reads from the place, as it is once it was begun.
+    /// Reads on, from the file or from standard input.
     fn pull(&mut self, buf: &mut [u8]) -> io::Result<usize>
         ensures { ReadsAtMost result buf.new }
     {
         self.begin()?;
-        match &mut self.place {
-            Place::Open(file) => file.read(buf),
-            Place::Stream(stream) => match stream.try_borrow_mut() {
+        match &mut self.state {
+            FileState::File(file) => file.read(buf),
+            FileState::Stream(stream) => match stream.try_borrow_mut() {
                 Ok(mut stream) => stream.read(buf),
                 Err(_) => Err(io::Error::from(io::ErrorKind::Other)),
             },
-            _ => Ok(0),
+            FileState::Closed | FileState::Ended => Ok(0),
         }
     }
 }
 
-impl Read for Source<'_> {
+impl Read for FileReader<'_> {
     fn read(&mut self, buf: &mut [u8]) -> io::Result<usize> {
         match self.pull(buf) {
             Ok(count) => {
                 self.terminal.add_bytes(count);
                 if count == 0 && !buf.is_empty() {
-                    self.place = Place::Ended;
+                    self.state = FileState::Ended;
                 }
                 Ok(count)
             }
@@ -126,26 +131,26 @@ impl Read for Source<'_> {
 }
 
 impl<'rt> Inputs for Files<'rt> {
-    type Reader = Counted<Source<'rt>>;
+    type Reader = Counted<FileReader<'rt>>;
 
     ghost bytes = { λ _ _. None };
 
     ghost opened = { λ files. map string_bytes files.names.items };
 
-    fn open(&mut self, alloc: Global, name: &str) -> Result<Counted<Source<'rt>>, AllocError> {
-        let place = if name == "-" {
-            Place::Stream(self.stream(alloc)?)
+    fn open(&mut self, alloc: Global, name: &str) -> Result<Counted<FileReader<'rt>>, AllocError> {
+        let state = if name == "-" {
+            FileState::Stream(self.stream(alloc)?)
         } else {
-            Place::Closed
+            FileState::Closed
         };
-        let source = Source {
+        let reader = FileReader {
             rt: self.rt,
             terminal: self.terminal,
             name: String::from_str(alloc, name)?,
             is_begun: false,
-            place,
+            state,
         };
         self.names.push(String::from_str(alloc, name)?)?;
-        Ok(Counted::new(source))
+        Ok(Counted::new(reader))
     }
 }

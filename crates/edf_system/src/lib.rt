@@ -2,10 +2,10 @@
 //! person sees.
 //!
 //! - [`words`], [`refuse_words`]: the words after a program's name.
-//! - [`Files`]: what opens files and standard input; [`Source`]: its readers.
+//! - [`Files`]: what opens files and standard input; [`FileReader`]: its readers.
 //! - [`Streams`]: standard output and standard error.
-//! - [`Terminal`]: progress and messages, where standard error is a terminal; [`Clearing`]: a stream
-//!   beside it. [`tell_system_error`], [`FULL`]: causes in plain words.
+//! - [`Terminal`]: progress and messages, where standard error is a terminal; [`Clearing`]: a
+//!   stream beside it. [`tell_system_error`], [`FULL`]: causes in plain words.
 #![tactic(auto)]
 
 mod cause;
@@ -14,6 +14,6 @@ mod streams;
 mod terminal;
 
 pub use cause::{FULL, tell_system_error};
-pub use files::{Files, Source};
+pub use files::{FileReader, Files};
 pub use streams::{Streams, refuse_words, words};
 pub use terminal::{Clearing, Terminal};

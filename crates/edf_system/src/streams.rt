@@ -2,7 +2,7 @@
 
 use crate::terminal::{Clearing, Terminal};
 use edf_fragment::Counted;
-use edf_program::Status;
+use edf_program::{Status, tell_bytes, tell_memory};
 use std::io::{ErrorKind, Stderr, Stdout};
 use std::{env, io};
 
@@ -17,14 +17,11 @@ pub fn words(rt: &HostRuntime) -> io::Result<Vec<String>> {
 
 /// Prints why the words can't be had: one is not UTF-8, or memory ran out.
 pub fn refuse_words(rt: &HostRuntime, error: &io::Error) -> Status {
-    let (line, status) = if error.kind() == ErrorKind::InvalidData {
-        ("error: a word is not UTF-8", Status::Usage)
+    let mut err = Counted::new(rt.stderr());
+    if error.kind() == ErrorKind::InvalidData {
+        tell_bytes(&mut err, b"error: a word is not UTF-8\n", Status::Usage)
     } else {
-        ("command refused E41 Memory", Status::Trouble)
-    };
-    match eprintln!(rt; "{line}") {
-        Ok(()) => status,
-        Err(_) => Status::Trouble,
+        tell_memory(&mut err, "command")
     }
 }
 

@@ -27,8 +27,8 @@ pub struct Terminal<'rt> {
 }
 
 impl<'rt> Terminal<'rt> {
-    /// A terminal that shows the progress of reading `units` files or whatever else `unit` names, if
-    /// there are any.
+    /// A terminal that shows the progress of reading `units` files or whatever else `unit` names,
+    /// if there are any.
     pub fn new(rt: &'rt HostRuntime, unit: &'static str, units: usize) -> Terminal<'rt> {
         let is_there = rt.stderr().is_terminal();
         Terminal {

@@ -19,14 +19,6 @@ fn command_of(rt: &HostRuntime, words: &[String]) -> Result<RunsCommand, Status>
     read_command(rt.alloc(), words, &mut out, &mut err)
 }
 
-/// The terminal of a command, which shows a person how much of the file was read.
-fn terminal_of<'rt>(rt: &'rt HostRuntime, command: &RunsCommand) -> Terminal<'rt> {
-    match command {
-        RunsCommand::List { .. } | RunsCommand::Picture { .. } => Terminal::new(rt, "reading", 1),
-        RunsCommand::Write { .. } | RunsCommand::Split { .. } => Terminal::new(rt, "reading", 2),
-    }
-}
-
 /// Runs a command over the system's files and streams.
 fn run_over(
     rt: &HostRuntime,
@@ -45,9 +37,9 @@ fn run_over(
     )
 }
 
-/// What the command asks for, done, with what a person sees of it.
+/// Does what the command asks for, and shows a person how much of its file was read.
 fn run_command(rt: &HostRuntime, command: &RunsCommand) -> Status {
-    let terminal = terminal_of(rt, command);
+    let terminal = Terminal::new(rt, "reading", command.readings());
     let mut streams = Streams::new(rt, &terminal);
     let mut inputs = Files::new(rt, &terminal);
     let mut outputs = NewFiles::new(rt, &terminal);

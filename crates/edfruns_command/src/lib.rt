@@ -1,25 +1,22 @@
-//! The commands of `edfruns`, over any files and writers.
+//! The commands of `edfruns`, over any files and writers. Each has a file of its own: its words,
+//! its help and its work.
 //!
 //! - [`read_command`]: the words after the program's name, as a [`RunsCommand`]; help and usage are
 //!   written. [`parse`]: the words, read, and nothing else.
-//! - [`run_runs`]: one command, over what opens files (`edf_program`'s `Inputs`) and what makes them
-//!   ([`Outputs`]).
+//! - [`run_runs`]: one command, over what opens files (`edf_program`'s `Inputs`) and what makes
+//!   them ([`Outputs`]).
 #![tactic(auto)]
 
 mod arguments;
-mod help;
 mod lines;
-mod listing;
+mod list_command;
 mod naming;
-mod picturing;
-mod program;
+mod picture_command;
 mod refusal;
-mod running;
 mod runs_command;
-mod splitting;
-mod writing;
+mod split_command;
+mod write_command;
 
-pub use arguments::parse;
-pub use program::read_command;
-pub use running::{Outputs, run_runs};
-pub use runs_command::RunsCommand;
+pub use arguments::{parse, read_command};
+pub use runs_command::{RunsCommand, run_runs};
+pub use split_command::Outputs;

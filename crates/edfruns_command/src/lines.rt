@@ -1,5 +1,7 @@
 //! The lines of runs.
 
+use edf_canonical::{Buffer, flush, put};
+use edf_fragment::Output;
 use edf_runs::{Listing, Run};
 use edf_time::{instant_text, write_seconds};
 use std::alloc::{AllocError, Global};
@@ -41,7 +43,7 @@ fn push_run(
 }
 
 /// The line of the run at a place, from 0, after the name of its file and a space, if it has one.
-pub(crate) fn run_line(
+fn run_line(
     alloc: Global,
     name: Option<&str>,
     listing: &Listing,
@@ -54,4 +56,28 @@ pub(crate) fn run_line(
     }
     push_run(alloc, &mut text, listing, at)?;
     Ok(text)
+}
+
+/// Writes a line for each run, after the name of its file where there are names, and answers
+/// whether all were written. After one that is not written whole none is written.
+pub(crate) fn put_lines<O: Output>(
+    alloc: Global,
+    names: Option<&[String]>,
+    listing: &Listing,
+    out: &mut O,
+) -> bool {
+    let mut held = Buffer::new(alloc);
+    for at in 0..listing.runs.len() {
+        let name = match names {
+            Some(names) => names.get(at).map(|name| name.as_str()),
+            None => None,
+        };
+        let Ok(line) = run_line(alloc, name, listing, at) else {
+            return false;
+        };
+        if put(out, &mut held, line.as_slice()).is_err() {
+            return false;
+        }
+    }
+    flush(out, &mut held).is_ok()
 }

@@ -1,16 +1,12 @@
 //! The lines why a command is not done.
 
 use edf_fragment::{FragmentFault, Output};
-use edf_program::{Status, fragment_fault_text, status_of_number, tell_parts};
+use edf_program::{
+    Status, fragment_fault_text, status_of_number, tell_memory, tell_parts, tell_refused,
+};
 use edf_runs::WriteFault;
 use itoa::Buffer;
 use std::alloc::Global;
-
-/// Prints that a file is refused for want of memory. Printing takes none.
-pub(crate) fn refuse_memory<F: Output>(err: &mut F, file: &str) -> Status {
-    let parts = [file.as_bytes(), b" refused E41 Memory\n".as_slice()];
-    tell_parts(err, &parts, Status::Trouble)
-}
 
 /// Prints why a file is refused, or can't be read.
 pub(crate) fn refuse<F: Output>(
@@ -25,7 +21,7 @@ pub(crate) fn refuse<F: Output>(
             let parts = [file.as_bytes(), b" refused ", text.as_bytes(), b"\n"];
             tell_parts(err, &parts, status)
         }
-        Err(_) => refuse_memory(err, file),
+        Err(_) => tell_memory(err, file),
     }
 }
 
@@ -48,13 +44,15 @@ pub(crate) fn refuse_run<F: Output>(
     fault: WriteFault,
     err: &mut F,
 ) -> Status {
-    let text = match fault {
-        WriteFault::Undated => return refuse_undated(err, number),
-        WriteFault::Changed | WriteFault::Read => b" refused E40 Read\n".as_slice(),
-        WriteFault::Memory => b" refused E41 Memory\n".as_slice(),
-        WriteFault::Write => b" refused E43 Write\n".as_slice(),
-    };
-    tell_parts(err, &[file.as_bytes(), text], Status::Trouble)
+    let read = FragmentFault::Read;
+    match fault {
+        WriteFault::Undated => refuse_undated(err, number),
+        WriteFault::Changed | WriteFault::Read => {
+            tell_refused(err, file, read.number(), read.name(), Status::Trouble)
+        }
+        WriteFault::Memory => tell_memory(err, file),
+        WriteFault::Write => tell_refused(err, file, 43, "Write", Status::Trouble),
+    }
 }
 
 /// Prints that there is no run of that number. Printing takes no memory.

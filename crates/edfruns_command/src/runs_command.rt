@@ -1,4 +1,12 @@
-//! What a command line asks for.
+//! The commands: what each asks for, how often it reads its file, and its work.
+
+use crate::list_command::list;
+use crate::picture_command::picture;
+use crate::split_command::{Outputs, split};
+use crate::write_command::write;
+use edf_fragment::Output;
+use edf_program::{Inputs, Status};
+use std::alloc::Global;
 
 /// What a command line of `edfruns` asks for. A file is a path, or `-` for standard input where it
 /// is read once. None of them is looked at here.
@@ -28,4 +36,43 @@ pub enum RunsCommand {
         /// The file.
         file: String,
     },
+}
+
+impl RunsCommand {
+    /// How often it reads its file, if nothing is wrong.
+    pub fn readings(&self) -> usize {
+        match self {
+            RunsCommand::List { file: _ } => 1,
+            RunsCommand::Write { file: _, number: _ } => 2,
+            RunsCommand::Split { file: _, prefix: _ } => 2,
+            RunsCommand::Picture { file: _ } => 1,
+        }
+    }
+}
+
+/// Runs a command.
+///
+/// Lists, files and pictures go to `out`, and why something is not done to `err`. A line that can't
+/// be written, for a failed write or since memory ran out, is trouble, and no line follows it; a
+/// part of a line goes out only where a write failed. `Split` leaves all its files, where it is
+/// done, and else none.
+pub fn run_runs<I: Inputs, P: Outputs, O: Output, F: Output>(
+    alloc: Global,
+    command: &RunsCommand,
+    inputs: &mut I,
+    outputs: &mut P,
+    out: &mut O,
+    err: &mut F,
+) -> Status {
+    match command {
+        RunsCommand::List { file } => list(alloc, file.as_str(), inputs, out, err),
+        RunsCommand::Write { file, number } => {
+            write(alloc, file.as_str(), *number, inputs, out, err)
+        }
+        RunsCommand::Split { file, prefix } => {
+            let (file, prefix) = (file.as_str(), prefix.as_str());
+            split(alloc, file, prefix, inputs, outputs, out, err)
+        }
+        RunsCommand::Picture { file } => picture(alloc, file.as_str(), inputs, out, err),
+    }
 }

@@ -12,18 +12,20 @@ use Rattle.clap.specs.Simple.{App, subcommand_of}
 use Rattle.clap.specs.declared.error.kind.ErrorKind.TheVariants as kind
 use Rattle.edfstore_arguments.specs.Inside.Commands.{edfstore_app}
 use Rattle.std.specs.Global.{Global}
-use Rattle.std.specs.Prelude.{String, string_bytes, suc}
+use Rattle.std.specs.Prelude.{Err, String, string_bytes, suc}
 use Rattle.std.proofs.lemmas.List.{length-map}
 use Rattle.edfstore_arguments.specs.Arguments.{AreValues, AskForHelp, AskForNoHelp, AskForNothing}
-use Rattle.edfstore_arguments.specs.Arguments.{IsNoUsage, asked, texts}
+use Rattle.edfstore_arguments.specs.Arguments.{asked, texts}
+use Rattle.edf_program.specs.Words.{IsNoUsage}
 use Rattle.edfstore_arguments.specs.Inside.Matches.{asked_in}
+use Rattle.edfstore_arguments.specs.Inside.Read.{AreWordsRead}
 use Rattle.edfstore_arguments.proofs.Levels.{simple}
 use Rattle.edfstore_arguments.proofs.Told.{told}
 use Rattle.edfstore_arguments.proofs.Requests.{requested}
 use Rattle.edfstore_arguments.proofs.Values.{and_left, and_right}
-use Rattle.edfstore_arguments.specs.Inside.Faults.{is_mistake}
-use Rattle.edfstore_arguments.specs.declared.fault.CommandFault.{CommandFault}
-use Rattle.edfstore_arguments.specs.declared.fault.CommandFault.TheVariants as fault
+use Rattle.edf_program.specs.Words.{is_mistake}
+use Rattle.edf_program.specs.declared.words.CommandFault.{CommandFault}
+use Rattle.edf_program.specs.declared.words.CommandFault.TheVariants as fault
 use Rattle.clap.specs.Kinds.{IsAmong, Kinds}
 use Rattle.clap.specs.declared.error.kind.ErrorKind.{ErrorKind}
 use Rattle.std.specs.List.{list_all}
@@ -134,3 +136,14 @@ request_answers a words e f is asks fails oom help =
       | inl memory ↦ subst IsNoUsage (sym (oom memory)) tt
       | inr one ↦ help (one_among (kind_of e) r.0 one r.2)
     ]
+
+-- no memory, whatever the words
+pub lacks_memory : (words : List (String Global)) (f : CommandFault) → f ≡ fault.Memory →
+    AreWordsRead words (Err f)
+lacks_memory words f is = subst (λ (x : CommandFault). AreWordsRead words (Err x)) (sym is)
+    (record {
+      reads = λ v. tt;
+      refuses = λ v other. absurd (other refl);
+      usage = λ v. tt;
+      help = λ v. tt;
+    })

@@ -11,7 +11,7 @@ use Rattle.clap.specs.declared.builder.command.Command.TheOpen.{Command-F}
 use Rattle.clap.specs.Built.{AddsArg, AddsSubcommand}
 use Rattle.clap.specs.declared.builder.arg.Arg.{Arg}
 use Rattle.clap.specs.declared.builder.command.Command.{Command}
-use Rattle.edfstore_arguments.specs.Inside.Commands.{Reads, wanted}
+use Rattle.edfstore_arguments.specs.Inside.Commands.{Reads, required_rule}
 
 -- one more argument
 pub arg_reads : (old new : Command) (s : App) (a : Arg) (r : Rule) → Reads old s →
@@ -87,10 +87,10 @@ some_is None r h = absurd h
 some_is (Some y) r h = ap Some h
 
 -- several values in place of one
-pub several_rule : (a b d : Arg) (id : Text) (r : ValueRange) → rule_of a ≡ wanted id →
+pub several_rule : (a b d : Arg) (id : Text) (r : ValueRange) → rule_of a ≡ required_rule id →
     b ≡ record a { action = Some Append } → d ≡ record b { num_vals = d.num_vals }
     → IsSomeAnd d.num_vals (λ y. y ≡ r) →
-    rule_of d ≡ record (wanted id) { action = Some Append; range = Some r }
+    rule_of d ≡ record (required_rule id) { action = Some Append; range = Some r }
 several_rule a b d id r is b_is d_is range =
     let all : d ≡ record a { action = Some Append; num_vals = Some r } = d_is
     ∙ (λ i. record (b_is i) { num_vals = some_is d.num_vals r range i }) in

@@ -7,7 +7,7 @@ use Rattle.clap.specs.Faults.{fault_of, flags_fault, walk_fault}
 use Rattle.clap.specs.declared.error.kind.ErrorKind.{ErrorKind}
 use Rattle.clap.specs.declared.error.kind.ErrorKind.TheVariants as kind
 use Rattle.edfstore_arguments.specs.Inside.Commands.{edfstore_app}
-use Rattle.edfstore_arguments.specs.Inside.Faults.{is_mistake}
+use Rattle.edf_program.specs.Words.{is_mistake}
 use Rattle.edfstore_arguments.specs.Arguments.{BeginWithRequest, IsOneOf, commands, help_flags}
 use Rattle.edfstore_arguments.proofs.Told.{named_fault}
 

@@ -14,7 +14,7 @@ use Rattle.clap.specs.declared.error.kind.ErrorKind.{ErrorKind}
 use Rattle.clap.specs.declared.error.kind.ErrorKind.TheVariants as kind
 use Rattle.edfstore_arguments.specs.Inside.Commands.{edfstore_app}
 use Rattle.edfstore_arguments.specs.Arguments.{asked, begin_with_help, is_value}
-use Rattle.edfstore_arguments.specs.Inside.Faults.{is_mistake}
+use Rattle.edf_program.specs.Words.{is_mistake}
 use Rattle.edfstore_arguments.specs.Inside.Matches.{asked_in}
 use Rattle.edfstore_arguments.proofs.Values.{and_left, and_right, is_value_is}
 use Rattle.edfstore_arguments.proofs.Levels.{level_by, top}

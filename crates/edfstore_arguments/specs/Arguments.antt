@@ -7,8 +7,6 @@ use Rattle.std.specs.Char.{digit_value}
 use Rattle.std.specs.List.{list_all}
 use Rattle.std.specs.Str.{bytes_eq}
 use Rattle.std.specs.Str.Parse.{digits_value}
-use Rattle.edfstore_arguments.specs.declared.fault.CommandFault.{CommandFault}
-use Rattle.edfstore_arguments.specs.declared.fault.CommandFault.TheVariants as fault
 use Rattle.edfstore_arguments.specs.declared.order.Order.{Order}
 use Rattle.edfstore_arguments.specs.declared.order.Order.TheVariants as parsed
 
@@ -97,16 +95,6 @@ abbrev pub BeginWithRequest : List Text → Type 0
 BeginWithRequest [] = ⊥
 BeginWithRequest (word ∷ rest) = IsOneOf (help_flags ++ version_flags) word
     ⊎ (IsOneOf commands word × BeginWithHelpFlag rest)
-
--- no text for standard output
-abbrev pub IsNoHelp : CommandFault → Type 0
-IsNoHelp (fault.Help _) = ⊥
-IsNoHelp _ = Unit {0}
-
--- no text for standard error
-abbrev pub IsNoUsage : CommandFault → Type 0
-IsNoUsage (fault.Usage _) = ⊥
-IsNoUsage _ = Unit {0}
 
 -- ---- the same of Rust's words
 

@@ -1,18 +1,18 @@
 //! The reading of a command line.
 
-ghost use Rattle.std.specs.Prelude.{◌≡◌, ◌≢◌, ◌<◌, IfErr, IfOk, IsErrAnd, length, option_map};
+ghost use Rattle.std.specs.Prelude.{◌≢◌, ◌<◌, IfErr, IfOk, IsErrAnd, length};
 ghost use Rattle.edfstore_arguments.specs.Inside.Commands.{Reads, edfstore_app};
+ghost use Rattle.edfstore_arguments.specs.Inside.Read.{AreWordsRead};
 ghost use Rattle.edfstore_arguments.specs.Arguments.{AreValues, AskFor, AskForHelp, AskForNoHelp};
 ghost use Rattle.edfstore_arguments.specs.Arguments.{AskForNothing};
-ghost use Rattle.edfstore_arguments.specs.Arguments.{IsNoHelp, IsNoUsage, asked, meaning, texts};
+ghost use Rattle.edf_program.specs.Words.{IsNoHelp, IsNoUsage};
 
 use crate::commands::{edfstore_command, export_command};
-use crate::fault::{CommandFault, fault_by};
 use crate::help::BAD_PLACE;
 use crate::matches::order_in;
 use crate::order::Order;
 use clap::Command;
-use clap::error::ErrorKind;
+use edf_program::{CommandFault, fault_by, refuse_value};
 use std::alloc::{AllocError, Global};
 
 /// What the words ask for. `None` where all is well but a PLACE, which `clap` takes as text.
@@ -23,12 +23,7 @@ fn read<'a>(
 ) -> Result<Option<Order>, CommandFault>
     requires command { Reads command.old edfstore_app }
     requires some { 0 < length words.now }
-    ensures reads { AreValues words.now →
-        IfOk result (λ parsed. option_map meaning parsed ≡ asked (texts words.now)) }
-    ensures refuses { AreValues words.now →
-        IfErr result (λ fault. fault ≢ CommandFault.Memory → AskForNothing words.now) }
-    ensures usage { AskForNoHelp words.now → IfErr result IsNoHelp }
-    ensures help { AskForHelp words.now → IsErrAnd result IsNoUsage }
+    ensures { AreWordsRead words.now result }
 {
     let matches = match command.try_get_matches_from_mut(words) {
         Ok(matches) => matches,
@@ -40,12 +35,7 @@ fn read<'a>(
 /// What some words ask for. `None` where all is well but a PLACE.
 fn read_words(alloc: Global, words: &[String]) -> Result<Option<Order>, CommandFault>
     requires some { 0 < length words.now }
-    ensures reads { AreValues words.now →
-        IfOk result (λ parsed. option_map meaning parsed ≡ asked (texts words.now)) }
-    ensures refuses { AreValues words.now →
-        IfErr result (λ fault. fault ≢ CommandFault.Memory → AskForNothing words.now) }
-    ensures usage { AskForNoHelp words.now → IfErr result IsNoHelp }
-    ensures help { AskForHelp words.now → IsErrAnd result IsNoUsage }
+    ensures { AreWordsRead words.now result }
 {
     let mut command = edfstore_command(alloc)?;
     read(alloc, &mut command, words)
@@ -55,9 +45,7 @@ fn read_words(alloc: Global, words: &[String]) -> Result<Option<Order>, CommandF
 fn place_fault(alloc: Global) -> Result<CommandFault, AllocError>
     ensures { IfOk result IsNoHelp }
 {
-    let mut export = export_command(alloc)?.bin_name("edfstore export")?;
-    let error = export.error(ErrorKind::ValueValidation, BAD_PLACE)?;
-    Ok(fault_by(alloc, &error))
+    refuse_value(alloc, export_command(alloc)?, "edfstore export", BAD_PLACE)
 }
 
 /// What the words after the program's name ask for.

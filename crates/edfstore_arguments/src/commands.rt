@@ -3,17 +3,18 @@
 ghost use Rattle.std.specs.Prelude.{◌≡◌, false, IfOk};
 ghost use Rattle.clap.specs.Simple.{App, with_subcommand};
 ghost use Rattle.clap.specs.Words.{rule_of};
-ghost use Rattle.edfstore_arguments.specs.Inside.Commands.{Reads, convert_app, edfstore_app, export_app};
-ghost use Rattle.edfstore_arguments.specs.Inside.Commands.{list_app, take_app};
-ghost use Rattle.edfstore_arguments.specs.Inside.Commands.{edfstore_top, files_rule, wanted};
+ghost use Rattle.edfstore_arguments.specs.Inside.Commands.{Reads, convert_app, edfstore_app};
+ghost use Rattle.edfstore_arguments.specs.Inside.Commands.{export_app, list_app, take_app};
+ghost use Rattle.edfstore_arguments.specs.Inside.Commands.{edfstore_top, files_rule, required_rule};
 
 use crate::help;
 use clap::{Arg, ArgAction, Command};
+use edf_program::VERSION;
 use std::alloc::{AllocError, Global};
 
 /// A value that must be given.
-fn wanted<'a>(alloc: Global, name: &'a str, text: &'a str) -> Arg<'a>
-    ensures rule { rule_of result ≡ wanted name.now }
+fn required_value<'a>(alloc: Global, name: &'a str, text: &'a str) -> Arg<'a>
+    ensures rule { rule_of result ≡ required_rule name.now }
     ensures local { result.global ≡ false }
 {
     Arg::new(alloc, name).help(text).required(true)
@@ -24,7 +25,7 @@ fn files<'a>(alloc: Global) -> Arg<'a>
     ensures rule { rule_of result ≡ files_rule }
     ensures local { result.global ≡ false }
 {
-    wanted(alloc, "FILE", help::FILES_VALUE)
+    required_value(alloc, "FILE", help::FILES_VALUE)
         .action(ArgAction::Append)
         .num_args(1..)
 }
@@ -36,7 +37,7 @@ fn take_command<'a>(alloc: Global) -> Result<Command<'a>, AllocError>
         .about(help::TAKE)
         .long_about(help::TAKE_MORE)
         .after_help(help::TAKE_EXAMPLES)
-        .arg(wanted(alloc, "STORE", help::STORE_VALUE))?
+        .arg(required_value(alloc, "STORE", help::STORE_VALUE))?
         .arg(files(alloc))
 }
 
@@ -47,7 +48,7 @@ fn list_command<'a>(alloc: Global) -> Result<Command<'a>, AllocError>
         .about(help::LIST)
         .long_about(help::LIST_MORE)
         .after_help(help::LIST_EXAMPLE)
-        .arg(wanted(alloc, "STORE", help::STORE_VALUE))
+        .arg(required_value(alloc, "STORE", help::STORE_VALUE))
 }
 
 pub(crate) fn export_command<'a>(alloc: Global) -> Result<Command<'a>, AllocError>
@@ -57,8 +58,8 @@ pub(crate) fn export_command<'a>(alloc: Global) -> Result<Command<'a>, AllocErro
         .about(help::EXPORT)
         .long_about(help::EXPORT_MORE)
         .after_help(help::EXPORT_EXAMPLE)
-        .arg(wanted(alloc, "STORE", help::STORE_VALUE))?
-        .arg(wanted(alloc, "PLACE", help::PLACE_VALUE))
+        .arg(required_value(alloc, "STORE", help::STORE_VALUE))?
+        .arg(required_value(alloc, "PLACE", help::PLACE_VALUE))
 }
 
 fn convert_command<'a>(alloc: Global) -> Result<Command<'a>, AllocError>
@@ -68,7 +69,7 @@ fn convert_command<'a>(alloc: Global) -> Result<Command<'a>, AllocError>
         .about(help::CONVERT)
         .long_about(help::CONVERT_MORE)
         .after_help(help::CONVERT_EXAMPLES)
-        .arg(wanted(alloc, "FILE", help::FILE_VALUE))
+        .arg(required_value(alloc, "FILE", help::FILE_VALUE))
 }
 
 /// The program before it has its words. Usage calls it `edfstore`, though that is none of the words
@@ -79,7 +80,7 @@ fn program<'a>(alloc: Global) -> Result<Command<'a>, AllocError>
     Ok(
         Command::new(alloc, "edfstore")
             .bin_name("edfstore")?
-            .version(help::VERSION)
+            .version(VERSION)
             .about(help::EDFSTORE)
             .after_help(help::EDFSTORE_MORE)
             .no_binary_name(true)

@@ -1,10 +1,6 @@
 //! What `edfstore --help` and the help of each word say. Lines are broken here, since nothing else
 //! breaks them.
 
-/// What `edfstore --version` prints after the program's name. No other place of the repository has
-/// it.
-pub const VERSION: &str = "1.1.1";
-
 /// What `edfstore` is.
 pub(crate) const EDFSTORE: &str = "\
 Keeps sleep recordings: takes EDF+ files in any order and as often as they are

@@ -58,12 +58,7 @@ pub(crate) fn tell_error(rt: &HostRuntime, terminal: &Terminal<'_>, path: &str, 
 }
 
 /// Prints why a store was not opened. Out of memory has no further cause.
-pub(crate) fn tell_refused(
-    rt: &HostRuntime,
-    terminal: &Terminal<'_>,
-    path: &str,
-    refused: &Refused,
-) {
+pub(crate) fn tell_cause(rt: &HostRuntime, terminal: &Terminal<'_>, path: &str, refused: &Refused) {
     if !terminal.is_there() {
         return;
     }

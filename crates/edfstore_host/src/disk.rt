@@ -3,6 +3,7 @@
 ghost use Rattle.std.specs.Prelude.{◌≡◌, false};
 ghost use Rattle.sqlite.specs.Held.{state};
 
+use edf_header::MOST_RECORDS;
 use edf_schema::is_ours;
 use edf_store::{Store, StoreFault};
 use sqlite::{Alter, Connection, Error, ErrorCode};
@@ -13,9 +14,6 @@ use sqlite_trees::memory::MemStore;
 use std::alloc::Global;
 use std::fs;
 
-/// How many data records a recording may have.
-const CAP: u32 = 99_999_999;
-
 /// Why a store was not opened.
 #[derive(Clone, Copy, Drop)]
 pub(crate) struct Refused {
@@ -25,7 +23,7 @@ pub(crate) struct Refused {
     pub(crate) has_our_tables: bool,
 }
 
-/// Whether there is nothing at the path. Where that can't be told there may be something.
+/// Whether there is nothing at the path. Where the system does not answer, there may be something.
 pub(crate) fn is_missing(rt: &HostRuntime, path: &str) -> bool {
     match fs::exists(rt, path) {
         Ok(is_there) => !is_there,
@@ -38,7 +36,7 @@ fn store_over<S: Alter + Drop>(alloc: Global, conn: Connection<S>) -> Result<Sto
     requires autocommit { (state S.Store conn).in_transaction ≡ false }
 {
     let has_our_tables = is_ours(conn.schema());
-    match Store::open(alloc, conn, CAP) {
+    match Store::open(alloc, conn, MOST_RECORDS) {
         Ok(store) => Ok(store),
         Err(fault) => Err(Refused {
             fault,
@@ -72,8 +70,8 @@ fn disk_failure(tally: Tally) -> Option<Error> {
 /// Closes the store of a file. What it holds was committed, and is in the log where it can't be
 /// copied into the file.
 ///
-/// The answer is what failed of the disk while the store was open, or as it was closed, if that can
-/// be told.
+/// The answer is what failed of the disk while the store was open, or as it was closed, if that is
+/// known.
 pub(crate) fn close_file(store: Store<FileStore<File>>) -> Option<Error> {
     match store.into_connection().close_files() {
         Ok(files) => disk_failure(files.tally()),
@@ -88,7 +86,7 @@ pub(crate) fn close_file(store: Store<FileStore<File>>) -> Option<Error> {
 /// An empty store.
 pub(crate) fn open_memory(alloc: Global) -> Result<Store<MemStore>, StoreFault> {
     match Connection::open_in_memory(alloc) {
-        Ok(conn) => Store::open(alloc, conn, CAP),
+        Ok(conn) => Store::open(alloc, conn, MOST_RECORDS),
         Err(_) => Err(StoreFault::Memory),
     }
 }

@@ -9,7 +9,7 @@
 mod cause;
 mod disk;
 
-use cause::{tell_error, tell_refused};
+use cause::{tell_cause, tell_error};
 use disk::{close_file, is_missing, open_file, open_memory};
 use edf_command::{Order, Status, read_command, refuse_store, run, store_path};
 use edf_fragment::Counted;
@@ -29,7 +29,9 @@ fn command_of(rt: &HostRuntime, words: &[String]) -> Result<Order, Status> {
 fn terminal_of<'rt>(rt: &'rt HostRuntime, command: &Order) -> Terminal<'rt> {
     match command {
         Order::Take { store: _, files } => Terminal::new(rt, "file", files.len()),
-        _ => Terminal::new(rt, "file", 0),
+        Order::List { .. } | Order::Export { .. } | Order::Convert { .. } => {
+            Terminal::new(rt, "file", 0)
+        }
     }
 }
 
@@ -54,8 +56,8 @@ fn run_over<S: Alter>(
 /// Whether the command makes a store where its path names no file.
 fn makes_store(command: &Order) -> bool {
     match command {
-        Order::Take { store: _, files: _ } => true,
-        _ => false,
+        Order::Take { .. } => true,
+        Order::List { .. } | Order::Export { .. } | Order::Convert { .. } => false,
     }
 }
 
@@ -84,7 +86,7 @@ fn run_on_file(
         Ok(store) => store,
         Err(refused) => {
             let status = refuse_store(&refused.fault, &mut streams.err);
-            tell_refused(rt, terminal, path, &refused);
+            tell_cause(rt, terminal, path, &refused);
             return status;
         }
     };

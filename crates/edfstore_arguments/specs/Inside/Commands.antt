@@ -8,28 +8,28 @@ use Rattle.clap.specs.declared.builder.command.Command.{Command}
 use Rattle.clap.specs.declared.builder.command.Command.TheViews.{out-Command}
 
 -- a value that must be given
-abbrev pub wanted : Text → Rule
-wanted id = record (new_rule id) { required = true }
+abbrev pub required_rule : Text → Rule
+required_rule id = record (new_rule id) { required = true }
 
 -- one file or more
 abbrev pub files_rule : Rule
-files_rule = record (wanted (codes "FILE")) {
+files_rule = record (required_rule (codes "FILE")) {
   action = Some Append;
   range = Some (record { start_inclusive = 1; end_inclusive = usize_max });
 }
 
 abbrev pub take_app : App
-take_app = with_rule (with_rule (new_app (codes "take")) (wanted (codes "STORE"))) files_rule
+take_app = with_rule (with_rule (new_app (codes "take")) (required_rule (codes "STORE"))) files_rule
 
 abbrev pub list_app : App
-list_app = with_rule (new_app (codes "list")) (wanted (codes "STORE"))
+list_app = with_rule (new_app (codes "list")) (required_rule (codes "STORE"))
 
 abbrev pub export_app : App
-export_app = with_rule (with_rule (new_app (codes "export")) (wanted (codes "STORE")))
-    (wanted (codes "PLACE"))
+export_app = with_rule (with_rule (new_app (codes "export")) (required_rule (codes "STORE")))
+    (required_rule (codes "PLACE"))
 
 abbrev pub convert_app : App
-convert_app = with_rule (new_app (codes "convert")) (wanted (codes "FILE"))
+convert_app = with_rule (new_app (codes "convert")) (required_rule (codes "FILE"))
 
 abbrev pub edfstore_top : App
 edfstore_top = on_top (λ s. record s {

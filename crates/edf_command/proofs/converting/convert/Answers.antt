@@ -1,6 +1,7 @@
 use Rattle.std.proofs.Common.{◌∙◌, ap, subst, refl, inl, inr}
 use Rattle.std.proofs.lemmas.Result.{IfOk-weaker}
-use Rattle.edf_command.specs.Lines.{refused_line}
+use Rattle.edf_fragment.specs.Call.{input_state}
+use Rattle.edf_command.specs.Lines.{refused_file_line}
 use Rattle.edf_program.specs.Status.{status_of_number}
 use Rattle.edf_program.specs.Output.{growth, IsTold}
 use Rattle.edf_program.specs.declared.status.Status.{Status}
@@ -20,45 +21,29 @@ returns-in_default-clause-converted g c =
 
 pub returns-in-Ok-submit-clause-converted : goal.returns-in-Ok-submit-clause-converted
 returns-in-Ok-submit-clause-converted g c = inl (record {
-  from = record {
-    left = g.I.Reader.Input.remaining c.in-Ok.reader;
-    failed =
-        g.I.Reader.Input.failures c.in-Ok.reader;
-  };
-  to = record {
-    left = g.I.Reader.Input.remaining c.submit.new.input;
-    failed =
-        g.I.Reader.Input.failures c.submit.new.input;
-  };
+  from = input_state g.I.Reader.Input c.in-Ok.reader;
+  to = input_state g.I.Reader.Input c.submit.new.input;
   receipt = c.in-Ok-submit.receipt;
   mid = c.submit.new.store;
   opened = c.in-Ok.ensures.reader;
   submitted = c.in-Ok-submit.ensures.submitted;
-  stays = c.send_recording.ensures.stays;
-  told = c.send_recording.ensures.told;
-  sent = c.send_recording.ensures.sent;
+  stays = c.export_recording.ensures.stays;
+  told = c.export_recording.ensures.told;
+  exported = c.export_recording.ensures.exported;
 })
 
 pub returns-clause-converted : goal.returns-clause-converted
 returns-clause-converted g c = inr (inl (record {
-  from = record {
-    left = g.I.Reader.Input.remaining c.in-Ok.reader;
-    failed =
-        g.I.Reader.Input.failures c.in-Ok.reader;
-  };
-  to = record {
-    left = g.I.Reader.Input.remaining c.submit.new.input;
-    failed =
-        g.I.Reader.Input.failures c.submit.new.input;
-  };
+  from = input_state g.I.Reader.Input c.in-Ok.reader;
+  to = input_state g.I.Reader.Input c.submit.new.input;
   refusal = c.in-Err.refusal;
   opened = c.in-Ok.ensures.reader;
   submitted = c.in-Err.ensures.submitted;
   said = λ spell is.
-      let text = refused_line spell c.args.file.now c.in-Err.refusal in
+      let text = refused_file_line spell c.args.file.now c.in-Err.refusal in
       let told = c.tell.ensures.told text
-      (IfOk-weaker c.refused_line.result _ _ (λ r line. line spell is)
-      c.refused_line.ensures) in
+      (IfOk-weaker c.refused_file_line.result _ _ (λ r line. line spell is)
+      c.refused_file_line.ensures) in
       let IsSo : Status → Type 0 = λ wanted.
       IsTold (growth g.F.Output c.args.err.now c.tell.new.out) text wanted c.tell.result in (
         nothing-gets (g.O.Output.contents c.args.out.now) (g.O.Output.failures c.args.out.now),

@@ -3,9 +3,9 @@ use Rattle.std.proofs.Common.{subst, inl, inr, take-append-drop}
 use Rattle.edf_header.specs.Key.{Key}
 use Rattle.edf_holdings.proofs.KeyLists.{keys_are_one}
 use Rattle.edf_store.proofs.Readiness.{stays_then}
-use Rattle.edf_command.specs.Run.{AreHeldBy}
+use Rattle.edf_command.specs.Listing.{AreHeldBy}
 use Rattle.edf_command.specs.Lines.{first_list_lines}
-use Rattle.edf_program.specs.Output.{growth, Gets, ArePut}
+use Rattle.edf_program.specs.Output.{growth, Gets, AreLinesPut}
 use Rattle.edf_program.specs.declared.status.Status.TheVariants.{Done}
 use Rattle.edf_program.proofs.Puts.{nothing-gets, trouble-lines}
 use Rattle.edf_command.proofs.Staying.{was-clean, is-refusal}
@@ -13,12 +13,12 @@ use Rattle.edf_command.proofs.listing.list.Goals as goal
 
 pub returns-in-Err : goal.returns-in-Err
 returns-in-Err g c = record {
-  stays = c.identities.ensures.stays;
+  stays = c.identities.ensures.leaves.stays;
   told = inr (inr (c.in-Err.fault, refl, c.tell_refusal.ensures));
   listed = λ clean h holds. inr (record {
     given = [];
     fault = c.in-Err.fault;
-    told = is-refusal c.in-Err.fault (c.in-Err.ensures.own clean) c.in-Err.ensures.unfailed;
+    told = is-refusal _ _ c.in-Err.fault (λ unclean. unclean clean) c.in-Err.ensures.refuses.why;
     first = λ keys are. (keys, refl);
     written = λ spell is. nothing-gets (g.O.Output.contents c.args.out.now)
         (g.O.Output.failures c.args.out.now);
@@ -33,7 +33,7 @@ returns-in-Ok-true g c =
     let new = c.put_recordings.new.store in
     let keys = c.in-Ok.recordings.items in
     record {
-      stays = stays_then g.S.Store old mid new c.identities.ensures.stays
+      stays = stays_then g.S.Store old mid new c.identities.ensures.leaves.stays
           c.in-Ok-true.ensures.stays;
       told = inl (
         c.in-Ok-true.ensures.counted c.in-Ok-true.field-0-test,
@@ -51,9 +51,9 @@ returns-in-Ok-true g c =
             said = λ spell is.
                 let w = growth g.O.Output c.args.out.now c.put_recordings.new.out in
                 let IsOut : Bool → List Key → Type 0 =
-                λ written ks. ArePut w (first_list_lines spell h ks) (length ks) written in
+                λ written ks. AreLinesPut w (first_list_lines spell h ks) (length ks) written in
                 let put = c.in-Ok-true.ensures.put clean h spell
-                (c.identities.ensures.stays.holdings h holds) all is in
+                (c.identities.ensures.leaves.stays.holdings h holds) all is in
                 let done = subst (IsOut true) c.as_slice.ensures.value
                 (subst (λ (b : Bool). IsOut b c.as_slice.result.now) c.in-Ok-true.field-0-test
                 put) in
@@ -70,7 +70,7 @@ returns-in-Ok-false g c =
     let new = c.put_recordings.new.store in
     let keys = c.in-Ok.recordings.items in
     record {
-      stays = stays_then g.S.Store old mid new c.identities.ensures.stays
+      stays = stays_then g.S.Store old mid new c.identities.ensures.leaves.stays
           c.in-Ok-false.ensures.stays;
       told = inr (inl (
         nothing-gets (g.F.Output.contents c.args.err.now)
@@ -88,9 +88,9 @@ returns-in-Ok-false g c =
             said = λ spell is.
                 let w = growth g.O.Output c.args.out.now c.put_recordings.new.out in
                 let IsOut : Bool → List Key → Type 0 =
-                λ written ks. ArePut w (first_list_lines spell h ks) (length ks) written in
+                λ written ks. AreLinesPut w (first_list_lines spell h ks) (length ks) written in
                 let put = c.in-Ok-false.ensures.put clean h spell
-                (c.identities.ensures.stays.holdings h holds) all is in
+                (c.identities.ensures.leaves.stays.holdings h holds) all is in
                 let done = subst (IsOut false) c.as_slice.ensures.value
                 (subst (λ (b : Bool). IsOut b c.as_slice.result.now) c.in-Ok-false.field-0-test
                 put) in
@@ -107,7 +107,7 @@ returns g c =
     let new = c.put_recordings.new.store in
     let keys = c.in-Ok.recordings.items in
     record {
-      stays = stays_then g.S.Store old mid new c.identities.ensures.stays
+      stays = stays_then g.S.Store old mid new c.identities.ensures.leaves.stays
           c.in-Err-put_recordings.ensures.stays;
       told = inr (inr (
         c.in-Err-put_recordings.stop,
@@ -120,7 +120,7 @@ returns g c =
           let held : List Key → Type 0 = λ ks. AreHeldBy h ks in
           let all = subst held (sym c.as_slice.ensures.value) (λ k has. (are.held k).0 has) in
           let stop = c.in-Err-put_recordings.ensures.refused clean in
-          let then = stop.1 h (c.identities.ensures.stays.holdings h holds) all in
+          let then = stop.1 h (c.identities.ensures.leaves.stays.holdings h holds) all in
           inr (record {
             given = take stop.0 keys;
             fault = c.in-Err-put_recordings.stop;

@@ -5,7 +5,7 @@ use Rattle.std.proofs.lemmas.Result.{err_from_is_err_and}
 use Rattle.edf_store.proofs.Readiness.{stays_then}
 use Rattle.edf_command.specs.Lines.{list_line, list_lines, first_list_lines}
 use Rattle.edf_program.specs.Output.{growth, Gets, IsLinePut}
-use Rattle.edf_program.proofs.Puts.{nothing-gets, gets-behind, gets-no_more, stops-behind}
+use Rattle.edf_program.proofs.Puts.{nothing-gets, gets-after, gets-no_more, stops-after}
 use Rattle.edf_command.proofs.Staying.{stays-same, was-clean}
 use Rattle.edf_command.proofs.Written.{listed-next, listed-past}
 use Rattle.edf_command.proofs.listing.put_recordings.Goals as goal
@@ -46,7 +46,7 @@ loop-at-preserved g c =
           (c.loop-at.invariant.stays.holdings h holds) some is) in
           subst IsOut (sym (listed-next spell h recordings at key c.loop-at-test.true
           c.index-recordings-at.is))
-          (gets-behind (g.O.Output.contents c.args.out.now) (g.O.Output.failures c.args.out.now)
+          (gets-after (g.O.Output.contents c.args.out.now) (g.O.Output.failures c.args.out.now)
           (g.O.Output.contents c.loop-at.out) (g.O.Output.failures c.loop-at.out)
           (g.O.Output.contents c.put_recording.new.out)
           (g.O.Output.failures c.put_recording.new.out)
@@ -79,7 +79,7 @@ returns-then-not-branch g c =
           (c.loop-at.invariant.stays.holdings h holds) some is) in
           let past = listed-past spell h recordings at key c.loop-at-test.true
           c.index-recordings-at.is in
-          stops-behind (g.O.Output.contents c.args.out.now) (g.O.Output.failures c.args.out.now)
+          stops-after (g.O.Output.contents c.args.out.now) (g.O.Output.failures c.args.out.now)
           (g.O.Output.contents c.loop-at.out) (g.O.Output.failures c.loop-at.out)
           (g.O.Output.contents c.put_recording.new.out)
           (g.O.Output.failures c.put_recording.new.out)

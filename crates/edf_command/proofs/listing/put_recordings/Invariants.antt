@@ -5,7 +5,7 @@ use Rattle.edf_store.specs.Held.{at, Holds, Stays}
 use Rattle.edf_command.specs.Refusals.{IsSpelling}
 use Rattle.edf_command.specs.Lines.{first_list_lines}
 use Rattle.edf_program.specs.Output.{growth, Gets}
-use Rattle.edf_command.specs.Run.{AreHeldBy}
+use Rattle.edf_command.specs.Listing.{AreHeldBy}
 use Rattle.edf_command.proofs.listing.put_recordings.Given as goal
 
 abbrev pub invariant-loop-at : goal.invariant-loop-at

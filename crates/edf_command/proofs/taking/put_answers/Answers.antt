@@ -6,7 +6,7 @@ use Rattle.std.proofs.lemmas.Slice.Zip.{zip_turn, zip_end}
 use Rattle.std.specs.List.{flat_map}
 use Rattle.edf_command.specs.Lines.{take_line, first_take_lines}
 use Rattle.edf_program.specs.Output.{growth, Gets}
-use Rattle.edf_program.proofs.Puts.{grown, nothing-gets, gets-behind, stops-behind}
+use Rattle.edf_program.proofs.Puts.{grown, nothing-gets, gets-after, stops-after}
 use Rattle.edf_command.proofs.Written.{pairs, pair_line, length-pairs, first-pairs, all-pairs}
 use Rattle.edf_command.proofs.Written.{taken-more, first-split}
 use Rattle.edf_command.proofs.taking.put_answers.Goals as goal
@@ -32,7 +32,7 @@ returns-then-not-put_line g c spell is =
     let mid = g.O.Output.failures c.loop-file.out in
     let first = subst (Gets (grown a old b mid)) (sym (first-pairs spell files answers n))
     (c.loop-file.invariant spell is) in
-    stops-behind a old b mid (g.O.Output.contents c.put_line.new.out)
+    stops-after a old b mid (g.O.Output.contents c.put_line.new.out)
     (g.O.Output.failures c.put_line.new.out)
     (first_take_lines spell (map string_bytes files) answers) (length answers) n line
     (flat_map (pair_line spell files answers) (drop (n + 1) (pairs spell files answers))) t.1
@@ -62,7 +62,7 @@ loop-file-preserved g c spell is =
     let len = ap (λ (m : ℕ). flat_map (pair_line spell files answers)
     (take m (pairs spell files answers)))
     (length_push c.loop-file.yielded (c.in-Some.file, c.in-Some.answer)) in
-    subst IsOut (sym (len ∙ more)) (gets-behind a old (g.O.Output.contents c.loop-file.out)
+    subst IsOut (sym (len ∙ more)) (gets-after a old (g.O.Output.contents c.loop-file.out)
     (g.O.Output.failures c.loop-file.out) after new done line (c.loop-file.invariant spell is)
     (c.if-not-put_line.ensures.put line own))
 

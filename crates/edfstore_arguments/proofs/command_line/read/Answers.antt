@@ -1,34 +1,41 @@
 use Rattle.std.proofs.Common.{◌∙◌, arith, sym}
+use Rattle.std.proofs.lemmas.Result.{err_from_is_err_and}
 use Rattle.clap.specs.Simple.{app_of}
 use Rattle.edfstore_arguments.proofs.Answers.{fails_asked, fails_mistaken, matches_asked}
-use Rattle.edfstore_arguments.proofs.Answers.{request_answers, request_fails}
+use Rattle.edfstore_arguments.proofs.Answers.{request_answers, request_fails, lacks_memory}
 use Rattle.edfstore_arguments.proofs.command_line.read.Goals as goal
 
-pub returns-in-Err-clause-refuses : goal.returns-in-Err-clause-refuses
-returns-in-Err-clause-refuses c = λ v other.
-    fails_asked (app_of c.args.command.now) c.args.words.now c.in-Err.error c.requires.command.0 v
-    c.requires.some (omega arith) c.in-Err.ensures.kinds
-    (λ oom. other (c.fault_by.ensures.memory oom))
+pub returns-in-Err : goal.returns-in-Err
+returns-in-Err c = record {
+  reads = λ v. tt;
+  refuses = λ v other.
+      fails_asked (app_of c.args.command.now) c.args.words.now c.in-Err.error c.requires.command.0 v
+      c.requires.some (omega arith) c.in-Err.ensures.kinds
+      (λ oom. other (c.fault_by.ensures.memory oom));
+  usage = λ v.
+      c.fault_by.ensures.usage (fails_mistaken (app_of c.args.command.now) c.args.words.now
+      c.in-Err.error c.requires.command.0 v c.requires.some (omega arith) c.in-Err.ensures.kinds);
+  help = λ v.
+      request_answers (app_of c.args.command.now) c.args.words.now c.in-Err.error c.fault_by.result
+      c.requires.command.0 v c.in-Err.ensures.kinds c.fault_by.ensures.memory
+      c.fault_by.ensures.help;
+}
 
-pub returns-clause-reads : goal.returns-clause-reads
-returns-clause-reads c = λ v.
-    c.in_ok-order_in.ensures
-    ∙ sym (matches_asked (app_of c.args.command.now) c.args.words.now c.in-Ok.matches
-    c.requires.command.0 v c.requires.some (omega arith) c.in-Ok.ensures.kinds
-    c.in-Ok.ensures.ok.2)
+pub returns : goal.returns
+returns c = record {
+  reads = λ v.
+      c.in_ok-order_in.ensures
+      ∙ sym (matches_asked (app_of c.args.command.now) c.args.words.now c.in-Ok.matches
+      c.requires.command.0 v c.requires.some (omega arith) c.in-Ok.ensures.kinds
+      c.in-Ok.ensures.ok.2);
+  refuses = λ v. tt;
+  usage = λ v. tt;
+  help =
+      λ v. absurd (request_fails (app_of c.args.command.now) c.args.words.now c.requires.command.0 v
+      c.in-Ok.ensures.kinds);
+}
 
-pub returns-in-Err-clause-usage : goal.returns-in-Err-clause-usage
-returns-in-Err-clause-usage c = λ v.
-    c.fault_by.ensures.usage (fails_mistaken (app_of c.args.command.now) c.args.words.now
-    c.in-Err.error c.requires.command.0 v c.requires.some (omega arith) c.in-Err.ensures.kinds)
-
-pub returns-in-Err-clause-help : goal.returns-in-Err-clause-help
-returns-in-Err-clause-help c = λ v.
-    request_answers (app_of c.args.command.now) c.args.words.now c.in-Err.error c.fault_by.result
-    c.requires.command.0 v c.in-Err.ensures.kinds c.fault_by.ensures.memory
-    c.fault_by.ensures.help
-
-pub returns-clause-help : goal.returns-clause-help
-returns-clause-help c =
-    λ v. absurd (request_fails (app_of c.args.command.now) c.args.words.now c.requires.command.0 v
-    c.in-Ok.ensures.kinds)
+pub returns-in_err-order_in : goal.returns-in_err-order_in
+returns-in_err-order_in c =
+    let p = err_from_is_err_and c.from_residual.result c.from_residual.ensures.1 in
+    rw p.1 (lacks_memory c.args.words.now p.0 p.2)

@@ -1,7 +1,7 @@
 use Rattle.std.proofs.Common.{codes}
 use Rattle.std.proofs.lemmas.Result.{IfOk-weaker}
 use Rattle.clap.specs.Simple.{new_app}
-use Rattle.edfstore_arguments.specs.Inside.Commands.{wanted}
+use Rattle.edfstore_arguments.specs.Inside.Commands.{required_rule}
 use Rattle.edfstore_arguments.proofs.Made.{arg_reads, told_reads}
 use Rattle.edfstore_arguments.proofs.commands.convert_command.Goals as goal
 
@@ -10,5 +10,6 @@ returns c =
     let start = told_reads c.new.result c.about.result c.long_about.result c.after_help.result
     (new_app (codes "convert")) _ _ _ (c.new.ensures.app, c.new.ensures.local)
     c.about.ensures c.long_about.ensures c.after_help.ensures in
-    IfOk-weaker c.arg.result _ _ (λ r h. arg_reads c.after_help.result r _ c.wanted.result
-    (wanted (codes "FILE")) start c.wanted.ensures.local c.wanted.ensures.rule h) c.arg.ensures
+    IfOk-weaker c.arg.result _ _ (λ r h. arg_reads c.after_help.result r _ c.required_value.result
+    (required_rule (codes "FILE")) start c.required_value.ensures.local
+    c.required_value.ensures.rule h) c.arg.ensures

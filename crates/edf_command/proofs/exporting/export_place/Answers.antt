@@ -1,0 +1,71 @@
+use Rattle.std.proofs.Common.{◌∙◌, List, sym, ap, refl, inl, inr}
+use Rattle.std.specs.Prelude.{Option}
+use Rattle.edf_header.specs.Key.{Key}
+use Rattle.edf_store.proofs.Readiness.{stays_then}
+use Rattle.edf_command.specs.Exporting.{at_place}
+use Rattle.edf_export.specs.declared.fault.ExportFault.TheVariants.{Store}
+use Rattle.edf_command.specs.Lines.{no_recording_line}
+use Rattle.edf_program.specs.Output.{growth, Explains}
+use Rattle.edf_program.specs.declared.status.Status.TheVariants.{Refused}
+use Rattle.edf_command.proofs.Staying.{was-clean, is-refusal}
+use Rattle.edf_program.proofs.Puts.{nothing-gets}
+use Rattle.edf_command.proofs.exporting.export_place.Goals as goal
+
+pub returns-in-Err : goal.returns-in-Err
+returns-in-Err g c = record {
+  stays = c.identities.ensures.leaves.stays;
+  told = inl (inr (Store c.in-Err.fault, refl, c.tell_refusal.ensures));
+  exported = λ clean h holds.
+      inr (inr (record {
+        fault = c.in-Err.fault;
+        told =
+            is-refusal _ _ c.in-Err.fault (λ unclean. unclean clean) c.in-Err.ensures.refuses.why;
+        said = (
+          nothing-gets (g.O.Output.contents c.args.out.now) (g.O.Output.failures c.args.out.now),
+          c.tell_refusal.ensures,
+        );
+      }));
+}
+
+pub returns-in-Some : goal.returns-in-Some
+returns-in-Some g c =
+    let old = c.args.store.now in
+    let mid = c.identities.new.self in
+    let new = c.export_recording.new.store in
+    let at : List Key → Option Key = λ keys. at_place keys c.args.place in
+    record {
+      stays = stays_then g.S.Store old mid new c.identities.ensures.leaves.stays
+          c.export_recording.ensures.stays;
+      told = inl c.export_recording.ensures.told;
+      exported = λ clean h holds. inl (record {
+        keys = c.in-Ok.recordings.items;
+        key = c.in-Some.identity.now;
+        are_keys = c.in-Ok.ensures.keys
+            (was-clean g.S.Store mid new c.export_recording.ensures.stays
+            clean) h holds;
+        is_at = ap at (sym c.as_slice.ensures.value) ∙ sym c.in-Some.ensures;
+        exported = c.export_recording.ensures.exported clean h
+            (c.identities.ensures.leaves.stays.holdings h holds);
+      });
+    }
+
+pub returns : goal.returns
+returns g c =
+    let at : List Key → Option Key = λ keys. at_place keys c.args.place in
+    let said : Explains (growth g.O.Output c.args.out.now c.args.out.now)
+    (growth g.F.Output c.args.err.now c.tell_no_recording.new.err)
+    (no_recording_line c.args.place) Refused c.tell_no_recording.result
+    = (
+      nothing-gets (g.O.Output.contents c.args.out.now) (g.O.Output.failures c.args.out.now),
+      c.tell_no_recording.ensures,
+    ) in
+    record {
+      stays = c.identities.ensures.leaves.stays;
+      told = inr said;
+      exported = λ clean h holds. inr (inl (record {
+        keys = c.in-Ok.recordings.items;
+        are_keys = c.in-Ok.ensures.keys clean h holds;
+        none = ap at (sym c.as_slice.ensures.value) ∙ sym c.in-None.ensures;
+        said = said;
+      }));
+    }

@@ -1,0 +1,35 @@
+use Rattle.std.proofs.Common.{refl, inl, inr}
+use Rattle.edf_program.proofs.Puts.{nothing-gets}
+use Rattle.edf_command.proofs.exporting.export_recording.Goals as goal
+
+pub returns-in-Ok-clause-exported : goal.returns-in-Ok-clause-exported
+returns-in-Ok-clause-exported g c clean h holds =
+    inl (
+      (c.in-Ok._len, c.in-Ok.ensures.answered clean h holds),
+      c.in-Ok.ensures.truly.counted,
+      nothing-gets (g.F.Output.contents c.args.err.now) (g.F.Output.failures c.args.err.now),
+      refl,
+    )
+
+pub returns-in-Ok-clause-told : goal.returns-in-Ok-clause-told
+returns-in-Ok-clause-told g c = inl (
+  c.in-Ok.ensures.truly.counted,
+  nothing-gets (g.F.Output.contents c.args.err.now) (g.F.Output.failures c.args.err.now),
+  refl,
+)
+
+pub returns-in-Err-clause-told : goal.returns-in-Err-clause-told
+returns-in-Err-clause-told g c = inr (
+  c.in-Err.fault,
+  c.in-Err.ensures.truly.counted,
+  c.tell_refusal.ensures,
+)
+
+pub returns-in-Err-clause-exported : goal.returns-in-Err-clause-exported
+returns-in-Err-clause-exported g c clean h holds =
+    inr (
+      c.in-Err.fault,
+      c.in-Err.ensures.answered clean h holds,
+      c.in-Err.ensures.truly.counted,
+      c.tell_refusal.ensures,
+    )
