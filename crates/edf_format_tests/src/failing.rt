@@ -1,4 +1,4 @@
-//! Reads that fail, and readers after a refusal.
+//! Reads that fail, and what a reader answers after a refusal.
 
 use edf_fragment::{Counted, FragmentFault, FragmentReader, read_fragment};
 use edf_sample::named::{file_k, file_q};
@@ -15,7 +15,7 @@ pub(crate) fn bytes_of(alloc: Global, name: &str) -> Option<Vec<u8>> {
     }
 }
 
-/// What opening a fragment and then three calls tell: the fault of each, where there is one.
+/// The fault of opening a fragment and those of three calls after that, where there is one.
 type Faults = (Option<FragmentFault>, [Option<FragmentFault>; 3]);
 
 fn faults(alloc: Global, input: Source<'_>) -> Faults {
@@ -30,17 +30,17 @@ fn faults(alloc: Global, input: Source<'_>) -> Faults {
     }
 }
 
-/// What reading a file tells, where reads fail from an offset on.
-fn told_of_failing(alloc: Global, name: &str, cut: usize, kind: io::ErrorKind) -> Option<Faults> {
+/// The faults of a file whose reads fail from an offset on.
+fn faults_of_failing(alloc: Global, name: &str, cut: usize, kind: io::ErrorKind) -> Option<Faults> {
     let bytes = bytes_of(alloc, name)?;
     Some(faults(alloc, Source::failing(&bytes, cut, kind)))
 }
 
 #[test]
-fn a_failed_read_is_told_and_then_only_that_the_reader_failed(rt: HostRuntime) {
+fn a_failed_read_is_answered_once_and_then_only_that_the_reader_failed(rt: HostRuntime) {
     let read = Some(FragmentFault::Read);
     let failed = Some(FragmentFault::Failed);
-    for (name, cut, wanted) in [
+    for (name, cut, expected) in [
         ("q", 0usize, (read, [None; 3])),
         ("q", 255, (read, [None; 3])),
         ("q", 256, (read, [None; 3])),
@@ -57,13 +57,13 @@ fn a_failed_read_is_told_and_then_only_that_the_reader_failed(rt: HostRuntime) {
         ("k", 788, (None, [None, None, read])),
     ] {
         for kind in [io::ErrorKind::BrokenPipe, io::ErrorKind::Interrupted] {
-            let told = told_of_failing(rt.alloc(), name, cut, kind);
-            assert_eq!(rt; told, Some(wanted), "{name} at {cut}");
+            let faults = faults_of_failing(rt.alloc(), name, cut, kind);
+            assert_eq!(rt; faults, Some(expected), "{name} at {cut}");
         }
     }
 }
 
-/// After how many bytes of K without its count, from none on, a failed read is told as one.
+/// After how many bytes of K without its count, from none on, a failed read is answered as one.
 fn failed_reads(alloc: Global, kind: io::ErrorKind) -> Option<usize> {
     let bytes = bytes_of(alloc, "k")?;
     for len in 0..799usize {
@@ -83,8 +83,8 @@ fn a_failed_read_is_no_end_also_where_a_record_ends(rt: HostRuntime) {
     }
 }
 
-/// What reading two data records tells, of which the second begins within the first.
-fn told_of_two(alloc: Global) -> Option<Faults> {
+/// The faults of two data records of which the second begins within the first.
+fn faults_of_two(alloc: Global) -> Option<Faults> {
     let header = q().count("2").annotations_samples("8");
     let zeros = [0u8; 40];
     let bytes = file(alloc, &header, &[zeros.as_slice()]).ok()?;
@@ -99,6 +99,6 @@ fn a_record_that_begins_inside_the_one_before_is_refused(rt: HostRuntime) {
         nth: 2,
         fault: TalFault::Order,
     };
-    let wanted = (None, [None, Some(order), Some(FragmentFault::Failed)]);
-    assert_eq!(rt; told_of_two(rt.alloc()), Some(wanted));
+    let expected = (None, [None, Some(order), Some(FragmentFault::Failed)]);
+    assert_eq!(rt; faults_of_two(rt.alloc()), Some(expected));
 }

@@ -1,5 +1,5 @@
-//! Readers that end or fail once and then go on, after which nothing is read; buffers that are
-//! filled; and writers that fail.
+//! Readers that end or fail once and then go on: nothing is read after the end or the failure.
+//! Buffers that are filled, and writers that fail.
 
 use crate::failing::bytes_of;
 use edf_fragment::{Counted, Filled, FragmentFault, FragmentReader, fill, read_fragment, send};
@@ -42,8 +42,8 @@ fn drained(
     fails: bool,
 ) -> (Option<FragmentFault>, usize) {
     let mut reads = 0;
-    let told = read_twice(alloc, StopsOnce::new(bytes, stop, fails, &mut reads));
-    (told, reads)
+    let fault = read_twice(alloc, StopsOnce::new(bytes, stop, fails, &mut reads));
+    (fault, reads)
 }
 
 /// The same, read at once.
@@ -55,12 +55,12 @@ fn drained_whole(
 ) -> (Option<FragmentFault>, usize) {
     let mut reads = 0;
     let mut input = Counted::new(StopsOnce::new(bytes, stop, fails, &mut reads));
-    let told = read_fragment(alloc, &mut input).err();
+    let fault = read_fragment(alloc, &mut input).err();
     drop(input);
-    (told, reads)
+    (fault, reads)
 }
 
-/// Both of a file, where they are the same.
+/// The fault and the number of reads of a file, where both ways to read it have the same.
 fn drained_both(
     alloc: Global,
     name: &str,
@@ -68,15 +68,15 @@ fn drained_both(
     fails: bool,
 ) -> Option<(Option<FragmentFault>, usize)> {
     let bytes = bytes_of(alloc, name)?;
-    let told = drained(alloc, &bytes, stop, fails);
-    if told == drained_whole(alloc, &bytes, stop, fails) {
-        Some(told)
+    let drained = drained(alloc, &bytes, stop, fails);
+    if drained == drained_whole(alloc, &bytes, stop, fails) {
+        Some(drained)
     } else {
         None
     }
 }
 
-/// A file, where it ends or fails, how many bytes are asked for, and the fault of an end.
+/// A file, where its reader ends or fails, how many reads there are, and the fault of the end.
 const ENDS: &[(&str, usize, usize, Option<FragmentFault>)] = &[
     ("q", 0, 1, Some(FragmentFault::Header(HeaderFault::Cut))),
     ("q", 255, 256, Some(FragmentFault::Header(HeaderFault::Cut))),
@@ -125,7 +125,7 @@ fn drained_other(alloc: Global, at: usize, text: &[u8]) -> Option<(Option<Fragme
     Some(drained(alloc, &other, usize::MAX, true))
 }
 
-/// The place of another text, the text, how many bytes are read, and the fault.
+/// The offset of another text, the text, how many reads there are, and the fault.
 const REFUSALS: &[(usize, &[u8], usize, FragmentFault)] = &[
     (
         176,
@@ -158,23 +158,20 @@ const REFUSALS: &[(usize, &[u8], usize, FragmentFault)] = &[
 ];
 
 #[test]
-fn a_refusal_is_told_by_its_fault_and_nothing_is_read_after_it(rt: HostRuntime) {
+fn a_refusal_has_its_fault_and_nothing_is_read_after_it(rt: HostRuntime) {
     for (at, text, reads, fault) in REFUSALS.iter().copied() {
-        let told = drained_other(rt.alloc(), at, text);
-        assert_eq!(rt; told, Some((Some(fault), reads)), "at {at}");
+        let drained = drained_other(rt.alloc(), at, text);
+        assert_eq!(rt; drained, Some((Some(fault), reads)), "at {at}");
     }
 }
 
-/// What becomes of a buffer of five bytes, by reads of two bytes of `abcdefgh` that fail after
-/// `cut`, and the buffer.
+/// How a buffer of five bytes is filled from these bytes, whose reads fail after `cut` of them; and
+/// the buffer then.
 fn filled(bytes: &[u8], cut: usize) -> (Filled, [u8; 5]) {
     let mut buffer = [b'.'; 5];
     let kind = io::ErrorKind::Interrupted;
-    let told = fill(
-        &mut Counted::new(Source::failing(bytes, cut, kind)),
-        &mut buffer,
-    );
-    (told, buffer)
+    let mut input = Counted::new(Source::failing(bytes, cut, kind));
+    (fill(&mut input, &mut buffer), buffer)
 }
 
 #[test]
@@ -183,12 +180,12 @@ fn a_buffer_is_filled_or_the_input_ends_or_a_read_fails(rt: HostRuntime) {
     assert_eq!(rt; filled(eight, 8), (Filled::Full, *b"abcde"));
     assert_eq!(rt; filled(eight, 5), (Filled::Full, *b"abcde"));
     assert_eq!(rt; filled(b"abc", 8), (Filled::Cut { at: 3 }, *b"abc.."));
-    let (told, _) = filled(eight, 4);
-    assert_eq!(rt; told, Filled::Failed);
+    let (failed, _) = filled(eight, 4);
+    assert_eq!(rt; failed, Filled::Failed);
 }
 
-/// Whether the first 300 bytes of Q go into this much room, and whether just those went out for
-/// which there is room.
+/// Whether the first 300 bytes of Q are sent to a writer of this room, and whether just those went
+/// out for which there is room.
 fn sends(alloc: Global, room: usize, full: bool) -> Option<(bool, bool)> {
     let bytes = file_q(alloc).ok()?;
     let mut got = Vec::new(alloc);

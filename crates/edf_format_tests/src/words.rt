@@ -1,15 +1,15 @@
-//! What a fault says.
+//! The text of a fault.
 
 use edf_header::HeaderFault;
 use std::alloc::Global;
 
-/// Whether a fault is told in these words.
-fn is_told_as(alloc: Global, fault: HeaderFault, text: &str) -> Option<bool> {
-    let told = format!(in alloc; "{fault}").ok()?;
-    Some(told.as_str() == text)
+/// Whether a fault is shown as this text.
+fn is_shown_as(alloc: Global, fault: HeaderFault, text: &str) -> Option<bool> {
+    let shown = format!(in alloc; "{fault}").ok()?;
+    Some(shown.as_str() == text)
 }
 
-/// A fault, what it says, and its number.
+/// A fault, its text, and its number.
 const FAULTS: &[(HeaderFault, &str, u8)] = &[
     (HeaderFault::Cut, "the file has fewer than 256 bytes", 1),
     (
@@ -29,6 +29,6 @@ const FAULTS: &[(HeaderFault, &str, u8)] = &[
 fn a_fault_says_what_is_wrong(rt: HostRuntime) {
     for (fault, text, number) in FAULTS.iter().copied() {
         assert_eq!(rt; fault.number(), number);
-        assert_eq!(rt; is_told_as(rt.alloc(), fault, text), Some(true));
+        assert_eq!(rt; is_shown_as(rt.alloc(), fault, text), Some(true));
     }
 }

@@ -3,20 +3,20 @@
 use crate::files::{file_named, first_run, two_gaps};
 use crate::folder::Folder;
 use crate::shelf::Shelf;
-use crate::stage::{story, told};
+use crate::stage::{outcome_of, story};
 use edf_program::Status;
 use std::alloc::Global;
 
 /// The length of `two.edf`.
 const LENGTH: usize = 1_008;
 
-/// What a command tells where the first reading fails from a byte on, or the second does.
-fn told_of_failing(alloc: Global, line: &str, first: usize, second: usize) -> Option<String> {
+/// What a command prints where the first reading fails from a byte on, or the second does.
+fn story_of_failing(alloc: Global, line: &str, first: usize, second: usize) -> Option<String> {
     let shelf = Shelf::new(alloc).failing(first, second);
     let mut folder = Folder::new(alloc);
-    let told = story(alloc, shelf, &mut folder, usize::MAX, line)?;
+    let printed = story(alloc, shelf, &mut folder, usize::MAX, line)?;
     if folder.count() == 0 {
-        Some(told)
+        Some(printed)
     } else {
         None
     }
@@ -30,9 +30,9 @@ fn fails_anywhere(alloc: Global, line: &str, is_second: bool) -> bool {
         } else {
             (cut, usize::MAX)
         };
-        let told = told_of_failing(alloc, line, first, second);
-        let wanted = "err: two.edf refused E40 Read\nstatus 3\n";
-        if !told.is_some_and(|told| told.as_str() == wanted) {
+        let printed = story_of_failing(alloc, line, first, second);
+        let expected = "err: two.edf refused E40 Read\nstatus 3\n";
+        if !printed.is_some_and(|text| text.as_str() == expected) {
             return false;
         }
     }
@@ -40,7 +40,7 @@ fn fails_anywhere(alloc: Global, line: &str, is_second: bool) -> bool {
 }
 
 #[test]
-fn a_reading_that_fails_is_told_and_leaves_no_file(rt: HostRuntime) {
+fn a_reading_that_fails_is_refused_and_leaves_no_file(rt: HostRuntime) {
     for (line, is_second) in [
         ("list two.edf", false),
         ("picture two.edf", false),
@@ -51,54 +51,55 @@ fn a_reading_that_fails_is_told_and_leaves_no_file(rt: HostRuntime) {
     }
 }
 
-/// What a command tells, and how many files it leaves, where the second reading finds the file of
+/// What a command prints, and how many files it leaves, where the second reading finds the file of
 /// that name.
-fn told_of_changed(alloc: Global, line: &str, name: &str) -> Option<(String, usize)> {
+fn story_of_changed(alloc: Global, line: &str, name: &str) -> Option<(String, usize)> {
     let shelf = Shelf::new(alloc).changed(file_named(alloc, name)?);
     let mut folder = Folder::new(alloc);
-    let told = story(alloc, shelf, &mut folder, usize::MAX, line)?;
-    Some((told, folder.count()))
+    let printed = story(alloc, shelf, &mut folder, usize::MAX, line)?;
+    Some((printed, folder.count()))
 }
 
 #[test]
-fn a_file_that_changed_between_its_readings_is_told_and_leaves_no_file(rt: HostRuntime) {
-    let wanted = "err: two.edf refused E40 Read\nstatus 3\n";
+fn a_file_that_changed_between_its_readings_is_refused_and_leaves_no_file(rt: HostRuntime) {
+    let expected = "err: two.edf refused E40 Read\nstatus 3\n";
     for name in ["one.edf", "cut.edf", "tenths.edf", "overlap.edf"] {
-        let told = told_of_changed(rt.alloc(), "split two.edf night", name);
-        let is_told = told.is_some_and(|(text, files)| text.as_str() == wanted && files == 0);
-        assert!(rt; is_told, "{name}");
+        let printed = story_of_changed(rt.alloc(), "split two.edf night", name);
+        let is_printed = printed.is_some_and(|(text, files)| text.as_str() == expected
+            && files == 0);
+        assert!(rt; is_printed, "{name}");
     }
 }
 
-/// What `split` tells, and how many files it leaves, where one more data record follows the last in
-/// the second reading.
-fn told_of_grown(alloc: Global) -> Option<(String, usize)> {
+/// What `split` prints, and how many files it leaves, where one more data record follows the last
+/// in the second reading.
+fn story_of_grown(alloc: Global) -> Option<(String, usize)> {
     let mut bytes = two_gaps(alloc).ok()?;
     let last = Vec::from_slice(alloc, bytes.get(968..)?).ok()?;
     bytes.extend_from_slice(last.as_slice()).ok()?;
     let shelf = Shelf::new(alloc).changed(bytes);
     let mut folder = Folder::new(alloc);
-    let told = story(alloc, shelf, &mut folder, usize::MAX, "split two.edf night")?;
-    Some((told, folder.count()))
+    let printed = story(alloc, shelf, &mut folder, usize::MAX, "split two.edf night")?;
+    Some((printed, folder.count()))
 }
 
 #[test]
-fn a_file_that_grew_between_its_readings_is_told_and_leaves_no_file(rt: HostRuntime) {
-    let wanted = "err: two.edf refused E40 Read\nstatus 3\n";
-    let told = told_of_grown(rt.alloc());
-    assert!(rt; told.is_some_and(|(text, files)| text.as_str() == wanted && files == 0));
+fn a_file_that_grew_between_its_readings_is_refused_and_leaves_no_file(rt: HostRuntime) {
+    let expected = "err: two.edf refused E40 Read\nstatus 3\n";
+    let printed = story_of_grown(rt.alloc());
+    assert!(rt; printed.is_some_and(|(text, files)| text.as_str() == expected && files == 0));
 }
 
-/// What is told and how many files are left where a folder takes no more than it can.
-fn told_of_folder(alloc: Global, mut folder: Folder) -> Option<(String, usize)> {
+/// What is printed, and how many files are left, where a folder takes no more than it can.
+fn story_of_folder(alloc: Global, mut folder: Folder) -> Option<(String, usize)> {
     let shelf = Shelf::new(alloc);
-    let told = story(alloc, shelf, &mut folder, usize::MAX, "split two.edf night")?;
-    Some((told, folder.count()))
+    let printed = story(alloc, shelf, &mut folder, usize::MAX, "split two.edf night")?;
+    Some((printed, folder.count()))
 }
 
 #[test]
-fn a_file_that_cannot_be_written_is_told_and_leaves_no_file(rt: HostRuntime) {
-    let wanted = "err: two.edf refused E43 Write\nstatus 3\n";
+fn a_file_that_cannot_be_written_is_refused_and_leaves_no_file(rt: HostRuntime) {
+    let expected = "err: two.edf refused E43 Write\nstatus 3\n";
     let alloc = rt.alloc();
     for (folder, why) in [
         (Folder::new(alloc).with_room(0), "no room"),
@@ -107,39 +108,40 @@ fn a_file_that_cannot_be_written_is_told_and_leaves_no_file(rt: HostRuntime) {
         (Folder::new(alloc).unmade(3), "the last not made"),
         (Folder::new(alloc).unfinished(2), "the second not ended"),
     ] {
-        let told = told_of_folder(alloc, folder);
-        let is_told = told.is_some_and(|(text, files)| text.as_str() == wanted && files == 0);
-        assert!(rt; is_told, "{why}");
+        let printed = story_of_folder(alloc, folder);
+        let is_printed = printed.is_some_and(|(text, files)| text.as_str() == expected
+            && files == 0);
+        assert!(rt; is_printed, "{why}");
     }
 }
 
-/// What a second `split` tells over the files of a first one, and whether those are left.
-fn told_twice(alloc: Global) -> Option<(String, usize, bool)> {
+/// What a second `split` prints over the files of a first one, and whether those are left.
+fn second_story(alloc: Global) -> Option<(String, usize, bool)> {
     let mut folder = Folder::new(alloc);
     let line = "split two.edf night";
-    told(alloc, Shelf::new(alloc), &mut folder, usize::MAX, line)?;
-    let told = story(alloc, Shelf::new(alloc), &mut folder, usize::MAX, line)?;
+    outcome_of(alloc, Shelf::new(alloc), &mut folder, usize::MAX, line)?;
+    let printed = story(alloc, Shelf::new(alloc), &mut folder, usize::MAX, line)?;
     let is_left = folder.has("night-1.edf", first_run(alloc).ok()?.as_slice());
-    Some((told, folder.count(), is_left))
+    Some((printed, folder.count(), is_left))
 }
 
 #[test]
 fn no_file_that_is_there_is_written_over(rt: HostRuntime) {
-    let wanted = "err: night-1.edf is there already; nothing was written\nstatus 1\n";
-    let told = told_twice(rt.alloc());
+    let expected = "err: night-1.edf is there already; nothing was written\nstatus 1\n";
+    let printed = second_story(rt.alloc());
     assert!(rt;
-        told.is_some_and(|(text, files, is_left)| {
-            text.as_str() == wanted && files == 3 && is_left
+        printed.is_some_and(|(text, files, is_left)| {
+            text.as_str() == expected && files == 3 && is_left
         })
     );
 }
 
 /// How a line of words ends with room for so many bytes on standard output, how many bytes went
 /// out, and how many files are left.
-fn told_with_room(alloc: Global, line: &str, room: usize) -> Option<(Status, usize, usize)> {
+fn outcome_with_room(alloc: Global, line: &str, room: usize) -> Option<(Status, usize, usize)> {
     let mut folder = Folder::new(alloc);
-    let told = told(alloc, Shelf::new(alloc), &mut folder, room, line)?;
-    Some((told.status, told.out.len(), folder.count()))
+    let outcome = outcome_of(alloc, Shelf::new(alloc), &mut folder, room, line)?;
+    Some((outcome.status, outcome.out.len(), folder.count()))
 }
 
 #[test]
@@ -151,9 +153,9 @@ fn lines_and_files_that_cannot_be_written_are_trouble(rt: HostRuntime) {
         "picture two.edf",
     ] {
         for room in [0usize, 1, 59, 100] {
-            let told = told_with_room(rt.alloc(), line, room);
+            let outcome = outcome_with_room(rt.alloc(), line, room);
             assert_eq!(rt;
-                told,
+                outcome,
                 Some((Status::Trouble, room, 0)),
                 "{line}, room for {room}"
             );

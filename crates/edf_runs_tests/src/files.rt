@@ -1,5 +1,5 @@
 //! The files of the tests, built field by field. All are of one recording that begins on 2002-03-02
-//! at 23:59:50, with data records of a second but where it is said.
+//! at 23:59:50, with data records of a second unless it is said otherwise.
 
 use edf_sample::{Header, file, q};
 use std::alloc::{AllocError, Global};
@@ -72,7 +72,7 @@ pub(crate) fn first_run(alloc: Global) -> Result<Vec<u8>, AllocError> {
 }
 
 /// The file of the second run of `two_gaps`, which begins on the next day at midnight. Two
-/// annotations lie outside their data record: one before the file's begin, one after its end.
+/// annotations lie outside their data record: one before the file's start, one after its end.
 pub(crate) fn second_run(alloc: Global) -> Result<Vec<u8>, AllocError> {
     let header = q()
         .reserved("EDF+C")

@@ -10,16 +10,16 @@ use std::test::Fail;
 /// The second at which the recordings start, from 1985-01-01 on.
 const START: i64 = 79_200;
 
-/// Equal stages, told every 30 seconds: the second of the first onset, the seconds of the duration,
-/// or 0 where there is none, how many there are, and what is told.
-type Told = (i64, u64, i64, &'static str);
+/// Equal stages, with an annotation every 30 seconds: the second of the first onset, the seconds of
+/// the duration, or 0 where there is none, how many there are, and the stage.
+type Stages = (i64, u64, i64, &'static str);
 
 /// A night: what it is, the first second and the seconds of each of its runs, its stages, the line,
 /// and the name of the lowest stage. Each has 8,640 seconds, ten for a pixel.
 type Night = (
     &'static str,
     &'static [(i64, u32)],
-    &'static [Told],
+    &'static [Stages],
     &'static str,
     &'static str,
 );
@@ -50,7 +50,7 @@ const NIGHTS: &[Night] = &[
         "N3",
     ),
     (
-        "changes alone are told",
+        "changes alone are named",
         WHOLE,
         &[
             (0, 0, 1, "N2"),
@@ -94,7 +94,7 @@ const NIGHTS: &[Night] = &[
         "N3",
     ),
     (
-        "a stage that is told in a gap, until the next one",
+        "a stage that begins in a gap, until the next one",
         WITH_A_GAP,
         &[(4_000, 0, 1, "N2"), (6_760, 0, 1, "W")],
         "M688 66H788V12H791",
@@ -181,8 +181,8 @@ fn instant(second: i64) -> Option<Instant> {
     Instant::at(second.saturating_mul(SECOND))
 }
 
-fn tell(alloc: Global, sketch: &mut Sketch, told: Told) -> Result<(), AllocError> {
-    let (first, seconds, count, stage) = told;
+fn add_stages(alloc: Global, sketch: &mut Sketch, stages: Stages) -> Result<(), AllocError> {
+    let (first, seconds, count, stage) = stages;
     let text = format!(in alloc; "Sleep stage {stage}")?;
     let duration = if seconds > 0 {
         Some(seconds.saturating_mul(SECOND))
@@ -214,8 +214,8 @@ fn a_stage_is_drawn_where_it_was_recorded(rt: HostRuntime) -> Result<(), Fail> {
     let alloc = rt.alloc();
     for (name, runs, stages, line, lowest) in NIGHTS.iter().copied() {
         let mut sketch = Sketch::new(alloc);
-        for told in stages.iter().copied() {
-            tell(alloc, &mut sketch, told)?;
+        for equal in stages.iter().copied() {
+            add_stages(alloc, &mut sketch, equal)?;
         }
         let svg = drawn(alloc, &sketch, b"P7", &stretches(alloc, runs)?)?;
         let path = format!(in alloc; "<path class='s' d='{line}'>")?;
@@ -226,8 +226,8 @@ fn a_stage_is_drawn_where_it_was_recorded(rt: HostRuntime) -> Result<(), Fail> {
     Ok(())
 }
 
-/// Tells a stage at every second of so many, N2 at the odd ones and else Wake.
-fn tell_changes(sketch: &mut Sketch, count: i64, backwards: bool) -> Result<(), AllocError> {
+/// Adds a stage at every second of so many, N2 at the odd ones and else Wake.
+fn add_changes(sketch: &mut Sketch, count: i64, backwards: bool) -> Result<(), AllocError> {
     for nth in 0..count {
         let second = if backwards {
             count.saturating_sub(nth).saturating_sub(1)
@@ -246,7 +246,7 @@ fn tell_changes(sketch: &mut Sketch, count: i64, backwards: bool) -> Result<(), 
     Ok(())
 }
 
-/// How many changes are told, in which order, and whether some are left out. A day has 50 seconds
+/// How many changes there are, in which order, and whether some are left out. A day has 50 seconds
 /// for half a pixel, whose middle is an odd one.
 const CHANGES: &[(i64, bool, bool)] = &[(32_768, false, false), (32_769, true, true)];
 
@@ -255,14 +255,14 @@ fn the_first_changes_of_stage_are_drawn(rt: HostRuntime) -> Result<(), Fail> {
     let alloc = rt.alloc();
     for (count, backwards, lacks_some) in CHANGES.iter().copied() {
         let mut sketch = Sketch::new(alloc);
-        tell_changes(&mut sketch, count, backwards)?;
+        add_changes(&mut sketch, count, backwards)?;
         let svg = drawn(alloc, &sketch, b"P7", &stretches(alloc, &[(0, 86_400)])?)?;
         assert!(rt;
             svg.contains("<path class='s' d='M112 66H439.5'>"),
             "{count}"
         );
-        let told = svg.contains("(the first ones are drawn)");
-        assert_eq!(rt; told, lacks_some, "{count}");
+        let is_said = svg.contains("(the first ones are drawn)");
+        assert_eq!(rt; is_said, lacks_some, "{count}");
     }
     Ok(())
 }

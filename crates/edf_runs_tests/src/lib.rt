@@ -2,7 +2,7 @@
 //! hand.
 //!
 //! They are in a crate of their own, so that the crates that they test are proved once. Each file
-//! that is wanted is spelled by the builders of files and by no program.
+//! that must come out is spelled by the builders of files and by no program.
 //!
 //! - `files`: the files.
 //! - `shelf`, `folder`: what gives files in place of a disk, and what takes them.

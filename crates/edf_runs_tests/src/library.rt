@@ -47,11 +47,11 @@ fn sizes(alloc: Global, runs: &[Run]) -> Option<Vec<(u32, u32)>> {
 
 #[test]
 fn runs_are_listed_and_gathered(rt: HostRuntime) {
-    let wanted = [(3u32, 10u32), (2, 17), (1, 3)];
+    let expected = [(3u32, 10u32), (2, 17), (1, 3)];
     let listed = listed(rt.alloc()).and_then(|found| sizes(rt.alloc(), &found.runs));
-    assert!(rt; listed.is_some_and(|sizes| sizes.as_slice() == wanted.as_slice()));
+    assert!(rt; listed.is_some_and(|sizes| sizes.as_slice() == expected.as_slice()));
     let gathered = gathered(rt.alloc()).and_then(|found| sizes(rt.alloc(), &found));
-    assert!(rt; gathered.is_some_and(|sizes| sizes.as_slice() == wanted.as_slice()));
+    assert!(rt; gathered.is_some_and(|sizes| sizes.as_slice() == expected.as_slice()));
 }
 
 /// A file that is read again, past its first run.
@@ -86,7 +86,7 @@ fn second(alloc: Global) -> Option<(Vec<u8>, u64)> {
 
 #[test]
 fn a_run_is_skipped_and_the_next_one_written(rt: HostRuntime) {
-    let wanted = second_run(rt.alloc()).ok();
+    let expected = second_run(rt.alloc()).ok();
     let written = second(rt.alloc());
-    assert!(rt; matches!((&written, &wanted), (Some((got, 844)), Some(file)) if got == file));
+    assert!(rt; matches!((&written, &expected), (Some((got, 844)), Some(file)) if got == file));
 }

@@ -1,7 +1,7 @@
 //! The lines of commands, and how they end.
 
 use crate::stage::plain_story;
-use edfstore_arguments::VERSION;
+use edf_program::VERSION;
 use std::alloc::Global;
 
 /// Each line of words, and what it writes.
@@ -63,13 +63,15 @@ const STORIES: &[(&str, &str)] = &[
     ),
     (
         "write - 1",
-        "err: error: FILE is read twice, which standard input can't be: write it to a file first\n\n\
+        "err: error: FILE is read twice, which standard input can't be: \
+        write it to a file first\n\n\
         Usage: edfruns write <FILE> <N>\n\n\
         For more information, try '--help'.\nstatus 2\n",
     ),
     (
         "split - night",
-        "err: error: FILE is read twice, which standard input can't be: write it to a file first\n\n\
+        "err: error: FILE is read twice, which standard input can't be: \
+        write it to a file first\n\n\
         Usage: edfruns split <FILE> <PREFIX>\n\n\
         For more information, try '--help'.\nstatus 2\n",
     ),
@@ -77,13 +79,12 @@ const STORIES: &[(&str, &str)] = &[
 
 #[test]
 fn commands_write_their_lines(rt: HostRuntime) {
-    for (line, wanted) in STORIES.iter().copied() {
-        let told = plain_story(rt.alloc(), line);
-        let Some(told) = told else {
+    for (line, expected) in STORIES.iter().copied() {
+        let Some(printed) = plain_story(rt.alloc(), line) else {
             assert!(rt; false, "{line}: out of memory");
             continue;
         };
-        assert_eq!(rt; told.as_str(), wanted, "{line}");
+        assert_eq!(rt; printed.as_str(), expected, "{line}");
     }
 }
 
@@ -93,7 +94,7 @@ fn version(alloc: Global) -> Option<String> {
 }
 
 #[test]
-fn the_version_is_told_in_a_line(rt: HostRuntime) {
+fn the_version_is_printed_in_a_line(rt: HostRuntime) {
     let want = version(rt.alloc());
     assert!(rt; want.is_some());
     assert_eq!(rt; plain_story(rt.alloc(), "--version"), want);
@@ -102,9 +103,9 @@ fn the_version_is_told_in_a_line(rt: HostRuntime) {
 /// Whether no number of a run is refused as words that ask for nothing.
 fn is_no_number(alloc: Global, number: &str) -> Option<bool> {
     let line = format!(in alloc; "write two.edf {number}").ok()?;
-    let told = plain_story(alloc, line.as_str())?;
+    let printed = plain_story(alloc, line.as_str())?;
     let why = "err: error: N is a run's number in the list, in digits, from 1 to 4294967295\n";
-    Some(told.as_str().starts_with(why) && told.as_str().ends_with("status 2\n"))
+    Some(printed.as_str().starts_with(why) && printed.as_str().ends_with("status 2\n"))
 }
 
 #[test]
@@ -130,6 +131,6 @@ fn thousand_lines(alloc: Global) -> Option<String> {
 
 #[test]
 fn a_thousand_runs_are_listed(rt: HostRuntime) {
-    let told = plain_story(rt.alloc(), "list thousand.edf");
-    assert!(rt; told.is_some() && told == thousand_lines(rt.alloc()));
+    let printed = plain_story(rt.alloc(), "list thousand.edf");
+    assert!(rt; printed.is_some() && printed == thousand_lines(rt.alloc()));
 }

@@ -41,15 +41,19 @@ enum Served {
 }
 
 /// How the budget served under which a command ended so, wrote so and left so many files; `None`
-/// where it may not. A file that can't be made for want of memory is told as not written.
+/// where it may not. For want of memory a file may also count as one that can't be written.
 fn how_served(status: Status, out: &[u8], err: &[u8], files: usize) -> Option<Served> {
     match status {
         Status::Done if err.is_empty() && !out.is_empty() => Some(Served::Whole),
         Status::Trouble if files == 0 && out.is_empty() => {
-            let is_told = err.is_empty()
+            let is_printed = err.is_empty()
                 || err == b"two.edf refused E41 Memory\n".as_slice()
                 || err == b"two.edf refused E43 Write\n".as_slice();
-            if is_told { Some(Served::Short) } else { None }
+            if is_printed {
+                Some(Served::Short)
+            } else {
+                None
+            }
         }
         _ => None,
     }

@@ -26,7 +26,7 @@ fn words(alloc: Global, line: &str) -> Option<Vec<String>> {
 }
 
 /// Does what a line of words asks for. Standard output has this much room.
-pub(crate) fn told(
+pub(crate) fn outcome_of(
     alloc: Global,
     mut shelf: Shelf,
     folder: &mut Folder,
@@ -58,17 +58,18 @@ pub(crate) fn story(
     room: usize,
     line: &str,
 ) -> Option<String> {
-    let mut told = told(alloc, shelf, folder, room, line)?;
-    if !told.err.is_empty() {
-        told.out.extend_from_slice(b"err: ").ok()?;
-        told.out.extend_from_slice(told.err.as_slice()).ok()?;
+    let mut outcome = outcome_of(alloc, shelf, folder, room, line)?;
+    if !outcome.err.is_empty() {
+        outcome.out.extend_from_slice(b"err: ").ok()?;
+        outcome.out.extend_from_slice(outcome.err.as_slice()).ok()?;
     }
-    let status = format!(in alloc; "status {}\n", told.status.code()).ok()?;
-    told.out.extend_from_slice(status.as_bytes()).ok()?;
-    String::from_utf8(told.out).ok()
+    let status = format!(in alloc; "status {}\n", outcome.status.code()).ok()?;
+    outcome.out.extend_from_slice(status.as_bytes()).ok()?;
+    String::from_utf8(outcome.out).ok()
 }
 
-/// The story of a line of words over files that stay as they are, an empty folder, and room for all.
+/// The story of a line of words over files that stay as they are, an empty folder, and room for
+/// all.
 pub(crate) fn plain_story(alloc: Global, line: &str) -> Option<String> {
     let mut folder = Folder::new(alloc);
     story(alloc, Shelf::new(alloc), &mut folder, usize::MAX, line)

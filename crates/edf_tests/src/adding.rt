@@ -1,7 +1,8 @@
 //! Data records added and looked for, and room asked for, each in a transaction of its own.
 
-ghost use Rattle.std.specs.Prelude.{◌≡◌, false, IfOk};
-ghost use Rattle.edf_store.specs.Transaction.{IsRunning, IsOf, EachHasRecord};
+ghost use Rattle.std.specs.Prelude.{◌≡◌, IfOk};
+ghost use Rattle.edf_store.specs.Transaction.{IsOf, EachHasRecord};
+ghost use Rattle.edf_store.specs.StoreTx.{IsRunning};
 
 use edf_fragment::Record;
 use edf_header::Identity;
@@ -9,7 +10,7 @@ use edf_store::{RecordingId, Store, StoreFault, StoreTx};
 use edf_time::Instant;
 use sqlite::Alter;
 
-/// What a transaction told of a recording before a data record was added to it, and after.
+/// What a transaction sees of a recording before a data record is added to it, and after.
 #[derive(Drop)]
 pub(crate) struct Seen {
     pub(crate) before: u32,
@@ -27,13 +28,11 @@ fn fill<S: Alter>(
     data_record: &Record,
     cap: u32,
 ) -> Result<Seen, StoreFault>
-    requires spared { tx.old.refused ≡ false }
-    requires running { IsRunning S.Store tx.old.store.now }
+    requires running { IsRunning S.Store tx.old }
     requires whole { EachHasRecord S.Store tx.old.store.now }
     requires cap { cap ≡ tx.old.store.now.cap }
     ensures same_reference { tx.new.store.ghost_name ≡ tx.old.store.ghost_name }
-    ensures spared { IfOk result (λ _. tx.new.refused ≡ false) }
-    ensures running { IfOk result (λ _. IsRunning S.Store tx.new.store.now) }
+    ensures running { IfOk result (λ _. IsRunning S.Store tx.new) }
     ensures whole { IfOk result (λ _. EachHasRecord S.Store tx.new.store.now) }
 {
     let start = data_record.start();
@@ -53,7 +52,7 @@ fn fill<S: Alter>(
     look(tx, id, identity, start, before)
 }
 
-/// What the transaction tells of the recording now.
+/// What the transaction sees of the recording now.
 fn look<S: Alter>(
     tx: &mut StoreTx<'_, S>,
     id: RecordingId,
@@ -61,13 +60,11 @@ fn look<S: Alter>(
     start: Instant,
     before: u32,
 ) -> Result<Seen, StoreFault>
-    requires spared { tx.old.refused ≡ false }
-    requires running { IsRunning S.Store tx.old.store.now }
+    requires running { IsRunning S.Store tx.old }
     requires whole { EachHasRecord S.Store tx.old.store.now }
     requires recording { IsOf S.Store tx.old.store.now id.row identity.now }
     ensures same_reference { tx.new.store.ghost_name ≡ tx.old.store.ghost_name }
-    ensures spared { IfOk result (λ _. tx.new.refused ≡ false) }
-    ensures running { IfOk result (λ _. IsRunning S.Store tx.new.store.now) }
+    ensures running { IfOk result (λ _. IsRunning S.Store tx.new) }
     ensures whole { IfOk result (λ _. EachHasRecord S.Store tx.new.store.now) }
 {
     let after = tx.count(id)?;
@@ -131,8 +128,7 @@ fn find<S: Alter>(
     identity: &Identity,
     start: Instant,
 ) -> Result<Vec<Record>, StoreFault>
-    requires spared { tx.old.refused ≡ false }
-    requires running { IsRunning S.Store tx.old.store.now }
+    requires running { IsRunning S.Store tx.old }
     ensures same_reference { tx.new.store.ghost_name ≡ tx.old.store.ghost_name }
 {
     let id = tx.recording(identity)?;
@@ -159,8 +155,7 @@ fn find_next<S: Alter>(
     identity: &Identity,
     from: Instant,
 ) -> Result<Option<Instant>, StoreFault>
-    requires spared { tx.old.refused ≡ false }
-    requires running { IsRunning S.Store tx.old.store.now }
+    requires running { IsRunning S.Store tx.old }
     ensures same_reference { tx.new.store.ghost_name ≡ tx.old.store.ghost_name }
 {
     let id = tx.recording(identity)?;
@@ -178,9 +173,9 @@ pub(crate) fn has_room<S: Alter>(
     more: u32,
 ) -> Result<bool, StoreFault> {
     let mut tx = store.transaction()?;
-    let told = ask(&mut tx, identity, more);
+    let fits = ask(&mut tx, identity, more);
     tx.give_up()?;
-    told
+    fits
 }
 
 fn ask<S: Alter>(
@@ -188,8 +183,7 @@ fn ask<S: Alter>(
     identity: &Identity,
     more: u32,
 ) -> Result<bool, StoreFault>
-    requires spared { tx.old.refused ≡ false }
-    requires running { IsRunning S.Store tx.old.store.now }
+    requires running { IsRunning S.Store tx.old }
     ensures same_reference { tx.new.store.ghost_name ≡ tx.old.store.ghost_name }
 {
     let id = tx.recording(identity)?;

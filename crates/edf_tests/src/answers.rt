@@ -1,7 +1,8 @@
-//! Answers by value: what no line of a command tells.
+//! Answers by value, which no line of a command shows.
 
-use crate::held::{CAP, empty_store, held, store_of_both, store_of_q, taken};
+use crate::held::{CAP, Q_START, empty_store, held, store_of_both, store_of_q, taken};
 use crate::intake::{Answer, take};
+use crate::printed::{FOREIGN, NO_MEMORY, NO_STORE, lines};
 use edf_command::refuse_store;
 use edf_export::{ExportFault, export};
 use edf_fragment::Counted;
@@ -62,12 +63,12 @@ fn named(alloc: Global) -> Option<[bool; 5]> {
 
 #[test]
 fn a_receipt_names_the_recording(rt: HostRuntime) {
-    let told = named(rt.alloc());
-    assert_eq!(rt; told, Some([true, true, true, false, false]));
+    let named = named(rt.alloc());
+    assert_eq!(rt; named, Some([true, true, true, false, false]));
 }
 
 /// Why Q's recording without a date is not exported from a store of Q, how many bytes went out, and
-/// whether it sums up to something.
+/// whether the store has a summary of it.
 fn not_exported(alloc: Global) -> Option<(ExportFault, usize, bool)> {
     let mut store = store_of_q(alloc)?;
     let bytes = patched(alloc, &identity_q(alloc).ok()?, 80, b"X").ok()?;
@@ -82,8 +83,8 @@ fn not_exported(alloc: Global) -> Option<(ExportFault, usize, bool)> {
 
 #[test]
 fn a_recording_that_is_not_held_is_not_exported(rt: HostRuntime) {
-    let told = not_exported(rt.alloc());
-    assert_eq!(rt; told, Some((ExportFault::NoRecording, 0, false)));
+    let answer = not_exported(rt.alloc());
+    assert_eq!(rt; answer, Some((ExportFault::NoRecording, 0, false)));
     assert_eq!(rt; ExportFault::NoRecording.number(), 44);
 }
 
@@ -101,14 +102,14 @@ fn first_start<S: Alter>(
 
 /// How many data records Q's recording has, and where the first and the last start.
 fn summed(store: &mut Store<MemStore>, identity: &Identity) -> Option<(u32, Instant, Instant)> {
-    let told = store.summary(identity).ok()??;
-    Some((told.records, told.first, told.last))
+    let summary = store.summary(identity).ok()??;
+    Some((summary.records, summary.first, summary.last))
 }
 
-/// Whether P5 and Q sum up to what they are after a walk over them that is left at Q, and what Q is
+/// Whether the summary of P5 and Q is right after a walk over them that is left at Q, and what Q is
 /// answered then.
-fn q_behind_a_walk(alloc: Global) -> Option<(bool, Answer)> {
-    let first = Instant::at(541_727_990_000_000_000)?;
+fn q_after_a_walk(alloc: Global) -> Option<(bool, Answer)> {
+    let first = Instant::at(Q_START)?;
     let last = first.after(15_000_000_000)?;
     let mut store = store_of_both(alloc)?;
     let identity = identity(alloc)?;
@@ -120,25 +121,31 @@ fn q_behind_a_walk(alloc: Global) -> Option<(bool, Answer)> {
 
 #[test]
 fn a_walk_that_is_left_changes_nothing(rt: HostRuntime) {
-    assert_eq!(rt; q_behind_a_walk(rt.alloc()), Some((true, Ok((0, 1)))));
+    assert_eq!(rt; q_after_a_walk(rt.alloc()), Some((true, Ok((0, 1)))));
 }
 
-/// The status that a store ends with that can't be opened, and whether it is told so.
-fn is_told(alloc: Global, fault: StoreFault, want: &str) -> (u8, bool) {
+/// The status where a store has this fault as it is opened, and whether just this answer is
+/// written.
+fn refused(alloc: Global, fault: StoreFault, answer: &str) -> Option<(u8, bool)> {
     let mut bytes = Vec::new(alloc);
     let mut err = Counted::new(Sink::whole(&mut bytes, 100));
     let status = refuse_store(&fault, &mut err);
     drop(err);
-    (status.code(), bytes.as_slice() == want.as_bytes())
+    let line = lines(alloc, &[("store", answer)]).ok()?;
+    Some((status.code(), bytes.as_slice() == line.as_bytes()))
 }
 
 #[test]
-fn a_store_that_cannot_be_opened_is_told_by_its_fault(rt: HostRuntime) {
-    for (fault, want) in [
-        (StoreFault::Memory, "store refused E41 Memory\n"),
-        (StoreFault::Store(None), "store refused E42 Store\n"),
-        (StoreFault::Foreign, "store refused E45 Foreign\n"),
+fn a_store_that_cannot_be_opened_is_refused_by_its_fault(rt: HostRuntime) {
+    for (fault, answer) in [
+        (StoreFault::Memory, NO_MEMORY),
+        (StoreFault::Store(None), NO_STORE),
+        (StoreFault::Foreign, FOREIGN),
     ] {
-        assert_eq!(rt; is_told(rt.alloc(), fault, want), (3, true), "{want}");
+        assert_eq!(rt;
+            refused(rt.alloc(), fault, answer),
+            Some((3, true)),
+            "{answer}"
+        );
     }
 }

@@ -14,8 +14,8 @@ fn half<'a>(bytes: Option<&&'a [u8]>) -> Option<&'a [u8]> {
     }
 }
 
-/// Whether `sent` of the files of `canonical` and, once the next one broke off, all of them are
-/// accepted.
+/// Whether the first `sent` files are accepted, half of the next one is refused, all of them are
+/// accepted then, and the store holds this canonical file.
 fn ends_alike(alloc: Global, files: &[&[u8]], sent: usize, canonical: &[u8]) -> Option<bool> {
     let mut store = empty_store(alloc, 20)?;
     let front = take(alloc, &mut store, files.get(..sent)?)?;

@@ -1,6 +1,6 @@
 //! Files that are cut at every byte, and a text of the most bytes and one of a byte more.
 
-use crate::held::{CAP, empty_store, holds, holds_q, store_of_q, taken, told};
+use crate::held::{CAP, answer_beside_q, empty_store, holds, holds_q, store_of_q, taken};
 use crate::intake::Answer;
 use edf_fragment::FragmentFault;
 use edf_header::HeaderFault;
@@ -10,8 +10,8 @@ use edf_sample::{file, patched, q};
 use edf_tal::TalFault;
 use std::alloc::{AllocError, Global};
 
-/// The fault of a file that is cut to `len` bytes, where its header and its first data record end
-/// there.
+/// The fault of a file that is cut to `len` bytes, whose header ends at `header` and whose first
+/// data record ends at `first`.
 fn cut_to(len: usize, header: usize, first: usize) -> FragmentFault {
     if len < 256 {
         FragmentFault::Header(HeaderFault::Cut)
@@ -24,8 +24,8 @@ fn cut_to(len: usize, header: usize, first: usize) -> FragmentFault {
     }
 }
 
-/// The least length to which a file may be cut without being refused so by a store of Q that keeps
-/// Q alone.
+/// The least length to which a file is cut and a store of Q does not refuse it so, or no longer
+/// holds Q alone.
 fn refused_cuts(
     alloc: Global,
     bytes: Result<Vec<u8>, AllocError>,
@@ -56,7 +56,7 @@ fn a_file_that_is_cut_anywhere_is_refused_by_what_is_cut(rt: HostRuntime) {
     assert_eq!(rt; of_two_annotations_signals, Some(1_050));
 }
 
-/// What a store is to answer the first `len` bytes of K without its count, where it was sent each
+/// What a store must answer to the first `len` bytes of K without its count, where it was sent each
 /// shorter front before.
 fn answer_of_front(len: usize) -> Answer {
     match len {
@@ -68,8 +68,8 @@ fn answer_of_front(len: usize) -> Answer {
     }
 }
 
-/// How many fronts of that file, each a byte longer, are answered so; and whether the canonical
-/// file of K is held then.
+/// How many fronts of that file, each a byte longer, are answered so; and whether the store then
+/// holds the canonical file of K.
 fn grows(alloc: Global) -> Option<(usize, bool)> {
     let card = file_k(alloc).ok()?;
     let bytes = patched(alloc, &card, 236, b"-1").ok()?;
@@ -79,8 +79,8 @@ fn grows(alloc: Global) -> Option<(usize, bool)> {
             return Some((len, false));
         }
     }
-    let wanted = patched(alloc, &card, 196, b"D").ok()?;
-    Some((bytes.len(), holds(alloc, &mut store, 3, &wanted)))
+    let expected = patched(alloc, &card, 196, b"D").ok()?;
+    Some((bytes.len(), holds(alloc, &mut store, 3, &expected)))
 }
 
 #[test]
@@ -97,25 +97,25 @@ fn long_text(alloc: Global, len: usize, samples: &str) -> Option<Vec<u8>> {
     file(alloc, &header, &[begin, &text, b"\x14\0"]).ok()
 }
 
-/// What an empty store answers a text of the most bytes that a data record may have.
-fn told_of_longest(alloc: Global) -> Option<Answer> {
+/// What an empty store answers to a text of the most bytes that a data record may have.
+fn answer_to_longest(alloc: Global) -> Option<Answer> {
     let bytes = long_text(alloc, 1_000_000, "500005")?;
     Some(taken(alloc, &mut empty_store(alloc, CAP)?, &bytes))
 }
 
-/// What a store of Q answers a text of one byte more, and whether it keeps Q alone.
-fn told_of_too_long(alloc: Global) -> Option<(Answer, bool)> {
+/// What a store of Q answers to a text of one byte more, and whether it still holds Q alone.
+fn answer_to_too_long(alloc: Global) -> Option<(Answer, bool)> {
     let mut bytes = long_text(alloc, 1_000_001, "500006")?;
     bytes.push(0).ok()?;
-    told(alloc, &bytes)
+    answer_beside_q(alloc, &bytes)
 }
 
 #[test]
 fn a_text_is_accepted_up_to_a_million_bytes(rt: HostRuntime) {
-    assert_eq!(rt; told_of_longest(rt.alloc()), Some(Ok((1, 0))));
+    assert_eq!(rt; answer_to_longest(rt.alloc()), Some(Ok((1, 0))));
     let many = Refusal::Form(FragmentFault::Tal {
         nth: 1,
         fault: TalFault::TooMany,
     });
-    assert_eq!(rt; told_of_too_long(rt.alloc()), Some((Err(many), true)));
+    assert_eq!(rt; answer_to_too_long(rt.alloc()), Some((Err(many), true)));
 }

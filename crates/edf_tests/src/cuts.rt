@@ -1,4 +1,4 @@
-//! A night, cut into six fragments at places as if by chance.
+//! A night, cut into six fragments by pseudo-random numbers.
 
 use crate::night::{Chance, Second, file_of};
 use edf_sample::patched;
@@ -8,8 +8,8 @@ use std::alloc::Global;
 fn widths(chance: &mut Chance, count: usize) -> [usize; 6] {
     let mut widths = [1usize; 6];
     for _ in 6..count {
-        let place = chance.below(6);
-        widths[place] = widths[place].saturating_add(1);
+        let index = chance.below(6);
+        widths[index] = widths[index].saturating_add(1);
     }
     widths
 }
@@ -40,22 +40,22 @@ pub(crate) fn fragments(
     Some(files)
 }
 
-/// The places of six files, and up to six of them once more.
-fn places(alloc: Global, chance: &mut Chance) -> Option<Vec<usize>> {
+/// The indices of six files, and up to six of them once more.
+fn indices(alloc: Global, chance: &mut Chance) -> Option<Vec<usize>> {
     let mut list = Vec::new(alloc);
-    for place in 0..6 + chance.below(7) {
+    for index in 0..6 + chance.below(7) {
         let again = chance.below(6);
-        list.push(if place < 6 { place } else { again }).ok()?;
+        list.push(if index < 6 { index } else { again }).ok()?;
     }
     Some(list)
 }
 
-/// The places of six files, some of them more than once, in an order as if by chance.
+/// The indices of six files, some of them more than once, in a pseudo-random order.
 pub(crate) fn shuffled(alloc: Global, chance: &mut Chance) -> Option<Vec<usize>> {
-    let mut list = places(alloc, chance)?;
+    let mut list = indices(alloc, chance)?;
     let order = list.as_mut_slice();
-    for place in 0..order.len() {
-        order.swap(place, chance.below(place + 1));
+    for index in 0..order.len() {
+        order.swap(index, chance.below(index + 1));
     }
     Some(list)
 }

@@ -1,7 +1,7 @@
 //! Exports of a file that is longer than their buffer, to writers that take all, take it in
 //! pieces, and stop around each write.
 
-use crate::large::{large_file, store_of_large};
+use crate::large::{LARGE_BYTES, large_file, store_of_large};
 use crate::writers::{Sent, stopped};
 use edf_export::{ExportFault, export};
 use edf_fragment::Counted;
@@ -31,68 +31,84 @@ impl Write for Ends<'_> {
     }
 }
 
-/// Where the writes of the large file end: its header; the first data record's samples, which go
-/// past the buffer, as much of its block as the buffer holds in pieces of 4,096 zeros, and the
-/// rest; the second's samples and its block, which both go past it.
-const ENDS: &[usize] = &[768, 133_768, 195_213, 199_770, 332_770, 398_772];
+/// Where the writes of the large file end: its header; the first data record's samples, which are
+/// longer than the buffer, then as much of its block as the buffer holds in pieces of 4,096 zeros,
+/// and the rest; the same of the second, whose block begins with 55,010 bytes; the third's samples
+/// and its block, which both are longer than the buffer.
+const ENDS: &[usize] = &[
+    768,
+    133_768,
+    195_213,
+    199_770,
+    332_770,
+    395_972,
+    398_772,
+    531_772,
+    LARGE_BYTES,
+];
 
 /// An export to a writer that takes all, and whether its writes ended just there.
 fn whole(alloc: Global) -> Option<(Sent, bool)> {
-    let wanted = large_file(alloc)?;
+    let expected = large_file(alloc)?;
     let mut store = store_of_large(alloc)?;
     let identity = store.identities().ok()?.pop()?;
-    let (mut bytes, mut places) = (Vec::new(alloc), Vec::new(alloc));
+    let (mut bytes, mut ends) = (Vec::new(alloc), Vec::new(alloc));
     let mut out = Counted::new(Ends {
         got: &mut bytes,
-        ends: &mut places,
+        ends: &mut ends,
     });
     let answer = export(alloc, &mut store, &identity, &mut out);
     drop(out);
-    let same = bytes.as_slice() == wanted.as_slice();
-    Some(((answer, same), places.as_slice() == ENDS))
+    let same = bytes.as_slice() == expected.as_slice();
+    Some(((answer, same), ends.as_slice() == ENDS))
 }
 
 #[test]
-fn a_file_longer_than_the_buffer_goes_out_whole_in_six_writes(rt: HostRuntime) {
-    assert_eq!(rt; whole(rt.alloc()), Some(((Ok(398_772), true), true)));
+fn a_file_longer_than_the_buffer_goes_out_whole_in_nine_writes(rt: HostRuntime) {
+    assert_eq!(rt;
+        whole(rt.alloc()),
+        Some(((Ok(LARGE_BYTES as u64), true), true))
+    );
 }
 
 /// An export to a writer that takes 1,000 bytes a write.
 fn by_thousands(alloc: Global) -> Option<Sent> {
-    let wanted = large_file(alloc)?;
+    let expected = large_file(alloc)?;
     let mut store = store_of_large(alloc)?;
     let identity = store.identities().ok()?.pop()?;
     let mut got = Vec::new(alloc);
     let mut out = Counted::new(Sink::whole(&mut got, 1_000));
     let answer = export(alloc, &mut store, &identity, &mut out);
     drop(out);
-    Some((answer, got.as_slice() == wanted.as_slice()))
+    Some((answer, got.as_slice() == expected.as_slice()))
 }
 
 #[test]
 fn a_file_longer_than_the_buffer_goes_out_whole_in_writes_of_a_thousand_bytes(rt: HostRuntime) {
-    assert_eq!(rt; by_thousands(rt.alloc()), Some((Ok(398_772), true)));
+    assert_eq!(rt;
+        by_thousands(rt.alloc()),
+        Some((Ok(LARGE_BYTES as u64), true))
+    );
 }
 
 /// Of the rooms from two bytes less than `end` to two more, the first for which an export does not
-/// end as it must: with that number of bytes of the file and a failed write, or with the whole
-/// file.
+/// end as it must: with just this front of the file and a failed write, or with the whole file.
 fn other_room(
     alloc: Global,
     store: &mut Store<MemStore>,
     identity: &Identity,
-    wanted: &[u8],
+    expected: &[u8],
     end: usize,
     full: bool,
 ) -> Option<usize> {
     for more in 0..5usize {
         let room = end.saturating_add(more).saturating_sub(2);
-        let answer = if room < 398_772 {
+        let answer = if room < LARGE_BYTES {
             Err(ExportFault::Write)
         } else {
-            Ok(398_772)
+            Ok(LARGE_BYTES as u64)
         };
-        if stopped(alloc, store, identity, wanted, room, full) != (answer, true) {
+        if stopped(alloc, store, identity, expected, room, full) != (answer, true) {
             return Some(room);
         }
     }
@@ -101,11 +117,11 @@ fn other_room(
 
 /// The first such room around the ends of all writes, where there is one.
 fn other_rooms(alloc: Global, full: bool) -> Option<Option<usize>> {
-    let wanted = large_file(alloc)?;
+    let expected = large_file(alloc)?;
     let mut store = store_of_large(alloc)?;
     let identity = store.identities().ok()?.pop()?;
     for end in ENDS.iter().copied() {
-        let other = other_room(alloc, &mut store, &identity, &wanted, end, full);
+        let other = other_room(alloc, &mut store, &identity, &expected, end, full);
         if other.is_some() {
             return Some(other);
         }

@@ -1,6 +1,7 @@
 //! Files that hold what no submissions leave, on a disk.
 
 use crate::disk::lend;
+use crate::held::CAP;
 use crate::run::{connected, opened, submitted_to};
 use edf_sample::named::{file_p5, file_q};
 use edf_sample::{file, q};
@@ -13,7 +14,8 @@ const RECORDINGS: &str =
     "SELECT coalesce(group_concat(id || ' ' || hex(identity)), 'none') FROM recording";
 
 const RECORDS: &str =
-    "SELECT coalesce(group_concat(recording || ' ' || start || ' ' || hex(samples) || ' ' || hex(block)), 'none') FROM record";
+    "SELECT coalesce(group_concat(recording || ' ' || start || ' ' || hex(samples) || ' ' || \
+    hex(block)), 'none') FROM record";
 
 fn text_of<S: Alter>(conn: &mut Connection<S>, sql: &str) -> Option<String> {
     conn.query_row(sql, &[]).ok()?.get(0).ok()
@@ -27,7 +29,7 @@ fn rows_of<S: Alter>(conn: &mut Connection<S>) -> Option<String> {
 }
 
 /// The rows that a statement leaves.
-fn rows_behind<S: Alter>(conn: &mut Connection<S>, sql: &str) -> Option<String> {
+fn rows_after<S: Alter>(conn: &mut Connection<S>, sql: &str) -> Option<String> {
     conn.execute(sql, &[]).ok()?;
     rows_of(conn)
 }
@@ -41,9 +43,9 @@ fn found<D: Disk + Drop>(alloc: Global, disks: Files<D>) -> Option<String> {
     all_rows(connected(alloc, disks, 1000)?)
 }
 
-/// The number of the refusal with which a connection is taken for a store, 0 where it is taken.
+/// The number of the refusal as a store is opened over a connection, 0 where it is opened.
 fn answered<S: Alter + Drop>(alloc: Global, conn: Connection<S>, cap: u32) -> Option<u8> {
-    if !conn.is_autocommit() || cap == 0 || cap > 99_999_999 {
+    if !conn.is_autocommit() || cap == 0 || cap > CAP {
         return None;
     }
     match Store::open(alloc, conn, cap) {
@@ -52,8 +54,8 @@ fn answered<S: Alter + Drop>(alloc: Global, conn: Connection<S>, cap: u32) -> Op
     }
 }
 
-/// How the connection of a store is opened again after files, all accepted, and a statement; and
-/// the rows that the statement left.
+/// The number of the refusal as a store is opened again after files, which were all accepted, and a
+/// statement; and the rows that the statement left.
 fn reopened<S: Alter + Drop>(
     alloc: Global,
     store: Store<S>,
@@ -65,12 +67,13 @@ fn reopened<S: Alter + Drop>(
     if count != files.len() {
         return None;
     }
-    let rows = rows_behind(&mut conn, sql)?;
+    let rows = rows_after(&mut conn, sql)?;
     Some((answered(alloc, conn, cap)?, rows))
 }
 
-/// The same of a store on disks, and whether these then have the rows that the statement left.
-fn opened_behind(alloc: Global, files: &[Vec<u8>], sql: &str, cap: u32) -> Option<(u8, bool)> {
+/// The number of the refusal for a store on disks, and whether these then have the rows that the
+/// statement left.
+fn opened_after(alloc: Global, files: &[Vec<u8>], sql: &str, cap: u32) -> Option<(u8, bool)> {
     let mut log = Memory::new(alloc);
     let mut db = Memory::new(alloc);
     let store = opened(alloc, lend(&mut log, &mut db), 1000)?;
@@ -79,10 +82,10 @@ fn opened_behind(alloc: Global, files: &[Vec<u8>], sql: &str, cap: u32) -> Optio
     Some((number, stays))
 }
 
-/// The same of a store of Q's data record.
-fn q_behind(alloc: Global, sql: &str) -> Option<(u8, bool)> {
+/// The same for a store of Q's data record.
+fn q_after(alloc: Global, sql: &str) -> Option<(u8, bool)> {
     let files = vec![in alloc; file_q(alloc).ok()?].ok()?;
-    opened_behind(alloc, files.as_slice(), sql, 9)
+    opened_after(alloc, files.as_slice(), sql, 9)
 }
 
 /// What is done to the file, and the number of the refusal, 0 for none.
@@ -100,7 +103,8 @@ const FOREIGN: &[(&str, u8)] = &[
         45,
     ),
     (
-        "INSERT INTO record SELECT recording, 541727990500000000, x'0100FFFF', x'2B3534313732373939302E35141400' FROM record",
+        "INSERT INTO record SELECT recording, 541727990500000000, x'0100FFFF', \
+            x'2B3534313732373939302E35141400' FROM record",
         45,
     ),
     ("CREATE TABLE another (x)", 0),
@@ -110,22 +114,22 @@ const FOREIGN: &[(&str, u8)] = &[
 #[test]
 fn a_foreign_file_is_refused_and_keeps_its_rows(rt: HostRuntime) {
     for (sql, number) in FOREIGN.iter().copied() {
-        let told = q_behind(rt.alloc(), sql);
-        assert_eq!(rt; told, Some((number, true)), "{sql}");
+        let answer = q_after(rt.alloc(), sql);
+        assert_eq!(rt; answer, Some((number, true)), "{sql}");
     }
 }
 
-/// The same of a store of P5 and Q, which is opened again with this cap.
+/// The same for a store of P5 and Q, which is opened again with this cap.
 fn both_under(alloc: Global, cap: u32) -> Option<(u8, bool)> {
     let files = vec![in alloc; file_p5(alloc).ok()?, file_q(alloc).ok()?].ok()?;
-    opened_behind(alloc, files.as_slice(), "", cap)
+    opened_after(alloc, files.as_slice(), "", cap)
 }
 
 #[test]
 fn a_recording_above_the_cap_is_foreign(rt: HostRuntime) {
     for (cap, number) in [(1u32, 45u8), (2, 0)] {
-        let told = both_under(rt.alloc(), cap);
-        assert_eq!(rt; told, Some((number, true)), "{cap}");
+        let answer = both_under(rt.alloc(), cap);
+        assert_eq!(rt; answer, Some((number, true)), "{cap}");
     }
 }
 
@@ -140,10 +144,10 @@ fn into_2085(alloc: Global, recording: &'static str) -> Option<Vec<u8>> {
     file(alloc, &header, &[first, second]).ok()
 }
 
-/// The same of a store of these two.
-fn into_2085_behind(alloc: Global, recording: &'static str, sql: &str) -> Option<(u8, bool)> {
+/// The same for a store of these two.
+fn into_2085_after(alloc: Global, recording: &'static str, sql: &str) -> Option<(u8, bool)> {
     let files = vec![in alloc; into_2085(alloc, recording)?].ok()?;
-    opened_behind(alloc, files.as_slice(), sql, 9)
+    opened_after(alloc, files.as_slice(), sql, 9)
 }
 
 const DATED: &str = "Startdate 31-DEC-2084 N1 T3 REC5";
@@ -173,7 +177,7 @@ const LATE: &[(&str, &str, u8)] = &[
 #[test]
 fn a_recording_without_a_date_that_begins_after_2084_is_foreign(rt: HostRuntime) {
     for (recording, sql, number) in LATE.iter().copied() {
-        let told = into_2085_behind(rt.alloc(), recording, sql);
-        assert_eq!(rt; told, Some((number, true)), "{recording} {sql}");
+        let answer = into_2085_after(rt.alloc(), recording, sql);
+        assert_eq!(rt; answer, Some((number, true)), "{recording} {sql}");
     }
 }

@@ -4,7 +4,7 @@ use crate::intake::Answer;
 use crate::three_files::q_and_p5;
 use edf_export::export;
 use edf_fragment::{Counted, Input};
-use edf_header::Identity;
+use edf_header::{Identity, MOST_RECORDS};
 use edf_intake::submit;
 use edf_sample::named::{file_p5, file_q};
 use edf_sample::{Sink, Source};
@@ -13,7 +13,10 @@ use sqlite::{Alter, Connection, MemStore};
 use std::alloc::Global;
 
 /// The program's cap.
-pub(crate) const CAP: u32 = 99_999_999;
+pub(crate) const CAP: u32 = MOST_RECORDS;
+
+/// 2002-03-02 23:59:50, where file Q starts, in nanoseconds from 1985-01-01 00:00:00.
+pub(crate) const Q_START: u64 = 541_727_990_000_000_000;
 
 /// An empty store.
 pub(crate) fn empty_store(alloc: Global, cap: u32) -> Option<Store<MemStore>> {
@@ -24,6 +27,7 @@ pub(crate) fn empty_store(alloc: Global, cap: u32) -> Option<Store<MemStore>> {
     Store::open(alloc, conn, cap).ok()
 }
 
+/// What a reader's file is answered.
 pub(crate) fn submitted<S: Alter, R: Input>(
     alloc: Global,
     store: &mut Store<S>,
@@ -35,7 +39,7 @@ pub(crate) fn submitted<S: Alter, R: Input>(
     }
 }
 
-/// What a file is answered that is read whole.
+/// What a file is answered that a reader gives whole.
 pub(crate) fn taken<S: Alter>(alloc: Global, store: &mut Store<S>, bytes: &[u8]) -> Answer {
     let mut input = Counted::new(Source::whole(bytes, 300));
     submitted(alloc, store, &mut input)
@@ -71,7 +75,8 @@ pub(crate) fn exported<S: Alter>(
     Some(bytes)
 }
 
-/// What a store of one recording at most holds: how many data records, and their canonical file.
+/// What a store holds that has one recording at most: how many data records, and their canonical
+/// file.
 pub(crate) fn held<S: Alter>(alloc: Global, store: &mut Store<S>) -> Option<(u32, Vec<u8>)> {
     let all = store.identities().ok()?;
     match all.as_slice() {
@@ -89,10 +94,10 @@ pub(crate) fn holds(
     alloc: Global,
     store: &mut Store<MemStore>,
     records: u32,
-    wanted: &[u8],
+    expected: &[u8],
 ) -> bool {
     match held(alloc, store) {
-        Some((count, bytes)) => count == records && bytes.as_slice() == wanted,
+        Some((count, bytes)) => count == records && bytes.as_slice() == expected,
         None => false,
     }
 }
@@ -113,8 +118,8 @@ pub(crate) fn holds_both(alloc: Global, store: &mut Store<MemStore>) -> bool {
     }
 }
 
-/// What a store of Q answers these bytes, and whether it then still holds Q alone.
-pub(crate) fn told(alloc: Global, bytes: &[u8]) -> Option<(Answer, bool)> {
+/// What a store of Q answers to these bytes, and whether it then still holds Q alone.
+pub(crate) fn answer_beside_q(alloc: Global, bytes: &[u8]) -> Option<(Answer, bool)> {
     let mut store = store_of_q(alloc)?;
     let answer = taken(alloc, &mut store, bytes);
     Some((answer, holds_q(alloc, &mut store)))

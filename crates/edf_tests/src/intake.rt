@@ -10,15 +10,15 @@ use std::alloc::Global;
 /// How many data records of a file were added and were there; or why it was refused.
 pub(crate) type Answer = Result<(u32, u32), Refusal>;
 
-/// The files at these places of a list.
+/// The files of a list at these indices.
 pub(crate) fn picked<'a>(
     alloc: Global,
     files: &'a [Vec<u8>],
-    places: &[usize],
+    indices: &[usize],
 ) -> Option<Vec<&'a [u8]>> {
     let mut list = Vec::new(alloc);
-    for place in places {
-        list.push(files.get(*place)?.as_slice()).ok()?;
+    for index in indices {
+        list.push(files.get(*index)?.as_slice()).ok()?;
     }
     Some(list)
 }

@@ -3,7 +3,7 @@
 
 use crate::adding::{has_room, near, next_start, put};
 use crate::disk::lend;
-use crate::held::{CAP, empty_store};
+use crate::held::{CAP, Q_START, empty_store};
 use crate::run::{opened, store_of};
 use edf_fragment::{Counted, OpenFragment, Record};
 use edf_header::Identity;
@@ -15,12 +15,9 @@ use sqlite::{Alter, Connection, Files};
 use sqlite_disk::{Disk, Memory};
 use std::alloc::Global;
 
-/// 2002-03-02 23:59:50, where file Q starts, in nanoseconds after 1985-01-01 00:00:00.
-const START: u64 = 541_727_990_000_000_000;
-
 /// An instant, by the half seconds after the start of file Q.
 fn instant(halves: i8) -> Option<Instant> {
-    Instant::at(START)?.after(i64::from(halves) * 500_000_000)
+    Instant::at(Q_START)?.after(i64::from(halves) * 500_000_000)
 }
 
 /// The identity and the first data record of a file.
@@ -31,9 +28,9 @@ fn first_of(alloc: Global, file: &[u8]) -> Option<(Identity, Record)> {
     Some((fragment.into_header().into_identity(), data_record))
 }
 
-/// A data record of one second of one ordinary signal, without annotations, `halves` half seconds
-/// after Q's.
-fn record_behind(alloc: Global, halves: i8) -> Option<Record> {
+/// A data record of one second of one ordinary signal, without annotations, which starts `halves`
+/// half seconds after Q's.
+fn record_after(alloc: Global, halves: i8) -> Option<Record> {
     let samples = Vec::from_slice(alloc, &[2, 0, 0xFE, 0xFF]).ok()?;
     Record::new(instant(halves)?, samples, Vec::new(alloc))
 }
@@ -49,7 +46,7 @@ struct Two {
 /// Q's data record and one that starts `halves` half seconds after it.
 fn two_apart(alloc: Global, halves: i8) -> Option<Two> {
     let (identity, first) = first_of(alloc, &file_q(alloc).ok()?)?;
-    let second = record_behind(alloc, halves)?;
+    let second = record_after(alloc, halves)?;
     Some(Two {
         identity,
         first,
@@ -68,7 +65,7 @@ enum Which {
 }
 
 /// Which of the two these are, in this order.
-fn told_which(found: &[Record], two: &Two) -> Which {
+fn which_of(found: &[Record], two: &Two) -> Which {
     match found {
         [] => Which::Neither,
         [one] if one.same(&two.first) => Which::First,
@@ -78,7 +75,7 @@ fn told_which(found: &[Record], two: &Two) -> Which {
     }
 }
 
-/// What a transaction tells that adds a data record: how many there were before, how many are there
+/// What a transaction sees that adds a data record: how many there were before, how many are there
 /// then, and which of them meet the interval that begins half a second before it.
 fn add<S: Alter>(
     store: &mut Store<S>,
@@ -87,20 +84,20 @@ fn add<S: Alter>(
     keeps: bool,
 ) -> Option<(u32, u32, Which)> {
     let seen = put(store, &two.identity, data_record, keeps).ok()?;
-    let near = told_which(seen.near.as_slice(), two);
+    let near = which_of(seen.near.as_slice(), two);
     Some((seen.before, seen.after, near))
 }
 
 /// Which of the two meet the interval that begins `halves` half seconds after the first.
 fn near_at<S: Alter>(store: &mut Store<S>, two: &Two, halves: i8) -> Option<Which> {
     let found = near(store, &two.identity, instant(halves)?).ok()?;
-    Some(told_which(found.as_slice(), two))
+    Some(which_of(found.as_slice(), two))
 }
 
 /// How many data records a recording has, and where the first and the last start, in nanoseconds
 /// after Q's.
 fn summed<S: Alter>(store: &mut Store<S>, identity: &Identity) -> Option<(u32, i64, i64)> {
-    let start = Instant::at(START)?;
+    let start = Instant::at(Q_START)?;
     let summary = store.summary(identity).ok()??;
     Some((
         summary.records,
@@ -109,18 +106,15 @@ fn summed<S: Alter>(store: &mut Store<S>, identity: &Identity) -> Option<(u32, i
     ))
 }
 
-/// What a store tells that holds nothing: its cap, how many recordings, and whether one of them has
-/// the identity.
-fn told_of_nothing<S: Alter>(
-    store: &mut Store<S>,
-    identity: &Identity,
-) -> Option<(u32, usize, bool)> {
+/// What a store answers that holds nothing: its cap, how many recordings it has, and whether one of
+/// them has the identity.
+fn of_nothing<S: Alter>(store: &mut Store<S>, identity: &Identity) -> Option<(u32, usize, bool)> {
     let count = store.identities().ok()?.len();
     let found = store.summary(identity).ok()?.is_some();
     Some((store.cap(), count, found))
 }
 
-/// What is told as Q's data record is kept, and one that touches it is given up and then kept.
+/// What is seen as Q's data record is kept, and one that touches it is given up and then kept.
 #[derive(Clone, Copy, Debug, Drop, PartialEq, Eq)]
 struct Kept {
     nothing: (u32, usize, bool),
@@ -150,7 +144,7 @@ const KEPT: Kept = Kept {
 /// The two are put into a store.
 fn keep_two<S: Alter>(store: &mut Store<S>, two: &Two) -> Option<Kept> {
     Some(Kept {
-        nothing: told_of_nothing(store, &two.identity)?,
+        nothing: of_nothing(store, &two.identity)?,
         first: add(store, two, &two.first, true)?,
         near_one: (near_at(store, two, 0)?, near_at(store, two, 1)?),
         given_up: add(store, two, &two.second, false)?,
@@ -178,22 +172,22 @@ const NEAR: &[(i8, Which, Option<i64>)] = &[
 /// that is counted likewise.
 fn next_at<S: Alter>(store: &mut Store<S>, two: &Two, halves: i8) -> Option<Option<i64>> {
     match next_start(store, &two.identity, instant(halves)?).ok()? {
-        Some(next) => Some(Some(next.since(Instant::at(START)?) / 500_000_000)),
+        Some(next) => Some(Some(next.since(Instant::at(Q_START)?) / 500_000_000)),
         None => Some(None),
     }
 }
 
-/// The first instant near which others are, or after which another starts, than the table has.
-fn told_near<S: Alter>(store: &mut Store<S>, two: &Two) -> Option<Option<i8>> {
-    for (halves, wanted, next) in NEAR.iter().copied() {
-        if near_at(store, two, halves)? != wanted || next_at(store, two, halves)? != next {
+/// The first instant of the table near which other data records are, or after which another starts.
+fn first_other<S: Alter>(store: &mut Store<S>, two: &Two) -> Option<Option<i8>> {
+    for (halves, expected, next) in NEAR.iter().copied() {
+        if near_at(store, two, halves)? != expected || next_at(store, two, halves)? != next {
             return Some(Some(halves));
         }
     }
     Some(None)
 }
 
-/// The same of a store that is spent, and its connection.
+/// What is seen as the two are put into a store, and the connection of that store.
 fn keep_in<S: Alter + Drop>(mut store: Store<S>, two: &Two) -> (Option<Kept>, Connection<S>) {
     let kept = keep_two(&mut store, two);
     (kept, store.into_connection())
@@ -203,10 +197,10 @@ fn kept_in_memory(alloc: Global) -> Option<(Kept, Option<i8>)> {
     let two = two_apart(alloc, 2)?;
     let mut store = empty_store(alloc, CAP)?;
     let kept = keep_two(&mut store, &two)?;
-    Some((kept, told_near(&mut store, &two)?))
+    Some((kept, first_other(&mut store, &two)?))
 }
 
-/// The same of disks, and whether they were closed.
+/// What is seen as the two are put into a store over disks, and whether the disks were closed.
 fn keep_by<D: Disk + Drop>(alloc: Global, disks: Files<D>, two: &Two) -> Option<(Kept, bool)> {
     let (kept, conn) = keep_in(opened(alloc, disks, 1000)?, two);
     let is_closed = conn.close().is_ok();
@@ -214,7 +208,7 @@ fn keep_by<D: Disk + Drop>(alloc: Global, disks: Files<D>, two: &Two) -> Option<
 }
 
 fn near_in<S: Alter + Drop>(mut store: Store<S>, two: &Two) -> Option<Option<i8>> {
-    told_near(&mut store, two)
+    first_other(&mut store, two)
 }
 
 fn near_by<D: Disk + Drop>(alloc: Global, disks: Files<D>, two: &Two) -> Option<Option<i8>> {
@@ -267,7 +261,8 @@ fn room_for<S: Alter>(
     Some((fits, fits_more))
 }
 
-/// What a store whose recordings have five data records at most tells of room as the two are kept.
+/// What a store whose recordings have five data records at most answers about room as the two are
+/// kept.
 fn rooms<S: Alter>(store: &mut Store<S>, two: &Two) -> Option<Room> {
     let of_none = room_for(store, &two.identity, 5)?;
     put(store, &two.identity, &two.first, true).ok()?;
@@ -281,7 +276,7 @@ fn rooms<S: Alter>(store: &mut Store<S>, two: &Two) -> Option<Room> {
     })
 }
 
-fn told_rooms(alloc: Global, halves: i8) -> Option<Room> {
+fn rooms_of(alloc: Global, halves: i8) -> Option<Room> {
     let two = two_apart(alloc, halves)?;
     let mut store = empty_store(alloc, 5)?;
     rooms(&mut store, &two)
@@ -289,17 +284,17 @@ fn told_rooms(alloc: Global, halves: i8) -> Option<Room> {
 
 #[test]
 fn there_is_room_up_to_the_cap_in_a_recording_without_gaps(rt: HostRuntime) {
-    assert_eq!(rt; told_rooms(rt.alloc(), 2), Some(ROOMS));
+    assert_eq!(rt; rooms_of(rt.alloc(), 2), Some(ROOMS));
 }
 
 #[test]
 fn there_is_room_up_to_the_cap_in_a_recording_with_a_long_gap(rt: HostRuntime) {
-    assert_eq!(rt; told_rooms(rt.alloc(), 120), Some(ROOMS));
+    assert_eq!(rt; rooms_of(rt.alloc(), 120), Some(ROOMS));
 }
 
-fn is(found: Option<Record>, wanted: &Record) -> bool {
+fn is(found: Option<Record>, expected: &Record) -> bool {
     match found {
-        Some(found) => found.same(wanted),
+        Some(found) => found.same(expected),
         None => false,
     }
 }
@@ -348,8 +343,8 @@ fn holds_alone<S: Alter>(store: &mut Store<S>, identity: &Identity) -> Option<bo
     }
 }
 
-/// Whether both are read, then the first alone, and whether the recording is alone and what it sums
-/// up to after that.
+/// Whether both are read, then the first alone; and whether the recording is alone after that, and
+/// its summary.
 #[derive(Clone, Copy, Debug, Drop, PartialEq, Eq)]
 struct Walked {
     both: bool,
@@ -365,7 +360,7 @@ const WALKED: Walked = Walked {
     sum: (2, 0, 15_000_000_000),
 };
 
-fn told_of_walks<S: Alter>(
+fn walks_over<S: Alter>(
     store: &mut Store<S>,
     identity: &Identity,
     first: &Record,
@@ -394,7 +389,7 @@ fn q_and_p5(alloc: Global) -> Option<Two> {
 fn walk<S: Alter>(store: &mut Store<S>, two: &Two) -> Option<Walked> {
     put(store, &two.identity, &two.second, true).ok()?;
     put(store, &two.identity, &two.first, true).ok()?;
-    told_of_walks(store, &two.identity, &two.first, &two.second)
+    walks_over(store, &two.identity, &two.first, &two.second)
 }
 
 fn walked_in_memory(alloc: Global) -> Option<Walked> {
@@ -428,7 +423,7 @@ fn records_are_read_by_their_starts_on_disk(rt: HostRuntime) {
     assert_eq!(rt; walked_on_disk(rt.alloc()), Some(WALKED));
 }
 
-/// A table of another tool's that may refer to ours, with an index and a view.
+/// A table of another tool, which may refer to ours, with an index and a view.
 const BESIDE: &str = "CREATE TABLE note (id INTEGER PRIMARY KEY, text TEXT NOT NULL UNIQUE, \
         of INTEGER REFERENCES recording (id)); \
     CREATE INDEX by_recording ON note (of); \
@@ -460,7 +455,7 @@ fn counted<S: Alter>(
     Some((seen.before, seen.after))
 }
 
-/// What is told of a data record that is added to a store which another tool put a table into, and
+/// What is seen of a data record that is added to a store into which another tool put a table, and
 /// what that table has then.
 fn added_beside(alloc: Global) -> Option<((u32, u32), String)> {
     let two = two_apart(alloc, 2)?;

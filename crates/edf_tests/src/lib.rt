@@ -1,39 +1,41 @@
-//! Tests of the product that no story tells: answers by value, lists of fragments in any order, cut
-//! in any way, and hostile use. What was held stays, and each refusal is the exact one. Lines,
-//! exports and refusals of small named files are the stored run of `edfstore_stored_run`.
+//! Tests of the product beside the stored run `edfstore_stored_run`, which has the lines, exports
+//! and refusals of small named files: answers by value, lists of fragments in any order, cut in any
+//! way, and hostile use. What was held stays, and each refusal is the exact one.
 //!
-//! They are in a crate of their own, so that the crates that they test are proved once. Each file
-//! that is wanted is spelled by the builders of files and by no program.
+//! The tests are in a crate of their own, so that the crates that they test are proved once. Each
+//! expected file is spelled by the builders of files, and by no program.
 //!
 //! The store:
 //!
 //! - `rows`: rows of data records, as they are written and read.
 //! - `schemas`: the tables of a file, which the check makes, leaves or refuses.
 //! - `adding`: data records added and looked for, each in a transaction of its own.
-//! - `kept`: data records that are added, given up and read again, in memory and on disks in memory.
+//! - `kept`: data records that are added, given up and read again, in memory and on disks in
+//!   memory.
 //!
 //! Words and answers:
 //!
-//! - `words`: words, read as a command or told why not.
+//! - `words`: words that are read as a command, or answered with help or usage.
 //! - `answers`: lists of no files, receipts, recordings that are not held, walks that are left.
+//! - `printed`: what the program prints, each text once.
 //!
 //! Lists of fragments:
 //!
 //! - `intake`: files taken into a store.
-//! - `night`, `cuts`: nights of data records as if by chance, and six fragments of one.
-//! - `recuts`: nights, cut and sent as if by chance, end as the whole night.
+//! - `night`, `cuts`: nights of pseudo-random data records, and six fragments of one.
+//! - `recuts`: nights that are cut and sent by pseudo-random numbers end as the whole night.
 //! - `broken`: lists that break off and are sent again from their front.
 //!
 //! Hostile use, over stores in memory:
 //!
-//! - `held`: what a store answers and what it holds.
+//! - `held`: stores, what they answer and what they hold.
 //! - `memory`: memory that runs out, under each budget until one suffices.
 //! - `readers`, `writers`, `lines`: readers that fail, and files and lines that cannot be written.
-//! - `large`, `flushes`: a recording whose file is longer than the buffer of an export, and its
-//!   writes.
+//! - `large`, `flushes`: a recording whose file is longer than the buffer of an export, and the
+//!   writes of that file.
 //! - `cut_files`: files that are cut at every byte, texts that are too long.
 //!
-//! Hostile use, over disks in memory. Whatever call is the last one to reach the database file or
+//! Hostile use, over disks in memory. Whichever call is the last one to reach the database file or
 //! its log, the store that is opened again holds what a front of the submissions leaves, and takes
 //! all of them again.
 //!
@@ -77,6 +79,8 @@ mod many;
 mod memory;
 #[cfg(test)]
 mod night;
+#[cfg(test)]
+mod printed;
 #[cfg(test)]
 mod readers;
 #[cfg(test)]

@@ -1,8 +1,9 @@
-//! Lines and files that cannot be written.
+//! Lines and files that cannot be written whole.
 
 ghost use Rattle.std.specs.Prelude.{None, map, string_bytes};
 
 use crate::held::{CAP, empty_store, holds_both, store_of_both};
+use crate::printed::{LISTED, NEW, NO_PLACE_2, UNWRITTEN, lines};
 use crate::three_files::q_and_p5;
 use edf_command::{Inputs, Order, Status, run};
 use edf_fragment::Counted;
@@ -54,8 +55,10 @@ pub(crate) fn take_both(alloc: Global) -> Option<Order> {
     Some(Order::Take { store, files })
 }
 
-/// What that writes.
-pub(crate) const LINES: &[u8] = b"p5.edf accepted new=1 known=0\nq.edf accepted new=1 known=0\n";
+/// What that command writes where both files are new.
+pub(crate) fn both_new(alloc: Global) -> Option<String> {
+    lines(alloc, &[("p5.edf", NEW), ("q.edf", NEW)]).ok()
+}
 
 /// What a command wrote.
 #[derive(Drop)]
@@ -71,8 +74,8 @@ pub(crate) fn silence(alloc: Global) -> Option<Said> {
     Some(Said { out, err })
 }
 
-/// Where a command writes: how many bytes fit on `out` and on `err` before writes fail, or take
-/// none.
+/// Where a command writes: how many bytes fit on `out` and on `err`. After that, writes fail, or
+/// take no byte where it is `full`.
 #[derive(Clone, Copy)]
 pub(crate) struct Room {
     pub(crate) out: usize,
@@ -94,7 +97,7 @@ pub(crate) fn ran(
     run(alloc, command, store, shelf, &mut out, &mut err)
 }
 
-/// Takes both files into an empty store with room for `out` bytes of lines. The status, and whether
+/// Takes both files into an empty store with room for `out` bytes of lines. The status; and whether
 /// just these bytes of the two lines went out, and nothing else, and the store holds both.
 fn took(alloc: Global, out: usize, full: bool) -> Option<(Status, bool)> {
     let (p5, q) = (file_p5(alloc).ok()?, file_q(alloc).ok()?);
@@ -105,7 +108,8 @@ fn took(alloc: Global, out: usize, full: bool) -> Option<(Status, bool)> {
     let err = 100;
     let room = Room { out, err, full };
     let status = ran(alloc, &command, &mut store, &mut shelf, &mut said, room);
-    let front = said.out.as_slice() == LINES.get(..out)? && said.err.is_empty();
+    let front = said.out.as_slice() == both_new(alloc)?.as_bytes().get(..out)?;
+    let front = front && said.err.is_empty();
     Some((status, front && holds_both(alloc, &mut store)))
 }
 
@@ -113,8 +117,8 @@ fn took(alloc: Global, out: usize, full: bool) -> Option<(Status, bool)> {
 fn files_are_taken_whose_lines_cannot_be_written(rt: HostRuntime) {
     for full in [false, true] {
         for room in 0..59usize {
-            let told = took(rt.alloc(), room, full);
-            assert_eq!(rt; told, Some((Status::Trouble, true)), "room for {room}");
+            let took = took(rt.alloc(), room, full);
+            assert_eq!(rt; took, Some((Status::Trouble, true)), "room for {room}");
         }
         assert_eq!(rt; took(rt.alloc(), 59, full), Some((Status::Done, true)));
     }
@@ -131,21 +135,20 @@ fn ran_over_both(alloc: Global, command: &Order, out: usize, err: usize) -> Opti
     Some((status, said))
 }
 
-/// Lists the recording with room for `out` bytes. The status, and whether just these of its line
-/// went out, and nothing else.
+/// Lists the recording with room for `out` bytes. The status; and whether just these bytes of its
+/// line went out, and nothing else.
 fn listed(alloc: Global, out: usize) -> Option<(Status, bool)> {
     let store = String::from_str(alloc, "night.db").ok()?;
     let (status, said) = ran_over_both(alloc, &Order::List { store }, out, 100)?;
-    let line = b"1 records=2 first=2002-03-02T23:59:50 patient=P7 investigation=N1\n";
-    let front = said.out.as_slice() == line.get(..out)?;
+    let front = said.out.as_slice() == LISTED.get(..out)?;
     Some((status, front && said.err.is_empty()))
 }
 
 #[test]
 fn a_list_whose_line_cannot_be_written_is_trouble(rt: HostRuntime) {
     for room in 0..66usize {
-        let told = listed(rt.alloc(), room);
-        assert_eq!(rt; told, Some((Status::Trouble, true)), "room for {room}");
+        let listed = listed(rt.alloc(), room);
+        assert_eq!(rt; listed, Some((Status::Trouble, true)), "room for {room}");
     }
     assert_eq!(rt; listed(rt.alloc(), 66), Some((Status::Done, true)));
 }
@@ -156,23 +159,21 @@ fn sent(alloc: Global, place: u32, out: usize, err: usize) -> Option<(Status, Sa
     ran_over_both(alloc, &Order::Export { store, place }, out, err)
 }
 
-/// The status where there is room for `out` bytes of the file, and whether just these went out, and
-/// a line why no more.
+/// The status where there is room for `out` bytes of the file; and whether just these bytes went
+/// out, and a line that says why no more.
 fn sent_file(alloc: Global, out: usize) -> Option<(Status, bool)> {
-    let wanted = q_and_p5(alloc)?;
+    let expected = q_and_p5(alloc)?;
     let (status, said) = sent(alloc, 1, out, 100)?;
-    let front = said.out.as_slice() == wanted.get(..out)?;
-    Some((
-        status,
-        front && said.err.as_slice() == &b"export refused E43 Write\n"[..],
-    ))
+    let front = said.out.as_slice() == expected.get(..out)?;
+    let line = lines(alloc, &[("export", UNWRITTEN)]).ok()?;
+    Some((status, front && said.err.as_slice() == line.as_bytes()))
 }
 
-/// The status where there is room for `err` bytes of the line that a place is not there, and
-/// whether just these went out.
+/// The status where there is room for `err` bytes of the line about a place that is not there; and
+/// whether just these bytes went out.
 fn missed_place(alloc: Global, err: usize) -> Option<(Status, bool)> {
     let (status, said) = sent(alloc, 2, 100, err)?;
-    let front = said.err.as_slice() == b"no recording at place 2\n".get(..err)?;
+    let front = said.err.as_slice() == NO_PLACE_2.get(..err)?;
     Some((status, front && said.out.is_empty()))
 }
 

@@ -59,9 +59,9 @@ fn given_back_again(alloc: Global) -> Option<(bool, usize)> {
     let mut log = Memory::new(alloc);
     let mut db = Memory::new(alloc);
     let list = files(alloc)?;
-    let told = filled(alloc, lend(&mut log, &mut db), list.as_slice(), 1000);
+    let ended = filled(alloc, lend(&mut log, &mut db), list.as_slice(), 1000);
     let count = given_back_by(alloc, lend(&mut log, &mut db))?;
-    Some((told == (300, true), count))
+    Some((ended == (300, true), count))
 }
 
 #[test]

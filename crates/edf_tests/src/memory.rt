@@ -1,9 +1,10 @@
-//! Memory that runs out, under each budget until one suffices.
+//! Memory that runs out, under one budget after another until one suffices.
 
 use crate::held::{CAP, empty_store, held, holds, holds_both, store_of_both, submitted, taken};
 use crate::intake::Answer;
 use crate::large::{large_file, store_of_large};
-use crate::lines::{LINES, Room, Said, Shelf, ran, silence, take_both};
+use crate::lines::{Room, Said, Shelf, both_new, ran, silence, take_both};
+use crate::printed::{NEW, NO_MEMORY, lines};
 use crate::three_files::q_and_p5;
 use edf_command::Status;
 use edf_export::{ExportFault, export};
@@ -35,10 +36,13 @@ enum Trial {
 enum Served {
     /// Nothing was begun: no file was submitted, or no byte went out.
     Unbegun,
-    /// Memory ran out, and there was none to tell it.
+    /// Memory ran out, and there was none for a line that says so.
     Silent,
-    /// Memory ran out, after some of it.
+    /// Memory ran out after some of the work: an export had written a front of its file, which was
+    /// neither empty nor whole.
     Short,
+    /// Memory ran out after an export had written its whole file.
+    Late,
     /// It sufficed.
     Whole,
 }
@@ -51,8 +55,8 @@ fn again(answer: Answer) -> Answer {
     }
 }
 
-/// How the budget served of which two submissions were answered so; `None` where an answer is
-/// another.
+/// How the budget served under which two submissions were answered so; `None` where an answer is
+/// neither one new data record nor want of memory.
 fn serves(first: Answer, second: Answer) -> Option<Served> {
     let short = Err(Refusal::Memory);
     if first == Ok((1, 0)) && second == Ok((1, 0)) {
@@ -62,8 +66,8 @@ fn serves(first: Answer, second: Answer) -> Option<Served> {
     if fits { Some(Served::Short) } else { None }
 }
 
-/// What a file is answered under a budget; `None` where it was refused and what is held is not what
-/// was.
+/// What a file is answered under a budget; `None` where it was refused and the store then holds
+/// something else than before.
 fn taken_under(
     alloc: Global,
     store: &mut Store<MemStore>,
@@ -83,8 +87,8 @@ fn taken_under(
     Some(answer)
 }
 
-/// Submits P5 and then Q, each under a budget. What was accepted is held then and nothing else, and
-/// both are accepted again where there is memory.
+/// Submits P5 and then Q, each under a budget. The store then holds what was accepted and nothing
+/// else, and accepts both again where there is memory.
 fn submit_under(alloc: Global, scarce: &mut Scarce, budget: usize) -> Option<Served> {
     let (p5, q) = (file_p5(alloc).ok()?, file_q(alloc).ok()?);
     let mut store = empty_store(alloc, CAP)?;
@@ -106,27 +110,39 @@ fn submit_under(alloc: Global, scarce: &mut Scarce, budget: usize) -> Option<Ser
     }
 }
 
-/// How the budget served under which the export of a file was answered so and wrote this.
-fn served_export(answer: Result<u64, ExportFault>, got: &[u8], wanted: &[u8]) -> Option<Served> {
+/// How a budget served under which an export wrote `len` of its file's `whole` bytes and was then
+/// refused for want of memory.
+fn served_front(len: usize, whole: usize) -> Served {
+    if len == 0 {
+        Served::Unbegun
+    } else if len < whole {
+        Served::Short
+    } else {
+        Served::Late
+    }
+}
+
+/// How the budget served under which the export of a file was answered so and wrote `got`.
+fn served_export(answer: Result<u64, ExportFault>, got: &[u8], expected: &[u8]) -> Option<Served> {
     match answer {
-        Ok(length) if length == wanted.len() as u64 && got == wanted => Some(Served::Whole),
-        Err(fault) if fault.number() == 41 && got.is_empty() => Some(Served::Unbegun),
-        Err(fault) if fault.number() == 41 && wanted.starts_with(got) => Some(Served::Short),
+        Ok(length) if length == expected.len() as u64 && got == expected => Some(Served::Whole),
+        Err(fault) if fault.number() == 41 && expected.starts_with(got) => {
+            Some(served_front(got.len(), expected.len()))
+        }
         _ => None,
     }
 }
 
-/// Exports the two data records of a store under a budget: none of their file, a front of it, or
-/// all.
+/// Exports the data records of a store under a budget: none of their file, a front of it, or all.
 fn export_under(
     alloc: Global,
-    wanted: &[u8],
+    (records, expected): (u32, &[u8]),
     mut store: Store<MemStore>,
     scarce: &mut Scarce,
     budget: usize,
 ) -> Option<Served> {
     let identity = store.identities().ok()?.pop()?;
-    let mut got = Vec::with_capacity(alloc, 400_000).ok()?;
+    let mut got = Vec::with_capacity(alloc, 600_000).ok()?;
     if !scarce.leave(alloc, budget) {
         return None;
     }
@@ -134,15 +150,15 @@ fn export_under(
     let answer = export(alloc, &mut store, &identity, &mut out);
     drop(out);
     scarce.ease();
-    if holds(alloc, &mut store, 2, wanted) {
-        served_export(answer, &got, wanted)
+    if holds(alloc, &mut store, records, expected) {
+        served_export(answer, &got, expected)
     } else {
         None
     }
 }
 
-/// How many were accepted with one new data record; `None` where another was answered anything but
-/// out of memory.
+/// How many files were accepted with one new data record; `None` where another was answered
+/// anything but want of memory.
 fn accepted(answers: &[Result<Receipt, Refusal>]) -> Option<u32> {
     let mut count = 0u32;
     for answer in answers {
@@ -183,13 +199,13 @@ fn list_under(alloc: Global, scarce: &mut Scarce, budget: usize) -> Option<Serve
     if !scarce.leave(alloc, budget) {
         return None;
     }
-    let told = match submit_all(alloc, &mut store, &mut inputs) {
+    let answered = match submit_all(alloc, &mut store, &mut inputs) {
         Ok(answers) => Some((answers.len(), accepted(&answers)?)),
         Err(_) => None,
     };
     scarce.ease();
     let (records, _) = held(alloc, &mut store)?;
-    match told {
+    match answered {
         None if records == 0 && accepts_all(alloc, &mut store, &mut inputs) => {
             Some(Served::Unbegun)
         }
@@ -199,50 +215,47 @@ fn list_under(alloc: Global, scarce: &mut Scarce, budget: usize) -> Option<Serve
     }
 }
 
-/// What is written of two files, and how few and how many data records may be held then.
-const SHORTAGES: &[(&[u8], u32, u32)] = &[
-    (b"p5.edf accepted new=1 known=0\n", 1, 2),
-    (b"p5.edf refused E41 Memory\n", 0, 1),
-    (
-        b"p5.edf accepted new=1 known=0\nq.edf refused E41 Memory\n",
-        1,
-        1,
-    ),
-    (
-        b"p5.edf refused E41 Memory\nq.edf accepted new=1 known=0\n",
-        1,
-        1,
-    ),
-    (
-        b"p5.edf refused E41 Memory\nq.edf refused E41 Memory\n",
-        0,
-        0,
-    ),
+/// The lines of two files, and how few and how many data records may be held then.
+const SHORTAGES: &[(&[(&str, &str)], u32, u32)] = &[
+    (&[("p5.edf", NEW)], 1, 2),
+    (&[("p5.edf", NO_MEMORY)], 0, 1),
+    (&[("p5.edf", NEW), ("q.edf", NO_MEMORY)], 1, 1),
+    (&[("p5.edf", NO_MEMORY), ("q.edf", NEW)], 1, 1),
+    (&[("p5.edf", NO_MEMORY), ("q.edf", NO_MEMORY)], 0, 0),
 ];
 
-/// Whether a command to take P5 and Q may write so where memory runs out, and leave `records` data
-/// records. The files after a line that is not written were submitted all the same.
-fn tells_of_shortage(out: &[u8], records: u32) -> bool {
-    for (text, least, most) in SHORTAGES.iter().copied() {
-        if out == text {
-            return least <= records && records <= most;
+/// Whether a command to take P5 and Q may write this where memory runs out, and leave `records`
+/// data records. The files after a line that is not written were submitted all the same.
+fn names_shortage(alloc: Global, out: &[u8], records: u32) -> Option<bool> {
+    for (answers, least, most) in SHORTAGES.iter().copied() {
+        if out == lines(alloc, answers).ok()?.as_bytes() {
+            return Some(least <= records && records <= most);
         }
     }
-    false
+    Some(false)
 }
 
 /// How the budget served under which a command to take P5 and Q ended so, wrote so and left
 /// `records` data records.
-fn served_order(status: Status, said: &Said, records: u32) -> Option<Served> {
+fn served_take(alloc: Global, status: Status, said: &Said, records: u32) -> Option<Served> {
     if !said.err.is_empty() {
-        let told = said.err.as_slice() == &b"take refused E41 Memory\n"[..];
-        let unbegun = told && said.out.is_empty() && records == 0 && status == Status::Trouble;
-        return if unbegun { Some(Served::Unbegun) } else { None };
+        let line = lines(alloc, &[("take", NO_MEMORY)]).ok()?;
+        let is_unbegun = said.err.as_slice() == line.as_bytes()
+            && said.out.is_empty()
+            && records == 0
+            && status == Status::Trouble;
+        return if is_unbegun {
+            Some(Served::Unbegun)
+        } else {
+            None
+        };
     }
+    let out = said.out.as_slice();
+    let is_short = names_shortage(alloc, out, records)?;
     match status {
-        Status::Done if said.out.as_slice() == LINES && records == 2 => Some(Served::Whole),
-        Status::Trouble if said.out.is_empty() => Some(Served::Silent),
-        Status::Trouble if tells_of_shortage(said.out.as_slice(), records) => Some(Served::Short),
+        Status::Done if out == both_new(alloc)?.as_bytes() && records == 2 => Some(Served::Whole),
+        Status::Trouble if out.is_empty() => Some(Served::Silent),
+        Status::Trouble if is_short => Some(Served::Short),
         _ => None,
     }
 }
@@ -265,29 +278,20 @@ fn take_under(alloc: Global, scarce: &mut Scarce, budget: usize) -> Option<Serve
     let status = ran(alloc, &command, &mut store, &mut shelf, &mut said, room);
     scarce.ease();
     let (records, _) = held(alloc, &mut store)?;
-    served_order(status, &said, records)
+    served_take(alloc, status, &said, records)
 }
 
+/// Tries a trial once.
 fn tried(alloc: Global, trial: Trial, scarce: &mut Scarce, budget: usize) -> Option<Served> {
     match trial {
         Trial::Submissions => submit_under(alloc, scarce, budget),
         Trial::Export => {
-            export_under(
-                alloc,
-                &large_file(alloc)?,
-                store_of_large(alloc)?,
-                scarce,
-                budget,
-            )
+            let file = large_file(alloc)?;
+            export_under(alloc, (3, &file), store_of_large(alloc)?, scarce, budget)
         }
         Trial::SmallExport => {
-            export_under(
-                alloc,
-                &q_and_p5(alloc)?,
-                store_of_both(alloc)?,
-                scarce,
-                budget,
-            )
+            let file = q_and_p5(alloc)?;
+            export_under(alloc, (2, &file), store_of_both(alloc)?, scarce, budget)
         }
         Trial::List => list_under(alloc, scarce, budget),
         Trial::Command => take_under(alloc, scarce, budget),
@@ -308,22 +312,44 @@ fn budget(trial: Trial, turn: usize) -> usize {
     }
 }
 
-/// Under how many budgets nothing is begun, memory runs out untold, and memory runs out, until one
-/// suffices; `None` where an answer is another, or none suffices.
-fn tried_until_whole(alloc: Global, trial: Trial) -> Option<(u32, u32, u32)> {
+/// Under how many budgets a trial ended in each way, until one sufficed.
+#[derive(Clone, Copy, Debug, Default, PartialEq, Eq)]
+struct Counts {
+    unbegun: u32,
+    silent: u32,
+    short: u32,
+    late: u32,
+}
+
+impl Counts {
+    /// One budget more; whether it sufficed.
+    fn add(&mut self, served: Served) -> bool {
+        let count = match served {
+            Served::Unbegun => &mut self.unbegun,
+            Served::Silent => &mut self.silent,
+            Served::Short => &mut self.short,
+            Served::Late => &mut self.late,
+            Served::Whole => return true,
+        };
+        *count = count.saturating_add(1);
+        false
+    }
+}
+
+/// Tries a trial under one budget after another; `None` where an answer is another than those of a
+/// [`Served`], or no budget suffices.
+fn tried_until_whole(alloc: Global, trial: Trial) -> Option<Counts> {
     // The stack grows now, while there are pages for it.
     let mut ample = store_of_both(alloc)?;
     if !holds_both(alloc, &mut ample) {
         return None;
     }
     let mut scarce = Scarce::new(alloc).ok()?;
-    let (mut unbegun, mut silent, mut short) = (0u32, 0u32, 0u32);
+    let mut counts = Counts::default();
     for turn in 0..32_000usize {
-        match tried(alloc, trial, &mut scarce, budget(trial, turn))? {
-            Served::Unbegun => unbegun = unbegun.saturating_add(1),
-            Served::Silent => silent = silent.saturating_add(1),
-            Served::Short => short = short.saturating_add(1),
-            Served::Whole => return Some((unbegun, silent, short)),
+        let served = tried(alloc, trial, &mut scarce, budget(trial, turn))?;
+        if counts.add(served) {
+            return Some(counts);
         }
     }
     None
@@ -331,32 +357,88 @@ fn tried_until_whole(alloc: Global, trial: Trial) -> Option<(u32, u32, u32)> {
 
 #[test]
 fn submissions_without_memory_leave_what_is_held_and_are_accepted_again(rt: HostRuntime) {
-    let told = tried_until_whole(rt.alloc(), Trial::Submissions);
-    assert!(rt; matches!(told, Some((0, 0, 100..))), "{told:?}");
+    let counts = tried_until_whole(rt.alloc(), Trial::Submissions);
+    assert!(rt;
+        matches!(
+            counts,
+            Some(Counts {
+                unbegun: 0,
+                silent: 0,
+                short: 100..,
+                late: 0
+            })
+        ),
+        "{counts:?}"
+    );
 }
 
-/// A walk reads the second data record when the first was written, so memory runs out before a byte
-/// is written or after some.
+/// A walk reads each of the three data records when the one before it was written, so memory runs
+/// out before a byte is written, or after a front of the file.
 #[test]
 fn an_export_without_memory_is_not_begun_or_writes_a_front_of_its_file(rt: HostRuntime) {
-    let told = tried_until_whole(rt.alloc(), Trial::Export);
-    assert!(rt; matches!(told, Some((1.., 0, 1..))), "{told:?}");
+    let counts = tried_until_whole(rt.alloc(), Trial::Export);
+    assert!(rt;
+        matches!(
+            counts,
+            Some(Counts {
+                unbegun: 1..,
+                silent: 0,
+                short: 1..,
+                late: _
+            })
+        ),
+        "{counts:?}"
+    );
 }
 
+/// The file fits the buffer, so nothing of it is written before the data records are read.
 #[test]
-fn an_export_of_two_small_records_without_memory_is_a_front_of_the_file(rt: HostRuntime) {
-    let told = tried_until_whole(rt.alloc(), Trial::SmallExport);
-    assert!(rt; matches!(told, Some((1.., 0, _))), "{told:?}");
+fn an_export_of_two_small_records_without_memory_is_not_begun(rt: HostRuntime) {
+    let counts = tried_until_whole(rt.alloc(), Trial::SmallExport);
+    assert!(rt;
+        matches!(
+            counts,
+            Some(Counts {
+                unbegun: 1..,
+                silent: 0,
+                short: 0,
+                late: 0
+            })
+        ),
+        "{counts:?}"
+    );
 }
 
 #[test]
 fn a_list_without_memory_for_its_answers_is_not_begun(rt: HostRuntime) {
-    let told = tried_until_whole(rt.alloc(), Trial::List);
-    assert!(rt; matches!(told, Some((1.., 0, 100..))), "{told:?}");
+    let counts = tried_until_whole(rt.alloc(), Trial::List);
+    assert!(rt;
+        matches!(
+            counts,
+            Some(Counts {
+                unbegun: 1..,
+                silent: 0,
+                short: 100..,
+                late: 0
+            })
+        ),
+        "{counts:?}"
+    );
 }
 
 #[test]
-fn an_order_without_memory_tells_what_became_of_each_file(rt: HostRuntime) {
-    let told = tried_until_whole(rt.alloc(), Trial::Command);
-    assert!(rt; matches!(told, Some((1.., ..=1_000, 1_000..))), "{told:?}");
+fn a_take_without_memory_names_what_became_of_each_file(rt: HostRuntime) {
+    let counts = tried_until_whole(rt.alloc(), Trial::Command);
+    assert!(rt;
+        matches!(
+            counts,
+            Some(Counts {
+                unbegun: 1..,
+                silent: ..=1_000,
+                short: 1_000..,
+                late: 0
+            })
+        ),
+        "{counts:?}"
+    );
 }

@@ -1,11 +1,11 @@
-//! Nights of data records of one second, made as if by chance, and their files.
+//! Nights of data records of one second, made by pseudo-random numbers, and their files.
 
 ghost use Rattle.std.specs.Prelude.{◌<◌};
 
 use edf_sample::{file, q};
 use std::alloc::{AllocError, Global};
 
-/// Numbers as if by chance, the same in each run: a linear congruential generator.
+/// Pseudo-random numbers, the same in each run: a linear congruential generator.
 #[derive(Drop)]
 pub(crate) struct Chance {
     state: u32,
@@ -59,8 +59,8 @@ pub(crate) fn night(alloc: Global, chance: &mut Chance) -> Option<Vec<Second>> {
 }
 
 /// Another byte in the second sample of a data record.
-pub(crate) fn turn(records: &mut [Second], place: usize) -> Option<()> {
-    let record = records.get_mut(place)?;
+pub(crate) fn turn(records: &mut [Second], index: usize) -> Option<()> {
+    let record = records.get_mut(index)?;
     record.samples[3] = 0;
     Some(())
 }

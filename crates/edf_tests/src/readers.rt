@@ -1,6 +1,6 @@
 //! Readers that fail.
 
-use crate::held::{holds_q, store_of_q, submitted, taken, told};
+use crate::held::{answer_beside_q, holds_q, store_of_q, submitted, taken};
 use crate::intake::Answer;
 use edf_fragment::{Counted, FragmentFault};
 use edf_intake::Refusal;
@@ -29,8 +29,8 @@ fn p5(alloc: Global, count: &[u8]) -> Option<Vec<u8>> {
     patched(alloc, &file_p5(alloc).ok()?, 236, count).ok()
 }
 
-/// After how many bytes of P5 a reader may fail and be refused so; and then what the whole of P5 is
-/// answered.
+/// After how many bytes of P5, from none on, a reader that fails is refused so; and what the whole
+/// of P5 is answered then.
 fn failed_reads(alloc: Global, count: &[u8], kind: ErrorKind) -> Option<(usize, Answer)> {
     let bytes = p5(alloc, count)?;
     let mut store = store_of_q(alloc)?;
@@ -56,8 +56,8 @@ fn a_reader_that_fails_is_not_at_its_end_where_the_count_is_unknown(rt: HostRunt
     assert_eq!(rt; failed, Some((803, Ok((1, 0)))));
 }
 
-/// What P5 is answered from a reader that fails once and then goes on, and how often that was read;
-/// and then P5 again.
+/// What P5 is answered from a reader that fails once and then goes on, how many reads there were,
+/// and what P5 is answered then.
 fn failed_once(alloc: Global, count: &[u8], stop: usize) -> Option<(Answer, usize, Answer)> {
     let bytes = p5(alloc, count)?;
     let mut store = store_of_q(alloc)?;
@@ -72,9 +72,9 @@ fn failed_once(alloc: Global, count: &[u8], stop: usize) -> Option<(Answer, usiz
 fn a_reader_that_fails_once_is_read_no_further_and_its_file_is_accepted_again(rt: HostRuntime) {
     for count in [b"1".as_slice(), b"-1".as_slice()] {
         for stop in [0usize, 1, 255, 256, 767, 768, 801, 802] {
-            let told = failed_once(rt.alloc(), count, stop);
-            let wanted = (Err(Refusal::Read), stop + 1, Ok((1, 0)));
-            assert_eq!(rt; told, Some(wanted), "behind {stop} bytes");
+            let answers = failed_once(rt.alloc(), count, stop);
+            let expected = (Err(Refusal::Read), stop + 1, Ok((1, 0)));
+            assert_eq!(rt; answers, Some(expected), "after {stop} bytes");
         }
     }
 }
@@ -87,20 +87,20 @@ fn differing_and_cut(alloc: Global) -> Option<Vec<u8>> {
     file(alloc, &q().count("3"), &[first, second, third]).ok()
 }
 
-/// What a store of Q answers them, and whether it answers E40 where a reader fails at the cut.
-fn told_of_differing_and_cut(alloc: Global) -> Option<(Answer, bool)> {
+/// What a store of Q answers to them, and whether it answers E40 where a reader fails at the cut.
+fn answers_to_differing_and_cut(alloc: Global) -> Option<(Answer, bool)> {
     let bytes = differing_and_cut(alloc)?;
     let mut store = store_of_q(alloc)?;
     let failed = is_failed_read(alloc, &mut store, &bytes, bytes.len(), ErrorKind::Other);
-    let (answer, kept) = told(alloc, &bytes)?;
+    let (answer, kept) = answer_beside_q(alloc, &bytes)?;
     Some((answer, failed && kept))
 }
 
 #[test]
-fn a_failed_read_is_told_in_place_of_a_clash_before_it(rt: HostRuntime) {
+fn a_failed_read_is_answered_in_place_of_a_clash_before_it(rt: HostRuntime) {
     let cut = Refusal::Form(FragmentFault::CutRecord { nth: 3 });
     assert_eq!(rt;
-        told_of_differing_and_cut(rt.alloc()),
+        answers_to_differing_and_cut(rt.alloc()),
         Some((Err(cut), true))
     );
 }

@@ -1,4 +1,4 @@
-//! Nights, cut and sent as if by chance, end as the whole night.
+//! Nights that are cut and sent by pseudo-random numbers end as the whole night.
 
 use crate::cuts::{fragments, shuffled};
 use crate::held::{empty_store, holds};
@@ -29,18 +29,18 @@ fn ends_as_the_night(alloc: Global, seed: u32) -> Option<bool> {
 #[test]
 fn two_hundred_lists_of_fragments_end_as_their_nights(rt: HostRuntime) {
     for seed in 0..200u32 {
-        let told = ends_as_the_night(rt.alloc(), seed);
-        assert_eq!(rt; told, Some(true), "night {seed}");
+        let ends = ends_as_the_night(rt.alloc(), seed);
+        assert_eq!(rt; ends, Some(true), "night {seed}");
     }
 }
 
 /// Whether the fragments of a night with another sample in one data record leave the canonical file
 /// of that night, another one than before.
-fn ends_as_another_night(alloc: Global, seed: u32, place: usize) -> Option<bool> {
+fn ends_as_another_night(alloc: Global, seed: u32, index: usize) -> Option<bool> {
     let mut chance = Chance::new(seed);
     let mut records = night(alloc, &mut chance)?;
     let before = file_of(alloc, records.as_slice(), "EDF+D", 0)?;
-    turn(records.as_mut_slice(), place)?;
+    turn(records.as_mut_slice(), index)?;
     let whole = file_of(alloc, records.as_slice(), "EDF+D", 0)?;
     let ends = end_as(alloc, &mut chance, records.as_slice(), whole.as_slice())?;
     Some(ends && whole.as_slice() != before.as_slice())
@@ -48,8 +48,8 @@ fn ends_as_another_night(alloc: Global, seed: u32, place: usize) -> Option<bool>
 
 #[test]
 fn a_night_with_one_other_byte_in_a_sample_ends_as_another_file(rt: HostRuntime) {
-    for place in 0..12usize {
-        let told = ends_as_another_night(rt.alloc(), 300, place);
-        assert_eq!(rt; told, Some(true), "data record {place}");
+    for index in 0..12usize {
+        let ends = ends_as_another_night(rt.alloc(), 300, index);
+        assert_eq!(rt; ends, Some(true), "data record {index}");
     }
 }

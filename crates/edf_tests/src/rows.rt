@@ -1,5 +1,6 @@
 //! Rows of data records, as they are written and read.
 
+use crate::held::Q_START;
 use edf_fragment::Record;
 use edf_header::Identity;
 use edf_rows::{block_of, check_row, record_from, start_of};
@@ -7,8 +8,8 @@ use edf_sample::named;
 use edf_time::Instant;
 use std::alloc::Global;
 
-/// 2002-03-02 23:59:50.
-const START: i64 = 541_727_990_000_000_000;
+/// The cell of Q's start.
+const START: i64 = Q_START as i64;
 
 const FOUR: &[u8] = b"\x01\x00\xff\xff";
 
@@ -29,24 +30,24 @@ fn record_read(alloc: Global, samples: &[u8], block: &[u8]) -> Option<Record> {
     record_from(alloc, samples, block).ok()?
 }
 
-/// Whether a row is a data record's that starts there; `None` where the check tells another start,
-/// or the data record that is read has one.
+/// Whether a row is a data record's that starts there; `None` where the check answers another
+/// start, or the data record that is read has another.
 fn is_a_row(alloc: Global, start: i64, samples: &[u8], block: &[u8]) -> Option<bool> {
     let identity = identity_q(alloc)?;
-    let Some(told) = check_row(alloc, &identity, start, samples, block).ok()? else {
+    let Some(checked) = check_row(alloc, &identity, start, samples, block).ok()? else {
         return Some(false);
     };
     let record = record_read(alloc, samples, block)?;
-    if start_of(told) == start && start_of(record.start()) == start {
+    if start_of(checked) == start && start_of(record.start()) == start {
         Some(true)
     } else {
         None
     }
 }
 
-/// Of a data record: its start as a row has it, its second annotation with its onset in nanoseconds,
-/// and whether it has these samples and is written as this block.
-fn told(
+/// Of a data record: its start as a row has it, the text of its second annotation and the onset in
+/// nanoseconds, and whether it has these samples and is written as this block.
+fn parts(
     alloc: Global,
     record: &Record,
     samples: &[u8],
@@ -59,17 +60,17 @@ fn told(
     Some((start_of(record.start()), text, turn.onset().nanos(), same))
 }
 
-/// The same of a row of two annotations, and how many of them are read.
-fn told_of_two(alloc: Global) -> Option<((i64, String, u64, bool), usize)> {
+/// The same of a row with two annotations, and how many annotations are read.
+fn parts_of_two(alloc: Global) -> Option<((i64, String, u64, bool), usize)> {
     match record_read(alloc, FOUR, TWO) {
-        Some(record) => Some((told(alloc, &record, FOUR, TWO)?, record.notes().len())),
+        Some(record) => Some((parts(alloc, &record, FOUR, TWO)?, record.notes().len())),
         None => None,
     }
 }
 
 #[test]
 fn a_row_is_read_as_it_was_written(rt: HostRuntime) {
-    let Some((read, count)) = told_of_two(rt.alloc()) else {
+    let Some((read, count)) = parts_of_two(rt.alloc()) else {
         panic!(rt; "no data record, or none of two annotations");
     };
     let (start, text, onset, same) = read;
@@ -83,7 +84,7 @@ fn a_row_is_read_as_it_was_written(rt: HostRuntime) {
 
 /// The block of a data record without annotations.
 fn block_without(alloc: Global) -> Option<Vec<u8>> {
-    let start = Instant::at(541_727_990_000_000_000)?;
+    let start = Instant::at(Q_START)?;
     let samples = Vec::from_slice(alloc, FOUR).ok()?;
     let record = Record::new(start, samples, Vec::new(alloc))?;
     block_of(alloc, &record).ok()
@@ -111,8 +112,8 @@ const STARTS: &[(i64, &[u8], bool)] = &[
 #[test]
 fn a_start_is_that_of_the_block_and_inside_the_window(rt: HostRuntime) {
     for (start, block, good) in STARTS.iter().copied() {
-        let told = is_a_row(rt.alloc(), start, FOUR, block);
-        assert_eq!(rt; told, Some(good), "{start}");
+        let is_row = is_a_row(rt.alloc(), start, FOUR, block);
+        assert_eq!(rt; is_row, Some(good), "{start}");
     }
 }
 
@@ -127,8 +128,8 @@ const SAMPLES: &[(&[u8], bool)] = &[
 #[test]
 fn a_row_has_as_many_samples_as_the_identity_says(rt: HostRuntime) {
     for (samples, good) in SAMPLES.iter().copied() {
-        let told = is_a_row(rt.alloc(), START, samples, BLOCK);
-        assert_eq!(rt; told, Some(good), "{samples:?}");
+        let is_row = is_a_row(rt.alloc(), START, samples, BLOCK);
+        assert_eq!(rt; is_row, Some(good), "{samples:?}");
     }
 }
 
@@ -153,7 +154,7 @@ const SPELLINGS: &[(&[u8], bool)] = &[
 #[test]
 fn a_block_is_spelled_as_it_would_be_written(rt: HostRuntime) {
     for (block, good) in SPELLINGS.iter().copied() {
-        let told = is_a_row(rt.alloc(), START, FOUR, block);
-        assert_eq!(rt; told, Some(good), "{block:?}");
+        let is_row = is_a_row(rt.alloc(), START, FOUR, block);
+        assert_eq!(rt; is_row, Some(good), "{block:?}");
     }
 }

@@ -1,10 +1,10 @@
 //! A store that is opened, filled and closed.
 //!
 //! What is done with an open store is in functions over any kind of store, which take it whole: a
-//! proof at the kind that lies over disks is long.
+//! proof for the kind that lies over disks is long.
 
 use crate::disk::{lend, stopping};
-use crate::held::{held, taken};
+use crate::held::{CAP, held, taken};
 use crate::three_files::Night;
 use edf_store::Store;
 use sqlite::{Alter, Connection, FileStore, Files, Options};
@@ -71,7 +71,7 @@ pub(crate) fn store_of<S: Alter + Drop>(alloc: Global, conn: Connection<S>) -> O
     if !conn.is_autocommit() {
         return None;
     }
-    Store::open(alloc, conn, 99_999_999).ok()
+    Store::open(alloc, conn, CAP).ok()
 }
 
 /// A store over disks, where they can be opened.
@@ -103,7 +103,7 @@ fn found<S: Alter>(alloc: Global, store: &mut Store<S>, night: &Night) -> Option
         .position(|file| file.as_slice() == bytes.as_slice())
 }
 
-/// Submits files, and tells how many of them are accepted, with the connection of the store then.
+/// Submits files: how many of them are accepted, and the connection of the store then.
 pub(crate) fn submitted_to<S: Alter>(
     alloc: Global,
     mut store: Store<S>,
@@ -142,7 +142,7 @@ fn made_whole<S: Alter + Drop>(
     (before, count == 3 && after == Some(3))
 }
 
-/// The same of disks that a run left.
+/// The same for disks that a run left.
 fn refilled<D: Disk + Drop>(
     alloc: Global,
     disks: Files<D>,

@@ -13,7 +13,8 @@ const BOTH: &str =
     samples BLOB NOT NULL, block BLOB NOT NULL, PRIMARY KEY (recording, start)) STRICT";
 
 const SCHEMA: &str =
-    "SELECT count(*), coalesce(group_concat(name || ' ' || coalesce(sql, 'none')), 'none') FROM sqlite_schema";
+    "SELECT count(*), coalesce(group_concat(name || ' ' || coalesce(sql, 'none')), 'none') \
+    FROM sqlite_schema";
 
 /// How many tables, indexes and views there are, and their texts.
 fn schema(conn: &mut Connection<MemStore>) -> Option<(i64, String)> {
@@ -21,7 +22,7 @@ fn schema(conn: &mut Connection<MemStore>) -> Option<(i64, String)> {
     Some((row.get(0).ok()?, row.get(1).ok()?))
 }
 
-/// What the check says of a file that the statements made, how many tables, indexes and views it
+/// What the check answers of a file that the statements made, how many tables, indexes and views it
 /// has then, and whether all of them are as they were.
 fn audited(alloc: Global, made: &str, more: &str) -> Option<(bool, i64, bool)> {
     let mut conn = Connection::open_in_memory(alloc).ok()?;
@@ -39,8 +40,8 @@ const OURS: &[(&str, bool)] = &[("", false), (RECORDING, false), (BOTH, true)];
 #[test]
 fn a_file_of_our_tables_alone_gets_those_that_are_missing(rt: HostRuntime) {
     for (made, stays) in OURS.iter().copied() {
-        let told = audited(rt.alloc(), made, "");
-        assert_eq!(rt; told, Some((true, 4, stays)), "{made}");
+        let answer = audited(rt.alloc(), made, "");
+        assert_eq!(rt; answer, Some((true, 4, stays)), "{made}");
     }
 }
 
@@ -61,8 +62,8 @@ const BESIDE: &[(&str, i64)] = &[
 #[test]
 fn a_file_with_others_after_our_tables_is_ours_and_stays(rt: HostRuntime) {
     for (more, count) in BESIDE.iter().copied() {
-        let told = audited(rt.alloc(), BOTH, more);
-        assert_eq!(rt; told, Some((true, count, true)), "{more}");
+        let answer = audited(rt.alloc(), BOTH, more);
+        assert_eq!(rt; answer, Some((true, count, true)), "{more}");
     }
 }
 
@@ -88,7 +89,8 @@ const FOREIGN: &[(&str, &str, i64)] = &[
     ),
     (
         "",
-        "CREATE TABLE recording (id INTEGER PRIMARY KEY, identity BLOB NOT NULL UNIQUE, sex TEXT) STRICT",
+        "CREATE TABLE recording (id INTEGER PRIMARY KEY, identity BLOB NOT NULL UNIQUE, \
+            sex TEXT) STRICT",
         2,
     ),
     (
@@ -106,7 +108,7 @@ const FOREIGN: &[(&str, &str, i64)] = &[
 #[test]
 fn a_file_of_another_schema_is_foreign_and_stays(rt: HostRuntime) {
     for (made, more, left) in FOREIGN.iter().copied() {
-        let told = audited(rt.alloc(), made, more);
-        assert_eq!(rt; told, Some((false, left, true)), "{more}");
+        let answer = audited(rt.alloc(), made, more);
+        assert_eq!(rt; answer, Some((false, left, true)), "{more}");
     }
 }

@@ -25,7 +25,7 @@ fn losing(mut stop: Stop, log: bool, db: bool) -> Stop {
 }
 
 /// How many runs were stopped with none, one, two and three submissions accepted, up to the first
-/// run that met no stop. None where each run met one.
+/// run that met no stop; `None` where each run met one.
 fn stopped(
     rt: &impl Abort,
     alloc: Global,
@@ -105,8 +105,8 @@ fn what_was_accepted_is_held_wherever_the_copying_of_the_log_stops(rt: HostRunti
     }
 }
 
-/// How many data records a store holds after the first `count` files, and how long their file is,
-/// where it is the one that is wanted.
+/// How many data records a store holds after the first `count` files, and how long their canonical
+/// file is; `None` where it is not the expected one.
 fn held_after(alloc: Global, count: usize) -> Option<(u32, usize)> {
     let night = three_files(alloc)?;
     let mut store = empty_store(alloc, CAP)?;
@@ -122,13 +122,13 @@ fn held_after(alloc: Global, count: usize) -> Option<(u32, usize)> {
 }
 
 #[test]
-fn a_store_that_nothing_stops_exports_what_is_wanted_after_each_file(rt: HostRuntime) {
-    for (count, told) in [
+fn a_store_that_nothing_stops_exports_the_expected_file_after_each(rt: HostRuntime) {
+    for (count, holds) in [
         (0usize, (0u32, 0usize)),
         (1, (1, 800)),
         (2, (2, 840)),
         (3, (5, 948)),
     ] {
-        assert_eq!(rt; held_after(rt.alloc(), count), Some(told), "{count} files");
+        assert_eq!(rt; held_after(rt.alloc(), count), Some(holds), "{count} files");
     }
 }

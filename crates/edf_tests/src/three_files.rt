@@ -14,17 +14,17 @@ pub(crate) struct Night {
 /// What fills a block of annotations of 32 bytes.
 const EMPTY: &[u8] = &[0; 32];
 
-/// The data record of P5, 15 seconds after Q's: the annotations have lists of their own.
-const P5_BEHIND_Q: &[u8] = b"\x02\0\xfe\xff+15\x14\x14\0+15.5\x14Snore\x14\0+15.5\x14Turn\x14\0\0";
+/// The data record of P5, 15 seconds after Q's; each annotation has a list of its own.
+const P5_AFTER_Q: &[u8] = b"\x02\0\xfe\xff+15\x14\x14\0+15.5\x14Snore\x14\0+15.5\x14Turn\x14\0\0";
 
 /// The canonical file of Q and P5: 840 bytes.
 pub(crate) fn q_and_p5(alloc: Global) -> Option<Vec<u8>> {
     let header = q().count("2").annotations_samples("16");
     let first = b"\x01\0\xff\xff+0\x14\x14\0";
-    file(alloc, &header, &[first, &EMPTY[5..], P5_BEHIND_Q]).ok()
+    file(alloc, &header, &[first, &EMPTY[5..], P5_AFTER_Q]).ok()
 }
 
-/// P5's file with its onsets spelled as short as they can be, which saves a sample of annotations.
+/// P5's canonical file: its onsets are spelled as short as they can be, which saves a sample.
 fn after_p5(alloc: Global) -> Result<Vec<u8>, AllocError> {
     let header = q()
         .recording("Startdate 03-MAR-2002 N1 T3 REC5")
@@ -39,7 +39,7 @@ fn after_k(alloc: Global) -> Result<Vec<u8>, AllocError> {
     let pieces: [&[u8]; 9] = [
         b"\x01\x00\xff\xff+0\x14\x14\0",
         &EMPTY[5..],
-        P5_BEHIND_Q,
+        P5_AFTER_Q,
         b"\x0a\0\0\0+3610\x14\x14\0",
         &EMPTY[8..],
         b"\x0b\0\0\0+3611\x14\x14\0",

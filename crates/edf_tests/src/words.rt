@@ -1,9 +1,9 @@
-//! Words after the program's name, read as a command or told why not.
+//! Words after the program's name, which are read as a command or answered with help or usage.
 
 use edf_command::{CommandFault, Order, parse, read_command, store_path};
 use edf_fragment::Counted;
+use edf_program::VERSION;
 use edf_sample::Sink;
-use edfstore_arguments::VERSION;
 use std::alloc::{AllocError, Global};
 
 /// The words of a line.
@@ -15,7 +15,7 @@ fn words(alloc: Global, line: &str) -> Result<Vec<String>, AllocError> {
     Ok(words)
 }
 
-/// The command of a line's words and its values, or which fault they have, with its text.
+/// The command of a line's words with its values, or the fault of the words with its text.
 fn answer(alloc: Global, line: &str) -> Result<String, AllocError> {
     match parse(alloc, words(alloc, line)?.as_slice()) {
         Ok(Order::Take { store, files }) => format!(in alloc; "take {store} {files:?}"),
@@ -52,9 +52,9 @@ const COMMANDS: &[(&str, &str)] = &[
 
 #[test]
 fn words_that_ask_for_something_are_its_command(rt: HostRuntime) {
-    for (line, want) in COMMANDS.iter().copied() {
+    for (line, expected) in COMMANDS.iter().copied() {
         let got = answer(rt.alloc(), line).ok();
-        assert_eq!(rt; got.as_deref(), Some(want), "at {line}");
+        assert_eq!(rt; got.as_deref(), Some(expected), "at {line}");
     }
 }
 
@@ -79,13 +79,13 @@ const STORES: &[(&str, Option<&str>)] = &[
 #[test]
 fn an_order_has_the_path_of_its_store_but_for_one_in_memory(rt: HostRuntime) {
     for (line, path) in STORES.iter().copied() {
-        let told = has_path(rt.alloc(), line, path);
-        assert_eq!(rt; told, Some(true), "at {line}");
+        let has = has_path(rt.alloc(), line, path);
+        assert_eq!(rt; has, Some(true), "at {line}");
     }
 }
 
-/// Words, how what is printed begins, and a text that it has.
-const TOLD: &[(&str, &str, &str)] = &[
+/// Words, how the text that is printed begins, and a text in it.
+const SHOWN: &[(&str, &str, &str)] = &[
     ("list", "usage: ", "<STORE>"),
     ("list night.db 1", "usage: ", "'1'"),
     ("list -x", "usage: ", "'-x'"),
@@ -129,20 +129,20 @@ fn version(alloc: Global) -> Option<String> {
 }
 
 #[test]
-fn the_version_is_told_in_a_line(rt: HostRuntime) {
-    let want = version(rt.alloc());
-    assert!(rt; want.is_some());
+fn the_version_is_one_line(rt: HostRuntime) {
+    let expected = version(rt.alloc());
+    assert!(rt; expected.is_some());
     for line in ["--version", "-V", "--version list night.db"] {
         let got = answer(rt.alloc(), line).ok();
-        assert_eq!(rt; got, want, "at {line}");
+        assert_eq!(rt; got, expected, "at {line}");
     }
 }
 
 #[test]
-fn words_that_ask_for_help_or_for_nothing_are_told_so(rt: HostRuntime) {
-    for (line, begin, text) in TOLD.iter().copied() {
-        let told = shows(rt.alloc(), line, begin, text);
-        assert_eq!(rt; told, Some(true), "at {line}");
+fn words_that_ask_for_help_or_for_nothing_get_help_or_usage(rt: HostRuntime) {
+    for (line, begin, text) in SHOWN.iter().copied() {
+        let has = shows(rt.alloc(), line, begin, text);
+        assert_eq!(rt; has, Some(true), "at {line}");
     }
 }
 
@@ -185,9 +185,9 @@ fn ended_with_version(alloc: Global) -> Option<(u8, String, String)> {
 
 #[test]
 fn the_version_goes_to_standard_output(rt: HostRuntime) {
-    let want = ended_with_version(rt.alloc());
-    assert!(rt; want.is_some());
+    let expected = ended_with_version(rt.alloc());
+    assert!(rt; expected.is_some());
     for line in ["--version", "-V"] {
-        assert_eq!(rt; ended(rt.alloc(), line), want, "{line}");
+        assert_eq!(rt; ended(rt.alloc(), line), expected, "{line}");
     }
 }

@@ -10,17 +10,17 @@ use edf_store::Store;
 use sqlite::MemStore;
 use std::alloc::Global;
 
-/// What an export is answered, and whether just the bytes that the writer has room for went out,
-/// from the front of the file.
+/// What an export is answered, and whether just the front of the file went out for which the writer
+/// has room.
 pub(crate) type Sent = (Result<u64, ExportFault>, bool);
 
-/// An export to a writer with room for `room` bytes, which then fails, or takes none; `wanted` is
+/// An export to a writer with room for `room` bytes, which then fails, or takes none; `expected` is
 /// the file.
 pub(crate) fn stopped(
     alloc: Global,
     store: &mut Store<MemStore>,
     identity: &Identity,
-    wanted: &[u8],
+    expected: &[u8],
     room: usize,
     full: bool,
 ) -> Sent {
@@ -28,17 +28,17 @@ pub(crate) fn stopped(
     let mut out = Counted::new(Sink::of_room(&mut got, room, full));
     let answer = export(alloc, store, identity, &mut out);
     drop(out);
-    let front = wanted.get(..room).unwrap_or(wanted);
+    let front = expected.get(..room).unwrap_or(expected);
     (answer, got.as_slice() == front)
 }
 
 /// The least room for which the export is not refused so, and what it is then answered.
 fn least_room(alloc: Global, full: bool) -> Option<(usize, Sent)> {
-    let wanted = q_and_p5(alloc)?;
+    let expected = q_and_p5(alloc)?;
     let mut store = store_of_both(alloc)?;
     let identity = store.identities().ok()?.pop()?;
     for room in 0..841usize {
-        let sent = stopped(alloc, &mut store, &identity, &wanted, room, full);
+        let sent = stopped(alloc, &mut store, &identity, &expected, room, full);
         if sent != (Err(ExportFault::Write), true) {
             return Some((room, sent));
         }
@@ -49,21 +49,21 @@ fn least_room(alloc: Global, full: bool) -> Option<(usize, Sent)> {
 #[test]
 fn a_writer_that_stops_has_the_front_of_the_file(rt: HostRuntime) {
     for full in [false, true] {
-        let told = least_room(rt.alloc(), full);
-        assert_eq!(rt; told, Some((840, (Ok(840), true))), "takes none: {full}");
+        let least = least_room(rt.alloc(), full);
+        assert_eq!(rt; least, Some((840, (Ok(840), true))), "takes none: {full}");
     }
 }
 
 /// An export to a writer that takes one byte a write.
 fn byte_by_byte(alloc: Global) -> Option<Sent> {
-    let wanted = q_and_p5(alloc)?;
+    let expected = q_and_p5(alloc)?;
     let mut store = store_of_both(alloc)?;
     let identity = store.identities().ok()?.pop()?;
     let mut got = Vec::new(alloc);
     let mut out = Counted::new(Sink::whole(&mut got, 1));
     let answer = export(alloc, &mut store, &identity, &mut out);
     drop(out);
-    Some((answer, got.as_slice() == wanted.as_slice()))
+    Some((answer, got.as_slice() == expected.as_slice()))
 }
 
 #[test]

@@ -24,7 +24,7 @@ fn signal(letter: u8) -> Option<Signal<'static>> {
     }
 }
 
-/// The header of Q with the signals of these letters in place of its own.
+/// The header of Q with the signals of these letters instead of its own.
 fn header_of(alloc: Global, letters: &[u8]) -> Option<Vec<u8>> {
     let mut signals = Vec::new(alloc);
     for letter in letters {
@@ -95,12 +95,13 @@ fn fixed_field(name: &[u8]) -> Option<(usize, usize)> {
     }
 }
 
-/// The same of an identity: `dated` is `D`, or `X` where there is no date.
+/// The same of an identity: `dated` is `D`, or `X` where there is no date; `rest` is what comes
+/// after the startdate.
 fn identity_field(name: &[u8]) -> Option<(usize, usize)> {
     match name {
         b"patient" => Some((0, 80)),
         b"dated" => Some((80, 1)),
-        b"behind" => Some((81, 69)),
+        b"rest" => Some((81, 69)),
         b"duration" => Some((150, 8)),
         _ => None,
     }
@@ -139,13 +140,13 @@ fn field(name: &[u8], shape: Shape) -> Option<(usize, usize)> {
     }
 }
 
-/// Writes a text at a place, and fills a field of this width with spaces.
+/// Writes a text at an offset, into a field of this width that is filled with spaces.
 fn put(bytes: &mut [u8], at: usize, width: usize, text: &[u8]) {
-    for place in bytes.iter_mut().skip(at).take(width) {
-        *place = b' ';
+    for filled in bytes.iter_mut().skip(at).take(width) {
+        *filled = b' ';
     }
-    for (place, byte) in bytes.iter_mut().skip(at).zip(text) {
-        *place = *byte;
+    for (written, byte) in bytes.iter_mut().skip(at).zip(text) {
+        *written = *byte;
     }
 }
 

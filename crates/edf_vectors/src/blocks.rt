@@ -1,17 +1,17 @@
 //! Annotations blocks: one, and those of a data record that has several.
 
-use crate::cells::{number, quoted};
+use crate::cells::{fault_text, number, quoted};
 use edf_tal::{Note, Place, TalFault, block_len, read_block, read_blocks, same_notes, write_block};
 use edf_time::Instant;
 use std::alloc::{AllocError, Global};
 
-/// 2002-03-02 23:59:50
-const EVENING: u64 = 541_727_990_000_000_000;
+/// 2002-03-02 23:59:50, where file Q starts.
+pub(crate) const EVENING: u64 = 541_727_990_000_000_000;
 
-/// What blocks are answered.
+/// The answer to blocks.
 type Answer = Result<(Instant, Vec<Note>), TalFault>;
 
-/// Each annotation, counted from the file's start.
+/// The annotations, their onsets counted from the file's start.
 pub(crate) fn list(
     alloc: Global,
     notes: &[Note],
@@ -33,11 +33,11 @@ fn shown(alloc: Global, answer: &Answer, file_start: Instant) -> Option<String> 
             let list = list(alloc, notes, file_start).ok()?;
             format!(in alloc; "{}{list}", start.since(file_start)).ok()
         }
-        Err(fault) => format!(in alloc; "E{} {fault:?}", fault.number()).ok(),
+        Err(fault) => fault_text(alloc, fault.number(), fault),
     }
 }
 
-/// The start of a file: that of Q, or these nanoseconds.
+/// The start of a file: these nanoseconds, or else that of Q.
 fn start_in(cell: &[u8]) -> Option<Instant> {
     match cell {
         [b'0'..=b'9', ..] => Instant::at(number(cell)),
@@ -45,7 +45,7 @@ fn start_in(cell: &[u8]) -> Option<Instant> {
     }
 }
 
-/// `any`, `after` a data record of one second at the file's start, or else the first.
+/// Any place, the place after a data record of one second at the file's start, or else the first.
 fn place_in(cell: &[u8], start: Instant) -> Place {
     match cell {
         b"after" => Place::After {
@@ -113,11 +113,11 @@ pub(crate) fn blocks(alloc: Global, cells: &[Vec<u8>]) -> Option<String> {
 pub(crate) fn limits(alloc: Global, cells: &[Vec<u8>]) -> Option<String> {
     match read(alloc, cells)? {
         Ok((_, notes)) => format!(in alloc; "{} annotations", notes.len()).ok(),
-        Err(fault) => format!(in alloc; "E{} {fault:?}", fault.number()).ok(),
+        Err(fault) => fault_text(alloc, fault.number(), &fault),
     }
 }
 
-/// The canonical block of what is read of a block, and the length that is told of it.
+/// The canonical block of what is read of a block, and the length that `block_len` says it has.
 fn write_again(alloc: Global, block: &[u8]) -> Option<(Vec<u8>, usize)> {
     let start = Instant::at(EVENING)?;
     let (first, notes) = read_block(alloc, block, start, Place::First).ok()?;
@@ -126,12 +126,15 @@ fn write_again(alloc: Global, block: &[u8]) -> Option<(Vec<u8>, usize)> {
     Some((written, len))
 }
 
-/// The canonical block of what is read of a block, and the length that is told of it; where it is
-/// long, whether it is that of the second cell.
+/// The canonical block of what is read of a block, or, beside a second cell, whether it is that
+/// one; and its length.
 pub(crate) fn written(alloc: Global, cells: &[Vec<u8>]) -> Option<String> {
     let (block, len) = write_again(alloc, cells.first()?)?;
     match cells {
-        [_, wanted] => format!(in alloc; "{} {len}", block.as_slice() == wanted.as_slice()).ok(),
+        [_, expected] => format!(in alloc;
+            "{} {len}",
+            block.as_slice() == expected.as_slice()
+        ).ok(),
         _ => {
             let block = quoted(alloc, &block).ok()?;
             format!(in alloc; "{block} {len}").ok()

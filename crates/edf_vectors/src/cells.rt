@@ -1,6 +1,7 @@
-//! The cells of a line, as bytes, as numbers and as fields; and bytes for a reader's eyes.
+//! The cells of a case, as bytes, as numbers and as fields; bytes and faults as texts.
 
 use std::alloc::{AllocError, Global};
+use std::fmt::Debug;
 
 /// The value of a hex digit.
 fn hex(digit: u8) -> u8 {
@@ -70,7 +71,7 @@ pub(crate) fn signed(cell: &[u8]) -> i64 {
     }
 }
 
-/// The same of a size.
+/// The value of digits, as a size.
 pub(crate) fn size(cell: &[u8]) -> usize {
     usize::try_from(number(cell)).unwrap_or(0)
 }
@@ -78,8 +79,8 @@ pub(crate) fn size(cell: &[u8]) -> usize {
 /// A field of eight bytes, filled with spaces.
 pub(crate) fn eight(cell: &[u8]) -> [u8; 8] {
     let mut field = [b' '; 8];
-    for (place, byte) in field.iter_mut().zip(cell) {
-        *place = *byte;
+    for (written, byte) in field.iter_mut().zip(cell) {
+        *written = *byte;
     }
     field
 }
@@ -87,8 +88,8 @@ pub(crate) fn eight(cell: &[u8]) -> [u8; 8] {
 /// A field of eighty bytes.
 pub(crate) fn eighty(cell: &[u8]) -> [u8; 80] {
     let mut field = [b' '; 80];
-    for (place, byte) in field.iter_mut().zip(cell) {
-        *place = *byte;
+    for (written, byte) in field.iter_mut().zip(cell) {
+        *written = *byte;
     }
     field
 }
@@ -107,6 +108,11 @@ pub(crate) fn quoted(alloc: Global, bytes: &[u8]) -> Result<String, AllocError> 
     }
     text.push('"')?;
     Ok(text)
+}
+
+/// A fault, with its number before it.
+pub(crate) fn fault_text<F: Debug>(alloc: Global, number: u8, fault: &F) -> Option<String> {
+    format!(in alloc; "E{number} {fault:?}").ok()
 }
 
 /// The fields of these widths, one after the other, without the spaces that fill them.

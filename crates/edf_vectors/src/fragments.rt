@@ -1,8 +1,8 @@
 //! Fragments and their data records.
 
 use crate::bases::{changed, counted};
-use crate::blocks::list;
-use crate::cells::{quoted, signed, size};
+use crate::blocks::{EVENING, list};
+use crate::cells::{fault_text, quoted, signed, size};
 use edf_fragment::{
     Counted, FragmentFault, FragmentReader, Input, OpenFragment, Record, read_fragment,
 };
@@ -12,10 +12,7 @@ use edf_tal::Note;
 use edf_time::Instant;
 use std::alloc::Global;
 
-/// 2002-03-02 23:59:50
-const EVENING: u64 = 541_727_990_000_000_000;
-
-/// A data record, counted from the file's start.
+/// A data record, its start and its onsets counted from the file's start.
 fn record_text(alloc: Global, record: &Record, file_start: Instant) -> Option<String> {
     let at = record.start().since(file_start);
     let samples = quoted(alloc, record.samples()).ok()?;
@@ -46,14 +43,12 @@ pub(crate) fn fragment(alloc: Global, cells: &[Vec<u8>]) -> Option<String> {
     let bytes = changed(alloc, cells)?;
     match read_fragment(alloc, &mut Counted::new(Source::whole(&bytes, 100))) {
         Ok((header, records)) => records_text(alloc, header.start(), header.count(), &records),
-        Err(FragmentFault::Header(fault)) => {
-            format!(in alloc; "E{} {fault:?}", fault.number()).ok()
-        }
-        Err(fault) => format!(in alloc; "E{} {fault:?}", fault.number()).ok(),
+        Err(FragmentFault::Header(fault)) => fault_text(alloc, fault.number(), &fault),
+        Err(fault) => fault_text(alloc, fault.number(), &fault),
     }
 }
 
-/// Adds the data records that are left, at most nine; none where the end is not told again.
+/// Adds the data records that are left, at most nine; `None` where there is one after the end.
 fn read_on<R: Input>(reader: &mut FragmentReader<'_, R>, records: &mut Vec<Record>) -> Option<()> {
     for _ in 0..10u8 {
         match reader.next().ok()? {
@@ -67,7 +62,8 @@ fn read_on<R: Input>(reader: &mut FragmentReader<'_, R>, records: &mut Vec<Recor
     None
 }
 
-/// The same, read one after another from a reader that gives at most so many bytes a read.
+/// The data records of a fragment, read one after another from a reader that gives at most so many
+/// bytes a read.
 pub(crate) fn pieces(alloc: Global, cells: &[Vec<u8>]) -> Option<String> {
     let (step, bytes) = counted(alloc, cells)?;
     let mut input = Counted::new(Source::whole(&bytes, usize::try_from(step).ok()?));
@@ -95,7 +91,8 @@ fn notes(alloc: Global, count: usize, text: &[u8]) -> Option<Vec<Note>> {
     Some(list)
 }
 
-/// How many annotations a data record of these samples and so many annotations of this text has.
+/// How many annotations a data record has that is made of these samples and of so many annotations
+/// of this text; `none` where none can be made.
 pub(crate) fn record(alloc: Global, cells: &[Vec<u8>]) -> Option<String> {
     let [samples, count, text] = cells else {
         return None;

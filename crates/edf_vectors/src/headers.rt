@@ -1,7 +1,7 @@
 //! Headers, and the identities of recordings.
 
 use crate::bases::{changed, counted};
-use crate::cells::fields;
+use crate::cells::{fault_text, fields};
 use edf_header::{Header, HeaderFault, Identity, read_fixed, read_signals, write_header};
 use edf_sample::named::identity_q;
 use edf_time::Instant;
@@ -16,16 +16,12 @@ const HEADER: &[usize] = &[
     32, 32,
 ];
 
-fn fault(alloc: Global, fault: HeaderFault) -> Option<String> {
-    format!(in alloc; "E{} {fault:?}", fault.number()).ok()
-}
-
-/// How many signals a fixed part tells.
+/// How many signals a fixed part has, or its fault.
 pub(crate) fn fixed(alloc: Global, cells: &[Vec<u8>]) -> Option<String> {
     let bytes = changed(alloc, cells)?;
     match read_fixed(bytes.first_chunk::<256>()?) {
         Ok(fixed) => format!(in alloc; "{} signals", fixed.signals()).ok(),
-        Err(told) => fault(alloc, told),
+        Err(fault) => fault_text(alloc, fault.number(), &fault),
     }
 }
 
@@ -34,11 +30,11 @@ fn front(bytes: &[u8], most: usize) -> &[u8] {
     bytes.get(..most).unwrap_or(bytes)
 }
 
-/// Reads a header, and nothing after it.
+/// Reads a header, and none of the bytes after it.
 fn read(alloc: Global, bytes: &[u8]) -> Option<Result<Header, HeaderFault>> {
     let fixed = match read_fixed(bytes.first_chunk::<256>()?) {
         Ok(fixed) => fixed,
-        Err(told) => return Some(Err(told)),
+        Err(fault) => return Some(Err(fault)),
     };
     let signals = front(bytes.get(256..)?, 256 * fixed.signals());
     if signals.len() > 256 * fixed.signals() {
@@ -49,7 +45,7 @@ fn read(alloc: Global, bytes: &[u8]) -> Option<Result<Header, HeaderFault>> {
 
 /// The nanosecond at which a header starts, its count, whether its recording is dated, the duration
 /// of a data record; the bytes of the annotations blocks, of a data record and of ordinary samples.
-fn told(alloc: Global, header: &Header) -> Option<String> {
+fn layout(alloc: Global, header: &Header) -> Option<String> {
     let start = header.start().nanos();
     let count = header.count();
     let identity = header.identity();
@@ -65,36 +61,36 @@ fn told(alloc: Global, header: &Header) -> Option<String> {
 
 pub(crate) fn header(alloc: Global, cells: &[Vec<u8>]) -> Option<String> {
     match read(alloc, &changed(alloc, cells)?)? {
-        Ok(header) => told(alloc, &header),
-        Err(told) => fault(alloc, told),
+        Ok(header) => layout(alloc, &header),
+        Err(fault) => fault_text(alloc, fault.number(), &fault),
     }
 }
 
-/// How many annotations blocks a data record has, and where each is, with its bytes.
-pub(crate) fn places(alloc: Global, cells: &[Vec<u8>]) -> Option<String> {
+/// How many annotations blocks a data record has; the offset and the bytes of each.
+pub(crate) fn offsets(alloc: Global, cells: &[Vec<u8>]) -> Option<String> {
     let header = read(alloc, &changed(alloc, cells)?)?.ok()?;
     let mut text = format!(in alloc; "{}", header.blocks().len()).ok()?;
     for block in header.blocks() {
-        let place = format!(in alloc; " {}:{}", block.at, block.bytes).ok()?;
-        text.push_str(place.as_str()).ok()?;
+        let one = format!(in alloc; " {}:{}", block.at, block.bytes).ok()?;
+        text.push_str(one.as_str()).ok()?;
     }
     Some(text)
 }
 
-/// How many bytes an identity has, and the fields of all but the second ordinary signal on.
+/// How many bytes an identity has, and its fields up to those of the first ordinary signal.
 fn spelled(alloc: Global, identity: &Identity) -> Option<String> {
     let bytes = identity.to_bytes(alloc).ok()?;
     let text = fields(alloc, &bytes, IDENTITY)?;
     format!(in alloc; "{} {text}", bytes.len()).ok()
 }
 
-/// The identity that a header tells.
+/// The identity of a header.
 pub(crate) fn identity_of(alloc: Global, cells: &[Vec<u8>]) -> Option<String> {
     let header = read(alloc, &changed(alloc, cells)?)?.ok()?;
     spelled(alloc, &header.into_identity())
 }
 
-/// What an identity tells, and whether it is that of Q.
+/// The parts of an identity, and whether it is that of Q.
 fn parts(alloc: Global, identity: &Identity) -> Option<String> {
     let of_q = Identity::from_bytes(alloc, &identity_q(alloc).ok()?).ok()?;
     let code = str::from_utf8(identity.patient_code()).ok()?;
@@ -109,7 +105,7 @@ fn parts(alloc: Global, identity: &Identity) -> Option<String> {
     ).ok()
 }
 
-/// What the bytes of an identity tell.
+/// The parts of the identity of these bytes, or its fault.
 pub(crate) fn identity(alloc: Global, cells: &[Vec<u8>]) -> Option<String> {
     match Identity::from_bytes(alloc, &changed(alloc, cells)?) {
         Ok(identity) => parts(alloc, &identity),
@@ -117,7 +113,7 @@ pub(crate) fn identity(alloc: Global, cells: &[Vec<u8>]) -> Option<String> {
     }
 }
 
-/// The bytes of an identity, given back.
+/// The bytes of the identity of these bytes.
 pub(crate) fn bytes(alloc: Global, cells: &[Vec<u8>]) -> Option<String> {
     spelled(
         alloc,
@@ -132,8 +128,8 @@ pub(crate) fn may_start(alloc: Global, cells: &[Vec<u8>]) -> Option<String> {
     format!(in alloc; "{}", identity.may_start(Instant::at(nanos)?)).ok()
 }
 
-/// The canonical header of one data record that starts in a second, field by field, and the
-/// identity that it tells.
+/// The canonical header of one data record that starts in a second, field by field, and whether its
+/// identity is the same.
 pub(crate) fn canonical(alloc: Global, cells: &[Vec<u8>]) -> Option<String> {
     let (second, bytes) = counted(alloc, cells)?;
     let identity = Identity::from_bytes(alloc, &bytes).ok()?;

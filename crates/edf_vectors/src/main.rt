@@ -1,6 +1,6 @@
-//! Cases of the crates below the store, one a line of standard input: a name, and its cells, each
-//! after a `|`. What it is answered is written after it. The file `stdout` has the answers that the
-//! standards and the documents give. A line that begins with `#` is a title.
+//! Cases of the crates below the store. Each is a line of standard input: a name; its cells, each
+//! after a `|`; ` = ` and the answer that the standards and the documents give. A line that begins
+//! with `#` is a title. Titles are written out, and each case whose answer is another.
 //!
 //! In a cell `\` and two hex digits stand for a byte, `{3*ab}` for three times `ab`, `{2*3*ab}` for
 //! twice that. Fields are filled with spaces.
@@ -18,10 +18,10 @@ mod headers;
 mod texts;
 mod times;
 
-use std::alloc::Global;
+use std::alloc::{AllocError, Global};
 use std::io;
 
-/// What a case of times or of the text of a field is answered.
+/// The answer to a case of times or of the text of a field.
 fn of_texts(alloc: Global, name: &str, cells: &[Vec<u8>]) -> Option<String> {
     match name {
         "decimal" => times::decimal(alloc, cells),
@@ -40,12 +40,12 @@ fn of_texts(alloc: Global, name: &str, cells: &[Vec<u8>]) -> Option<String> {
         "subfield" => texts::subfield(alloc, cells),
         "patient" => texts::patient(alloc, cells),
         "recording" => texts::recording(alloc, cells),
-        "behind" => texts::behind(alloc, cells),
+        "rest" => texts::rest(alloc, cells),
         _ => None,
     }
 }
 
-/// What a case of blocks, headers or fragments is answered.
+/// The answer to a case of blocks, headers or fragments.
 fn of_files(alloc: Global, name: &str, cells: &[Vec<u8>]) -> Option<String> {
     match name {
         "block" => blocks::block(alloc, cells),
@@ -56,7 +56,7 @@ fn of_files(alloc: Global, name: &str, cells: &[Vec<u8>]) -> Option<String> {
         "same" => blocks::same(alloc, cells),
         "fixed" => headers::fixed(alloc, cells),
         "header" => headers::header(alloc, cells),
-        "places" => headers::places(alloc, cells),
+        "offsets" => headers::offsets(alloc, cells),
         "identity of" => headers::identity_of(alloc, cells),
         "identity" => headers::identity(alloc, cells),
         "bytes" => headers::bytes(alloc, cells),
@@ -70,9 +70,9 @@ fn of_files(alloc: Global, name: &str, cells: &[Vec<u8>]) -> Option<String> {
     }
 }
 
-/// What a line is answered.
-fn answer(alloc: Global, line: &str) -> Option<String> {
-    let mut parts = line.split('|');
+/// The answer to a case.
+fn answer(alloc: Global, case: &str) -> Option<String> {
+    let mut parts = case.split('|');
     let name = parts.next()?;
     let mut cells = Vec::new(alloc);
     for part in parts {
@@ -84,16 +84,26 @@ fn answer(alloc: Global, line: &str) -> Option<String> {
     }
 }
 
+/// What is written of a line: a title, or a case that has no answer, or another than it expects.
+fn shown(alloc: Global, line: &str) -> Result<Option<String>, AllocError> {
+    if line.is_empty() {
+        return Ok(None);
+    }
+    if line.starts_with('#') {
+        return Ok(Some(String::from_str(alloc, line)?));
+    }
+    let (case, expected) = line.split_once(" = ").unwrap_or((line, ""));
+    match answer(alloc, case) {
+        Some(answer) if answer.as_str() == expected => Ok(None),
+        Some(answer) => Ok(Some(format!(in alloc; "{case} = {answer}, and not {expected}")?)),
+        None => Ok(Some(format!(in alloc; "{line} has no answer")?)),
+    }
+}
+
 fn main(rt: HostRuntime) -> io::Result<()> {
     for line in rt.lines(rt.alloc()) {
-        let line = line?;
-        if line.is_empty() || line.starts_with('#') {
-            println!(rt; "{line}")?;
-            continue;
-        }
-        match answer(rt.alloc(), line.as_str()) {
-            Some(answer) => println!(rt; "{line} = {answer}")?,
-            None => println!(rt; "{line} has no answer")?,
+        if let Some(text) = shown(rt.alloc(), line?.as_str())? {
+            println!(rt; "{text}")?;
         }
     }
     Ok(())

@@ -2,7 +2,7 @@
 
 use crate::cells::{eight, eighty, number, quoted};
 use edf_field::{
-    are_spaces, is_behind_startdate, is_patient, next_subfield, physical_values_differ,
+    are_spaces, follows_startdate, is_patient, next_subfield, physical_values_differ,
     read_duration, read_recording, read_signed, read_whole,
 };
 use edf_time::{Day, Instant};
@@ -71,28 +71,28 @@ fn day_of(second: &[u8]) -> Option<Day> {
     Some(Instant::at(number(second).wrapping_mul(1_000_000_000))?.day())
 }
 
-/// Whether the startdate of a recording identification is the day of this second, or none where
-/// there is no such cell, and what is after the startdate.
+/// Whether the startdate of a recording identification is the day of this second, or none for `X`;
+/// and what comes after it.
 pub(crate) fn recording(alloc: Global, cells: &[Vec<u8>]) -> Option<String> {
     let [text, second] = cells else {
         return None;
     };
     let field = eighty(text);
-    let Some((day, behind)) = read_recording(&field) else {
+    let Some((day, rest)) = read_recording(&field) else {
         return String::from_str(alloc, "none").ok();
     };
-    let wanted = match second.as_slice() {
+    let expected = match second.as_slice() {
         b"X" => None,
         digits => day_of(digits),
     };
-    let behind = quoted(alloc, behind).ok()?;
-    format!(in alloc; "{} {behind}", day == wanted).ok()
+    let rest = quoted(alloc, rest).ok()?;
+    format!(in alloc; "{} {rest}", day == expected).ok()
 }
 
-/// Whether a text may be after the startdate.
-pub(crate) fn behind(alloc: Global, cells: &[Vec<u8>]) -> Option<String> {
+/// Whether a text may come after the startdate.
+pub(crate) fn rest(alloc: Global, cells: &[Vec<u8>]) -> Option<String> {
     let [text] = cells else {
         return None;
     };
-    format!(in alloc; "{}", is_behind_startdate(text)).ok()
+    format!(in alloc; "{}", follows_startdate(text)).ok()
 }

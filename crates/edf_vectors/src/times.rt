@@ -15,7 +15,7 @@ pub(crate) fn decimal(alloc: Global, cells: &[Vec<u8>]) -> Option<String> {
     format!(in alloc; "{:?}", read_seconds(text)).ok()
 }
 
-/// The shortest decimal of nanoseconds, and the length that is told of it.
+/// The shortest decimal of nanoseconds, and the length that `seconds_len` says it has.
 pub(crate) fn shortest(alloc: Global, cells: &[Vec<u8>]) -> Option<String> {
     let [cell] = cells else {
         return None;
@@ -61,8 +61,8 @@ pub(crate) fn before(alloc: Global, cells: &[Vec<u8>]) -> Option<String> {
     format!(in alloc; "{}", id_date(one)? < id_date(other)?).ok()
 }
 
-/// The texts of an instant: its startdate, its starttime, its date in an identification, and what
-/// is shown of it.
+/// The texts of an instant: its startdate, its starttime, its date in an identification, and the
+/// text that a person is shown.
 fn texts(alloc: Global, at: Instant) -> Option<String> {
     let mut text = Vec::from_slice(alloc, &date_field(at)).ok()?;
     text.push(b' ').ok()?;

@@ -3,15 +3,16 @@
 //! - `# TEXT`: a title, of the lines after it;
 //! - `store N`: an empty store in memory, whose recordings have N data records at most;
 //! - `edfstore WORDS`: the program by these words, over stores that are files;
-//! - other words: a command over the store in memory. After ` = NAME` it is told whether standard
+//! - other words: a command over the store in memory. After ` = NAME` a line says whether standard
 //!   output has just the bytes of that file, in place of the bytes.
 //!
 //! Each line is written out. After a command comes what it writes: to standard output, and to
-//! standard error behind `err: `, if it is over the store in memory; then a line with its status.
+//! standard error after `err: `, if it is over the store in memory; then a line with its status.
 #![tactic(auto)]
 
 use edf_command::{Status, read_command, run};
 use edf_fragment::Counted;
+use edf_header::MOST_RECORDS;
 use edf_sample::Sink;
 use edf_store::Store;
 use edf_system::{Files, Terminal};
@@ -41,7 +42,7 @@ fn run_line(rt: &HostRuntime, line: &str) -> io::Result<()> {
 /// An empty store.
 fn empty_store(alloc: Global, cap: &str) -> Option<Store<MemStore>> {
     let cap = cap.parse::<u32>().ok()?;
-    if cap == 0 || cap > 99_999_999 {
+    if cap == 0 || cap > MOST_RECORDS {
         return None;
     }
     let conn = Connection::open_in_memory(alloc).ok()?;
@@ -57,7 +58,7 @@ struct Outcome {
 }
 
 /// Does what words ask for, over a store.
-fn told(rt: &HostRuntime, store: &mut Store<MemStore>, words: &[String]) -> Outcome {
+fn run_over(rt: &HostRuntime, store: &mut Store<MemStore>, words: &[String]) -> Outcome {
     let terminal = Terminal::new(rt, "file", 0);
     let mut inputs = Files::new(rt, &terminal);
     let mut out_bytes = Vec::new(rt.alloc());
@@ -77,13 +78,13 @@ fn told(rt: &HostRuntime, store: &mut Store<MemStore>, words: &[String]) -> Outc
 }
 
 /// Writes out what a command wrote, or whether that is the file of a name.
-fn tell_out(rt: &HostRuntime, out: &[u8], name: Option<&str>) -> io::Result<()> {
+fn print_out(rt: &HostRuntime, out: &[u8], name: Option<&str>) -> io::Result<()> {
     let Some(name) = name else {
         return rt.stdout().write_all(out);
     };
-    let wanted = fs::read(rt, name)?;
+    let expected = fs::read(rt, name)?;
     let len = out.len();
-    if wanted.as_slice() == out {
+    if expected.as_slice() == out {
         println!(rt; "just {name}, {len} bytes")
     } else {
         println!(rt; "not {name}, {len} bytes")
@@ -98,13 +99,13 @@ fn play_command(
     name: Option<&str>,
 ) -> io::Result<()> {
     let words = words_of(rt, line)?;
-    let told = told(rt, store, words.as_slice());
-    tell_out(rt, told.out.as_slice(), name)?;
-    if !told.err.is_empty() {
+    let outcome = run_over(rt, store, words.as_slice());
+    print_out(rt, outcome.out.as_slice(), name)?;
+    if !outcome.err.is_empty() {
         print!(rt; "err: ")?;
-        rt.stdout().write_all(told.err.as_slice())?;
+        rt.stdout().write_all(outcome.err.as_slice())?;
     }
-    println!(rt; "status {}", told.status.code())
+    println!(rt; "status {}", outcome.status.code())
 }
 
 /// Plays a line that is neither a title nor the program's words.

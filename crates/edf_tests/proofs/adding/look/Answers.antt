@@ -8,7 +8,7 @@ use Rattle.edf_tests.proofs.adding.look.Goals as goal
 pub near-requires-clause-recording : goal.near-requires-clause-recording
 near-requires-clause-recording g c = (
   c.args.identity.now,
-  c.in_ok-after.ensures.same.ids c.args.id.row c.args.identity.now
+  c.in_ok-after.ensures.leaves.same.ids c.args.id.row c.args.identity.now
       c.requires.recording,
   c.duration.ensures.value,
 )
@@ -19,12 +19,12 @@ returns-clause-whole g c =
     let b = at g.S.Store c.count.new.self.store.now in
     let d = at g.S.Store c.near.new.self.store.now in
     let cap = c.args.tx.now.store.now.cap in
-    let cap_b = c.count.ensures.stays.cap in
-    let cap_d = c.near.ensures.stays.cap ∙ cap_b in
-    let ab = subst (λ n. SeesOn n a b) cap_b c.in_ok-after.ensures.same in
-    let bd = subst (λ n. SeesOn n b d) cap_d c.in_ok-near.ensures.same in
+    let cap_b = c.count.ensures.leaves.stays.cap in
+    let cap_d = c.near.ensures.leaves.stays.cap ∙ cap_b in
+    let ab = subst (λ n. SeesOn n a b) cap_b c.in_ok-after.ensures.leaves.same in
+    let bd = subst (λ n. SeesOn n b d) cap_d c.in_ok-near.ensures.leaves.same in
     subst (λ n. EachHasRecordIn n d) (sym cap_d)
-    (still_whole cap b d (λ clean. omega (arith, c.near.ensures.stays.crash.clean, clean))
-    ab.running bd c.in_ok-near.ensures.only
-    (still_whole cap a b (λ clean. omega (arith, c.count.ensures.stays.crash.clean, clean))
-    c.requires.running ab c.in_ok-after.ensures.only c.requires.whole))
+    (still_whole cap b d (λ clean. omega (arith, c.near.ensures.leaves.stays.crash.clean, clean))
+    ab.running bd c.in_ok-near.ensures.leaves.only
+    (still_whole cap a b (λ clean. omega (arith, c.count.ensures.leaves.stays.crash.clean, clean))
+    c.requires.running.sees ab c.in_ok-after.ensures.leaves.only c.requires.whole))
