@@ -1,7 +1,6 @@
-#!/usr/bin/env python3
 """Runs the gate from nothing and samples what it costs, by crate and kind of work.
 
-    bench/gate.py [--every SECONDS] [--by FILE] [--pid PID | COMMAND...]
+    python3 -m bench.gate [--every SECONDS] [--by FILE] [--pid PID | COMMAND...]
 
 The command is `rt ci --anew` where none is given; --pid looks at one that runs already, from now
 on. Each second the processor time of each process below the command is read from /proc, so a
@@ -12,7 +11,6 @@ of programs and tests. Before and after stands what twenty million additions tak
 function, of the processor): it tells a fast hour of the host from a slow one. --by writes lines of
 crate, kind and seconds, with a tab between, to a file too.
 """
-import argparse
 import os
 import resource
 import subprocess
@@ -22,7 +20,8 @@ from collections import defaultdict
 from dataclasses import dataclass
 from pathlib import Path
 
-from lib.measure import loop
+from checks.lib import arguments
+from checks.lib.measure import loop
 
 PROOF, TESTS, EDITS, BUILDS, RUNS, ITSELF = KINDS = (
     "proof", "tests", "edits", "builds", "runs", "rt itself")
@@ -120,13 +119,12 @@ def table(found: dict) -> str:
 
 
 def main() -> int:
-    words = argparse.ArgumentParser(
-        description=__doc__, formatter_class=argparse.RawDescriptionHelpFormatter)
-    words.add_argument("--every", type=float, default=1.0, metavar="SECONDS")
-    words.add_argument("--by", type=Path, metavar="FILE")
-    words.add_argument("--pid", type=int)
-    words.add_argument("command", nargs=argparse.REMAINDER)
-    given = words.parse_args()
+    parser = arguments.Parser(__doc__, programs=())
+    parser.add_argument("--every", type=float, default=1.0, metavar="SECONDS")
+    parser.add_argument("--by", type=arguments.path, metavar="FILE")
+    parser.add_argument("--pid", type=int)
+    parser.add_argument("command", nargs="...", metavar="COMMAND")
+    given = parser.read()
     before, begun = loop(), time.perf_counter()
     child = None if given.pid else subprocess.Popen(given.command or ["rt", "ci", "--anew"])
     sampler = Sampler(child.pid if child else given.pid)
@@ -148,4 +146,5 @@ def main() -> int:
     return child.returncode if child else 0
 
 
-sys.exit(main())
+if __name__ == "__main__":
+    sys.exit(main())

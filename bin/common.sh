@@ -62,7 +62,7 @@ released_archive() {
   sed -n 's/^[0-9a-f]*  \(.*\.tar\.xz\)$/\1/p' "$release/SHA256SUMS"
 }
 
-# Unpacks the released programs, once, and tells the path of $1. The archive must have the sum that
+# Unpacks the released programs, once, and prints the path of $1. The archive must have the sum that
 # SHA256SUMS says.
 released_program() {
   local archive sum folder
@@ -88,7 +88,7 @@ chosen_program() {
   if is_fresh "$1"; then
     built "$1"
   elif ! is_released || ! released_program "$1"; then
-    # Status 1 tells that the released bytes are others: what was proved here is run all the same.
+    # Status 1 says that the released bytes are others: what was proved here is run all the same.
     "$top/bin/build" "$1" >&2 </dev/null || [ $? = 1 ] || return 3
     built "$1"
   fi

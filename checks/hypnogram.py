@@ -1,12 +1,11 @@
-#!/usr/bin/env python3
 """Draws random nights by `edfruns picture`, and compares the line of their stages of sleep with a
 plain model of the rule, half pixel by half pixel.
 
-    checks/hypnogram.py [--edfruns PATH] [--seed SEED] [COUNT]      200 nights if left out
+    python3 -m checks.hypnogram [--edfruns PATH] [--seed SEED] [COUNT]      200 nights if left out
 
 The nights have up to six runs, with gaps from a millisecond to hours. Their stages have durations
-or not, are told each half minute or where they change, in order or not, and may lie outside of all
-runs. The first night that is drawn otherwise is left in the folder that is named.
+or not, are scored each half minute or where they change, stand in order or not, and may lie outside
+of all runs. The first night that is drawn otherwise is left in the folder that is named.
 """
 import bisect
 import random
@@ -15,8 +14,8 @@ import tempfile
 from dataclasses import dataclass
 from pathlib import Path
 
-from lib import arguments, checks, edf, measure
-from lib.gapped import SECOND, decimal, onset
+from checks.lib import arguments, checks, edf, measure
+from checks.lib.gapped import SECOND, decimal, onset
 
 LEFT, COLUMNS = 112, 1_728      # where the line begins, and how many half pixels it has
 HALF_MINUTE = 30 * SECOND
@@ -42,15 +41,15 @@ def random_runs(chance: random.Random, seconds: int) -> list:
 
 
 def random_stages(chance: random.Random, end: int) -> list:
-    """Stages in the order in which they are told."""
+    """Stages in the order in which the file has them."""
     names = chance.sample(list(HEIGHTS), 6)
     step = chance.choice((20, 30, 30, 30)) * SECOND
-    has_durations, tells_changes = chance.random() < 0.4, chance.random() < 0.3
+    has_durations, has_changes = chance.random() < 0.4, chance.random() < 0.3
     stages, at = [], chance.choice((-10, 0, 0, 0, 3)) * step
     while at < end + 5 * step and len(stages) < 2_000:
         name, times = chance.choice(names), chance.choice((1, 2, 5, 20, 60))
-        length = step * times if tells_changes else step
-        for nth in range(1 if tells_changes else times):
+        length = step * times if has_changes else step
+        for nth in range(1 if has_changes else times):
             stages.append(Stage(at + nth * step, length if has_durations else 0, name))
         at += step * times + (chance.choice((7, 300, 2_000)) * SECOND
                               if chance.random() < 0.1 else 0)
@@ -90,9 +89,10 @@ def seen_runs(runs: list) -> list:
     return seen
 
 
-def spans_of(runs: list, told: list) -> list:
+def spans_of(runs: list, scored: list) -> list:
     """From when to when each stage holds, in time order; of those with one onset the last holds."""
-    stages = sorted({stage.onset: stage for stage in told}.values(), key=lambda stage: stage.onset)
+    last = {stage.onset: stage for stage in scored}
+    stages = [last[at] for at in sorted(last)]
     spans, lengths = [], []
     for stage, after in zip(stages, [*stages[1:], None]):
         agreed = lengths[0] if len(lengths) > 1 and len(set(lengths)) == 1 else 0
@@ -108,9 +108,9 @@ def spans_of(runs: list, told: list) -> list:
     return spans
 
 
-def wanted(runs: list, told: list) -> list:
+def expected(runs: list, scored: list) -> list:
     """The height of the line in each half pixel, by the instant in its middle."""
-    spans, heights = spans_of(seen_runs(runs), told), []
+    spans, heights = spans_of(seen_runs(runs), scored), []
     onsets = [start for start, _, _ in spans]
     for column in range(COLUMNS):
         middle = runs[-1][1] * (2 * column + 1) // (2 * COLUMNS)
@@ -145,7 +145,7 @@ def main() -> None:
         stages = random_stages(chance, runs[-1][1])
         path.write_bytes(file_of(runs, seconds, stages))
         ran = measure.ran(given.edfruns, "picture", path)
-        if ran.status or line_of(ran.out.decode()) != wanted(runs, stages):
+        if ran.status or line_of(ran.out.decode()) != expected(runs, stages):
             print(f"{path}: night {nth} of seed {given.seed} is drawn otherwise")
             checks.end(nth + 1, 1)
     path.unlink()
@@ -153,4 +153,5 @@ def main() -> None:
     checks.end(given.count, 0)
 
 
-main()
+if __name__ == "__main__":
+    main()

@@ -1,8 +1,7 @@
-#!/usr/bin/env python3
 """Files that are no stores, our tables made in other ways, foreign rows, and a store of a million
 rows, as the program meets them.
 
-    checks/odd.py [--program PATH]
+    python3 -m checks.odd [--program PATH]
 
 Each file is made by the system's SQLite or by hand, given to `list`, and must be answered with the
 number that stands beside it and left as it was, byte for byte. Then `list` of stores of 250,000,
@@ -13,9 +12,10 @@ import shutil
 import sqlite3
 from pathlib import Path
 
-from lib import arguments, edf, measure, model, told
-from lib.checks import end
+from checks.lib import arguments, edf, faults, measure, model, printed
+from checks.lib.checks import end
 
+E42, E45 = faults.store.number, faults.foreign.number
 TABLES = ("CREATE TABLE IF NOT EXISTS recording (\n"
           "  id INTEGER PRIMARY KEY, identity BLOB NOT NULL UNIQUE) STRICT",
           "CREATE TABLE IF NOT EXISTS record (\n"
@@ -51,19 +51,19 @@ OVER_2084 = edf.fragment(
 MADE = (
     ("our tables", TABLES, ""),
     ("the first of our tables alone", TABLES[:1], ""),
-    ("our tables behind one that was dropped before they were made",
+    ("our tables after one that was dropped before they were made",
      ("CREATE TABLE t (x)", "DROP TABLE t", *TABLES), ""),
-    ("the second of our tables alone", TABLES[1:], "E45"),
-    ("our tables in the other order", TABLES[::-1], "E45"),
-    ("our tables behind one that was dropped later",
-     ("CREATE TABLE t (x)", *TABLES, "DROP TABLE t"), "E45"),
-    ("the first of our tables, and another", (TABLES[0], "CREATE TABLE t (x)"), "E45"),
-    ("a view alone", ("CREATE VIEW v AS SELECT 1",), "E45"),
-    ("ANALYZE of nothing", ("ANALYZE",), "E45"),
-    ("a virtual table after ours", (*TABLES, "CREATE VIRTUAL TABLE t USING fts5 (x)"), "E42"),
+    ("the second of our tables alone", TABLES[1:], E45),
+    ("our tables in the other order", TABLES[::-1], E45),
+    ("our tables after one that was dropped later",
+     ("CREATE TABLE t (x)", *TABLES, "DROP TABLE t"), E45),
+    ("the first of our tables, and another", (TABLES[0], "CREATE TABLE t (x)"), E45),
+    ("a view alone", ("CREATE VIEW v AS SELECT 1",), E45),
+    ("ANALYZE of nothing", ("ANALYZE",), E45),
+    ("a virtual table after ours", (*TABLES, "CREATE VIRTUAL TABLE t USING fts5 (x)"), E42),
     ("a table after ours with a foreign key and a trigger",
      (*TABLES, "CREATE TABLE t (x REFERENCES recording (id))",
-      "CREATE TRIGGER kept AFTER DELETE ON t BEGIN SELECT 1; END"), "E42"),
+      "CREATE TRIGGER kept AFTER DELETE ON t BEGIN SELECT 1; END"), E42),
 )
 
 # What another tool may do beside our tables, and on them
@@ -132,19 +132,19 @@ class Odd:
         measure.done(self.program, "take", self.store, self.folder / "a.edf")
         return self.store
 
-    def check(self, what: str, *wanted: str) -> None:
+    def check(self, what: str, *expected: str) -> None:
         """`list` answers one of these numbers, or lists where the text is empty, and leaves the
         file."""
         before = bytes_of(self.store)
         ran = measure.ran(self.program, "list", self.store)
         said = ran.err.decode().strip()
-        number = said.split()[2] if said.startswith("store refused") else said
+        number = printed.number(said) if printed.is_store_refused(ran.err) else said
         is_kept = bytes_of(self.store) == before
         self.done += 1
-        if number not in wanted or ran.status != (3 if number else 0) or (number and not is_kept):
+        if number not in expected or ran.status != (3 if number else 0) or (number and not is_kept):
             self.failed += 1
             print(f"{what}: {ran}, file {'kept' if is_kept else 'CHANGED'}; "
-                  f"wanted {' or '.join(wanted)}")
+                  f"expected {' or '.join(expected)}")
 
 
 def no_stores(odd: Odd) -> None:
@@ -162,43 +162,43 @@ def no_stores(odd: Odd) -> None:
                         ("a store whose first page is gone", bytes(4096) + data[4096:])):
         odd.clean()
         odd.store.write_bytes(given)
-        odd.check(what, "E42", "E45")
+        odd.check(what, E42, E45)
     odd.clean()
     odd.store.write_bytes(data + b"\0")
     odd.check("a store with a byte more, as SQLite takes it too", "")
     odd.clean()
     odd.store.mkdir()
-    odd.check("a directory", "E42")
+    odd.check("a directory", E42)
     odd.clean()
     changed(odd.store, "CREATE TABLE other (a)", "INSERT INTO other VALUES (1)")
-    odd.check("a database of another program", "E45")
+    odd.check("a database of another program", E45)
     odd.clean()
     changed(odd.store, "CREATE TABLE recording (id INTEGER PRIMARY KEY, name TEXT)",
             "CREATE TABLE record (a, b)", "INSERT INTO record VALUES (1, 2)")
-    odd.check("our tables' names with other columns", "E45")
+    odd.check("our tables' names with other columns", E45)
     odd.held()
     os.link(odd.store, odd.folder / "second.db")
-    odd.check("a store with a second name", "E42")
+    odd.check("a store with a second name", E42)
     if os.geteuid():
         odd.held().chmod(0)
-        odd.check("a store without leave to read", "E42")
+        odd.check("a store without leave to read", E42)
 
 
 def made(odd: Odd) -> None:
-    for what, statements, wanted in MADE:
+    for what, statements, expected in MADE:
         odd.clean()
         changed(odd.store, *statements)
-        odd.check(what, wanted)
+        odd.check(what, expected)
 
 
 def foreign(odd: Odd) -> None:
     for statement in FOREIGN:
         changed(odd.held(), statement)
-        odd.check(statement, "E45")
+        odd.check(statement, E45)
     odd.held(OVER_2084)
     odd.check("a recording without a date that goes on after 2084", "")
     changed(odd.held(OVER_2084), "DELETE FROM record WHERE start < 3155760000000000000")
-    odd.check("a recording without a date that begins after 2084", "E45")
+    odd.check("a recording without a date that begins after 2084", E45)
 
 
 def goes_on(odd: Odd, what: str) -> None:
@@ -207,17 +207,17 @@ def goes_on(odd: Odd, what: str) -> None:
     given.write_bytes(files["P5"])
     plain = model.Store()
     plain.take(files["Q"])
-    wanted = told.line(given, plain.take(files["P5"]))
+    expected = printed.line(given, plain.take(files["P5"]))
     odd.check(what, "")
     took = measure.ran(odd.program, "take", odd.store, given)
     places = range(1, len(plain.keys()) + 1)
-    same = (took.out.decode() == wanted, others_of(odd.store) == before,
+    same = (took.out.decode() == expected, others_of(odd.store) == before,
             *(measure.ran(odd.program, "export", odd.store, place).out == plain.export(place)
               for place in places))
     odd.done += 1
     if not all(same):
         odd.failed += 1
-        print(f"{what}: {took}; the line, the others and the exports are as wanted: {same}")
+        print(f"{what}: {took}; the line, the others and the exports are as expected: {same}")
 
 
 def beside(odd: Odd) -> None:
@@ -234,7 +234,7 @@ def beside(odd: Odd) -> None:
         goes_on(odd, what)
     for statement in ON_OURS:
         changed(odd.held(), statement)
-        odd.check(statement, "E45")
+        odd.check(statement, E45)
 
 
 def fill(store: Path, count: int) -> None:
@@ -258,14 +258,14 @@ def many_rows(odd: Odd) -> None:
         fill(odd.store, count)
         size = odd.store.stat().st_size
         listed = measure.timed(odd.program, "list", odd.store)
-        if not listed.out.startswith(b"1 records=%d first=1985-01-01T00:00:00 " % count):
+        if listed.out.decode() != printed.recording(1, count, "1985-01-01T00:00:00", "P7", "N1"):
             odd.failed += 1
             print(f"{count} rows: {listed}")
         lines.append((f"{count:,} rows", measure.mb(size), f"{listed.seconds:.2f} s",
                       measure.mb(listed.peak), f"{listed.peak / size:.2f}"))
     changed(odd.store,
             "UPDATE record SET samples = x'00' WHERE start = (SELECT max(start) FROM record)")
-    odd.check("a million rows, the last of them foreign", "E45")
+    odd.check("a million rows, the last of them foreign", E45)
     print("list of a store of many rows")
     measure.table(("", "store", "list", "peak", "peak / store"), lines)
 
@@ -280,4 +280,5 @@ def main() -> None:
     end(odd.done, odd.failed)
 
 
-main()
+if __name__ == "__main__":
+    main()

@@ -1,15 +1,14 @@
-#!/usr/bin/env python3
 """Makes the Debian package of the released programs, looks at it, and installs it on a bare Debian.
 
-    checks/package.py [--bare FOLDER] [PACKAGE]
+    python3 -m checks.package [--bare FOLDER] [PACKAGE]
 
 bin/package makes it twice, in two places, times, time zones and languages, and both must have the
 same bytes; PACKAGE is looked at instead of these where it is named. It has the released programs,
-both man pages, the documents and the examples, and less than MOST bytes; `lintian` tells no error,
+both man pages, the documents and the examples, and less than MOST bytes; `lintian` finds no error,
 and `man` no warning of the installed pages. As root and with debootstrap it is installed by `dpkg
 -i` on a Debian of the least packages, run there and removed again. FOLDER is such a Debian; else
 one is made, which takes minutes and the network, and is gone at the end. Without root or
-debootstrap it is unpacked here, `ldd` tells what it lacks, and it is run here: the last lines say
+debootstrap it is unpacked here, `ldd` says what it lacks, and it is run here: the last lines say
 which of the ways was taken.
 
 Three controls must fail: a package without its copyright file has an error by lintian, one that
@@ -20,8 +19,8 @@ import os
 import shutil
 from pathlib import Path
 
-from lib import arguments, measure, model, runs, told
-from lib.checks import Checks
+from checks.lib import arguments, measure, model, printed, runs
+from checks.lib.checks import Checks
 
 MOST = 1_200_000
 SUITE = "bookworm"
@@ -93,7 +92,8 @@ def contents(checks: Checks, package: Path, folder: Path) -> Path:
         program = root / "usr/bin" / name
         checks.same(f"{name} has the released bytes",
                     program.read_bytes() == arguments.chosen(name).read_bytes(), True)
-        checks.same(f"{name} --version", text(program, "--version"), f"{name} {version}\n")
+        checks.same(f"{name} --version", text(program, "--version"),
+                    printed.version(name, version))
         page = text("zcat", root / f"usr/share/man/man1/{name}.1.gz")
         checks.same(f"{name}.1", page == (arguments.TOP / f"docs/{name}.1").read_text(), True)
         rendered(checks, name, root)
@@ -105,7 +105,7 @@ def contents(checks: Checks, package: Path, folder: Path) -> Path:
 
 
 def tags(package: Path) -> list:
-    """What lintian tells, but notes; `E:` is an error."""
+    """What lintian prints, but notes; `E:` is an error."""
     lines = text("lintian", "--fail-on", "none", package).splitlines()
     return [line for line in lines if not line.startswith("N:")]
 
@@ -158,7 +158,7 @@ def run_there(checks: Checks, where: str, run, folder: Path) -> None:
     files = [(examples / name).read_bytes() for name in EXAMPLES]
     there = examples if where == "here" else f"/{SHARED}/examples"
     paths = [f"{there}/{name}" for name in EXAMPLES]
-    lines = told.lines(*((path, held.take(data)) for path, data in zip(paths, files)))
+    lines = printed.lines(*((path, held.take(data)) for path, data in zip(paths, files)))
     checks.compare("edfstore take", run("edfstore", "take", "night.db", *paths), lines, "", 0)
     checks.compare("edfstore list", run("edfstore", "list", "night.db"), held.lines(), "", 0)
     for place in range(1, len(held.held) + 1):
@@ -260,4 +260,5 @@ def main() -> None:
     checks.end()
 
 
-main()
+if __name__ == "__main__":
+    main()

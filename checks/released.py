@@ -1,11 +1,10 @@
-#!/usr/bin/env python3
 """Runs the first commands of a fresh clone, and the comparison of a program with the released one.
 
-    checks/released.py
+    python3 -m checks.released
 
 It clones the state that is committed here, which must be a released one, and needs git, tar and
 xz; no toolchain is on the path. In the clone `bin/edfstore` and `bin/edfruns` answer within
-SECONDS, and as the plain model does. Then a small script is the toolchain's command `rt`: it tells
+SECONDS, and as the plain model does. Then a small script is the toolchain's command `rt`: it prints
 the build that release/TOOLCHAIN names, and `rt ci` does nothing, or fails. With the released
 programs where a build leaves them `bin/compare` and `.ci/run` end with status 0. They end with
 another status where one byte of a program is changed, and `.ci/run` where `rt ci` fails; where the
@@ -18,8 +17,8 @@ import shutil
 import sys
 from pathlib import Path
 
-from lib import arguments, measure, model, runs, told
-from lib.checks import Checks
+from checks.lib import arguments, measure, model, printed, runs
+from checks.lib.checks import Checks
 
 SECONDS = 2.0
 TIMES = 3       # clones at most, since others may use the machine
@@ -34,7 +33,7 @@ NO_TOOLCHAIN = ("bin/build: this takes the toolchain of release/TOOLCHAIN, whose
                 "not on the path\n")
 STUB = """#!/bin/sh
 case $1 in
-  version) echo "{told}" ;;
+  version) echo "{build}" ;;
   ci) exit {status} ;;
   *) echo "the toolchain was asked for: $*" >&2; exit 9 ;;
 esac
@@ -60,11 +59,11 @@ class Clones:
         return clone
 
     def toolchain(self, build: str, status: int = 0) -> None:
-        """The command `rt` from here on, which tells this build."""
-        (self.stub / "rt").write_text(STUB.format(told=build, status=status))
+        """The command `rt` from here on, which prints this build."""
+        (self.stub / "rt").write_text(STUB.format(build=build, status=status))
         (self.stub / "rt").chmod(0o755)
 
-    def ran(self, clone: Path, *words: str) -> measure.Ran:
+    def run(self, clone: Path, *words: str) -> measure.Ran:
         path = f"{self.stub}:{self.tools}" if (self.stub / "rt").exists() else str(self.tools)
         return measure.ran(*words, folder=clone, added={"PATH": path})
 
@@ -73,26 +72,26 @@ def first_commands(checks: Checks, clones: Clones) -> None:
     """Each of these is the first command of its clone."""
     checks.begin("a fresh clone without the toolchain")
     checks.same("a toolchain on the path",
-                clones.ran(clones.folder, "bash", "-c", "command -v rt").out, b"")
+                clones.run(clones.folder, "bash", "-c", "command -v rt").out, b"")
     held = model.Store()
     files = [arguments.TOP.joinpath(name).read_bytes() for name in EXAMPLES]
-    lines = told.lines(*((name, held.take(data)) for name, data in zip(EXAMPLES, files)))
+    lines = printed.lines(*((name, held.take(data)) for name, data in zip(EXAMPLES, files)))
     listed = runs.lines(runs.read_runs(files[0]))
     taken = ("edfstore", "take", "night.db", *EXAMPLES), lines, ["night.db", "night.db-wal"]
     for words, out, made in (taken, (("edfruns", "list", EXAMPLES[0]), listed, [])):
         for _ in range(TIMES):
             clone = clones.fresh()
-            ran = clones.ran(clone, f"bin/{words[0]}", *words[1:])
+            ran = clones.run(clone, f"bin/{words[0]}", *words[1:])
             checks.compare(" ".join(words), ran, out, "", 0)
             if ran.seconds <= SECONDS:
                 break
         print(f"bin/{words[0]}: {ran.seconds:.2f} s to the end of the first command")
         checks.same(f"bin/{words[0]} within {SECONDS} s", ran.seconds <= SECONDS, True)
-        checks.compare("what git says of the clone", clones.ran(clone, "git", "status", "--short"),
+        checks.compare("what git says of the clone", clones.run(clone, "git", "status", "--short"),
                        "".join(f"?? {name}\n" for name in made), "", 0)
     change_a_source(clone)
     checks.compare("bin/edfstore where a source is another",
-                   clones.ran(clone, "bin/edfstore", "--version"), "", NO_TOOLCHAIN, 3)
+                   clones.run(clone, "bin/edfstore", "--version"), "", NO_TOOLCHAIN, 3)
 
 
 def change_a_source(clone: Path) -> None:
@@ -107,14 +106,14 @@ def built(clones: Clones) -> Path:
         line = f". bin/common.sh && released_program {name}"
         target = clone / "crates" / name / "out" / name
         target.parent.mkdir()
-        shutil.copy(clones.ran(clone, "bash", "-c", line).out.decode().strip(), target)
+        shutil.copy(clones.run(clone, "bash", "-c", line).out.decode().strip(), target)
     return clone
 
 
 def compared(checks: Checks, clones: Clones, what: str, clone: Path, out: str) -> None:
     """`bin/compare` writes this, and `.ci/run` writes it last; both end with status 0."""
-    checks.compare(f"bin/compare, {what}", clones.ran(clone, "bin/compare"), out, "", 0)
-    gate = clones.ran(clone, ".ci/run")
+    checks.compare(f"bin/compare, {what}", clones.run(clone, "bin/compare"), out, "", 0)
+    gate = clones.run(clone, ".ci/run")
     checks.same(f".ci/run, {what}: the status", gate.status, 0)
     checks.same(f".ci/run, {what}: the last lines", gate.out.decode()[-len(out):], out)
 
@@ -128,7 +127,7 @@ def written_again(checks: Checks, clones: Clones, clone: Path) -> None:
     """The release, written by the scripts of the clone from the same programs and documents."""
     committed, written = release_of(clone), []
     for words in (("bin/release",), ("bin/release",), ("bin/release", "--documents")):
-        checks.same(f"{' '.join(words)}: the status", clones.ran(clone, *words).status, 0)
+        checks.same(f"{' '.join(words)}: the status", clones.run(clone, *words).status, 0)
         written.append(release_of(clone))
     checks.same("the release has the same bytes", written[1:] == written[:1] * 2, True)
     checks.same("its files", [sorted(path.rpartition(".")[2] for path in written[0])],
@@ -140,12 +139,12 @@ def written_again(checks: Checks, clones: Clones, clone: Path) -> None:
     page = clone / "docs/edfstore.1"
     page.write_text(page.read_text() + ".\\\" another\n")
     checks.same("bin/release --documents: the status",
-                clones.ran(clone, "bin/release", "--documents").status, 0)
+                clones.run(clone, "bin/release", "--documents").status, 0)
     last = release_of(clone)
     checks.same("with another page both archives are others",
                 sorted(name for name in last if last[name] != written[0][name]),
                 sorted(name for name in last if name not in ("SOURCES", "TOOLCHAIN")))
-    checks.compare("with another page bin/compare", clones.ran(clone, "bin/compare"),
+    checks.compare("with another page bin/compare", clones.run(clone, "bin/compare"),
                    "".join(map(SAME.format, PROGRAMS)), "", 0)
 
 
@@ -156,16 +155,16 @@ def changed(checks: Checks, clones: Clones, clone: Path, name: str) -> None:
     at = len(data) // 2
     data[at] ^= 1
     program.write_bytes(data)
-    wanted = "".join((OTHER if it == name else SAME).format(it) for it in PROGRAMS)
-    ran = clones.ran(clone, "bin/compare")
+    expected = "".join((OTHER if it == name else SAME).format(it) for it in PROGRAMS)
+    ran = clones.run(clone, "bin/compare")
     lines = ran.out.decode().splitlines(keepends=True)
     ours = "".join(line for line in lines if line.startswith("release:"))
     others = [line for line in lines if not line.startswith("release:")]
     case = f"a byte of {name} is changed"
-    checks.same(f"bin/compare, {case}", (ours, ran.status), (wanted, 1))
+    checks.same(f"bin/compare, {case}", (ours, ran.status), (expected, 1))
     checks.same(f"which byte, {case}", [f" differ: byte {at + 1}," in line for line in others],
                 [True])
-    checks.same(f".ci/run, {case}", clones.ran(clone, ".ci/run").status, 1)
+    checks.same(f".ci/run, {case}", clones.run(clone, ".ci/run").status, 1)
     data[at] ^= 1
     program.write_bytes(data)
 
@@ -185,7 +184,7 @@ def comparison(checks: Checks, clones: Clones) -> None:
     compared(checks, clones, "another toolchain", clone,
              f"release: made by another toolchain: {toolchain}\n")
     clones.toolchain(toolchain, status=1)
-    checks.same(".ci/run, a gate that fails", clones.ran(clone, ".ci/run").status, 1)
+    checks.same(".ci/run, a gate that fails", clones.run(clone, ".ci/run").status, 1)
     clones.toolchain(toolchain)
     change_a_source(clone)
     compared(checks, clones, "other sources", clone, OTHER_SOURCES)
@@ -199,11 +198,12 @@ def main() -> None:
         folder.mkdir()
         cases.mkdir()
         clones, checks = Clones(folder), Checks(Path("edfstore"), cases)
-        if clones.ran(clones.fresh(), "bash", "-c", ". bin/common.sh && is_released").status:
+        if clones.run(clones.fresh(), "bash", "-c", ". bin/common.sh && is_released").status:
             sys.exit("the state that is committed here is no released one: bin/release makes it so")
         first_commands(checks, clones)
         comparison(checks, clones)
     checks.end()
 
 
-main()
+if __name__ == "__main__":
+    main()

@@ -1,8 +1,7 @@
-#!/usr/bin/env python3
 """Checks `edfruns list`, `write` and `split`: lines, files and statuses on small files and on a
 night with three gaps.
 
-    checks/split.py [--program PATH] [--edfruns PATH]
+    python3 -m checks.split [--program PATH] [--edfruns PATH]
 
 Without words it runs bin/edfstore and bin/edfruns. Small files are compared with lines written by
 hand; every file of a run with the plain model in checks/lib/runs.py, byte for byte. The files of a
@@ -14,9 +13,9 @@ import random
 from dataclasses import dataclass
 from pathlib import Path
 
-from lib import arguments, edf, gapped, measure, runs, told
-from lib.by_hand import COUNT, DURATION, field, unknown
-from lib.checks import Checks
+from checks.lib import arguments, edf, faults, gapped, measure, printed, runs
+from checks.lib.by_hand import COUNT, DURATION, field, unknown
+from checks.lib.checks import Checks
 
 FILES = edf.small_files()
 DAY = 86_400
@@ -26,24 +25,20 @@ BLOCK = 24      # samples of the annotations signal of a small file
 @dataclass
 class Programs:
     checks: Checks
-    edfstore: Path
+    edfstore: measure.Program       # in the case's folder
 
     def takes(self, name: str, order: list, converted: bytes) -> None:
         """A new store takes these files in this order, each whole, and its export is the conversion
         of the file that was split."""
         store = self.checks.folder / "order.db"
         measure.remove_store(store)
-        took = self.ran("take", store, *order)
-        self.checks.same(f"{name}: take", (told.are_accepted(took.out), took.status, took.err),
+        took = self.edfstore.ran("take", store, *order)
+        self.checks.same(f"{name}: take", (printed.count_accepted(took.out), took.status, took.err),
                          (len(order), 0, b""))
-        self.checks.same(f"{name}: export", self.ran("export", store, "1").out, converted)
-
-    def ran(self, *words) -> measure.Ran:
-        """What edfstore does in the case's folder."""
-        return measure.ran(self.edfstore, *words, folder=self.checks.folder)
+        self.checks.same(f"{name}: export", self.edfstore.ran("export", store, "1").out, converted)
 
     def converted(self, name: str) -> bytes:
-        return self.ran("convert", name).out
+        return self.edfstore.ran("convert", name).out
 
 
 def small(*onsets: str, starttime: str = "22.00.00", **fields) -> bytes:
@@ -64,11 +59,11 @@ def noted(*records, **fields) -> bytes:
 
 def line(number: int, records: int, first: str, seconds: str, gap: str = "") -> str:
     """What `list` says of a run that starts on this day and time of March 2002."""
-    return told.run(number, records, f"2002-03-{first}", seconds, gap)
+    return printed.run(number, records, f"2002-03-{first}", seconds, gap)
 
 
-OVER_2084 = (told.run(1, 1, "2084-12-31T23:59:50", "1", "14") +
-             told.run(2, 1, "2085-01-01T00:00:05", "1"))
+OVER_2084 = (printed.run(1, 1, "2084-12-31T23:59:50", "1", "14") +
+             printed.run(2, 1, "2085-01-01T00:00:05", "1"))
 
 # A name, a file, and what `list` says of it, by hand.
 CASES = (
@@ -111,7 +106,8 @@ CASES = (
     ("the window's last year",
      small("+0", "+5", startdate="31.12.yy", starttime="23.59.50",
            recording="Startdate 31-DEC-2184 N1 T3 REC5"),
-     told.run(1, 1, "2184-12-31T23:59:50", "1", "4") + told.run(2, 1, "2184-12-31T23:59:55", "1")),
+     printed.run(1, 1, "2184-12-31T23:59:50", "1", "4") +
+     printed.run(2, 1, "2184-12-31T23:59:55", "1")),
     ("a gap over the end of 2084",
      small("+0", "+15", startdate="31.12.84", starttime="23.59.50",
            recording="Startdate 31-DEC-2084 N1 T3 REC5"), OVER_2084),
@@ -119,17 +115,17 @@ CASES = (
 
 # A name, a file, and its refusal, by hand.
 REFUSED = (
-    ("nothing", b"", "E1 Cut"),
-    ("a cut header", FILES["R9"][:500], "E14 CutSignals"),
-    ("a cut first data record", FILES["R9"][:769], "E21 CutRecord record=1"),
-    ("a cut second data record", FILES["R9"][:-1], "E21 CutRecord record=2"),
-    ("a missing data record", FILES["K"][:-10], "E21 CutRecord record=3"),
-    ("an unknown count, cut", unknown(FILES["U"])[:-1], "E21 CutRecord record=2"),
-    ("a byte after the last", FILES["K"] + b"\0", "E29 Trailing"),
-    ("no count", field(FILES["K"], COUNT, "0"), "E10 Count"),
-    ("no duration", field(FILES["K"], DURATION, "0"), "E11 Duration"),
-    ("records that overlap", small("+0", "+0.5"), "E27 Order record=2"),
-    ("records in another order", small("+0", "+5", "+3"), "E27 Order record=3"),
+    ("nothing", b"", faults.cut()),
+    ("a cut header", FILES["R9"][:500], faults.cut_signals()),
+    ("a cut first data record", FILES["R9"][:769], faults.cut_record(1)),
+    ("a cut second data record", FILES["R9"][:-1], faults.cut_record(2)),
+    ("a missing data record", FILES["K"][:-10], faults.cut_record(3)),
+    ("an unknown count, cut", unknown(FILES["U"])[:-1], faults.cut_record(2)),
+    ("a byte after the last", FILES["K"] + b"\0", faults.trailing()),
+    ("no count", field(FILES["K"], COUNT, "0"), faults.count()),
+    ("no duration", field(FILES["K"], DURATION, "0"), faults.duration()),
+    ("records that overlap", small("+0", "+0.5"), faults.order(2)),
+    ("records in another order", small("+0", "+5", "+3"), faults.order(3)),
 )
 
 
@@ -143,7 +139,7 @@ def files_of_each(programs: Programs, name: str, data: bytes, listed: str) -> No
     checks.run("list", "-", given=data, out=listed)
     for run in made:
         checks.run("write", "a.edf", str(run.number), out=run.to_bytes())
-    checks.run("write", "a.edf", str(len(made) + 1), err=told.no_run(len(made) + 1), status=1)
+    checks.run("write", "a.edf", str(len(made) + 1), err=printed.no_run(len(made) + 1), status=1)
     names = runs.split_names("part", made)
     checks.run("split", "a.edf", "part", out=runs.split_lines("part", made))
     for part, run in zip(names, made):
@@ -163,18 +159,18 @@ def each_case(programs: Programs) -> None:
 
 
 def refused_files(programs: Programs) -> None:
-    """Each word tells the refusal as `convert` does, and nothing is written."""
+    """Each command prints the refusal as `convert` does, and nothing is written."""
     checks = programs.checks
     for name, data, fault in REFUSED:
         checks.begin(f"refused: {name}")
         checks.file("a.edf", data)
-        line = told.fault("a.edf", fault)
-        convert = programs.ran("convert", "a.edf")
+        line = printed.fault("a.edf", fault)
+        convert = programs.edfstore.ran("convert", "a.edf")
         checks.same("edfstore convert", (convert.err, convert.status), (line.encode(), 1))
         for words in (("list", "a.edf"), ("write", "a.edf", "1"), ("write", "a.edf", "9"),
                       ("split", "a.edf", "part"), ("picture", "a.edf")):
             checks.run(*words, err=line, status=1)
-        checks.run("list", "-", given=data, err=told.fault("-", fault), status=1)
+        checks.run("list", "-", given=data, err=printed.fault("-", fault), status=1)
         checks.same("the files", checks.names(), ["a.edf"])
 
 
@@ -189,7 +185,7 @@ def words_that_ask_for_nothing(programs: Programs) -> None:
                     for number in ("0", "-1", "+1", "one", "1.0", "4294967296", ""))):
         checks.run(*words, given=FILES["R9"], err=None, status=2)
     checks.run("write", "a.edf", "001", out=runs.read_runs(FILES["R9"])[0].to_bytes())
-    checks.run("write", "a.edf", "4294967295", err=told.no_run(4294967295), status=1)
+    checks.run("write", "a.edf", "4294967295", err=printed.no_run(4294967295), status=1)
     checks.same("the files", checks.names(), ["a.edf"])
 
 
@@ -199,10 +195,10 @@ def trouble(programs: Programs) -> None:
     checks.begin("trouble")
     for words in (("list", "none.edf"), ("write", "none.edf", "1"), ("split", "none.edf", "part"),
                   ("list", ".")):
-        checks.run(*words, err=told.line(words[1], told.UNREAD), status=3)
+        checks.run(*words, err=printed.line(words[1], printed.UNREAD), status=3)
     checks.file("a.edf", FILES["R9"])
     checks.shell("edfruns list a.edf > /dev/full", status=3)
-    unwritten = told.line("a.edf", told.UNWRITTEN)
+    unwritten = printed.line("a.edf", printed.UNWRITTEN)
     checks.shell("edfruns write a.edf 1 > /dev/full", err=unwritten, status=3)
     checks.shell("edfruns split a.edf none/part", err=unwritten, status=3)
     checks.shell("edfruns split a.edf part > /dev/full", status=3)
@@ -216,17 +212,17 @@ def files_that_are_there(programs: Programs) -> None:
         checks.begin(f"{taken} is there")
         checks.file("a.edf", FILES["R9"])
         checks.file(taken, b"mine")
-        checks.run("split", "a.edf", "part", err=told.is_there(taken), status=1)
+        checks.run("split", "a.edf", "part", err=printed.is_there(taken), status=1)
         checks.same(taken, checks.content(taken), b"mine")
         checks.same("the files", checks.names(), sorted(["a.edf", taken]))
         checks.run("split", "a.edf", "other", out=runs.split_lines("other", made))
-        checks.run("split", "a.edf", "other", err=told.is_there("other-1.edf"), status=1)
+        checks.run("split", "a.edf", "other", err=printed.is_there("other-1.edf"), status=1)
         for name, run in zip(runs.split_names("other", made), made):
             checks.same(name, checks.content(name), run.to_bytes())
     checks.begin("a link that leads nowhere is there")
     checks.file("a.edf", FILES["R9"])
     (checks.folder / "part-2.edf").symlink_to("elsewhere")
-    checks.run("split", "a.edf", "part", err=told.is_there("part-2.edf"), status=1)
+    checks.run("split", "a.edf", "part", err=printed.is_there("part-2.edf"), status=1)
     checks.same("the files", checks.names(), ["a.edf", "part-2.edf"])
 
 
@@ -244,7 +240,7 @@ def a_file_that_changes(programs: Programs) -> None:
         feed = "(cat a.edf > f; sleep 0.5; cat b.edf > f) &"
         for words in ("write f 2 > out", "split f part"):
             checks.shell(f"{feed} edfruns {words}; s=$?; kill %1 2> /dev/null; exit $s",
-                         err=told.line("f", told.UNREAD), status=3)
+                         err=printed.line("f", printed.UNREAD), status=3)
         checks.same("the files", checks.names(), ["a.edf", "b.edf", "f", "out"])
 
 
@@ -283,7 +279,7 @@ def a_run_that_no_header_can_date(programs: Programs) -> None:
     checks.run("list", "a.edf", out=OVER_2084)
     checks.run("write", "a.edf", "1", out=runs.read_runs(data)[0].to_bytes())
     for words in (("write", "a.edf", "2"), ("split", "a.edf", "part")):
-        checks.run(*words, err=told.undated(2), status=1)
+        checks.run(*words, err=printed.undated(2), status=1)
     checks.same("the files", checks.names(), ["a.edf"])
 
 
@@ -329,7 +325,7 @@ def main() -> None:
     given = arguments.Parser(__doc__, arguments.BOTH).read()
     with measure.scratch() as name:
         checks = Checks(given.edfruns, Path(name), "edfruns")
-        programs = Programs(checks, given.program)
+        programs = Programs(checks, measure.Program(given.program, checks.folder))
         for case in (each_case, refused_files, words_that_ask_for_nothing, trouble,
                      files_that_are_there, a_file_that_changes, a_run_that_no_header_can_date,
                      digits_of_the_names, a_thousand_runs, a_night_with_three_gaps):
@@ -337,4 +333,5 @@ def main() -> None:
     checks.end()
 
 
-main()
+if __name__ == "__main__":
+    main()

@@ -1,12 +1,11 @@
-#!/usr/bin/env python3
 """What the program can't notice, or answers by a refusal that stays: the things that README and
 docs/RELIABILITY.md warn of, as they are.
 
-    checks/warned.py [--program PATH] [COUNT]   100 bits of each file if left out
+    python3 -m checks.warned [--program PATH] [COUNT]   100 bits of each file if left out
 
 A file of count -1 that is still being written; a recorder's clock that is set while it records, by
 two seconds or an hour; a bit that flips in a store, its log or an export. Answers to the
-first two are worked out by hand. Of the bits it tells how many were noticed, and by what; that a
+first two are worked out by hand. Of the bits it prints how many were noticed, and by what; that a
 flipped sample is not noticed, and what a user can do about it, is compared.
 """
 import random
@@ -17,14 +16,14 @@ from collections import Counter
 from datetime import datetime, timedelta
 from pathlib import Path
 
-from lib import arguments, edf, measure, model, runs, told
-from lib.checks import Checks
-from lib.edf import Header, Signal, keeping
-from lib.told import accepted, refused
+from checks.lib import arguments, edf, faults, measure, model, printed, runs
+from checks.lib.checks import Checks
+from checks.lib.edf import Header, Signal, keeping
+from checks.lib.printed import accepted, refused
 
 BEGUN = datetime(2002, 10, 27, 1, 0)
 SIGNALS = (Signal(samples="20"), edf.annotations_signal(20))
-FIRST_PAGE = 100        # a byte of a log's first page, behind its header and that page's own
+FIRST_PAGE = 100        # a byte of a log's first page, after its header and that page's own
 WIDE = (Signal(samples="1000"), Signal("ECG", samples="1000"), edf.annotations_signal(30))
 
 
@@ -50,7 +49,7 @@ def still_written(checks: Checks) -> None:
     checks.file("now.edf", whole[:front + 4 * record])
     checks.take("a.db", ("now.edf", accepted(4)))
     checks.file("now.edf", whole[:front + 6 * record + 1])
-    checks.take("a.db", ("now.edf", refused("E21 CutRecord record=7")), status=1)
+    checks.take("a.db", ("now.edf", refused(faults.cut_record(7))), status=1)
     checks.file("now.edf", whole)
     checks.take("a.db", ("now.edf", accepted(6, 4)))
 
@@ -66,61 +65,58 @@ def files(checks: Checks, count: int, duration: int, back: timedelta, before: in
     return names
 
 
-def answers(names: list, each: int, faults: dict) -> str:
-    return told.lines(*((name, refused(faults[name]) if name in faults else accepted(each))
-                        for name in names))
+def answers(names: list, each: int, refusals: dict) -> str:
+    return printed.lines(*((name, refused(refusals[name]) if name in refusals else accepted(each))
+                           for name in names))
 
 
 def stored(checks: Checks, *lines: str) -> None:
     """Compares the runs of the export, by the model, with these lines of `edfruns list`."""
-    export = ran(checks, "export", "a.db", "1").out
-    wanted = "".join(f"{one}\n" for one in lines)
-    checks.same("the runs", runs.lines(runs.read_runs(export)), wanted)
+    export = checks.program.ran("export", "a.db", "1").out
+    checks.same("the runs", runs.lines(runs.read_runs(export)), "".join(lines))
+
+
+def run(number: int, records: int, time: str, seconds: str, gap: str = "") -> str:
+    """The line of a run that starts at this time of the day of all files."""
+    return printed.run(number, records, f"2002-10-27T{time}", seconds, gap)
 
 
 def two_seconds_back(checks: Checks) -> None:
     checks.begin("two seconds back after the third of six files")
     names = files(checks, 6, 1, timedelta(seconds=2), 3)
-    faults = {"4.edf": "E31 Differs start=2002-10-27T01:29:58"}
-    checks.run("take", "a.db", *names, out=answers(names, 600, faults), status=1)
-    checks.run("take", "a.db", "4.edf", out=answers(["4.edf"], 600, faults), status=1)
-    stored(checks, "1 records=1800 first=2002-10-27T01:00:00 seconds=1800 gap=598",
-           "2 records=1200 first=2002-10-27T01:39:58 seconds=1200")
+    refusals = {"4.edf": faults.differs("2002-10-27T01:29:58")}
+    checks.run("take", "a.db", *names, out=answers(names, 600, refusals), status=1)
+    checks.run("take", "a.db", "4.edf", out=answers(["4.edf"], 600, refusals), status=1)
+    stored(checks, run(1, 1_800, "01:00:00", "1800", "598"), run(2, 1_200, "01:39:58", "1200"))
     checks.take("other.db", ("4.edf", accepted(600)))
     checks.file("card.edf", edf.fragment(header(BEGUN, 3600), records(0, 3600)))
-    card = {"card.edf": "E31 Differs start=2002-10-27T01:39:58"}
+    card = {"card.edf": faults.differs("2002-10-27T01:39:58")}
     checks.run("take", "a.db", "card.edf", out=answers(["card.edf"], 3600, card), status=1)
-    late = {"3.edf": "E31 Differs start=2002-10-27T01:29:58"}
+    late = {"3.edf": faults.differs("2002-10-27T01:29:58")}
     checks.run("take", "late.db", "4.edf", "3.edf", out=answers(["4.edf", "3.edf"], 600, late),
                status=1)
     checks.begin("the same of data records of 30 s")
     names = files(checks, 6, 30, timedelta(seconds=2), 3)
-    faults = {"4.edf": "E30 Overlap start=2002-10-27T01:29:58 stored=2002-10-27T01:29:30"}
-    checks.run("take", "a.db", *names, out=answers(names, 20, faults), status=1)
-    stored(checks, "1 records=60 first=2002-10-27T01:00:00 seconds=1800 gap=598",
-           "2 records=40 first=2002-10-27T01:39:58 seconds=1200")
+    refusals = {"4.edf": faults.overlap("2002-10-27T01:29:58", "2002-10-27T01:29:30")}
+    checks.run("take", "a.db", *names, out=answers(names, 20, refusals), status=1)
+    stored(checks, run(1, 60, "01:00:00", "1800", "598"), run(2, 40, "01:39:58", "1200"))
 
 
 def other_changes(checks: Checks) -> None:
     checks.begin("an hour back after the twelfth of 24 files")
     names = files(checks, 24, 1, timedelta(hours=1), 12)
-    faults = {f"{13 + n}.edf": f"E31 Differs start=2002-10-27T02:{n}0:00" for n in range(6)}
-    checks.run("take", "a.db", *names, out=answers(names, 600, faults), status=1)
-    stored(checks, "1 records=10800 first=2002-10-27T01:00:00 seconds=10800")
+    refusals = {f"{13 + n}.edf": faults.differs(f"2002-10-27T02:{n}0:00") for n in range(6)}
+    checks.run("take", "a.db", *names, out=answers(names, 600, refusals), status=1)
+    stored(checks, run(1, 10_800, "01:00:00", "10800"))
     checks.begin("two seconds forward after the first of two files")
     names = files(checks, 2, 1, timedelta(seconds=-2), 1)
     checks.run("take", "a.db", *names, out=answers(names, 600, {}))
-    stored(checks, "1 records=600 first=2002-10-27T01:00:00 seconds=600 gap=2",
-           "2 records=600 first=2002-10-27T01:10:02 seconds=600")
+    stored(checks, run(1, 600, "01:00:00", "600", "2"), run(2, 600, "01:10:02", "600"))
     checks.begin("two seconds back inside a file, its onsets by the clock")
     rows = [(samples, keeping(f"+{n if n < 5 else n - 2}"))
             for n, (samples, _) in enumerate(records(0, 10))]
     checks.file("night.edf", edf.fragment(header(BEGUN, 10), rows))
-    checks.take("a.db", ("night.edf", refused("E27 Order record=6")), status=1)
-
-
-def ran(checks: Checks, *words: str) -> measure.Ran:
-    return measure.ran(checks.program, *words, folder=checks.folder)
+    checks.take("a.db", ("night.edf", refused(faults.order(6))), status=1)
 
 
 def flipped(data: bytes, at: int, bit: int) -> bytes:
@@ -134,7 +130,7 @@ def wide_night(checks: Checks) -> tuple:
             for n in range(60)]
     checks.file("night.edf", edf.fragment(head, rows))
     checks.take("night.db", ("night.edf", accepted(60)))
-    export = ran(checks, "export", "night.db", "1").out
+    export = checks.program.ran("export", "night.db", "1").out
     checks.file("export.edf", export)
     return checks.content("night.db"), export
 
@@ -149,28 +145,30 @@ def one_sample(checks: Checks, store: bytes, export: bytes) -> None:
     samples = random.Random(0).randbytes(4000)
     put_store(checks, flipped(store, store.index(samples[:64]) + 10, 2))
     changed = flipped(export, export.index(samples[:64]) + 10, 2)
-    checks.run("list", "other.db", out=ran(checks, "list", "night.db").out)
+    checks.run("list", "other.db", out=checks.program.ran("list", "night.db").out)
     checks.run("export", "other.db", "1", out=changed)
     checks.file("changed.edf", changed)
     checks.run("convert", "changed.edf", out=changed)
-    start = "E31 Differs start=2002-10-27T01:00:00"
+    start = faults.differs("2002-10-27T01:00:00")
     checks.take("night.db", ("changed.edf", refused(start)), status=1)
     checks.take("other.db", ("night.edf", refused(start)), status=1)
 
 
 def outcome_of_store(checks: Checks, export: bytes) -> str:
-    other = ran(checks, "export", "other.db", "1")
+    other = checks.program.ran("export", "other.db", "1")
     if other.status:
-        return "refused " + other.err.decode().split()[2]
+        return refused(printed.number(other.err.decode()))
     return "an export as before" if other.out == export else "another export, without a word"
 
 
 def outcome_of_export(checks: Checks, store: bytes) -> tuple:
-    converted = ran(checks, "convert", "other.edf")
+    converted = checks.program.ran("convert", "other.edf")
     put_store(checks, store)
-    line = ran(checks, "take", "other.db", "other.edf").out.decode().split()
+    line = checks.program.ran("take", "other.db", "other.edf").out.decode()
+    answer = line.strip().partition(" ")[2]
+    number = printed.number(answer)
     return ("convert: " + ("taken, without a word" if converted.status == 0 else "refused"),
-            "take into its store: " + " ".join(line[1:] if line[1] == "accepted" else line[1:3]))
+            "take into its store: " + (refused(number) if number else answer))
 
 
 def bits(checks: Checks, count: int) -> None:
@@ -184,11 +182,11 @@ def bits(checks: Checks, count: int) -> None:
         at, bit = chosen.randrange(len(export)), chosen.randrange(8)
         checks.file("other.edf", flipped(export, at, bit))
         found["export"].update(outcome_of_export(checks, store))
-    tell(f"{count} bits of a store of {len(store)} bytes", found["store"])
-    tell(f"{count} bits of its export of {len(export)} bytes", found["export"])
+    report(f"{count} bits of a store of {len(store)} bytes", found["store"])
+    report(f"{count} bits of its export of {len(export)} bytes", found["export"])
 
 
-def tell(what: str, found: Counter) -> None:
+def report(what: str, found: Counter) -> None:
     print(f"{what}, one at a time: "
           + "; ".join(f"{times} {answer}" for answer, times in found.most_common() if times))
 
@@ -202,8 +200,8 @@ def killed(checks: Checks) -> None:
         head = header(BEGUN + timedelta(minutes=n), 10, signals=WIDE)
         checks.file(name, edf.fragment(head, rows))
     log = checks.folder / "night.db-wal"
-    with subprocess.Popen([checks.program, "take", "night.db", *names, "-"], cwd=checks.folder,
-                          stdin=subprocess.PIPE, stdout=subprocess.DEVNULL) as taking:
+    with checks.program.started("take", "night.db", *names, "-", stdin=subprocess.PIPE,
+                                stdout=subprocess.DEVNULL) as taking:
         before = 0
         while not before or log.stat().st_size != before:
             before = log.stat().st_size if log.exists() else 0
@@ -218,7 +216,7 @@ def put_log(checks: Checks, log: bytes) -> None:
 
 def outcome_of_log(checks: Checks, log: bytes, export: bytes) -> str:
     put_log(checks, log)
-    other = ran(checks, "export", "other.db", "1").out
+    other = checks.program.ran("export", "other.db", "1").out
     if other == export:
         return "an export as before"
     fewer = [] if not other else model.read(other)[1]
@@ -232,7 +230,7 @@ def bits_of_log(checks: Checks, count: int) -> None:
     log, chosen, found = checks.content("night.db-wal"), random.Random(3), Counter()
     checks.file("copy.db", checks.content("night.db"))
     checks.file("copy.db-wal", log)
-    export = ran(checks, "export", "copy.db", "1").out
+    export = checks.program.ran("export", "copy.db", "1").out
     checks.same("the data records held", len(model.read(export)[1]), 40)
     for _ in range(count):
         changed = flipped(log, chosen.randrange(len(log)), chosen.randrange(8))
@@ -241,7 +239,7 @@ def bits_of_log(checks: Checks, count: int) -> None:
     put_log(checks, flipped(log, FIRST_PAGE, 0))
     checks.take("other.db", *((f"{n}.edf", accepted(10)) for n in range(4)))
     checks.run("export", "other.db", "1", out=export)
-    tell(f"{count} bits of a log of {len(log)} bytes", found)
+    report(f"{count} bits of a log of {len(log)} bytes", found)
 
 
 def main() -> None:
@@ -256,4 +254,5 @@ def main() -> None:
     checks.end()
 
 
-main()
+if __name__ == "__main__":
+    main()

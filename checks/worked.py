@@ -1,18 +1,17 @@
-#!/usr/bin/env python3
 """Answers worked out by hand for small files, compared with the plain model, and with a program
 where one is named.
 
-    checks/worked.py [--program PATH]
+    python3 -m checks.worked [--program PATH]
 
 Each file is built field by field and byte by byte; what stands beside it was worked out on paper
-from the rules (answers/). Files whose number of data records is not told (a count of -1), files
+from the rules (answers/). Files whose number of data records is unknown (a count of -1), files
 with several annotations signals and startdates have the most answers. A program is not asked where
 the answer needs a store of a few records only, or a part of the model.
 """
-from answers import counts, dates, records, signals
-from lib import arguments
-from lib.by_hand import Worked
-from lib.checks import end
+from checks.answers import counts, dates, records, signals
+from checks.lib import arguments
+from checks.lib.by_hand import Worked
+from checks.lib.checks import end
 
 
 def main() -> None:
@@ -24,4 +23,5 @@ def main() -> None:
     end(worked.done, worked.failed)
 
 
-main()
+if __name__ == "__main__":
+    main()

@@ -1,8 +1,7 @@
-#!/usr/bin/env python3
 """Converts a night of about 195 MB by `edfstore`, by `cat` and by the plain C program, and prints
 ratios.
 
-    bench/convert/run.py [COUNT]         best of COUNT runs of each, 7 if left out
+    python3 -m bench.convert.run [COUNT]         best of COUNT runs of each, 7 if left out
 
 Each is run twice: from a file to a file, and from a pipe to a pipe. From file to file `cat` lets
 the kernel copy, and no byte passes through it; from pipe to pipe all three read and write. The
@@ -14,7 +13,7 @@ import os
 import sys
 from pathlib import Path
 
-from lib import arguments, measure
+from checks.lib import arguments, measure
 
 HERE = Path(__file__).resolve().parent
 
@@ -55,4 +54,5 @@ def main() -> None:
         print(f"  {name:10} {memory[name] / size:5.2f}")
 
 
-main()
+if __name__ == "__main__":
+    main()

@@ -1,8 +1,7 @@
-#!/usr/bin/env python3
 """Exports a night, and ten, by `edfstore export` and by plain C over SQLite from the same store
 file, and prints ratios.
 
-    bench/export/run.py [--program PATH] [--short] [COUNT]
+    python3 -m bench.export.run [--program PATH] [--short] [COUNT]
 
 Best of COUNT runs of each, 5 if left out; --short: no ten nights.
 
@@ -16,7 +15,7 @@ import filecmp
 import sys
 from pathlib import Path
 
-from lib import arguments, measure, night
+from checks.lib import arguments, measure, night
 
 
 def best_of(runs: int, *words, out: Path = None) -> measure.Ran:
@@ -108,4 +107,5 @@ def main() -> None:
         print(f"ten nights against ten times one night: {alone[1] / (10 * alone[0]):.2f}")
 
 
-main()
+if __name__ == "__main__":
+    main()

@@ -1,7 +1,6 @@
-#!/usr/bin/env python3
 """Takes a clinic night by `edfstore take` and by plain C over SQLite, and prints ratios.
 
-    bench/intake/run.py [--program PATH] [--short] [COUNT]
+    python3 -m bench.intake.run [--program PATH] [--short] [COUNT]
 
 Best of COUNT runs of each, 5 if left out; --short: no ten nights.
 
@@ -21,7 +20,7 @@ import sys
 import time
 from pathlib import Path
 
-from lib import arguments, measure, night
+from checks.lib import arguments, measure, night
 
 # the resent fragments come so often in the timed run, since once is too short to time
 RESENDS = 5
@@ -152,4 +151,5 @@ def main() -> None:
             ten_nights(commands, folder)
 
 
-main()
+if __name__ == "__main__":
+    main()

@@ -1,15 +1,14 @@
-#!/usr/bin/env python3
 """A night that comes file by file: a `take` for each of its 96 files, against one `take` of all.
 
-    bench/program/file_by_file.py [--program PATH]
+    python3 -m bench.program.file_by_file [--program PATH]
 
 A night of 195 MB in 96 files of 300 data records of 1 s, in the order of time. They are taken into
 a new store one a call, then four, twelve and all 96 a call, and copied by `cat` with a sync a file.
-Told are seconds of processor, the system's among them, and by the clock; the store's size at each
-opening, summed; what the calls asked the system to read, the night's own files among it; the most
-memory of a call; the store in the end. Each call opens the store, which reads all of it, so each
-quarter of the calls is told by itself. Before and after stands what twenty million additions take
-in Python: it tells a fast hour of the host from a slow one. It needs /usr/bin/time and 650 MB in
+The tables have seconds of processor, the system's among them, and by the clock; the store's size at
+each opening, summed; what the calls asked the system to read, the night's own files among it; the
+most memory of a call; the store in the end. Each call opens the store, which reads all of it, so
+each quarter of the calls has a line. Before and after stands what twenty million additions take in
+Python: it tells a fast hour of the host from a slow one. It needs /usr/bin/time and 650 MB in
 TMPDIR, and takes a few minutes.
 """
 import filecmp
@@ -19,7 +18,7 @@ import time
 from dataclasses import dataclass
 from pathlib import Path
 
-from lib import arguments, measure, night, told
+from checks.lib import arguments, measure, night, printed
 
 FILES_A_CALL = (1, 4, 12, 96)
 QUARTERS = 4
@@ -50,7 +49,7 @@ def taken(program, store: Path, parts: list) -> Cost:
     """One call, which must accept all that it is given."""
     opened, begun = size(store), so_far()
     done = measure.timed(program, "take", store, *parts)
-    if done.out.decode() != told.lines(*((part, told.accepted(300)) for part in parts)):
+    if done.out.decode() != printed.lines(*((part, printed.accepted(300)) for part in parts)):
         sys.exit("a file was not accepted with 300 new data records")
     return so_far().since(begun, opened, done.peak)
 
@@ -130,4 +129,5 @@ def main() -> None:
         report(parts, costs, sizes, by_cat)
 
 
-main()
+if __name__ == "__main__":
+    main()

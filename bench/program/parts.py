@@ -1,8 +1,9 @@
-#!/usr/bin/env python3
-"""The program against the sum of its parts, as far as runs of the program tell them: `take` of the
+"""The program against the sum of its parts, as far as runs of the program show them: `take` of the
 card into a store that has the night.
 
-    bench/program/parts.py [--program PATH] [COUNT]     best of COUNT runs of each, 5 if left out
+    python3 -m bench.program.parts [--program PATH] [COUNT]
+
+Best of COUNT runs of each, 5 if left out.
 
 Its parts are the opening of that store, which is `list`, and the submission of the card alone,
 which is a `take` of the night and the card less a `take` of the night, each into a new store, so
@@ -12,7 +13,7 @@ TMPDIR.
 """
 from pathlib import Path
 
-from lib import arguments, measure, night
+from checks.lib import arguments, measure, night
 
 MOST = 1.2
 
@@ -53,7 +54,8 @@ def main() -> None:
               for whole, opening, card_alone in zip(best["take card"], best["list"], alone)]
     print(f"the card alone: {alone[0]:.3f} s, {alone[1]:.3f} s of processor")
     print(f"`take` of the card against opening and card: {ratios[0]:.2f}, by processor "
-          f"{ratios[1]:.2f} (wanted: at most {MOST})")
+          f"{ratios[1]:.2f} (goal: at most {MOST})")
 
 
-main()
+if __name__ == "__main__":
+    main()

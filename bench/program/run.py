@@ -1,8 +1,9 @@
-#!/usr/bin/env python3
 """The program as a person runs it: each word by the clock, against `cat` and plain C over SQLite,
 with its peak memory, and by the instructions that it takes.
 
-    bench/program/run.py [--program PATH] [COUNT]      best of COUNT runs of each, 5 if left out
+    python3 -m bench.program.run [--program PATH] [COUNT]
+
+Best of COUNT runs of each, 5 if left out.
 
 A night of 195 MB: `take` of its 96 fragments into a new store, `take` of the card into that store,
 `list`, `export`, `convert` of the card. Each run is a process of its own, so every word but the
@@ -17,7 +18,7 @@ import os
 import sys
 from pathlib import Path
 
-from lib import arguments, measure, night, told
+from checks.lib import arguments, measure, night, printed
 
 MOST = 64_000_000       # bytes of memory for a thousand files
 
@@ -93,7 +94,7 @@ def thousand(program, folder: Path) -> None:
         measure.settle()
         measure.remove_store(folder / "many.db")
         done = measure.timed(program, "take", folder / "many.db", *parts)
-        accepted = told.are_accepted(done.out)
+        accepted = printed.count_accepted(done.out)
         lines.append((f"{count} files", f"{done.seconds:.3f} s", measure.mb(done.peak), accepted))
         for path in parts:
             path.unlink()
@@ -128,4 +129,5 @@ def main() -> None:
         counted(given.program, plain, folder)
 
 
-main()
+if __name__ == "__main__":
+    main()

@@ -1,8 +1,7 @@
-#!/usr/bin/env python3
 """The words of `edfruns` by the clock against `cat`, with their peak memory, and by the
 instructions that they take.
 
-    bench/runs/run.py [--edfruns PATH] [--short] [COUNT]
+    python3 -m bench.runs.run [--edfruns PATH] [--short] [COUNT]
 
 Best of COUNT runs of each, 3 if left out; --short: a night of 12.8 MB.
 
@@ -20,9 +19,9 @@ import sys
 from dataclasses import dataclass
 from pathlib import Path
 
-from lib import arguments, gapped, measure, night, runs
+from checks.lib import arguments, gapped, measure, night, runs
 
-LIST_MOST, WRITE_MOST, PEAK_MOST = 1.5, 3.0, 16_000_000     # what is wanted
+LIST_MOST, WRITE_MOST, PEAK_MOST = 1.5, 3.0, 16_000_000     # the goals
 
 
 @dataclass
@@ -30,7 +29,7 @@ class Line:
     """The best of a word and of the `cat` beside it."""
     word: str
     seconds: float = float("inf")
-    processor: float = float("inf")     # not told of a run between pipes
+    processor: float = float("inf")     # not known of a run between pipes
     copied: float = float("inf")
     peak: int = 0
 
@@ -85,11 +84,11 @@ def compared(files: dict, folder: Path) -> None:
     """What the last round wrote, against the model."""
     for name, path in files.items():
         made = runs.read_runs(path.read_bytes())
-        wanted = [run.to_bytes() for run in made]
+        expected = [run.to_bytes() for run in made]
         same = ((folder / f"{name}.txt").read_text() == runs.lines(made),
-                (folder / f"{name}-one.edf").read_bytes() == wanted[0],
+                (folder / f"{name}-one.edf").read_bytes() == expected[0],
                 [(folder / part).read_bytes() for part in runs.split_names(f"{name}-run", made)] ==
-                wanted)
+                expected)
         if not all(same):
             sys.exit(f"{name}: lines, the first run and the files of the split are as the model's: "
                      f"{same}")
@@ -125,9 +124,9 @@ def verdict(best: dict) -> None:
     ratios = {word: line.seconds / line.copied for word, line in best.items()}
     for kind, most in (("list", LIST_MOST), ("write", WRITE_MOST)):
         worst = max(ratio for word, ratio in ratios.items() if word.startswith(kind))
-        print(f"`{kind}` takes at most {worst:.2f} times `cat` (wanted: at most {most})")
+        print(f"`{kind}` takes at most {worst:.2f} times `cat` (goal: at most {most})")
     peak = max(line.peak for line in best.values())
-    print(f"peak memory at most {measure.mb(peak)} (wanted: at most {measure.mb(PEAK_MOST)})\n")
+    print(f"peak memory at most {measure.mb(peak)} (goal: at most {measure.mb(PEAK_MOST)})\n")
 
 
 def main() -> None:
@@ -149,4 +148,5 @@ def main() -> None:
         counted(given.edfruns, folder)
 
 
-main()
+if __name__ == "__main__":
+    main()

@@ -68,7 +68,7 @@ static int64_t decimal(const char **p) {
   return value;
 }
 
-/* the annotations of a block, whose texts stay where they are; a 0 stands behind its end */
+/* the annotations of a block, whose texts stay where they are; a 0 stands after its end */
 static void read_block(const char *p, const char *end, int64_t base, Notes *notes) {
   int first = 1;
   notes->count = 0;
@@ -258,7 +258,7 @@ static void take_file(FILE *from, const char *name) {
     else add(id, &l, notes.start, samples, block, len), new++;
   }
   run("COMMIT");
-  if (name) printf("%s accepted new=%d known=%d\n", name, new, known);
+  if (name) printf("%s: %d new, %d known\n", name, new, known);
   free(samples), free(bytes), free(block);
 }
 

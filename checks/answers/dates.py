@@ -1,7 +1,9 @@
 """Startdates, with two digits of the year up to 2084 and the letters yy after that."""
-from lib.by_hand import (COUNT, EMPTY, FIRST, KNOWN, LAST_SECOND, PATIENT, Q, RECORDING,
-                         RESERVED, SAMPLES, STARTDATE, STARTTIME, Worked, canonical, field, several)
-from lib.edf import keeping, tal
+from checks.lib import faults
+from checks.lib.by_hand import (COUNT, EMPTY, FIRST, KNOWN, LAST_SECOND, PATIENT, Q, RECORDING,
+                                RESERVED, SAMPLES, STARTDATE, STARTTIME, Worked, canonical, field,
+                                several)
+from checks.lib.edf import keeping, tal
 
 
 def dated(startdate: str, subfield: str, starttime: str = "23.59.50") -> bytes:
@@ -23,7 +25,7 @@ def startdates_that_name_a_day(worked: Worked) -> None:
         data = dated(startdate, subfield)
         worked.store(f"{startdate} beside {subfield}", (data, FIRST), (data, KNOWN), exports=[data])
         worked.store(f"{startdate} beside {subfield}, no time",
-                     (dated(startdate, subfield, "24.00.00"), "E7 Starttime"))
+                     (dated(startdate, subfield, "24.00.00"), faults.starttime()))
 
 
 def startdates_that_name_none(worked: Worked) -> None:
@@ -44,7 +46,7 @@ def startdates_that_name_none(worked: Worked) -> None:
                                 ("30.02.yy", "02-MAR-2002"), ("31.02.yy", "02-MAR-2185")):
         for starttime in ("23.59.50", "24.00.00"):
             worked.store(f"{startdate} beside {subfield} at {starttime}",
-                         (dated(startdate, subfield, starttime), "E6 Startdate"))
+                         (dated(startdate, subfield, starttime), faults.startdate()))
 
 
 def startdates_that_name_another_day(worked: Worked) -> None:
@@ -62,14 +64,14 @@ def startdates_that_name_another_day(worked: Worked) -> None:
                                 ("02.03.02", "03-MAR-2002"), ("31.12.84", "01-JAN-2085"),
                                 ("01.01.yy", "31-DEC-2084")):
         other = dated(startdate, subfield)
-        worked.each(f"{startdate} beside {subfield}", (other, "E8 DatesDiffer"),
-                    (dated(startdate, subfield, "24.00.00"), "E7 Starttime"),
-                    (field(other, RESERVED, ""), "E8 DatesDiffer"),
-                    (field(other, COUNT, "0"), "E8 DatesDiffer"),
-                    (field(other, PATIENT, "P7"), "E4 Patient"))
+        worked.each(f"{startdate} beside {subfield}", (other, faults.dates_differ()),
+                    (dated(startdate, subfield, "24.00.00"), faults.starttime()),
+                    (field(other, RESERVED, ""), faults.dates_differ()),
+                    (field(other, COUNT, "0"), faults.dates_differ()),
+                    (field(other, PATIENT, "P7"), faults.patient()))
     for subfield in ("29-FEB-2100", "02-MAR-yyyy", "02-MAR-102", "2-MAR-2102", "02-Mar-2102", "yy"):
         worked.store(f"the Startdate subfield {subfield}",
-                     (dated("02.03.yy", subfield, "24.00.00"), "E5 Recording"))
+                     (dated("02.03.yy", subfield, "24.00.00"), faults.recording()))
 
 
 def recordings_of_many_years(worked: Worked) -> None:
@@ -82,17 +84,17 @@ def recordings_of_many_years(worked: Worked) -> None:
     both = canonical((SAMPLES, EMPTY), (SAMPLES, keeping("+15")), startdate="31.12.84",
                      recording="Startdate 31-DEC-2084 N1 T3 REC5")
     worked.store("the beginning of 2085", (begin, FIRST), exports=[begin])
-    worked.store("then the end of 2084", (begin, FIRST), (end, FIRST), (both, "new=0 known=2"),
+    worked.store("then the end of 2084", (begin, FIRST), (end, FIRST), (both, (0, 2)),
                  exports=[both])
     worked.store("the end of 2084, then the beginning of 2085", (end, FIRST), (begin, FIRST),
                  exports=[both])
     midnight = {"startdate": "31.12.84", "starttime": "23.59.59",
                 "recording": "Startdate 31-DEC-2084 N1 T3 REC5"}
     over = several([keeping("+0.5")], [keeping("+1.5")], order="En", **midnight)
-    worked.store("over the end of 2084", (over, "new=2 known=0"), exports=[over])
+    worked.store("over the end of 2084", (over, (2, 0)), exports=[over])
     part = several([keeping("+0.5")], order="En", startdate="01.01.yy", starttime="00.00.00",
                    recording="Startdate 01-JAN-2085 N1 T3 REC5")
-    worked.store("the part of it that is of 2085", (part, FIRST), (over, "new=1 known=1"),
+    worked.store("the part of it that is of 2085", (part, FIRST), (over, (1, 1)),
                  (part, KNOWN), exports=[over])
     early = several([EMPTY, tal("-15.5", "Snore")], order="nEn", startdate="01.01.yy",
                     starttime="00.00.05", recording="Startdate 01-JAN-2085 N1 T3 REC5")
@@ -110,18 +112,18 @@ def the_end_of_the_window(worked: Worked) -> None:
     worked.store("the last nanosecond", (edge, FIRST), exports=[edge])
     worked.each("a nanosecond later",
                 (several([EMPTY], [keeping("+1")], order="En", **LAST_SECOND),
-                 "E26 Window record=2"),
+                 faults.window(2)),
                 (several([EMPTY + tal("+1", "Turn")], order="En", **LAST_SECOND),
-                 "E26 Window record=1"),
-                (several([EMPTY, b"+1\x14\0"], **LAST_SECOND), "E26 Window record=1"),
+                 faults.window(1)),
+                (several([EMPTY, b"+1\x14\0"], **LAST_SECOND), faults.window(1)),
                 (several([keeping("+0.5")], [keeping("+1.5")], order="En", **LAST_SECOND),
-                 "E26 Window record=2"),
-                (several([keeping("+1")], order="En", **LAST_SECOND), "E25 FirstOnset record=1"))
+                 faults.window(2)),
+                (several([keeping("+1")], order="En", **LAST_SECOND), faults.first_onset(1)))
     first = several([EMPTY + tal("-6311433599", "Turn")], order="En", **LAST_SECOND)
     worked.store("an annotation of the first second", (first, FIRST), exports=[first])
     worked.store("an annotation a nanosecond before that",
                  (several([EMPTY + tal("-6311433599.000000001", "Turn")], order="En",
-                          **LAST_SECOND), "E26 Window record=1"))
+                          **LAST_SECOND), faults.window(1)))
 
 
 def recordings_without_a_date(worked: Worked) -> None:
@@ -130,22 +132,22 @@ def recordings_without_a_date(worked: Worked) -> None:
     midnight = {"startdate": "31.12.84", "starttime": "23.59.59",
                 "recording": "Startdate X N1 T3 REC5"}
     over = several([EMPTY], [keeping("+1")], order="En", **midnight)
-    worked.store("over the end of 2084", (over, "new=2 known=0"), (over, "new=0 known=2"),
+    worked.store("over the end of 2084", (over, (2, 0)), (over, (0, 2)),
                  exports=[over])
     worked.store("after the same with a date",
                  (several([EMPTY], [keeping("+1")], order="En",
                           **{**midnight, "recording": "Startdate 31-DEC-2084 N1 T3 REC5"}),
-                  "new=2 known=0"), (over[:236] + b"1" + over[237:-10], FIRST))
+                  (2, 0)), (over[:236] + b"1" + over[237:-10], FIRST))
     edge = several([keeping("+0.999999999")], order="En", **midnight)
     worked.store("the last nanosecond of 2084", (edge, FIRST), exports=[edge])
     far = several([EMPTY], [keeping("+3155673600.999999999")], order="En", **midnight)
-    worked.store("to the last nanosecond of 2184", (far, "new=2 known=0"), exports=[far])
+    worked.store("to the last nanosecond of 2184", (far, (2, 0)), exports=[far])
     worked.each("no further",
                 (several([EMPTY], [keeping("+3155673601")], order="En", **midnight),
-                 "E26 Window record=2"),
-                (several([keeping("+1")], order="En", **midnight), "E25 FirstOnset record=1"))
-    worked.store("none begins after 2084", (over, "new=2 known=0"),
-                 (dated("01.01.yy", "X", "00.00.00"), "E6 Startdate"),
+                 faults.window(2)),
+                (several([keeping("+1")], order="En", **midnight), faults.first_onset(1)))
+    worked.store("none begins after 2084", (over, (2, 0)),
+                 (dated("01.01.yy", "X", "00.00.00"), faults.startdate()),
                  (dated("01.01.85", "X", "00.00.00"), FIRST),
                  (dated("01.01.yy", "01-JAN-2085", "00.00.00"), FIRST))
 

@@ -1,16 +1,16 @@
-"""Makes files for the fuzz bench: fragments of a few recordings, cut, spelled and ordered at
-random, some of them broken.
+"""Makes random files: fragments of a few recordings, cut, spelled and ordered at random, some of
+them broken.
 
-Half of them don't tell how many data records they have (a count of -1), or have several annotations
-signals, or both; four in ten are of recordings that start in 2084 or later. Nothing here reads a
-file or knows the program's answers: what a file deserves is told by checks/lib/model.py.
+Half of them have no count of their data records (-1), or several annotations signals, or both; four
+in ten are of recordings that start in 2084 or later. Nothing here reads a file or knows the
+program's answers: checks/lib/model.py says what a file is answered.
 """
 import random
 from dataclasses import replace
 from datetime import datetime, timedelta
 
-from lib.edf import (ANNOTATIONS_LABEL, FIXED_WIDTHS, SIGNAL_WIDTHS, Header, Signal,
-                     annotations_signal, fragment, keeping)
+from checks.lib.edf import (ANNOTATIONS_LABEL, FIXED_WIDTHS, SIGNAL_WIDTHS, Header, Signal,
+                            annotations_signal, fragment, keeping)
 
 BATCH = 200
 SECOND = 10**9
@@ -105,7 +105,7 @@ def signed(nanos: int, rng: random.Random) -> str:
 
 
 def in_lists(notes: list, begun: list, rng: random.Random) -> list:
-    """The annotations in lists behind those begun, one sometimes in the list of the one before
+    """The annotations in lists after those begun, one sometimes in the list of the one before
     where it may be; now and then a list without annotations, which adds nothing."""
     for at, span, text in notes:
         if begun and (at, span) == tuple(begun[-1][:2]) and rng.random() < 0.5:
@@ -227,15 +227,15 @@ class Recording:
             records = self.differing(records)
         begin = self.start + timedelta(seconds=records[0][0] // SECOND)
         base = records[0][0] // SECOND * SECOND
-        count = rng.choice((2, 2, 2, 3, 3, 5)) if rng.random() < 0.3 else 1
-        pairs = [(samples, blocks(at, notes, base, count, rng)) for at, samples, notes in records]
+        parts = rng.choice((2, 2, 2, 3, 3, 5)) if rng.random() < 0.3 else 1
+        pairs = [(samples, blocks(at, notes, base, parts, rng)) for at, samples, notes in records]
         signals = placed(self.signals, noted_signals(pairs, (0, 0, 1, 20), rng), rng)
         day = begin.strftime("%d-%b-%Y").upper() if self.dated else "X"
-        told = "-1" if rng.random() < 0.3 else rng.choice(("{}", "{}", "{:03}")).format(len(pairs))
+        count = "-1" if rng.random() < 0.3 else rng.choice(("{}", "{}", "{:03}")).format(len(pairs))
         year = "%y" if begin.year < 2085 else "yy"
         header = Header(signals, begin.strftime(f"%d.%m.{year}"), begin.strftime("%H.%M.%S"),
                         self.patient, f"Startdate {day}{self.following}",
-                        rng.choice(("EDF+C", "EDF+D", "EDF+D and more")), told, self.duration)
+                        rng.choice(("EDF+C", "EDF+D", "EDF+D and more")), count, self.duration)
         return header, pairs
 
 
@@ -421,7 +421,7 @@ def crowded(rng: random.Random) -> bytes:
 
 def wide(rng: random.Random) -> bytes:
     """A header whose records are at the edge of what a record may hold, with less than one of them
-    behind it."""
+    after it."""
     edges = ((2_097_152,), (2_097_153,), (2_097_151, 1), (2_097_151, 2), (2, 2_097_151),
              (2_097_152, 1), (1_048_576, 1_048_576), (1_048_576, 1_048_577),
              (699_051, 699_051, 699_050), (699_051, 699_051, 699_051))

@@ -1,28 +1,28 @@
-#!/usr/bin/env python3
 """The greatest headers, records, blocks and texts through `edfstore`: answers, time and peak
 memory.
 
-    checks/fuzz/sizes.py [--program PATH]
+    python3 -m checks.fuzz.sizes [--program PATH]
 
 Each file goes through `take` into a new store and, where it is accepted, through `export`; the
 answer is checked against the one that stands beside the file, worked out by hand, and against the
-plain model, the export against the model's. Among them are files that don't tell how many data
-records they have, and files with up to 639 annotations signals. Then files of 250, 500 and 1,000
-records with 10,000 annotations each, whose time should grow with their number and whose memory
-should not. It needs time; about 1 GB in TMPDIR.
+plain model, the export against the model's. Among them are files without a count of their data
+records, and files with up to 639 annotations signals. Then files of 250, 500 and 1,000 records with
+10,000 annotations each, whose time should grow with their number and whose memory should not. It
+needs /usr/bin/time, and about 1 GB in TMPDIR.
 """
 from pathlib import Path
 
-from lib import arguments, measure, model
-from lib.checks import end
-from lib.edf import Header, Signal, annotations_signal, fragment, keeping, tal
-from lib.told import accepted, refused
+from checks.lib import arguments, faults, measure, model
+from checks.lib.by_hand import unknown
+from checks.lib.checks import end
+from checks.lib.edf import Header, Signal, annotations_signal, fragment, keeping, tal
+from checks.lib.printed import accepted, is_accepted, refused
 
 MOST = 4_194_304        # bytes of the annotations blocks, and of ordinary samples
 FIRST = keeping("+0")   # 5 bytes
 ONE = accepted(1)
-TOO_LARGE, TOO_MANY = refused("E20 Size"), refused("E28 TooMany record=1")
-NOT_TIMED = refused("E24 NotTimed record=1")
+TOO_LARGE, TOO_MANY = refused(faults.size()), refused(faults.too_many(1))
+NOT_TIMED = refused(faults.not_timed(1))
 
 
 def one(block: bytes, samples: int = 0) -> bytes:
@@ -39,11 +39,11 @@ def signals(count: int, samples: int, records: int) -> bytes:
 
 
 def no_list(offset: int) -> str:
-    return refused(f"E22 Tal record=1 offset={offset}")
+    return refused(faults.tal(1, offset))
 
 
 def cut(record: int) -> str:
-    return refused(f"E21 CutRecord record={record}")
+    return refused(faults.cut_record(record))
 
 
 def of_one_block() -> list:
@@ -76,12 +76,12 @@ def of_one_block() -> list:
          one(FIRST + tal("+0", b"a" + "\u20ac".encode() * 333_333)), ONE),
         ("one text of 4 MB, its last byte no UTF-8",
          one(FIRST + tal("+0", b"a" * (MOST - 12) + b"\xff")),
-         refused("E23 Text record=1 offset=8")),
+         refused(faults.text(1, 8))),
     ]
 
 
 def blocks(*made: bytes, sizes=(), ordinary: int = 2, last: int = 0, count: str = "1") -> bytes:
-    """A file of one record with these blocks, of which so many stand behind the ordinary signal;
+    """A file of one record with these blocks, the `last` of them after the ordinary signal;
     `sizes` are the samples of the annotations signals, else as few as hold the block of each."""
     noted = [annotations_signal(size) for size in sizes or
              [max(1, (len(block) + 1) // 2) for block in made]]
@@ -107,8 +107,9 @@ def of_many_signals() -> list:
          no_list(638 * 6_562 + 4)),
         ("640 annotations signals",
          Header(tuple(annotations_signal(3) for _ in range(640))).to_bytes(),
-         refused("E16 Annotations")),
-        ("640 annotations signals and an ordinary one", blocks(*each, b""), refused("E12 Signals")),
+         refused(faults.annotations())),
+        ("640 annotations signals and an ordinary one", blocks(*each, b""),
+         refused(faults.signals())),
         ("10,000 annotations, each in its list, in 639 blocks",
          blocks(*fifteen, tal("+0", "") * 445), ONE),
         ("10,001 annotations, each in its list, in 639 blocks",
@@ -131,12 +132,12 @@ def of_blocks() -> list:
          TOO_LARGE),
         ("blocks of 2,097,152 samples and 1", blocks(FIRST, b"", sizes=(2_097_152, 1), last=1),
          TOO_LARGE),
-        ("a block of 2 bytes behind one of 4 MB, its last byte 1",
+        ("a block of 2 bytes after one of 4 MB, its last byte 1",
          blocks(FIRST, b"\0\1", sizes=(2_097_151, 1)), no_list(4_194_302)),
         ("a text that is no UTF-8 before 4 MB that end with 1", blocks(FIRST + bad, long),
          no_list(12 + 2_000_005)),
-        ("a text that is no UTF-8 behind 4 MB of zeros", blocks(FIRST, bad, sizes=(2_097_149, 3)),
-         refused("E23 Text record=1 offset=4194301")),
+        ("a text that is no UTF-8 after 4 MB of zeros", blocks(FIRST, bad, sizes=(2_097_149, 3)),
+         refused(faults.text(1, 4194301))),
         ("the greatest record, 8 MB",
          blocks(FIRST, b"", sizes=(1_048_576, 1_048_576), ordinary=2_097_152, last=1), ONE),
         ("10,000 annotations in two blocks", blocks(*halves), ONE),
@@ -149,9 +150,7 @@ def of_blocks() -> list:
 
 
 def of_unknown_count() -> list:
-    """The same of files that don't tell how many data records they have."""
-    def unknown(data: bytes) -> bytes:
-        return data[:236] + b"-1      " + data[244:]
+    """The same of files without a count of their data records."""
     large = signals(1, 2_097_152, 3)
     greatest = blocks(FIRST, b"", sizes=(1_048_576, 1_048_576), ordinary=2_097_152, last=1)
     many = signals(1, 1, 100_000)
@@ -164,7 +163,7 @@ def of_unknown_count() -> list:
         ("of unknown count, the greatest record", unknown(greatest), ONE),
         ("of unknown count, the greatest record and a byte", unknown(greatest) + b"\0", cut(2)),
         ("of unknown count, the greatest record and as many zeros",
-         unknown(greatest) + bytes(2 * MOST), refused("E24 NotTimed record=2")),
+         unknown(greatest) + bytes(2 * MOST), refused(faults.not_timed(2))),
         ("of unknown count, 639 annotations signals", blocks(FIRST, *[b""] * 638, count="-1"), ONE),
         ("of unknown count, 100,000 records", unknown(many), accepted(100_000)),
         ("of unknown count, 100,000 records less a byte", unknown(many)[:-1], cut(100_000)),
@@ -197,15 +196,15 @@ def greatest(program: Path, folder: Path) -> tuple:
     model."""
     lines, wrong = [], 0
     files = of_one_block() + of_many_signals() + of_blocks() + of_unknown_count()
-    for title, data, wanted in files:
+    for title, data, expected in files:
         found = taken(program, folder, data)
         store = model.Store()
         by_model = store.take(data)
-        is_right = found[0] == wanted == by_model
-        if not is_right or (wanted.startswith("accepted") and found[3] != store.export(1)):
+        is_right = found[0] == expected == by_model
+        if not is_right or (is_accepted(expected) and found[3] != store.export(1)):
             wrong += 1
             print(f"{title}: the program answers {found[0]!r}, the model {by_model!r}, by hand "
-                  f"{wanted!r}, or the exports differ")
+                  f"{expected!r}, or the exports differ")
         lines.append(row(title, data, *found))
     measure.table(HEAD, lines)
     return len(lines), wrong
@@ -240,4 +239,5 @@ def main() -> None:
     end(tried, wrong)
 
 
-main()
+if __name__ == "__main__":
+    main()

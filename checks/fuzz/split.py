@@ -1,8 +1,7 @@
-#!/usr/bin/env python3
 """Gives random files to `edfruns list`, `write` and `split` and checks each line, file and status
 against a plain model.
 
-    checks/fuzz/split.py [--edfruns PATH] [--seed SEED] [COUNT]        1,000 files if left out
+    python3 -m checks.fuzz.split [--edfruns PATH] [--seed SEED] [COUNT]    1,000 files if left out
 
 The files are those of fuzz/run.py (cases.py), about half of them broken. Of each, `list` from
 standard input is what the model has; of a file with runs, `write` writes the first, the last and
@@ -16,14 +15,9 @@ import tempfile
 import time
 from pathlib import Path
 
-import cases
-from lib import arguments, measure, model, runs, told
-from lib.checks import Lost, compare, end
-
-
-def ran(program: Path, folder: Path, *words: str, given: bytes = b"") -> tuple:
-    it = measure.ran(program, *words, folder=folder, given=given)
-    return it.out, it.err, it.status
+from checks.fuzz import cases
+from checks.lib import arguments, measure, model, printed, runs
+from checks.lib.checks import Lost, compare, end
 
 
 def is_undated(run: runs.Run) -> bool:
@@ -31,21 +25,22 @@ def is_undated(run: runs.Run) -> bool:
     return run.key.dated == b"X" and run.first() // model.DAY in model.LETTERS
 
 
-def written(program: Path, folder: Path, made: list, chance: random.Random) -> None:
+def written(program: measure.Program, made: list, chance: random.Random) -> None:
     for run in {run.number: run for run in (made[0], made[-1], chance.choice(made))}.values():
-        undated = (b"", told.undated(run.number).encode(), 1)
-        compare(f"run {run.number}", ran(program, folder, "write", "a.edf", str(run.number)),
+        undated = (b"", printed.undated(run.number).encode(), 1)
+        compare(f"run {run.number}", program.ran("write", "a.edf", run.number).outcome(),
                 undated if is_undated(run) else (run.to_bytes(), b"", 0))
 
 
-def was_split(program: Path, folder: Path, made: list) -> None:
+def was_split(program: measure.Program, made: list) -> None:
     names = runs.split_names("part", made)
-    compare("split", ran(program, folder, "split", "a.edf", "part"),
+    compare("split", program.ran("split", "a.edf", "part").outcome(),
             (runs.split_lines("part", made).encode(), b"", 0))
-    compare("the files of split", {path.name: path.read_bytes() for path in folder.glob("part-*")},
+    compare("the files of split",
+            {path.name: path.read_bytes() for path in program.folder.glob("part-*")},
             {name: run.to_bytes() for name, run in zip(names, made)})
     for name in names:
-        (folder / name).unlink()
+        (program.folder / name).unlink()
 
 
 def taken_back(data: bytes, made: list, chance: random.Random) -> None:
@@ -56,29 +51,29 @@ def taken_back(data: bytes, made: list, chance: random.Random) -> None:
     store, whole = model.Store(), model.Store()
     whole.take(data)
     for file in order:
-        compare("a run that is taken", store.take(file).split()[0], "accepted")
+        compare("a run that is taken", printed.is_accepted(store.take(file)), True)
     compare("the export of the runs", store.export(1), whole.export(1))
 
 
-def checked(program: Path, folder: Path, data: bytes, chance: random.Random) -> str:
+def checked(program: measure.Program, data: bytes, chance: random.Random) -> str:
     """What the file is counted as."""
-    (folder / "a.edf").write_bytes(data)
+    (program.folder / "a.edf").write_bytes(data)
     try:
         made = runs.read_runs(data)
     except model.Refused as fault:
-        answer = told.refused(str(fault))
-        compare("list", ran(program, folder, "list", "-", given=data),
-                (b"", told.line("-", answer).encode(), 1))
-        compare("write", ran(program, folder, "write", "a.edf", "1"),
-                (b"", told.line("a.edf", answer).encode(), 1))
+        answer = printed.refused(str(fault))
+        compare("list", program.ran("list", "-", given=data).outcome(),
+                (b"", printed.line("-", answer).encode(), 1))
+        compare("write", program.ran("write", "a.edf", "1").outcome(),
+                (b"", printed.line("a.edf", answer).encode(), 1))
         return "refused"
-    compare("list", ran(program, folder, "list", "-", given=data),
+    compare("list", program.ran("list", "-", given=data).outcome(),
             (runs.lines(made).encode(), b"", 0))
-    written(program, folder, made, chance)
+    written(program, made, chance)
     if not any(map(is_undated, made)):
         taken_back(data, made, chance)
         if chance.random() < 0.125:
-            was_split(program, folder, made)
+            was_split(program, made)
     return f"of {len(made)} run{'s' * (len(made) > 1)}"
 
 
@@ -92,11 +87,12 @@ def main() -> None:
     given = words().read()
     kinds, begun = collections.Counter(), time.perf_counter()
     folder = Path(tempfile.mkdtemp(prefix="edfruns-fuzz-"))
+    program = measure.Program(given.edfruns, folder)
     for nth, files in enumerate(cases.batches(given.seed, given.count)):
         chance = random.Random(f"{given.seed}/{nth}/runs")
         for data in files:
             try:
-                kinds[checked(given.edfruns, folder, data, chance)] += 1
+                kinds[checked(program, data, chance)] += 1
             except Lost as wrong:
                 tried = kinds.total() + 1
                 print(f"{folder}/a.edf, file {tried} of seed {given.seed}: {wrong}")
@@ -110,4 +106,5 @@ def main() -> None:
     end(kinds.total(), 0)
 
 
-main()
+if __name__ == "__main__":
+    main()

@@ -1,31 +1,30 @@
-#!/usr/bin/env python3
 """Stops `edfstore take` at random moments, fills its disk and cuts its files while they are read,
 and looks at what is held.
 
-    checks/kill/run.py [--program PATH] [--seed SEED] [COUNT]       1,000 stops if left out
+    python3 -m checks.kill.run [--program PATH] [--seed SEED] [COUNT]       1,000 stops if left out
 
-A short night of two hours, 40 fragments, is taken and killed (SIGKILL) at a random moment, and
-taken again from the front, until all of it is held; then a new store begins. After each stop `list`
-opens the store, and its export is that of the first p files, p at least what was held before and at
-least the files whose `accepted` was read. A whole store's export is that of a run without stops.
-Then the same night on a tmpfs too small for it (as root; left out otherwise), fragments that shrink
-while they are read, and two `take`s on one store at once. What is expected comes from the plain
-model. It stops with status 1 at the first loss.
+A short night of two hours comes in 40 fragments. Its `take` is killed (SIGKILL) at a random moment,
+and run again from the front, until all of it is held; then a new store begins. After each stop
+`list` opens the store, and its export is that of the first p files: p is at least what was held
+before, and at least the files whose `accepted` was read. A whole store's export is that of a run
+without stops. Then the same night is taken onto a tmpfs that is too small for it (as root; left out
+otherwise), from a card that shrinks while it is read, and by two `take`s on one store at once. What
+is expected comes from the plain model. It stops with status 1 at the first loss.
 """
 import collections
 import hashlib
 import os
 import random
-import subprocess
 import threading
 import time
 from pathlib import Path
+from subprocess import PIPE
 
-from lib import arguments, measure, model, night, told
-from lib.checks import Lost, end
+from checks.lib import arguments, faults, measure, model, night, printed
+from checks.lib.checks import Lost, end
 
 NIGHT = night.Night(records=7_200, samples=(256, 256), fragments=40)
-CUT = {("refused", number) for number in ("E1", "E14", "E21")}
+CUT = {fault.number for fault in (faults.cut, faults.cut_signals, faults.cut_record)}
 
 
 def digest(data: bytes) -> str:
@@ -39,7 +38,7 @@ def export_of(held: model.Store) -> bytes:
 
 class Bench:
     def __init__(self, program: Path, folder: Path, rng: random.Random):
-        self.program, self.folder, self.rng = program, folder, rng
+        self.program, self.folder, self.rng = measure.Program(program), folder, rng
         self.parts = NIGHT.parts(folder)
         self.stops, self.refusals = 0, collections.Counter()
         held = model.Store()
@@ -48,30 +47,26 @@ class Bench:
             held.take(part.read_bytes())
             self.fronts.append(digest(held.export(1)))
 
-    def ran(self, *words) -> measure.Ran:
-        return measure.ran(self.program, *words)
-
     def count(self, lines: bytes) -> None:
-        """Counts the refusals that were told, by number."""
+        """Counts the refusals in these lines, by number."""
         for line in lines.decode(errors="replace").splitlines():
-            if " refused " in line:
-                self.refusals[line.split(" refused ")[1].split()[0]] += 1
+            if number := printed.number(line):
+                self.refusals[number] += 1
 
     def exported(self, store: Path) -> bytes:
         """The export, after the list; nothing where nothing is held."""
-        listed = self.ran("list", store)
+        listed = self.program.ran("list", store)
         self.count(listed.err)
         if listed.status or listed.err:
             raise Lost(f"list ended with status {listed.status}: {listed.err!r}")
         if not listed.out:
             return b""
-        export = self.ran("export", store, 1)
+        export = self.program.ran("export", store, 1)
         if export.status:
             raise Lost(f"export ended with status {export.status}: {export.err!r}")
-        # the number of data records that the header tells
-        wanted = b"1 records=%d " % int(export.out[236:244])
-        if not listed.out.startswith(wanted) or listed.out.count(b"\n") != 1:
-            raise Lost(f"the list is {listed.out!r}, wanted {wanted!r} and so on")
+        counts = [(1, int(export.out[236:244]))]        # as the header of the export has it
+        if printed.counts_listed(listed.out.decode()) != counts:
+            raise Lost(f"the list is {listed.out!r}, and of the export {counts}")
         return export.out
 
     def front(self, store: Path) -> int:
@@ -86,23 +81,22 @@ class Bench:
 def stopped(bench: Bench, store: Path, delay: float) -> tuple:
     """Starts a take and kills it; whether it was killed in time, and how many `accepted` were
     read."""
-    child = subprocess.Popen([bench.program, "take", store, *bench.parts], stdout=subprocess.PIPE,
-                             stderr=subprocess.PIPE, stdin=subprocess.DEVNULL)
+    child = bench.program.started("take", store, *bench.parts, stdout=PIPE, stderr=PIPE)
     time.sleep(delay)
     child.kill()
     out, err = child.communicate()
     bench.count(out + err)
-    return child.returncode == -9, told.are_accepted(out)
+    return child.returncode == -9, printed.count_accepted(out)
 
 
-def stops(bench: Bench, wanted: int) -> None:
+def stops(bench: Bench, expected: int) -> None:
     whole_store = bench.folder / "whole.db"
-    taken = bench.ran("take", whole_store, *bench.parts)
+    taken = bench.program.ran("take", whole_store, *bench.parts)
     if taken.status or bench.front(whole_store) != len(bench.parts):
         raise Lost("a run without stops isn't whole")
     store, fronts = bench.folder / "s.db", collections.Counter()
     rounds = before = again = 0
-    while bench.stops < wanted:
+    while bench.stops < expected:
         delay = bench.rng.uniform(0, taken.seconds * bench.rng.choice((0.1, 0.5, 1.1)))
         killed, accepted = stopped(bench, store, delay)
         front = bench.front(store)
@@ -122,15 +116,15 @@ def stops(bench: Bench, wanted: int) -> None:
 
 def filled(bench: Bench, store: Path, answers: collections.Counter) -> None:
     """Takes the night onto a full disk, which holds what was accepted."""
-    taken = bench.ran("take", store, *bench.parts)
+    taken = bench.program.ran("take", store, *bench.parts)
     bench.count(taken.out + taken.err)
     held, lines = model.Store(), taken.out.decode().splitlines()
     for part, line in zip(bench.parts, lines):
-        answer = line.split(" ", 1)[1].split(" new=")[0]
-        answers[answer] += 1
-        if answer == "accepted":
+        answer = line.split(" ", 1)[1]
+        answers[printed.kind(answer)] += 1
+        if printed.is_accepted(answer):
             held.take(part.read_bytes())
-    if not lines or b"store refused" in taken.err or bench.ran("list", store).status:
+    if not lines or printed.is_store_refused(taken.err) or bench.program.ran("list", store).status:
         return
     if bench.exported(store) != export_of(held):
         raise Lost("on a full disk the export is not that of the accepted files")
@@ -149,7 +143,7 @@ def full_disk(bench: Bench, megabytes: int) -> None:
         for _ in range(3):
             filled(bench, store, answers)
         measure.done("mount", "-o", f"remount,size={20 * megabytes + 200}m", place)
-        taken = bench.ran("take", store, *bench.parts)
+        taken = bench.program.ran("take", store, *bench.parts)
         if taken.status or bench.front(store) != len(bench.parts):
             raise Lost(f"after room was made: {taken.out[-300:]!r} {taken.err!r}")
         print(f"a disk of {megabytes} MB, taken 3 times: {dict(answers)}; each file whole or not "
@@ -163,7 +157,7 @@ def shrinking(bench: Bench, times: int) -> None:
     card, given = NIGHT.card(bench.folder / "card.edf"), bench.folder / "given.edf"
     data, answers, store = card.read_bytes(), collections.Counter(), bench.folder / "s.db"
     measure.remove_store(store)
-    whole = bench.ran("take", store, card).seconds
+    whole = bench.program.ran("take", store, card).seconds
     for _ in range(times):
         given.write_bytes(data)
         measure.remove_store(store)
@@ -171,31 +165,31 @@ def shrinking(bench: Bench, times: int) -> None:
         cut = threading.Timer(bench.rng.uniform(0, whole) * bench.rng.random(), os.truncate,
                               (given, size))
         cut.start()
-        taken = bench.ran("take", store, given)
+        taken = bench.program.ran("take", store, given)
         cut.join()
         bench.count(taken.out + taken.err)
-        _, word, fault = (taken.out.decode().split() + 3 * [""])[:3]
-        if word != "accepted" and (word, fault) not in CUT:
+        answer = taken.out.decode().partition(" ")[2]
+        is_accepted, number = printed.is_accepted(answer), printed.number(answer)
+        if not is_accepted and number not in CUT:
             raise Lost(f"a file that shrank was answered {taken.out!r} {taken.err!r}")
-        answers[word if word == "accepted" else fault] += 1
-        if bench.front(store) != (len(bench.parts) if word == "accepted" else 0):
+        answers[number or "accepted"] += 1
+        if bench.front(store) != (len(bench.parts) if is_accepted else 0):
             raise Lost("a file that shrank is held in part")
     print(f"a file that shrank while it was read, {times} times: {dict(answers)}, nothing in part")
 
 
 def both_at_once(bench: Bench, store: Path, answers: collections.Counter) -> model.Store:
     """Two takes of half of the files each, and what they accepted."""
-    children = [subprocess.Popen([bench.program, "take", store, *bench.parts[side::2]],
-                                 stdout=subprocess.PIPE, stderr=subprocess.PIPE,
-                                 stdin=subprocess.DEVNULL) for side in (0, 1)]
+    children = [bench.program.started("take", store, *half, stdout=PIPE, stderr=PIPE)
+                for half in (bench.parts[::2], bench.parts[1::2])]
     held = model.Store()
     for child in children:
         out, err = child.communicate()
         bench.count(out + err)
         for line in out.decode().splitlines():
             name, answer = line.split(" ", 1)
-            answers[answer.split(" new=")[0]] += 1
-            if answer.startswith("accepted"):
+            answers[printed.kind(answer)] += 1
+            if printed.is_accepted(answer):
                 held.take(Path(name).read_bytes())
         answers.update(err.decode().splitlines())
     return held
@@ -209,7 +203,7 @@ def at_once(bench: Bench, times: int) -> None:
         held = both_at_once(bench, store, answers)
         if bench.exported(store) != export_of(held):
             raise Lost("two takes at once: the export is not that of the accepted files")
-        taken = bench.ran("take", store, *bench.parts)
+        taken = bench.program.ran("take", store, *bench.parts)
         if taken.status or bench.front(store) != len(bench.parts):
             raise Lost("two takes at once: the list taken again isn't whole")
     print(f"two takes on one store at once, {times} times: {dict(answers)}; what was accepted is "
@@ -232,8 +226,9 @@ def main() -> None:
         except Lost as why:
             print(f"LOST OR IN PART: {why}")
             end(bench.stops + 1, 1)
-    print("refusals told in all of it:", dict(bench.refusals) or "none")
+    print("refusals in all of it:", dict(bench.refusals) or "none")
     end(bench.stops, 0)
 
 
-main()
+if __name__ == "__main__":
+    main()

@@ -1,9 +1,9 @@
-"""The words of the scripts: the programs to run, and how often.
+"""The words of a check or a bench: the programs to run, and how often.
 
     given = arguments.Parser(__doc__, count=1_000).read()
     given.program, given.count
 
-A script whose words are more than these adds them before `read`, by `add_argument`.
+One whose words are more than these adds them before `read`, by `add_argument`.
 """
 import argparse
 import subprocess
@@ -22,19 +22,20 @@ def path(word: str) -> Path:
 def chosen(name: str) -> Path:
     """The program that bin/edfstore or bin/edfruns runs."""
     script = '. "$0/bin/common.sh" && chosen_program "$1"'
-    told = subprocess.run(["bash", "-c", script, TOP, name], stdout=subprocess.PIPE, text=True,
-                          check=False)
-    if told.returncode:
+    ran = subprocess.run(["bash", "-c", script, TOP, name], stdout=subprocess.PIPE, text=True,
+                         check=False)
+    if ran.returncode:
         sys.exit(f"bin/{name} has no program to run")
-    return Path(told.stdout.strip())
+    return Path(ran.stdout.strip())
 
 
 class Parser(argparse.ArgumentParser):
     """Takes --program, which names edfstore, or --edfruns, or both, by the programs that the script
     runs; and a count, where the script has one. Its help is the text at the script's head."""
 
-    def __init__(self, text: str, programs: tuple = ("edfstore",), count: int = 0):
-        super().__init__(prog=sys.argv[0], description=text, allow_abbrev=False,
+    def __init__(self, text: str, programs: tuple = ("edfstore",), count: int = 0, prog: str = ""):
+        super().__init__(prog=prog or f"python3 -m {sys.modules['__main__'].__spec__.name}",
+                         description=text, allow_abbrev=False,
                          formatter_class=argparse.RawDescriptionHelpFormatter)
         self.programs = programs
         for name in programs:

@@ -3,7 +3,7 @@ worked out by hand."""
 import tempfile
 from pathlib import Path
 
-from . import measure, model, told
+from . import faults, measure, model, printed
 from .edf import (FIXED_WIDTHS, SIGNAL_WIDTHS, Header, Signal, annotations_signal, filled, fragment,
                   keeping, small_files, tal)
 
@@ -24,10 +24,10 @@ MARCH_3 = {"startdate": "03.03.02", "recording": "Startdate 03-MAR-2002 N1 T3 RE
 LAST_SECOND = {"startdate": "31.12.yy", "starttime": "23.59.59",
                "recording": "Startdate 31-DEC-2184 N1 T3 REC5"}
 
-# Answers in the short form of told.answer
-FIRST, KNOWN = "new=1 known=0", "new=0 known=1"
-DIFFERS = "E31 Differs start=2002-03-02T23:59:50"
-OVERLAPS = "E30 Overlap start=2002-03-02T23:59:50.5 stored=2002-03-02T23:59:50"
+# Answers in the short form of printed.answer
+FIRST, KNOWN = (1, 0), (0, 1)
+DIFFERS = faults.differs("2002-03-02T23:59:50")
+OVERLAPS = faults.overlap("2002-03-02T23:59:50.5", "2002-03-02T23:59:50")
 
 
 # Files
@@ -47,7 +47,7 @@ def column(data: bytes, which: int, signal: int, text) -> bytes:
 
 
 def unknown(data: bytes) -> bytes:
-    """The file, which no longer tells how many data records it has."""
+    """The file without its count of data records."""
     return field(data, COUNT, "-1")
 
 
@@ -81,7 +81,7 @@ def sized(ordinary, noted) -> bytes:
 
 
 def many(count: int, keeps_time: bool = False) -> bytes:
-    """A list with so many annotations without text, behind the time-keeping one where it keeps
+    """A list with so many annotations without text, after the time-keeping one where it keeps
     time."""
     return b"+0\x14" + b"\x14" * (count + keeps_time) + b"\0"
 
@@ -98,15 +98,15 @@ class Worked:
     def __init__(self, program=None):
         self.program, self.done, self.failed = program, 0, 0
 
-    def same(self, what: str, got, wanted) -> None:
+    def same(self, what: str, got, expected) -> None:
         self.done += 1
-        if got != wanted:
+        if got != expected:
             self.failed += 1
-            print(f"{what}: {got!r:.300}\n  by hand: {wanted!r:.300}")
+            print(f"{what}: {got!r:.300}\n  by hand: {expected!r:.300}")
 
     def store(self, what: str, *given, exports=None, cap: int = 0) -> None:
         """A new store is given files in turn, each with its answer, and then has these exports."""
-        answers = [told.answer(text) for _, text in given]
+        answers = [printed.answer(text) for _, text in given]
         store = model.Store(cap) if cap else model.Store()
         for nth, ((data, _), answer) in enumerate(zip(given, answers), 1):
             self.same(f"{what}, file {nth}", store.take(data), answer)
@@ -120,17 +120,16 @@ class Worked:
     def ask(self, what: str, files: list, answers: list, exports) -> None:
         """The same of the program."""
         with tempfile.TemporaryDirectory(prefix="edfstore-worked-") as folder:
-            def ran(*words) -> bytes:
-                return measure.ran(self.program, *words, folder=folder).out
+            program = measure.Program(self.program, folder)
             names = [str(nth) for nth in range(1, len(files) + 1)]
             for name, data in zip(names, files):
                 Path(folder, name).write_bytes(data)
-            lines = ran("take", "s.db", *names).decode().splitlines(keepends=True)
+            lines = program.ran("take", "s.db", *names).out.decode().splitlines(keepends=True)
             for name, line, answer in zip(names, lines + [""] * len(names), answers):
-                self.same(f"the program: {what}, file {name}", line, told.line(name, answer))
+                self.same(f"the program: {what}, file {name}", line, printed.line(name, answer))
             for place, export in enumerate(exports or (), 1):
-                self.same(f"the program: {what}, export {place}", ran("export", "s.db", str(place)),
-                          export)
+                self.same(f"the program: {what}, export {place}",
+                          program.ran("export", "s.db", place).out, export)
 
     def each(self, what: str, *given) -> None:
         """Each file in a store of its own."""

@@ -129,7 +129,7 @@ def small_files() -> dict:
     before it, spelled otherwise and with the annotations first; N1 to N3 are a card's three
     records one by one, and K the card; U has spare annotation samples and an onset spelled
     longer than needed; V is Q's record with one more annotation, which stands in a second
-    annotations signal, one before the ordinary signal and one behind it. `half` starts 10 s
+    annotations signal, one before the ordinary signal and one after it. `half` starts 10 s
     before Q and its second record overlaps Q's by half a second; `X` is Q with its date in the
     Startdate subfield withheld."""
     march2, march3 = ("02.03.02", "02-MAR-2002"), ("03.03.02", "03-MAR-2002")

@@ -1,4 +1,4 @@
-"""Runs programs by the clock, and tells their peak memory."""
+"""Runs programs, by the clock and with their peak memory."""
 import os
 import re
 import shutil
@@ -44,6 +44,10 @@ class Ran:
     def __str__(self) -> str:
         return f"status {self.status}, {self.out[-300:]!r}, {self.err[-300:]!r}"
 
+    def outcome(self) -> tuple:
+        """What it wrote to standard output and to standard error, and its status."""
+        return self.out, self.err, self.status
+
 
 def ran(*words, given=os.devnull, out: Path = None, err: int = PIPE, folder: Path = None,
         added: dict = None, most: float = None, is_measured: bool = False) -> Ran:
@@ -64,11 +68,27 @@ def ran(*words, given=os.devnull, out: Path = None, err: int = PIPE, folder: Pat
         child = closing.enter_context(subprocess.Popen(
             [*clock, *map(str, words)], stdin=source, stdout=into, stderr=err, cwd=folder,
             env={**os.environ, **(added or {})}, start_new_session=most is not None))
-        told, said = ended(child, data, most)
+        written, said = ended(child, data, most)
         seconds = time.perf_counter() - begun
         peak, *processor = kept.read().split()[-3:] if is_measured else (0,)
-    return Ran(child.returncode, told or b"", said or b"", seconds, 1024 * int(peak),
+    return Ran(child.returncode, written or b"", said or b"", seconds, 1024 * int(peak),
                sum(map(float, processor)))
+
+
+@dataclass(frozen=True)
+class Program:
+    """A program, the folder that it runs in, and after how many seconds it is killed."""
+    path: Path
+    folder: Path = None
+    most: float = None
+
+    def ran(self, *words, **options) -> Ran:
+        return ran(self.path, *words, folder=self.folder, most=self.most, **options)
+
+    def started(self, *words, **streams) -> subprocess.Popen:
+        """Starts it, and does not wait for its end."""
+        return subprocess.Popen([self.path, *words], cwd=self.folder,
+                                **{"stdin": subprocess.DEVNULL, **streams})
 
 
 def ended(child: subprocess.Popen, data, most: float) -> tuple:
@@ -112,10 +132,10 @@ def piped(*words, source: Path) -> float:
 def instructions(*words, out: Path, given=os.devnull) -> int:
     """The instructions that a run takes, counted by callgrind: the same whatever else the machine
     does."""
-    with tempfile.NamedTemporaryFile("r") as told:
+    with tempfile.NamedTemporaryFile("r") as log:
         done("valgrind", "--tool=callgrind", "--callgrind-out-file=/dev/null",
-             f"--log-file={told.name}", *words, out=out, given=given)
-        collected = re.search(r"Collected : (\d+)", told.read())
+             f"--log-file={log.name}", *words, out=out, given=given)
+        collected = re.search(r"Collected : (\d+)", log.read())
     if not collected:
         sys.exit(f"callgrind counted nothing: {' '.join(map(str, words))[:300]}")
     return int(collected[1])
@@ -133,7 +153,7 @@ def settle() -> None:
 
 
 def copy_synced(parts: list, target: Path) -> float:
-    """Seconds for `cat` of each file behind the others, with a sync a file."""
+    """Seconds for `cat` of each file to the end of one, with a sync a file."""
     begun = time.perf_counter()
     with open(target, "wb") as made:
         for part in parts:

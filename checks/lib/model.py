@@ -3,9 +3,9 @@ wrong with a file, what a store answers to a list of files and then holds, what 
 exports. It is short and slow on purpose; it knows no store and no transaction, and nothing of it
 comes from the program.
 
-    from lib import model
+    from checks.lib import model
     store = model.Store()
-    store.take(data)        'accepted new=1 known=0' or 'refused E21 CutRecord record=1'
+    store.take(data)        the answer of `take`, without the file's name
     store.lines()           the lines of `list`, as text
     store.export(1)         the canonical file of the recording at place 1, as bytes
 """
@@ -16,7 +16,7 @@ from dataclasses import dataclass
 from datetime import date
 from fractions import Fraction
 
-from . import told
+from . import faults, printed
 
 sys.set_int_max_str_digits(0)        # an onset may be spelled with a million zeros
 
@@ -26,7 +26,7 @@ WINDOW = 73_049 * DAY                # 1985 to 2184
 LETTERS = range(36_525, 73_049)      # days of 2085 to 2184: their startdates have yy for the year
 EPOCH = date(1985, 1, 1).toordinal()
 ANNOTATIONS = b"EDF Annotations "
-UNKNOWN = b"-1      "                # the number of data records of a file that doesn't tell it
+UNKNOWN = b"-1      "                # the number of data records of a file without a count
 MOST_RECORDS, MOST_BYTES, MOST_NOTES, MOST_TEXT = 99_999_999, 4_194_304, 10_000, 1_000_000
 MONTHS = (b"JAN", b"FEB", b"MAR", b"APR", b"MAY", b"JUN", b"JUL", b"AUG", b"SEP", b"OCT", b"NOV",
           b"DEC")
@@ -87,12 +87,12 @@ def least_and_most(count: bytes):
     return (number, number) if number else None
 
 
-def nanoseconds(digits: bytes, behind):
+def nanoseconds(digits: bytes, decimals):
     """The value of a decimal in nanoseconds; None where it is finer than that."""
-    behind = behind or b""
-    if behind[9:].strip(b"0"):
+    decimals = decimals or b""
+    if decimals[9:].strip(b"0"):
         return None
-    return int(digits) * SECOND + int(behind[:9].ljust(9, b"0"))
+    return int(digits) * SECOND + int(decimals[:9].ljust(9, b"0"))
 
 
 def decimal(text: bytes):
@@ -104,8 +104,8 @@ def physical(text: bytes):
     found = PHYSICAL.match(text)
     if not found:
         return None
-    behind = found[3] or b""
-    value = Fraction(int(found[2] + behind), 10 ** len(behind))
+    decimals = found[3] or b""
+    value = Fraction(int(found[2] + decimals), 10 ** len(decimals))
     return -value if found[1] == b"-" else value
 
 
@@ -202,69 +202,69 @@ class Layout:
 
     def _fixed(self, data: bytes) -> None:
         if len(data) < 256:
-            raise Refused("E1 Cut")
+            raise Refused(faults.cut())
         if (at := unprintable(data[:256])) is not None:
-            raise Refused(f"E2 Unprintable offset={at}")
+            raise Refused(faults.unprintable(at))
         if data[:8] != b"0       ":
-            raise Refused("E3 Version")
+            raise Refused(faults.version())
         self.patient = data[8:88]
         if not is_patient(self.patient):
-            raise Refused("E4 Patient")
+            raise Refused(faults.patient())
         self._fixed_start(data)
         if data[192:197] not in (b"EDF+C", b"EDF+D"):
-            raise Refused("E9 NotPlus")
-        told = least_and_most(data[236:244])
-        if told is None:
-            raise Refused("E10 Count")
-        self.least, self.most = told
+            raise Refused(faults.not_plus())
+        counts = least_and_most(data[236:244])
+        if counts is None:
+            raise Refused(faults.count())
+        self.least, self.most = counts
         self.duration_text = data[244:252]
         self.duration = decimal(self.duration_text)
         if not self.duration:
-            raise Refused("E11 Duration")
+            raise Refused(faults.duration())
         self.ns = whole(data[252:256])
         if self.ns is None or not 2 <= self.ns <= 640:
-            raise Refused("E12 Signals")
+            raise Refused(faults.signals())
         if whole(data[184:192]) != 256 + 256 * self.ns:
-            raise Refused("E13 HeaderBytes")
+            raise Refused(faults.header_bytes())
 
     def _fixed_start(self, data: bytes) -> None:
         found = recording(data[88:168])
         if found is None:
-            raise Refused("E5 Recording")
+            raise Refused(faults.recording())
         day, self.dated, self.following = found
         text = data[168:176]
         startday = start_date(text)
         if startday is None and (day is None or not is_yearless(text)):
-            raise Refused("E6 Startdate")
+            raise Refused(faults.startdate())
         time = start_time(data[176:184])
         if time is None:
-            raise Refused("E7 Starttime")
+            raise Refused(faults.starttime())
         if startday is None:
             startday = late_date(text, day)
         if startday is None or (day is not None and day != startday):
-            raise Refused("E8 DatesDiffer")
+            raise Refused(faults.dates_differ())
         self.start = startday * DAY + time * SECOND
 
     def _signals(self, data: bytes) -> None:
         part = data[256:256 + 256 * self.ns]
         if len(part) < 256 * self.ns:
-            raise Refused("E14 CutSignals")
+            raise Refused(faults.cut_signals())
         if (at := unprintable(part)) is not None:
-            raise Refused(f"E15 UnprintableSignals offset={256 + at}")
+            raise Refused(faults.unprintable_signals(256 + at))
         rows = self._rows(part)
         noted = [row for row in rows if row[0] == ANNOTATIONS]
         ordinary = [(i, row) for i, row in enumerate(rows, 1) if row[0] != ANNOTATIONS]
         if not noted or not ordinary or not all(is_annotations(row) for row in noted):
-            raise Refused("E16 Annotations")
+            raise Refused(faults.annotations())
         self._check_ordinary(ordinary)
         sizes = [whole(row[8]) for row in rows]
         for i, size in enumerate(sizes, 1):
             if not size:
-                raise Refused(f"E19 Samples signal={i}")
+                raise Refused(faults.samples(i))
         self.parts = [(row[0] == ANNOTATIONS, 2 * size) for row, size in zip(rows, sizes)]
         for kind in (True, False):
             if sum(size for is_block, size in self.parts if is_block == kind) > MOST_BYTES:
-                raise Refused("E20 Size")
+                raise Refused(faults.size())
         self.record_bytes = 2 * sum(sizes)
         self.key = Key(self.patient, self.dated, self.following, self.duration_text,
                        tuple(b"".join(row) for _, row in ordinary))
@@ -282,11 +282,11 @@ class Layout:
         for i, row in ordinary:
             low, high = physical(row[3]), physical(row[4])
             if low is None or high is None or low == high:
-                raise Refused(f"E17 Physical signal={i}")
+                raise Refused(faults.physical(i))
         for i, row in ordinary:
             low, high = signed(row[5]), signed(row[6])
             if low is None or high is None or not -32768 <= low < high <= 32767:
-                raise Refused(f"E18 Digital signal={i}")
+                raise Refused(faults.digital(i))
 
     def parted(self, record: bytes) -> tuple:
         """The ordinary sample bytes of a data record and the list of its annotations blocks, both
@@ -307,7 +307,7 @@ def read_lists(block: bytes, nth: int, front: int) -> list:
         onset = nanoseconds(found[2], found[3]) if found else None
         duration = nanoseconds(found[4], found[5]) if found and found[4] is not None else 0
         if onset is None or duration is None:
-            raise Refused(f"E22 Tal record={nth} offset={front + at}")
+            raise Refused(faults.tal(nth, front + at))
         texts, place = [], front + found.start(6)
         for text in found[6].split(b"\x14")[:-1]:
             texts.append((place, text))
@@ -316,7 +316,7 @@ def read_lists(block: bytes, nth: int, front: int) -> list:
                       None if found[4] is None else duration, texts))
         at = found.end()
     if block[at:].strip(b"\0"):
-        raise Refused(f"E22 Tal record={nth} offset={front + at}")
+        raise Refused(faults.tal(nth, front + at))
     return lists
 
 
@@ -326,12 +326,12 @@ def check_texts(lists: list, nth: int) -> None:
             try:
                 text.decode()
             except UnicodeDecodeError:
-                raise Refused(f"E23 Text record={nth} offset={at}") from None
+                raise Refused(faults.text(nth, at)) from None
 
 
 def read_blocks(blocks: list, nth: int, layout: Layout, before) -> tuple:
-    """The start of the record, which its first block tells, and its annotations, those of all
-    blocks in their order; `before` is the start of the record before it, or None."""
+    """The start of the record, which its first block has, and its annotations, those of all blocks
+    in their order; `before` is the start of the record before it, or None."""
     each, front = [], 0
     for block in blocks:
         each.append(read_lists(block, nth, front))
@@ -339,37 +339,37 @@ def read_blocks(blocks: list, nth: int, layout: Layout, before) -> tuple:
     first, lists = each[0], [one for part in each for one in part]
     check_texts(lists, nth)
     if not first or not first[0][2] or first[0][2][0][1]:
-        raise Refused(f"E24 NotTimed record={nth}")
+        raise Refused(faults.not_timed(nth))
     if before is None and not 0 <= first[0][0] < SECOND:
-        raise Refused(f"E25 FirstOnset record={nth}")
+        raise Refused(faults.first_onset(nth))
     for onset, duration, _ in lists:
         if not 0 <= layout.start + onset < WINDOW or (duration is not None and duration >= WINDOW):
-            raise Refused(f"E26 Window record={nth}")
+            raise Refused(faults.window(nth))
     start = layout.start + first[0][0]
     if before is not None and start < before + layout.duration:
-        raise Refused(f"E27 Order record={nth}")
+        raise Refused(faults.order(nth))
     notes = tuple((layout.start + onset, duration, text) for onset, duration, texts in lists
                   for _, text in texts)[1:]
     if len(notes) > MOST_NOTES or sum(len(text) for _, _, text in notes) > MOST_TEXT:
-        raise Refused(f"E28 TooMany record={nth}")
+        raise Refused(faults.too_many(nth))
     return start, notes
 
 
 def read(data: bytes) -> tuple:
-    """The key and the records of a file, or `Refused` with its first fault. Where the file doesn't
-    tell how many records it has, a record behind the first is there where a byte of it is."""
+    """The key and the records of a file, or `Refused` with its first fault. Where the file has no
+    count, a record after the first is there where a byte of it is."""
     layout = Layout(data)
     records, at, before = [], 256 + 256 * layout.ns, None
     while len(records) < layout.least or (at < len(data) and len(records) < layout.most):
         nth = len(records) + 1
         if len(data) - at < layout.record_bytes:
-            raise Refused(f"E21 CutRecord record={nth}")
+            raise Refused(faults.cut_record(nth))
         samples, blocks = layout.parted(data[at:at + layout.record_bytes])
         before, notes = read_blocks(blocks, nth, layout, before)
         records.append(Record(before, samples, notes))
         at += layout.record_bytes
     if at != len(data):
-        raise Refused("E29 Trailing")
+        raise Refused(faults.trailing())
     return layout.key, records
 
 
@@ -389,8 +389,8 @@ def civil(instant: int) -> tuple:
 
 def instant_text(instant: int) -> str:
     day, hour, minute, second, fraction = civil(instant)
-    behind = (".%09d" % fraction).rstrip("0") if fraction else ""
-    return f"{day.isoformat()}T{hour:02}:{minute:02}:{second:02}{behind}"
+    decimals = (".%09d" % fraction).rstrip("0") if fraction else ""
+    return f"{day.isoformat()}T{hour:02}:{minute:02}:{second:02}{decimals}"
 
 
 def written_list(onset: int, duration, text: bytes) -> bytes:
@@ -433,7 +433,7 @@ def canonical(key: Key, records: list) -> bytes:
 class Store:
     """What a list of files is answered, and what is held after it."""
 
-    def __init__(self, cap: int = 99_999_999):
+    def __init__(self, cap: int = MOST_RECORDS):
         self.cap = cap
         self.held = {}          # key: (starts, records), both rising
 
@@ -442,14 +442,14 @@ class Store:
             key, records = read(data)
             new = self._new(key, records)
         except Refused as fault:
-            return told.refused(str(fault))
+            return printed.refused(str(fault))
         if new:
             starts, held = self.held.setdefault(key, ([], []))
             for record in new:
                 at = bisect_left(starts, record.start)
                 starts.insert(at, record.start)
                 held.insert(at, record)
-        return told.accepted(len(new), len(records) - len(new))
+        return printed.accepted(len(new), len(records) - len(new))
 
     def _new(self, key: Key, records: list) -> list:
         starts, held = self.held.get(key, ([], []))
@@ -459,14 +459,14 @@ class Store:
             near = held[begin:bisect_left(starts, record.start + key.duration())]
             clashing = [stored for stored in near if stored != record]
             if clashing and clashing[0].start == record.start:
-                raise Refused(f"E31 Differs start={instant_text(record.start)}")
+                raise Refused(faults.differs(instant_text(record.start)))
             if clashing:
-                raise Refused(f"E30 Overlap start={instant_text(record.start)} "
-                              f"stored={instant_text(clashing[0].start)}")
+                raise Refused(faults.overlap(instant_text(record.start),
+                                             instant_text(clashing[0].start)))
             if not near:
                 new.append(record)
         if new and len(held) + len(new) > self.cap:
-            raise Refused(f"E32 Full held={len(held)} new={len(new)} cap={self.cap}")
+            raise Refused(faults.full(len(held), len(new), self.cap))
         return new
 
     def keys(self) -> list:
@@ -477,7 +477,7 @@ class Store:
         for place, key in enumerate(self.keys(), 1):
             starts, records = self.held[key]
             codes = (subfields(text)[0].decode() for text in (key.patient, key.following))
-            lines.append(told.recording(place, len(records), instant_text(starts[0]), *codes))
+            lines.append(printed.recording(place, len(records), instant_text(starts[0]), *codes))
         return "".join(lines)
 
     def export(self, place: int) -> bytes:

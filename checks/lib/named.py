@@ -2,20 +2,18 @@
 for names, they are of Q's recording, cut and changed. Those that are exported are spelled as
 exports are.
 """
-from .by_hand import (COUNT, HEADER_BYTES, LABEL, RECORDING, RESERVED, SIGNALS, SIZE, STARTDATE,
-                      STARTTIME, canonical, column, field)
+from .by_hand import (COUNT, HEADER_BYTES, LABEL, LAST_SECOND, MARCH_3, RECORDING, RESERVED,
+                      SIGNALS, SIZE, STARTDATE, STARTTIME, canonical, column, field)
 from .edf import Header, Signal, annotations_signal, fragment, keeping, small_files, tal
 
 LETTERS = small_files()
 Q, K, U, V = (LETTERS[letter] for letter in "QKUV")
 ONE, TWO, THREE, FIVE, SIX = (
     bytes.fromhex(text) for text in ("0100FFFF", "0200FEFF", "0300FDFF", "05000000", "06000000"))
-MARCH_3 = {"startdate": "03.03.02", "recording": "Startdate 03-MAR-2002 N1 T3 REC5"}
-LAST_SECOND = {"startdate": "31.12.yy", "starttime": "23.59.59",
-               "recording": "Startdate 31-DEC-2184 N1 T3 REC5"}
 END_OF_2084 = {"startdate": "31.12.84", "starttime": "23.59.59",
                "recording": "Startdate 31-DEC-2084 N1 T3 REC5"}
 UNDATED_END = END_OF_2084 | {"recording": "Startdate X N1 T3 REC5"}
+UNDATED_EVENING = UNDATED_END | {"starttime": "23.59.57"}
 P5_BEHIND_Q = (TWO, keeping("+15") + tal("+15.5", "Snore") + tal("+15.5", "Turn"))
 
 
@@ -129,6 +127,11 @@ def of_other_years() -> dict:
                                                  samples=9, reserved="EDF+C", **UNDATED_END),
         "undated_end_of_2084.edf": evening((ONE, keeping("+0.999999999")), samples=8,
                                            **UNDATED_END),
+        "undated_evening.edf": evening(start, later, **UNDATED_EVENING),
+        "undated_new_year.edf": evening((THREE, keeping("+0")), (FIVE, keeping("+1")),
+                                        (SIX, keeping("+61")), **UNDATED_END),
+        "undated_night.edf": canonical(start, later, (THREE, keeping("+2")), (FIVE, keeping("+3")),
+                                       (SIX, keeping("+63")), **UNDATED_EVENING),
         "end_and_first.edf": evening(start, (ONE, keeping("+15")),
                                      **END_OF_2084 | {"starttime": "23.59.50"}),
         "q_and_2102.edf": evening(start, (ONE, keeping("+3155673600")), samples=7),
@@ -136,8 +139,8 @@ def of_other_years() -> dict:
 
 
 def without_count(data: bytes, size: int, at: int = 0, text: bytes = b"") -> bytes:
-    """The front of a file that doesn't tell how many data records it has and has ten zeros more,
-    with another text in it."""
+    """The front of a file that has no count of its data records and ten zeros more, with another
+    text in it."""
     return patched(field(data, COUNT, "-1") + bytes(10), at, text)[:size]
 
 

@@ -2,7 +2,7 @@
 and the file of each. A run is a longest stretch of data records each of which starts where the one
 before ends, to the nanosecond.
 
-    from lib import runs
+    from checks.lib import runs
     made = runs.read_runs(data)         or model.Refused, with the first fault of the file
     made[0].line()                      its line, as text
     made[0].to_bytes()                  its file
@@ -11,7 +11,7 @@ before ends, to the nanosecond.
 """
 from dataclasses import dataclass
 
-from . import model, told
+from . import model, printed
 
 RESERVED = slice(192, 197)      # where a file says EDF+C or EDF+D
 
@@ -33,8 +33,8 @@ class Run:
 
     def line(self) -> str:
         seconds, gap = (model.shortest(nanos).decode() for nanos in (self.length(), self.gap))
-        return told.run(self.number, len(self.records), model.instant_text(self.first()), seconds,
-                        gap if self.gap else "")
+        return printed.run(self.number, len(self.records), model.instant_text(self.first()),
+                           seconds, gap if self.gap else "")
 
     def to_bytes(self) -> bytes:
         """The canonical file of its data records, but that it is marked as one without a gap."""

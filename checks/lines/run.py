@@ -1,26 +1,24 @@
-#!/usr/bin/env python3
 """Checks the program's exact lines, files and statuses on small files made here.
 
-    checks/lines/run.py [--program PATH]
+    python3 -m checks.lines.run [--program PATH]
 
 The files come from checks/lib/edf.py, field by field; what is expected is written below by hand.
 Nothing comes from the program.
 """
 from pathlib import Path
 
-from lib import arguments, edf, measure, told
-from lib.checks import Checks
-from lib.told import KNOWN, NEW, UNREAD, accepted, refused
+from checks.lib import arguments, by_hand, edf, faults, measure, printed
+from checks.lib.checks import Checks
+from checks.lib.printed import KNOWN, NEW, UNREAD, accepted, refused
 
 FILES = edf.small_files()
 Q = FILES["Q"]
-OVERLAP = refused("E30 Overlap start=2002-03-02T23:59:50.5 stored=2002-03-02T23:59:50")
-DIFFERS = refused("E31 Differs start=2002-03-02T23:59:50")
+OVERLAPS, DIFFERS = refused(by_hand.OVERLAPS), refused(by_hand.DIFFERS)
 
 
 def line(place: int, records: int = 1, first: str = "2002-03-02T23:59:50") -> str:
     """What `list` says of a recording of Q."""
-    return told.recording(place, records, first, "P7", "N1")
+    return printed.recording(place, records, first, "P7", "N1")
 
 
 def one_record_is_its_own_canonical_file(checks: Checks) -> None:
@@ -29,7 +27,7 @@ def one_record_is_its_own_canonical_file(checks: Checks) -> None:
     checks.run(given=Q, out=Q)
     checks.run("convert", "-", given=Q, out=Q)
     checks.run("convert", "a.edf", out=Q)
-    checks.run("convert", "u.edf", err=told.fault("u.edf", "E40 Read"), status=3)
+    checks.run("convert", "u.edf", err=printed.fault("u.edf", faults.read()), status=3)
     checks.take("night.db", ("-", NEW), given=Q)
     checks.take("night.db", ("a.edf", KNOWN))
     checks.run("export", "night.db", "1", out=Q)
@@ -43,22 +41,22 @@ def two_records_cut_inside_the_second_leave_nothing(checks: Checks) -> None:
     whole = edf.fragment(header,
                          [(b"\1\0\2\0", edf.keeping("+0")), (b"\3\0\4\0", edf.keeping("+1"))])
     checks.file("cut.edf", whole[:-1])
-    checks.take("night.db", ("cut.edf", refused("E21 CutRecord record=2")), status=1)
+    checks.take("night.db", ("cut.edf", refused(faults.cut_record(2))), status=1)
     checks.run("list", "night.db")
-    checks.run("export", "night.db", "1", err=told.no_recording(1), status=1)
+    checks.run("export", "night.db", "1", err=printed.no_recording(1), status=1)
 
 
-def an_overlap_is_told_with_both_starts(checks: Checks) -> None:
-    checks.begin("an overlap is told with both starts")
+def an_overlap_is_refused_with_both_starts(checks: Checks) -> None:
+    checks.begin("an overlap is refused with both starts")
     checks.file("a.edf", Q)
     checks.file("b.edf", FILES["half"])
-    checks.take("night.db", ("a.edf", NEW), ("b.edf", OVERLAP), status=1)
+    checks.take("night.db", ("a.edf", NEW), ("b.edf", OVERLAPS), status=1)
     checks.run("list", "night.db", out=line(1))
     checks.run("export", "night.db", "1", out=Q)
-    checks.run("export", "night.db", "2", err=told.no_recording(2), status=1)
+    checks.run("export", "night.db", "2", err=printed.no_recording(2), status=1)
     for place in ("0", "-1", "+1", "4294967296", "one"):
         checks.run("export", "night.db", place, err=None, status=2)
-    checks.run("export", "night.db", "4294967295", err=told.no_recording(4294967295), status=1)
+    checks.run("export", "night.db", "4294967295", err=printed.no_recording(4294967295), status=1)
     checks.run("export", "night.db", "001", out=Q)
     changed = Q[:768] + b"\0" + Q[769:]
     checks.file("c.edf", changed)
@@ -66,7 +64,7 @@ def an_overlap_is_told_with_both_starts(checks: Checks) -> None:
 
 
 def a_withheld_date_is_another_recording(checks: Checks) -> None:
-    checks.begin("a withheld Startdate is another recording, listed behind the dated one")
+    checks.begin("a withheld Startdate is another recording, listed after the dated one")
     checks.file("x.edf", FILES["X"])
     checks.file("a.edf", Q)
     checks.take("night.db", ("x.edf", NEW), ("a.edf", NEW))
@@ -85,9 +83,9 @@ def a_missing_file_is_trouble_and_the_next_is_taken(checks: Checks) -> None:
 def a_refused_conversion_writes_nothing(checks: Checks) -> None:
     checks.begin("a refused conversion writes nothing")
     checks.file("a.edf", Q[:-1])
-    checks.run("convert", "a.edf", err=told.fault("a.edf", "E21 CutRecord record=1"), status=1)
-    checks.run(given=Q + b"\0", err=told.fault("-", "E29 Trailing"), status=1)
-    checks.run(given=Q[:-1] + b"\1", err=told.fault("-", "E22 Tal record=1 offset=5"), status=1)
+    checks.run("convert", "a.edf", err=printed.fault("a.edf", faults.cut_record(1)), status=1)
+    checks.run(given=Q + b"\0", err=printed.fault("-", faults.trailing()), status=1)
+    checks.run(given=Q[:-1] + b"\1", err=printed.fault("-", faults.tal(1, 5)), status=1)
 
 
 def a_file_cut_anywhere(checks: Checks) -> None:
@@ -95,9 +93,9 @@ def a_file_cut_anywhere(checks: Checks) -> None:
     before."""
     checks.begin("a file cut anywhere")
     answers = [("Q", n, text) for first, last, text in (
-        (0, 256, "E1 Cut"), (256, 768, "E14 CutSignals"), (768, 778, "E21 CutRecord record=1"))
+        (0, 256, faults.cut()), (256, 768, faults.cut_signals()), (768, 778, faults.cut_record(1)))
         for n in range(first, last)]
-    answers += [("U", n, f"E21 CutRecord record={1 if n < 886 else 2}") for n in range(768, 1004)]
+    answers += [("U", n, faults.cut_record(1 if n < 886 else 2)) for n in range(768, 1004)]
     checks.file("a.edf", Q)
     checks.take("night.db", ("a.edf", NEW))
     for first in range(0, len(answers), 200):
@@ -111,27 +109,26 @@ def a_file_cut_anywhere(checks: Checks) -> None:
 
 
 def a_file_of_unknown_count_cut_anywhere(checks: Checks) -> None:
-    """A file that doesn't tell how many data records it has ends where a record does, and nowhere
-    else."""
+    """A file without a count of its data records ends where a record does, and nowhere else."""
     checks.begin("a file of unknown count cut anywhere")
-    data = FILES["U"][:236] + b"-1      " + FILES["U"][244:]
-    answers = {n: "E1 Cut" if n < 256 else "E14 CutSignals" for n in range(0, 768, 64)}
-    answers |= {n: "E21 CutRecord record=1" for n in range(768, 886)}
-    answers |= {n: "E21 CutRecord record=2" for n in range(887, 1004)}
-    answers[1005] = "E21 CutRecord record=3"
+    data = by_hand.unknown(FILES["U"])
+    answers = {n: faults.cut() if n < 256 else faults.cut_signals() for n in range(0, 768, 64)}
+    answers |= {n: faults.cut_record(1) for n in range(768, 886)}
+    answers |= {n: faults.cut_record(2) for n in range(887, 1004)}
+    answers[1005] = faults.cut_record(3)
     for n in answers:
         checks.file(f"{n}", (data + b"\0")[:n])
     checks.take("night.db", *((str(n), refused(text)) for n, text in answers.items()), status=1)
     checks.run("list", "night.db")
     checks.file("886", data[:886])
     checks.file("whole", data)
-    checks.file("told", FILES["U"])
-    checks.take("night.db", ("886", NEW), ("whole", accepted(1, 1)), ("told", accepted(0, 2)),
+    checks.file("counted", FILES["U"])
+    checks.take("night.db", ("886", NEW), ("whole", accepted(1, 1)), ("counted", accepted(0, 2)),
                 ("whole", accepted(0, 2)))
     checks.run("export", "night.db", "1", out=canonical_u())
     checks.run("convert", "whole", out=canonical_u())
     checks.run(given=data, out=canonical_u())
-    checks.run(given=data[:-1], err=told.fault("-", "E21 CutRecord record=2"), status=1)
+    checks.run(given=data[:-1], err=printed.fault("-", faults.cut_record(2)), status=1)
 
 
 def annotations_of_several_signals_are_one_list(checks: Checks) -> None:
@@ -146,9 +143,9 @@ def annotations_of_several_signals_are_one_list(checks: Checks) -> None:
     checks.take("night.db", ("v.edf", NEW), ("export.edf", KNOWN), ("a.edf", DIFFERS), status=1)
     checks.run("export", "night.db", "1", out=export)
     for n in range(1024, 1050):
-        checks.run(given=v[:n], err=told.fault("-", "E21 CutRecord record=1"), status=1)
-    checks.run(given=v[:-1] + b"\1", err=told.fault("-", "E22 Tal record=1 offset=18"), status=1)
-    checks.run(given=v[:1024] + bytes(6) + v[1030:], err=told.fault("-", "E24 NotTimed record=1"),
+        checks.run(given=v[:n], err=printed.fault("-", faults.cut_record(1)), status=1)
+    checks.run(given=v[:-1] + b"\1", err=printed.fault("-", faults.tal(1, 18)), status=1)
+    checks.run(given=v[:1024] + bytes(6) + v[1030:], err=printed.fault("-", faults.not_timed(1)),
                status=1)
     checks.run(given=v[:-16] + bytes(16), out=Q)
 
@@ -192,13 +189,13 @@ def letters_are_the_year_of_a_startdate_after_2084(checks: Checks) -> None:
     march, end = late("02.03.yy", "02-MAR-2102"), late("31.12.84", "31-DEC-2084")
     begin = late("01.01.yy", "01-JAN-2085", "00.00.05")
     checks.run(given=march, out=march)
-    for data, text in ((late("02.03.yy", "X"), "E6 Startdate"),
-                       (late("02.03.YY", "02-MAR-2102"), "E6 Startdate"),
-                       (late("02.03.yy", "02-MAR-2102", "24.00.00"), "E7 Starttime"),
-                       (late("02.03.yy", "03-MAR-2102"), "E8 DatesDiffer"),
-                       (late("02.03.yy", "02-MAR-2185"), "E8 DatesDiffer"),
-                       (late("02.03.02", "02-MAR-2102"), "E8 DatesDiffer")):
-        checks.run(given=data, err=told.fault("-", text), status=1)
+    for data, text in ((late("02.03.yy", "X"), faults.startdate()),
+                       (late("02.03.YY", "02-MAR-2102"), faults.startdate()),
+                       (late("02.03.yy", "02-MAR-2102", "24.00.00"), faults.starttime()),
+                       (late("02.03.yy", "03-MAR-2102"), faults.dates_differ()),
+                       (late("02.03.yy", "02-MAR-2185"), faults.dates_differ()),
+                       (late("02.03.02", "02-MAR-2102"), faults.dates_differ())):
+        checks.run(given=data, err=printed.fault("-", text), status=1)
     for name, data in (("march", march), ("end", end), ("begin", begin)):
         checks.file(name, data)
     checks.take("night.db", ("march", NEW), ("begin", NEW))
@@ -214,7 +211,7 @@ def letters_are_the_year_of_a_startdate_after_2084(checks: Checks) -> None:
 def version() -> str:
     """The version, which one place of the sources has."""
     begin = 'pub const VERSION: &str = "'
-    texts = [path.read_text() for path in (arguments.TOP / "crates").glob("*/src/*.rt")]
+    texts = [path.read_text() for path in (arguments.TOP / "crates").glob("*/src/**/*.rt")]
     found, = (text.split(begin)[1].split('"')[0] for text in texts if begin in text)
     return found
 
@@ -222,7 +219,7 @@ def version() -> str:
 def words_that_ask_for_nothing(checks: Checks) -> None:
     checks.begin("words that ask for nothing are a usage fault, and help and the version are none")
     for flag in ("--version", "-V"):
-        checks.run(flag, out=f"edfstore {version()}\n")
+        checks.run(flag, out=printed.version("edfstore", version()))
     for words in (("list",), ("take", "night.db"), ("frob",), ("export", "night.db"),
                   ("list", "-x"), ("convert",), ("list", "night.db", "more")):
         checks.run(*words, err=None, status=2)
@@ -235,7 +232,7 @@ def main() -> None:
         checks = Checks(given.program, Path(name))
         for case in (one_record_is_its_own_canonical_file,
                      two_records_cut_inside_the_second_leave_nothing,
-                     an_overlap_is_told_with_both_starts, a_withheld_date_is_another_recording,
+                     an_overlap_is_refused_with_both_starts, a_withheld_date_is_another_recording,
                      a_missing_file_is_trouble_and_the_next_is_taken,
                      a_refused_conversion_writes_nothing, a_file_cut_anywhere,
                      a_file_of_unknown_count_cut_anywhere,
@@ -245,4 +242,5 @@ def main() -> None:
     checks.end()
 
 
-main()
+if __name__ == "__main__":
+    main()

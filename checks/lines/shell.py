@@ -1,68 +1,68 @@
-#!/usr/bin/env python3
 """What a person may type: names, streams and stores that are not as they should be, with the lines
 and statuses that follow.
 
-    checks/lines/shell.py [--program PATH]
+    python3 -m checks.lines.shell [--program PATH]
 
 It needs bash and sqlite3 (the command).
 """
 from pathlib import Path
 
-from lib import arguments, edf, measure, told
-from lib.checks import Checks
-from lib.told import KNOWN, NEW, NO_STORE, UNREAD
+from checks.lib import arguments, edf, faults, measure, printed
+from checks.lib.checks import Checks
+from checks.lib.printed import KNOWN, NEW, NO_STORE, UNREAD
 
 FILES = edf.small_files()
 Q, P5 = FILES["Q"], FILES["P5"]
-ONE, TWO = (told.recording(1, records, "2002-03-02T23:59:50", "P7", "N1") for records in (1, 2))
-UNWRITTEN = told.fault("export", "E43 Write")
+ONE, TWO = (printed.recording(1, records, "2002-03-02T23:59:50", "P7", "N1") for records in (1, 2))
+UNWRITTEN = printed.fault("export", faults.write())
 
 
 def begun(checks: Checks, case: str, held: bool = False) -> None:
-    """A folder with a.edf and p.edf, and with a store of a.edf where it is wanted."""
+    """A folder with a.edf and p.edf, and with a store of a.edf where it is to be held."""
     checks.begin(case)
     checks.file("a.edf", Q)
     checks.file("p.edf", P5)
     if held:
-        checks.shell("edfstore take s.db a.edf", told.line("a.edf", NEW))
+        checks.shell("edfstore take s.db a.edf", printed.line("a.edf", NEW))
 
 
 def names(checks: Checks) -> None:
     begun(checks, "names")
-    checks.shell("edfstore take s.db a.edf a.edf", told.lines(("a.edf", NEW), ("a.edf", KNOWN)))
+    checks.shell("edfstore take s.db a.edf a.edf", printed.lines(("a.edf", NEW), ("a.edf", KNOWN)))
     checks.shell("cp a.edf 'a night.edf'; edfstore take s.db 'a night.edf'",
-                 told.line("a night.edf", KNOWN))
+                 printed.line("a night.edf", KNOWN))
     checks.shell("cp a.edf 'n\u00e4cht.edf'; edfstore take s.db 'n\u00e4cht.edf'",
-                 told.line("n\u00e4cht.edf", KNOWN))
-    checks.shell("edfstore take s.db ./a.edf", told.line("./a.edf", KNOWN))
-    checks.shell("mkdir d; edfstore take s.db d p.edf", told.lines(("d", UNREAD), ("p.edf", NEW)),
-                 status=3)
-    checks.shell("edfstore take s.db ''", told.line("", UNREAD), status=3)
+                 printed.line("n\u00e4cht.edf", KNOWN))
+    checks.shell("edfstore take s.db ./a.edf", printed.line("./a.edf", KNOWN))
+    checks.shell("mkdir d; edfstore take s.db d p.edf",
+                 printed.lines(("d", UNREAD), ("p.edf", NEW)), status=3)
+    checks.shell("edfstore take s.db ''", printed.line("", UNREAD), status=3)
     checks.shell("cp a.edf 'more files.db'; edfstore take 'a store.db' 'more files.db'; "
-                 "edfstore list 'a store.db'", told.line("more files.db", NEW) + ONE)
-    checks.shell("edfstore list $'s\\xff.db'", err="error: a word is not UTF-8\n", status=2)
+                 "edfstore list 'a store.db'", printed.line("more files.db", NEW) + ONE)
+    checks.shell("edfstore list $'s\\xff.db'", err=printed.NOT_UTF_8, status=2)
     checks.shell("edfstore take t.db a.edf $'b\\xff.edf'; test ! -e t.db",
-                 err="error: a word is not UTF-8\n")
+                 err=printed.NOT_UTF_8)
 
 
 def streams(checks: Checks) -> None:
     begun(checks, "standard input")
-    checks.shell("edfstore take s.db - < a.edf", told.line("-", NEW))
+    checks.shell("edfstore take s.db - < a.edf", printed.line("-", NEW))
     checks.shell("edfstore take s.db - - < a.edf",
-                 told.lines(("-", KNOWN), ("-", told.refused("E1 Cut"))), status=1)
-    checks.shell("cat a.edf | edfstore take s.db p.edf -", told.lines(("p.edf", NEW), ("-", KNOWN)))
-    checks.shell("edfstore take s.db - <&-", told.line("-", UNREAD), status=3)
+                 printed.lines(("-", KNOWN), ("-", printed.refused(faults.cut()))), status=1)
+    checks.shell("cat a.edf | edfstore take s.db p.edf -",
+                 printed.lines(("p.edf", NEW), ("-", KNOWN)))
+    checks.shell("edfstore take s.db - <&-", printed.line("-", UNREAD), status=3)
     checks.shell("edfstore convert - < a.edf | cmp - a.edf")
     begun(checks, "standard output that can't be written", held=True)
     checks.shell("edfstore list s.db > /dev/full", status=3)
     checks.shell("edfstore export s.db 1 > /dev/full", err=UNWRITTEN, status=3)
     checks.shell("edfstore convert a.edf > /dev/full", err=UNWRITTEN, status=3)
     checks.shell("edfstore take s.db p.edf a.edf > /dev/full", status=3)
-    checks.shell("edfstore take s.db p.edf", told.line("p.edf", KNOWN))
+    checks.shell("edfstore take s.db p.edf", printed.line("p.edf", KNOWN))
     checks.shell("edfstore list s.db >&-", status=3)
     checks.shell("edfstore export s.db 9 2> /dev/full", status=3)
     checks.shell("edfstore export s.db 9 2>&-", status=3)
-    checks.shell("edfstore take s.db a.edf 2>&-", told.line("a.edf", KNOWN))
+    checks.shell("edfstore take s.db a.edf 2>&-", printed.line("a.edf", KNOWN))
     checks.shell("edfstore take s.db a.edf <&- >&- 2>&-", status=3)
     checks.shell("edfstore list s.db", TWO)
     checks.shell("sqlite3 s.db 'PRAGMA integrity_check; SELECT count(*) FROM record'", "ok\n2\n")
@@ -74,7 +74,7 @@ def pipes(checks: Checks) -> None:
     header = edf.Header((edf.Signal(samples="200000"), edf.annotations_signal(8)), count="40")
     checks.file("large.edf",
                 edf.fragment(header, [(bytes(400_000), edf.keeping(f"+{n}")) for n in range(40)]))
-    checks.shell("edfstore take s.db large.edf", told.line("large.edf", told.accepted(40)))
+    checks.shell("edfstore take s.db large.edf", printed.line("large.edf", printed.accepted(40)))
     checks.shell("set -o pipefail; edfstore export s.db 1 | head -c 10 > front; "
                  "head -c 10 large.edf | cmp - front", err=UNWRITTEN)
     checks.shell("(edfstore export s.db 1; echo $? > status) 2> /dev/null | head -c 10 > front; "
@@ -86,26 +86,26 @@ def stores(checks: Checks) -> None:
     checks.shell("edfstore take none/s.db a.edf", err=NO_STORE, status=3)
     checks.shell("edfstore list none/s.db; edfstore list typo.db; ls none typo.db* 2> /dev/null",
                  status=2)
-    checks.shell("edfstore export typo.db 1", err=told.no_recording(1), status=1)
+    checks.shell("edfstore export typo.db 1", err=printed.no_recording(1), status=1)
     checks.shell("ls typo.db* 2> /dev/null", status=2)
     checks.shell("mkdir folder; edfstore take folder a.edf", err=NO_STORE, status=3)
     checks.shell("cp a.edf before.edf; edfstore list a.edf", err=NO_STORE, status=3)
-    checks.shell("cmp before.edf a.edf && edfstore export '' 1", err=told.no_recording(1),
+    checks.shell("cmp before.edf a.edf && edfstore export '' 1", err=printed.no_recording(1),
                  status=1)
     checks.shell("edfstore take '' a.edf", err=NO_STORE, status=3)
     checks.shell("cp s.db copy.db; edfstore list copy.db", ONE)
     checks.shell("edfstore take :memory: a.edf p.edf a.edf",
-                 told.lines(("a.edf", NEW), ("p.edf", NEW), ("a.edf", KNOWN)))
+                 printed.lines(("a.edf", NEW), ("p.edf", NEW), ("a.edf", KNOWN)))
     checks.shell("edfstore export s.db 1 | edfstore take other.db -; "
-                 "edfstore export other.db 1 | cmp - a.edf", told.line("-", NEW))
+                 "edfstore export other.db 1 | cmp - a.edf", printed.line("-", NEW))
 
 
 def at_once(checks: Checks) -> None:
     """A store that another program has open."""
     begun(checks, "a store that is open elsewhere", held=True)
-    checks.shell("mkfifo f; edfstore take s.db f > told & sleep 0.5; edfstore list s.db; s=$?; "
-                 "edfstore take s.db p.edf; cat p.edf > f; wait; cat told; exit $s",
-                 told.line("f", NEW), 2 * NO_STORE, status=3)
+    checks.shell("mkfifo f; edfstore take s.db f > lines & sleep 0.5; edfstore list s.db; s=$?; "
+                 "edfstore take s.db p.edf; cat p.edf > f; wait; cat lines; exit $s",
+                 printed.line("f", NEW), 2 * NO_STORE, status=3)
     checks.shell("edfstore list s.db", TWO)
     checks.shell("\"$PROGRAM\" take s.db f & p=$!; sleep 0.5; kill -9 $p; wait $p 2> /dev/null; "
                  "edfstore list s.db", TWO)
@@ -121,4 +121,5 @@ def main() -> None:
     checks.end()
 
 
-main()
+if __name__ == "__main__":
+    main()

@@ -1,8 +1,7 @@
-#!/usr/bin/env python3
 """The files of the programs' stored runs, which the gate runs: compared with those made here, and
 run; or written anew.
 
-    checks/lines/stored.py [--program PATH] [--edfruns PATH] [--write]
+    python3 -m checks.lines.stored [--program PATH] [--edfruns PATH] [--write]
 
 --write writes stdin, stdout and data/ of the three crates. PATH is edfstore; edfruns is the one
 that bin/edfruns runs where it is left out. What goes in is built field by field; what must come
@@ -18,13 +17,13 @@ import sqlite3
 import sys
 from pathlib import Path
 
-from lib import arguments, edf, measure, model, named, stories, told
-from lib.checks import end
+from checks.lib import arguments, edf, measure, model, named, printed, stories
+from checks.lib.by_hand import MARCH_3, OVERLAPS
+from checks.lib.checks import end
 
 CRATES = arguments.TOP / "crates"
 FILES = edf.small_files()
 Q, P5, R9, K, U = (FILES[letter] for letter in ("Q", "P5", "R9", "K", "U"))
-MARCH_3 = {"startdate": "03.03.02", "recording": "Startdate 03-MAR-2002 N1 T3 REC5"}
 HOUR = 3610     # seconds from Q's start to one in the morning
 MANY = 600
 STORED = "edfstore_stored_run"
@@ -56,7 +55,7 @@ def long_spelling() -> bytes:
 
 
 def card() -> bytes:
-    """The same and Q, from Q's start on: annotations behind the samples, a list a text, no more
+    """The same and Q, from Q's start on: annotations after the samples, a list a text, no more
     samples than needed."""
     records = [(Q[768:772], edf.keeping("+0"))]
     for n in range(MANY):
@@ -88,15 +87,15 @@ def two_gaps() -> bytes:
 
 
 HELD = (P5, K, U, Q, nap(), R9)
-LISTED = (told.recording(1, 2, "2002-03-04T13:00:00.25", "P12", "N4") +
-          told.recording(2, 6, "2002-03-02T23:59:50", "P7", "N1") +
-          told.recording(3, 2, "2002-03-02T22:00:00", "X", "X")).encode()
-OVERLAP = told.refused("E30 Overlap start=2002-03-02T23:59:50.5 stored=2002-03-02T23:59:50")
-TAKEN = told.lines(("a.edf", told.NEW), ("missing.edf", told.UNREAD), ("b.edf", OVERLAP),
-                   ("-", told.accepted(600)), ("card.edf", told.accepted(0, 601))).encode()
-RUNS = (told.run(1, 3, "2002-03-02T23:59:50.25", "3", "7.5") +
-        told.run(2, 2, "2002-03-03T00:00:00.75", "2", "3597.25") +
-        told.run(3, 1, "2002-03-03T01:00:00", "1")).encode()
+LISTED = (printed.recording(1, 2, "2002-03-04T13:00:00.25", "P12", "N4") +
+          printed.recording(2, 6, "2002-03-02T23:59:50", "P7", "N1") +
+          printed.recording(3, 2, "2002-03-02T22:00:00", "X", "X")).encode()
+TAKEN = printed.lines(("a.edf", printed.NEW), ("missing.edf", printed.UNREAD),
+                      ("b.edf", printed.refused(OVERLAPS)), ("-", printed.accepted(600)),
+                      ("card.edf", printed.accepted(0, 601))).encode()
+RUNS = (printed.run(1, 3, "2002-03-02T23:59:50.25", "3", "7.5") +
+        printed.run(2, 2, "2002-03-03T00:00:00.75", "2", "3597.25") +
+        printed.run(3, 1, "2002-03-03T01:00:00", "1")).encode()
 
 
 def store(program: Path, folder: Path) -> bytes:
@@ -119,7 +118,7 @@ def of_the_program() -> list:
 def orders_of(script: stories.Script) -> tuple:
     """The file `orders` of edfstore_stored_run, and what is written for it."""
     lines = [("# the program by other words, over stores that are files", b"")]
-    lines += [(f"edfstore {words}", out + f"status {status}\n".encode())
+    lines += [(f"edfstore {words}", out + f"{stories.ended(status)}\n".encode())
               for words, out, status in of_the_program()]
     lines += [(order, "".join(f"{line}\n" for line in written).encode())
               for order, written in script.lines]
@@ -144,10 +143,10 @@ def by_model() -> None:
     for data in HELD:
         held.take(data)
     taken = model.Store()
-    named = (("a.edf", Q), ("missing.edf", None), ("b.edf", FILES["half"]), ("-", long_spelling()),
+    files = (("a.edf", Q), ("missing.edf", None), ("b.edf", FILES["half"]), ("-", long_spelling()),
              ("card.edf", card()))
-    lines = told.lines(*((name, taken.take(data) if data else told.UNREAD)
-                         for name, data in named))
+    lines = printed.lines(*((name, taken.take(data) if data else printed.UNREAD)
+                            for name, data in files))
     if held.lines().encode() != LISTED or held.export(2) != exported() or lines.encode() != TAKEN:
         sys.exit("the model answers otherwise")
 
@@ -171,12 +170,14 @@ def rows_by_model() -> list:
             for record in held.held[key][1]]
 
 
-def is_stored(path: str, wanted: bytes, folder: Path) -> bool:
+def is_stored(path: str, expected: bytes, folder: Path) -> bool:
     """Whether a stored file is this one; of a store its rows are compared."""
     at = CRATES / path
     if not at.exists():
         return False
-    return rows(at, folder) == rows_by_model() if at.suffix == ".db" else at.read_bytes() == wanted
+    if at.suffix == ".db":
+        return rows(at, folder) == rows_by_model()
+    return at.read_bytes() == expected
 
 
 def call(program: Path, words: list, given: bytes, room: Path) -> tuple:
@@ -191,15 +192,16 @@ def run(program: Path, crate: Path, folder: Path) -> bool:
     room.mkdir()
     if (crate / "data").is_dir():
         shutil.copytree(crate / "data", room, dirs_exist_ok=True)
-    words, given, wanted, status = ((crate / name).read_bytes() if (crate / name).exists() else b""
-                                    for name in ("args", "stdin", "stdout", "status"))
+    words, given, expected, status = (
+        (crate / name).read_bytes() if (crate / name).exists() else b""
+        for name in ("args", "stdin", "stdout", "status"))
     written, ends = call(program, words.decode().splitlines(), given, room)
     if crate.name == STORED:
-        written, wanted = written.splitlines(), TAKEN.splitlines()
+        written, expected = written.splitlines(), TAKEN.splitlines()
         for order, out, last in of_the_program():
             written.append(call(program, order.split(), b"", room))
-            wanted.append((out, last))
-    is_well = written == wanted and ends == int(status or 0)
+            expected.append((out, last))
+    is_well = written == expected and ends == int(status or 0)
     print(f"{crate.name} {'ran, and wrote what it must' if is_well else 'FAILED'}")
     return is_well
 
@@ -211,25 +213,24 @@ def played(program: Path, order: str, room: Path, nth: int) -> list:
     ran = measure.ran(program, *given, folder=room)
     out = ran.out.decode("latin-1")
     if name:
-        is_that = ran.out == (room / name).read_bytes()
-        out = f"{'just' if is_that else 'not'} {name}, {len(ran.out)} bytes\n"
-    err = f"err: {ran.err.decode()}" if ran.err else ""
-    return [*(out + err).splitlines(), f"status {ran.status}"]
+        out = stories.just(name, len(ran.out), ran.out == (room / name).read_bytes())
+    err = stories.on_error(ran.err.decode()).splitlines() if ran.err else []
+    return [*out.splitlines(), *err, stories.ended(ran.status)]
 
 
 def play(program: Path, script: stories.Script, room: Path) -> tuple:
     """How many commands of the stories of its own cap the program was given, and how many it
     answered otherwise than it must."""
     nth, is_asked, wrong, done = 0, False, 0, 0
-    for order, wanted in script.lines:
+    for order, expected in script.lines:
         if order.startswith("store "):
             nth, is_asked = nth + 1, order == f"store {stories.MOST}"
         elif is_asked and not order.startswith("#"):
             written = played(program, order, room, nth)
             done += 1
-            if written != list(wanted):
+            if written != list(expected):
                 wrong += 1
-                print(f"{order}: {written}\n  by hand: {list(wanted)}")
+                print(f"{order}: {written}\n  by hand: {list(expected)}")
     return done, wrong
 
 
@@ -252,13 +253,15 @@ def main() -> None:
         files = files_of(store(given.program, folder), script)
         if given.write:
             write(files)
-        others = [path for path, wanted in files.items() if not is_stored(path, wanted, folder)]
+        others = [path for path, expected in files.items() if not is_stored(path, expected, folder)]
         for path in others:
             print(f"{path} is not what is made here")
-        ran = [run(given.program, crate, folder) for crate in sorted(CRATES.glob("edfstore*"))]
-        ran.append(run(given.edfruns, CRATES / "edfruns", folder))
+        ran = [run(given.program, CRATES / "edfstore", folder),
+               run(given.program, CRATES / STORED, folder),
+               run(given.edfruns, CRATES / "edfruns", folder)]
         done, wrong = play(given.program, script, folder / STORED)
     end(len(ran) + done, len(others) + ran.count(False) + wrong)
 
 
-main()
+if __name__ == "__main__":
+    main()

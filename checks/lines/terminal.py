@@ -1,8 +1,7 @@
-#!/usr/bin/env python3
-"""What the program says to a person, where standard error is a terminal: causes, new stores and how
-far `take` is.
+"""What the program prints for a person, where standard error is a terminal: causes, new stores and
+how far `take` is.
 
-    checks/lines/terminal.py [--program PATH]
+    python3 -m checks.lines.terminal [--program PATH]
 
 Standard error is a terminal here and standard output is none. It needs sqlite3 (the command).
 """
@@ -13,21 +12,11 @@ import tty
 from dataclasses import replace
 from pathlib import Path
 
-from lib import arguments, edf, measure, told
-from lib.checks import Checks
-from lib.told import FOREIGN, KNOWN, NEW, NO_STORE, UNREAD
+from checks.lib import arguments, edf, faults, measure, printed
+from checks.lib.checks import Checks
+from checks.lib.printed import FOREIGN, KNOWN, NEW, NO_STORE, UNREAD, WIPED, cause, step
 
 Q = edf.small_files()["Q"]
-MADE = "no such file; made a new, empty store\n"
-MISSING = "no such file\n"
-WIPED = "\r" + 60 * " " + "\r"
-NONE = "no such file or directory"
-ENDED = "another program has it open; run this again when that has ended"
-
-
-def step(nth: int, count: int, megabytes: int = 0) -> str:
-    """What `take` tells at a file, or a megabyte."""
-    return f"\rfile {nth} of {count}, {megabytes} MB read"
 
 
 def written_to(terminal: int) -> bytes:
@@ -47,8 +36,7 @@ def on_terminal(checks: Checks, words: str, out="", err="", status: int = 0,
     terminal, inside = pty.openpty()
     tty.setraw(inside)
     source = os.open(given, os.O_RDONLY)
-    ran = measure.ran(checks.program, *words.split(" "), given=source, err=inside,
-                      folder=checks.folder)
+    ran = checks.program.ran(*words.split(" "), given=source, err=inside)
     os.close(source)
     os.close(inside)
     ran = replace(ran, err=written_to(terminal))
@@ -65,84 +53,79 @@ def begun(checks: Checks, case: str) -> None:
 
 def new_stores(checks: Checks) -> None:
     begun(checks, "a path that is not there makes a store for take alone")
-    on_terminal(checks, "list typo.db", err=f"typo.db: {MISSING}")
-    on_terminal(checks, "list typo.db", err=f"typo.db: {MISSING}")
-    on_terminal(checks, "list none/typo.db", err=f"none/typo.db: {MISSING}")
+    on_terminal(checks, "list typo.db", err=cause("typo.db", printed.MISSING))
+    on_terminal(checks, "list typo.db", err=cause("typo.db", printed.MISSING))
+    on_terminal(checks, "list none/typo.db", err=cause("none/typo.db", printed.MISSING))
     on_terminal(checks, "export other.db 1", status=1,
-                err=f"other.db: {MISSING}{told.no_recording(1)}")
-    on_terminal(checks, "take third.db a.edf", told.line("a.edf", NEW),
-                f"third.db: {MADE}{step(1, 1)}{WIPED}")
-    on_terminal(checks, "take :memory: a.edf", told.line("a.edf", NEW), step(1, 1) + WIPED)
+                err=cause("other.db", printed.MISSING) + printed.no_recording(1))
+    on_terminal(checks, "take third.db a.edf", printed.line("a.edf", NEW),
+                cause("third.db", printed.MADE) + step(1, 1) + WIPED)
+    on_terminal(checks, "take :memory: a.edf", printed.line("a.edf", NEW), step(1, 1) + WIPED)
     on_terminal(checks, "convert a.edf", Q)
     on_terminal(checks, "export s.db 1", Q)
 
 
 def how_far(checks: Checks) -> None:
-    begun(checks, "take tells how far it is, at each file and each megabyte")
+    begun(checks, "take prints how far it is, at each file and each megabyte")
     header = edf.Header((edf.Signal(samples="100000"), edf.annotations_signal(8)),
                         starttime="02.00.00", count="12")
     checks.file("large.edf",
                 edf.fragment(header, [(bytes(200_000), edf.keeping(f"+{n}")) for n in range(12)]))
-    answers = (("a.edf", KNOWN), ("large.edf", told.accepted(12)), ("none.edf", UNREAD))
+    answers = (("a.edf", KNOWN), ("large.edf", printed.accepted(12)), ("none.edf", UNREAD))
     steps = ((1, 0), (2, 0), (2, 1), (2, 2), (3, 2))
-    on_terminal(checks, "take s.db a.edf large.edf none.edf", told.lines(*answers),
+    on_terminal(checks, "take s.db a.edf large.edf none.edf", printed.lines(*answers),
                 "".join(step(nth, 3, megabytes) for nth, megabytes in steps) + WIPED +
-                f"none.edf: {NONE}\n", status=3)
+                cause("none.edf", printed.NO_FILE), status=3)
 
 
 def causes(checks: Checks) -> None:
     begun(checks, "why a store is refused")
     (checks.folder / "folder").mkdir()
-    no_file = "not a plain file, but a directory, a device or a linked file"
-    for path, cause in (("a.edf/s.db", "a directory of its path is a file"), ("folder", no_file),
-                        ("/dev/full", no_file),
-                        ("a.edf", "not a database, or none that can be read here"),
-                        ("file:s.db", "a path that begins with 'file:' is written './file:'")):
-        on_terminal(checks, f"list {path}", err=f"{NO_STORE}{path}: {cause}\n", status=3)
+    for path, why in (("a.edf/s.db", printed.FILE_ON_PATH), ("folder", printed.NO_PLAIN_FILE),
+                      ("/dev/full", printed.NO_PLAIN_FILE), ("a.edf", printed.NO_DATABASE),
+                      ("file:s.db", printed.NO_PATH)):
+        on_terminal(checks, f"list {path}", err=NO_STORE + cause(path, why), status=3)
     checks.shell("sqlite3 other.db 'CREATE TABLE night (a)'")
-    on_terminal(checks, "list other.db", status=3,
-                err=f"{FOREIGN}other.db: its tables are not a store's, or have an index or a "
-                    "trigger; it was left as it is\n")
+    on_terminal(checks, "list other.db", err=FOREIGN + cause("other.db", printed.OTHER_TABLES),
+                status=3)
     checks.shell("cp s.db rows.db; sqlite3 rows.db 'UPDATE record SET start = start + 1'")
-    on_terminal(checks, "list rows.db", status=3,
-                err=f"{FOREIGN}rows.db: its rows are such as no submissions leave; "
-                    "put it aside, as it is\n")
+    on_terminal(checks, "list rows.db", err=FOREIGN + cause("rows.db", printed.OTHER_ROWS),
+                status=3)
     checks.shell("cp s.db cut.db; truncate -s 9000 cut.db")
-    on_terminal(checks, "list cut.db", err=f"{NO_STORE}cut.db: the file is damaged\n", status=3)
+    on_terminal(checks, "list cut.db", err=NO_STORE + cause("cut.db", printed.DAMAGED), status=3)
     if os.geteuid() != 0:
         (checks.folder / "rows.db").chmod(0o400)
-        on_terminal(checks, "list rows.db",
-                    err=f"{NO_STORE}rows.db: no permission to read and write it, or files "
-                        "beside it\n", status=3)
+        on_terminal(checks, "list rows.db", err=NO_STORE + cause("rows.db", printed.NOT_PERMITTED),
+                    status=3)
     os.mkfifo(checks.folder / "slow")
-    with subprocess.Popen([checks.program, "take", "s.db", "slow"], cwd=checks.folder,
-                          stdout=subprocess.DEVNULL) as other:
+    with checks.program.started("take", "s.db", "slow", stdout=subprocess.DEVNULL) as other:
         with open(checks.folder / "slow", "wb"):
-            on_terminal(checks, "list s.db", err=f"{NO_STORE}s.db: {ENDED}\n", status=3)
+            on_terminal(checks, "list s.db", err=NO_STORE + cause("s.db", printed.BUSY), status=3)
         other.wait()
 
 
 def unread_files(checks: Checks) -> None:
     begun(checks, "why a file can't be read")
     (checks.folder / "folder").mkdir()
-    causes = [("none.edf", NONE), ("none/a.edf", NONE), ("", NONE),
-              ("a.edf/b.edf", "a directory of its path is a file"), ("folder", "a directory")]
+    files = [("none.edf", printed.NO_FILE), ("none/a.edf", printed.NO_FILE), ("", printed.NO_FILE),
+             ("a.edf/b.edf", printed.FILE_ON_PATH), ("folder", printed.DIRECTORY)]
     if os.geteuid() != 0:
         checks.file("secret.edf", Q)
         (checks.folder / "secret.edf").chmod(0)
-        causes.append(("secret.edf", "no permission to read it"))
-    for path, cause in causes:
-        unread = told.line(path, UNREAD)
-        on_terminal(checks, f"convert {path}", err=f"{path}: {cause}\n{unread}", status=3)
-        on_terminal(checks, f"take s.db {path} a.edf", unread + told.line("a.edf", KNOWN),
-                    f"{step(1, 2)}{WIPED}{path}: {cause}\n{step(2, 2)}{WIPED}", status=3)
+        files.append(("secret.edf", printed.UNREADABLE))
+    for path, why in files:
+        unread = printed.line(path, UNREAD)
+        on_terminal(checks, f"convert {path}", err=cause(path, why) + unread, status=3)
+        on_terminal(checks, f"take s.db {path} a.edf", unread + printed.line("a.edf", KNOWN),
+                    step(1, 2) + WIPED + cause(path, why) + step(2, 2) + WIPED, status=3)
         checks.run("convert", path, err=unread, status=3)
-    on_terminal(checks, "take s.db -", told.line("-", UNREAD),
-                f"{step(1, 1)}{WIPED}-: a directory\n", status=3, given=checks.folder)
-    on_terminal(checks, "convert -", err="-: a directory\n" + told.line("-", UNREAD), status=3,
+    directory = cause("-", printed.DIRECTORY)
+    on_terminal(checks, "take s.db -", printed.line("-", UNREAD), step(1, 1) + WIPED + directory,
+                status=3, given=checks.folder)
+    on_terminal(checks, "convert -", err=directory + printed.line("-", UNREAD), status=3,
                 given=checks.folder)
     checks.file("cut.edf", Q[:100])
-    on_terminal(checks, "convert cut.edf", err=told.fault("cut.edf", "E1 Cut"), status=1)
+    on_terminal(checks, "convert cut.edf", err=printed.fault("cut.edf", faults.cut()), status=1)
 
 
 def main() -> None:
@@ -155,4 +138,5 @@ def main() -> None:
     checks.end()
 
 
-main()
+if __name__ == "__main__":
+    main()

@@ -17,7 +17,7 @@ SECTOR = 512
 
 @dataclass(frozen=True)
 class Call:
-    """A call as `calls.c` tells it: its letter, the number of the file, a number, and bytes."""
+    """A call as `calls.c` writes it: its letter, the number of the file, a number, and bytes."""
     letter: str
     file: int
     number: int
@@ -25,11 +25,11 @@ class Call:
 
 
 def read_calls(path: Path) -> list:
-    told, calls, at = path.read_bytes(), [], 0
-    while at < len(told):
-        letter, file, size, number = struct.unpack_from("<cBIQ", told, at)
+    written, calls, at = path.read_bytes(), [], 0
+    while at < len(written):
+        letter, file, size, number = struct.unpack_from("<cBIQ", written, at)
         at += 14
-        calls.append(Call(letter.decode(), file, number, told[at:at + size]))
+        calls.append(Call(letter.decode(), file, number, written[at:at + size]))
         at += size
     return calls
 

@@ -1,7 +1,6 @@
-#!/usr/bin/env python3
 """Cuts the power of `edfstore take`, by the calls that it makes, and looks at what is held.
 
-    checks/powercut/run.py [--program PATH] [--seed SEED] [--only N] [COUNT]
+    python3 -m checks.powercut.run [--program PATH] [--seed SEED] [--only N] [COUNT]
 
 1,000 states if left out; needs `cc`. A night of thirty files is taken by the program, and its
 writes, syncs and changes of length are written down (`calls.c`, loaded before the C library): into
@@ -10,7 +9,7 @@ moments, in the opening, while the log is copied and at the end too, the two fil
 disk may leave them (`disk.py`). Each such pair is opened by `list` and `export`, and must hold what
 a front of the list leaves, byte for byte by the plain model. It holds no less than where all is
 lost that was not synced, than the files that the program had gone past, and than those that it had
-told as accepted; and no more than those that it had opened. Then the rest of the list, or all of
+printed as accepted; and no more than those that it had opened. Then the rest of the list, or all of
 it, is taken: each file is answered as it must be, and the export is the night's.
 
 Three controls must fail: a synced sector of the log, of a file that is held, is zeroed or as it was
@@ -29,9 +28,9 @@ import tempfile
 from dataclasses import dataclass, replace
 from pathlib import Path
 
-import disk
-from lib import arguments, measure, model, night, told
-from lib.checks import end
+from checks.lib import arguments, measure, model, night, printed
+from checks.lib.checks import end
+from checks.powercut import disk
 
 # 30 data records a file; after about two thirds of the files the log is long enough to be copied.
 NIGHT = night.Night(records=900, samples=(1600, 1600), fragments=30)
@@ -57,11 +56,12 @@ class Found:
 
 class Bench:
     def __init__(self, program: Path, folder: Path, seed: int):
-        self.program, self.folder, self.seed = program, folder, seed
+        self.program = measure.Program(program, most=SECONDS)
+        self.folder, self.seed = folder, seed
         self.library = measure.library(Path(__file__).resolve().parent / "calls.c", folder)
         self.parts = NIGHT.parts(folder)
         held, nothing = model.Store(), hashlib.sha256(b"").digest()
-        self.lists, self.exports = [b""], [nothing]     # what is told of each front
+        self.lists, self.exports = [b""], [nothing]     # of each front
         for part in self.parts:
             held.take(part.read_bytes())
             self.lists.append(held.lines().encode())
@@ -70,9 +70,6 @@ class Bench:
 
     def chance(self, *words) -> random.Random:
         return random.Random(":".join(map(str, (self.seed, *words))))
-
-    def ran(self, *words, **added: str) -> measure.Ran:
-        return measure.ran(self.program, *words, added=added, most=SECONDS)
 
     def own_folder(self) -> Path:
         """The folder of this process."""
@@ -88,9 +85,10 @@ class Bench:
     def taken(self, what: str, pair) -> disk.Takes:
         """The calls of a take of the whole list over such a store."""
         store, calls = self.laid(pair), self.own_folder() / "calls"
-        ran = self.ran("take", store, *self.parts, LD_PRELOAD=str(self.library), STORE=str(store),
-                       CALLS=str(calls), ENTROPY=str(self.chance("entropy", what).getrandbits(63)))
-        if ran.status or told.are_accepted(ran.out) != len(self.parts):
+        added = {"LD_PRELOAD": str(self.library), "STORE": str(store), "CALLS": str(calls),
+                 "ENTROPY": str(self.chance("entropy", what).getrandbits(63))}
+        ran = self.program.ran("take", store, *self.parts, added=added)
+        if ran.status or printed.count_accepted(ran.out) != len(self.parts):
             raise Unfit(f"{what}: {ran}")
         takes = disk.Takes(what, tuple(pair), disk.read_calls(calls))
         if takes.seen(len(takes.calls)) != read_pair(store):
@@ -98,18 +96,18 @@ class Bench:
         return takes
 
     def done(self, takes: disk.Takes, moment: int) -> tuple:
-        """How many files the take had gone past by then, told as accepted, and opened."""
+        """How many files the take had gone past by then, printed as accepted, and opened."""
         calls = takes.calls[takes.first:moment]
         names = {str(part).encode() for part in self.parts}
         opened = sum(call.letter == "i" and call.data in names for call in calls)
-        known = sum(told.are_accepted(call.data) for call in calls if call.letter == "o")
+        known = sum(printed.count_accepted(call.data) for call in calls if call.letter == "o")
         return max(takes.least, opened - 1, known), known, max(takes.most, opened)
 
     def front(self, store: Path, *orders: str) -> Found:
-        """Which front `list` and `export` tell of, as they are ordered."""
+        """Which front `list` and `export` print, run in this order."""
         fronts = set()
         for order in orders:
-            ran = self.ran(order, store, *(["1"] if order == "export" else []))
+            ran = self.program.ran(order, store, *(["1"] if order == "export" else []))
             found, known, status = ran.out, self.lists, 0
             if order == "export":
                 found, known, status = hashlib.sha256(found).digest(), self.exports, int(not found)
@@ -118,7 +116,7 @@ class Bench:
                              f"{ran.out[:100]!r}, {ran.err[-300:]!r}")
             fronts.add(known.index(found))
         if len(fronts) > 1:
-            return Found(-1, f"no front: list and export tell {fronts}")
+            return Found(-1, f"no front: list and export print {fronts}")
         return Found(fronts.pop())
 
     def first_held(self, pair) -> Found:
@@ -126,12 +124,12 @@ class Bench:
 
     def taken_again(self, store: Path, front: int, begin: int) -> str:
         """What is wrong where the list is taken from a place that is not after the held front."""
-        ran = self.ran("take", store, *self.parts[begin:])
+        ran = self.program.ran("take", store, *self.parts[begin:])
         records = NIGHT.records // NIGHT.fragments
-        answers = (told.accepted(*((0, records) if nth < front else (records, 0)))
+        answers = (printed.accepted(*((0, records) if nth < front else (records, 0)))
                    for nth in range(begin, len(self.parts)))
-        wanted = told.lines(*zip(self.parts[begin:], answers))
-        if ran.status or ran.err or ran.out.decode() != wanted:
+        expected = printed.lines(*zip(self.parts[begin:], answers))
+        if ran.status or ran.err or ran.out.decode() != expected:
             return f"taken again: {ran}"
         found = self.front(store, "export", "list")
         if found.wrong or found.front == len(self.parts):
@@ -218,7 +216,7 @@ def state(number: int) -> tuple:
     if found.wrong:
         place = f"{takes.what}, {moment} of {len(takes.calls)} calls, {part}"
         return None, (f"state {number}, {place}: {found.wrong}; {lost.front} files with all lost, "
-                      f"{past} gone past, {accepted} told, {opened} opened; "
+                      f"{past} gone past, {accepted} accepted, {opened} opened; "
                       f"{kept(number, pair)} has the two files")
     is_copied = part != "the opening" and bool(files[disk.STORE].versions)
     return {"take": takes.what.split(",")[0], "part": part, "front": found.front,
@@ -286,7 +284,7 @@ def taken_again(number: int) -> list:
     return [killed, replace(cut, least=found.front, most=found.front)]
 
 
-def tell(counts: list) -> None:
+def report(counts: list) -> None:
     """Prints what the states were that are not wrong."""
     for key, word in (("take", ""), ("part", "in ")):
         counted = collections.Counter(count[key] for count in counts)
@@ -297,7 +295,7 @@ def tell(counts: list) -> None:
           f"{many['missing']} of them a file")
     print(f"{len({count['front'] for count in counts})} different fronts were held, "
           f"{many['more']} times more files than with all lost that was not synced, "
-          f"{many['fewer']} times fewer than were told as accepted")
+          f"{many['fewer']} times fewer than were printed as accepted")
 
 
 def controlled(pool) -> list:
@@ -333,7 +331,7 @@ def takes(forking) -> list:
 
 
 def judged(pool, numbers) -> int:
-    """Judges these states, and tells how many are wrong."""
+    """Judges these states; how many are wrong."""
     counts, wrong = [], 0
     for count, why in pool.imap_unordered(state, numbers):
         if why:
@@ -341,7 +339,7 @@ def judged(pool, numbers) -> int:
             print(f"WRONG: {why}", flush=True)
         else:
             counts.append(count)
-    tell(counts)
+    report(counts)
     return wrong
 
 
@@ -367,4 +365,5 @@ def main() -> None:
     end(len(numbers), wrong + sum(2 * count <= CONTROLLED for count in found))
 
 
-main()
+if __name__ == "__main__":
+    main()

@@ -1,15 +1,14 @@
-#!/usr/bin/python3
 """What EDFbrowser's tool "Convert EDF+D to EDF+C" keeps of the annotations and samples of exports,
 beside `edfruns split`.
 
-    checks/readers/converter.py [--program PATH] [--edfruns PATH]
+    python3 -m checks.readers.converter [--program PATH] [--edfruns PATH]
 
 Of three nights with gaps the canonical file is given to both: of 28,800 data records of 1 s with an
 annotation or two in every seventh; of 960 of 30 s with a sleep stage in each; and of these with an
-event in each too. Told is how many annotations are in any of the files that were made, with onset,
-duration and text, and how many are there but for the end of their text; and how many of the files
-keep the rules of EDF+. The script ends with status 1 where `edfruns split` loses an annotation or
-breaks a rule, or another sample is in a file of either.
+event in each too. A table has how many annotations are in any of the files that were made, with
+onset, duration and text, how many are there but for the end of their text, and how many of the
+files keep the rules of EDF+. The status is 1 where `edfruns split` loses an annotation or breaks a
+rule, or where a file of either has another sample.
 
 It needs what `of_runs.py` needs of EDFbrowser, and so Debian's own python3.
 """
@@ -17,9 +16,9 @@ from collections import Counter
 from dataclasses import dataclass, replace
 from pathlib import Path
 
-import edfbrowser
-from lib import arguments, gapped, measure, model
-from lib.checks import end
+from checks.lib import arguments, gapped, measure, model
+from checks.lib.checks import end
+from checks.readers import edfbrowser
 
 SECOND = gapped.SECOND
 STAGES = ("W", "N1", "N2", "N3", "R")
@@ -58,7 +57,7 @@ def read(path: Path) -> tuple:
         return model.read(data.replace(TWO_SIGNS, ONE_SIGN))[1], False
 
 
-def told_by(paths: list) -> tuple:
+def content_of(paths: list) -> tuple:
     """The annotations of all files, each with its instant, the samples of each instant, and how
     many files keep the rules."""
     files = [read(path) for path in paths]
@@ -67,9 +66,9 @@ def told_by(paths: list) -> tuple:
             {record.start: record.samples for record in records}, sum(good for _, good in files))
 
 
-def cut(wanted: Counter, got: Counter) -> int:
-    """How many of the wanted that are not there have the front of their text there."""
-    missing, others = wanted - got, Counter(got - wanted)
+def cut(expected: Counter, got: Counter) -> int:
+    """How many of the expected ones that are not there have the front of their text there."""
+    missing, others = expected - got, Counter(got - expected)
     found = 0
     for at, duration, text in missing.elements():
         front = next((note for note in others if note[:2] == (at, duration) and others[note]
@@ -82,7 +81,7 @@ def cut(wanted: Counter, got: Counter) -> int:
 
 def line(name: str, tool: str, whole: tuple, made: list) -> tuple:
     notes, samples, _ = whole
-    got, got_samples, good = told_by(made)
+    got, got_samples, good = content_of(made)
     count = notes.total()
     kept, fronts = (notes & got).total(), cut(notes, got)
     same = sum(samples[start] == got_samples.get(start) for start in samples)
@@ -90,8 +89,8 @@ def line(name: str, tool: str, whole: tuple, made: list) -> tuple:
             f"{kept:,} of {count:,}", f"{fronts:,}", f"{count - kept - fronts:,}")
 
 
-def is_all(told: str) -> bool:
-    found, count = told.split(" of ")
+def is_all(part: str) -> bool:
+    found, count = part.split(" of ")
     return found == count
 
 
@@ -111,7 +110,7 @@ def main() -> None:
         try:
             for number, (kind, night) in enumerate(NIGHTS):
                 path = canonical(given.program, night, Path(name) / str(number))
-                whole = told_by([path])
+                whole = content_of([path])
                 measure.done(given.edfruns, "split", path, path.parent / "run")
                 split = sorted(path.parent.glob("run-*.edf"))
                 lines.append(line(kind, "edfruns split", whole, split))
@@ -127,4 +126,5 @@ def main() -> None:
     end(len(lines), sum(wrong))
 
 
-main()
+if __name__ == "__main__":
+    main()

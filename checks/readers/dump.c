@@ -1,7 +1,7 @@
 /* Reads an EDF file by EDFlib: dump FILE SAMPLES. The digital samples go into the file SAMPLES,
    signal by signal, as 32-bit integers of this machine; the rest is printed: how many data records
    there are, when the first starts, how many 100 ns one lasts, and then each annotation's onset and
-   duration, as EDFlib tells them, and its text. */
+   duration, as EDFlib gives them, and its text. */
 #include <edflib.h>
 #include <stdio.h>
 #include <stdlib.h>

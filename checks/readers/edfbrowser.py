@@ -13,9 +13,9 @@ import time
 from datetime import datetime
 from pathlib import Path
 
-import reading
-from lib import measure
-from reading import numpy
+from checks.lib import measure
+from checks.readers import reading
+from checks.readers.reading import numpy
 
 NEEDED = ("edfbrowser", "Xvfb", "xdotool", "xwininfo")
 PATIENCE = 120      # seconds for a window or a file
@@ -37,12 +37,12 @@ class Browser:
     def __init__(self, folder: Path):
         self.folder = folder / "edfbrowser"
         self.folder.mkdir()
-        told, tells = os.pipe()
+        reads, writes = os.pipe()
         self.screen = subprocess.Popen(
-            ["Xvfb", "-displayfd", str(tells), "-screen", "0", "1280x900x24", "-nolisten", "tcp"],
-            pass_fds=[tells], stderr=subprocess.DEVNULL)
-        os.close(tells)
-        with os.fdopen(told) as number:
+            ["Xvfb", "-displayfd", str(writes), "-screen", "0", "1280x900x24", "-nolisten", "tcp"],
+            pass_fds=[writes], stderr=subprocess.DEVNULL)
+        os.close(writes)
+        with os.fdopen(reads) as number:
             self.place = {"DISPLAY": f":{number.readline().strip()}", "HOME": str(self.folder),
                           "QT_QPA_PLATFORM": "xcb", "XDG_RUNTIME_DIR": str(self.folder),
                           "LC_ALL": "C.UTF-8"}
@@ -92,7 +92,7 @@ class Browser:
                            *keys, added=self.place)
 
     def open(self, path: Path) -> str:
-        """Opens the file alone, and tells the number of its error; 0 is none."""
+        """Opens the file alone; the number of its error, 0 where there is none."""
         self.sent("*RST")
         self.asked("SYSTEM:ERROR?")
         self.sent(f"FILE:OPEN {path}")
@@ -143,7 +143,7 @@ class Browser:
         return bool(before) and before == [made.stat().st_size for made in self._made_of(path)]
 
 
-def by_edfbrowser(path: Path, browser: Browser, samples: tuple) -> reading.Told:
+def by_edfbrowser(path: Path, browser: Browser, samples: tuple) -> reading.Content:
     """Samples, their times and annotations, as the tool writes them. It writes annotations in
     Latin-1 and cuts a text at a character that is not in it, so texts are compared as far as they
     go."""
@@ -161,12 +161,12 @@ def by_edfbrowser(path: Path, browser: Browser, samples: tuple) -> reading.Told:
     found = [line.split(",", 2) for line in notes.read_text("latin-1").splitlines()[1:]]
     for made in (copy, header, data, notes, copy.with_name(f"{path.stem}_signals.txt")):
         made.unlink()
-    told = [(float(onset), float(duration or 0), text) for onset, duration, text in found]
-    return reading.Told(reading.since_epoch(begun), signals, times, told)
+    read = [(float(onset), float(duration or 0), text) for onset, duration, text in found]
+    return reading.Content(reading.since_epoch(begun), signals, times, read)
 
 
 def read_rows(data: Path, samples: tuple, records: int) -> tuple:
-    """Digital samples by signal, and the start of each data record; a row tells a time, and each
+    """Digital samples by signal, and the start of each data record; a row has a time, and each
     signal that has a sample then."""
     columns = [[] for _ in range(1 + len(samples))]
     with open(data, encoding="ascii") as rows:

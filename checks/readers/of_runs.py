@@ -1,13 +1,12 @@
-#!/usr/bin/python3
 """Opens the files of a night's runs by EDFlib, MNE, BioSig and EDFbrowser, and compares what they
 read with what was submitted: every sample, the time of every data record, every annotation.
 
-    checks/readers/of_runs.py [--edfruns PATH | --model]
+    python3 -m checks.readers.of_runs [--edfruns PATH | --model]
 
 A night of 28,800 data records of 1 s and four signals has three gaps. It is split by `edfruns
 split`; with --model the files come from the plain model in checks/lib/runs.py. The third run begins
 at a quarter of a second, and each run has annotations that lie or reach outside of it. The script
-ends with status 1 where a reader refuses a run's file, has another sample, tells a wrong time of a
+ends with status 1 where a reader refuses a run's file, has another sample, gives a wrong time of a
 data record of a run that begins with a second, or an annotation that lies within such a run is not
 as submitted.
 
@@ -19,11 +18,10 @@ from dataclasses import dataclass
 from itertools import takewhile
 from pathlib import Path
 
-import edfbrowser
-import reading
-from lib import arguments, gapped, measure, model, runs
-from lib.checks import end
-from reading import numpy
+from checks.lib import arguments, gapped, measure, model, runs
+from checks.lib.checks import end
+from checks.readers import edfbrowser, reading
+from checks.readers.reading import numpy
 
 NIGHT = gapped.NIGHT
 PACKAGES = ("libedf1", "python3-mne", "biosig-tools", "edfbrowser")
@@ -56,7 +54,7 @@ class Found:
     outside: Part       # annotations that lie or reach outside of the run, at the right time
 
     def is_good(self, run: runs.Run) -> bool:
-        """Whether it is as it is wanted: of a run that begins with a second all but what is
+        """Whether it is as it is expected: of a run that begins with a second all but what is
         outside, else the samples."""
         if run.first() % model.SECOND:
             return self.samples.is_all()
@@ -75,33 +73,33 @@ def best(run: runs.Run, count: int, found_at) -> Part:
     return max(parts, key=lambda part: part.found)
 
 
-def same_samples(run: runs.Run, told: reading.Told) -> Part:
+def same_samples(run: runs.Run, content: reading.Content) -> Part:
     samples = b"".join(record.samples for record in run.records)
     rows = numpy.frombuffer(samples, "<i2").reshape(len(run.records), -1)
     edges, found = numpy.cumsum((0, *NIGHT.samples)), 0
-    for n, got in enumerate(told.signals):
-        wanted = rows[:, edges[n]:edges[n + 1]]
-        if got.size == wanted.size:
-            found += int((got.reshape(wanted.shape) == wanted).sum())
+    for n, got in enumerate(content.signals):
+        expected = rows[:, edges[n]:edges[n + 1]]
+        if got.size == expected.size:
+            found += int((got.reshape(expected.shape) == expected).sum())
     return Part(found, rows.size)
 
 
-def same_times(run: runs.Run, told: reading.Told) -> Part:
+def same_times(run: runs.Run, content: reading.Content) -> Part:
     def found_at(late: float) -> int:
-        return sum(abs(told.start + got - late - seconds(record.start)) < 0.001
-                   for got, record in zip(told.times, run.records))
+        return sum(abs(content.start + got - late - seconds(record.start)) < 0.001
+                   for got, record in zip(content.times, run.records))
     count = len(run.records)
-    return best(run, count, found_at) if len(told.times) == count else Part(0, count)
+    return best(run, count, found_at) if len(content.times) == count else Part(0, count)
 
 
-def same_notes(run: runs.Run, wanted: list, told: list, shift: float) -> Part:
+def same_notes(run: runs.Run, expected: list, notes: list, shift: float) -> Part:
     """How many annotations are there with onset and duration, to the millisecond, and text; `shift`
-    is added to the onsets told."""
+    is added to the onsets that were read."""
     def counted(notes: list, shift: float) -> Counter:
         return Counter((round(onset + shift, 3), round(duration, 3), text)
                        for onset, duration, text in notes)
-    return best(run, len(wanted),
-                lambda late: (counted(wanted, 0.0) & counted(told, shift - late)).total())
+    return best(run, len(expected),
+                lambda late: (counted(expected, 0.0) & counted(notes, shift - late)).total())
 
 
 def cut_to_latin(text: str) -> str:
@@ -110,18 +108,18 @@ def cut_to_latin(text: str) -> str:
     return "".join(takewhile(lambda letter: ord(letter) < 256, text))
 
 
-def found_in(run: runs.Run, told: reading.Told, is_latin: bool) -> Found:
+def found_in(run: runs.Run, content: reading.Content, is_latin: bool) -> Found:
     begin, within, outside = run.first(), [], []
     for onset, duration, text in (note for record in run.records for note in record.notes):
         is_within = begin <= onset and onset + (duration or 0) <= begin + run.length()
         kept = cut_to_latin(text.decode()) if is_latin else text.decode()
         note = (seconds(onset - begin), seconds(duration or 0), kept)
         (within if is_within else outside).append(note)
-    shift = told.start - seconds(begin)
-    return Found(same_samples(run, told), same_times(run, told),
-                 same_notes(run, within, told.notes, shift),
-                 same_notes(run, within, told.notes, -told.times[0]),
-                 same_notes(run, outside, told.notes, shift))
+    shift = content.start - seconds(begin)
+    return Found(same_samples(run, content), same_times(run, content),
+                 same_notes(run, within, content.notes, shift),
+                 same_notes(run, within, content.notes, -content.times[0]),
+                 same_notes(run, outside, content.notes, shift))
 
 
 def split(given, folder: Path) -> list:
@@ -138,27 +136,27 @@ def split(given, folder: Path) -> list:
 
 
 def lines_of(name: str, read, pairs: list) -> tuple:
-    """A line of the table for each run, and how many runs are not as they are wanted."""
+    """A line of the table for each run, and how many runs are not as they are expected."""
     lines, failed = [], 0
     for run, path in pairs:
         try:
-            told = read(path)
+            content = read(path)
         except Exception as fault:
             lines.append((name, run.number, f"no: {type(fault).__name__}: {fault}"[:100], "", "",
                           "", "", ""))
             failed += 1
             continue
-        found = found_in(run, told, name.startswith("EDFbrowser"))
+        found = found_in(run, content, name.startswith("EDFbrowser"))
         lines.append((name, run.number, "yes", found.samples, found.times, found.within, found.over,
                       found.outside))
         failed += not found.is_good(run)
-        for warning in told.warned:
+        for warning in content.warned:
             print(f"{name}, run {run.number} warns: {warning}")
     return lines, failed
 
 
 def read_all(pairs: list, folder: Path) -> list:
-    """The lines of each reader, and how many runs it does not read as they are wanted."""
+    """The lines of each reader, and how many runs it does not read as they are expected."""
     dump = measure.compiled(Path(__file__).parent / "dump.c", folder, "-ledf", "-lm")
     samples, browser = NIGHT.samples, edfbrowser.Browser(folder)
     try:
@@ -188,4 +186,5 @@ def main() -> None:
     end(len(lines), sum(failed for _, failed in answers))
 
 
-main()
+if __name__ == "__main__":
+    main()

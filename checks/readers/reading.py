@@ -7,7 +7,7 @@ from dataclasses import dataclass, field
 from datetime import datetime, timedelta
 from pathlib import Path
 
-from lib import measure
+from checks.lib import measure
 
 try:
     import mne
@@ -22,8 +22,8 @@ MNE = "MNE " + mne.__version__
 
 
 @dataclass
-class Told:
-    """What a reader tells of a file: digital samples by signal, when it begins, the start of each
+class Content:
+    """What a reader reads of a file: digital samples by signal, when it begins, the start of each
     data record, and each annotation's onset, duration and text. Times are seconds; all but `start`
     count from there."""
     start: float                # from 1985-01-01 00:00:00
@@ -49,7 +49,7 @@ def written_by(*words, **options) -> str:
     return ran.out.decode()
 
 
-def by_mne(path: Path, samples: tuple) -> Told:
+def by_mne(path: Path, samples: tuple) -> Content:
     """A signal at a time, since MNE brings signals of several rates to the highest."""
     signals, warned = [], set()
     with warnings.catch_warnings(record=True) as caught:
@@ -62,7 +62,7 @@ def by_mne(path: Path, samples: tuple) -> Told:
     count = len(signals[0]) // samples[0]
     times = [raw.times[n * samples[-1]] for n in range(count)]
     notes = [(note["onset"], note["duration"], note["description"]) for note in raw.annotations]
-    return Told(since_epoch(raw.info["meas_date"].replace(tzinfo=None)), signals, times, notes,
+    return Content(since_epoch(raw.info["meas_date"].replace(tzinfo=None)), signals, times, notes,
                 sorted(warned))
 
 
@@ -72,15 +72,15 @@ def stamp(text: str) -> datetime:
     return datetime.strptime(minute, "%Y-%m-%d %H:%M") + timedelta(seconds=float(seconds))
 
 
-def by_biosig(path: Path, folder: Path, samples: tuple) -> Told:
-    """The same by `save2gdf`: samples as text, events as JSON. Where no event tells the start of
+def by_biosig(path: Path, folder: Path, samples: tuple) -> Content:
+    """The same by `save2gdf`: samples as text, events as JSON. Where no event has the start of
     each data record, they follow each other from the start of the recording on."""
     made = folder / "ascii.asc"
     written_by("save2gdf", "-f=ASCII", path, made)
     signals = [digital(numpy.fromstring((folder / f"ascii.a{n + 1:02}").read_text(), sep="\n"))
                for n in range(len(samples))]
-    told = written_by("save2gdf", "-JSON", path)
-    said = json.loads(told[told.index("{"):], strict=False)
+    written = written_by("save2gdf", "-JSON", path)
+    said = json.loads(written[written.index("{"):], strict=False)
     begun, times, notes = stamp(said["StartOfRecording"]), [], []
     for event in said["EVENT"]:
         at = (stamp(event["TimeStamp"]) - begun).total_seconds()
@@ -91,10 +91,10 @@ def by_biosig(path: Path, folder: Path, samples: tuple) -> Told:
     if not times:
         seconds = said["NumberOfSamples"] / said["Samplingrate"] / said["NumberOfRecords"]
         times = [n * seconds for n in range(said["NumberOfRecords"])]
-    return Told(since_epoch(begun), signals, times, notes)
+    return Content(since_epoch(begun), signals, times, notes)
 
 
-def by_edflib(path: Path, folder: Path, samples: tuple, dump: Path) -> Told:
+def by_edflib(path: Path, folder: Path, samples: tuple, dump: Path) -> Content:
     """The same by dump.c, which is compiled to `dump`."""
     made = folder / "samples"
     head, *lines = written_by(dump, path, made).splitlines()
@@ -104,6 +104,6 @@ def by_edflib(path: Path, folder: Path, samples: tuple, dump: Path) -> Told:
     if parts.pop().size:
         raise ValueError("there are more samples than the data records have")
     notes = [line.split("\t", 2) for line in lines]
-    return Told(since_epoch(datetime.fromisoformat(begun)) + int(fraction) / 1e7, parts,
+    return Content(since_epoch(datetime.fromisoformat(begun)) + int(fraction) / 1e7, parts,
                 [n * int(lasts) / 1e7 for n in range(int(count))],
                 [(int(onset) / 1e7, float(duration or 0), text) for onset, duration, text in notes])

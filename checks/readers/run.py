@@ -1,23 +1,22 @@
-#!/usr/bin/python3
 """Opens exports of a night by MNE, BioSig and EDFlib, and compares what they read with what was
 submitted, record by record.
 
-    checks/readers/run.py [--program PATH]
+    python3 -m checks.readers.run [--program PATH]
 
 A night of 28,800 records of 1 s and four signals is sent without four of its 96 fragments, which
 leaves a gap of twenty minutes, and exported; then the four come, and it is exported again. Of each
-export is told: whether the reader opens it, in how many records all samples are those submitted,
-for how many records it tells the right time, and how many annotations come with their time,
+export is printed: whether the reader opens it, in how many records all samples are those submitted,
+for how many records it has the right time, and how many annotations come with their time,
 duration and text. The status is 1 where MNE or BioSig has not every sample; EDFlib opens no EDF+D
 file. It needs Debian's python3-mne, biosig-tools, libedf-dev and cc, and so Debian's own python3.
 """
 from collections import Counter
 from pathlib import Path
 
-import reading
-from lib import arguments, measure, model, night
-from lib.checks import end
-from reading import numpy
+from checks.lib import arguments, measure, model, night
+from checks.lib.checks import end
+from checks.readers import reading
+from checks.readers.reading import numpy
 
 NIGHT = night.Night(samples=(100, 100, 100, 25), limits=reading.LIMITS)
 MISSING = range(40, 44)
@@ -47,14 +46,14 @@ class Submitted:
         """Of how many records all samples are these, signal by signal in the order of the
         records."""
         good = numpy.ones(len(self.starts), bool)
-        for wanted, got in zip(self.signals, digital):
-            if got.size != wanted.size:
+        for expected, got in zip(self.signals, digital):
+            if got.size != expected.size:
                 return 0
-            good &= (got.reshape(wanted.shape) == wanted).all(axis=1)
+            good &= (got.reshape(expected.shape) == expected).all(axis=1)
         return int(good.sum())
 
     def right_times(self, times: list) -> int:
-        return sum(abs(got - wanted) < 0.001 for got, wanted in zip(times, self.starts))
+        return sum(abs(got - expected) < 0.001 for got, expected in zip(times, self.starts))
 
     def same_notes(self, notes: list) -> int:
         """How many annotations came with time and duration, to the millisecond, and text."""
@@ -70,17 +69,17 @@ def compare(title: str, path: Path, submitted: Submitted, folder: Path, probe: P
     for name, read in ((reading.MNE, lambda: reading.by_mne(path, NIGHT.samples)),
                        ("BioSig", lambda: reading.by_biosig(path, folder, NIGHT.samples))):
         try:
-            told = read()
+            content = read()
         except Exception as fault:
             lines.append((title, name, f"no: {type(fault).__name__}: {fault}"[:100], "", "", ""))
             failed += 1
             continue
-        same = submitted.same_records(told.signals)
+        same = submitted.same_records(content.signals)
         failed += same != records
         lines.append((title, name, "yes", f"{same:,} of {records:,}",
-                      f"{submitted.right_times(told.times):,} of {records:,}",
-                      f"{submitted.same_notes(told.notes):,} of {notes:,}"))
-        for warning in told.warned:
+                      f"{submitted.right_times(content.times):,} of {records:,}",
+                      f"{submitted.same_notes(content.notes):,} of {notes:,}"))
+        for warning in content.warned:
             print(f"{title}, {name} warns: {warning}")
     answer = measure.done(probe, path).out.decode().strip()
     opens = "yes" if answer.startswith("opened") else f"no: {answer}"
@@ -110,4 +109,5 @@ def main() -> None:
     end(len(lines), failed)
 
 
-main()
+if __name__ == "__main__":
+    main()

@@ -2,7 +2,7 @@
    each later one too.
 
    REFUSE is the kind, `memory` (malloc and realloc: none left) or `disk` (reads, writes, syncs and
-   cuts: input/output error), a colon and N. The file that TOLD names is made at the first refusal.
+   cuts: input/output error), a colon and N. The file that MET names is made at the first refusal.
 */
 #define _GNU_SOURCE
 #include <errno.h>
@@ -16,14 +16,14 @@
 extern void *__libc_malloc(size_t);
 extern void *__libc_realloc(void *, size_t);
 
-static const char *kind = "", *told;
+static const char *kind = "", *mark;
 static long nth, count;
 static int every;
 
 __attribute__((constructor)) static void begin(void) {
   const char *refuse = getenv("REFUSE"), *colon = refuse ? strchr(refuse, ':') : NULL;
   if (!colon) return;
-  told = getenv("TOLD");
+  mark = getenv("MET");
   every = getenv("EVERY") != NULL;
   nth = atol(colon + 1);
   kind = refuse[0] == 'm' ? "memory" : "disk";
@@ -35,7 +35,7 @@ static int refused(const char *which) {
   count++;
   if (count < nth || (count > nth && !every)) return 0;
   if (count == nth)
-    syscall(SYS_close, syscall(SYS_openat, AT_FDCWD, told, O_CREAT | O_WRONLY, 0600));
+    syscall(SYS_close, syscall(SYS_openat, AT_FDCWD, mark, O_CREAT | O_WRONLY, 0600));
   return 1;
 }
 

@@ -1,14 +1,13 @@
-#!/usr/bin/env python3
 """Refuses each allocation of `edfstore` in turn, and then each read, write and sync, and looks at
 what is answered and held.
 
-    checks/refused/run.py [--program PATH] [COUNT]
+    python3 -m checks.refused.run [--program PATH] [COUNT]
 
 A library that is loaded before the C library refuses the first call, the second and so on, or
 every COUNTth from the first on, alone or with all that follow, until a run meets no refusal: of a
 `take` of two files into a new store, of `list` and `export` of a store of both, and of a
 `convert`. The first of the files, which `convert` is given too, is of unknown count and has two
-annotations signals. A run ends with status 0 and all that is wanted, or with status 3 and a front
+annotations signals. A run ends with status 0 and all that is expected, or with status 3 and a front
 of it, in whole lines where no write was refused; what was accepted is held, and what could not be
 read is not; and without refusals both files are then taken or known, and the export is that of the
 plain model. It stops with status 1 at the first loss.
@@ -18,9 +17,9 @@ import re
 from dataclasses import dataclass
 from pathlib import Path
 
-from lib import arguments, edf, measure, model, told
-from lib.checks import Lost, end
-from lib.told import KNOWN, NEW
+from checks.lib import arguments, edf, faults, measure, model, printed
+from checks.lib.checks import Lost, end
+from checks.lib.printed import KNOWN, NEW
 
 
 def in_two_blocks() -> bytes:
@@ -32,15 +31,23 @@ def in_two_blocks() -> bytes:
     return edf.fragment(header, [(bytes.fromhex("0200FEFF"), blocks)])
 
 
+SECONDS = 60        # that a run of the program may take
 FILES = {"p5.edf": in_two_blocks(), "q.edf": edf.small_files()["Q"]}
 # Want of memory for a file's buffer is a failed read of it.
-REFUSALS = {kind: {*map(told.refused, faults)} for kind, faults in
-            (("memory", ("E40 Read", "E41 Memory")), ("disk", ("E40 Read", "E42 Store")))}
+ANSWERED = {"memory": (faults.read(), faults.memory()), "disk": (faults.read(), faults.store())}
+REFUSALS = {kind: {*map(printed.refused, given)} for kind, given in ANSWERED.items()}
+
+
+def on_error(names: tuple, given: tuple) -> re.Pattern:
+    """The line of one of these names and refusals, or nothing."""
+    one_of = (f"({'|'.join(words)})" for words in (names, given))
+    return re.compile(f"({printed.fault(*one_of)})?\\Z".encode())
+
+
 # What may stand on standard error of a run that was refused something.
 SAID = {
-    "memory": re.compile(rb"((command|take|list|store|export|-) refused "
-                         rb"(E40 Read|E41 Memory)\n)?\Z"),
-    "disk": re.compile(rb"((list|store|export|-) refused (E40 Read|E42 Store|E43 Write)\n)?\Z"),
+    "memory": on_error(("command", "take", "list", "store", "export", "-"), ANSWERED["memory"]),
+    "disk": on_error(("list", "store", "export", "-"), (*ANSWERED["disk"], faults.write())),
 }
 
 
@@ -52,13 +59,13 @@ class Refusal:
     every: bool
 
     def variables(self, library: Path, met: Path) -> dict:
-        added = {"LD_PRELOAD": str(library), "REFUSE": f"{self.kind}:{self.nth}", "TOLD": str(met)}
+        added = {"LD_PRELOAD": str(library), "REFUSE": f"{self.kind}:{self.nth}", "MET": str(met)}
         return {**added, "EVERY": "1"} if self.every else added
 
 
 class Bench:
     def __init__(self, program: Path, folder: Path):
-        self.program, self.folder = program, folder
+        self.program, self.folder = measure.Program(program, folder, SECONDS), folder
         self.library = measure.library(Path(__file__).resolve().parent / "refused.c", folder)
         for name, data in FILES.items():
             (folder / name).write_bytes(data)
@@ -71,27 +78,26 @@ class Bench:
         self.converted = alone.export(1)
         self.tried, self.answers = 0, collections.Counter()
 
-    def ran(self, *words, refusal: Refusal = None, given: bytes = b"") -> tuple:
+    def under(self, *words, refusal: Refusal = None, given: bytes = b"") -> tuple:
         """The run, and whether a call of it was refused."""
         met = self.folder / "met"
         met.unlink(missing_ok=True)
         added = refusal.variables(self.library, met) if refusal else None
-        ran = measure.ran(self.program, *words, folder=self.folder, added=added, given=given,
-                          most=60)
+        ran = self.program.ran(*words, added=added, given=given)
         if ran.status not in (0, 1, 2, 3):
             raise Lost(f"{words} under {refusal}: {ran}")
         return ran, met.exists()
 
-    def whole(self, words: tuple, wanted: bytes, given: bytes = b"") -> None:
-        ran, _ = self.ran(*words, given=given)
-        if ran.status or ran.out != wanted or ran.err:
+    def whole(self, words: tuple, expected: bytes, given: bytes = b"") -> None:
+        ran, _ = self.under(*words, given=given)
+        if ran.status or ran.out != expected or ran.err:
             raise Lost(f"{words} without refusals: {ran}")
 
-    def ends(self, words: tuple, ran: measure.Ran, refusal: Refusal, wanted: bytes) -> None:
-        """The run wrote all that is wanted, or a front of it and ended with status 3."""
-        fits = ran.status == 0 and ran.out == wanted and not ran.err
-        is_told = SAID[refusal.kind].match(ran.err)
-        front = ran.status == 3 and wanted.startswith(ran.out) and is_told
+    def ends(self, words: tuple, ran: measure.Ran, refusal: Refusal, expected: bytes) -> None:
+        """The run wrote all that is expected, or a front of it and ended with status 3."""
+        fits = ran.status == 0 and ran.out == expected and not ran.err
+        is_said = SAID[refusal.kind].match(ran.err)
+        front = ran.status == 3 and expected.startswith(ran.out) and is_said
         if words[:1] == ("list",) and refusal.kind == "memory":
             front = front and (not ran.out or ran.out.endswith(b"\n"))
         if not fits and not front:
@@ -125,33 +131,34 @@ def take(bench: Bench, refusal: Refusal) -> bool:
     refusals."""
     store = bench.folder / "s.db"
     measure.remove_store(store)
-    ran, met = bench.ran("take", store, *FILES, refusal=refusal)
+    ran, met = bench.under("take", store, *FILES, refusal=refusal)
     answers = answered(bench, ran, refusal)
-    again, _ = bench.ran("take", store, *FILES)
+    again, _ = bench.under("take", store, *FILES)
     for line, name in zip(again.out.decode().splitlines(keepends=True), FILES):
-        may = {NEW: {KNOWN}, told.UNREAD: {NEW}}.get(answers.get(name), {NEW, KNOWN})
-        if line not in {told.line(name, it) for it in may}:
+        may = {NEW: {KNOWN}, printed.UNREAD: {NEW}}.get(answers.get(name), {NEW, KNOWN})
+        if line not in {printed.line(name, it) for it in may}:
             raise Lost(f"take under {refusal} answered {name} {answers.get(name)!r}, "
                        f"and the next take {line!r}")
     if again.status or again.out.count(b"\n") != len(FILES):
-        raise Lost(f"the take behind {refusal}: {again}")
+        raise Lost(f"the take after {refusal}: {again}")
     bench.whole(("export", store, "1"), bench.export)
     return met
 
 
-def read(bench: Bench, words: tuple, wanted: bytes, refusal: Refusal, given: bytes = b"") -> bool:
+def read(bench: Bench, words: tuple, expected: bytes, refusal: Refusal, given: bytes = b"") -> bool:
     """Whether a call was refused of a command that changes nothing, which is then done without
     refusals."""
-    ran, met = bench.ran(*words, refusal=refusal, given=given)
-    bench.ends(words, ran, refusal, wanted)
-    bench.whole(words, wanted, given)
+    ran, met = bench.under(*words, refusal=refusal, given=given)
+    bench.ends(words, ran, refusal, expected)
+    bench.whole(words, expected, given)
     return met
 
 
 def orders(bench: Bench) -> dict:
-    """Each order by its name, as what is done under a refusal and tells whether it was met."""
+    """Each command by its name, as a function that does it under a refusal and says whether a call
+    was refused."""
     full = bench.folder / "full.db"
-    if bench.ran("take", full, *FILES)[0].status:
+    if bench.under("take", full, *FILES)[0].status:
         raise Lost("a take without refusals")
     return {
         "take": lambda refusal: take(bench, refusal),
@@ -191,4 +198,5 @@ def main() -> None:
     end(bench.tried, 0)
 
 
-main()
+if __name__ == "__main__":
+    main()

@@ -2,7 +2,7 @@
 """Writes the files of this folder: a night of an oximeter as its card has it, card.edf, and as it
 was sent, part1.edf to part6.edf of 80 minutes each. It needs Python 3 and checks/lib.
 
-    PYTHONPATH=checks examples/oximeter/write.py [FOLDER]    # this folder where none is named
+    PYTHONPATH=. examples/oximeter/write.py [FOLDER]    # this folder where none is named
 
 EDF+C, 960 data records of 30 s: the saturation and the pulse once a second, and the sleep stage of
 each data record as an annotation."""
@@ -11,7 +11,7 @@ import sys
 from datetime import datetime, timedelta
 from pathlib import Path
 
-from lib.edf import Header, Signal, annotations_signal, fragment, keeping, tal
+from checks.lib.edf import Header, Signal, annotations_signal, fragment, keeping, tal
 
 SECONDS, RECORDS, PARTS = 30, 960, 6
 START = datetime(2023, 11, 4, 22, 15)

@@ -2,16 +2,16 @@
 
     compare.py FOLDER           FOLDER/exports/NAME.edf against FOLDER/cards/NAME.edf
 
-PYTHONPATH names checks/, whose lib/model.py, a plain model of the program, reads both files. An
-export is its card where both have the same key and the same data records, each with its start,
-samples and annotations, and where the export has the bytes that the model writes of the card. A
-card in which one bit of one sample is changed must be found. Status 0 is that every export is its
-card, and that this one isn't.
+PYTHONPATH names the clone, whose checks/lib/model.py, a plain model of the program, reads both
+files. An export is its card where both have the same key and the same data records, each with its
+start, samples and annotations, and where the export has the bytes that the model writes of the
+card. A card in which one bit of one sample is changed must be found. Status 0 is that every export
+is its card, and that this one isn't.
 """
 import sys
 from pathlib import Path
 
-from lib import model
+from checks.lib import model
 
 
 def differences(export: bytes, card: bytes) -> list:

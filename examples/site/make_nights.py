@@ -5,8 +5,8 @@
 FOLDER/recorders has the recorders' names, a line each. FOLDER/inbox/NAME/ has the files of one,
 named in the order in which they came, and FOLDER/cards/NAME.edf is its card: 960 data records of
 30 s. The same night was sent in 48 files, in any order; five came twice, and one came cut short and
-was sent again. PYTHONPATH names checks/, whose lib/night.py writes the files, field by field;
-nothing of the program does.
+was sent again. PYTHONPATH names the clone, whose checks/lib/night.py writes the files, field by
+field; nothing of the program does.
 """
 import random
 import sys
@@ -14,7 +14,7 @@ import tempfile
 from datetime import datetime, timedelta
 from pathlib import Path
 
-from lib.night import Night
+from checks.lib.night import Night
 
 RESENT = 5
 RATES = (64, 64, 32)                    # samples a second of each signal

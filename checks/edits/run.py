@@ -1,7 +1,6 @@
-#!/usr/bin/env python3
 """Tries the edits of this folder: wrong turns beside those of the gate, which must be refused too.
 
-    checks/edits/run [--only CRATE]... [--jobs N]
+    python3 -m checks.edits.run [--only CRATE]... [--jobs N]
 
 It needs the toolchain's command `rt`. An edit is a file CRATE/NAME.edit, written as those of
 crates/CRATE/must-fail are. The crates are laid into a folder of TMPDIR without what was built and
@@ -9,9 +8,9 @@ without their own edits; these edits take the place, and `rt must-fail` tries th
 kept of the same crates on this machine is not proved again. --only tries the edits of that crate
 alone, --jobs says how many are tried at once, whatever memory is free.
 
-A line tells what became of each. One counts as refused where the prover refuses it, or stops at a
-limit of its own; one that is refused only since a proof file names what it took away has failed,
-and so has one that is a bad edit, that was not tried or that is still proved.
+A line says what became of each. An edit counts as refused where the prover refuses it, or stops at
+a limit of its own. It has failed where it is refused only because a proof file names what it took
+away, where it is a bad edit, where it was not tried, and where the crate is still proved.
 """
 import re
 import shutil
@@ -19,15 +18,15 @@ import sys
 import tempfile
 from pathlib import Path
 
-from lib import arguments, measure
-from lib.checks import end
+from checks.lib import arguments, measure
+from checks.lib.checks import end
 
 HERE = Path(__file__).resolve().parent
 
-TOLD = re.compile(r"^rt: must-fail (\w+)/(\S+)\.edit: (.*)$", re.MULTILINE)
+SAID = re.compile(r"^rt: must-fail (\w+)/(\S+)\.edit: (.*)$", re.MULTILINE)
 REFUSED = "refused, as it must be"
 ONLY_BY_A_NAME = f"{REFUSED} (only because a proof file names"
-SHOWN = 20      # lines of what `rt` said, where it tells nothing of an edit
+SHOWN = 20      # lines of what `rt` said, where it says nothing of an edit
 
 
 def edits_of(names: list) -> dict:
@@ -59,18 +58,18 @@ def tried(folder: Path, crates: list, jobs: str) -> str:
     return (ran.out + ran.err).decode(errors="replace")
 
 
-def tell(edits: dict, output: str) -> tuple:
-    """Prints what became of each edit, and gives how many were refused and how many failed."""
-    told = {(crate, name): text for crate, name, text in TOLD.findall(output)}
+def report(edits: dict, output: str) -> tuple:
+    """Prints what became of each edit; how many were refused, and how many failed."""
+    said = {(crate, name): text for crate, name, text in SAID.findall(output)}
     refused, failed = 0, 0
     for crate, files in edits.items():
         for file in files:
-            text = told.get((crate, file.stem), "NOT TRIED: rt tells nothing of it")
+            text = said.get((crate, file.stem), "NOT TRIED: rt says nothing of it")
             is_good = text.startswith(REFUSED) and not text.startswith(ONLY_BY_A_NAME)
             refused, failed = refused + is_good, failed + (not is_good)
             print(f"{crate}/{file.stem}: {text}" if is_good else
                   f"{crate}/{file.stem}: FAILED: {text}")
-    if len(told) < refused + failed:
+    if len(said) < refused + failed:
         print("\n".join(f"    {line[:300]}" for line in output.splitlines()[-SHOWN:]))
     return refused, failed
 
@@ -91,8 +90,9 @@ def main() -> None:
     measure.need("rt")
     with tempfile.TemporaryDirectory(prefix="edfstore-edits-") as name:
         lay(Path(name), edits)
-        refused, failed = tell(edits, tried(Path(name), list(edits), given.jobs))
+        refused, failed = report(edits, tried(Path(name), list(edits), given.jobs))
     end(refused + failed, failed)
 
 
-main()
+if __name__ == "__main__":
+    main()

@@ -1,0 +1,72 @@
+"""Tells which edits change a line that is no longer in the sources, without the toolchain.
+
+    python3 -m checks.edits.standing [--only CRATE]...
+
+The edits are those of the gate (crates/CRATE/must-fail) and those of this folder. An edit names a
+file of its crate, and then has pairs of lines `old:` and `new:`; another file and its pairs may
+follow. The old text must stand once in the file, as the pairs before it leave it, and the new one
+must be another. A line names each edit of which this is not so. --only looks at the edits of that
+crate alone.
+"""
+import re
+from dataclasses import dataclass
+from pathlib import Path
+
+from checks.lib import arguments
+from checks.lib.checks import end
+
+HERE, CRATES = Path(__file__).resolve().parent, arguments.TOP / "crates"
+PART = re.compile(r"file: (.+)\n((?:old: .*\nnew: .*\n)+)")
+PAIR = re.compile(r"old: (.*)\nnew: (.*)\n")
+
+
+@dataclass(frozen=True)
+class Edit:
+    """An edit and the crate whose files it changes."""
+    path: Path
+    crate: str
+
+    def __str__(self) -> str:
+        return str(self.path.relative_to(arguments.TOP))
+
+    def fault(self) -> str:
+        """Why it can't be applied, or nothing."""
+        text, sources = self.path.read_text(), {}
+        if not text or PART.sub("", text):
+            return "is not made of lines file:, old: and new:"
+        for name, pairs in PART.findall(text):
+            path = CRATES / self.crate / name
+            if not path.is_file():
+                return f"changes crates/{self.crate}/{name}, which is not there"
+            for old, new in PAIR.findall(pairs):
+                source = sources.setdefault(name, path.read_text())
+                count = source.count(old)
+                if count != 1:
+                    return f"has an old text that stands {count} times in {name}: {old.strip()}"
+                if old == new:
+                    return f"has a new text that is the old one: {old.strip()}"
+                sources[name] = source.replace(old, new)
+        return ""
+
+
+def edits(crates: list) -> list:
+    """All edits, or those of these crates."""
+    found = [Edit(path, path.parent.name) for path in sorted(HERE.glob("*/*.edit"))]
+    found += [Edit(path, path.parents[1].name) for path in sorted(CRATES.glob("*/must-fail/*"))]
+    return [edit for edit in found if not crates or edit.crate in crates]
+
+
+def main() -> None:
+    parser = arguments.Parser(__doc__, programs=())
+    parser.add_argument("--only", action="append", default=[], metavar="CRATE")
+    found = edits(parser.read().only)
+    failed = 0
+    for edit in found:
+        if fault := edit.fault():
+            failed += 1
+            print(f"{edit} {fault}")
+    end(len(found), failed)
+
+
+if __name__ == "__main__":
+    main()

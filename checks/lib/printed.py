@@ -1,0 +1,159 @@
+"""Every line that the programs print, each in one place. What stands in it, the checks have by hand
+or from the plain model; the refusals are in faults.py.
+
+An answer is what `take` prints of a file after its name. Its short form is a pair, how many data
+records are new and how many known, or the text of a refusal.
+"""
+import re
+
+from . import faults
+
+ACCEPTED = "accepted"
+
+
+# Answers
+
+def accepted(new, known=0) -> str:
+    """The answer to a file that is taken."""
+    return f"{ACCEPTED} new={new} known={known}"
+
+
+def refused(fault: str) -> str:
+    """The answer to a file that is not; `fault` is the text of the refusal."""
+    return f"refused {fault}"
+
+
+def answer(short) -> str:
+    """The answer of a short form."""
+    return refused(short) if isinstance(short, str) else accepted(*short)
+
+
+NEW, KNOWN = accepted(1), accepted(0, 1)        # of a file of one data record
+UNREAD, UNWRITTEN = refused(faults.read()), refused(faults.write())
+NUMBER = re.compile(refused(r"(E\d+)\b"))
+
+
+def number(text: str) -> str:
+    """The number of the refusal that stands in an answer or a line, or nothing."""
+    found = NUMBER.search(text)
+    return found[1] if found else ""
+
+
+def is_accepted(text: str) -> bool:
+    """Whether an answer says that the file is taken."""
+    return text.split(" ")[0] == ACCEPTED
+
+
+def kind(text: str) -> str:
+    """An answer without its counts."""
+    return ACCEPTED if is_accepted(text) else text
+
+
+def count_accepted(lines_of_take: bytes) -> int:
+    """How many of the lines of a `take` say that a file is taken."""
+    return lines_of_take.count(f" {ACCEPTED} ".encode())
+
+
+# Lines of files, or of what a program was at
+
+def line(name, text: str) -> str:
+    """The line of a file and its answer."""
+    return f"{name} {text}\n"
+
+
+def fault(name, text: str) -> str:
+    """The line of a file, or of what a program was at, and its refusal."""
+    return line(name, refused(text))
+
+
+def lines(*pairs) -> str:
+    """The lines of files, each with its answer."""
+    return "".join(line(name, text) for name, text in pairs)
+
+
+NO_STORE, FOREIGN = fault("store", faults.store()), fault("store", faults.foreign())
+
+
+def is_store_refused(on_error: bytes) -> bool:
+    """Whether standard error says that the store could not be opened."""
+    return line("store", refused("")).rstrip().encode() in on_error
+
+
+# Lines of recordings and runs
+
+def recording(place, records, first: str, patient: str, investigation: str) -> str:
+    """A line of `edfstore list`."""
+    return (f"{place} records={records} first={first} "
+            f"patient={patient} investigation={investigation}\n")
+
+
+LISTED = re.compile(recording(r"(\d+)", r"(\d+)", r"\S+", r"\S+", r"\S+"))
+
+
+def counts_listed(text: str) -> list:
+    """The place and the number of data records of each recording that `edfstore list` prints; none
+    where one of the lines is no such line."""
+    found = [LISTED.fullmatch(one) for one in text.splitlines(keepends=True)]
+    return [(int(one[1]), int(one[2])) for one in found] if all(found) else []
+
+
+def run(number: int, records: int, first: str, seconds: str, gap: str = "") -> str:
+    """A line of `edfruns list`; the last run has no gap."""
+    rest = f" gap={gap}" if gap else ""
+    return f"{number} records={records} first={first} seconds={seconds}{rest}\n"
+
+
+# Other lines
+
+NOT_UTF_8 = "error: a word is not UTF-8\n"
+
+
+def version(program: str, number: str) -> str:
+    return f"{program} {number}\n"
+
+
+def no_recording(place) -> str:
+    return f"no recording at place {place}\n"
+
+
+def no_run(number) -> str:
+    return f"no run {number}\n"
+
+
+def is_there(name: str) -> str:
+    """What `edfruns split` prints of a file that it would write over."""
+    return f"{name} is there already; nothing was written\n"
+
+
+def undated(number: int) -> str:
+    """What `edfruns` prints of a run that no header can date."""
+    return f"run {number} starts after 2084, which a file without a date can't tell\n"
+
+
+# Where standard error is a terminal, and there alone
+
+WIPED = "\r" + 60 * " " + "\r"
+MISSING = "no such file"
+MADE = "no such file; made a new, empty store"
+FILE_ON_PATH = "a directory of its path is a file"
+NO_FILE = "no such file or directory"
+DIRECTORY = "a directory"
+UNREADABLE = "no permission to read it"
+NO_PLAIN_FILE = "not a plain file, but a directory, a device or a linked file"
+NO_DATABASE = "not a database, or none that can be read here"
+NO_PATH = "a path that begins with 'file:' is written './file:'"
+DAMAGED = "the file is damaged"
+NOT_PERMITTED = "no permission to read and write it, or files beside it"
+BUSY = "another program has it open; run this again when that has ended"
+OTHER_TABLES = ("its tables are not a store's, or have an index or a trigger; it was left as it is")
+OTHER_ROWS = "its rows are such as no submissions leave; put it aside, as it is"
+
+
+def cause(path, text: str) -> str:
+    """The line of a path and why it is refused, or what was done there."""
+    return f"{path}: {text}\n"
+
+
+def step(nth: int, count: int, megabytes: int = 0) -> str:
+    """What `take` prints at each file, and at each megabyte that it has read."""
+    return f"\rfile {nth} of {count}, {megabytes} MB read"
