@@ -15,7 +15,7 @@ use Rattle.std.specs.Char.{is_ascii_digit, digit_value}
 use Rattle.std.specs.Str.Parse.{AllDigits, digits_value}
 use Rattle.edf_time.specs.Decimal.{IsDecimal, IsFine, IsSeconds, fraction_value, short}
 use Rattle.edf_time.proofs.Cited.{IsSeconds-short}
-use Rattle.edf_field.specs.Number.{AreSpaces, front_len, IsDuration}
+use Rattle.edf_field.specs.Number.{AreSpaces, front_len, IsDuration, MayLast}
 use Rattle.edf_field.specs.Grammar.{AreDigits, point_text, IsDurationText}
 use Rattle.edf_field.proofs.Grammar.{spaces-are}
 use Rattle.edf_field.proofs.Durations.{digits-are, point, unpoint, shape, whole-digits}
@@ -150,9 +150,9 @@ after-dot [] e = cc
 after-dot (c ∷ f) e = cc
 
 -- a decimal and spaces after it
-of-seconds : (text rest : List ℕ) (nanos : ℕ) → IsSeconds text nanos → AreSpaces rest → 0 < nanos →
-    IsDurationText (text ++ rest) nanos
-of-seconds text rest nanos s blank some =
+of-seconds : (text rest : List ℕ) (nanos : ℕ) → IsSeconds text nanos → AreSpaces rest → MayLast nanos
+    → IsDurationText (text ++ rest) nanos
+of-seconds text rest nanos s blank lasts =
     let w : AreDigits s.whole = digits-are s.whole (whole-digits text s.whole s.fraction s.parts) in
     let f : AreDigits s.fraction =
     digits-are s.fraction (fraction-digits text s.whole s.fraction s.parts) in
@@ -174,14 +174,14 @@ of-seconds text rest nanos s blank some =
           ++ x) * 10 ^ 9) (sym (unpoint s.fraction))
           (exact s.whole s.fraction nanos (fraction-digits text s.whole s.fraction s.parts) s.fine
           s.value);
-      some = some;
+      lasts = lasts;
     }
 
 to : (text : List ℕ) (nanos : ℕ) → IsDuration text nanos → IsDurationText text nanos
 to text nanos d =
     let at = front_len text in
     subst (λ (x : List ℕ). IsDurationText x nanos) (take-append-drop at text)
-    (of-seconds (take at text) (drop at text) nanos d.seconds d.spaces d.some)
+    (of-seconds (take at text) (drop at text) nanos d.seconds d.spaces d.lasts)
 
 abbrev NoSpaces : List ℕ → Type 0
 NoSpaces text = AllByRecursion (λ b. (b == 32) ≡ false) text
@@ -238,7 +238,7 @@ from text nanos t =
       });
       spaces = subst AreSpaces (sym rest)
           (All-replicate (λ (b : ℕ). b ≡ 32) t.number.spaces 32 refl);
-      some = t.some;
+      lasts = t.lasts;
     }
 
 pub duration-texts : (text : List ℕ) (nanos : ℕ) →
@@ -246,7 +246,7 @@ pub duration-texts : (text : List ℕ) (nanos : ℕ) →
     × (IsDurationText text nanos → IsDuration text nanos)
 duration-texts text nanos = (to text nanos, from text nanos)
 
-pub short-filled : (nanos n : ℕ) → 0 < nanos → nanos < 10 ^ 73 →
+pub short-filled : (nanos n : ℕ) → MayLast nanos → nanos < 10 ^ 73 →
     IsDurationText (short nanos ++ replicate n 32) nanos
-short-filled nanos n some few = of-seconds (short nanos) (replicate n 32) nanos
-    (IsSeconds-short nanos few) (All-replicate (λ (b : ℕ). b ≡ 32) n 32 refl) some
+short-filled nanos n lasts few = of-seconds (short nanos) (replicate n 32) nanos
+    (IsSeconds-short nanos few) (All-replicate (λ (b : ℕ). b ≡ 32) n 32 refl) lasts

@@ -1,5 +1,6 @@
 -- A decimal in a field: its parts are the field's digits and fraction, so it has one value.
-use Rattle.std.proofs.Common.{◌≡◌, ℕ, ◌+◌, ◌-◌, ◌*◌, ◌/◌, ◌^◌, ◌≤◌, ◌<◌, List, [], ◌∷◌, ◌++◌}
+use Rattle.std.proofs.Common.{◌≡◌, ℕ, zero, suc, ◌+◌, ◌-◌, ◌*◌, ◌/◌, ◌^◌, ◌≤◌, ◌<◌, List, [], ◌∷◌}
+use Rattle.std.proofs.Common.{◌++◌, ◌⊎◌, inl, inr}
 use Rattle.std.proofs.Common.{length, take, drop, mul-le-mul_right, arith, refl, sym, ap, subst}
 use Rattle.std.proofs.Common.{◌∙◌, append_assoc, length-append, Option, Some, None}
 use Rattle.std.proofs.lemmas.Bool.Decides.{nat_tests}
@@ -16,7 +17,7 @@ use Rattle.edf_time.specs.Decimal.{fraction_value as places}
 use Rattle.edf_time.specs.declared.decimal.DecimalFault.{DecimalFault}
 use Rattle.edf_time.specs.declared.decimal.DecimalFault.TheVariants.{Syntax, TooFine, TooLarge}
 use Rattle.edf_field.specs.Number.{AreSpaces, digits, after_digits, fraction, front_len, IsDuration}
-use Rattle.edf_field.specs.Number.{duration_of}
+use Rattle.edf_field.specs.Number.{MayLast, duration_of}
 use Rattle.edf_field.specs.Grammar.{AreDigits, point_text}
 use Rattle.edf_field.specs.declared.number.TheConstants.{MOST_DURATION}
 use Rattle.edf_field.proofs.Grammar.{front, after, tail-off, fraction-is, spaces-are}
@@ -114,6 +115,14 @@ small t n few s =
     places-small (10 ^ 8) s.fraction (fraction-digits t s.whole s.fraction s.parts) in
     omega (arith, w, most, f, s.value)
 
+-- the range: above 0, and whether a number is in it
+pub lasts-some : (nanos : ℕ) → MayLast nanos → 0 < nanos
+lasts-some nanos lasts = lasts
+
+pub lasts-or-not : (nanos : ℕ) → MayLast nanos ⊎ (¬ MayLast nanos)
+lasts-or-not zero = inr (λ lasts. absurd (omega (arith, lasts)))
+lasts-or-not (suc nanos) = inl (omega arith)
+
 pub duration-bound : (field : List ℕ) (n : ℕ) → length field ≤ 8 → IsDuration field n →
     n ≤ MOST_DURATION
 duration-bound field n few d = small (take (front_len field) field) n
@@ -140,14 +149,10 @@ not-read field front at e few is front-is fault =
     none-read field e few (subst (λ (t : List ℕ). IsDecimalFault t e) (front-is
     ∙ ap (λ (k : ℕ). take k field) is) fault)
 
-pub not-zero : (field front rest : List ℕ) (at zero : ℕ) → at ≡ front_len field →
-    front ≡ take at field → rest ≡ drop at field → IsSeconds front zero → zero ≡ 0 →
+pub not-lasting : (field front rest : List ℕ) (at other : ℕ) → at ≡ front_len field →
+    front ≡ take at field → rest ≡ drop at field → IsSeconds front other → ¬ MayLast other →
     AreSpaces rest → (n : ℕ) → ¬ IsDuration field n
-not-zero field front rest at none is front-is rest-is s z r n d =
-    omega (
-      arith,
-      duration-value field n d,
-      field-value field at none (subst (λ (t : List ℕ). IsSeconds t none) front-is s)
-          (subst AreSpaces rest-is r),
-      d.some,
-    )
+not-lasting field front rest at other is front-is rest-is s past r n d =
+    past (subst MayLast (duration-value field n d
+    ∙ sym (field-value field at other (subst (λ (t : List ℕ). IsSeconds t other) front-is s)
+    (subst AreSpaces rest-is r))) d.lasts)

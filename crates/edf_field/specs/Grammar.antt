@@ -5,7 +5,7 @@ use Rattle.std.specs.Option.{unwrap_or}
 use Rattle.std.specs.List.{AllByRecursion}
 use Rattle.std.specs.Char.{is_ascii_digit}
 use Rattle.std.specs.Str.Parse.{digits_value}
-use Rattle.edf_field.specs.Number.{IsPhysical, fraction_len, unscaled, signed}
+use Rattle.edf_field.specs.Number.{IsPhysical, fraction_len, unscaled, signed, MayLast}
 
 abbrev pub sign_text : Option Bool → List ℕ
 sign_text None = []
@@ -69,8 +69,8 @@ pub record IsPhysicalText (text : List ℕ) (at : ℕ) (z : ℤ) : Type 0 where
   pub value : z ≡ with_sign sign (digits_value 10 (filled whole (unwrap_or point []) at))
 
 -- a duration: a decimal without a sign, and with a digit after its dot. Its seconds, the number of
--- all its digits divided by 10 for each place after the dot, are `nanos` nanoseconds, more than
--- none
+-- all its digits divided by 10 for each place after the dot, are `nanos` nanoseconds, which are in
+-- the range of a duration
 pub record IsDurationText (text : List ℕ) (nanos : ℕ) : Type 0 where
   pub whole : List ℕ
   pub point : Option (List ℕ)
@@ -78,7 +78,7 @@ pub record IsDurationText (text : List ℕ) (nanos : ℕ) : Type 0 where
   pub after_dot : point ≢ Some []
   pub value : nanos * 10 ^ length (unwrap_or point []) ≡ digits_value 10 (whole
       ++ unwrap_or point []) * 10 ^ 9
-  pub some : 0 < nanos
+  pub lasts : MayLast nanos
 
 -- a decimal's digits: at most `wide` before its dot, and at most `at` after it
 pub record AreDecimalDigits (whole part : List ℕ) (wide at : ℕ) : Type 0 where

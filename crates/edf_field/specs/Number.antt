@@ -84,11 +84,15 @@ Differ a b = scaled a (fraction_len b) ≢ scaled b (fraction_len a)
 abbrev pub front_len : List ℕ → ℕ
 front_len text = prefix_len (λ b. not (b == 32)) text
 
--- the duration of a data record: a decimal above 0, of this many nanoseconds
+-- the range of the duration of a data record, in nanoseconds
+abbrev pub MayLast : ℕ → Type 0
+MayLast nanos = 0 < nanos
+
+-- the duration of a data record: a decimal in that range, of this many nanoseconds
 pub record IsDuration (text : List ℕ) (nanos : ℕ) : Type 0 where
   pub seconds : IsSeconds (take (front_len text) text) nanos
   pub spaces : AreSpaces (drop (front_len text) text)
-  pub some : 0 < nanos
+  pub lasts : MayLast nanos
 
 -- the nanoseconds that the digits of a duration write; a law says that no duration has another
 -- value

@@ -1,7 +1,7 @@
 //! Laws of the texts of fields: each function has a law for a contract, and does nothing.
-ghost use Rattle.std.specs.Prelude.{◌≡◌, ℕ, Bool, List, [], ◌∷◌, Option, ◌≤◌, length};
+ghost use Rattle.std.specs.Prelude.{◌≡◌, ℕ, Bool, List, [], ◌∷◌, Option, ◌≤◌, ◌<◌, ◌⊎◌, length};
 ghost use Rattle.std.specs.Option.{unwrap_or};
-ghost use Rattle.edf_field.specs.Number.{IsDuration, duration_of};
+ghost use Rattle.edf_field.specs.Number.{IsDuration, MayLast, duration_of};
 ghost use Rattle.edf_field.specs.Grammar.{AreDigits, IsSpelledAs, spelled};
 
 use crate::number::MOST_DURATION;
@@ -13,8 +13,14 @@ pub fn physical_read()
         IsSpelledAs (spelled sign (d ∷ ds) point n) (d ∷ ds) (unwrap_or point []) }
 {}
 
-/// A duration field has one value, that of its digits. One of eight bytes is at most 100,000,000
-/// seconds.
+/// What is in the range of a duration is more than none, and each number is in it or is not.
+pub fn duration_range()
+    ensures some { (nanos : ℕ) → MayLast nanos → 0 < nanos }
+    ensures decided { (nanos : ℕ) → MayLast nanos ⊎ (¬ MayLast nanos) }
+{}
+
+/// A duration field has one value, that of its digits. One of eight bytes is at most
+/// [`MOST_DURATION`].
 pub fn duration_value()
     ensures value { (field : List ℕ) (nanos : ℕ) → IsDuration field nanos →
         nanos ≡ duration_of field }

@@ -6,7 +6,7 @@ ghost use Rattle.edf_time.specs.Decimal.{short};
 ghost use Rattle.edf_field.specs.Text.{spaces};
 ghost use Rattle.std.specs.Str.Parse.{digits_value};
 ghost use Rattle.edf_field.specs.Number.{IsWhole, whole_value, IsSigned, signed_value, IsPhysical};
-ghost use Rattle.edf_field.specs.Number.{fraction_len, scaled, Differ, IsDuration};
+ghost use Rattle.edf_field.specs.Number.{fraction_len, scaled, Differ, IsDuration, MayLast};
 ghost use Rattle.edf_field.specs.Grammar.{IsWholeText, IsSignedText, IsPhysicalText};
 ghost use Rattle.edf_field.specs.Grammar.{IsDurationText, AreDecimalDigits, filled, widened};
 
@@ -57,6 +57,6 @@ pub fn decimal_digits()
 /// was written.
 pub fn written_texts()
     ensures whole { (n blanks : ℕ) → n < 2 ^ 64 → IsWholeText (decimal n ++ spaces blanks) n }
-    ensures duration { (nanos blanks : ℕ) → 0 < nanos → nanos < 10 ^ 73 →
+    ensures duration { (nanos blanks : ℕ) → MayLast nanos → nanos < 10 ^ 73 →
         IsDurationText (short nanos ++ spaces blanks) nanos }
 {}

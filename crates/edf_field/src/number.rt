@@ -4,6 +4,7 @@ ghost use Rattle.std.specs.Char.{is_ascii_digit};
 ghost use Rattle.std.specs.Str.Parse.{digits_value};
 ghost use Rattle.edf_field.specs.Number.{AreSpaces, digits_len, digits, after_digits, IsWhole};
 ghost use Rattle.edf_field.specs.Number.{whole_value, unsigned, IsSigned, signed_value, IsDuration};
+ghost use Rattle.edf_field.specs.Number.{MayLast};
 
 use crate::identification::front_len;
 use edf_time::read_seconds;
@@ -104,6 +105,13 @@ pub fn read_signed(field: &[u8]) -> Option<i32>
     Some(size)
 }
 
+/// Whether so many nanoseconds are in the range of a duration: above 0.
+fn may_last(nanos: u64) -> bool
+    ensures { IsTrue result ↔ MayLast nanos }
+{
+    nanos > 0
+}
+
 /// Reads a field of at most eight bytes as the duration of a data record, in nanoseconds: a decimal
 /// of seconds above 0, and then only spaces. `None` for any other text, and for 0.
 ///
@@ -117,8 +125,7 @@ pub fn read_duration(field: &[u8]) -> Option<u64>
         return None;
     }
     match read_seconds(front) {
-        Ok(0) => None,
-        Ok(nanos) => Some(nanos),
+        Ok(nanos) => { if may_last(nanos) { Some(nanos) } else { None } }
         Err(fault) => {
             let _ = fault;
             None

@@ -8,7 +8,8 @@ use Rattle.std.specs.Str.Parse.{AllDigits, IsNumeral, digits_value}
 use Rattle.std.proofs.lemmas.List.{take_at, take_all, drop_all}
 use Rattle.edf_time.specs.Civil.{HasDateForm, IsIdDate}
 use Rattle.edf_time.specs.Decimal.{IsDecimal, IsFine, fraction_value as places}
-use Rattle.edf_field.specs.Number.{field, AreSpaces, IsDuration, front_len}
+use Rattle.edf_field.specs.Number.{field, AreSpaces, IsDuration, MayLast, front_len}
+use Rattle.edf_field.proofs.Cited.{lasts-or-not}
 use Rattle.edf_field.specs.Text.{FollowsStartdate, IsBirthdate, IsPatient, IsRecording, IsSex}
 use Rattle.edf_field.specs.Text.{subfields}
 use Rattle.edf_header.proofs.Decided.{Decided, like, both, either, less, same, same-bytes, every}
@@ -29,21 +30,21 @@ decimal text w (d ∷ ds) =
     like (both (numeral w) (both (numeral (d ∷ ds)) (same-bytes text (w ++ 46 ∷ d ∷ ds))))
     (λ p. (p.0, p.1.0, p.1.1)) (λ p. (p.0, (p.1, p.2)))
 
--- a decimal above 0 that is not too fine
+-- a decimal in the range of a duration that is not too fine
 abbrev value : List ℕ → List ℕ → ℕ
 value w f = digits_value 10 w * 10 ^ 9 + places (10 ^ 8) f
 
 record IsWorth (text w f : List ℕ) : Type 0 where
   parts : IsDecimal text w f
   fine : IsFine f
-  some : 0 < value w f
+  lasts : MayLast (value w f)
 
 worth : (text w f : List ℕ) → Decided (IsWorth text w f)
 worth text w f =
     like (both (decimal text w f) (both (every (λ d. d ≡ 48) 0 (λ d. same d 48) (drop 9 f))
-    (less 0 (value w f))))
-    (λ p. record { parts = p.0; fine = p.1.0; some = p.1.1 })
-    (λ p. (p.parts, (p.fine, p.some)))
+    (lasts-or-not (value w f))))
+    (λ p. record { parts = p.0; fine = p.1.0; lasts = p.1.1 })
+    (λ p. (p.parts, (p.fine, p.lasts)))
 
 -- its parts are those on the two sides of some offset
 abbrev IsWorthAt : List ℕ → ℕ → Type 0
@@ -93,7 +94,7 @@ from-worth text ((at, lt, is), blank) =
           value = refl;
         };
         spaces = blank;
-        some = is.some;
+        lasts = is.lasts;
       },
     )
 
@@ -103,7 +104,7 @@ to-worth : (text : List ℕ) → ((nanos : ℕ) × IsDuration text nanos)
 to-worth text (nanos, d) =
     let s = d.seconds in (
       worth-at (take (front_len text) text) s.whole s.fraction
-          (record { parts = s.parts; fine = s.fine; some = omega (arith, s.value, d.some) }),
+          (record { parts = s.parts; fine = s.fine; lasts = subst MayLast s.value d.lasts }),
       d.spaces,
     )
 

@@ -40,11 +40,11 @@ pub enum HeaderFault {
     /// E10: the number of data records is no whole number from 1 on, and not `-1` and six spaces.
     #[error("the number of data records is not a whole number from 1 on, and not -1")]
     Count,
-    /// E11: the duration of a data record is no decimal above 0.
-    #[error("the duration of a data record is not a decimal above 0")]
+    /// E11: the duration of a data record is no decimal, or out of range.
+    #[error("the duration of a data record is not a decimal, or out of range")]
     Duration,
-    /// E12: the number of signals is no whole number from 2 to 640.
-    #[error("the number of signals is not a whole number from 2 to 640")]
+    /// E12: the number of signals is no whole number from 2 to [`crate::MOST_SIGNALS`].
+    #[error("the number of signals is not a whole number, or out of range")]
     Signals,
     /// E13: the number of header bytes is not 256 and 256 for each signal.
     #[error("the number of header bytes is not that of the signals")]

@@ -38,8 +38,8 @@ pub enum IdentityFault {
     /// Byte 80 is not `D` or `X`, or what follows is not the rest of a recording identification.
     #[error("the recording identification is not that of EDF+")]
     Recording,
-    /// Bytes 150 to 157 are no decimal above 0.
-    #[error("the duration of a data record is not a decimal above 0")]
+    /// Bytes 150 to 157 are no duration of a data record.
+    #[error("the duration of a data record is not a decimal, or out of range")]
     Duration,
     /// A signal has the label of an annotations signal.
     #[error("signal {0} is an annotations signal")]
@@ -215,7 +215,7 @@ impl Identity {
         self.ordinary_bytes
     }
 
-    /// The duration of a data record in nanoseconds: above 0, at most 100,000,000 seconds.
+    /// The duration of a data record in nanoseconds: above 0, at most [`MOST_DURATION`].
     pub fn duration(&self) -> u64
         ensures value { result ≡ duration_of self.now.duration }
         ensures positive { 0 < result }

@@ -76,7 +76,7 @@ pub fn one_key()
     ensures { (k other : Key) → IsKey k → IsKey other → key_bytes k ≡ key_bytes other → k ≡ other }
 {}
 
-/// A law: a key's data records last more than 0 and at most 100,000,000 seconds.
+/// A law: a key's data records last more than 0 and at most [`MOST_DURATION`].
 pub fn key_duration()
     ensures some { (k : Key) → IsKey k → 0 < duration_of k.duration }
     ensures bound { (k : Key) → IsKey k → duration_of k.duration ≤ MOST_DURATION }

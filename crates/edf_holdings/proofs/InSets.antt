@@ -15,6 +15,7 @@ use Rattle.edf_holdings.specs.Rising.{joined, new_of, IsApart, IsRising}
 use Rattle.edf_fragment.specs.Sound.{IsSoundRecord, AreSound}
 use Rattle.edf_holdings.specs.Holdings.{Holdings, IsSound, put, nothing_held}
 use Rattle.edf_holdings.specs.Reply.{IsSoundTold, fits, after_one, Accepted, Differs, Overlap}
+use Rattle.edf_holdings.specs.Reply.{Conflict, Conflicts, conflict_of_clash}
 use Rattle.edf_holdings.specs.Reply.{clash_or, first_clash, reply_to_clash, reply, IsAccepted}
 use Rattle.edf_holdings.specs.Free.{with_all}
 use Rattle.edf_holdings.specs.Meaning.{SameKeyIsEqual, SameRecordIsEqual, TestIsClash}
@@ -172,15 +173,17 @@ first_clash_found d xs rs r s a i =
 pub clash_is_named : ClashIsNamed
 unfolding reply
 clash_is_named cap h key records r s t i = (
-  (λ p. is ∙ cond-true (nat_eq r.start s.start) (Differs r.start) (Overlap r.start s.start)
-      (eq-eqb r.start s.start p)),
-  (λ p. is ∙ cond-false (nat_eq r.start s.start) (Differs r.start) (Overlap r.start s.start)
-      (ne_eqb r.start s.start p)),
+  (λ p. is ∙ ap (λ (c : Conflict). Conflicts c)
+      (cond-true (nat_eq r.start s.start) (Differs r.start) (Overlap r.start s.start)
+      (eq-eqb r.start s.start p))),
+  (λ p. is ∙ ap (λ (c : Conflict). Conflicts c)
+      (cond-false (nat_eq r.start s.start) (Differs r.start) (Overlap r.start s.start)
+      (ne_eqb r.start s.start p))),
 )
   where
     is : reply_to_clash cap key records (h key)
-        (first_clash (duration_of key.duration) (h key) records) ≡ cond (nat_eq r.start s.start)
-        (Differs r.start) (Overlap r.start s.start)
+        (first_clash (duration_of key.duration) (h key) records)
+        ≡ Conflicts (conflict_of_clash r.start s.start)
     is = ap (reply_to_clash cap key records (h key))
         (first_clash_found (duration_of key.duration) (h key) records r s (t.rising key) i)
 

@@ -10,7 +10,7 @@ use mathlib.Core.Path.{fun_ext}
 use Rattle.edf_field.specs.Number.{duration_of}
 use Rattle.edf_header.specs.Key.{Key, IsKey}
 use Rattle.edf_fragment.specs.Fragment.{DataRecord}
-use Rattle.edf_field.proofs.Durations.{duration-value}
+use Rattle.edf_header.proofs.Cited.{key-duration-some}
 use Rattle.edf_holdings.specs.Same.{same_key}
 use Rattle.edf_holdings.specs.Clash.{clashes}
 use Rattle.edf_holdings.specs.Rising.{joined, IsApart, IsRising}
@@ -146,7 +146,7 @@ IsGood-from_sound cap h s = record {
 
 -- a key's records last
 pub lasting : (k : Key) → IsKey k → 0 < duration_of k.duration
-lasting k i = let d = i.duration in omega (arith, d.1.some, duration-value k.duration d.0 d.1)
+lasting k i = key-duration-some k i
 
 pub apart-sound : (k : Key) (low : ℕ) (rs : List DataRecord) → AreSound k low rs →
     IsApart (duration_of k.duration) low rs

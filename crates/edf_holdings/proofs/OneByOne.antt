@@ -1,6 +1,6 @@
 -- A fragment's records met one by one: what was read, what was put in, and what is answered at the
 -- end.
-use Rattle.std.proofs.Common.{◌≡◌, ℕ, ◌+◌, ◌-◌, ◌<◌, ◌≤◌, Bool, true, false, cond, nat_eq, nat_lt}
+use Rattle.std.proofs.Common.{◌≡◌, ℕ, ◌+◌, ◌-◌, ◌<◌, ◌≤◌, Bool, true, false, nat_lt}
 use Rattle.std.proofs.Common.{List, [], ◌∷◌, ◌++◌, length, Option, Some, None, refl, sym, ap, subst}
 use Rattle.std.proofs.Common.{◌∙◌, inl, inr, arith, find, length-append}
 use Rattle.std.specs.Option.{option_or}
@@ -15,7 +15,8 @@ use Rattle.edf_holdings.specs.Same.{same_key}
 use Rattle.edf_holdings.specs.Clash.{clashes, near_of, other_of}
 use Rattle.edf_holdings.specs.Rising.{contains_record, inserted, joined, new_of, IsApart}
 use Rattle.edf_holdings.specs.Holdings.{Holdings, put}
-use Rattle.edf_holdings.specs.Reply.{IsSoundTold, after_one, Overlap, Differs, Full, Accepted}
+use Rattle.edf_holdings.specs.Reply.{IsSoundTold, after_one, Conflicts, Full, Accepted}
+use Rattle.edf_holdings.specs.Reply.{conflict_of_clash}
 use Rattle.edf_holdings.specs.Reply.{clash_or, first_clash, is_past, reply_to_clash, reply, fits}
 use Rattle.edf_holdings.proofs.Same.{same_key-true, clashes-true}
 use Rattle.edf_holdings.proofs.Members.{In, Within, In-from_holds, joined_keeps, inserted_held}
@@ -286,24 +287,23 @@ taken_room cap key h rs t new known is_key held a k l =
 
 pub reply_stopped : (cap : ℕ) (key : Key) (h : Holdings) (rs : List DataRecord) (starts : ℕ × ℕ) →
     Stopped key h rs starts
-    → reply cap h (Fragment key rs) ≡ cond (nat_eq starts.0 starts.1) (Differs starts.0)
-    (Overlap starts.0 starts.1)
+    → reply cap h (Fragment key rs) ≡ Conflicts (conflict_of_clash starts.0 starts.1)
 unfolding reply
 reply_stopped cap key h rs starts k = ap (reply_to_clash cap key rs (h key)) k.first
     ∙ cc (k.start, k.stored)
 
 pub reply_full : (cap : ℕ) (key : Key) (h : Holdings) (rs : List DataRecord) (t : Holdings)
     (new known : ℕ) → Taken cap key h rs t new known → 0 < new → cap < length (h key) + new
-    → reply cap h (Fragment key rs) ≡ Full (length (h key)) new cap
+    → reply cap h (Fragment key rs) ≡ Conflicts (Full (length (h key)) new cap)
 unfolding reply
 reply_full cap key h rs t new known k some l =
     ap (reply_to_clash cap key rs (h key)) k.free
     ∙ (cond-true (is_past cap (length (h key)) (new_of (h key) rs))
-    (Full (length (h key)) (new_of (h key) rs) cap)
+    (Conflicts (Full (length (h key)) (new_of (h key) rs) cap))
     (Accepted key (new_of (h key) rs) (length rs - new_of (h key) rs))
     (and_from _ _ (lt-ltb 0 (new_of (h key) rs) (omega (arith, k.new_is)))
     (lt-ltb cap (length (h key) + new_of (h key) rs) (omega (arith, k.new_is))))
-    ∙ ap (λ n. Full (length (h key)) n cap) (sym k.new_is))
+    ∙ ap (λ n. Conflicts (Full (length (h key)) n cap)) (sym k.new_is))
 
 pub reply_accepted : (cap : ℕ) (key : Key) (h : Holdings) (rs : List DataRecord) (t : Holdings)
     (new known : ℕ) → Taken cap key h rs t new known → length (h key) + new ≤ cap
@@ -312,7 +312,7 @@ unfolding reply
 reply_accepted cap key h rs t new known k l =
     ap (reply_to_clash cap key rs (h key)) k.free
     ∙ (cond-false (is_past cap (length (h key)) (new_of (h key) rs))
-    (Full (length (h key)) (new_of (h key) rs) cap)
+    (Conflicts (Full (length (h key)) (new_of (h key) rs) cap))
     (Accepted key (new_of (h key) rs) (length rs - new_of (h key) rs))
     (and_right (nat_lt 0 (new_of (h key) rs)) (nat_lt cap (length (h key) + new_of (h key) rs))
     (le-ltb cap (length (h key) + new_of (h key) rs) (omega (arith, k.new_is))))

@@ -1,5 +1,5 @@
 -- What is answered: exactly what may join is accepted, and what a later repeat is answered.
-use Rattle.std.proofs.Common.{◌≡◌, ℕ, suc, ◌+◌, ◌-◌, ◌≤◌, ◌⊎◌, false, nat_eq, List, [], ◌∷◌, ◌++◌}
+use Rattle.std.proofs.Common.{◌≡◌, ℕ, suc, ◌+◌, ◌-◌, ◌≤◌, ◌⊎◌, false, List, [], ◌∷◌, ◌++◌}
 use Rattle.std.proofs.Common.{length, Option, Some, None, refl, sym, ap, subst, ◌∙◌, inl, inr}
 use Rattle.std.proofs.Common.{arith, find}
 use Rattle.std.proofs.lemmas.Bool.{cond_both, cond-true, cond-false, cases_Bool, and_cases}
@@ -12,8 +12,8 @@ use Rattle.edf_fragment.specs.Told.{Told, Fragment, Fault}
 use Rattle.edf_holdings.specs.Clash.{clashes}
 use Rattle.edf_holdings.specs.Rising.{contains_record, joined, new_of}
 use Rattle.edf_holdings.specs.Holdings.{Holdings, put}
-use Rattle.edf_holdings.specs.Reply.{IsSoundTold, fits, after_one, after, Reply, Form, Overlap}
-use Rattle.edf_holdings.specs.Reply.{Differs, Full, Accepted, IsAccepted, clash_or, first_clash}
+use Rattle.edf_holdings.specs.Reply.{IsSoundTold, fits, after_one, after, Reply, Form, Conflicts}
+use Rattle.edf_holdings.specs.Reply.{Full, Accepted, IsAccepted, clash_or, first_clash}
 use Rattle.edf_holdings.specs.Reply.{is_past, reply_to_clash, reply, replies}
 use Rattle.edf_holdings.proofs.Members.{In, Within, AreFree, joined_has, length_joined, none_new}
 use Rattle.edf_holdings.proofs.Members.{within_from_none_new}
@@ -68,7 +68,7 @@ answered key records xs = Accepted key (new_of xs records) (length records - new
 
 -- where there is no room
 abbrev pub no_room : ℕ → List DataRecord → List DataRecord → Reply
-no_room cap records xs = Full (length xs) (new_of xs records) cap
+no_room cap records xs = Conflicts (Full (length xs) (new_of xs records) cap)
 
 pub accepted_from_MayJoin : (cap : ℕ) (h : Holdings) (key : Key) (records : List DataRecord) →
     IsSoundTold (Fragment key records) → IsGood cap h → MayJoin cap key records h →
@@ -93,9 +93,7 @@ MayJoin-from_clash : (cap : ℕ) (h : Holdings) (key : Key) (records : List Data
     (o : Option (DataRecord × DataRecord)) → IsSoundTold (Fragment key records) → IsGood cap h
     → first_clash (duration_of key.duration) (h key) records ≡ o →
     IsAccepted (reply_to_clash cap key records (h key) o) → MayJoin cap key records h
-MayJoin-from_clash cap h key records (Some p) w g q i =
-    absurd (cond_both (nat_eq p.0.start p.1.start) (Differs p.0.start) (Overlap p.0.start p.1.start)
-    (λ (r : Reply). IsAccepted r → ⊥) (λ _ n. n) (λ _ n. n) i)
+MayJoin-from_clash cap h key records (Some p) w g q i = absurd i
 MayJoin-from_clash cap h key records None w g q i = record { free = free; room = room }
   where
     free : AreFree (duration_of key.duration) (h key) records
@@ -211,8 +209,7 @@ no_fault cap h key records fault q = go (first_clash (duration_of key.duration) 
   where
     go : (o : Option (DataRecord × DataRecord)) →
         reply_to_clash cap key records (h key) o ≡ Form fault → ⊥
-    go (Some p) r = cond_both (nat_eq p.0.start p.1.start) (Differs p.0.start)
-        (Overlap p.0.start p.1.start) (λ (z : Reply). z ≡ Form fault → ⊥) (λ _ s. cc) (λ _ s. cc) r
+    go (Some p) r = cc
     go None r = cond_both (is_past cap (length (h key)) (new_of (h key) records))
         (no_room cap records (h key)) (answered key records (h key))
         (λ (z : Reply). z ≡ Form fault → ⊥) (λ _ s. cc) (λ _ s. cc) r

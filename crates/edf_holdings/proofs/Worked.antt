@@ -8,7 +8,8 @@ use Rattle.edf_fragment.specs.Told.{Told, Fragment, Fault}
 use Rattle.edf_holdings.specs.Same.{same_key, same_record}
 use Rattle.edf_holdings.specs.Clash.{clashes}
 use Rattle.edf_holdings.specs.Holdings.{nothing_held}
-use Rattle.edf_holdings.specs.Reply.{after_one, after, Form, Overlap, Differs, Full, Accepted}
+use Rattle.edf_holdings.specs.Reply.{after_one, after, Form, Conflicts, Overlap, Differs}
+use Rattle.edf_holdings.specs.Reply.{Full, Accepted}
 use Rattle.edf_holdings.specs.Reply.{reply, replies}
 
 -- keys of a record duration of 10 nanoseconds, and fragments of records that begin at these starts
@@ -37,22 +38,22 @@ twice = refl
 -- an overlap, other samples at the same start, a touch after and one before
 conflicts : replies 9 nothing_held (told 1 7 (100 ∷ []) ∷ told 1 7 (90 ∷ 105 ∷ []) ∷ told 1 8
     (100 ∷ []) ∷ told 1 7 (110 ∷ []) ∷ told 1 7 (90 ∷ []) ∷ [])
-    ≡ Accepted (key 1) 1 0 ∷ Overlap 105 100 ∷ Differs 100 ∷ Accepted (key 1) 1 0 ∷ Accepted (key 1)
-    1 0 ∷ []
+    ≡ Accepted (key 1) 1 0 ∷ Conflicts (Overlap 105 100) ∷ Conflicts (Differs 100) ∷ Accepted (key 1)
+    1 0 ∷ Accepted (key 1) 1 0 ∷ []
 unfolding reply after_one same_key same_record clashes
 conflicts = refl
 
 -- no room: what is known is accepted all the same, and another recording is taken
 full : replies 2 nothing_held (told 1 7 (10 ∷ []) ∷ told 1 7 (20 ∷ []) ∷ told 1 7 (30 ∷ []) ∷ told 1
     7 (10 ∷ []) ∷ told 2 7 (30 ∷ []) ∷ Fault Trailing ∷ [])
-    ≡ Accepted (key 1) 1 0 ∷ Accepted (key 1) 1 0 ∷ Full 2 1 2 ∷ Accepted (key 1) 0 1 ∷ Accepted
-    (key 2) 1 0 ∷ Form Trailing ∷ []
+    ≡ Accepted (key 1) 1 0 ∷ Accepted (key 1) 1 0 ∷ Conflicts (Full 2 1 2) ∷ Accepted (key 1) 0 1
+    ∷ Accepted (key 2) 1 0 ∷ Form Trailing ∷ []
 unfolding reply after_one same_key same_record clashes
 full = refl
 
 -- a record that overlaps two names the earliest
 earliest : replies 9 nothing_held (told 1 7 (100 ∷ 110 ∷ []) ∷ told 1 7 (105 ∷ []) ∷ []) ≡ Accepted
-    (key 1) 2 0 ∷ Overlap 105 100 ∷ []
+    (key 1) 2 0 ∷ Conflicts (Overlap 105 100) ∷ []
 unfolding reply after_one same_key same_record clashes
 earliest = refl
 
@@ -66,7 +67,8 @@ rises = refl
 full_then_overlap : replies 2 nothing_held
     (told 1 7 (100 ∷ []) ∷ told 1 7 (200 ∷ 300 ∷ []) ∷ told 1 7 (205 ∷ []) ∷ told 1 7
     (200 ∷ 300 ∷ []) ∷ [])
-    ≡ Accepted (key 1) 1 0 ∷ Full 1 2 2 ∷ Accepted (key 1) 1 0 ∷ Overlap 200 205 ∷ []
+    ≡ Accepted (key 1) 1 0 ∷ Conflicts (Full 1 2 2) ∷ Accepted (key 1) 1 0
+    ∷ Conflicts (Overlap 200 205) ∷ []
 unfolding reply after_one same_key same_record clashes
 full_then_overlap = refl
 

@@ -10,7 +10,7 @@ use Rattle.edf_holdings.specs.Clash.{Clash, clashes, near_of}
 use Rattle.edf_holdings.specs.Rising.{IsRising, contains_record, joined, new_of}
 use Rattle.edf_holdings.specs.Holdings.{Holdings, IsSound, nothing_held}
 use Rattle.edf_holdings.specs.Reply.{IsSoundTold, fits, after_one, after, Overlap, Differs, Full}
-use Rattle.edf_holdings.specs.Reply.{Accepted, reply, IsAccepted}
+use Rattle.edf_holdings.specs.Reply.{Conflicts, Accepted, reply, IsAccepted}
 use Rattle.edf_holdings.specs.Free.{with_all, Has}
 use Rattle.edf_holdings.specs.Laws.{AreSoundTold}
 
@@ -88,8 +88,9 @@ abbrev pub ClashIsNamed : Type 0
 ClashIsNamed = (cap : ℕ) (h : Holdings) (key : Key) (records : List DataRecord) (r s : DataRecord) →
     IsSound cap h →
     IsFirstClash (duration_of key.duration) (h key) records r s →
-    (r.start ≡ s.start → reply cap h (Fragment key records) ≡ Differs r.start) ×
-    (r.start ≢ s.start → reply cap h (Fragment key records) ≡ Overlap r.start s.start)
+    (r.start ≡ s.start → reply cap h (Fragment key records) ≡ Conflicts (Differs r.start)) ×
+    (r.start ≢ s.start → reply cap h (Fragment key records)
+    ≡ Conflicts (Overlap r.start s.start))
 
 -- and there is a first one wherever records clash
 abbrev pub ClashIsThere : Type 0
@@ -105,7 +106,8 @@ abbrev pub CountsAreNamed : Type 0
 CountsAreNamed = (cap : ℕ) (h : Holdings) (key : Key) (records : List DataRecord) →
     IsClear h key records →
     (0 < new_of (h key) records → cap < length (h key) + new_of (h key) records →
-    reply cap h (Fragment key records) ≡ Full (length (h key)) (new_of (h key) records) cap) ×
+    reply cap h (Fragment key records)
+    ≡ Conflicts (Full (length (h key)) (new_of (h key) records) cap)) ×
     ((new_of (h key) records ≡ 0) ⊎ (length (h key) + new_of (h key) records ≤ cap) →
     reply cap h (Fragment key records) ≡ Accepted key (new_of (h key) records)
     (length records - new_of (h key) records))

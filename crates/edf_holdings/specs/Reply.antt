@@ -40,21 +40,23 @@ abbrev pub after : ℕ → Holdings → List Told → Holdings
 after cap h [] = h
 after cap h (told ∷ tolds) = after cap (after_one cap h told) tolds
 
--- an answer: a fault of form; a clash, with the starts of the record and of the stored one; another
--- record at the same start; no room, with how many are held, how many would be new, and the cap; or
--- accepted, with how many were new and how many known
+-- how a fragment contradicts what is held: a clash, with the starts of the record and of the stored
+-- one; another record at the same start; or no room, with how many are held, how many would be new,
+-- and the cap
+pub data Conflict : Type 0 where
+  Overlap : ℕ → ℕ → Conflict
+  Differs : ℕ → Conflict
+  Full : ℕ → ℕ → ℕ → Conflict
+
+-- an answer: a fault of form; a conflict; or accepted, with how many were new and how many known
 pub data Reply : Type 0 where
   Form : FragmentFault → Reply
-  Overlap : ℕ → ℕ → Reply
-  Differs : ℕ → Reply
-  Full : ℕ → ℕ → ℕ → Reply
+  Conflicts : Conflict → Reply
   Accepted : Key → ℕ → ℕ → Reply
 
 abbrev pub IsAccepted : Reply → Type 0
 IsAccepted (Form fault) = ⊥
-IsAccepted (Overlap start stored) = ⊥
-IsAccepted (Differs start) = ⊥
-IsAccepted (Full held new cap) = ⊥
+IsAccepted (Conflicts conflict) = ⊥
 IsAccepted (Accepted key new known) = Unit {0}
 
 abbrev pub clash_or : DataRecord → Option DataRecord → Option (DataRecord × DataRecord) →
@@ -75,13 +77,17 @@ is_past cap held new = nat_lt 0 new && nat_lt cap (held + new)
 -- the answer where `held` are held and `new` of `all` would be new
 abbrev pub reply_to_counts : ℕ → Key → ℕ → ℕ → ℕ → Reply
 reply_to_counts cap key held new all =
-    cond (is_past cap held new) (Full held new cap) (Accepted key new (all - new))
+    cond (is_past cap held new) (Conflicts (Full held new cap)) (Accepted key new (all - new))
+
+-- the conflict of a clash between records that start here and there
+abbrev pub conflict_of_clash : ℕ → ℕ → Conflict
+conflict_of_clash start stored = cond (nat_eq start stored) (Differs start) (Overlap start stored)
 
 -- the answer where the key holds xs, and this is the first clash or there is none
 abbrev pub reply_to_clash : ℕ → Key → List DataRecord → List DataRecord →
     Option (DataRecord × DataRecord) → Reply
 reply_to_clash cap key records xs (Some p) =
-    cond (nat_eq p.0.start p.1.start) (Differs p.0.start) (Overlap p.0.start p.1.start)
+    Conflicts (conflict_of_clash p.0.start p.1.start)
 reply_to_clash cap key records xs None =
     reply_to_counts cap key (length xs) (new_of xs records) (length records)
 

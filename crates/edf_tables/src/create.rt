@@ -69,7 +69,6 @@ fn create_records<S: Alter>(conn: &mut Connection<S>) -> Result<usize, Error>
 /// # Errors
 /// `sqlite`'s; the committed rows stay, an open transaction may be undone, and the first table may
 /// have been made. A crash leaves the file as it was, with the first table, or with both.
-#[tactic(auto, using(crate::proofs::Tables::after_first, crate::proofs::Tables::both_made, crate::proofs::Tables::first_survives, crate::proofs::Tables::second_survives))]
 pub fn create_tables<S: Alter>(conn: &mut Connection<S>) -> Result<(), Error>
     requires { IfClean S.Store conn.old (λ s. IsOurs s.now) }
     ensures there { HasBoth (state S.Store conn.old).now.schema →

@@ -12,7 +12,8 @@ use Rattle.edfstore_arguments.specs.declared.order.Order.{Order}
 -- no order where all is well but a PLACE
 pub record AreWordsRead (words : List (String Global)) (result : Result (Option Order) CommandFault)
     : Type 0 where
-  pub reads : AreValues words → IfOk result (λ order. option_map meaning order ≡ asked (texts words))
+  pub reads : AreValues words →
+      IfOk result (λ order. option_map meaning order ≡ asked (texts words))
   pub refuses : AreValues words → IfErr result (λ fault. fault ≢ Memory → AskForNothing words)
   pub usage : AskForNoHelp words → IfErr result IsNoHelp
   pub help : AskForHelp words → IsErrAnd result IsNoUsage

@@ -1,20 +1,22 @@
+use Rattle.std.proofs.Common.{sym, ◌∙◌}
 use Rattle.std.proofs.lemmas.List.Sums.{prefix_len-le-length}
 use Rattle.std.specs.Prelude.{◌==◌, not}
-use Rattle.edf_field.proofs.Durations.{not-read, not-zero}
+use Rattle.edf_field.proofs.Durations.{not-read, not-lasting}
 use Rattle.edf_field.proofs.number.read_duration.Goals as goal
 
 pub split_at-requires : goal.split_at-requires
 split_at-requires c = rw c.front_len.ensures
     (prefix_len-le-length (λ b. not (b == 32)) c.args.field.now)
 
-pub returns-in-Ok-eq0 : goal.returns-in-Ok-eq0
-returns-in-Ok-eq0 c =
-    not-zero c.args.field.now c.split_at.result.0.now c.split_at.result.1.now c.front_len.result
-    c.in-Ok-eq0.field-0
-    c.front_len.ensures c.split_at.ensures.front c.split_at.ensures.back c.in-Ok-eq0.ensures.0
-    c.in-Ok-eq0.field-0-test (c.are_spaces.ensures.0 c.if-not-are_spaces.false)
-
 pub returns-in-Err : goal.returns-in-Err
 returns-in-Err c =
     not-read c.args.field.now c.split_at.result.0.now c.front_len.result c.in-Err.fault c.requires
     c.front_len.ensures c.split_at.ensures.front c.in-Err.ensures
+
+pub returns-else-may_last : goal.returns-else-may_last
+returns-else-may_last c =
+    not-lasting c.args.field.now c.split_at.result.0.now c.split_at.result.1.now
+    c.front_len.result c.in-Ok.nanos
+    c.front_len.ensures c.split_at.ensures.front c.split_at.ensures.back c.in-Ok.ensures.0
+    (λ lasts. cc (sym (c.may_last.ensures.1 lasts) ∙ c.if-may_last.false))
+    (c.are_spaces.ensures.0 c.if-not-are_spaces.false)
