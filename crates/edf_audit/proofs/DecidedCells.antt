@@ -15,7 +15,7 @@ use Rattle.edf_header.specs.Identity.{HasLength, HasMark, KeyFails, IsCleanKey}
 use Rattle.edf_header.specs.Identity.{identity_fault_order}
 use Rattle.edf_header.specs.Identity.{signals_at}
 use Rattle.edf_header.specs.Inside.Shape.{IsKeyFront}
-use Rattle.edf_header.specs.declared.limits.TheConstants.{MOST_BLOCK_BYTES}
+use Rattle.edf_header.specs.declared.limits.TheConstants.{MOST_BLOCK_BYTES, MOST_ORDINARY_SIGNALS}
 use Rattle.edf_header.specs.declared.signal_checks.Check.TheVariants as checks
 use Rattle.edf_header.specs.declared.identity.IdentityFault.{IdentityFault}
 use Rattle.edf_header.specs.declared.identity.IdentityFault.TheVariants as fault
@@ -52,7 +52,8 @@ no_key_at b e low fails k is e_is =
 has_length : (b : List ℕ) → Decided (HasLength b)
 has_length b =
     like (some-below (λ n. (1 ≤ n) × (length b ≡ 158 + 256 * n))
-    (λ n. both (at-most 1 n) (same (length b) (158 + 256 * n))) 640)
+    (λ n. both (at-most 1 n) (same (length b) (158 + 256 * n)))
+    (MOST_ORDINARY_SIGNALS + 1))
     (λ p. (p.0, p.2.0, omega (arith, p.1), p.2.1))
     (λ p. (p.0, omega (arith, p.2), (p.1, p.3)))
 

@@ -9,7 +9,7 @@ use Rattle.edf_store.specs.declared.fault.RowFault.{RowFault}
 use Rattle.edf_store.specs.declared.fault.RowFault.TheVariants as row
 use Rattle.edf_store.specs.Fault.{MayRefuse, HasCause, IsStoreRefusal, IsRefusalOf, IsRefusalBy}
 use Rattle.edf_store.specs.Held.{StoreModel}
-use Rattle.edf_store.specs.Call.{IsBusy, RefusesBusy}
+use Rattle.edf_store.specs.Call.{IsBusy, IsRefusedIfBusy}
 
 -- a refusal with a cause may come at any call
 pub with_cause : (B F L : Type 0) (fault : StoreFault) → HasCause fault → MayRefuse B F L fault
@@ -104,16 +104,16 @@ if_ok (Err e) P Q f p = tt
 
 module _ {S : Type 0} (g : Ghosts S) (old : StoreModel S) where
   -- a call that was not refused found the connection in no transaction
-  pub idle_done : {A : Type 0} (F : Type 0) (x : A) → RefusesBusy g old (Ok x) F → ¬ IsBusy g old
+  pub idle_done : {A : Type 0} (F : Type 0) (x : A) → IsRefusedIfBusy g old (Ok x) F → ¬ IsBusy g old
   idle_done {A} F x it busy =
       let clash : ◌≡◌ {A = Result A StoreFault} (Ok x) (Err (Store None)) = it.busy busy in
       absurd (cc)
 
-  pub refuses_done : {A : Type 0} (F : Type 0) (x : A) → ¬ IsBusy g old → RefusesBusy g old (Ok x) F
+  pub refuses_done : {A : Type 0} (F : Type 0) (x : A) → ¬ IsBusy g old → IsRefusedIfBusy g old (Ok x) F
   refuses_done F x idle = record { busy = λ busy. absurd (idle busy); why = tt }
 
   pub refuses_cause : {A : Type 0} (F : Type 0) (error : Error) (r : Result A StoreFault) →
-      ¬ IsBusy g old → IsErrAnd r (IsRefusalOf error) → RefusesBusy g old r F
+      ¬ IsBusy g old → IsErrAnd r (IsRefusalOf error) → IsRefusedIfBusy g old r F
   refuses_cause F error (Ok x) idle is = absurd is
   refuses_cause F error (Err fault) idle is = record {
     busy = λ busy. absurd (idle busy);
@@ -122,7 +122,7 @@ module _ {S : Type 0} (g : Ghosts S) (old : StoreModel S) where
 
   pub refuses_rows : {A : Type 0} (F : Type 0) (fault : RowFault) (r : Result A StoreFault) →
       ¬ IsBusy g old → IsErrAnd r (IsRefusalBy fault) → (fault ≡ row.Foreign → F) →
-      RefusesBusy g old r F
+      IsRefusedIfBusy g old r F
   refuses_rows F fault (Ok x) idle is foreign = absurd is
   refuses_rows F fault (Err refusal) idle is foreign = record {
     busy = λ busy. absurd (idle busy);
@@ -131,7 +131,7 @@ module _ {S : Type 0} (g : Ghosts S) (old : StoreModel S) where
 
   -- a refusal that is handed on
   pub refuses_on : {A B : Type 0} (F : Type 0) (fault : StoreFault) (r : Result B StoreFault) →
-      RefusesBusy g {X = A} old (Err fault) ⊥ → IsErrAnd r (λ e. e ≡ fault) → RefusesBusy g old r F
+      IsRefusedIfBusy g {X = A} old (Err fault) ⊥ → IsErrAnd r (λ e. e ≡ fault) → IsRefusedIfBusy g old r F
   refuses_on F fault (Ok x) it is = absurd is
   refuses_on {A} {B} F fault (Err e) it is = record {
     busy = λ busy.

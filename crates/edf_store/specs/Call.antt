@@ -24,14 +24,16 @@ module _ {S : Type 0} (g : Ghosts S) where
   abbrev pub EndsIdle : {X E : Type 0} → StoreModel S → Result X E → Type 0
   EndsIdle new result = HasCleanDisk (at g new) → OnOk result ((at g new).in_transaction ≡ false)
 
-  -- a call that begins outside a transaction: found in one, it is refused by E42 without a cause,
-  -- and only then; it finds rows foreign only where this holds
-  pub record RefusesBusy {X : Type 0} (old : StoreModel S) (result : Result X StoreFault)
+  -- A call that needs a connection outside a transaction. Where the connection is in one, the call
+  -- is refused by E42 without a cause; elsewhere it never is so. It finds rows foreign only where
+  -- `IfForeign` holds.
+  pub record IsRefusedIfBusy {X : Type 0} (old : StoreModel S) (result : Result X StoreFault)
       (IfForeign : Type 0) : Type 0 where
     pub busy : IsBusy old → result ≡ Err (Store None)
     pub why : IfErr result (MayRefuse (IsBusy old) IfForeign ⊥)
 
-  -- what a call leaves that reads outside a transaction: what is held, and no transaction
+  -- a call that reads outside a transaction: what is held stays, and no transaction is open after a
+  -- call that is done
   pub record ReadsOutside {X E : Type 0} (old new : StoreModel S) (result : Result X E) : Type 0
     where
       pub stays : Stays g old new

@@ -36,6 +36,10 @@ MayRefuse IfBusy IfForeign IfFailed Failed = IfFailed
 abbrev pub HasCause : StoreFault → Type 0
 HasCause = MayRefuse ⊥ ⊥ ⊥
 
+-- the refusal has a cause, or is E45
+abbrev pub HasCauseOrIsForeign : StoreFault → Type 0
+HasCauseOrIsForeign = MayRefuse ⊥ (Unit {0}) ⊥
+
 -- E41 or E42, with or without a cause
 abbrev pub IsStoreRefusal : StoreFault → Type 0
 IsStoreRefusal Memory = Unit {0}

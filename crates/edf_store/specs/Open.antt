@@ -8,7 +8,7 @@ use Rattle.edf_tables.specs.Made.{IsOurs, HasTables, KeepsFile, IsMadeOf}
 use Rattle.edf_rows.specs.Rows.{AreKept}
 use Rattle.edf_audit.specs.File.{IsForeignFile}
 use Rattle.edf_store.specs.Held.{StoreModel, at}
-use Rattle.edf_store.specs.Fault.{MayRefuse}
+use Rattle.edf_store.specs.Fault.{HasCauseOrIsForeign}
 use Rattle.edf_store.specs.declared.fault.StoreFault.{StoreFault}
 use Rattle.edf_store.specs.declared.fault.StoreFault.TheVariants.{Foreign}
 
@@ -30,7 +30,7 @@ pub record IsOpened {S : Type 0} (g : Ghosts S) (conn : Held S) (store : StoreMo
 pub record IsGivenUp {S : Type 0} (g : Ghosts S) (conn : Held S) (cap : ℕ)
     (fault : StoreFault) : Type 0 where
   pub end : Held S
-  pub why : MayRefuse ⊥ (Unit {0}) ⊥ fault
+  pub why : HasCauseOrIsForeign fault
   pub foreign : fault ≡ Foreign → HasCleanDisk (state g end) → IsForeignFile cap (state g conn).now
   pub tables : fault ≡ Foreign → IsOurs (state g conn).now → HasCleanDisk (state g end) →
       HasTables (state g conn).now (state g end).now

@@ -59,7 +59,8 @@ module _ {S : Type 0} (g : Ghosts S) where
     pub ended : HasCleanDisk (at g new) → (at g new).in_transaction ≡ false
     pub is_open : HasCleanDisk (at g new) → OnOk result (IsTrue (at g new).is_open)
 
-  -- what is held when the transaction began stays, and the transaction is over
+  -- A transaction is given up: what was held before it stays, and nothing that it added is kept.
+  -- Where that is done, no transaction is open.
   pub record GivesUp {X E : Type 0} (old new : StoreModel S) (result : Result X E) : Type 0 where
     pub stays : Stays g old new
     pub ended : EndsIdle g new result

@@ -41,6 +41,7 @@ pub record IsWalkAfter (cap : ℕ) (s : State) (recording : Option ℤ) (cursor 
   pub ahead : map cells_of cursor.rows.items ≡ map record_cells
       (take (length cursor.rows.items) (drop n (h k)))
 
+-- so, on a disk that returns what was written
 abbrev pub HasGivenFirst : ℕ → State → Option ℤ → Cursor → Holdings → Key → ℕ → Type 0
 HasGivenFirst cap s recording cursor h k n = HasCleanDisk s →
     IsWalkAfter cap s recording cursor h k n
@@ -61,11 +62,11 @@ moved n (Some x) = n + 1
 moved n None = n
 
 module _ {S : Type 0} (g : Ghosts S) where
-  -- the walk gave the first n records of the key, and the others come next
+  -- the walk has given the first n records of the key, and gives the others next
   abbrev pub HasGiven : Records S Cursor → Holdings → Key → ℕ → Type 0
   HasGiven walk = HasGivenFirst walk.store.now.cap (at g walk.store.now) walk.recording walk.cursor
 
-  -- it gave the first records of some list that is held
+  -- the walk has given the first records of some key that is held
   abbrev pub IsWalking : Records S Cursor → Type 0
   IsWalking walk = IsSomeWalk walk.store.now.cap (at g walk.store.now) walk.recording walk.cursor
 

@@ -1,7 +1,7 @@
 //! How a transaction begins and ends.
 
 ghost use Rattle.edf_store.specs.Transaction.{SeesHoldings, EachHasRecord};
-ghost use Rattle.edf_store.specs.Call.{RefusesBusy};
+ghost use Rattle.edf_store.specs.Call.{IsRefusedIfBusy};
 ghost use Rattle.edf_store.specs.StoreTx.{Commits, GivesUp};
 ghost use Rattle.edf_store.specs.Inside.Rows.{Begins};
 
@@ -13,7 +13,7 @@ use sqlite::{Alter, Error};
 /// Begins a transaction, where the connection is in none.
 pub(crate) fn begin_all<S: Alter>(store: &mut Store<S>) -> Result<(), StoreFault>
     ensures begun { Begins S.Store store.old store.new result }
-    ensures refuses { RefusesBusy S.Store store.old result ⊥ }
+    ensures refuses { IsRefusedIfBusy S.Store store.old result ⊥ }
 {
     if !store.conn.is_autocommit() {
         return Err(StoreFault::Store(None));

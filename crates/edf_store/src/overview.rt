@@ -10,7 +10,7 @@ ghost use Rattle.edf_holdings.specs.Holdings.{Holdings};
 ghost use Rattle.edf_rows.specs.Rows.{IsThere};
 ghost use Rattle.edf_store.specs.Held.{at, Holds};
 ghost use Rattle.edf_store.specs.Overview.{AreKeysHeld, IsSummary, IsSummaryOf};
-ghost use Rattle.edf_store.specs.Call.{AnswersWith, IsUnclean, ReadsOutside, RefusesBusy};
+ghost use Rattle.edf_store.specs.Call.{AnswersWith, IsUnclean, ReadsOutside, IsRefusedIfBusy};
 ghost use Rattle.edf_store.specs.Inside.Settled.{IsAtRest};
 ghost use Rattle.edf_store.specs.Inside.Rows.{ReadsOurRows};
 
@@ -42,7 +42,7 @@ impl<S: Alter> Store<S> {
     /// transaction; or `Foreign` (E45) where the disk returned what was not written.
     pub fn identities(&mut self) -> Result<Vec<Identity>, StoreFault>
         ensures leaves { ReadsOutside S.Store self.old self.new result }
-        ensures refuses { RefusesBusy S.Store self.old result (IsUnclean S.Store self.new) }
+        ensures refuses { IsRefusedIfBusy S.Store self.old result (IsUnclean S.Store self.new) }
         ensures keys { AnswersWith S.Store self.new result (λ all.
             AreKeysHeld S.Store self.old all.items) }
     {
@@ -58,7 +58,7 @@ impl<S: Alter> Store<S> {
     /// transaction; or `Foreign` (E45) where the disk returned what was not written.
     pub fn summary(&mut self, identity: &Identity) -> Result<Option<Summary>, StoreFault>
         ensures leaves { ReadsOutside S.Store self.old self.new result }
-        ensures refuses { RefusesBusy S.Store self.old result (IsUnclean S.Store self.new) }
+        ensures refuses { IsRefusedIfBusy S.Store self.old result (IsUnclean S.Store self.new) }
         ensures summary { AnswersWith S.Store self.new result
             (IsSummaryOf S.Store self.old identity.now) }
     {

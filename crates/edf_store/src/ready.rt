@@ -5,7 +5,7 @@ ghost use Rattle.edf_holdings.specs.Holdings.{Holdings};
 ghost use Rattle.edf_rows.specs.Rows.{AreKept};
 ghost use Rattle.edf_store.specs.Held.{at};
 ghost use Rattle.edf_store.specs.Inside.Settled.{IsFoundIn, IsAtRest, Settles};
-ghost use Rattle.edf_store.specs.Call.{AnswersWith, RefusesBusy};
+ghost use Rattle.edf_store.specs.Call.{AnswersWith, IsRefusedIfBusy};
 ghost use Rattle.edf_tables.specs.Statement.{OnlyReads, KeepsCommitted, IsCrashSafe};
 
 use crate::fault::StoreFault;
@@ -28,7 +28,7 @@ fn run_nothing<S: Alter>(conn: &mut Connection<S>) -> Result<(), Error>
 /// held.
 pub(crate) fn ready<S: Alter>(store: &mut Store<S>) -> Result<(), StoreFault>
     ensures settles { Settles S.Store store.old store.new result }
-    ensures refuses { RefusesBusy S.Store store.old result ⊥ }
+    ensures refuses { IsRefusedIfBusy S.Store store.old result ⊥ }
 {
     if !store.conn.is_autocommit() {
         return Err(StoreFault::Store(None));

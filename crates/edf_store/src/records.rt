@@ -7,7 +7,7 @@ ghost use Rattle.sqlite.specs.State.{HasCleanDisk};
 ghost use Rattle.edf_header.specs.Key.{Key};
 ghost use Rattle.edf_holdings.specs.Holdings.{Holdings};
 ghost use Rattle.edf_store.specs.Held.{at, Stays};
-ghost use Rattle.edf_store.specs.Call.{AnswersWith, RefusesBusy};
+ghost use Rattle.edf_store.specs.Call.{AnswersWith, IsRefusedIfBusy};
 ghost use Rattle.edf_store.specs.Walk.{GivesNext, moved, IsWalking, HasGiven, BeginsAt, WalksOn};
 ghost use Rattle.edf_store.specs.Inside.Rows.{HasWalked, MayWalk, ReadsOurRows};
 
@@ -117,7 +117,7 @@ impl<S: Alter> Store<S> {
             (Stays S.Store self.old)) }
         ensures same_reference { IfOk result (λ it. it.store.ghost_name ≡ self.entry.ghost_name) }
         ensures begun { IfOk result (BeginsAt S.Store self.old identity.now) }
-        ensures refuses { RefusesBusy S.Store self.old result ⊥ }
+        ensures refuses { IsRefusedIfBusy S.Store self.old result ⊥ }
     {
         ready(self)?;
         let recording = find(self, identity)?;

@@ -6,7 +6,7 @@ ghost use Rattle.sqlite.specs.Held.{state};
 ghost use Rattle.edf_tables.specs.Made.{IsOurs};
 ghost use Rattle.edf_audit.specs.File.{IsForeignFile};
 ghost use Rattle.edf_store.specs.Held.{Stays};
-ghost use Rattle.edf_store.specs.Call.{RefusesBusy};
+ghost use Rattle.edf_store.specs.Call.{IsRefusedIfBusy};
 ghost use Rattle.edf_store.specs.StoreTx.{IsBegun};
 ghost use Rattle.edf_store.specs.Open.{IsOpened, IsGivenUp, StaysClean};
 
@@ -78,7 +78,7 @@ impl<S: Alter> Store<S> {
             (Stays S.Store self.old)) }
         ensures same_reference { IfOk result (λ tx. tx.store.ghost_name ≡ self.entry.ghost_name) }
         ensures begun { IfOk result (IsBegun S.Store self.old) }
-        ensures refuses { RefusesBusy S.Store self.old result ⊥ }
+        ensures refuses { IsRefusedIfBusy S.Store self.old result ⊥ }
     {
         begin_all(self)?;
         Ok(StoreTx {

@@ -45,10 +45,10 @@ module _ {S : Type 0} (g : Ghosts S) where
     pub sees : OnOk result ((h : Holdings) → Holds g old h → Sees g new h)
     pub whole : OnOk result (EachHasRecord g new)
 
-  -- a walk gave the first n records of the key, and the others come next
+  -- `HasGiven` of the parts of a walk: its store, its recording and its cursor
   abbrev pub HasWalked : StoreModel S → Option ℤ → Cursor → Holdings → Key → ℕ → Type 0
   HasWalked store = HasGivenFirst store.cap (at g store)
 
-  -- it gave the first records of some list that is held
+  -- `IsWalking` of the same parts
   abbrev pub MayWalk : StoreModel S → Option ℤ → Cursor → Type 0
   MayWalk store = IsSomeWalk store.cap (at g store)
