@@ -24,7 +24,8 @@ use Rattle.edf_holdings.proofs.Settled.{after-append}
 use Rattle.edf_rows.specs.Rows.{AreKept}
 use Rattle.edf_store.specs.Held.{StoreModel, at, Holds, Stays}
 use Rattle.edf_store.proofs.Held.{others_committed_then}
-use Rattle.edf_intake.specs.Refusal.{Answer, reply_told}
+use Rattle.edf_intake.specs.Refusal.{Cause, OfForm, OfConflict, OfRead, OfMemory, OfStore}
+use Rattle.edf_intake.specs.Refusal.{Answer, reply_told, cause}
 use Rattle.edf_fragment.specs.Call.{InputState}
 use Rattle.edf_intake.specs.Input.{IsOfForm, Hears}
 use Rattle.edf_store.specs.declared.fault.StoreFault.{StoreFault}
@@ -33,7 +34,8 @@ use Rattle.edf_store.specs.declared.fault.StoreFault.TheVariants.{Memory as NoMe
 use Rattle.edf_store.specs.declared.fault.StoreFault.TheVariants.{Failed as FailedBefore}
 use Rattle.edf_intake.specs.Submitted.{IsRefusal, IsSubmitted, IsEnded}
 use Rattle.edf_intake.specs.Batch.{Turn, somes, told_in, replies_in, MayBeAnswered, IsTurn}
-use Rattle.edf_intake.specs.Batch.{AreUnended, IsOwnRefusal, AreLeftBy, AreEnded, AreSubmitted}
+use Rattle.edf_intake.specs.Batch.{AreUnended, IsOwnCause, IsOwnRefusal, AreLeftBy, AreEnded}
+use Rattle.edf_intake.specs.Batch.{AreSubmitted}
 use Rattle.edf_intake.specs.Batch.{AnswersAll}
 use Rattle.edf_intake.specs.declared.answer.Refusal.TheVariants as refusal
 use Rattle.edf_intake.proofs.Turns.{IsMade, told-next, replies-next, map-next, all-next, turn_of}
@@ -43,13 +45,7 @@ own-one : {S : Type 0} (g : Ghosts S) (mid new : StoreModel S) →
     (HasCleanDisk (at g new) → HasCleanDisk (at g mid)) → (answer : Answer) →
     IsOwnRefusal g mid answer → IsOwnRefusal g new answer
 own-one g mid new was (Ok receipt) own = tt
-own-one g mid new was (Err (refusal.Form fault)) own = tt
-own-one g mid new was (Err (refusal.Overlap start stored)) own = tt
-own-one g mid new was (Err (refusal.Differs start)) own = tt
-own-one g mid new was (Err (refusal.Full held more cap)) own = tt
-own-one g mid new was (Err refusal.Read) own = tt
-own-one g mid new was (Err refusal.Memory) own = tt
-own-one g mid new was (Err (refusal.Store fault)) own = by fault own
+own-one g mid new was (Err refused) own = of (cause refused) own
   where
     by : (fault : StoreFault) → IsRefusal g (Unit {0}) mid fault → IsRefusal g (Unit {0}) new fault
     by NoMemory own = own
@@ -57,6 +53,13 @@ own-one g mid new was (Err (refusal.Store fault)) own = by fault own
     by (Store None) own = tt
     by Foreign own = λ clean. own (was clean)
     by FailedBefore own = own
+
+    of : (c : Cause) → IsOwnCause g mid c → IsOwnCause g new c
+    of (OfForm fault) own = tt
+    of (OfConflict conflict) own = tt
+    of OfRead own = tt
+    of OfMemory own = tt
+    of (OfStore fault) own = by fault own
 
 own-later : {S : Type 0} (g : Ghosts S) (mid new : StoreModel S) →
     (HasCleanDisk (at g new) → HasCleanDisk (at g mid)) → (answers : List Answer) →

@@ -8,17 +8,35 @@ use Rattle.edf_header.specs.Key.{Key}
 use Rattle.edf_fragment.specs.Fragment.{DataRecord}
 use Rattle.edf_fragment.specs.Told.{Fragment}
 use Rattle.edf_holdings.specs.Holdings.{Holdings, put}
-use Rattle.edf_holdings.specs.Reply.{IsSoundTold, Reply, Overlap, Differs, Full, Accepted, reply}
-use Rattle.edf_holdings.specs.Reply.{after_one}
+use Rattle.edf_holdings.specs.Reply.{Conflict, Overlap, Differs, Full, conflict_of_clash}
+use Rattle.edf_holdings.specs.Reply.{IsSoundTold, Reply, Conflicts, Accepted, reply, after_one}
 use Rattle.edf_holdings.proofs.Joining.{IsGood}
 use Rattle.edf_holdings.proofs.OneByOne.{Taken, Stopped, reply_stopped, reply_full, reply_accepted}
 use Rattle.edf_holdings.proofs.OneByOne.{after_accepted}
-use Rattle.edf_intake.specs.Refusal.{reply_told}
+use Rattle.edf_fragment.specs.declared.fault.FragmentFault.{FragmentFault}
+use Rattle.edf_store.specs.declared.fault.StoreFault.{StoreFault}
+use Rattle.edf_intake.specs.Refusal.{reply_told, OfConflict, cause}
 use Rattle.edf_intake.specs.declared.answer.Refusal.{Refusal}
 use Rattle.edf_intake.specs.declared.answer.Refusal.TheVariants as refusal
 use Rattle.edf_intake.specs.Inside.Verdict.{IsRoom, CountsAll, NamesClash, AreFindings}
 use Rattle.edf_intake.specs.declared.data_records.Starts.{Starts}
 use Rattle.edf_intake.specs.declared.data_records.Findings.{Findings}
+
+-- refusals by what they come of, where those for a conflict are one case
+pub by_cause : (P : Refusal → Type 0) → ((fault : FragmentFault) → P (refusal.Form fault))
+    → ((refused : Refusal) (conflict : Conflict) → cause refused ≡ OfConflict conflict → P refused)
+    → P refusal.Read → P refusal.Memory → ((fault : StoreFault) → P (refusal.Store fault)) →
+    (refused : Refusal) → P refused
+by_cause P form conflicts read memory store (refusal.Form fault) = form fault
+by_cause P form conflicts read memory store (refusal.Overlap start stored) =
+    conflicts (refusal.Overlap start stored) (Overlap start stored) refl
+by_cause P form conflicts read memory store (refusal.Differs start) =
+    conflicts (refusal.Differs start) (Differs start) refl
+by_cause P form conflicts read memory store (refusal.Full held new cap) =
+    conflicts (refusal.Full held new cap) (Full held new cap) refl
+by_cause P form conflicts read memory store refusal.Read = read
+by_cause P form conflicts read memory store refusal.Memory = memory
+by_cause P form conflicts read memory store (refusal.Store fault) = store fault
 
 -- where no clash was met
 pub counts_all : (key : Key) (h : Holdings) (records : List DataRecord) (findings : Findings) →
@@ -66,17 +84,17 @@ pub clash_told : (cap : ℕ) (key : Key) (h : Holdings) (records : List DataReco
 clash_told cap key h records starts told differs overlaps k =
     elim (eqb_tells starts.start starts.stored) [
       | inl same ↦ ap (λ (r : Refusal). reply_told (Err r)) (differs same.1)
-          ∙ ap (λ (r : Reply). Some r) (sym (named
-          ∙ cond-true (nat_eq starts.start starts.stored) (Differs starts.start)
-          (Overlap starts.start starts.stored) same.0))
+          ∙ ap (λ (r : Reply). Some r) (sym (named ∙ ap (λ (c : Conflict). Conflicts c)
+          (cond-true (nat_eq starts.start starts.stored) (Differs starts.start)
+          (Overlap starts.start starts.stored) same.0)))
       | inr other ↦ ap (λ (r : Refusal). reply_told (Err r)) (overlaps other.1)
-          ∙ ap (λ (r : Reply). Some r) (sym (named
-          ∙ cond-false (nat_eq starts.start starts.stored) (Differs starts.start)
-          (Overlap starts.start starts.stored) other.0))
+          ∙ ap (λ (r : Reply). Some r) (sym (named ∙ ap (λ (c : Conflict). Conflicts c)
+          (cond-false (nat_eq starts.start starts.stored) (Differs starts.start)
+          (Overlap starts.start starts.stored) other.0)))
     ]
   where
-    named : reply cap h (Fragment key records) ≡ cond (nat_eq starts.start starts.stored)
-        (Differs starts.start) (Overlap starts.start starts.stored)
+    named : reply cap h (Fragment key records)
+        ≡ Conflicts (conflict_of_clash starts.start starts.stored)
     named = reply_stopped cap key h records (
       starts.start,
       starts.stored,
@@ -87,14 +105,14 @@ clash_told cap key h records starts told differs overlaps k =
 pub full_here : (cap room : ℕ) (key : Key) (h : Holdings) (records : List DataRecord)
     (findings : Findings) → CountsAll key h records findings
     → IsRoom cap (length (h key)) (length records) room → room < findings.new →
-    reply cap h (Fragment key records) ≡ Full (cap - room) findings.new cap
+    reply cap h (Fragment key records) ≡ Conflicts (Full (cap - room) findings.new cap)
 full_here cap room key h records findings k it past =
     let all : length (h key) + room ≡ cap =
     elim it.enough [ inl same ↦ same | inr many ↦ absurd (omega (arith, many, past, k.all)) ] in
     let same : length (h key) ≡ cap - room = omega (arith, all) in
     reply_full cap key h records (put key records h) findings.new findings.known
     (taken_of cap key h records findings k) (omega (arith, past)) (omega (arith, past, all))
-    ∙ ap (λ (n : ℕ). Full n findings.new cap) same
+    ∙ ap (λ (n : ℕ). Conflicts (Full n findings.new cap)) same
 
 pub accepted_here : (cap room : ℕ) (key : Key) (h : Holdings) (records : List DataRecord)
     (findings : Findings) → CountsAll key h records findings

@@ -23,12 +23,14 @@ use Rattle.edf_store.specs.declared.fault.StoreFault.{StoreFault}
 use Rattle.edf_store.specs.declared.fault.StoreFault.TheVariants.{Memory, Store, Foreign, Failed}
 use Rattle.edf_store.specs.declared.transaction.StoreTx.{StoreTx}
 use Rattle.edf_store.proofs.Readiness.{stays_then}
-use Rattle.edf_intake.specs.Refusal.{Answer, IsStopped, IsInDoubt}
+use Rattle.edf_intake.specs.Refusal.{Cause, OfForm, OfConflict, OfRead, OfMemory, OfStore}
+use Rattle.edf_intake.specs.Refusal.{Answer, IsStopped, IsInDoubt, cause}
 use Rattle.edf_fragment.specs.Call.{InputState}
 use Rattle.edf_intake.specs.Input.{ReadsFront}
-use Rattle.edf_intake.specs.Submitted.{AreLeft, Accepts, Refuses, StopsThere, IsSubmitted}
+use Rattle.edf_intake.specs.Submitted.{AreLeft, Accepts, Refuses, StopsThere, IsRefusedFor}
+use Rattle.edf_intake.specs.Submitted.{IsSubmitted}
 use Rattle.edf_intake.specs.Inside.Halt.{store_refusal}
-use Rattle.edf_intake.specs.Inside.Taken.{IsAcceptedInside, IsStop, IsConflictInside}
+use Rattle.edf_intake.specs.Inside.Taken.{IsAcceptedInside, StopsFor, IsStop, IsConflictInside}
 use Rattle.edf_intake.specs.declared.answer.Receipt.{Receipt}
 use Rattle.edf_intake.specs.declared.answer.Refusal.{Refusal}
 use Rattle.edf_intake.specs.declared.answer.Refusal.TheVariants as refusal
@@ -186,36 +188,35 @@ module _ {S : Type 0} (g : Ghosts S) (old : StoreModel S) (first last : StoreTx 
         },
       )
 
-      pub submitted : (told : Refusal) → IsStop g first last from to (Input told) →
-          IsSubmitted g old new from to (Err told)
-      submitted (refusal.Form fault) r =
+      refused : (c : Cause) → StopsFor g first last from to c → IsRefusedFor g old new from to c
+      refused (OfForm fault) r =
           record {
             read = r;
             reply_is = λ clean h held. reply_to_fault old.cap h fault;
             stays =
                 all_stays;
           }
-      submitted (refusal.Overlap start stored) r = refuses _ r
-      submitted (refusal.Differs start) r = refuses _ r
-      submitted (refusal.Full n m cap) r = refuses _ r
-      submitted refusal.Read r = record { read = r; stays = all_stays }
-      submitted refusal.Memory r = inl (all_stays, inr (inr (inl r)))
-      submitted (refusal.Store fault) r = absurd r
+      refused (OfConflict conflict) r = refuses _ r
+      refused OfRead r = record { read = r; stays = all_stays }
+      refused OfMemory r = inl (all_stays, inr (inr (inl r)))
+      refused (OfStore fault) r = absurd r
 
-      front_of : (told : Refusal) → IsStop g first last from to (Input told) → ReadsFront from to
-      front_of (refusal.Form fault) r = inr (inr (inr (inr (Fault fault, r))))
-      front_of (refusal.Overlap start stored) r =
+      pub submitted : (told : Refusal) → IsStop g first last from to (Input told) →
+          IsSubmitted g old new from to (Err told)
+      submitted told r = refused (cause told) r
+
+      front_of : (c : Cause) → StopsFor g first last from to c → ReadsFront from to
+      front_of (OfForm fault) r = inr (inr (inr (inr (Fault fault, r))))
+      front_of (OfConflict conflict) r =
           inr (inr (inr (inr (Fragment r.key r.records, r.read))))
-      front_of (refusal.Differs start) r = inr (inr (inr (inr (Fragment r.key r.records, r.read))))
-      front_of (refusal.Full n m cap) r = inr (inr (inr (inr (Fragment r.key r.records, r.read))))
-      front_of refusal.Read r = inr (inr (inr (inl r)))
-      front_of refusal.Memory r = inr (inr (inl r))
-      front_of (refusal.Store fault) r = absurd r
+      front_of OfRead r = inr (inr (inr (inl r)))
+      front_of OfMemory r = inr (inr (inl r))
+      front_of (OfStore fault) r = absurd r
 
       -- and that was refused
       pub stops_at_undo : (told : Refusal) → IsStop g first last from to (Input told) →
           (fault : StoreFault) → StopsThere g old new from to (Err (store_refusal fault))
-      stops_at_undo told r fault = inl (all_stays, front_of told r)
+      stops_at_undo told r fault = inl (all_stays, front_of (cause told) r)
 
       -- or a call before it
       pub stops_before : ReadsFront from to → (fault : StoreFault) →

@@ -6,9 +6,10 @@ use Rattle.sqlite_trees.specs.declared.store.Store.{Ghosts}
 use Rattle.sqlite.specs.State.{HasCleanDisk, Survives}
 use Rattle.sqlite.proofs.StateLemmas.{survives_weaker}
 use Rattle.edf_fragment.specs.Told.{Told, Fragment, Fault}
+use Rattle.edf_fragment.specs.declared.fault.FragmentFault.{FragmentFault}
 use Rattle.edf_fragment.proofs.Sound.{spelled-key, spelled-sound, spelled-begins}
 use Rattle.edf_holdings.specs.Holdings.{Holdings, IsSound}
-use Rattle.edf_holdings.specs.Reply.{IsSoundTold, Reply, Form, Overlap, Differs, Full, Accepted}
+use Rattle.edf_holdings.specs.Reply.{Conflict, IsSoundTold, Reply, Form, Conflicts, Accepted}
 use Rattle.edf_holdings.specs.Reply.{IsAccepted, reply, replies, after}
 use Rattle.edf_holdings.proofs.Accepted.{refused_changes_nothing}
 use Rattle.edf_rows.specs.Rows.{AreKept}
@@ -16,14 +17,17 @@ use Rattle.edf_store.specs.Held.{StoreModel, at, Holds, Stays, KeepsCommittedOth
 use Rattle.edf_store.specs.Call.{IsBusy}
 use Rattle.edf_store.specs.declared.fault.StoreFault.{StoreFault}
 use Rattle.edf_store.specs.declared.fault.StoreFault.TheVariants.{Memory, Store, Foreign, Failed}
-use Rattle.edf_intake.specs.Refusal.{Answer, reply_told, IsStopped, IsInDoubt}
+use Rattle.edf_intake.specs.Refusal.{Answer, reply_told, IsStopped, IsInDoubt, cause}
+use Rattle.edf_intake.specs.Refusal.{Cause, OfConflict, reply_for}
 use Rattle.edf_fragment.specs.Call.{InputState}
 use Rattle.edf_intake.specs.Input.{Hears, FailsToRead, ReadsFront}
 use Rattle.edf_intake.specs.Submitted.{IsRefusal, AreLeft, LeavesSubmitted, MayLeave, Refuses}
-use Rattle.edf_intake.specs.Submitted.{StopsThere, IsSubmitted}
+use Rattle.edf_intake.specs.Submitted.{StopsThere, IsRefusedFor, IsSubmitted}
 use Rattle.edf_intake.specs.Batch.{Turn, somes, told_in, replies_in, GoesWith, IsTurn}
-use Rattle.edf_intake.specs.Batch.{MayBeAnswered, AreUnended, IsOwnRefusal}
+use Rattle.edf_intake.specs.Batch.{MayBeAnswered, AreUnended, IsOwnCause, IsOwnRefusal}
+use Rattle.edf_intake.specs.declared.answer.Refusal.{Refusal}
 use Rattle.edf_intake.specs.declared.answer.Refusal.TheVariants as refusal
+use Rattle.edf_intake.proofs.Conflicts.{by_cause}
 
 -- ---- lists
 
@@ -166,6 +170,34 @@ module _ {S : Type 0} (g : Ghosts S) (old new : StoreModel S) (from to : InputSt
   own_refusal Foreign own = own
   own_refusal Failed own = own
 
+  abbrev HasTurn : Refusal → Type 0
+  HasTurn refused = IsSubmitted g old new from to (Err refused) → (told : Option Told)
+      × IsMade g old new (record { from = from; to = to; answer = Err refused; told = told })
+
+  form_turn : (fault : FragmentFault) → HasTurn (refusal.Form fault)
+  form_turn fault r = (
+    Some (Fault fault),
+    refused_turn (Err (refusal.Form fault)) (Fault fault) (Form fault) tt
+        refl refl (λ yes. yes) r,
+  )
+
+  conflict_turn : (refused : Refusal) (conflict : Conflict) → cause refused ≡ OfConflict conflict →
+      HasTurn refused
+  conflict_turn refused conflict of s =
+      let (key, records, r) = subst (λ (c : Cause). IsRefusedFor g old new from to c) of s in (
+        Some (Fragment key records),
+        refused_turn (Err refused) (Fragment key records) (Conflicts conflict)
+            (subst (λ (c : Cause). IsOwnCause g new c) (sym of) tt)
+            (ap reply_for of) tt (λ yes. yes) r,
+      )
+
+  read_turn : HasTurn refusal.Read
+  read_turn f = (
+    None,
+    silent_turn (Err refusal.Read) tt refl (inl f.read) (inr (inr (inr (inl f.read))))
+        f.stays,
+  )
+
   pub turn_of : (answer : Answer) → IsSubmitted g old new from to answer → (told : Option Told)
       × IsMade g old new (record { from = from; to = to; answer = answer; told = told })
   turn_of (Ok receipt) a = (
@@ -174,31 +206,7 @@ module _ {S : Type 0} (g : Ghosts S) (old new : StoreModel S) (from to : InputSt
         (Accepted receipt.identity receipt.new receipt.known) tt refl refl a.read a.reply_is
         a.leaves,
   )
-  turn_of (Err (refusal.Form fault)) r = (
-    Some (Fault fault),
-    refused_turn (Err (refusal.Form fault)) (Fault fault) (Form fault) tt
-        refl refl (λ yes. yes) r,
-  )
-  turn_of (Err (refusal.Overlap start stored)) (key, records, r) = (
-    Some (Fragment key records),
-    refused_turn (Err (refusal.Overlap start stored))
-        (Fragment key records) (Overlap start stored) tt refl tt (λ yes. yes) r,
-  )
-  turn_of (Err (refusal.Differs start)) (key, records, r) = (
-    Some (Fragment key records),
-    refused_turn (Err (refusal.Differs start)) (Fragment key records) (Differs start) tt refl tt
-        (λ yes. yes) r,
-  )
-  turn_of (Err (refusal.Full held more cap)) (key, records, r) = (
-    Some (Fragment key records),
-    refused_turn (Err (refusal.Full held more cap))
-        (Fragment key records) (Full held more cap) tt refl tt (λ yes. yes) r,
-  )
-  turn_of (Err refusal.Read) f = (
-    None,
-    silent_turn (Err refusal.Read) tt refl (inl f.read) (inr (inr (inr (inl f.read))))
-        f.stays,
-  )
-  turn_of (Err refusal.Memory) s = stopped_turn (Err refusal.Memory) tt refl tt s
-  turn_of (Err (refusal.Store fault)) s =
-      stopped_turn (Err (refusal.Store fault)) (own_refusal fault s.1) refl tt s.0
+  turn_of (Err refused) s = by_cause HasTurn form_turn conflict_turn read_turn
+      (λ s. stopped_turn (Err refusal.Memory) tt refl tt s)
+      (λ fault s. stopped_turn (Err (refusal.Store fault)) (own_refusal fault s.1) refl tt s.0)
+      refused s

@@ -18,16 +18,16 @@ use Rattle.edf_holdings.proofs.Joining.{IsGood-from_sound, put_here, put_grows}
 use Rattle.edf_store.specs.Held.{StoreModel, at, Stays}
 use Rattle.edf_store.specs.Transaction.{Sees, SeesHoldings, HasAtMost, HasNoMore, EachHasRecord}
 use Rattle.edf_store.specs.declared.transaction.StoreTx.{StoreTx}
-use Rattle.edf_intake.specs.Refusal.{reply_told}
+use Rattle.edf_intake.specs.Refusal.{Cause, OfForm, OfConflict, OfRead, OfMemory, OfStore}
+use Rattle.edf_intake.specs.Refusal.{reply_for, reply_told, cause}
 use Rattle.edf_fragment.specs.Call.{InputState}
 use Rattle.edf_intake.specs.Input.{ReadsWhole}
 use Rattle.edf_intake.specs.Inside.Verdict.{IsRoom, AreFindings}
 use Rattle.edf_intake.specs.Inside.Taken.{IsConflict, MayBeAccepted, IsDestination, AreTaken}
-use Rattle.edf_intake.specs.Inside.Taken.{IsAcceptedInside, IsStop}
+use Rattle.edf_intake.specs.Inside.Taken.{IsOfConflict, IsAcceptedInside, StopsFor, IsStop}
 use Rattle.edf_intake.specs.declared.data_records.Destination.{Destination}
 use Rattle.edf_intake.specs.declared.data_records.Findings.{Findings}
 use Rattle.edf_intake.specs.declared.answer.Refusal.{Refusal}
-use Rattle.edf_intake.specs.declared.answer.Refusal.TheVariants as refusal
 use Rattle.edf_intake.specs.declared.answer.Stop.TheVariants.{Input}
 use Rattle.edf_intake.proofs.Steps.{seen_is_one, empty_within}
 use Rattle.edf_intake.proofs.Conflicts.{counts_all, accepted_here, left_here}
@@ -155,33 +155,20 @@ module _ {S : Type 0} (g : Ghosts S) (first made last : StoreTx S) (from mid to 
       reply_told (Err answer) ≡ Some (reply first.store.now.cap h (Fragment l.key taken.records)))
       → IsStop g first last from to (Input answer)
   is_refused answer conflict told =
-      by answer conflict (λ clean h seen. told h (space (was_made clean) h (there.same h seen))
+      by (cause answer) conflict (λ clean h seen. told h (space (was_made clean) h (there.same h seen))
       (taken.found clean h (there.same h seen)).0)
     where
-      by : (answer : Refusal) → IsConflict answer →
+      by : (c : Cause) → IsOfConflict c →
           (HasCleanDisk (at g last.store.now) → (h : Holdings) → Sees g first.store.now h →
-          reply_told (Err answer) ≡ Some
-          (reply first.store.now.cap h (Fragment l.key taken.records)))
-          → IsStop g first last from to (Input answer)
-      by (refusal.Overlap start stored) c e = record {
+          reply_for c ≡ Some (reply first.store.now.cap h (Fragment l.key taken.records)))
+          → StopsFor g first last from to c
+      by (OfConflict conflict) is_one e = record {
         key = l.key;
         records = taken.records;
         read = whole;
         reply_is = λ clean h seen. let p = e clean h seen in cc;
       }
-      by (refusal.Differs start) c e = record {
-        key = l.key;
-        records = taken.records;
-        read = whole;
-        reply_is = λ clean h seen. let p = e clean h seen in cc;
-      }
-      by (refusal.Full n m cap) c e = record {
-        key = l.key;
-        records = taken.records;
-        read = whole;
-        reply_is = λ clean h seen. let p = e clean h seen in cc;
-      }
-      by (refusal.Form fault) c e = absurd c
-      by refusal.Read c e = absurd c
-      by refusal.Memory c e = absurd c
-      by (refusal.Store fault) c e = absurd c
+      by (OfForm fault) never e = absurd never
+      by OfRead never e = absurd never
+      by OfMemory never e = absurd never
+      by (OfStore fault) never e = absurd never

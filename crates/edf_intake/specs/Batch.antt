@@ -1,6 +1,7 @@
 -- What a list of submissions answers, and what it leaves: first the plain case, where each answer
 -- tells a reply; then every case, input by input; and last what a crash may leave.
-use Rattle.std.specs.Prelude.{◌≡◌, ◌⊎◌, ℕ, List, [], ◌∷◌, ◌++◌, map, Option, Some, None, Err}
+use Rattle.std.specs.Prelude.{◌≡◌, ◌⊎◌, ℕ, List, [], ◌∷◌, ◌++◌, map, Option, Some, None, Ok}
+use Rattle.std.specs.Prelude.{Err}
 use Rattle.std.specs.List.{AllByRecursion, AllZip}
 use Rattle.sqlite_trees.specs.declared.store.Store.{Ghosts}
 use Rattle.sqlite_trees.specs.Tree.{Trees}
@@ -10,9 +11,9 @@ use Rattle.edf_holdings.specs.Holdings.{Holdings}
 use Rattle.edf_holdings.specs.Reply.{Reply, Form, Accepted, after_one, after, replies}
 use Rattle.edf_rows.specs.Rows.{AreKept}
 use Rattle.edf_store.specs.Held.{StoreModel, at, Holds, KeepsCommittedOthers}
-use Rattle.edf_intake.specs.Refusal.{Answer, reply_told, IsStopped, IsInDoubt}
+use Rattle.edf_intake.specs.Refusal.{Answer, reply_told, IsStopped, IsInDoubt, cause}
+use Rattle.edf_intake.specs.Refusal.{Cause, OfStore}
 use Rattle.edf_intake.specs.Submitted.{IsRefusal, IsEnded}
-use Rattle.edf_intake.specs.declared.answer.Refusal.TheVariants as refusal
 use Rattle.edf_fragment.specs.Call.{InputState}
 use Rattle.edf_intake.specs.Input.{Hears, FailsToRead, ReadsFront}
 
@@ -70,9 +71,13 @@ abbrev pub IsTurn : Turn → Type 0
 IsTurn t = GoesWith t t.told (reply_told t.answer)
 
 -- where the store refused, the refusal is one that a submission may be answered
+abbrev pub IsOwnCause : {S : Type 0} → Ghosts S → StoreModel S → Cause → Type 0
+IsOwnCause g new (OfStore fault) = IsRefusal g (Unit {0}) new fault
+IsOwnCause g new other = Unit {0}
+
 abbrev pub IsOwnRefusal : {S : Type 0} → Ghosts S → StoreModel S → Answer → Type 0
-IsOwnRefusal g new (Err (refusal.Store fault)) = IsRefusal g (Unit {0}) new fault
-IsOwnRefusal g new answer = Unit {0}
+IsOwnRefusal g new (Ok receipt) = Unit {0}
+IsOwnRefusal g new (Err refused) = IsOwnCause g new (cause refused)
 
 -- the next input's answer is E41 or E42, and the rows stand for what is held and what that input
 -- tells, submitted to it

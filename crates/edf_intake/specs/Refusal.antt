@@ -1,8 +1,11 @@
--- The numbers and names of refusals, and the reply that an answer tells.
+-- The numbers and names of refusals, what each comes of, and the reply that an answer tells.
 use Rattle.std.specs.Prelude.{ℕ, List, codes, Option, Some, None, Result, Ok, Err}
 use Rattle.edf_fragment.specs.Fault.{fragment_fault_number, fragment_fault_name}
+use Rattle.edf_fragment.specs.declared.fault.FragmentFault.{FragmentFault}
 use Rattle.edf_store.specs.Fault.{number, store_fault_name, IsStoreRefusal}
-use Rattle.edf_holdings.specs.Reply.{Reply, Form, Overlap, Differs, Full, Accepted}
+use Rattle.edf_store.specs.declared.fault.StoreFault.{StoreFault}
+use Rattle.edf_holdings.specs.Reply.{Conflict, Overlap, Differs, Full}
+use Rattle.edf_holdings.specs.Reply.{Reply, Form, Conflicts, Accepted}
 use Rattle.edf_intake.specs.declared.answer.Receipt.{Receipt}
 use Rattle.edf_intake.specs.declared.answer.Refusal.{Refusal}
 use Rattle.edf_intake.specs.declared.answer.Refusal.TheVariants as refusal
@@ -26,21 +29,40 @@ refusal_name refusal.Read = codes "Read"
 refusal_name refusal.Memory = codes "Memory"
 refusal_name (refusal.Store fault) = store_fault_name fault
 
+-- what a refusal comes of: a fault of form, a conflict with what is held, a failed read, want of
+-- memory, or a fault of the store
+pub data Cause : Type 0 where
+  OfForm : FragmentFault → Cause
+  OfConflict : Conflict → Cause
+  OfRead : Cause
+  OfMemory : Cause
+  OfStore : StoreFault → Cause
+
+abbrev pub cause : Refusal → Cause
+cause (refusal.Form fault) = OfForm fault
+cause (refusal.Overlap start stored) = OfConflict (Overlap start stored)
+cause (refusal.Differs start) = OfConflict (Differs start)
+cause (refusal.Full held new cap) = OfConflict (Full held new cap)
+cause refusal.Read = OfRead
+cause refusal.Memory = OfMemory
+cause (refusal.Store fault) = OfStore fault
+
 -- the answer to one submission
 abbrev pub Answer : Type 0
 Answer = Result Receipt Refusal
 
--- the reply that an answer tells; a failed read, want of memory and a refusal of the store tell
--- none
+-- the reply that a refusal tells; one for a failed read, want of memory or the store tells none
+abbrev pub reply_for : Cause → Option Reply
+reply_for (OfForm fault) = Some (Form fault)
+reply_for (OfConflict conflict) = Some (Conflicts conflict)
+reply_for OfRead = None
+reply_for OfMemory = None
+reply_for (OfStore fault) = None
+
+-- the reply that an answer tells
 abbrev pub reply_told : Answer → Option Reply
 reply_told (Ok receipt) = Some (Accepted receipt.identity receipt.new receipt.known)
-reply_told (Err (refusal.Form fault)) = Some (Form fault)
-reply_told (Err (refusal.Overlap start stored)) = Some (Overlap start stored)
-reply_told (Err (refusal.Differs start)) = Some (Differs start)
-reply_told (Err (refusal.Full held new cap)) = Some (Full held new cap)
-reply_told (Err refusal.Read) = None
-reply_told (Err refusal.Memory) = None
-reply_told (Err (refusal.Store fault)) = None
+reply_told (Err refused) = reply_for (cause refused)
 
 -- memory ran out, or the store refused
 abbrev pub IsStopped : Answer → Type 0

@@ -8,15 +8,15 @@ use Rattle.edf_header.specs.Key.{Key}
 use Rattle.edf_fragment.specs.Fragment.{DataRecord}
 use Rattle.edf_fragment.specs.Told.{Told, Fragment, Fault}
 use Rattle.edf_holdings.specs.Holdings.{Holdings}
-use Rattle.edf_holdings.specs.Reply.{Reply, Form, Overlap, Differs, Full, Accepted, reply}
-use Rattle.edf_holdings.specs.Reply.{after_one}
+use Rattle.edf_holdings.specs.Reply.{Reply, Form, Conflicts, Accepted, reply, after_one}
 use Rattle.edf_rows.specs.Rows.{AreKept}
 use Rattle.edf_store.specs.Held.{StoreModel, at, Holds, KeepsCommittedOthers, Stays}
 use Rattle.edf_store.specs.Fault.{MayRefuse}
 use Rattle.edf_store.specs.Call.{IsBusy, IsUnclean}
 use Rattle.edf_store.specs.declared.fault.StoreFault.{StoreFault}
 use Rattle.edf_store.specs.declared.fault.StoreFault.TheVariants as store
-use Rattle.edf_intake.specs.Refusal.{Answer, IsStopped, IsInDoubt}
+use Rattle.edf_intake.specs.Refusal.{Answer, IsStopped, IsInDoubt, cause}
+use Rattle.edf_intake.specs.Refusal.{Cause, OfForm, OfConflict, OfRead, OfMemory, OfStore}
 use Rattle.edf_fragment.specs.Call.{InputState}
 use Rattle.edf_intake.specs.Input.{Hears, ReadsWhole, FailsToRead, ReadsFront}
 use Rattle.edf_intake.specs.declared.answer.Receipt.{Receipt}
@@ -91,19 +91,20 @@ module _ {S : Type 0} (g : Ghosts S) (old new : StoreModel S) where
         ⊎ (IsInDoubt answer × ((key : Key) × (records : List DataRecord)
         × ReadsWhole from to key records × MayLeave (Fragment key records)))
 
+    -- each cause of a refusal, what it says of the input and what is left
+    abbrev pub IsRefusedFor : Cause → Type 0
+    IsRefusedFor (OfForm fault) = Refuses (Fault fault) (Form fault)  -- E1 to E29
+    IsRefusedFor (OfConflict conflict) = RefusesFragment (Conflicts conflict)  -- from E30 on
+    IsRefusedFor OfRead = FailsThere  -- E40
+    IsRefusedFor OfMemory = StopsThere (Err refusal.Memory)  -- E41
+    -- E42, E45
+    IsRefusedFor (OfStore fault) = StopsThere (Err (refusal.Store fault))
+        × IsRefusal g (IsBusy g old) new fault
+
     -- each answer, what it says of the input and what it leaves
     abbrev pub IsSubmitted : Answer → Type 0
     IsSubmitted (Ok receipt) = Accepts receipt
-    IsSubmitted (Err (refusal.Form fault)) = Refuses (Fault fault) (Form fault)  -- E1 to E29
-    -- E30
-    IsSubmitted (Err (refusal.Overlap start stored)) = RefusesFragment (Overlap start stored)
-    IsSubmitted (Err (refusal.Differs start)) = RefusesFragment (Differs start)  -- E31
-    IsSubmitted (Err (refusal.Full held new cap)) = RefusesFragment (Full held new cap)  -- E32
-    IsSubmitted (Err refusal.Read) = FailsThere  -- E40
-    IsSubmitted (Err refusal.Memory) = StopsThere (Err refusal.Memory)  -- E41
-    -- E42, E45
-    IsSubmitted (Err (refusal.Store fault)) = StopsThere (Err (refusal.Store fault))
-        × IsRefusal g (IsBusy g old) new fault
+    IsSubmitted (Err refused) = IsRefusedFor (cause refused)
 
 -- no transaction is open after it, except where memory ran out or the store refused
 abbrev pub IsEnded : {S : Type 0} → Ghosts S → StoreModel S → Answer → Type 0

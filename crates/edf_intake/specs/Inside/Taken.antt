@@ -10,7 +10,7 @@ use Rattle.edf_fragment.specs.Reading.{ReadsHeader, at_first}
 use Rattle.edf_fragment.specs.Whole.{ReadsFragment}
 use Rattle.edf_fragment.specs.declared.advance.Progress.{Progress}
 use Rattle.edf_holdings.specs.Holdings.{Holdings, put}
-use Rattle.edf_holdings.specs.Reply.{Reply, Overlap, Differs, Full, Accepted, reply, after_one}
+use Rattle.edf_holdings.specs.Reply.{Reply, Conflicts, Accepted, reply, after_one}
 use Rattle.edf_store.specs.Held.{at}
 use Rattle.edf_store.specs.Transaction.{Sees, IsOf, HasNoMore, HasAtMost, EachHasRecord}
 use Rattle.edf_store.specs.StoreTx.{HasCauseOrIsUnclean}
@@ -21,18 +21,20 @@ use Rattle.edf_intake.specs.Input.{LacksMemory}
 use Rattle.edf_intake.specs.Inside.Verdict.{IsRoomInside, AreFindings}
 use Rattle.edf_intake.specs.declared.answer.Receipt.{Receipt}
 use Rattle.edf_intake.specs.declared.answer.Refusal.{Refusal}
-use Rattle.edf_intake.specs.declared.answer.Refusal.TheVariants as refusal
+use Rattle.edf_intake.specs.Refusal.{Cause, OfForm, OfConflict, OfRead, OfMemory, OfStore}
+use Rattle.edf_intake.specs.Refusal.{cause}
 use Rattle.edf_intake.specs.declared.answer.Stop.{Stop}
 use Rattle.edf_intake.specs.declared.answer.Stop.TheVariants.{Input, Store}
 use Rattle.edf_intake.specs.declared.data_records.Destination.{Destination}
 use Rattle.edf_intake.specs.declared.data_records.Findings.{Findings}
 
--- E30 to E32
+-- the refusal comes of a conflict
+abbrev pub IsOfConflict : Cause → Type 0
+IsOfConflict (OfConflict conflict) = Unit {0}
+IsOfConflict other = ⊥
+
 abbrev pub IsConflict : Refusal → Type 0
-IsConflict (refusal.Overlap start stored) = Unit {0}
-IsConflict (refusal.Differs start) = Unit {0}
-IsConflict (refusal.Full held new cap) = Unit {0}
-IsConflict other = ⊥
+IsConflict refused = IsOfConflict (cause refused)
 
 -- nothing clashes, and there is room for what is new
 abbrev pub MayBeAccepted : ℕ → Findings → Type 0
@@ -88,13 +90,15 @@ module _ {S : Type 0} (g : Ghosts S) (old new : StoreTx S) where
       pub reply_is : HasCleanDisk (at g new.store.now) → (h : Holdings) → Sees g old.store.now h →
           reply old.store.now.cap h (Fragment key records) ≡ answer
 
+    -- why the input is refused
+    abbrev pub StopsFor : Cause → Type 0
+    StopsFor (OfForm fault) = ReadsFault from to fault
+    StopsFor (OfConflict conflict) = IsConflictInside (Conflicts conflict)
+    StopsFor OfRead = FailsToRead from to
+    StopsFor OfMemory = LacksMemory from to
+    StopsFor (OfStore fault) = ⊥
+
     -- why nothing is to be committed
     abbrev pub IsStop : Stop → Type 0
-    IsStop (Input (refusal.Form fault)) = ReadsFault from to fault
-    IsStop (Input (refusal.Overlap start stored)) = IsConflictInside (Overlap start stored)
-    IsStop (Input (refusal.Differs start)) = IsConflictInside (Differs start)
-    IsStop (Input (refusal.Full held new_ cap)) = IsConflictInside (Full held new_ cap)
-    IsStop (Input refusal.Read) = FailsToRead from to
-    IsStop (Input refusal.Memory) = LacksMemory from to
-    IsStop (Input (refusal.Store fault)) = ⊥
+    IsStop (Input refused) = StopsFor (cause refused)
     IsStop (Store fault) = ReadsSome from to × HasCauseOrIsUnclean g new fault
