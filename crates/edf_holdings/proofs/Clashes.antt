@@ -1,19 +1,18 @@
 -- The first clash is there wherever records clash, and the counts are named where none do.
-use Rattle.std.proofs.Common.{◌≡◌, ℕ, ◌+◌, ◌≤◌, true, List, [], ◌∷◌, length, Contains, Option, Some}
+use Rattle.std.proofs.Common.{◌≡◌, ℕ, ◌+◌, ◌≤◌, true, List, [], ◌∷◌, Contains, Option, Some}
 use Rattle.std.proofs.Common.{None, refl, sym, ap, subst, ◌∙◌, inl, inr, arith, find}
 use Rattle.std.proofs.lemmas.Bool.{cond-true, cond-false, cases_Bool, both_ways, false_from_ne_true}
-use Rattle.std.proofs.lemmas.Bool.{and_from, and_left, and_right, lt-ltb, le-ltb}
 use Rattle.edf_field.specs.Number.{duration_of}
 use Rattle.edf_fragment.specs.Fragment.{DataRecord}
 use Rattle.edf_holdings.specs.Clash.{Clash, clashes}
-use Rattle.edf_holdings.specs.Rising.{new_of, IsApart, IsRising}
-use Rattle.edf_holdings.specs.Reply.{clash_or, first_clash, is_past, reply_to_clash, reply}
+use Rattle.edf_holdings.specs.Rising.{IsApart, IsRising}
+use Rattle.edf_holdings.specs.Reply.{clash_or, first_clash}
 use Rattle.edf_holdings.specs.Meaning.{IsFirstClash, ClashIsThere, CountsAreNamed, NewIsCounted}
 use Rattle.edf_holdings.proofs.Same.{Clash-from_test, test_from_Clash}
 use Rattle.edf_holdings.proofs.Members.{In, AreFree, in_rest, length_joined}
 use Rattle.edf_holdings.proofs.Joining.{IsGood-from_sound, In-from_Contains, Contains-from_In}
 use Rattle.edf_holdings.proofs.Joining.{lasting, apart-sound}
-use Rattle.edf_holdings.proofs.Replies.{find_none, AreFree-from_first, no_first, answered, no_room}
+use Rattle.edf_holdings.proofs.Replies.{find_none, AreFree-from_first, no_first, counts-named}
 
 -- what is found clashes, and is the earliest that does
 record IsEarliest (d : ℕ) (r s : DataRecord) (xs : List DataRecord) : Type 0 where
@@ -118,26 +117,9 @@ free_of_clashes d xs rs n r s m k =
     (Clash-from_test d r s t))
 
 pub counts_are_named : CountsAreNamed
-unfolding reply
-counts_are_named cap h key records n = (
-  (λ some past. none ∙ cond-true (is_past cap (length (h key)) (new_of (h key) records))
-      (no_room cap records (h key)) (answered key records (h key))
-      (and_from _ _ (lt-ltb 0 (new_of (h key) records) some)
-      (lt-ltb cap (length (h key) + new_of (h key) records) past))),
-  (λ fits. none ∙ cond-false (is_past cap (length (h key)) (new_of (h key) records))
-      (no_room cap records (h key)) (answered key records (h key))
-      (elim fits [
-        | inl z ↦ and_left _ _ (le-ltb 0 (new_of (h key) records) (omega (arith, z)))
-        | inr l ↦ and_right _ _ (le-ltb cap (length (h key) + new_of (h key) records) l)
-      ])),
-)
-  where
-    none : reply_to_clash cap key records (h key)
-        (first_clash (duration_of key.duration) (h key) records) ≡ reply_to_clash cap key records
-        (h key) None
-    none = ap (reply_to_clash cap key records (h key))
-        (no_first (duration_of key.duration) (h key) records
-        (free_of_clashes (duration_of key.duration) (h key) records n))
+counts_are_named cap h key records clear = counts-named cap h key records
+    (no_first (duration_of key.duration) (h key) records
+    (free_of_clashes (duration_of key.duration) (h key) records clear))
 
 pub new_is_counted : NewIsCounted
 new_is_counted cap h key records s w n =

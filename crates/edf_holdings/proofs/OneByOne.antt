@@ -1,11 +1,10 @@
 -- A fragment's records met one by one: what was read, what was put in, and what is answered at the
 -- end.
-use Rattle.std.proofs.Common.{◌≡◌, ℕ, ◌+◌, ◌-◌, ◌<◌, ◌≤◌, Bool, true, false, nat_lt}
+use Rattle.std.proofs.Common.{◌≡◌, ℕ, ◌+◌, ◌<◌, ◌≤◌, Bool, true, false}
 use Rattle.std.proofs.Common.{List, [], ◌∷◌, ◌++◌, length, Option, Some, None, refl, sym, ap, subst}
 use Rattle.std.proofs.Common.{◌∙◌, inl, inr, arith, find, length-append}
 use Rattle.std.specs.Option.{option_or}
-use Rattle.std.proofs.lemmas.Bool.{cond-true, cond-false, false_from_ne_true, and_from, and_right}
-use Rattle.std.proofs.lemmas.Bool.{lt-ltb, le-ltb}
+use Rattle.std.proofs.lemmas.Bool.{cond-true, cond-false, false_from_ne_true}
 use mathlib.Core.Path.{fun_ext}
 use Rattle.edf_field.specs.Number.{duration_of}
 use Rattle.edf_header.specs.Key.{Key, IsKey}
@@ -15,14 +14,13 @@ use Rattle.edf_holdings.specs.Same.{same_key}
 use Rattle.edf_holdings.specs.Clash.{clashes, near_of, other_of}
 use Rattle.edf_holdings.specs.Rising.{contains_record, inserted, joined, new_of, IsApart}
 use Rattle.edf_holdings.specs.Holdings.{Holdings, put}
-use Rattle.edf_holdings.specs.Reply.{IsSoundTold, after_one, Conflicts, Full, Accepted}
-use Rattle.edf_holdings.specs.Reply.{conflict_of_clash}
-use Rattle.edf_holdings.specs.Reply.{clash_or, first_clash, is_past, reply_to_clash, reply, fits}
+use Rattle.edf_holdings.specs.Reply.{IsSoundTold, after_one, Conflicts, conflict_of_clash, clash_or}
+use Rattle.edf_holdings.specs.Reply.{first_clash, reply_to_counts, reply_to_clash, reply, fits}
 use Rattle.edf_holdings.proofs.Same.{same_key-true, clashes-true}
 use Rattle.edf_holdings.proofs.Members.{In, Within, In-from_holds, joined_keeps, inserted_held}
 use Rattle.edf_holdings.proofs.Members.{apart_joined, length_joined}
 use Rattle.edf_holdings.proofs.Joining.{IsGood, fits_from_MayJoin, put_here, lasting, apart-sound}
-use Rattle.edf_holdings.proofs.Replies.{AreFree-from_first}
+use Rattle.edf_holdings.proofs.Replies.{AreFree-from_first, by-counts}
 use Rattle.edf_holdings.proofs.Near.{earliest_near, earliest_joined, held_near, held_joined}
 use Rattle.edf_holdings.proofs.Near.{joined-append, new_of-append, first_clash-append}
 
@@ -292,36 +290,14 @@ unfolding reply
 reply_stopped cap key h rs starts k = ap (reply_to_clash cap key rs (h key)) k.first
     ∙ cc (k.start, k.stored)
 
-pub reply_full : (cap : ℕ) (key : Key) (h : Holdings) (rs : List DataRecord) (t : Holdings)
-    (new known : ℕ) → Taken cap key h rs t new known → 0 < new → cap < length (h key) + new
-    → reply cap h (Fragment key rs) ≡ Conflicts (Full (length (h key)) new cap)
-unfolding reply
-reply_full cap key h rs t new known k some l =
-    ap (reply_to_clash cap key rs (h key)) k.free
-    ∙ (cond-true (is_past cap (length (h key)) (new_of (h key) rs))
-    (Conflicts (Full (length (h key)) (new_of (h key) rs) cap))
-    (Accepted key (new_of (h key) rs) (length rs - new_of (h key) rs))
-    (and_from _ _ (lt-ltb 0 (new_of (h key) rs) (omega (arith, k.new_is)))
-    (lt-ltb cap (length (h key) + new_of (h key) rs) (omega (arith, k.new_is))))
-    ∙ ap (λ n. Conflicts (Full (length (h key)) n cap)) (sym k.new_is))
-
-pub reply_accepted : (cap : ℕ) (key : Key) (h : Holdings) (rs : List DataRecord) (t : Holdings)
-    (new known : ℕ) → Taken cap key h rs t new known → length (h key) + new ≤ cap
-    → reply cap h (Fragment key rs) ≡ Accepted key new known
-unfolding reply
-reply_accepted cap key h rs t new known k l =
-    ap (reply_to_clash cap key rs (h key)) k.free
-    ∙ (cond-false (is_past cap (length (h key)) (new_of (h key) rs))
-    (Conflicts (Full (length (h key)) (new_of (h key) rs) cap))
-    (Accepted key (new_of (h key) rs) (length rs - new_of (h key) rs))
-    (and_right (nat_lt 0 (new_of (h key) rs)) (nat_lt cap (length (h key) + new_of (h key) rs))
-    (le-ltb cap (length (h key) + new_of (h key) rs) (omega (arith, k.new_is))))
-    ∙ same)
-  where
-    same : Accepted key (new_of (h key) rs) (length rs - new_of (h key) rs) ≡ Accepted key new known
-    same =
-        let p : length rs - new_of (h key) rs ≡ known = omega (arith, k.new_is, k.all) in
-        cc (k.new_is, p)
+-- by the counts, where no clash was met
+pub reply_counted : (cap : ℕ) (key : Key) (h : Holdings) (rs : List DataRecord) (t : Holdings)
+    (new known : ℕ) → Taken cap key h rs t new known →
+    reply cap h (Fragment key rs) ≡ reply_to_counts cap key (length (h key)) new (known + new)
+reply_counted cap key h rs t new known k =
+    by-counts cap h key rs k.free
+    ∙ (ap (λ n. reply_to_counts cap key (length (h key)) n (length rs)) (sym k.new_is)
+    ∙ ap (λ n. reply_to_counts cap key (length (h key)) new n) (sym k.all))
 
 -- and what is held then is what the fragment leaves
 pub after_accepted : (cap : ℕ) (key : Key) (h : Holdings) (rs : List DataRecord) (t : Holdings)

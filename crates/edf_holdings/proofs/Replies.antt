@@ -1,9 +1,9 @@
 -- What is answered: exactly what may join is accepted, and what a later repeat is answered.
-use Rattle.std.proofs.Common.{◌≡◌, ℕ, suc, ◌+◌, ◌-◌, ◌≤◌, ◌⊎◌, false, List, [], ◌∷◌, ◌++◌}
+use Rattle.std.proofs.Common.{◌≡◌, ℕ, suc, ◌+◌, ◌-◌, ◌≤◌, ◌<◌, ◌⊎◌, false, List, [], ◌∷◌, ◌++◌}
 use Rattle.std.proofs.Common.{length, Option, Some, None, refl, sym, ap, subst, ◌∙◌, inl, inr}
 use Rattle.std.proofs.Common.{arith, find}
 use Rattle.std.proofs.lemmas.Bool.{cond_both, cond-true, cond-false, cases_Bool, and_cases}
-use Rattle.std.proofs.lemmas.Bool.{ltb-false, and_left, and_right, le-ltb}
+use Rattle.std.proofs.lemmas.Bool.{ltb-false, and_from, and_left, and_right, lt-ltb, le-ltb}
 use Rattle.edf_field.specs.Number.{duration_of}
 use Rattle.edf_header.specs.Key.{Key}
 use Rattle.edf_fragment.specs.Fragment.{DataRecord}
@@ -14,7 +14,8 @@ use Rattle.edf_holdings.specs.Rising.{contains_record, joined, new_of}
 use Rattle.edf_holdings.specs.Holdings.{Holdings, put}
 use Rattle.edf_holdings.specs.Reply.{IsSoundTold, fits, after_one, after, Reply, Form, Conflicts}
 use Rattle.edf_holdings.specs.Reply.{Full, Accepted, IsAccepted, clash_or, first_clash}
-use Rattle.edf_holdings.specs.Reply.{is_past, reply_to_clash, reply, replies}
+use Rattle.edf_holdings.specs.Reply.{is_past, reply_to_counts, reply_to_clash, reply, replies}
+use Rattle.edf_holdings.specs.Meaning.{AreCountsNamed}
 use Rattle.edf_holdings.proofs.Members.{In, Within, AreFree, joined_has, length_joined, none_new}
 use Rattle.edf_holdings.proofs.Members.{within_from_none_new}
 use Rattle.edf_holdings.proofs.Joining.{IsGood, Grows, MayJoin, fits_from_MayJoin, MayJoin-smaller}
@@ -70,23 +71,55 @@ answered key records xs = Accepted key (new_of xs records) (length records - new
 abbrev pub no_room : ℕ → List DataRecord → List DataRecord → Reply
 no_room cap records xs = Conflicts (Full (length xs) (new_of xs records) cap)
 
+-- the answer where nothing clashes, by the counts
+pub by-counts : (cap : ℕ) (h : Holdings) (key : Key) (records : List DataRecord) →
+    first_clash (duration_of key.duration) (h key) records ≡ None →
+    reply cap h (Fragment key records) ≡ reply_to_counts cap key (length (h key))
+    (new_of (h key) records) (length records)
+unfolding reply
+by-counts cap h key records none = ap (reply_to_clash cap key records (h key)) none
+
+pub full-by-counts : (cap : ℕ) (key : Key) (held new all : ℕ) → 0 < new → cap < held + new →
+    reply_to_counts cap key held new all ≡ Conflicts (Full held new cap)
+full-by-counts cap key held new all some past =
+    cond-true (is_past cap held new) (Conflicts (Full held new cap)) (Accepted key new (all - new))
+    (and_from _ _ (lt-ltb 0 new some) (lt-ltb cap (held + new) past))
+
+pub accepted-by-counts : (cap : ℕ) (key : Key) (held new all : ℕ) →
+    (new ≡ 0) ⊎ (held + new ≤ cap) →
+    reply_to_counts cap key held new all ≡ Accepted key new (all - new)
+accepted-by-counts cap key held new all fits =
+    cond-false (is_past cap held new) (Conflicts (Full held new cap)) (Accepted key new (all - new))
+    (elim fits [
+      | inl z ↦ and_left _ _ (le-ltb 0 new (omega (arith, z)))
+      | inr l ↦ and_right _ _ (le-ltb cap (held + new) l)
+    ])
+
+pub counts-named : (cap : ℕ) (h : Holdings) (key : Key) (records : List DataRecord) →
+    first_clash (duration_of key.duration) (h key) records ≡ None →
+    AreCountsNamed cap h key records
+counts-named cap h key records none = (
+  (λ some past. by-counts cap h key records none
+      ∙ full-by-counts cap key (length (h key)) (new_of (h key) records) (length records) some
+      past),
+  (λ fits. by-counts cap h key records none
+      ∙ accepted-by-counts cap key (length (h key)) (new_of (h key) records) (length records)
+      fits),
+)
+
 pub accepted_from_MayJoin : (cap : ℕ) (h : Holdings) (key : Key) (records : List DataRecord) →
     IsSoundTold (Fragment key records) → IsGood cap h → MayJoin cap key records h →
     reply cap h (Fragment key records) ≡ answered key records (h key)
-unfolding reply
 accepted_from_MayJoin cap h key records w g m =
-    ap (reply_to_clash cap key records (h key))
-    (no_first (duration_of key.duration) (h key) records m.free)
-    ∙ cond-false (is_past cap (length (h key)) (new_of (h key) records))
-    (no_room cap records (h key)) (answered key records (h key)) (elim m.room [
-      | inl i ↦ and_left _ _ (le-ltb 0 (new_of (h key) records)
-          (omega (arith, none_new (h key) records i)))
-      | inr l ↦ and_right _ _ (le-ltb cap (length (h key) + new_of (h key) records)
-          (omega (
-            arith,
-            length_joined (duration_of key.duration) 0 0 (h key) records
-                (lasting key w.0) (apart-sound key 0 records w.1) (g.apart key) m.free,
-          )))
+    by-counts cap h key records (no_first (duration_of key.duration) (h key) records m.free)
+    ∙ accepted-by-counts cap key (length (h key)) (new_of (h key) records) (length records)
+    (elim m.room [
+      | inl i ↦ inl (omega (arith, none_new (h key) records i))
+      | inr l ↦ inr (omega (
+        arith,
+        length_joined (duration_of key.duration) 0 0 (h key) records
+            (lasting key w.0) (apart-sound key 0 records w.1) (g.apart key) m.free,
+      ))
     ])
 
 MayJoin-from_clash : (cap : ℕ) (h : Holdings) (key : Key) (records : List DataRecord)

@@ -100,17 +100,20 @@ ClashIsThere = (cap : ℕ) (h : Holdings) (key : Key) (records : List DataRecord
     (q : DataRecord) × (x : DataRecord)
     × IsFirstClash (duration_of key.duration) (h key) records q x
 
--- where nothing clashes, the answer is `Full` exactly where some are new and are too many, else
--- that it is accepted
-abbrev pub CountsAreNamed : Type 0
-CountsAreNamed = (cap : ℕ) (h : Holdings) (key : Key) (records : List DataRecord) →
-    IsClear h key records →
+-- the answer is `Full` exactly where some are new and are too many, else that it is accepted
+abbrev pub AreCountsNamed : ℕ → Holdings → Key → List DataRecord → Type 0
+AreCountsNamed cap h key records =
     (0 < new_of (h key) records → cap < length (h key) + new_of (h key) records →
     reply cap h (Fragment key records)
     ≡ Conflicts (Full (length (h key)) (new_of (h key) records) cap)) ×
     ((new_of (h key) records ≡ 0) ⊎ (length (h key) + new_of (h key) records ≤ cap) →
     reply cap h (Fragment key records) ≡ Accepted key (new_of (h key) records)
     (length records - new_of (h key) records))
+
+-- where nothing clashes
+abbrev pub CountsAreNamed : Type 0
+CountsAreNamed = (cap : ℕ) (h : Holdings) (key : Key) (records : List DataRecord) →
+    IsClear h key records → AreCountsNamed cap h key records
 
 -- and the new ones are those by which the recording grows
 abbrev pub NewIsCounted : Type 0

@@ -11,7 +11,8 @@ use Rattle.edf_holdings.specs.Holdings.{Holdings, put}
 use Rattle.edf_holdings.specs.Reply.{Conflict, Overlap, Differs, Full, conflict_of_clash}
 use Rattle.edf_holdings.specs.Reply.{IsSoundTold, Reply, Conflicts, Accepted, reply, after_one}
 use Rattle.edf_holdings.proofs.Joining.{IsGood}
-use Rattle.edf_holdings.proofs.OneByOne.{Taken, Stopped, reply_stopped, reply_full, reply_accepted}
+use Rattle.edf_holdings.proofs.Replies.{full-by-counts, accepted-by-counts}
+use Rattle.edf_holdings.proofs.OneByOne.{Taken, Stopped, reply_stopped, reply_counted}
 use Rattle.edf_holdings.proofs.OneByOne.{after_accepted}
 use Rattle.edf_fragment.specs.declared.fault.FragmentFault.{FragmentFault}
 use Rattle.edf_store.specs.declared.fault.StoreFault.{StoreFault}
@@ -110,8 +111,10 @@ full_here cap room key h records findings k it past =
     let all : length (h key) + room ≡ cap =
     elim it.enough [ inl same ↦ same | inr many ↦ absurd (omega (arith, many, past, k.all)) ] in
     let same : length (h key) ≡ cap - room = omega (arith, all) in
-    reply_full cap key h records (put key records h) findings.new findings.known
-    (taken_of cap key h records findings k) (omega (arith, past)) (omega (arith, past, all))
+    reply_counted cap key h records (put key records h) findings.new findings.known
+    (taken_of cap key h records findings k)
+    ∙ full-by-counts cap key (length (h key)) findings.new (findings.known + findings.new)
+    (omega (arith, past)) (omega (arith, past, all))
     ∙ ap (λ (n : ℕ). Conflicts (Full n findings.new cap)) same
 
 pub accepted_here : (cap room : ℕ) (key : Key) (h : Holdings) (records : List DataRecord)
@@ -119,8 +122,12 @@ pub accepted_here : (cap room : ℕ) (key : Key) (h : Holdings) (records : List 
     → length (h key) + room ≤ cap → findings.new ≤ room →
     reply cap h (Fragment key records) ≡ Accepted key findings.new findings.known
 accepted_here cap room key h records findings k all low =
-    reply_accepted cap key h records (put key records h) findings.new findings.known
-    (taken_of cap key h records findings k) (omega (arith, low, all))
+    let known : findings.known + findings.new - findings.new ≡ findings.known = omega arith in
+    reply_counted cap key h records (put key records h) findings.new findings.known
+    (taken_of cap key h records findings k)
+    ∙ accepted-by-counts cap key (length (h key)) findings.new (findings.known + findings.new)
+    (inr (omega (arith, low, all)))
+    ∙ ap (λ (n : ℕ). Accepted key findings.new n) known
 
 pub left_here : (cap room : ℕ) (key : Key) (h : Holdings) (records : List DataRecord)
     (findings : Findings) → IsSoundTold (Fragment key records) → IsGood cap h →
