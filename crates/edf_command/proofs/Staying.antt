@@ -1,5 +1,5 @@
 -- Calls of a store that leave what it holds.
-use Rattle.std.proofs.Common.{refl, arith}
+use Rattle.std.proofs.Common.{◌≢◌, refl, arith, subst}
 use Rattle.sqlite_trees.specs.declared.store.Store.{Ghosts}
 use Rattle.sqlite.specs.State.{HasCleanDisk}
 use Rattle.edf_tables.proofs.Commits.{survives_same}
@@ -31,3 +31,9 @@ is-refusal busy foreign Memory never may = tt
 is-refusal busy foreign (Store cause) never may = tt
 is-refusal busy foreign Foreign never may = never may
 is-refusal busy foreign Failed never may = may
+
+-- no call is refused for the fault of an earlier one
+pub not-failed : (IfBusy IfForeign : Type 0) (fault : StoreFault) →
+    MayRefuse IfBusy IfForeign ⊥ fault → fault ≢ Failed
+not-failed busy foreign fault may is =
+    subst (λ (f : StoreFault). MayRefuse busy foreign ⊥ f) is may

@@ -1,5 +1,5 @@
 -- What `export` does: what it writes, the status that it answers, and what it leaves in the store.
-use Rattle.std.specs.Prelude.{◌≡◌, ◌⊎◌, ℕ, zero, suc, List, [], slice_get, Option, Some, None}
+use Rattle.std.specs.Prelude.{◌≡◌, ◌≢◌, ◌⊎◌, ℕ, zero, suc, List, [], slice_get, Option, Some, None}
 use Rattle.sqlite_trees.specs.declared.store.Store.{Ghosts}
 use Rattle.sqlite.specs.State.{HasCleanDisk}
 use Rattle.edf_header.specs.Key.{Key}
@@ -8,6 +8,7 @@ use Rattle.edf_holdings.specs.Keys.{AreKeysOf}
 use Rattle.edf_store.specs.Fault.{IsStoreRefusal}
 use Rattle.edf_store.specs.Held.{StoreModel, at, Holds, Stays}
 use Rattle.edf_store.specs.declared.fault.StoreFault.{StoreFault}
+use Rattle.edf_store.specs.declared.fault.StoreFault.TheVariants.{Failed}
 use Rattle.edf_export.specs.Export.{IsExported, IsNotExported, CountsExportFault}
 use Rattle.edf_export.specs.declared.fault.ExportFault.{ExportFault}
 use Rattle.edf_export.specs.declared.fault.ExportFault.TheVariants.{Store}
@@ -33,11 +34,12 @@ module _ (out err : Growth) where
       × IsWritten err (export_refused_line fault) (export_status fault) status)
 
   -- on any disk: it is done, nothing is printed on `err` and no write failed; or why not is
-  -- printed, E43 exactly where a write failed
+  -- printed, E43 exactly where a write failed. E0, for a fault of an earlier call, is never printed
   abbrev pub TellsWrites : Status → Type 0
   TellsWrites status =
       ((out.failed_after ≡ out.failed_before) × Gets err [] × (status ≡ Done))
-      ⊎ ((fault : ExportFault) × CountsExportFault out.failed_before out.failed_after fault
+      ⊎ ((fault : ExportFault) × (fault ≢ Store Failed)
+      × CountsExportFault out.failed_before out.failed_after fault
       × IsWritten err (export_refused_line fault) (export_status fault) status)
 
   -- the recording at this place of the list, from 1

@@ -8,6 +8,7 @@ use Rattle.edf_holdings.specs.Keys.{AreKeysOf}
 use Rattle.edf_store.specs.Fault.{IsStoreRefusal}
 use Rattle.edf_store.specs.Held.{StoreModel, at, Holds, Stays}
 use Rattle.edf_store.specs.declared.fault.StoreFault.{StoreFault}
+use Rattle.edf_store.specs.declared.fault.StoreFault.TheVariants.{Failed}
 use Rattle.edf_command.specs.Refusals.{IsSpelling}
 use Rattle.edf_command.specs.Lines.{list_lines, first_list_lines, list_refused_line}
 use Rattle.edf_program.specs.Output.{Growth, Gets, IsWritten, AreTold}
@@ -37,12 +38,13 @@ module _ (out err : Growth) where
     pub said : IsWritten err (list_refused_line fault) Trouble status
 
   -- on any disk: it is done, nothing is printed on `err` and no write failed; or a line could not
-  -- be written; or why not is printed, and no write failed
+  -- be written; or why not is printed, and no write failed. E0, for a fault of an earlier call, is
+  -- never printed
   abbrev pub TellsLines : Status → Type 0
   TellsLines status =
       ((out.failed_after ≡ out.failed_before) × Gets err [] × (status ≡ Done))
       ⊎ ((Gets err [] × (status ≡ Trouble))
-      ⊎ ((fault : StoreFault) × (out.failed_after ≡ out.failed_before)
+      ⊎ ((fault : StoreFault) × (fault ≢ Failed) × (out.failed_after ≡ out.failed_before)
       × IsWritten err (list_refused_line fault) Trouble status))
 
 module _ {S : Type 0} (g : Ghosts S) (old new : StoreModel S) (out err : Growth) where

@@ -67,6 +67,7 @@ fn put_recording<S: Alter, O: Output>(
     ensures counted { IfOk result
         (λ written. written ≡ true → O.failures out.new ≡ O.failures out.old) }
     ensures nothing { IfErr result (λ _. Gets (growth O.Output out.old out.new) []) }
+    ensures unfailed { IfErr result (λ fault. fault ≢ StoreFault.Failed) }
     ensures refused { HasCleanDisk (at S.Store store.new) → IfErr result (λ fault. (h : Holdings) →
         Holds S.Store store.old h → h identity.now ≢ [] → IsStoreRefusal fault) }
 {
@@ -87,6 +88,7 @@ fn put_recordings<S: Alter, O: Output>(
     ensures stays { Stays S.Store store.old store.new }
     ensures counted { MatchResult result (λ written. written ≡ true →
         O.failures out.new ≡ O.failures out.old) (λ _. O.failures out.new ≡ O.failures out.old) }
+    ensures unfailed { IfErr result (λ fault. fault ≢ StoreFault.Failed) }
     ensures put { HasCleanDisk (at S.Store store.new) →
         IfOk result (λ written. (h : Holdings) (spell : ℕ → List ℕ) → Holds S.Store store.old h →
         AreHeldBy h recordings.now → IsSpelling spell →

@@ -87,14 +87,15 @@ LeavesIdle s result = MatchResult result (λ _. s.in_transaction ≡ false) (IsI
 
 module _ {S A : Type 0} (g : Ghosts S) (old new : StoreModel S) (result : Result A ExportFault)
   where
-    -- what is held stays, and the connection is idle where the disk returned what was written
+    -- what is held stays; where the disk returned what was written, no transaction is open, but for
+    -- a refusal of the store
     pub record LeavesStore : Type 0 where
       pub stays : Stays g old new
       pub idle : HasCleanDisk (at g new) → LeavesIdle (at g new) result
 
     -- where the connection is found in a transaction, that is the answer, on any disk; and where
     -- the disk returned what was written, it is the answer there alone
-    pub record AnswersBusy : Type 0 where
+    pub record ExportsUnlessBusy : Type 0 where
       pub busy : IsBusy g old → result ≡ Err (Store (store.Store None))
       pub caused : HasCleanDisk (at g new) → result ≡ Err (Store (store.Store None)) → IsBusy g old
 

@@ -6,7 +6,7 @@ ghost use Rattle.sqlite.specs.State.{HasCleanDisk};
 ghost use Rattle.edf_header.specs.Key.{Key, MayStart};
 ghost use Rattle.edf_holdings.specs.Holdings.{Holdings};
 ghost use Rattle.edf_store.specs.Call.{IsBusy, ReadsOutside};
-ghost use Rattle.edf_store.specs.Fault.{MayRefuse, IsStoreRefusal};
+ghost use Rattle.edf_store.specs.Fault.{HasCauseOrIsForeign, MayRefuse, IsStoreRefusal};
 ghost use Rattle.edf_store.specs.Held.{at, Holds};
 ghost use Rattle.edf_store.specs.Walk.{HasGiven, IsWalking};
 ghost use Rattle.edf_export.specs.Inside.Calls.{LeavesWalk};
@@ -36,7 +36,7 @@ fn samples_of_longest<S: Alter>(
         MatchResult result (λ samples. HoldBlocks file_start samples (h k)) IsStoreRefusal }
     ensures bounds { IfOk result
         (λ samples. (samples ≤ MOST_CANONICAL_BLOCK_SAMPLES) × (0 < count → 1 ≤ samples)) }
-    ensures why { IfErr result (MayRefuse ⊥ ⊤ ⊥) }
+    ensures why { IfErr result HasCauseOrIsForeign }
 {
     let mut samples = 0u32;
     for _ in 0..count {

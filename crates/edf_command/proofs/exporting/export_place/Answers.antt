@@ -1,4 +1,5 @@
-use Rattle.std.proofs.Common.{◌∙◌, List, sym, ap, refl, inl, inr}
+use Rattle.edf_store.specs.declared.fault.StoreFault.TheVariants.{Failed}
+use Rattle.std.proofs.Common.{◌≡◌, ◌∙◌, List, sym, ap, refl, inl, inr}
 use Rattle.std.specs.Prelude.{Option}
 use Rattle.edf_header.specs.Key.{Key}
 use Rattle.edf_store.proofs.Readiness.{stays_then}
@@ -7,14 +8,20 @@ use Rattle.edf_export.specs.declared.fault.ExportFault.TheVariants.{Store}
 use Rattle.edf_command.specs.Lines.{no_recording_line}
 use Rattle.edf_program.specs.Output.{growth, Explains}
 use Rattle.edf_program.specs.declared.status.Status.TheVariants.{Refused}
-use Rattle.edf_command.proofs.Staying.{was-clean, is-refusal}
+use Rattle.edf_command.proofs.Staying.{was-clean, is-refusal, not-failed}
 use Rattle.edf_program.proofs.Puts.{nothing-gets}
 use Rattle.edf_command.proofs.exporting.export_place.Goals as goal
 
 pub returns-in-Err : goal.returns-in-Err
 returns-in-Err g c = record {
   stays = c.identities.ensures.leaves.stays;
-  told = inl (inr (Store c.in-Err.fault, refl, c.tell_refusal.ensures));
+  told = inl (inr (
+    Store c.in-Err.fault,
+    (λ is. not-failed _ _ c.in-Err.fault c.in-Err.ensures.refuses.why (let same : c.in-Err.fault
+        ≡ Failed = cc in same)),
+    refl,
+    c.tell_refusal.ensures,
+  ));
   exported = λ clean h holds.
       inr (inr (record {
         fault = c.in-Err.fault;

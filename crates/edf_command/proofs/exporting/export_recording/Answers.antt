@@ -1,4 +1,5 @@
-use Rattle.std.proofs.Common.{refl, inl, inr}
+use Rattle.std.proofs.Common.{Err, refl, inl, inr, ap}
+use Rattle.edf_export.specs.declared.fault.ExportFault.{ExportFault}
 use Rattle.edf_program.proofs.Puts.{nothing-gets}
 use Rattle.edf_command.proofs.exporting.export_recording.Goals as goal
 
@@ -21,6 +22,7 @@ returns-in-Ok-clause-told g c = inl (
 pub returns-in-Err-clause-told : goal.returns-in-Err-clause-told
 returns-in-Err-clause-told g c = inr (
   c.in-Err.fault,
+  (λ is. c.in-Err.ensures.truly.unfailed (ap (λ (f : ExportFault). Err f) is)),
   c.in-Err.ensures.truly.counted,
   c.tell_refusal.ensures,
 )

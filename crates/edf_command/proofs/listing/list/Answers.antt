@@ -8,13 +8,18 @@ use Rattle.edf_command.specs.Lines.{first_list_lines}
 use Rattle.edf_program.specs.Output.{growth, Gets, AreLinesPut}
 use Rattle.edf_program.specs.declared.status.Status.TheVariants.{Done}
 use Rattle.edf_program.proofs.Puts.{nothing-gets, trouble-lines}
-use Rattle.edf_command.proofs.Staying.{was-clean, is-refusal}
+use Rattle.edf_command.proofs.Staying.{was-clean, is-refusal, not-failed}
 use Rattle.edf_command.proofs.listing.list.Goals as goal
 
 pub returns-in-Err : goal.returns-in-Err
 returns-in-Err g c = record {
   stays = c.identities.ensures.leaves.stays;
-  told = inr (inr (c.in-Err.fault, refl, c.tell_refusal.ensures));
+  told = inr (inr (
+    c.in-Err.fault,
+    not-failed _ _ c.in-Err.fault c.in-Err.ensures.refuses.why,
+    refl,
+    c.tell_refusal.ensures,
+  ));
   listed = λ clean h holds. inr (record {
     given = [];
     fault = c.in-Err.fault;
@@ -111,6 +116,7 @@ returns g c =
           c.in-Err-put_recordings.ensures.stays;
       told = inr (inr (
         c.in-Err-put_recordings.stop,
+        c.in-Err-put_recordings.ensures.unfailed,
         c.in-Err-put_recordings.ensures.counted,
         c.tell_refusal-in-Err-put_recordings.ensures,
       ));

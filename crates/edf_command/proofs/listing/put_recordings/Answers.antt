@@ -85,6 +85,7 @@ returns-then-not-branch g c =
           (g.O.Output.failures c.put_recording.new.out)
           (first_list_lines spell h recordings) (length recordings) at
           (list_line spell (at + 1) key (h key)) past.0 c.loop-at-test.true past.1 first one;
+      unfailed = tt;
       refused = λ clean. tt;
     }
 
@@ -97,6 +98,12 @@ pub returns-in_err-put_recording-clause-counted : goal.returns-in_err-put_record
 returns-in_err-put_recording-clause-counted g c =
     let p = err_from_is_err_and c.from_residual.result c.from_residual.ensures.1 in
     rw p.1 (c.in_err-put_recording.ensures.nothing.1 ∙ c.loop-at.invariant.counted)
+
+pub returns-in_err-put_recording-clause-unfailed :
+    goal.returns-in_err-put_recording-clause-unfailed
+returns-in_err-put_recording-clause-unfailed g c =
+    let p = err_from_is_err_and c.from_residual.result c.from_residual.ensures.1 in
+    rw (p.1, p.2) c.in_err-put_recording.ensures.unfailed
 
 pub returns-in_err-put_recording-clause-refused : goal.returns-in_err-put_recording-clause-refused
 returns-in_err-put_recording-clause-refused g c clean =
@@ -138,5 +145,6 @@ returns g c = record {
       ∙ sym (take_all (length recordings) recordings (omega arith)) in
       subst IsOut (ap (list_lines spell h 1) all)
       (c.loop-at.invariant.put clean h holds held spell is);
+  unfailed = tt;
   refused = λ clean. tt;
 }
