@@ -37,7 +37,6 @@ use Rattle.edf_intake.specs.Batch.{Turn, somes, told_in, replies_in, MayBeAnswer
 use Rattle.edf_intake.specs.Batch.{AreUnended, IsOwnCause, IsOwnRefusal, AreLeftBy, AreEnded}
 use Rattle.edf_intake.specs.Batch.{AreSubmitted}
 use Rattle.edf_intake.specs.Batch.{AnswersAll}
-use Rattle.edf_intake.specs.declared.answer.Refusal.TheVariants as refusal
 use Rattle.edf_intake.proofs.Turns.{IsMade, told-next, replies-next, map-next, all-next, turn_of}
 
 -- what was no refusal of a clean disk is none later

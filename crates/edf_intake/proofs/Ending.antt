@@ -33,7 +33,6 @@ use Rattle.edf_intake.specs.Inside.Halt.{store_refusal}
 use Rattle.edf_intake.specs.Inside.Taken.{IsAcceptedInside, StopsFor, IsStop, IsConflictInside}
 use Rattle.edf_intake.specs.declared.answer.Receipt.{Receipt}
 use Rattle.edf_intake.specs.declared.answer.Refusal.{Refusal}
-use Rattle.edf_intake.specs.declared.answer.Refusal.TheVariants as refusal
 use Rattle.edf_intake.specs.declared.answer.Stop.TheVariants.{Input}
 
 -- the refusal for a fault of the store

@@ -1,9 +1,17 @@
 //! How a submission is answered.
 
-ghost use Rattle.std.specs.Prelude.{◌≡◌};
+ghost use Rattle.std.specs.Prelude.{◌≡◌, ◌≢◌, List, Some, None, Err, length, IfSome};
+ghost use Rattle.edf_header.specs.Key.{Key};
+ghost use Rattle.edf_fragment.specs.Fragment.{DataRecord};
+ghost use Rattle.edf_fragment.specs.Told.{Fragment};
+ghost use Rattle.edf_holdings.specs.Holdings.{Holdings};
+ghost use Rattle.edf_holdings.specs.Reply.{reply};
 ghost use Rattle.edf_intake.specs.Inside.Halt.{fragment_refusal};
-ghost use Rattle.edf_intake.specs.Refusal.{refusal_number, refusal_name};
+ghost use Rattle.edf_intake.specs.Inside.Taken.{IsConflict, MayBeAccepted};
+ghost use Rattle.edf_intake.specs.Inside.Verdict.{IsRoom, AreFindings};
+ghost use Rattle.edf_intake.specs.Refusal.{refusal_number, refusal_name, reply_told};
 
+use crate::data_records::{Destination, Findings, Starts};
 use edf_fragment::FragmentFault;
 use edf_header::Identity;
 use edf_store::StoreFault;
@@ -32,11 +40,12 @@ pub enum Refusal {
     /// the fragment that clashes, and the stored one is the earliest that it clashes with.
     #[error("a data record overlaps a stored one")]
     Overlap { start: Instant, stored: Instant },
-    /// E31: another data record is stored at this start.
+    /// E31: another data record is stored at this start, which is that of the first data record of
+    /// the fragment that clashes.
     #[error("another data record is stored at the same start")]
     Differs { start: Instant },
-    /// E32: the recording has `held` data records, and with the fragment's `new` ones it would have
-    /// more than `cap`.
+    /// E32: no data record clashes, but the recording has `held` data records, and with the
+    /// fragment's `new` ones it would have more than `cap`.
     #[error("the recording has {held} data records, and {new} more are past the cap of {cap}")]
     Full { held: u32, new: u32, cap: u32 },
     /// E40: a read failed.
@@ -135,5 +144,46 @@ pub(crate) fn fragment_refusal(fault: FragmentFault) -> Refusal
         FragmentFault::Read => Refusal::Read,
         FragmentFault::Memory => Refusal::Memory,
         fault => Refusal::Form(fault),
+    }
+}
+
+/// The refusal for a clash.
+fn clash_refusal(starts: Starts) -> Refusal
+    ensures differs { starts.start ≡ starts.stored → result ≡ Refusal.Differs starts.start }
+    ensures overlaps { starts.start ≢ starts.stored →
+        result ≡ Refusal.Overlap starts.start starts.stored }
+{
+    let start = starts.start;
+    let stored = starts.stored;
+    if start == stored {
+        Refusal::Differs { start }
+    } else {
+        Refusal::Overlap { start, stored }
+    }
+}
+
+/// Why a whole fragment is not accepted: its first clash, or no room. `None` where it is accepted.
+pub(crate) fn conflict(destination: Destination, cap: u32, findings: Findings) -> Option<Refusal>
+    ensures accepted { result ≡ None → MayBeAccepted destination.room findings }
+    ensures refused { IfSome result IsConflict }
+    ensures answer { IfSome result (λ refusal.
+        (key : Key) (h : Holdings) (records : List DataRecord) →
+        IsRoom cap (length (h key)) (length records) destination.room →
+        AreFindings key h records findings →
+        reply_told (Err refusal) ≡ Some (reply cap h (Fragment key records))) }
+{
+    match findings.clash {
+        Some(starts) => Some(clash_refusal(starts)),
+        None => {
+            if findings.new > destination.room {
+                Some(Refusal::Full {
+                    held: cap.saturating_sub(destination.room),
+                    new: findings.new,
+                    cap,
+                })
+            } else {
+                None
+            }
+        }
     }
 }

@@ -17,8 +17,8 @@ ghost use Rattle.edf_intake.specs.Inside.Verdict.{IsRoom, IsRoomInside, AreFindi
 ghost use Rattle.edf_intake.specs.Inside.Taken.{IsConflict, MayBeAccepted, IsDestination};
 ghost use Rattle.edf_intake.specs.Inside.Taken.{IsAcceptedInside, IsStop};
 
-use crate::answer::{Receipt, Refusal, Stop};
-use crate::data_records::{Destination, Findings, Starts, take_records};
+use crate::answer::{Receipt, Refusal, Stop, conflict};
+use crate::data_records::{Destination, Findings, take_records};
 use edf_fragment::{Input, OpenFragment};
 use edf_header::Identity;
 use edf_store::{RecordingId, StoreFault, StoreTx};
@@ -67,47 +67,6 @@ fn find_destination<S: Alter>(
     let held = transaction.count(id)?;
     let room = cap.saturating_sub(held);
     Ok(Destination { id, room })
-}
-
-/// The refusal for a clash.
-fn clash_refusal(starts: Starts) -> Refusal
-    ensures differs { starts.start ≡ starts.stored → result ≡ Refusal.Differs starts.start }
-    ensures overlaps { starts.start ≢ starts.stored →
-        result ≡ Refusal.Overlap starts.start starts.stored }
-{
-    let start = starts.start;
-    let stored = starts.stored;
-    if start == stored {
-        Refusal::Differs { start }
-    } else {
-        Refusal::Overlap { start, stored }
-    }
-}
-
-/// Why a whole fragment is not accepted: its first clash, or no room. `None` where it is accepted.
-fn conflict(destination: Destination, cap: u32, findings: Findings) -> Option<Refusal>
-    ensures accepted { result ≡ None → MayBeAccepted destination.room findings }
-    ensures refused { IfSome result IsConflict }
-    ensures answer { IfSome result (λ refusal.
-        (key : Key) (h : Holdings) (records : List DataRecord) →
-        IsRoom cap (length (h key)) (length records) destination.room →
-        AreFindings key h records findings →
-        reply_told (Err refusal) ≡ Some (reply cap h (Fragment key records))) }
-{
-    match findings.clash {
-        Some(starts) => Some(clash_refusal(starts)),
-        None => {
-            if findings.new > destination.room {
-                Some(Refusal::Full {
-                    held: cap.saturating_sub(destination.room),
-                    new: findings.new,
-                    cap,
-                })
-            } else {
-                None
-            }
-        }
-    }
 }
 
 /// The answer to a whole fragment.

@@ -22,10 +22,9 @@ use std::alloc::{AllocError, Global};
 /// a fault of form is always answered in place of these.
 ///
 /// # Errors
-/// `Form` (E1 to E29): the first fault of the input. Else `Overlap` (E30) or `Differs` (E31): the
-/// first data record that clashes, and the earliest stored one that it clashes with. Else `Full`
-/// (E32). `Read` (E40) where a read failed, in place of what would have been found after it, and of
-/// E30 to E32. `Memory` (E41) where memory ran out and `Store` (E42, E45) where the store refused a
+/// `Form` (E1 to E29): the first fault of the input. Else a conflict with what is held, from
+/// `Overlap` (E30) on: a data record that clashes, else that there is no room. `Read` (E40) where a
+/// read failed, in place of what would have been found after it, and of a conflict. `Memory` (E41) where memory ran out and `Store` (E42, E45) where the store refused a
 /// call, in place of any other. Where it refused more than one call, the first refusal is the
 /// answer; the call that undoes what was added counts among them.
 ///

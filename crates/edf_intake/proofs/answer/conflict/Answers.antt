@@ -1,7 +1,7 @@
 use Rattle.std.proofs.Common.{Some, sym, ap}
 use Rattle.edf_holdings.specs.Reply.{Reply}
 use Rattle.edf_intake.proofs.Conflicts.{counts_all, names_clash, clash_told, full_here}
-use Rattle.edf_intake.proofs.fragment.conflict.Goals as goal
+use Rattle.edf_intake.proofs.answer.conflict.Goals as goal
 
 pub returns-in-Some-clause-answer : goal.returns-in-Some-clause-answer
 returns-in-Some-clause-answer c key h records room met =
