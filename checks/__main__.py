@@ -89,6 +89,7 @@ CHECKS = (
     Check("lines.shell", "lines that a person may type", needs=("sqlite3",)),
     Check("lines.run", "exact lines, files and statuses"),
     Check("lines.terminal", "what is printed on a terminal alone", needs=("sqlite3",)),
+    Check("rot", "changes of a store's files", counts=(100, 1_000)),
     Check("warned", "answers that the documents warn of", counts=(100, 1_000)),
     Check("hypnogram", "nights with gaps and stages of sleep, drawn", (EDFRUNS,),
           counts=(200, 2_000)),

@@ -4,7 +4,9 @@ rows, as the program meets them.
     python3 -m checks.odd [--program PATH]
 
 Each file is made by the system's SQLite or by hand, given to `list`, and must be answered with the
-number that stands beside it and left as it was, byte for byte. Then `list` of stores of 250,000,
+number that stands beside it and left as it was, byte for byte. Beside the tables of a store that
+the released 1.1.1 made (data/released_1_1_1.db, the file Q) other tools may write as they please;
+what they may do to a store with page sums is tried too. Then `list` of stores of 250,000,
 500,000 and 1,000,000 rows: time and peak memory. It needs time.
 """
 import os
@@ -15,6 +17,7 @@ from pathlib import Path
 from checks.lib import arguments, edf, faults, measure, model, printed
 from checks.lib.checks import end
 
+RELEASED = arguments.TOP / "checks/data/released_1_1_1.db"
 E42, E45 = faults.store.number, faults.foreign.number
 TABLES = ("CREATE TABLE IF NOT EXISTS recording (\n"
           "  id INTEGER PRIMARY KEY, identity BLOB NOT NULL UNIQUE) STRICT",
@@ -85,6 +88,15 @@ BESIDE = (
     ("VACUUM", ("VACUUM",)),
     ("journal_mode=delete", ("PRAGMA journal_mode=delete",)),
 )
+WITH_SUMS = (
+    ("a query", "sqlite3 s.db 'SELECT count(*) FROM record'", ""),
+    ("cp", "cp s.db new.db", ""),
+    (".dump into a new file", "sqlite3 s.db .dump | sqlite3 new.db", ""),
+    ("ANALYZE", "sqlite3 s.db ANALYZE", E42),
+    ("VACUUM", "sqlite3 s.db VACUUM", E42),
+    ("a view", "sqlite3 s.db 'CREATE VIEW starts AS SELECT start FROM record'", E42),
+    (".backup", "sqlite3 s.db '.backup new.db'", E42),
+)
 ON_OURS = (
     "CREATE INDEX by_block ON record (block)",
     "CREATE TRIGGER kept BEFORE DELETE ON record BEGIN SELECT RAISE(ABORT, 'kept'); END",
@@ -125,9 +137,18 @@ class Odd:
         for path in self.folder.iterdir():
             shutil.rmtree(path) if path.is_dir() else path.unlink()
 
-    def held(self, data: bytes = b"") -> Path:
-        """A store that holds this file, or one record."""
+    def released(self) -> Path:
+        """The store that the released 1.1.1 made of the file Q."""
         self.clean()
+        shutil.copy(RELEASED, self.store)
+        return self.store
+
+    def held(self, data: bytes = b"", has_sums: bool = False) -> Path:
+        """A store that holds this file, or one record. Where its tables are there before it has no
+        page sums."""
+        self.clean()
+        if not has_sums:
+            changed(self.store, *TABLES)
         (self.folder / "a.edf").write_bytes(data or edf.small_files()["Q"])
         measure.done(self.program, "take", self.store, self.folder / "a.edf")
         return self.store
@@ -148,7 +169,7 @@ class Odd:
 
 
 def no_stores(odd: Odd) -> None:
-    data = bytes_of(odd.held())
+    data = bytes_of(odd.held(has_sums=True))
     odd.check("a store", "")
     odd.clean()
     odd.check("no file", "")
@@ -176,7 +197,7 @@ def no_stores(odd: Odd) -> None:
     changed(odd.store, "CREATE TABLE recording (id INTEGER PRIMARY KEY, name TEXT)",
             "CREATE TABLE record (a, b)", "INSERT INTO record VALUES (1, 2)")
     odd.check("our tables' names with other columns", E45)
-    odd.held()
+    odd.held(has_sums=True)
     os.link(odd.store, odd.folder / "second.db")
     odd.check("a store with a second name", E42)
     if os.geteuid():
@@ -220,21 +241,41 @@ def goes_on(odd: Odd, what: str) -> None:
         print(f"{what}: {took}; the line, the others and the exports are as expected: {same}")
 
 
+def moved_in(odd: Odd) -> None:
+    """The file new.db in place of the store's."""
+    for name in ("s.db-wal", "s.db-shm"):
+        (odd.folder / name).unlink(missing_ok=True)
+    (odd.folder / "new.db").replace(odd.store)
+
+
 def beside(odd: Odd) -> None:
+    odd.released()
+    goes_on(odd, "a store of the released 1.1.1")
     for what, statements in BESIDE:
-        changed(odd.held(), *statements)
+        changed(odd.released(), *statements)
         goes_on(odd, what)
     for what, command in ((".dump into a new file", "sqlite3 s.db .dump | sqlite3 new.db"),
                           (".backup", "sqlite3 s.db '.backup new.db'")):
-        changed(odd.held(), LAB, FILLED, "ANALYZE")
+        changed(odd.released(), LAB, FILLED, "ANALYZE")
         measure.done("bash", "-c", command, folder=odd.folder)
-        for name in ("s.db-wal", "s.db-shm"):
-            (odd.folder / name).unlink(missing_ok=True)
-        (odd.folder / "new.db").replace(odd.store)
+        moved_in(odd)
         goes_on(odd, what)
     for statement in ON_OURS:
         changed(odd.held(), statement)
         odd.check(statement, E45)
+
+
+def with_sums(odd: Odd) -> None:
+    """What sqlite3, which writes no page sums, and `cp` do to a store that has them."""
+    for what, command, expected in WITH_SUMS:
+        odd.held(has_sums=True)
+        measure.done("bash", "-c", command, folder=odd.folder)
+        if (odd.folder / "new.db").exists():
+            moved_in(odd)
+        if expected:
+            odd.check(f"{what}, with sums", expected)
+        else:
+            goes_on(odd, f"{what}, with sums")
 
 
 def fill(store: Path, count: int) -> None:
@@ -275,7 +316,7 @@ def main() -> None:
     measure.need("/usr/bin/time", "sqlite3")
     with measure.scratch() as name:
         odd = Odd(given.program, Path(name))
-        for case in (no_stores, made, foreign, beside, many_rows):
+        for case in (no_stores, made, foreign, beside, with_sums, many_rows):
             case(odd)
     end(odd.done, odd.failed)
 

@@ -1,17 +1,15 @@
 """What the program can't notice, or answers by a refusal that stays: the things that README and
 docs/RELIABILITY.md warn of, as they are.
 
-    python3 -m checks.warned [--program PATH] [COUNT]   100 bits of each file if left out
+    python3 -m checks.warned [--program PATH] [COUNT]   100 bits if left out
 
 A file of count -1 that is still being written; a recorder's clock that is set while it records, by
-two seconds or an hour; a bit that flips in a store, its log or an export. Answers to the
-first two are worked out by hand. Of the bits it prints how many were noticed, and by what; that a
-flipped sample is not noticed, and what a user can do about it, is compared.
+two seconds or an hour; a bit that flips in an export. Answers to the first two are worked out by
+hand. Of the bits it prints how many were noticed, and by what; that a flipped sample is not
+noticed, and what a user can do about it, is compared. Bits of a store are tried by checks.rot.
 """
 import random
 import shutil
-import subprocess
-import time
 from collections import Counter
 from datetime import datetime, timedelta
 from pathlib import Path
@@ -23,7 +21,6 @@ from checks.lib.printed import accepted, refused
 
 BEGUN = datetime(2002, 10, 27, 1, 0)
 SIGNALS = (Signal(samples="20"), edf.annotations_signal(20))
-FIRST_PAGE = 100        # a byte of a log's first page, after its header and that page's own
 WIDE = (Signal(samples="1000"), Signal("ECG", samples="1000"), edf.annotations_signal(30))
 
 
@@ -141,24 +138,15 @@ def put_store(checks: Checks, data: bytes) -> None:
 
 
 def one_sample(checks: Checks, store: bytes, export: bytes) -> None:
-    """The same sample's bit, in the store and in the export."""
+    """A sample's bit, in the export and in the store, whose page sum tells it."""
     samples = random.Random(0).randbytes(4000)
-    put_store(checks, flipped(store, store.index(samples[:64]) + 10, 2))
     changed = flipped(export, export.index(samples[:64]) + 10, 2)
-    checks.run("list", "other.db", out=checks.program.ran("list", "night.db").out)
-    checks.run("export", "other.db", "1", out=changed)
+    put_store(checks, flipped(store, store.index(samples[:64]) + 10, 2))
+    checks.run("export", "other.db", "1", err=printed.NO_STORE, status=3)
     checks.file("changed.edf", changed)
     checks.run("convert", "changed.edf", out=changed)
     start = faults.differs("2002-10-27T01:00:00")
     checks.take("night.db", ("changed.edf", refused(start)), status=1)
-    checks.take("other.db", ("night.edf", refused(start)), status=1)
-
-
-def outcome_of_store(checks: Checks, export: bytes) -> str:
-    other = checks.program.ran("export", "other.db", "1")
-    if other.status:
-        return refused(printed.number(other.err.decode()))
-    return "an export as before" if other.out == export else "another export, without a word"
 
 
 def outcome_of_export(checks: Checks, store: bytes) -> tuple:
@@ -175,71 +163,17 @@ def bits(checks: Checks, count: int) -> None:
     checks.begin("a bit that flips")
     store, export = wide_night(checks)
     one_sample(checks, store, export)
-    chosen, found = random.Random(11), {"store": Counter(), "export": Counter()}
+    chosen, found = random.Random(11), Counter()
     for _ in range(count):
-        put_store(checks, flipped(store, chosen.randrange(len(store)), chosen.randrange(8)))
-        found["store"][outcome_of_store(checks, export)] += 1
         at, bit = chosen.randrange(len(export)), chosen.randrange(8)
         checks.file("other.edf", flipped(export, at, bit))
-        found["export"].update(outcome_of_export(checks, store))
-    report(f"{count} bits of a store of {len(store)} bytes", found["store"])
-    report(f"{count} bits of its export of {len(export)} bytes", found["export"])
+        found.update(outcome_of_export(checks, store))
+    report(f"{count} bits of an export of {len(export)} bytes", found)
 
 
 def report(what: str, found: Counter) -> None:
     print(f"{what}, one at a time: "
           + "; ".join(f"{times} {answer}" for answer, times in found.most_common() if times))
-
-
-def killed(checks: Checks) -> None:
-    """A store of four files, whose `take` is killed while it waits for a fifth."""
-    names = [f"{n}.edf" for n in range(4)]
-    for n, name in enumerate(names):
-        rows = [(random.Random(100 * n + at).randbytes(4000), keeping(f"+{at}"))
-                for at in range(10)]
-        head = header(BEGUN + timedelta(minutes=n), 10, signals=WIDE)
-        checks.file(name, edf.fragment(head, rows))
-    log = checks.folder / "night.db-wal"
-    with checks.program.started("take", "night.db", *names, "-", stdin=subprocess.PIPE,
-                                stdout=subprocess.DEVNULL) as taking:
-        before = 0
-        while not before or log.stat().st_size != before:
-            before = log.stat().st_size if log.exists() else 0
-            time.sleep(1)
-        taking.kill()
-
-
-def put_log(checks: Checks, log: bytes) -> None:
-    for name, data in (("other.db", checks.content("night.db")), ("other.db-wal", log)):
-        checks.file(name, data)
-
-
-def outcome_of_log(checks: Checks, log: bytes, export: bytes) -> str:
-    put_log(checks, log)
-    other = checks.program.ran("export", "other.db", "1").out
-    if other == export:
-        return "an export as before"
-    fewer = [] if not other else model.read(other)[1]
-    fits = fewer == model.read(export)[1][:len(fewer)]
-    return f"the first {len(fewer) // 10} files, without a word" if fits else "ANOTHER export"
-
-
-def bits_of_log(checks: Checks, count: int) -> None:
-    checks.begin("a bit that flips in the log of a take that was killed")
-    killed(checks)
-    log, chosen, found = checks.content("night.db-wal"), random.Random(3), Counter()
-    checks.file("copy.db", checks.content("night.db"))
-    checks.file("copy.db-wal", log)
-    export = checks.program.ran("export", "copy.db", "1").out
-    checks.same("the data records held", len(model.read(export)[1]), 40)
-    for _ in range(count):
-        changed = flipped(log, chosen.randrange(len(log)), chosen.randrange(8))
-        found[outcome_of_log(checks, changed, export)] += 1
-    checks.same("other exports", found["ANOTHER export"], 0)
-    put_log(checks, flipped(log, FIRST_PAGE, 0))
-    checks.take("other.db", *((f"{n}.edf", accepted(10)) for n in range(4)))
-    checks.run("export", "other.db", "1", out=export)
-    report(f"{count} bits of a log of {len(log)} bytes", found)
 
 
 def main() -> None:
@@ -250,7 +184,6 @@ def main() -> None:
         two_seconds_back(checks)
         other_changes(checks)
         bits(checks, given.count)
-        bits_of_log(checks, given.count)
     checks.end()
 
 

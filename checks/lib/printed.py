@@ -142,7 +142,9 @@ UNREADABLE = "no permission to read it"
 NO_PLAIN_FILE = "not a plain file, but a directory, a device or a linked file"
 NO_DATABASE = "not a database, or none that can be read here"
 NO_PATH = "a path that begins with 'file:' is written './file:'"
-DAMAGED = "the file is damaged"
+DAMAGED = ("the file is damaged, or it has page sums and sqlite3 wrote or copied it "
+           "(ANALYZE, VACUUM, .backup); if so, 'sqlite3 OLD.db .dump | sqlite3 NEW.db' makes a "
+           "store that opens, without sums")
 NOT_PERMITTED = "no permission to read and write it, or files beside it"
 BUSY = "another program has it open; run this again when that has ended"
 OTHER_TABLES = ("its tables are not a store's, or have an index or a trigger; it was left as it is")

@@ -88,11 +88,16 @@ def causes(checks: Checks) -> None:
     checks.shell("sqlite3 other.db 'CREATE TABLE night (a)'")
     on_terminal(checks, "list other.db", err=FOREIGN + cause("other.db", printed.OTHER_TABLES),
                 status=3)
-    checks.shell("cp s.db rows.db; sqlite3 rows.db 'UPDATE record SET start = start + 1'")
+    checks.shell("sqlite3 s.db .dump | sqlite3 rows.db; "
+                 "sqlite3 rows.db 'UPDATE record SET start = start + 1'")
     on_terminal(checks, "list rows.db", err=FOREIGN + cause("rows.db", printed.OTHER_ROWS),
                 status=3)
-    checks.shell("cp s.db cut.db; truncate -s 9000 cut.db")
-    on_terminal(checks, "list cut.db", err=NO_STORE + cause("cut.db", printed.DAMAGED), status=3)
+    for name, change in (("cut.db", "truncate -s 9000"), ("vacuum.db", "echo VACUUM | sqlite3"),
+                         ("analyze.db", "echo ANALYZE | sqlite3")):
+        checks.shell(f"cp s.db {name}; {change} {name}")
+        on_terminal(checks, f"list {name}", err=NO_STORE + cause(name, printed.DAMAGED), status=3)
+    checks.shell("sqlite3 vacuum.db .dump | sqlite3 again.db")
+    on_terminal(checks, "export again.db 1", Q)
     if os.geteuid() != 0:
         (checks.folder / "rows.db").chmod(0o400)
         on_terminal(checks, "list rows.db", err=NO_STORE + cause("rows.db", printed.NOT_PERMITTED),

@@ -13,6 +13,11 @@ const OTHER_TABLES: &str =
 
 const OTHER_ROWS: &str = "its rows are such as no submissions leave; put it aside, as it is";
 
+/// A page sum goes wrong in two ways, and which of them it was can't be seen.
+const DAMAGED: &str = "the file is damaged, or it has page sums and sqlite3 wrote or copied it \
+    (ANALYZE, VACUUM, .backup); if so, 'sqlite3 OLD.db .dump | sqlite3 NEW.db' makes a store that \
+    opens, without sums";
+
 /// Prints why the store could not be opened. SQLite's port gives no cause, so the path is opened
 /// again to get one.
 fn tell_unopened(rt: &HostRuntime, terminal: &Terminal<'_>, path: &str) {
@@ -57,13 +62,21 @@ pub(crate) fn tell_error(rt: &HostRuntime, terminal: &Terminal<'_>, path: &str, 
     }
 }
 
+/// Prints why a store was not opened, by an error of `sqlite`.
+fn tell_refusal(rt: &HostRuntime, terminal: &Terminal<'_>, path: &str, error: Error) {
+    match error {
+        Error::SqliteFailure(ErrorCode::DatabaseCorrupt) => terminal.say(path, DAMAGED),
+        _ => tell_error(rt, terminal, path, error),
+    }
+}
+
 /// Prints why a store was not opened. Out of memory has no further cause.
 pub(crate) fn tell_cause(rt: &HostRuntime, terminal: &Terminal<'_>, path: &str, refused: &Refused) {
     if !terminal.is_there() {
         return;
     }
     match refused.fault {
-        StoreFault::Store(Some(error)) => tell_error(rt, terminal, path, error),
+        StoreFault::Store(Some(error)) => tell_refusal(rt, terminal, path, error),
         StoreFault::Foreign if refused.has_our_tables => terminal.say(path, OTHER_ROWS),
         StoreFault::Foreign => terminal.say(path, OTHER_TABLES),
         _ => {}

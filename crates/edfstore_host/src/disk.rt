@@ -6,7 +6,7 @@ ghost use Rattle.sqlite.specs.Held.{state};
 use edf_header::MOST_RECORDS;
 use edf_schema::is_ours;
 use edf_store::{Store, StoreFault};
-use sqlite::{Alter, Connection, Error, ErrorCode};
+use sqlite::{Alter, Connection, Error, ErrorCode, Unknown};
 use sqlite_disk::Tally;
 use sqlite_std_file::File;
 use sqlite_store::FileStore;
@@ -45,11 +45,12 @@ fn store_over<S: Alter + Drop>(alloc: Global, conn: Connection<S>) -> Result<Sto
     }
 }
 
-/// The store of the file at a path, which is made where there is none.
+/// The store of the file at a path, which is made where there is none. Each page of a new one ends
+/// in SQLite's page sum, and where a file has sums each is compared as it is opened.
 pub(crate) fn open_file(rt: &HostRuntime, path: &str) -> Result<Store<FileStore<File>>, Refused> {
-    match Connection::open(rt, path) {
+    match Connection::open_from(rt, path, true, Unknown) {
         Ok(conn) => store_over(rt.alloc(), conn),
-        Err(error) => Err(Refused {
+        Err((error, _)) => Err(Refused {
             fault: StoreFault::from(error),
             has_our_tables: false,
         }),
