@@ -5,3 +5,6 @@ pub mod Sending
 pub mod Parts
 pub mod RunFiles
 pub mod Rejoined
+pub mod Members
+pub mod ByOnset
+pub mod InItsRun

@@ -1,5 +1,5 @@
 -- Nothing is lost where a file is split into its runs.
-use Rattle.std.proofs.Common.{◌≡◌, ℕ, zero, suc, ◌≤◌, ◌⊎◌, List, [], ◌∷◌, length, Contains, refl}
+use Rattle.std.proofs.Common.{◌≡◌, ℕ, ◌≤◌, List, [], ◌∷◌, length, Contains}
 use Rattle.std.proofs.Common.{sym, ap, ◌∙◌, subst, arith, inl, inr}
 use Rattle.std.specs.List.{flat_map, AllZip, AllByRecursion}
 use Rattle.std.proofs.lemmas.List.Elements.{Contains-append_left, Contains-append_right}
@@ -23,20 +23,10 @@ use Rattle.edf_holdings.proofs.Recut.{free_of_same, alone_is_free}
 use Rattle.edf_holdings.proofs.ToldSound.{told_is_sound}
 use Rattle.edf_runs.specs.File.{IsRunFile}
 use Rattle.edf_runs.specs.Rejoined.{AreRunFiles, RunsRejoin}
+use Rattle.edf_runs.proofs.Members.{contains-first, contains-later, contains-cases}
 use Rattle.edf_runs.proofs.RunFiles.{run-file-spells}
 
 -- ---- members of lists
-
-contains-first : {X : Type 0} (x : X) (xs : List X) → Contains (x ∷ xs) x
-contains-first x xs = (0, omega arith, refl)
-
-contains-later : {X : Type 0} (x : X) (xs : List X) (y : X) → Contains xs y → Contains (x ∷ xs) y
-contains-later x xs y c = (suc c.0, omega (arith, c.1), c.2)
-
-contains-cases : {X : Type 0} (x : X) (xs : List X) (y : X) → Contains (x ∷ xs) y → (x ≡ y)
-    ⊎ Contains xs y
-contains-cases x xs y (zero, lt, e) = inl e
-contains-cases x xs y (suc i, lt, e) = inr (i, omega arith, e)
 
 abbrev all_of : List (List DataRecord) → List DataRecord
 all_of runs = flat_map (λ run. run) runs

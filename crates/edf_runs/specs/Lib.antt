@@ -5,3 +5,4 @@ pub mod Again
 pub mod Written
 pub mod Rejoined
 pub mod Inside
+pub mod ByOnset

@@ -6,6 +6,8 @@ ghost use Rattle.edf_header.specs.declared.limits.TheConstants.{MOST_RECORDS};
 ghost use Rattle.edf_header.specs.Key.{Key, IsKey};
 ghost use Rattle.edf_fragment.specs.Fragment.{DataRecord};
 ghost use Rattle.edf_fragment.specs.Sound.{AreSound, MayBegin};
+ghost use Rattle.edf_runs.specs.ByOnset.{EachInItsRun, EachWhereStarted, StayAlike};
+ghost use Rattle.edf_runs.specs.ByOnset.{StayInOrder};
 ghost use Rattle.edf_runs.specs.File.{IsRunFile, IsContinuous};
 ghost use Rattle.edf_runs.specs.Rejoined.{RunsRejoin};
 ghost use Rattle.edf_runs.specs.Runs.{IsRuns, IsTouching};
@@ -36,4 +38,20 @@ pub fn a_runs_file()
 /// records of the whole file.
 pub fn nothing_is_lost_by_splitting()
     ensures { RunsRejoin }
+{}
+
+/// The files of runs whose annotations were assigned by onset have together the annotations of the
+/// recording, each as often. Each is in the file of the run that covers its onset, where one does;
+/// else in that of the last run that begins at or before the onset, or, before all, of the first.
+pub fn each_annotation_in_its_run()
+    ensures { EachInItsRun }
+{}
+
+/// Where data records rise in time, each of those by onset has just the annotations for whose
+/// onsets it is the last that starts. Starts and samples stay, and each annotation is there once,
+/// in the order of the file.
+pub fn by_onset()
+    ensures which { EachWhereStarted }
+    ensures alike { StayAlike }
+    ensures order { StayInOrder }
 {}

@@ -1,0 +1,11 @@
+use Rattle.edf_runs.proofs.ByOnset.{each-where-started, stay-alike, stay-in-order}
+use Rattle.edf_runs.proofs.laws.by_onset.Goals as goal
+
+pub returns-clause-which : goal.returns-clause-which
+returns-clause-which c = each-where-started
+
+pub returns-clause-alike : goal.returns-clause-alike
+returns-clause-alike c = stay-alike
+
+pub returns-clause-order : goal.returns-clause-order
+returns-clause-order c = stay-in-order
