@@ -48,8 +48,8 @@ impl Model for Fixed {
 }
 
 impl Fixed {
-    /// The number of signals, 2 to [`MOST_SIGNALS`], bytes 252 to 255 of the header, the annotations
-    /// signals among them. For each a header of 256 bytes follows the fixed part.
+    /// The number of signals, 2 to [`MOST_SIGNALS`], bytes 252 to 255 of the header, with the
+    /// annotations signals. For each a header of 256 bytes follows the fixed part.
     pub fn signals(&self) -> usize
         ensures value { result ≡ self.now.signal_count }
         ensures from { 2 ≤ result }

@@ -24,9 +24,10 @@ use std::alloc::{AllocError, Global};
 /// # Errors
 /// `Form` (E1 to E29): the first fault of the input. Else a conflict with what is held, from
 /// `Overlap` (E30) on: a data record that clashes, else that there is no room. `Read` (E40) where a
-/// read failed, in place of what would have been found after it, and of a conflict. `Memory` (E41) where memory ran out and `Store` (E42, E45) where the store refused a
-/// call, in place of any other. Where it refused more than one call, the first refusal is the
-/// answer; the call that undoes what was added counts among them.
+/// read failed, in place of what would have been found after it, and of a conflict. `Memory` (E41)
+/// where memory ran out and `Store` (E42, E45) where the store refused a call, in place of any
+/// other. Where it refused more than one call, the first refusal is the answer; the call that
+/// undoes what was added counts among them.
 ///
 /// What was held before is held after each refusal. E45 comes only from a disk that does not give
 /// back what was written. E42 has no cause where the connection was left in a transaction, and then

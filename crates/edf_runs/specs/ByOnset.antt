@@ -24,8 +24,8 @@ is_before (next ∷ rest) instant = nat_lt instant next.start
 abbrev pub is_between : ℕ → List DataRecord → Annotation → Bool
 is_between low following a = nat_le low a.onset && is_before following a.onset
 
--- the data record with just those of all annotations, in their order, whose onsets lie from `low` on
--- and before the data records that follow
+-- the data record with just those of all annotations, in their order, whose onsets lie from `low`
+-- on and before the data records that follow
 abbrev pub assigned : List Annotation → ℕ → DataRecord → List DataRecord → DataRecord
 assigned all low r following = record {
   start = r.start;
@@ -91,9 +91,9 @@ abbrev pub AreAlike : DataRecord → DataRecord → Type 0
 AreAlike r other = (r.start ≡ other.start) × (r.samples ≡ other.samples)
 
 -- the files of the runs of data records whose annotations were assigned by onset, read again, have
--- together just the annotations of the recording, each as often; each is in the file of the run that
--- covers its onset, where one does, and else in that of the run before it, or of the first; and
--- their data records start as those of the recording do, and have the same samples
+-- together just the annotations of the recording, each as often; each is in the file of the run
+-- that covers its onset, where one does, and else in that of the run before it, or of the first;
+-- and their data records start as those of the recording do, and have the same samples
 abbrev pub EachInItsRun : Type 0
 EachInItsRun = (k : Key) (records : List DataRecord) (runs spelled : List (List DataRecord))
     (files : List (List ℕ)) → IsKey k → AreSound k 0 records →
