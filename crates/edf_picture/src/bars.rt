@@ -1,8 +1,8 @@
 use crate::bins::Bins;
 use crate::extent::Extent;
 use crate::labels::{FONT, Label, Labels};
-use crate::marks::{Mark, list_marks};
-use crate::numbers::{counted, scaled};
+use crate::marks::{Mark, Marks, list_marks};
+use crate::numbers::counted;
 use crate::pixels::{LEFT, Pixels, RIGHT, text_width};
 use crate::recording::Recording;
 use crate::rows::Folded;
@@ -11,149 +11,139 @@ use crate::ticks::write_ticks;
 use crate::times::{DAY, clock_label, date_label, instant_label, span_text};
 use std::alloc::{AllocError, Global};
 
-/// Writes a row with data records, its bars and gaps, and the ticks above them, and answers whether
-/// some runs and gaps are drawn as one.
+/// What the picture shows that a legend names.
+#[derive(Clone, Copy)]
+pub(crate) struct Shown {
+    pub(crate) gaps: bool,
+    pub(crate) thin: bool,
+    pub(crate) ticks: bool,
+}
+
+impl Shown {
+    /// What either of them shows.
+    pub(crate) fn and(self, other: Shown) -> Shown {
+        Shown {
+            gaps: self.gaps || other.gaps,
+            thin: self.thin || other.thin,
+            ticks: self.ticks || other.ticks,
+        }
+    }
+}
+
+/// Writes a row with data records, its bars and gaps, and the ticks above them, and answers what
+/// it shows.
 pub(crate) fn write_data_row(
     svg: &mut String,
     recording: &Recording<'_>,
     bins: &Bins,
     row: Extent,
-) -> Result<bool, AllocError> {
+) -> Result<Shown, AllocError> {
     let alloc = bins.alloc();
     write!(svg, "<path class='l' d='M{LEFT} 22H{RIGHT}'/>")?;
     let marks = list_marks(alloc, recording, row)?;
-    write_marks(svg, alloc, &marks, row, false)?;
-    write_marks(svg, alloc, &marks, row, true)?;
-    write_lengths(svg, alloc, &marks, row)?;
-    write_ticks(svg, bins, row, recording)?;
-    Ok(marks.iter().any(|mark| mark.is_mixed()))
-}
-
-/// Writes the narrow marks, or the others. The narrow ones come last, over the others, since they
-/// are drawn wider than they are.
-fn write_marks(
-    svg: &mut String,
-    alloc: Global,
-    marks: &[Mark],
-    row: Extent,
-    narrow: bool,
-) -> Result<(), AllocError> {
-    for mark in marks {
-        if mark.is_narrow(row) == narrow {
+    write_narrow(svg, &marks.marks, row, true)?;
+    write_narrow(svg, &marks.marks, row, false)?;
+    for mark in &marks.marks {
+        if !mark.is_narrow(row) {
             write_mark(svg, alloc, mark, row)?;
         }
     }
-    Ok(())
+    write_thin(svg, alloc, &marks)?;
+    write_lengths(svg, alloc, &marks.marks, row)?;
+    let ticks = write_ticks(svg, bins, row, recording)?;
+    Ok(Shown {
+        gaps: marks.marks.iter().any(|mark| mark.is_gap()),
+        thin: !marks.thin.is_empty(),
+        ticks,
+    })
+}
+
+/// Writes the narrow gaps, or the narrow runs, as one path.
+fn write_narrow(
+    svg: &mut String,
+    marks: &[Mark],
+    row: Extent,
+    gaps: bool,
+) -> Result<(), AllocError> {
+    if !marks
+        .iter()
+        .any(|mark| mark.is_narrow(row) && mark.is_gap() == gaps)
+    {
+        return Ok(());
+    }
+    let class = if gaps { "j" } else { "k" };
+    write!(svg, "<path class='{class}' d='")?;
+    for mark in marks {
+        if mark.is_narrow(row) && mark.is_gap() == gaps {
+            let (x, width) = mark.place(row);
+            write!(svg, "M{x} 22h{width}")?;
+        }
+    }
+    svg.push_str("'/>")
 }
 
 fn write_mark(svg: &mut String, alloc: Global, mark: &Mark, row: Extent) -> Result<(), AllocError> {
     let title = mark_title(alloc, mark)?;
     let (x, width) = mark.place(row);
-    svg.push_str("<g>")?;
-    if mark.gaps > 0 {
-        write!(
-            svg,
-            "<rect class='g' x='{x}' y='15' width='{width}' height='14'/>"
-        )?;
-    }
-    if mark.runs > 0 {
-        let height = bar_height(mark);
-        let y = 28u64.saturating_sub(height);
-        write!(
-            svg,
-            "<rect class='r' x='{x}' y='{y}' width='{width}' height='{height}'/>"
-        )?;
-    }
-    write!(svg, "<title>{title}</title></g>")
+    let (class, y, height) = if mark.is_gap() {
+        ("g", 15, 14)
+    } else {
+        ("r", 16, 12)
+    };
+    write!(svg, "<rect class='{class}' x='{x}' y='{y}' ")?;
+    write!(svg, "width='{width}' height='{height}'>")?;
+    write!(svg, "<title>{title}</title></rect>")
 }
 
-/// The height of the bar: whole for a run, and the share of the data records in a mark that has
-/// gaps too.
-fn bar_height(mark: &Mark) -> u64 {
-    if mark.gaps == 0 {
-        return 12;
+/// Writes the gaps narrower than a pixel as thin marks above the bar.
+fn write_thin(svg: &mut String, alloc: Global, marks: &Marks) -> Result<(), AllocError> {
+    if marks.thin.is_empty() {
+        return Ok(());
     }
-    scaled(mark.recorded, mark.shown.length(), 12).clamp(2, 11)
+    svg.push_str("<path class='u' d='")?;
+    for x in &marks.thin {
+        write!(svg, "M{x}.5 11v4")?;
+    }
+    let small = marks.small.text(alloc)?;
+    write!(
+        svg,
+        "'><title>narrower than a pixel: {small}</title></path>"
+    )
 }
 
 /// What a mark stands for, and its exact times.
 fn mark_title(alloc: Global, mark: &Mark) -> Result<String, AllocError> {
-    let is_one = mark.runs.saturating_add(mark.gaps) <= 1;
-    let extent = if is_one { mark.whole } else { mark.shown };
-    let from = instant_label(alloc, extent.from)?;
-    let to = instant_label(alloc, extent.to)?;
-    let runs = counted(alloc, u64::from(mark.runs), "run")?;
-    let gaps = counted(alloc, u64::from(mark.gaps), "gap")?;
-    if !is_one {
-        return format!(in alloc; "{runs} and {gaps}, {from} to {to}");
-    }
-    if mark.gaps > 0 {
+    let from = instant_label(alloc, mark.whole.from)?;
+    let to = instant_label(alloc, mark.whole.to)?;
+    if mark.is_gap() {
         let span = span_text(alloc, mark.whole.length())?;
         return format!(in alloc; "gap of {span}, {from} to {to}");
     }
     let records = counted(alloc, mark.records, "record")?;
-    format!(in alloc; "{records}, {from} to {to}")
+    if mark.runs == 1 {
+        return format!(in alloc; "{records}, {from} to {to}");
+    }
+    let runs = counted(alloc, u64::from(mark.runs), "run")?;
+    format!(in alloc; "{records} in {runs}, {from} to {to}")
 }
 
-/// With more gaps than this in a row, their number is written in place of their lengths.
-const MOST_LENGTHS: u32 = 12;
-
-/// Writes the lengths of the gaps below them, where they fit, or how many gaps there are.
+/// Writes the lengths of the gaps below them, where they fit: of the whole gap, where a row shows
+/// a part of it.
 fn write_lengths(
     svg: &mut String,
     alloc: Global,
     marks: &[Mark],
     row: Extent,
 ) -> Result<(), AllocError> {
-    let Some(all) = all_gaps(marks) else {
-        return Ok(());
-    };
     let mut labels = Labels::new(alloc);
-    if all.gaps > MOST_LENGTHS {
-        let text = counted(alloc, u64::from(all.gaps), "gap")?;
-        labels.offer(Label::new(all.middle(row), text, 0))?;
-    } else {
-        offer_lengths(&mut labels, alloc, marks, row)?;
+    for mark in marks {
+        if mark.is_gap() {
+            let length = mark.whole.length();
+            let text = span_text(alloc, length)?;
+            labels.offer(Label::new(mark.middle(row), text, length))?;
+        }
     }
     labels.write(svg, 41)
-}
-
-/// The marks that have gaps, as one.
-fn all_gaps(marks: &[Mark]) -> Option<Mark> {
-    let mut all: Option<Mark> = None;
-    for mark in marks {
-        if mark.gaps > 0 {
-            all = Some(all.map_or(*mark, |before| before.joined(*mark)));
-        }
-    }
-    all
-}
-
-fn offer_lengths(
-    labels: &mut Labels,
-    alloc: Global,
-    marks: &[Mark],
-    row: Extent,
-) -> Result<(), AllocError> {
-    for mark in marks {
-        if let Some(text) = length_text(alloc, mark)? {
-            let missing = mark.shown.length().saturating_sub(mark.recorded);
-            labels.offer(Label::new(mark.middle(row), text, missing))?;
-        }
-    }
-    Ok(())
-}
-
-/// The length of a gap, written in the row that has the larger part of it, or how many gaps there
-/// are.
-fn length_text(alloc: Global, mark: &Mark) -> Result<Option<String>, AllocError> {
-    if mark.is_mixed() {
-        return Ok(Some(counted(alloc, u64::from(mark.gaps), "gap")?));
-    }
-    if mark.gaps == 0 || !mark.is_larger_part() {
-        return Ok(None);
-    }
-    Ok(Some(span_text(alloc, mark.whole.length())?))
 }
 
 /// Writes when a row begins: its clock reading, and its day if that is asked for.

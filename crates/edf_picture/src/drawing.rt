@@ -1,4 +1,4 @@
-use crate::bars::{write_data_row, write_folded_row, write_row_start};
+use crate::bars::{Shown, write_data_row, write_folded_row, write_row_start};
 use crate::bins::Bins;
 use crate::extent::Stretch;
 use crate::heading::{Counts, Heading, Title};
@@ -66,13 +66,17 @@ impl Sketch {
         let mut drawn = Drawn {
             svg: String::new(alloc),
             foot: heading.height(),
-            has_joined: false,
+            shown: Shown {
+                gaps: false,
+                thin: false,
+                ticks: false,
+            },
         };
         self.draw_stages(alloc, &recording, &mut drawn)?;
         self.draw_rows(alloc, &recording, &mut drawn)?;
         let mut svg = String::new(alloc);
         heading.write_start(&mut svg, drawn.foot.saturating_add(16))?;
-        heading.write(&mut svg, drawn.has_joined)?;
+        heading.write(&mut svg, drawn.shown)?;
         svg.push_str(drawn.svg.as_str())?;
         svg.push_str("</svg>\n")?;
         Ok(svg)
@@ -149,12 +153,13 @@ impl Sketch {
                 let today = Some(extent.from / DAY);
                 let alloc = self.events.alloc();
                 write_row_start(svg, alloc, extent.from, scale, day != today)?;
-                let has_joined = write_data_row(svg, recording, &self.events, *extent)?;
-                drawn.has_joined = drawn.has_joined || has_joined;
+                let shown = write_data_row(svg, recording, &self.events, *extent)?;
+                drawn.shown = drawn.shown.and(shown);
                 Ok(today)
             }
             Row::Folded(folded) => {
                 write_folded_row(svg, &self.events, *folded)?;
+                drawn.shown.gaps = true;
                 Ok(day)
             }
         }
@@ -170,8 +175,8 @@ struct Drawn {
     svg: String,
     /// Where the next part begins, in pixels.
     foot: u64,
-    /// Whether runs and gaps are drawn as one.
-    has_joined: bool,
+    /// What the legend names.
+    shown: Shown,
 }
 
 impl Drawn {

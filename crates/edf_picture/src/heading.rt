@@ -1,3 +1,4 @@
+use crate::bars::Shown;
 use crate::numbers::{counted, thousands};
 use crate::pixels::LEFT;
 use crate::recording::Recording;
@@ -54,7 +55,8 @@ text{font-family:'DejaVu Sans',Verdana,Arial,Helvetica,sans-serif;font-size:12px
 .m,.n{text-anchor:middle}.e{text-anchor:end}\
 .n{paint-order:stroke;stroke:#fff;stroke-width:3px}\
 .r{fill:#0072B2}.g{fill:url(#edf-gap);stroke:#D55E00}.w{fill:#fff}\
-.h{fill:#D55E00;fill-opacity:.25}.t,.a,.s{stroke:#000;fill:none}\
+.j{stroke:#D55E00;stroke-width:14;fill:none}.k{stroke:#0072B2;stroke-width:12;fill:none}\
+.u{stroke:#D55E00;fill:none}.h{fill:#D55E00;fill-opacity:.25}.t,.a,.s{stroke:#000;fill:none}\
 .t{stroke-width:1.2}.s{stroke-width:1.5}\
 .q{stroke:#009E73;stroke-width:6;fill:none}.l{stroke:#ccc;fill:none}</style>\
 <defs><pattern id='edf-gap' width='6' height='6' patternUnits='userSpaceOnUse' \
@@ -102,7 +104,7 @@ impl Heading {
     }
 
     /// Writes the lines of the heading.
-    pub(crate) fn write(&self, svg: &mut String, has_joined: bool) -> Result<(), AllocError> {
+    pub(crate) fn write(&self, svg: &mut String, shown: Shown) -> Result<(), AllocError> {
         let mut y = 28u64;
         for title in &self.titles {
             write_line(svg, "b", y, title)?;
@@ -111,7 +113,7 @@ impl Heading {
         write_line(svg, "f", y, &self.time)?;
         write_line(svg, "f", y.saturating_add(20), &self.summary)?;
         write_line(svg, "f", y.saturating_add(40), &self.annotations)?;
-        write_legend(svg, y.saturating_add(62), has_joined)
+        write_legend(svg, y.saturating_add(62), shown)
     }
 }
 
@@ -174,21 +176,24 @@ impl Counts {
     }
 }
 
-/// Writes what the shapes mean.
-fn write_legend(svg: &mut String, y: u64, has_joined: bool) -> Result<(), AllocError> {
+/// Writes what the shapes mean that are drawn.
+fn write_legend(svg: &mut String, y: u64, shown: Shown) -> Result<(), AllocError> {
     let top = y.saturating_sub(10);
     write!(svg, "<g transform='translate({LEFT} {top})'>")?;
     svg.push_str(
         "<rect class='r' y='0' width='20' height='12'/><text x='26' y='10'>recorded</text>",
     )?;
-    svg.push_str("<rect class='g' x='104' y='-1' width='20' height='14'/>")?;
-    svg.push_str("<text x='130' y='10'>gap</text>")?;
-    svg.push_str("<path class='t' d='M180 12v-5M186 12v-5M192 12v-13'/>")?;
-    svg.push_str("<text x='200' y='10'>annotation; taller where there are more</text>")?;
-    if has_joined {
-        svg.push_str("<rect class='g' x='464' y='-1' width='20' height='14'/>")?;
-        svg.push_str("<rect class='r' x='464' y='6' width='20' height='6'/>")?;
-        svg.push_str("<text x='490' y='10'>short runs and gaps</text>")?;
+    if shown.gaps {
+        svg.push_str("<rect class='g' x='104' y='-1' width='20' height='14'/>")?;
+        svg.push_str("<text x='130' y='10'>gap</text>")?;
+    }
+    if shown.thin {
+        svg.push_str("<path class='u' d='M180.5 4v6M186.5 4v6'/>")?;
+        svg.push_str("<text x='196' y='10'>gap narrower than a pixel</text>")?;
+    }
+    if shown.ticks {
+        svg.push_str("<path class='t' d='M400 12v-4M406 12v-4M412 12v-10'/>")?;
+        svg.push_str("<text x='420' y='10'>annotation; taller where there are more</text>")?;
     }
     svg.push_str("</g>")
 }

@@ -92,7 +92,7 @@ impl Hypnogram {
     ) -> Result<(), AllocError> {
         let height = FLOOR + 6;
         svg.push_str("<path class='h' d='")?;
-        for mark in &list_marks(alloc, recording, recording.all)? {
+        for mark in &list_marks(alloc, recording, recording.all)?.marks {
             write_gap(svg, mark, recording.all, height)?;
         }
         svg.push_str("'/>")
@@ -127,7 +127,7 @@ impl Hypnogram {
 
 /// Writes a gap as a box of the hypnogram's height.
 fn write_gap(svg: &mut String, mark: &Mark, all: Extent, height: u64) -> Result<(), AllocError> {
-    if mark.runs > 0 {
+    if !mark.is_gap() {
         return Ok(());
     }
     let (x, width) = mark.place(all);

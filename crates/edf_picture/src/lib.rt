@@ -6,8 +6,8 @@
 //!
 //! A row shows an hour, and from 36 hours on a day or more, so that at most 40 rows have data. Rows
 //! that lie in one gap are one thin row. Runs are bars, gaps are hatched, and annotations are ticks
-//! above the bars, taller where there are more. Runs and gaps too narrow to be seen apart are drawn
-//! as one, and its title says how many there are.
+//! above the bars, taller where there are more. A gap narrower than a pixel is a thin mark above its
+//! bar, and takes nothing from it.
 //!
 //! Stages of sleep are a hypnogram above the rows. Texts `Sleep stage` with `W`, `N1`, `N2`, `N3`,
 //! `1`, `2`, `3`, `4`, `R` or `REM` name them; `3` and `4` are both N3, and `?` and `M` only end
@@ -32,6 +32,7 @@ mod heading;
 mod hypnogram;
 mod labels;
 mod marks;
+mod missing;
 mod numbers;
 mod pixels;
 mod recording;

@@ -1,59 +1,53 @@
 use crate::extent::Extent;
+use crate::missing::Missing;
 use crate::pixels::{LEFT, Pixels, RIGHT};
 use crate::recording::Recording;
 use std::alloc::{AllocError, Global};
 
-/// A run, a gap, or several too short to be seen apart, as one row shows it.
+/// A gap at least a pixel wide, or the runs between two of them, as one row shows it.
 #[derive(Clone, Copy)]
 pub(crate) struct Mark {
     /// The time of all of it.
     pub(crate) whole: Extent,
     /// The time that lies in the row.
     pub(crate) shown: Extent,
+    /// How many runs it has; 0 for a gap.
     pub(crate) runs: u32,
-    pub(crate) gaps: u32,
     /// The data records of its runs.
     pub(crate) records: u64,
-    /// The nanoseconds in the row that data records cover.
-    pub(crate) recorded: u64,
 }
 
-/// What is narrower is joined with what is narrow beside it.
+/// What a row shows.
+#[derive(Drop)]
+pub(crate) struct Marks {
+    row: Extent,
+    /// Runs and gaps by turns, in the order of time.
+    pub(crate) marks: Vec<Mark>,
+    /// The pixels that have a gap narrower than one, from the left.
+    pub(crate) thin: Vec<u64>,
+    /// The gaps narrower than a pixel.
+    pub(crate) small: Missing,
+}
+
+/// What is narrower is drawn without words of its own.
 const WIDE: Pixels = Pixels { hundredths: 400 };
 
-/// What is joined grows no wider than this and one more.
-const JOINED: Pixels = Pixels { hundredths: 800 };
-
-/// What is drawn is as wide as this.
-const LEAST: Pixels = Pixels { hundredths: 300 };
+/// A gap that is narrower is a thin mark above the bar. What is drawn is as wide as this.
+const LEAST: Pixels = Pixels { hundredths: 100 };
 
 impl Mark {
-    fn of_run(run: Extent, row: Extent, records: u32) -> Option<Mark> {
-        let shown = run.within(row)?;
+    fn of(whole: Extent, row: Extent, records: Option<u32>) -> Option<Mark> {
+        let shown = whole.within(row)?;
         Some(Mark {
-            whole: run,
+            whole,
             shown,
-            runs: 1,
-            gaps: 0,
-            records: u64::from(records),
-            recorded: shown.length(),
+            runs: u32::from(records.is_some()),
+            records: u64::from(records.unwrap_or(0)),
         })
     }
 
-    fn of_gap(gap: Extent, row: Extent) -> Option<Mark> {
-        let shown = gap.within(row)?;
-        Some(Mark {
-            whole: gap,
-            shown,
-            runs: 0,
-            gaps: 1,
-            records: 0,
-            recorded: 0,
-        })
-    }
-
-    /// The two as one.
-    pub(crate) fn joined(self, next: Mark) -> Mark {
+    /// The runs of both as one.
+    fn joined(self, next: Mark) -> Mark {
         Mark {
             whole: Extent {
                 from: self.whole.from,
@@ -64,15 +58,12 @@ impl Mark {
                 to: next.shown.to,
             },
             runs: self.runs.saturating_add(next.runs),
-            gaps: self.gaps.saturating_add(next.gaps),
             records: self.records.saturating_add(next.records),
-            recorded: self.recorded.saturating_add(next.recorded),
         }
     }
 
-    /// Whether it has both runs and gaps.
-    pub(crate) fn is_mixed(self) -> bool {
-        self.runs > 0 && self.gaps > 0
+    pub(crate) fn is_gap(self) -> bool {
+        self.runs == 0
     }
 
     /// How wide it is on the scale of its row.
@@ -87,10 +78,8 @@ impl Mark {
     /// Where it is drawn: it is never too narrow to be seen, nor outside the row.
     pub(crate) fn place(self, row: Extent) -> (Pixels, Pixels) {
         let width = self.width(row).max(LEAST);
-        let middle = self.middle(row);
-        let left = middle.minus(width.half()).max(Pixels::whole(LEFT));
-        let left = left.min(Pixels::whole(RIGHT).minus(width));
-        (left, width)
+        let left = Pixels::at(self.shown.from, row);
+        (left.min(Pixels::whole(RIGHT).minus(width)), width)
     }
 
     /// Its middle on the scale of its row.
@@ -98,47 +87,37 @@ impl Mark {
         let ends = Pixels::at(self.shown.from, row).plus(Pixels::at(self.shown.to, row));
         ends.half()
     }
-
-    /// Whether this row shows the larger part of it.
-    pub(crate) fn is_larger_part(self) -> bool {
-        let rest = self.whole.length().saturating_sub(self.shown.length());
-        rest < self.shown.length()
-            || rest == self.shown.length() && self.whole.from == self.shown.from
-    }
 }
 
-/// The marks of a row, while they are put together.
-#[derive(Drop)]
-struct Joining {
-    row: Extent,
-    marks: Vec<Mark>,
-    /// Narrow marks that may grow.
-    open: Option<Mark>,
-}
-
-impl Joining {
-    fn add(&mut self, mark: Option<Mark>) -> Result<(), AllocError> {
-        let Some(mark) = mark else {
+impl Marks {
+    fn add_run(&mut self, run: Option<Mark>) -> Result<(), AllocError> {
+        let Some(run) = run else {
             return Ok(());
         };
-        if !mark.is_narrow(self.row) {
-            self.close()?;
-            self.marks.push(mark)?;
-            return Ok(());
-        }
-        match self.open {
-            Some(open) if open.width(self.row) < JOINED => self.open = Some(open.joined(mark)),
-            _ => {
-                self.close()?;
-                self.open = Some(mark);
+        match self.marks.pop() {
+            Some(before) if !before.is_gap() => self.marks.push(before.joined(run))?,
+            Some(before) => {
+                self.marks.push(before)?;
+                self.marks.push(run)?;
             }
+            None => self.marks.push(run)?,
         }
         Ok(())
     }
 
-    fn close(&mut self) -> Result<(), AllocError> {
-        if let Some(open) = self.open.take() {
-            self.marks.push(open)?;
+    fn add_gap(&mut self, gap: Option<Mark>) -> Result<(), AllocError> {
+        let Some(gap) = gap else {
+            return Ok(());
+        };
+        if LEAST <= gap.width(self.row) {
+            self.marks.push(gap)?;
+            return Ok(());
+        }
+        self.small = self.small.and(gap.whole.length());
+        let pixel = gap.middle(self.row).hundredths / 100;
+        let pixel = pixel.max(LEFT).min(RIGHT - 1);
+        if self.thin.last().copied() != Some(pixel) {
+            self.thin.push(pixel)?;
         }
         Ok(())
     }
@@ -149,11 +128,12 @@ pub(crate) fn list_marks(
     alloc: Global,
     recording: &Recording<'_>,
     row: Extent,
-) -> Result<Vec<Mark>, AllocError> {
-    let mut joining = Joining {
+) -> Result<Marks, AllocError> {
+    let mut marks = Marks {
         row,
         marks: Vec::new(alloc),
-        open: None,
+        thin: Vec::new(alloc),
+        small: Missing::none(),
     };
     let mut before = recording.all.from;
     for stretch in recording.stretches {
@@ -162,10 +142,9 @@ pub(crate) fn list_marks(
             from: before,
             to: run.from,
         };
-        joining.add(Mark::of_gap(gap, row))?;
-        joining.add(Mark::of_run(run, row, stretch.records))?;
+        marks.add_gap(Mark::of(gap, row, None))?;
+        marks.add_run(Mark::of(run, row, Some(stretch.records)))?;
         before = run.to;
     }
-    joining.close()?;
-    Ok(joining.marks)
+    Ok(marks)
 }

@@ -35,6 +35,7 @@ pub(crate) fn percent(alloc: Global, part: u64, whole: u64) -> Result<String, Al
     match scaled(part, whole, 1000) {
         0 => String::from_str(alloc, "under 0.1 %"),
         tenths => {
+            let tenths = tenths.min(999);
             let (whole, tenth) = (tenths / 10, tenths % 10);
             format!(in alloc; "{whole}.{tenth} %")
         }

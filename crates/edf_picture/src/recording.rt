@@ -1,4 +1,5 @@
 use crate::extent::{Extent, Stretch};
+use crate::missing::Missing;
 use crate::numbers::{counted, percent};
 use crate::times::{seconds_text, span_text};
 use std::alloc::{AllocError, Global};
@@ -48,16 +49,18 @@ impl<'a> Recording<'a> {
         u64::try_from(self.stretches.len()).unwrap_or(u64::MAX)
     }
 
-    /// How many gaps are between the runs.
-    fn gaps(&self) -> u64 {
-        let mut gaps = 0u64;
+    /// The gaps between the runs.
+    fn missing(&self) -> Missing {
+        let mut missing = Missing::none();
         let mut before = self.all.from;
         for stretch in self.stretches {
             let run = self.extent_of(stretch);
-            gaps = gaps.saturating_add(u64::from(before < run.from));
+            if before < run.from {
+                missing = missing.and(run.from.saturating_sub(before));
+            }
             before = run.to;
         }
-        gaps
+        missing
     }
 
     fn records(&self) -> u64 {
@@ -68,7 +71,7 @@ impl<'a> Recording<'a> {
         records
     }
 
-    /// `28,755 records of 1 s, 3 runs, 2 gaps, 99.8 % of 8 h 00 min`.
+    /// `28,755 records of 1 s, 2 runs, 99.8 % of 8 h 00 min; missing 45 s in 1 gap, longest 45 s`.
     pub(crate) fn summary(&self, alloc: Global) -> Result<String, AllocError> {
         if self.stretches.is_empty() {
             return String::from_str(alloc, "no data record");
@@ -76,10 +79,15 @@ impl<'a> Recording<'a> {
         let records = counted(alloc, self.records(), "record")?;
         let each = seconds_text(alloc, self.duration)?;
         let runs = counted(alloc, self.runs(), "run")?;
-        let gaps = counted(alloc, self.gaps(), "gap")?;
+        let missing = self.missing();
+        let gaps = counted(alloc, missing.gaps, "gap")?;
         let recorded = self.records().saturating_mul(self.duration);
         let share = percent(alloc, recorded, self.all.length())?;
         let span = span_text(alloc, self.all.length())?;
-        format!(in alloc; "{records} of {each}, {runs}, {gaps}, {share} of {span}")
+        if missing.gaps == 0 {
+            return format!(in alloc; "{records} of {each}, {runs}, {gaps}, {share} of {span}");
+        }
+        let missing = missing.text(alloc)?;
+        format!(in alloc; "{records} of {each}, {runs}, {share} of {span}; missing {missing}")
     }
 }

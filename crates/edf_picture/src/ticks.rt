@@ -16,7 +16,7 @@ struct Tick {
 const PLACES: u64 = ACROSS / 2;
 
 /// Where ticks end, in pixels below their row's top.
-const FOOT: u64 = 14;
+const FOOT: u64 = 10;
 
 impl Tick {
     fn of(bin: &Bin, row: Extent) -> Tick {
@@ -30,11 +30,11 @@ impl Tick {
     /// The more annotations, the taller.
     fn height(self) -> u64 {
         match self.count {
-            0..=1 => 5,
-            2..=4 => 7,
-            5..=16 => 9,
-            17..=64 => 11,
-            _ => 13,
+            0..=1 => 4,
+            2..=4 => 5,
+            5..=16 => 6,
+            17..=64 => 8,
+            _ => 10,
         }
     }
 
@@ -45,15 +45,16 @@ impl Tick {
     }
 }
 
-/// Writes the ticks of a row as one path, for the annotations within the recording's time.
+/// Writes the ticks of a row as one path, for the annotations within the recording's time, and
+/// answers whether there are any.
 pub(crate) fn write_ticks(
     svg: &mut String,
     bins: &Bins,
     row: Extent,
     recording: &Recording<'_>,
-) -> Result<(), AllocError> {
+) -> Result<bool, AllocError> {
     let Some(shown) = row.within(recording.all) else {
-        return Ok(());
+        return Ok(false);
     };
     let is_last = shown.to == recording.all.to;
     let to = shown.to.saturating_add(u64::from(is_last));
@@ -63,12 +64,13 @@ pub(crate) fn write_ticks(
     };
     let found = bins.list_within(extent)?;
     if found.is_empty() {
-        return Ok(());
+        return Ok(false);
     }
     svg.push_str("<path class='t' d='")?;
     write_places(svg, &found, row)?;
     let count = counted(bins.alloc(), bins.within(extent), "annotation")?;
-    write!(svg, "'><title>{count}</title></path>")
+    write!(svg, "'><title>{count}</title></path>")?;
+    Ok(true)
 }
 
 fn write_places(svg: &mut String, found: &[Bin], row: Extent) -> Result<(), AllocError> {
