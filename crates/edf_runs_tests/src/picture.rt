@@ -54,7 +54,7 @@ fn a_night_is_drawn(rt: HostRuntime) -> Result<(), Fail> {
     for part in [
         "<title id='edf-title'>Patient P&lt;7&amp;&quot;&#39;&gt;, investigation N1</title>",
         ">1985-01-01 22:00:00 to 1985-01-02 06:00:00<",
-        ">28,755 records of 1 s, 2 runs, 1 gap, 99.8 % of 8 h 00 min<",
+        ">28,755 records of 1 s, 2 runs, 99.8 % of 8 h 00 min; missing 45 s in 1 gap, longest 45 s<",
         ">3 annotations, 2 of them sleep stages; 1 outside the recording's time, not drawn<",
         "<title>gap of 45 s, 1985-01-02 02:00:00 to 1985-01-02 02:00:45</title>",
         "<title>14,400 records, 1985-01-01 22:00:00 to 1985-01-02 02:00:00</title>",
@@ -70,12 +70,12 @@ fn a_night_is_drawn(rt: HostRuntime) -> Result<(), Fail> {
 
 /// What the picture of two stretches of a minute says of the gap between them, and of all.
 const GAPS: &[(u64, &str, &str)] = &[
-    (1, "0.000000001 s", "2 runs, 1 gap, 99.9 % of"),
+    (1, "0.000000001 s", "2 runs, 99.9 % of"),
     (SECOND / 4, "0.25 s", "99.7 % of"),
     (
         MINUTE,
         "1 min 00 s",
-        "120 records of 1 s, 2 runs, 1 gap, 66.6 % of 3 min 00 s",
+        "120 records of 1 s, 2 runs, 66.6 % of 3 min 00 s",
     ),
     (8 * HOUR, "8 h 00 min", "0.4 % of 8 h 02 min"),
     (
