@@ -1,6 +1,7 @@
 use crate::bars::Shown;
+use crate::labels::FONT;
 use crate::numbers::{counted, thousands};
-use crate::pixels::LEFT;
+use crate::pixels::{LEFT, Pixels, text_width};
 use crate::recording::Recording;
 use crate::times::instant_label;
 use edf_markup::escaped;
@@ -176,24 +177,34 @@ impl Counts {
     }
 }
 
-/// Writes what the shapes mean that are drawn.
+/// The shapes of the legend, 20 pixels wide.
+const RECORDED: &str = "<rect class='r' y='0' width='20' height='12'/>";
+
+const GAP: &str = "<rect class='g' y='-1' width='20' height='14'/>";
+
+const THIN: &str = "<path class='u' d='M6.5 4v6M12.5 4v6'/>";
+
+const TICKS: &str = "<path class='t' d='M4 12v-4M10 12v-4M16 12v-10'/>";
+
+/// Writes what the shapes mean that are drawn, side by side.
 fn write_legend(svg: &mut String, y: u64, shown: Shown) -> Result<(), AllocError> {
     let top = y.saturating_sub(10);
-    write!(svg, "<g transform='translate({LEFT} {top})'>")?;
-    svg.push_str(
-        "<rect class='r' y='0' width='20' height='12'/><text x='26' y='10'>recorded</text>",
-    )?;
-    if shown.gaps {
-        svg.push_str("<rect class='g' x='104' y='-1' width='20' height='14'/>")?;
-        svg.push_str("<text x='130' y='10'>gap</text>")?;
+    let mut x = Pixels::whole(LEFT);
+    for (is_shown, shape, text) in [
+        (true, RECORDED, "recorded"),
+        (shown.gaps, GAP, "gap"),
+        (shown.thin, THIN, "gap narrower than a pixel"),
+        (
+            shown.ticks,
+            TICKS,
+            "annotation; taller where there are more",
+        ),
+    ] {
+        if is_shown {
+            write!(svg, "<g transform='translate({x} {top})'>{shape}")?;
+            write!(svg, "<text x='26' y='10'>{text}</text></g>")?;
+            x = x.plus(text_width(text.len(), FONT)).plus(Pixels::whole(44));
+        }
     }
-    if shown.thin {
-        svg.push_str("<path class='u' d='M180.5 4v6M186.5 4v6'/>")?;
-        svg.push_str("<text x='196' y='10'>gap narrower than a pixel</text>")?;
-    }
-    if shown.ticks {
-        svg.push_str("<path class='t' d='M400 12v-4M406 12v-4M412 12v-10'/>")?;
-        svg.push_str("<text x='420' y='10'>annotation; taller where there are more</text>")?;
-    }
-    svg.push_str("</g>")
+    Ok(())
 }

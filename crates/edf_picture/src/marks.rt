@@ -25,7 +25,7 @@ pub(crate) struct Marks {
     pub(crate) marks: Vec<Mark>,
     /// The pixels that have a gap narrower than one, from the left.
     pub(crate) thin: Vec<u64>,
-    /// The gaps narrower than a pixel.
+    /// What the row has of the gaps that are narrower than a pixel in it.
     pub(crate) small: Missing,
 }
 
@@ -113,7 +113,7 @@ impl Marks {
             self.marks.push(gap)?;
             return Ok(());
         }
-        self.small = self.small.and(gap.whole.length());
+        self.small = self.small.and(gap.shown.length());
         let pixel = gap.middle(self.row).hundredths / 100;
         let pixel = pixel.max(LEFT).min(RIGHT - 1);
         if self.thin.last().copied() != Some(pixel) {

@@ -1,11 +1,13 @@
 use crate::extent::{Extent, Stretch};
-use crate::times::{DAY, HOUR, MINUTE, SECOND};
+use crate::times::{DAY, HOUR, MILLISECOND, MINUTE, SECOND};
 
 /// What one row shows, and the numbers above the rows.
 #[derive(Clone, Copy)]
 pub(crate) struct Scale {
     /// The nanoseconds of a row.
     pub(crate) row: u64,
+    /// Where a row begins, in nanoseconds.
+    from: u64,
     /// In how many parts lines divide it.
     pub(crate) parts: u64,
     /// By how much the number above a line is more than the one before.
@@ -24,16 +26,17 @@ impl Scale {
     fn new(row: u64, parts: u64, step: u64, unit: &'static str) -> Scale {
         Scale {
             row,
+            from: 0,
             parts,
             step,
             unit,
         }
     }
 
-    /// Scales whose row holds a short recording whole.
+    /// Scales whose one row holds a short recording whole, from the millisecond of its start on.
     fn short() -> [Scale; 7] {
         [
-            Scale::new(1_000_000, 10, 100, "microseconds"),
+            Scale::new(MILLISECOND, 10, 100, "microseconds"),
             Scale::new(10_000_000, 10, 1, "milliseconds"),
             Scale::new(100_000_000, 10, 10, "milliseconds"),
             Scale::new(SECOND, 10, 100, "milliseconds"),
@@ -62,9 +65,10 @@ impl Scale {
         if all.length() > HOURLY {
             return Scale::suiting_days(stretches, duration);
         }
+        let from = all.from.saturating_sub(all.from % MILLISECOND);
         for scale in Scale::short() {
-            if all.length() <= scale.row {
-                return scale;
+            if all.to.saturating_sub(from) <= scale.row {
+                return Scale { from, ..scale };
             }
         }
         Scale::hours()
@@ -95,14 +99,16 @@ impl Scale {
 
     /// The number of the row that has the instant.
     pub(crate) fn row_of(self, at: u64) -> u64 {
-        at.checked_div(self.row).unwrap_or(0)
+        at.saturating_sub(self.from)
+            .checked_div(self.row)
+            .unwrap_or(0)
     }
 
     /// The extent of the rows from one to before another.
     pub(crate) fn extent(self, from: u64, to: u64) -> Extent {
         Extent {
-            from: from.saturating_mul(self.row),
-            to: to.saturating_mul(self.row),
+            from: from.saturating_mul(self.row).saturating_add(self.from),
+            to: to.saturating_mul(self.row).saturating_add(self.from),
         }
     }
 }

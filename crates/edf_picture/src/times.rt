@@ -2,6 +2,8 @@ use crate::numbers::thousands;
 use edf_time::{Instant, instant_text, write_seconds};
 use std::alloc::{AllocError, Global};
 
+pub(crate) const MILLISECOND: u64 = 1_000_000;
+
 pub(crate) const SECOND: u64 = 1_000_000_000;
 
 pub(crate) const MINUTE: u64 = 60_000_000_000;
