@@ -4,10 +4,11 @@
 //! - [`Sketch`]: gathers the annotations one by one, in bounded memory, and draws.
 //! - [`Title`]: the codes in the title; [`Stretch`]: a stretch of data records without a gap.
 //!
-//! A row shows an hour, and from 36 hours on a day or more, so that at most 40 rows have data. Rows
-//! that lie in one gap are one thin row. Runs are bars, gaps are hatched, and annotations are ticks
-//! above the bars, taller where there are more. A gap narrower than a pixel is a thin mark above its
-//! bar, and takes nothing from it.
+//! A row shows an hour, and from 36 hours on a day or more, so that at most 40 rows have data. A
+//! recording that ends within ten minutes of its start has one row, from the millisecond of its
+//! start on. Rows that lie in one gap are one thin row. Runs are bars, gaps are hatched, and
+//! annotations are ticks above the bars, taller where there are more. A gap narrower than a pixel
+//! is a thin mark above its bar, and takes nothing from it.
 //!
 //! Stages of sleep are a hypnogram above the rows. Texts `Sleep stage` with `W`, `N1`, `N2`, `N3`,
 //! `1`, `2`, `3`, `4`, `R` or `REM` name them; `3` and `4` are both N3, and `?` and `M` only end

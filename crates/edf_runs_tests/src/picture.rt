@@ -100,3 +100,18 @@ fn gaps_are_named(rt: HostRuntime) -> Result<(), Fail> {
     }
     Ok(())
 }
+
+#[test]
+fn ten_minutes_fill_the_width(rt: HostRuntime) -> Result<(), Fail> {
+    let alloc = rt.alloc();
+    let recorded = stretch(22 * HOUR + 3 * MINUTE, 600).ok_or("recorded")?;
+    let svg = drawn(alloc, &Sketch::new(alloc), b"P7", &[recorded])?;
+    for part in [
+        "x='112' y='16' width='864' height='12'><title>600 records,",
+        ">22:03</text>",
+    ] {
+        assert!(rt; svg.contains(part), "{part}");
+    }
+    assert!(rt; !svg.contains(">gap</text>"));
+    Ok(())
+}
