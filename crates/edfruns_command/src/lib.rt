@@ -15,6 +15,7 @@ mod picture_command;
 mod refusal;
 mod runs_command;
 mod split_command;
+mod texts;
 mod write_command;
 
 pub use arguments::{parse, read_command};

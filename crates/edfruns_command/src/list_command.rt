@@ -1,12 +1,17 @@
 //! `list`: a line for each run.
 
+ghost use Rattle.std.specs.Prelude.{◌≡◌, ◌⊎◌, ◌++◌, ℕ, List, MatchResult, replicate};
+ghost use Rattle.edf_program.specs.Output.{growth};
+ghost use Rattle.edfruns_command.specs.Inside.{OpensUpTo};
+ghost use Rattle.edfruns_command.specs.Listing.{HasRuns, HasFault, IsFileListed, OpensAgain};
+
 use crate::arguments::{file_value, value_in};
-use crate::lines::put_lines;
+use crate::lines::runs_text;
 use crate::refusal::refuse;
 use crate::runs_command::RunsCommand;
 use clap::{ArgMatches, Command};
 use edf_fragment::{FragmentFault, Output};
-use edf_program::{CommandFault, Inputs, Status};
+use edf_program::{CommandFault, Inputs, Status, tell_bytes, tell_memory};
 use edf_runs::{Listing, list_runs};
 use std::alloc::{AllocError, Global};
 
@@ -45,7 +50,15 @@ pub(crate) fn listing_of<I: Inputs>(
     alloc: Global,
     file: &str,
     inputs: &mut I,
-) -> Result<Listing, FragmentFault> {
+) -> Result<Listing, FragmentFault>
+    ensures answer { MatchResult result (HasRuns (I.bytes inputs.old file.now))
+        (λ fault. HasFault (I.bytes inputs.old file.now) fault
+        ⊎ (fault ≡ FragmentFault.Memory)) }
+    ensures opened { MatchResult result
+        (λ _. I.opened inputs.new ≡ I.opened inputs.old ++ replicate 1 file.now)
+        (λ _. OpensUpTo (I.opened inputs.old) (I.opened inputs.new) file.now 1) }
+    ensures same { (name : List ℕ) → I.bytes inputs.new name ≡ I.bytes inputs.old name }
+{
     match inputs.open(alloc, file) {
         Ok(mut reader) => list_runs(alloc, &mut reader),
         Err(_) => Err(FragmentFault::Memory),
@@ -59,14 +72,18 @@ pub(crate) fn list<I: Inputs, O: Output, F: Output>(
     inputs: &mut I,
     out: &mut O,
     err: &mut F,
-) -> Status {
+) -> Status
+    ensures listed { IsFileListed (growth O.Output out.old out.new)
+        (growth F.Output err.old err.new) (I.bytes inputs.old file.now) file.now result }
+    ensures opened { OpensAgain (I.opened inputs.old) (I.opened inputs.new) file.now 1 result }
+    ensures same { (name : List ℕ) → I.bytes inputs.new name ≡ I.bytes inputs.old name }
+{
     let listing = match listing_of(alloc, file, inputs) {
         Ok(listing) => listing,
         Err(fault) => return refuse(alloc, file, fault, err),
     };
-    if put_lines(alloc, None, &listing, out) {
-        Status::Done
-    } else {
-        Status::Trouble
+    match runs_text(alloc, &[], &listing) {
+        Ok(text) => tell_bytes(out, text.as_slice(), Status::Done),
+        Err(_) => tell_memory(err, file),
     }
 }

@@ -1,33 +1,30 @@
 //! The names of the files of runs.
 
+ghost use Rattle.std.specs.Prelude.{◌≡◌, ◌++◌, ◌-◌, IfOk, codes, decimal, length, map, replicate};
+ghost use Rattle.std.specs.Prelude.{string_bytes};
+ghost use Rattle.edfruns_command.specs.Naming.{padded, run_name, run_names};
+
 use std::alloc::{AllocError, Global};
 
-/// How many digits a number has.
-fn digits(number: usize) -> usize {
-    let mut digits = 1usize;
-    let mut left = number / 10;
-    while left > 0 {
-        digits = digits.saturating_add(1);
-        left /= 10;
+/// A number with zeros before it, so that it has `width` digits at least.
+fn padded(alloc: Global, width: usize, number: usize) -> Result<String, AllocError>
+    ensures { IfOk result (λ r. string_bytes r ≡ padded width number) }
+{
+    let digits = format!(in alloc; "{number}")?;
+    let mut text = String::new(alloc);
+    for _ in 0..width.saturating_sub(digits.len()) {
+        text.push('0')?;
     }
-    digits
+    text.push_str(digits.as_str())?;
+    Ok(text)
 }
 
-/// The name of the file of the run of that number: with zeros before the number, so that it has
-/// `width` digits.
-fn run_name(
-    alloc: Global,
-    prefix: &str,
-    number: usize,
-    width: usize,
-) -> Result<String, AllocError> {
-    let mut name = String::from_str(alloc, prefix)?;
-    name.push('-')?;
-    for _ in digits(number)..width {
-        name.push('0')?;
-    }
-    write!(name, "{number}.edf")?;
-    Ok(name)
+/// The name of the file of the run of that number.
+fn run_name(alloc: Global, prefix: &str, width: usize, number: usize) -> Result<String, AllocError>
+    ensures { IfOk result (λ r. string_bytes r ≡ run_name prefix.now width number) }
+{
+    let digits = padded(alloc, width, number)?;
+    format!(in alloc; "{prefix}-{digits}.edf")
 }
 
 /// The names of the files of so many runs: `PREFIX-1.edf` and so on, where all numbers have as many
@@ -36,11 +33,14 @@ pub(crate) fn run_names(
     alloc: Global,
     prefix: &str,
     count: usize,
-) -> Result<Vec<String>, AllocError> {
-    let width = digits(count);
+) -> Result<Vec<String>, AllocError>
+    ensures { IfOk result (λ r. map string_bytes r.items ≡ run_names prefix.now count) }
+{
+    let last = format!(in alloc; "{count}")?;
+    let width = last.len();
     let mut names = Vec::new(alloc);
     for at in 0..count {
-        names.push(run_name(alloc, prefix, at.saturating_add(1), width)?)?;
+        names.push(run_name(alloc, prefix, width, at + 1)?)?;
     }
     Ok(names)
 }

@@ -1,5 +1,13 @@
 //! The lines why a command is not done.
 
+ghost use Rattle.std.specs.Prelude.{◌≡◌, ◌≢◌, ◌⊎◌};
+ghost use Rattle.std.specs.Bool.{MatchBool};
+ghost use Rattle.edf_program.specs.Output.{growth, IsPut, IsWritten};
+ghost use Rattle.edf_program.specs.Text.{memory_line};
+ghost use Rattle.edfruns_command.specs.Lines.{file_refused_line, file_refused_status};
+ghost use Rattle.edfruns_command.specs.Lines.{no_run_line, there_line, left_line, undated_line};
+ghost use Rattle.edfruns_command.specs.Lines.{run_refused_line, run_refused_status};
+
 use edf_fragment::{FragmentFault, Output};
 use edf_program::{
     Status, fragment_fault_text, status_of_number, tell_memory, tell_parts, tell_refused,
@@ -8,13 +16,24 @@ use edf_runs::WriteFault;
 use itoa::Buffer;
 use std::alloc::Global;
 
+/// Whether what answers this status was written whole, where `Done` was asked for.
+fn is_told(status: Status) -> bool
+    ensures { MatchBool result (status ≡ Status.Done) (status ≢ Status.Done) }
+{
+    matches!(status, Status::Done)
+}
+
 /// Prints why a file is refused, or can't be read.
 pub(crate) fn refuse<F: Output>(
     alloc: Global,
     file: &str,
     fault: FragmentFault,
     err: &mut F,
-) -> Status {
+) -> Status
+    ensures { let w = growth F.Output err.old err.new in
+        IsWritten w (file_refused_line file.now fault) (file_refused_status fault) result
+        ⊎ IsWritten w (memory_line file.now) Status.Trouble result }
+{
     let status = status_of_number(fault.number());
     match fragment_fault_text(alloc, &fault) {
         Ok(text) => {
@@ -26,7 +45,9 @@ pub(crate) fn refuse<F: Output>(
 }
 
 /// Prints that a run starts where no file without a date can. Printing takes no memory.
-fn refuse_undated<F: Output>(err: &mut F, number: usize) -> Status {
+fn tell_undated<F: Output>(err: &mut F, number: usize, status: Status) -> Status
+    ensures { IsWritten (growth F.Output err.old err.new) (undated_line number) status result }
+{
     let mut buffer = Buffer::new();
     let digits = buffer.format(number);
     let parts = [
@@ -34,31 +55,94 @@ fn refuse_undated<F: Output>(err: &mut F, number: usize) -> Status {
         digits.as_bytes(),
         b" starts after 2084, which a file without a date can't tell\n",
     ];
-    tell_parts(err, &parts, Status::Refused)
+    tell_parts(err, &parts, status)
 }
 
-/// Prints why the run of that number is not written. Printing takes no memory.
+/// The status where a run is not written.
+pub(crate) fn run_refused_status(fault: WriteFault) -> Status
+    ensures { result ≡ run_refused_status fault }
+{
+    match fault {
+        WriteFault::Undated => Status::Refused,
+        _ => Status::Trouble,
+    }
+}
+
+/// Prints why the run of that number is not written, and answers a status. Printing takes no
+/// memory.
+fn tell_run_refused<F: Output>(
+    file: &str,
+    number: usize,
+    fault: WriteFault,
+    err: &mut F,
+    status: Status,
+) -> Status
+    ensures { IsWritten (growth F.Output err.old err.new) (run_refused_line file.now number fault)
+        status result }
+{
+    let read = FragmentFault::Read;
+    let memory = FragmentFault::Memory;
+    match fault {
+        WriteFault::Undated => tell_undated(err, number, status),
+        WriteFault::Changed | WriteFault::Read => {
+            tell_refused(err, file, read.number(), read.name(), status)
+        }
+        WriteFault::Memory => tell_refused(err, file, memory.number(), memory.name(), status),
+        WriteFault::Write => tell_refused(err, file, 43, "Write", status),
+    }
+}
+
+/// Prints why the run of that number is not written, and answers the status of that. Printing takes
+/// no memory.
 pub(crate) fn refuse_run<F: Output>(
     file: &str,
     number: usize,
     fault: WriteFault,
     err: &mut F,
-) -> Status {
-    let read = FragmentFault::Read;
-    match fault {
-        WriteFault::Undated => refuse_undated(err, number),
-        WriteFault::Changed | WriteFault::Read => {
-            tell_refused(err, file, read.number(), read.name(), Status::Trouble)
-        }
-        WriteFault::Memory => tell_memory(err, file),
-        WriteFault::Write => tell_refused(err, file, 43, "Write", Status::Trouble),
-    }
+) -> Status
+    ensures { IsWritten (growth F.Output err.old err.new) (run_refused_line file.now number fault)
+        (run_refused_status fault) result }
+{
+    tell_run_refused(file, number, fault, err, run_refused_status(fault))
+}
+
+/// Prints why the run of that number is not written, and answers whether that was printed whole.
+pub(crate) fn is_run_refusal_told<F: Output>(
+    file: &str,
+    number: usize,
+    fault: WriteFault,
+    err: &mut F,
+) -> bool
+    ensures { IsPut (growth F.Output err.old err.new) (run_refused_line file.now number fault)
+        result }
+{
+    is_told(tell_run_refused(file, number, fault, err, Status::Done))
 }
 
 /// Prints that there is no run of that number. Printing takes no memory.
-pub(crate) fn tell_no_run<F: Output>(err: &mut F, number: u32) -> Status {
+pub(crate) fn tell_no_run<F: Output>(err: &mut F, number: u32) -> Status
+    ensures { IsWritten (growth F.Output err.old err.new) (no_run_line number) Status.Refused
+        result }
+{
     let mut buffer = Buffer::new();
     let digits = buffer.format(number);
     let parts = [b"no run ".as_slice(), digits.as_bytes(), b"\n"];
     tell_parts(err, &parts, Status::Refused)
+}
+
+/// Prints that there is something of the name that a file was to get.
+pub(crate) fn tell_there<F: Output>(err: &mut F, name: &str) -> Status
+    ensures { IsWritten (growth F.Output err.old err.new) (there_line name.now) Status.Refused
+        result }
+{
+    let parts = [name.as_bytes(), b" is there already; nothing was written\n"];
+    tell_parts(err, &parts, Status::Refused)
+}
+
+/// Prints that a file could not be removed, and answers whether that was printed whole.
+pub(crate) fn is_left_told<F: Output>(err: &mut F, name: &str) -> bool
+    ensures { IsPut (growth F.Output err.old err.new) (left_line name.now) result }
+{
+    let parts = [name.as_bytes(), b" could not be removed\n".as_slice()];
+    is_told(tell_parts(err, &parts, Status::Done))
 }

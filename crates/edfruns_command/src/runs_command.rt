@@ -52,9 +52,8 @@ impl RunsCommand {
 
 /// Runs a command.
 ///
-/// Lists, files and pictures go to `out`, and why something is not done to `err`. A line that can't
-/// be written, for a failed write or since memory ran out, is trouble, and no line follows it; a
-/// part of a line goes out only where a write failed. `Split` leaves all its files, where it is
+/// Lists, files and pictures go to `out`, and why something is not done to `err`. A list goes out
+/// whole, or a front of it where a write failed, or nothing where memory ran out. `Split` leaves all its files, where it is
 /// done, and else none.
 pub fn run_runs<I: Inputs, P: Outputs, O: Output, F: Output>(
     alloc: Global,

@@ -1,14 +1,14 @@
 //! `split`: a file for each run.
 
 use crate::arguments::{refuse_stream, required_value, twice_read_file_value, value_in};
-use crate::lines::put_lines;
+use crate::lines::runs_text;
 use crate::list_command::listing_of;
 use crate::naming::run_names;
-use crate::refusal::{refuse, refuse_run};
+use crate::refusal::{is_left_told, refuse, refuse_run, tell_there};
 use crate::runs_command::RunsCommand;
 use clap::{ArgMatches, Command};
-use edf_fragment::{FragmentFault, Input, OpenFragment, Output};
-use edf_program::{CommandFault, Inputs, Status, tell_memory, tell_parts};
+use edf_fragment::{FragmentFault, Input, OpenFragment, Output, send};
+use edf_program::{CommandFault, Inputs, Status, tell_memory};
 use edf_runs::{Listing, WriteFault, reopen, write_run};
 use std::alloc::{AllocError, Global};
 use std::io;
@@ -131,11 +131,27 @@ fn remove_made<P: Outputs, F: Output>(
     let mut answer = status;
     for name in names.iter().take(made) {
         if !outputs.remove(name.as_str()) {
-            let parts = [name.as_bytes(), b" could not be removed\n".as_slice()];
-            answer = tell_parts(err, &parts, Status::Trouble);
+            is_left_told(err, name.as_str());
+            answer = Status::Trouble;
         }
     }
     answer
+}
+
+/// Writes a line for each file that was made, and answers how that went.
+fn tell_made<O: Output, F: Output>(
+    alloc: Global,
+    file: &str,
+    listing: &Listing,
+    names: &[String],
+    out: &mut O,
+    err: &mut F,
+) -> Status {
+    match runs_text(alloc, names, listing) {
+        Ok(text) if send(out, text.as_slice()) => Status::Done,
+        Ok(_) => Status::Trouble,
+        Err(_) => tell_memory(err, file),
+    }
 }
 
 /// Writes the files of the listed runs, and a line for each once all are there. After a fault none
@@ -152,10 +168,12 @@ fn split_listed<I: Inputs, P: Outputs, O: Output, F: Output>(
 ) -> Status {
     let mut made = 0usize;
     let status = match write_files(alloc, file, listing, names, inputs, outputs, &mut made) {
-        Ok(()) if put_lines(alloc, Some(names), listing, out) => return Status::Done,
-        Ok(()) => Status::Trouble,
+        Ok(()) => tell_made(alloc, file, listing, names, out, err),
         Err(fault) => refuse_run(file, made, fault, err),
     };
+    if let Status::Done = status {
+        return Status::Done;
+    }
     remove_made(names, made, outputs, err, status)
 }
 
@@ -178,8 +196,7 @@ pub(crate) fn split<I: Inputs, P: Outputs, O: Output, F: Output>(
     };
     for name in &names {
         if outputs.is_there(name.as_str()) {
-            let parts = [name.as_bytes(), b" is there already; nothing was written\n"];
-            return tell_parts(err, &parts, Status::Refused);
+            return tell_there(err, name.as_str());
         }
     }
     split_listed(alloc, file, &listing, &names, inputs, outputs, out, err)

@@ -1,11 +1,19 @@
 //! `write`: the file of one run.
 
+ghost use Rattle.std.specs.Prelude.{◌≡◌, ◌++◌, ◌-◌, ℕ, List, MatchResult, replicate, take};
+ghost use Rattle.edf_fragment.specs.Reading.{at_first};
+ghost use Rattle.edf_program.specs.Output.{growth};
+ghost use Rattle.edfruns_command.specs.Inside.{OpensUpTo};
+ghost use Rattle.edfruns_command.specs.Listing.{OpensAgain};
+ghost use Rattle.edfruns_command.specs.Writing.{IsRunOut, SkipsRuns, StopsSkipping};
+ghost use Rattle.edfruns_command.specs.Writing.{WritesAgain, StopsAgain};
+
 use crate::arguments::{refuse_stream, required_value, twice_read_file_value, value_in};
 use crate::list_command::listing_of;
 use crate::refusal::{refuse, refuse_run, tell_no_run};
 use crate::runs_command::RunsCommand;
 use clap::{ArgMatches, Command};
-use edf_fragment::Output;
+use edf_fragment::{Input, OpenFragment, Output};
 use edf_program::{CommandFault, Inputs, Status, refuse_value};
 use edf_runs::{Listing, Run, WriteFault, reopen, skip_run, write_run};
 use std::alloc::{AllocError, Global};
@@ -65,23 +73,64 @@ pub(crate) fn read_write(
     Ok(RunsCommand::Write { file, number })
 }
 
-/// Reads a file again, past the `earlier` runs before this one, and writes the file of this one.
+/// Reads past runs of a file that was opened again.
+fn skip_runs<R: Input>(
+    fragment: &mut OpenFragment,
+    input: &mut R,
+    runs: &[Run],
+) -> Result<(), WriteFault>
+    requires first { fragment.old.progress ≡ at_first }
+    ensures header { fragment.new.header ≡ fragment.old.header }
+    ensures answer { MatchResult result
+        (λ _. SkipsRuns fragment.old.header fragment.new.progress (R.remaining input.old)
+        (R.remaining input.new) runs.now)
+        (StopsSkipping fragment.old.header (R.remaining input.old) (R.remaining input.new)
+        runs.now) }
+{
+    for run in runs {
+        skip_run(fragment, input, run)?;
+    }
+    Ok(())
+}
+
+/// The runs before the one of that number, from 1.
+fn runs_before(runs: &[Run], number: u32) -> &[Run]
+    ensures { result.now ≡ take (number - 1) runs.now }
+{
+    let earlier = (number as usize).saturating_sub(1).min(runs.len());
+    &runs[..earlier]
+}
+
+/// Reads a file again, past the runs before the one of that number, and writes the file of this
+/// one.
 fn write_again<I: Inputs, O: Output>(
     alloc: Global,
     file: &str,
     listing: &Listing,
-    earlier: usize,
+    number: u32,
     run: &Run,
     inputs: &mut I,
     out: &mut O,
-) -> Result<(), WriteFault> {
+) -> Result<(), WriteFault>
+    ensures answer { MatchResult result
+        (λ _. WritesAgain (growth O.Output out.old out.new) (I.bytes inputs.old file.now)
+        listing.now number run.now)
+        (StopsAgain (growth O.Output out.old out.new) (I.bytes inputs.old file.now)
+        listing.now number run.now) }
+    ensures opened { MatchResult result
+        (λ _. I.opened inputs.new ≡ I.opened inputs.old ++ replicate 1 file.now)
+        (λ _. OpensUpTo (I.opened inputs.old) (I.opened inputs.new) file.now 1) }
+    ensures same { (name : List ℕ) → I.bytes inputs.new name ≡ I.bytes inputs.old name }
+{
     let Ok(mut reader) = inputs.open(alloc, file) else {
         return Err(WriteFault::Memory);
     };
     let mut fragment = reopen(alloc, &mut reader, listing)?;
-    for run_before in listing.runs.iter().take(earlier) {
-        skip_run(&mut fragment, &mut reader, run_before)?;
-    }
+    skip_runs(
+        &mut fragment,
+        &mut reader,
+        runs_before(&listing.runs, number),
+    )?;
     write_run(alloc, &mut fragment, &mut reader, run, out)?;
     Ok(())
 }
@@ -94,16 +143,21 @@ pub(crate) fn write<I: Inputs, O: Output, F: Output>(
     inputs: &mut I,
     out: &mut O,
     err: &mut F,
-) -> Status {
+) -> Status
+    ensures written { IsRunOut (growth O.Output out.old out.new)
+        (growth F.Output err.old err.new) (I.bytes inputs.old file.now) file.now number result }
+    ensures opened { OpensAgain (I.opened inputs.old) (I.opened inputs.new) file.now 2 result }
+    ensures same { (name : List ℕ) → I.bytes inputs.new name ≡ I.bytes inputs.old name }
+{
     let listing = match listing_of(alloc, file, inputs) {
         Ok(listing) => listing,
         Err(fault) => return refuse(alloc, file, fault, err),
     };
-    let Some(run) = listing.run(number) else {
-        return tell_no_run(err, number);
+    let run = match listing.run(number) {
+        Some(run) => run,
+        None => return tell_no_run(err, number),
     };
-    let earlier = (number as usize).saturating_sub(1);
-    match write_again(alloc, file, &listing, earlier, run, inputs, out) {
+    match write_again(alloc, file, &listing, number, run, inputs, out) {
         Ok(()) => Status::Done,
         Err(fault) => refuse_run(file, number as usize, fault, err),
     }

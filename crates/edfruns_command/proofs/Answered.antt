@@ -1,0 +1,106 @@
+-- What is answered where something is told.
+use Rattle.std.proofs.Common.{◌≡◌, ◌≢◌, ◌⊎◌, ℕ, List, [], Bool, true, false, inl, inr, refl, subst, suc, ◌++◌, ◌∷◌}
+use Rattle.std.proofs.Common.{ap, ◌∙◌, sym, arith, append_assoc, replicate}
+use Rattle.std.specs.Prelude.{Option}
+use Rattle.std.specs.Bool.{MatchBool}
+use Rattle.edf_fragment.specs.declared.fault.FragmentFault.{FragmentFault}
+use Rattle.edf_fragment.specs.declared.fault.FragmentFault.TheVariants.{Memory}
+use Rattle.edf_program.specs.Output.{Growth, Gets, IsPut, IsWritten}
+use Rattle.edf_program.specs.Text.{memory_line}
+use Rattle.edf_program.specs.declared.status.Status.{Status}
+use Rattle.edf_program.specs.declared.status.Status.TheVariants.{Done, Refused, Trouble}
+use Rattle.edf_runs.specs.declared.fault.WriteFault.{WriteFault}
+use Rattle.edf_runs.specs.declared.fault.WriteFault.TheVariants.{Undated, Changed, Read, Write}
+use Rattle.edf_runs.specs.declared.fault.WriteFault.TheVariants.{Memory as NoMemory}
+use Rattle.edf_runs.specs.Written.{CountsFault}
+use Rattle.edfruns_command.specs.Inside.{OpensUpTo}
+use Rattle.edfruns_command.specs.Writing.{CountsWrite}
+use Rattle.edfruns_command.specs.Lines.{file_refused_line, file_refused_status}
+use Rattle.edfruns_command.specs.Lines.{run_refused_status}
+use Rattle.edfruns_command.specs.Listing.{HasFault, RefusesFile, LacksMemory, OpensAgain}
+
+-- what was asked for was `Done`, and the answer says whether it came
+pub put-told : (w : Growth) (bytes : List ℕ) (status : Status) (told : Bool) →
+    IsWritten w bytes Done status → MatchBool told (status ≡ Done) (status ≢ Done) →
+    IsPut w bytes told
+put-told w bytes status true (inl whole) is = whole.0
+put-told w bytes status true (inr front) is = absurd (let a = front.1 in let b = is in cc)
+put-told w bytes status false (inl whole) is = absurd (is whole.1)
+put-told w bytes status false (inr front) is = front.0
+
+-- a file was refused, or there was no memory for it
+pub refused : (out err : Growth) (bytes : Option (List ℕ)) (name : List ℕ) (fault : FragmentFault)
+    (status : Status) → Gets out [] → HasFault bytes fault ⊎ (fault ≡ Memory) →
+    IsWritten err (file_refused_line name fault) (file_refused_status fault) status
+    ⊎ IsWritten err (memory_line name) Trouble status →
+    RefusesFile out err bytes name status ⊎ LacksMemory out err bytes name status
+refused out err bytes name fault status nothing (inl met) (inl said) =
+    inl (record { fault = fault; met = met; said = (nothing, said) })
+refused out err bytes name fault status nothing (inr e) (inl said) = inr (
+  nothing,
+  subst (λ (f : FragmentFault). IsWritten err (file_refused_line name f) (file_refused_status f)
+      status) e said,
+)
+refused out err bytes name fault status nothing met (inr said) = inr (nothing, said)
+
+-- ---- how often a name was opened
+
+pub opened-once : (before after : List (List ℕ)) (name : List ℕ) → after ≡ before ++ (name ∷ []) →
+    OpensUpTo before after name 1
+opened-once before after name is = record { times = 1; few = omega arith; opened = is }
+
+pub opened-again : (before mid after : List (List ℕ)) (name : List ℕ) (status : Status) →
+    mid ≡ before ++ (name ∷ []) → OpensUpTo mid after name 1 → status ≢ Done →
+    OpensAgain before after name 2 status
+opened-again before mid after name status first then undone = record {
+  times = suc then.times;
+  few = omega (arith, then.few);
+  opened = then.opened ∙ ap (λ (l : List (List ℕ)). l ++ replicate then.times name) first
+      ∙ append_assoc before (name ∷ []) (replicate then.times name);
+  all = λ done. absurd (undone done);
+}
+
+pub opened-twice : (before mid after : List (List ℕ)) (name : List ℕ) (status : Status) →
+    mid ≡ before ++ (name ∷ []) → after ≡ mid ++ (name ∷ []) →
+    OpensAgain before after name 2 status
+opened-twice before mid after name status first then = record {
+  times = 2;
+  few = omega arith;
+  opened = then ∙ ap (λ (l : List (List ℕ)). l ++ (name ∷ [])) first
+      ∙ append_assoc before (name ∷ []) (name ∷ []);
+  all = λ done. refl;
+}
+
+pub opened-first : (before after : List (List ℕ)) (name : List ℕ) (status : Status) →
+    after ≡ before ++ (name ∷ []) → status ≢ Done → OpensAgain before after name 2 status
+opened-first before after name status first undone =
+    record { times = 1; few = omega arith; opened = first; all = λ done. absurd (undone done) }
+
+-- ---- a refusal is no success
+
+pub refused-undone : (w : Growth) (bytes : List ℕ) (status : Status) →
+    IsWritten w bytes Refused status → status ≢ Done
+refused-undone w bytes status (inl whole) done = let a = whole.1 in cc
+refused-undone w bytes status (inr front) done = let a = front.1 in cc
+
+wanted-undone : (why : WriteFault) → run_refused_status why ≢ Done
+wanted-undone Undated done = cc
+wanted-undone Changed done = cc
+wanted-undone Read done = cc
+wanted-undone NoMemory done = cc
+wanted-undone Write done = cc
+
+pub run-undone : (w : Growth) (bytes : List ℕ) (why : WriteFault) (status : Status) →
+    IsWritten w bytes (run_refused_status why) status → status ≢ Done
+run-undone w bytes why status (inl whole) done = wanted-undone why (sym whole.1 ∙ done)
+run-undone w bytes why status (inr front) done = let a = front.1 in cc
+
+-- ---- failed writes
+
+pub counts-write : (w : Growth) (old new : ℕ) (why : WriteFault) →
+    CountsFault old new w.failed_before w.failed_after why → CountsWrite w why
+counts-write w old new Undated counts = counts.1
+counts-write w old new Changed counts = counts.1
+counts-write w old new Read counts = counts.1
+counts-write w old new NoMemory counts = counts.1
+counts-write w old new Write counts = counts.1

@@ -1,0 +1,3 @@
+mod RunTexts
+mod Answered
+mod Rereading

@@ -1,0 +1,5 @@
+pub mod Naming
+pub mod Lines
+pub mod Listing
+pub mod Writing
+pub mod Inside

@@ -1,0 +1,101 @@
+-- The lines that the program writes: functions of names, runs and faults. A line ends with byte 10.
+use Rattle.std.specs.Prelude.{ℕ, ◌+◌, ◌-◌, ◌<◌, List, [], ◌∷◌, ◌++◌, length, codes, decimal, Option}
+use Rattle.std.specs.Prelude.{Some, None, slice_get}
+use Rattle.edf_time.specs.Civil.{window, IsInstantText}
+use Rattle.edf_time.specs.Decimal.{short}
+use Rattle.edf_field.specs.Number.{duration_of}
+use Rattle.edf_fragment.specs.Fault.{fragment_fault_number, fragment_fault_name}
+use Rattle.edf_fragment.specs.declared.fault.FragmentFault.{FragmentFault}
+use Rattle.edf_fragment.specs.declared.fault.FragmentFault.TheVariants as fragment
+use Rattle.edf_program.specs.Status.{status_of_number}
+use Rattle.edf_program.specs.Text.{fault_text, fragment_details, refused_line, memory_line}
+use Rattle.edf_program.specs.declared.status.Status.{Status}
+use Rattle.edf_program.specs.declared.status.Status.TheVariants.{Refused, Trouble}
+use Rattle.edf_runs.specs.declared.run.Run.{Run}
+use Rattle.edf_runs.specs.declared.run_list.Listing.{Listing}
+use Rattle.edf_runs.specs.declared.fault.WriteFault.{WriteFault}
+use Rattle.edf_runs.specs.declared.fault.WriteFault.TheVariants as run
+use Rattle.edfruns_command.specs.Naming.{run_name}
+
+-- how instants are written: each of the window by its text, of which it has one by a law
+abbrev pub IsSpelling : (ℕ → List ℕ) → Type 0
+IsSpelling spell = (instant : ℕ) → instant < window → IsInstantText (spell instant) instant
+
+-- ---- lines of runs, whose data records last d nanoseconds
+
+-- where the last data record of a run ends
+abbrev pub end_of : ℕ → Run → ℕ
+end_of d r = r.last + d
+
+-- ` gap=S`: how much is missing before the next run, where there is one
+abbrev pub gap_text : ℕ → Run → Option Run → List ℕ
+gap_text d r None = []
+gap_text d r (Some next) = codes " gap=" ++ short (next.first - end_of d r)
+
+-- `N records=K first=I seconds=S gap=S`
+abbrev pub run_line : (ℕ → List ℕ) → ℕ → ℕ → Run → Option Run → List ℕ
+run_line spell d number r next = decimal number ++ (codes " records=" ++ (decimal r.records
+    ++ (codes " first=" ++ (spell r.first
+    ++ (codes " seconds=" ++ (short (end_of d r - r.first)
+    ++ (gap_text d r next ++ (10 ∷ []))))))))
+
+-- a line a run, in time order, each after the label of its number, which counts on from this one
+abbrev pub run_lines : (ℕ → List ℕ) → ℕ → (ℕ → List ℕ) → ℕ → List Run → List ℕ
+run_lines spell d label number [] = []
+run_lines spell d label number (r ∷ rs) = label number ++ (run_line spell d number r (slice_get rs 0)
+    ++ run_lines spell d label (number + 1) rs)
+
+-- of `list`: without a label
+abbrev pub list_lines : (ℕ → List ℕ) → Listing → List ℕ
+list_lines spell listing =
+    run_lines spell (duration_of listing.identity.duration) (λ number. []) 1 listing.runs.items
+
+-- of `split`: each after the name of its file and a space
+abbrev pub split_lines : (ℕ → List ℕ) → List ℕ → Listing → List ℕ
+split_lines spell prefix listing =
+    let width = length (decimal (length listing.runs.items)) in
+    run_lines spell (duration_of listing.identity.duration)
+    (λ number. run_name prefix width number ++ codes " ") 1 listing.runs.items
+
+-- ---- why something is not done
+
+-- `FILE refused T`: why a file is not read
+abbrev pub file_refused_line : List ℕ → FragmentFault → List ℕ
+file_refused_line name fault = name ++ (codes " refused " ++ fault_text
+    (fragment_fault_number fault) (fragment_fault_name fault)
+    (fragment_details fault ++ (10 ∷ [])))
+
+abbrev pub file_refused_status : FragmentFault → Status
+file_refused_status fault = status_of_number (fragment_fault_number fault)
+
+abbrev pub no_run_line : ℕ → List ℕ
+no_run_line number = codes "no run " ++ (decimal number ++ (10 ∷ []))
+
+abbrev pub undated_line : ℕ → List ℕ
+undated_line number = codes "run " ++ (decimal number
+    ++ codes " starts after 2084, which a file without a date can't tell\n")
+
+abbrev pub unread_line : List ℕ → List ℕ
+unread_line name = refused_line name (fragment_fault_number fragment.Read)
+    (fragment_fault_name fragment.Read)
+
+abbrev pub unwritten_line : List ℕ → List ℕ
+unwritten_line name = refused_line name 43 (codes "Write")
+
+-- why the run of this number is not written; what changed between two readings can't be read again
+abbrev pub run_refused_line : List ℕ → ℕ → WriteFault → List ℕ
+run_refused_line name number run.Undated = undated_line number
+run_refused_line name number run.Changed = unread_line name
+run_refused_line name number run.Read = unread_line name
+run_refused_line name number run.Memory = memory_line name
+run_refused_line name number run.Write = unwritten_line name
+
+abbrev pub run_refused_status : WriteFault → Status
+run_refused_status run.Undated = Refused
+run_refused_status fault = Trouble
+
+abbrev pub there_line : List ℕ → List ℕ
+there_line name = name ++ codes " is there already; nothing was written\n"
+
+abbrev pub left_line : List ℕ → List ℕ
+left_line name = name ++ codes " could not be removed\n"
