@@ -1,5 +1,8 @@
 //! The commands: what each asks for, how often it reads its file, and its work.
 
+ghost use Rattle.edf_program.specs.Output.{growth};
+ghost use Rattle.edfruns_command.specs.Run.{IsDone, HasOpened, meaning};
+
 use crate::list_command::list;
 use crate::picture_command::picture;
 use crate::split_command::{Outputs, split};
@@ -53,8 +56,9 @@ impl RunsCommand {
 /// Runs a command.
 ///
 /// Lists, files and pictures go to `out`, and why something is not done to `err`. A list goes out
-/// whole, or a front of it where a write failed, or nothing where memory ran out. `Split` leaves all its files, where it is
-/// done, and else none.
+/// whole, or a front of it where a write failed, or nothing where memory ran out. The clauses say
+/// what `List` and `Write` do. Of `Split` and `Picture` they say nothing; it is tested that `Split`
+/// leaves all its files where it is done, and else none.
 pub fn run_runs<I: Inputs, P: Outputs, O: Output, F: Output>(
     alloc: Global,
     command: &RunsCommand,
@@ -62,7 +66,12 @@ pub fn run_runs<I: Inputs, P: Outputs, O: Output, F: Output>(
     outputs: &mut P,
     out: &mut O,
     err: &mut F,
-) -> Status {
+) -> Status
+    ensures done { IsDone (I.bytes inputs.old) (growth O.Output out.old out.new)
+        (growth F.Output err.old err.new) (meaning command.now) result }
+    ensures opened { HasOpened
+        (I.opened inputs.old) (I.opened inputs.new) (meaning command.now) result }
+{
     match command {
         RunsCommand::List { file } => list(alloc, file.as_str(), inputs, out, err),
         RunsCommand::Write { file, number } => {

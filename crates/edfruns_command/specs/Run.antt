@@ -1,0 +1,37 @@
+-- What a command does: what it writes, the status that it answers, and which files it opens.
+use Rattle.std.specs.Prelude.{◌≡◌, ℕ, List, Option, string_bytes}
+use Rattle.edf_program.specs.Output.{Growth}
+use Rattle.edf_program.specs.declared.status.Status.{Status}
+use Rattle.edfruns_command.specs.Listing.{IsFileListed, OpensAgain}
+use Rattle.edfruns_command.specs.Writing.{IsRunOut}
+use Rattle.edfruns_command.specs.declared.runs_command.RunsCommand.{RunsCommand}
+use Rattle.edfruns_command.specs.declared.runs_command.RunsCommand.TheVariants as parsed
+
+-- what can be asked for, with the values: the file's text, the run's number, the prefix's text
+pub data Asked : Type 0 where
+  list : List ℕ → Asked
+  write : List ℕ → ℕ → Asked
+  split : List ℕ → List ℕ → Asked
+  picture : List ℕ → Asked
+
+-- what a command asks for
+abbrev pub meaning : RunsCommand → Asked
+meaning (parsed.List file) = list (string_bytes file)
+meaning (parsed.Write file number) = write (string_bytes file) number
+meaning (parsed.Split file prefix) = split (string_bytes file) (string_bytes prefix)
+meaning (parsed.Picture file) = picture (string_bytes file)
+
+-- by the bytes that names stand for and by the two writers; of `split` and `picture` nothing is
+-- said here
+abbrev pub IsDone : (List ℕ → Option (List ℕ)) → Growth → Growth → Asked → Status → Type 0
+IsDone bytes out err (list file) status = IsFileListed out err (bytes file) file status
+IsDone bytes out err (write file number) status = IsRunOut out err (bytes file) file number status
+IsDone bytes out err (split file prefix) status = Unit {0}
+IsDone bytes out err (picture file) status = Unit {0}
+
+-- `list` reads its file once, and `write` twice, where they are done
+abbrev pub HasOpened : List (List ℕ) → List (List ℕ) → Asked → Status → Type 0
+HasOpened before after (list file) status = OpensAgain before after file 1 status
+HasOpened before after (write file number) status = OpensAgain before after file 2 status
+HasOpened before after (split file prefix) status = Unit {0}
+HasOpened before after (picture file) status = Unit {0}
