@@ -1,5 +1,5 @@
 -- What `write` does: what it writes, and the status that it answers.
-use Rattle.std.specs.Prelude.{◌≡◌, ◌⊎◌, ℕ, ◌-◌, List, [], ◌∷◌, ◌++◌, length, take, Option, Some}
+use Rattle.std.specs.Prelude.{◌≡◌, ◌≢◌, ◌⊎◌, ℕ, ◌-◌, List, [], ◌∷◌, ◌++◌, length, take, Option, Some}
 use Rattle.std.specs.Prelude.{None}
 use Rattle.std.specs.List.{flat_map, AllZip}
 use Rattle.edf_field.specs.Number.{duration_of}
@@ -11,7 +11,7 @@ use Rattle.edf_fragment.specs.declared.advance.Progress.{Progress}
 use Rattle.edf_program.specs.Output.{Growth, Gets, IsWritten, Explains}
 use Rattle.edf_program.specs.declared.status.Status.{Status}
 use Rattle.edf_program.specs.declared.status.Status.TheVariants.{Done, Refused}
-use Rattle.edf_runs.specs.Again.{IsNotReopened, StopsBefore}
+use Rattle.edf_runs.specs.Again.{IsNotReopened, StopsBefore, ComesNext}
 use Rattle.edf_runs.specs.Read.{ReadsOn}
 use Rattle.edf_runs.specs.Runs.{StartFrom, numbered}
 use Rattle.edf_runs.specs.Written.{IsRunWritten, IsNotWritten}
@@ -86,7 +86,7 @@ module _ (out : Growth) (bytes : Option (List ℕ)) (listing : Listing) (number 
           × ReadsAgain bytes start listing layout
           × StopsSkipping layout start rest (take (number - 1) listing.runs.items) why))
 
-    -- a front of the run's file went out, or nothing
+    -- a front of the run's file went out, or nothing; and nothing changed where the run comes next
     pub record StopsInFile (why : WriteFault) : Type 0 where
       pub layout : Layout
       pub start : Option (List ℕ)
@@ -97,6 +97,7 @@ module _ (out : Growth) (bytes : Option (List ℕ)) (listing : Listing) (number 
       pub to : Progress
       pub rest : Option (List ℕ)
       pub unwritten : IsNotWritten layout from to left rest out.before out.after run why
+      pub unchanged : ComesNext layout from left run → why ≢ fault.Changed
       pub counted : CountsWrite out why
 
     abbrev pub StopsAgain : WriteFault → Type 0

@@ -1,12 +1,14 @@
-use Rattle.std.proofs.Common.{◌≡◌, ◌∙◌, ◌-◌, List, ℕ, subst, ap, inl, inr, take}
-use Rattle.std.specs.Prelude.{Option}
+use Rattle.std.proofs.Common.{◌≡◌, ◌∙◌, ◌-◌, List, ℕ, subst, sym, ap, inl, inr, take}
+use Rattle.std.specs.Prelude.{Option, Err}
 use Rattle.std.proofs.lemmas.Result.{err_from_is_err_and}
 use Rattle.edf_header.specs.Header.{Layout}
 use Rattle.edf_fragment.specs.Reading.{ReadsHeader}
 use Rattle.edf_program.specs.Output.{growth}
 use Rattle.edf_program.proofs.Puts.{nothing-gets}
 use Rattle.edf_runs.specs.Written.{IsNotWritten}
+use Rattle.edf_runs.specs.Again.{ComesNext}
 use Rattle.edf_runs.specs.declared.run.Run.{Run}
+use Rattle.edf_runs.specs.declared.fault.WriteFault.{WriteFault}
 use Rattle.edfruns_command.specs.Writing.{SkipsRuns, StopsSkipping, ReadsAgain}
 use Rattle.edfruns_command.proofs.Answered.{opened-once, counts-write}
 use Rattle.edfruns_command.proofs.write_command.write_again.Goals as goal
@@ -91,6 +93,11 @@ returns-in_err-write_run-clause-answer g c =
       unwritten = subst (λ (x : Layout). IsNotWritten x from to left rest before after
           c.args.run.now why) c.in_ok-skip_runs.ensures.header
           c.in_err-write_run.ensures.refused;
+      unchanged = λ next. λ changed.
+          c.in_err-write_run.ensures.reread.unchanged
+          (subst (λ (x : Layout). ComesNext x from left c.args.run.now)
+          (sym c.in_ok-skip_runs.ensures.header) next)
+          (ap (λ (w : WriteFault). Err w) changed);
       counted = counts-write (growth g.O.Output c.args.out.now c.write_run.new.out)
           (g.I.Reader.Input.failures c.skip_runs.new.input)
           (g.I.Reader.Input.failures c.write_run.new.input) why
