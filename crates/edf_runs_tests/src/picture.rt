@@ -54,7 +54,8 @@ fn a_night_is_drawn(rt: HostRuntime) -> Result<(), Fail> {
     for part in [
         "<title id='edf-title'>Patient P&lt;7&amp;&quot;&#39;&gt;, investigation N1</title>",
         ">1985-01-01 22:00:00 to 1985-01-02 06:00:00<",
-        ">28,755 records of 1 s, 2 runs, 99.8 % of 8 h 00 min; missing 45 s in 1 gap, longest 45 s<",
+        ">28,755 records of 1 s, 2 runs, 99.8 % of 8 h 00 min; \
+            missing 45 s in 1 gap, longest 45 s<",
         ">3 annotations, 2 of them sleep stages; 1 outside the recording's time, not drawn<",
         "<title>gap of 45 s, 1985-01-02 02:00:00 to 1985-01-02 02:00:45</title>",
         "<title>14,400 records, 1985-01-01 22:00:00 to 1985-01-02 02:00:00</title>",

@@ -42,8 +42,8 @@ run_line spell d number r next = decimal number ++ (codes " records=" ++ (decima
 -- a line a run, in time order, each after the label of its number, which counts on from this one
 abbrev pub run_lines : (ℕ → List ℕ) → ℕ → (ℕ → List ℕ) → ℕ → List Run → List ℕ
 run_lines spell d label number [] = []
-run_lines spell d label number (r ∷ rs) = label number ++ (run_line spell d number r (slice_get rs 0)
-    ++ run_lines spell d label (number + 1) rs)
+run_lines spell d label number (r ∷ rs) = label number
+    ++ (run_line spell d number r (slice_get rs 0) ++ run_lines spell d label (number + 1) rs)
 
 -- of `list`: without a label
 abbrev pub list_lines : (ℕ → List ℕ) → Listing → List ℕ

@@ -1,0 +1,4 @@
+pub mod Edited
+pub mod Carrying
+pub mod Parts
+pub mod OneToOne

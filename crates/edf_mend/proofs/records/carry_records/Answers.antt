@@ -1,0 +1,71 @@
+use Rattle.std.proofs.Common.{rules, ◌≡◌, ◌≤◌, length, take, subst, ◌∙◌, arith, refl}
+use Rattle.std.proofs.lemmas.Result.{err_from_is_err_and}
+use Rattle.std.specs.Io.KnownBytes.{Consumes}
+use Rattle.edf_header.specs.Header.{Layout, least_records}
+use Rattle.edf_canonical.specs.Output.{buffered}
+use Rattle.edf_mend.specs.Inside.Steps.{CarriesOne}
+use Rattle.edf_mend.proofs.Carrying.{none-carried, one-carried, all-carried}
+use Rattle.edf_mend.proofs.records.carry_records.Goals as goal
+
+pub loop-nth-init : goal.loop-nth-init
+loop-nth-init g c = record {
+  header = refl;
+  room = search rules;
+  so_far = none-carried c.args.fragment.now.header (g.R.Input.remaining c.args.input.now)
+      (buffered g.W.Output c.args.out.now c.args.held.now.bytes.items) c.args.shape.size
+      c.args.shape.added c.args.fragment.now.progress c.requires.first;
+  reads = refl;
+  writes = refl;
+}
+
+pub returns-in_err-accept_end-in-Cut-clause-counted :
+    goal.returns-in_err-accept_end-in-Cut-clause-counted
+returns-in_err-accept_end-in-Cut-clause-counted g c =
+    let i = c.loop-nth.invariant in
+    let p = err_from_is_err_and c.from_residual-in_err-accept_end-in-Cut.result
+    c.from_residual-in_err-accept_end-in-Cut.ensures.1 in
+    let reads : g.R.Input.failures c.fill.new.input ≡ g.R.Input.failures c.args.input.now =
+    search rules in
+    rw (p.1, p.2, reads, i.writes) (c.in_err-accept_end-in-Cut.ensures.quiet
+    (g.R.Input.failures c.args.input.now) (g.W.Output.failures c.args.out.now))
+
+pub returns-in-Cut-clause-carried : goal.returns-in-Cut-clause-carried
+returns-in-Cut-clause-carried g c =
+    let i = c.loop-nth.invariant in
+    let l = c.args.fragment.now.header in
+    let cut = c.in-Cut.ensures.cut c.in-Cut.at refl in
+    let least : least_records l.count ≤ c.loop-nth.fragment.progress.given =
+    subst (λ (x : Layout). least_records x.count ≤ c.loop-nth.fragment.progress.given) i.header
+    c.in_ok-accept_end-in-Cut.ensures.enough in
+    let size : length c.fill.new.buf ≡ c.args.shape.size = search rules in
+    all-carried l (g.R.Input.remaining c.args.input.now)
+    (buffered g.W.Output c.args.out.now c.args.held.now.bytes.items) c.args.shape.size
+    c.args.shape.added c.loop-nth.fragment.progress (g.R.Input.remaining c.loop-nth.input)
+    (g.R.Input.remaining c.fill.new.input)
+    (buffered g.W.Output c.loop-nth.out c.loop-nth.held.bytes.items) (take c.in-Cut.at
+    c.fill.new.buf) c.loop-nth.nth c.in-Cut.at i.so_far cut.1 cut.2 (search rules)
+    (omega (arith, cut.0, size)) least
+
+pub loop-nth-preserved : goal.loop-nth-preserved
+loop-nth-preserved g c =
+    let i = c.loop-nth.invariant in
+    let l = c.args.fragment.now.header in
+    let p = c.loop-nth.fragment.progress in
+    let q = c.carry_record.new.fragment.progress in
+    let b = buffered g.W.Output c.loop-nth.out c.loop-nth.held.bytes.items in
+    let d = buffered g.W.Output c.carry_record.new.out c.carry_record.new.held.bytes.items in
+    let mid = g.R.Input.remaining c.loop-nth.input in
+    let rest = g.R.Input.remaining c.fill.new.input in
+    let read : Consumes mid rest c.fill.new.buf = c.in-Full.ensures.full refl in
+    let size : length c.fill.new.buf ≡ c.args.shape.size = search rules in
+    let one = subst (λ (x : Layout). CarriesOne x p q b d c.args.shape.added c.fill.new.buf) i.header
+    c.in_ok-carry_record-in-Full.ensures.carried in
+    record {
+      header = c.in_ok-carry_record-in-Full.ensures.header ∙ i.header;
+      room = search rules;
+      so_far = one-carried l (g.R.Input.remaining c.args.input.now)
+          (buffered g.W.Output c.args.out.now c.args.held.now.bytes.items) c.args.shape.size
+          c.args.shape.added p q mid rest b d c.fill.new.buf c.loop-nth.nth i.so_far read size one;
+      reads = search rules;
+      writes = search rules;
+    }

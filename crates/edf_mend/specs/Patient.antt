@@ -1,0 +1,32 @@
+-- A patient's code is never made up.
+use Rattle.std.specs.Prelude.{◌≡◌, ◌≢◌, ◌≤◌, ◌⊎◌, List, [], slice_index_or, Option, Some, ℕ}
+use Rattle.std.specs.Prelude.{All}
+use Rattle.edf_field.specs.Text.{subfields, IsPrintable}
+use Rattle.edf_header.specs.Fields.{patient_field}
+use Rattle.edf_mend.specs.Edits.{Edit, RuleEdits}
+use Rattle.edf_mend.specs.declared.rule.Rule.TheVariants.{Ascii, Patient}
+
+-- the code of a patient field: its first subfield
+abbrev pub code_of : List ℕ → List ℕ
+code_of field = slice_index_or (subfields field) 0 []
+
+-- the code stays, or becomes the one that was given
+abbrev pub KeepsCode : Option (List ℕ) → Edit → Type 0
+KeepsCode given e = (code_of e.new ≡ code_of e.old) ⊎ (given ≡ Some (code_of e.new))
+
+-- nothing up to the end of the patient field changes
+abbrev pub IsBehindPatient : Edit → Type 0
+IsBehindPatient e = 88 ≤ e.at
+
+-- the rule for the patient field makes no code up, and no other rule changes that field, but for
+-- the one that transliterates
+pub record IsHonest (given : Option (List ℕ)) (step : RuleEdits) : Type 0 where
+  pub code : step.rule ≡ Patient → All (KeepsCode given) step.edits
+  pub others : step.rule ≢ Patient → step.rule ≢ Ascii → All IsBehindPatient step.edits
+
+-- from one header to another the code stays, or becomes the one that was given, or it had a byte
+-- that is not printable, which only a transliteration changes
+pub record KeepsPatient (given : Option (List ℕ)) (before after : List ℕ) : Type 0 where
+  pub code : (code_of (patient_field after) ≡ code_of (patient_field before))
+      ⊎ ((given ≡ Some (code_of (patient_field after)))
+      ⊎ (All IsPrintable (code_of (patient_field before)) → ⊥))

@@ -1,0 +1,79 @@
+//! What is to be written, read before it is written.
+
+ghost use Rattle.std.specs.Prelude.{◌≡◌, ◌≤◌, IfOk, IfErr};
+ghost use Rattle.edf_header.specs.Header.{least_records};
+ghost use Rattle.edf_fragment.specs.declared.advance.ReaderState.TheVariants.{Reading};
+ghost use Rattle.edf_mend.specs.Inside.Steps.{IsOpened, IsAccepted};
+ghost use Rattle.edf_mend.specs.Inside.Faults.{IsQuiet};
+
+use crate::fault::MendFault;
+use crate::piece::Piece;
+use edf_fragment::{FragmentFault, OpenFragment, Record};
+use edf_header::HeaderFault;
+use std::alloc::Global;
+
+/// The refusal for a fault of bytes in memory.
+pub(crate) fn refusal(fault: FragmentFault) -> MendFault
+    ensures { IsQuiet result }
+{
+    match fault {
+        FragmentFault::Memory => MendFault::Memory,
+        _ => MendFault::Refused(fault),
+    }
+}
+
+/// Reads a header, which is all of the bytes.
+pub(crate) fn accept_header(alloc: Global, bytes: &[u8]) -> Result<OpenFragment, MendFault>
+    ensures opened { IfOk result (IsOpened bytes.now) }
+    ensures quiet { IfErr result IsQuiet }
+{
+    let mut piece = Piece::of(bytes);
+    match OpenFragment::read(alloc, &mut piece) {
+        Ok(fragment) => {
+            if piece.is_read() {
+                Ok(fragment)
+            } else {
+                Err(MendFault::Refused(FragmentFault::Header(HeaderFault::HeaderBytes)))
+            }
+        }
+        Err(fault) => Err(refusal(fault)),
+    }
+}
+
+/// Reads the next data record, which is all of the bytes.
+pub(crate) fn accept_record(fragment: &mut OpenFragment, bytes: &[u8]) -> Result<Record, MendFault>
+    requires { fragment.old.progress.state ≡ Reading }
+    ensures header { fragment.new.header ≡ fragment.old.header }
+    ensures accepted { IfOk result
+        (IsAccepted fragment.old.header fragment.old.progress fragment.new.progress bytes.now) }
+    ensures quiet { IfErr result IsQuiet }
+{
+    let mut piece = Piece::of(bytes);
+    match fragment.next(&mut piece) {
+        Ok(Some(record)) => {
+            if piece.is_read() {
+                Ok(record)
+            } else {
+                Err(MendFault::Refused(FragmentFault::Trailing))
+            }
+        }
+        Ok(None) => Err(MendFault::Refused(FragmentFault::Trailing)),
+        Err(fault) => Err(refusal(fault)),
+    }
+}
+
+/// Finds that no data record must come any more.
+pub(crate) fn accept_end(fragment: &mut OpenFragment) -> Result<(), MendFault>
+    requires { fragment.old.progress.state ≡ Reading }
+    ensures header { fragment.new.header ≡ fragment.old.header }
+    ensures enough { IfOk result
+        (λ _. least_records fragment.old.header.count ≤ fragment.old.progress.given) }
+    ensures quiet { IfErr result IsQuiet }
+{
+    let mut piece = Piece::of(b"".as_slice());
+    match fragment.next(&mut piece) {
+        Ok(None) => Ok(()),
+        Ok(Some(_)) => Err(MendFault::Refused(FragmentFault::Trailing)),
+        Err(fault) => Err(refusal(fault)),
+    }
+}

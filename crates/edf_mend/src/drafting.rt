@@ -1,0 +1,180 @@
+//! The header of the mended file, and the steps that lead to it.
+
+ghost use Rattle.std.specs.Prelude.{◌≡◌, ◌++◌, ◌∷◌, [], ℕ, List, None, Ok, option_map, All, OnOk};
+ghost use Rattle.std.specs.Prelude.{IfOk, IfErr, Option};
+ghost use Rattle.edf_mend.specs.Edits.{AreEdited, AreMendedBy};
+ghost use Rattle.edf_mend.specs.Patient.{IsHonest};
+ghost use Rattle.edf_mend.specs.Inside.Steps.{IsDrafted};
+ghost use Rattle.edf_mend.specs.Inside.Faults.{IsQuiet};
+
+use crate::annotations::mend_annotations;
+use crate::ascii::mend_ascii;
+use crate::change::{Change, Cut, changes_between};
+use crate::code::is_honest;
+use crate::count::mend_count;
+use crate::digital::mend_digital;
+use crate::fault::MendFault;
+use crate::fields::{FIXED_WIDTHS, SIGNAL_FIELDS};
+use crate::header::signals_named;
+use crate::ledger::Step;
+use crate::patient::mend_patient;
+use crate::physical::mend_physical;
+use crate::plain::mend_plain;
+use crate::recording::{mark_mended, mend_recording};
+use crate::rule::Rule;
+use crate::surveying::Survey;
+use edf_fragment::FragmentFault;
+use edf_header::HeaderFault;
+use std::alloc::{AllocError, Global};
+
+/// All rules, in the order in which they are applied.
+const ORDER: [Rule; 9] = [
+    Rule::Ascii,
+    Rule::Patient,
+    Rule::Recording,
+    Rule::Physical,
+    Rule::Digital,
+    Rule::Annotations,
+    Rule::Plain,
+    Rule::Count,
+    Rule::Mended,
+];
+
+/// A header as rules left it, the steps so far, and how many bytes they add to each data record.
+#[derive(Drop)]
+pub(crate) struct Draft {
+    pub(crate) header: Vec<u8>,
+    pub(crate) steps: Vec<Step>,
+    pub(crate) added: usize,
+}
+
+/// The fields of a header with `n` signals, and of one to which `more` signals are added.
+fn cuts_of(alloc: Global, n: usize, more: usize) -> Result<Vec<Cut>, AllocError> {
+    let mut cuts = Vec::new(alloc);
+    for width in &FIXED_WIDTHS {
+        cuts.push(Cut {
+            old: *width,
+            new: *width,
+        })?;
+    }
+    for (_, width) in &SIGNAL_FIELDS {
+        for _ in 0..n {
+            cuts.push(Cut {
+                old: *width,
+                new: *width,
+            })?;
+        }
+        for _ in 0..more {
+            cuts.push(Cut {
+                old: 0,
+                new: *width,
+            })?;
+        }
+    }
+    Ok(cuts)
+}
+
+/// The changes from a header to the one that a rule made of it.
+fn header_changes(alloc: Global, old: &[u8], new: &[u8]) -> Result<Vec<Change>, AllocError>
+    ensures { IfOk result (λ changes. AreEdited 0 old.now changes.items new.now) }
+{
+    let n = signals_named(old);
+    let more = signals_named(new).saturating_sub(n);
+    let cuts = cuts_of(alloc, n, more)?;
+    changes_between(alloc, old, new, cuts.as_slice())
+}
+
+/// Applies a rule to a header. It tells how many bytes are added to each data record.
+fn apply_rule(
+    alloc: Global,
+    rule: Rule,
+    header: &mut Vec<u8>,
+    added: usize,
+    survey: &Survey,
+    patient: Option<&[u8]>,
+) -> Result<usize, MendFault>
+    ensures { IfErr result IsQuiet }
+{
+    match rule {
+        Rule::Ascii => mend_ascii(alloc, header.as_mut_slice())?,
+        Rule::Patient => mend_patient(alloc, header.as_mut_slice(), patient)?,
+        Rule::Recording => mend_recording(alloc, header.as_mut_slice())?,
+        Rule::Physical => mend_physical(alloc, header.as_mut_slice())?,
+        Rule::Digital => mend_digital(alloc, header.as_mut_slice())?,
+        Rule::Annotations => mend_annotations(header.as_mut_slice()),
+        Rule::Plain => return Ok(mend_plain(alloc, header)?),
+        Rule::Count => mend_count(alloc, header.as_mut_slice(), added, survey.bytes)?,
+        Rule::Mended => mark_mended(alloc, header.as_mut_slice())?,
+    }
+    Ok(added)
+}
+
+/// Whether a rule is applied: one that was asked for, where any were; and the mark that a file was
+/// mended where another changed something.
+fn is_wanted(rule: Rule, only: &[Rule], steps: &[Step]) -> bool {
+    if rule == Rule::Mended {
+        return !steps.is_empty();
+    }
+    only.is_empty() || only.iter().any(|wanted| *wanted == rule)
+}
+
+/// Takes the step of a rule. One that changes nothing is not told.
+fn take_step(
+    alloc: Global,
+    draft: &mut Draft,
+    rule: Rule,
+    survey: &Survey,
+    patient: Option<&[u8]>,
+) -> Result<(), MendFault>
+    ensures drafted { (before : List ℕ) → OnOk result
+        (IsDrafted before (option_map (λ code. code.now) patient.entry) draft.old →
+        IsDrafted before (option_map (λ code. code.now) patient.entry) draft.new) }
+    ensures quiet { IfErr result IsQuiet }
+{
+    let mut made = draft.header.clone()?;
+    let added = apply_rule(alloc, rule, &mut made, draft.added, survey, patient)?;
+    let changes = header_changes(alloc, draft.header.as_slice(), made.as_slice())?;
+    if changes.is_empty() {
+        return Ok(());
+    }
+    if !is_honest(rule, patient, changes.as_slice()) {
+        return Err(MendFault::Refused(FragmentFault::Header(HeaderFault::Patient)));
+    }
+    if draft.steps.push(Step::of(rule, changes)).is_err() {
+        return Err(MendFault::Memory);
+    }
+    draft.header = made;
+    draft.added = added;
+    Ok(())
+}
+
+/// The header of the mended file: the old one where that has no fault, and else as the rules make
+/// it that are asked for, or all where none is.
+pub(crate) fn draft_header(
+    alloc: Global,
+    old: &[u8],
+    survey: &Survey,
+    only: &[Rule],
+    patient: Option<&[u8]>,
+) -> Result<Draft, MendFault>
+    ensures drafted { IfOk result
+        (IsDrafted old.now (option_map (λ code. code.now) patient.entry)) }
+    ensures kept { survey.now.fault ≡ None → IfOk result
+        (λ draft. (draft.steps.items ≡ []) × (draft.added ≡ 0)) }
+    ensures quiet { IfErr result IsQuiet }
+{
+    let mut draft = Draft {
+        header: Vec::from_slice(alloc, old)?,
+        steps: Vec::new(alloc),
+        added: 0,
+    };
+    if survey.fault.is_none() {
+        return Ok(draft);
+    }
+    for rule in &ORDER {
+        if is_wanted(*rule, only, draft.steps.as_slice()) {
+            take_step(alloc, &mut draft, *rule, survey, patient)?;
+        }
+    }
+    Ok(draft)
+}

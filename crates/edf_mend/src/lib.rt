@@ -1,0 +1,33 @@
+//! Files that real recorders write, made EDF+ in the open.
+#![tactic(auto)]
+
+mod accepting;
+mod annotations;
+mod ascii;
+mod change;
+mod clock;
+mod code;
+mod count;
+mod digital;
+mod drafting;
+mod fault;
+mod fields;
+mod header;
+pub mod laws;
+mod ledger;
+mod mending;
+mod patient;
+mod physical;
+mod piece;
+mod plain;
+mod recording;
+mod records;
+mod rule;
+mod surveying;
+
+pub use change::Change;
+pub use fault::MendFault;
+pub use ledger::{Ledger, Step};
+pub use mending::mend;
+pub use rule::Rule;
+pub use surveying::{Survey, survey_file};

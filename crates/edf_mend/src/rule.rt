@@ -1,0 +1,39 @@
+/// A rule by which a header or a data record is changed. They are applied in this order.
+#[derive(Clone, Copy, Debug, PartialEq, Eq, Drop)]
+pub enum Rule {
+    /// Bytes of the header beyond ASCII are transliterated.
+    Ascii,
+    /// A patient field that is no patient identification of EDF+ becomes one.
+    Patient,
+    /// A recording field that is no recording identification of EDF+ becomes one.
+    Recording,
+    /// Physical values that are spelled otherwise, or are equal.
+    Physical,
+    /// Digital values that fall: both pairs are swapped, which is the same mapping.
+    Digital,
+    /// The limits of an annotations signal become those of the standard.
+    Annotations,
+    /// A file without the mark of EDF+ gets it, and an annotations signal.
+    Plain,
+    /// The number of data records becomes that of the whole ones that are there.
+    Count,
+    /// The recording field says that the file was mended.
+    Mended,
+}
+
+impl Rule {
+    /// Its name, as it is asked for and told.
+    pub fn name(self) -> &'static str {
+        match self {
+            Rule::Ascii => "ascii",
+            Rule::Patient => "patient",
+            Rule::Recording => "recording",
+            Rule::Physical => "physical",
+            Rule::Digital => "digital",
+            Rule::Annotations => "annotations",
+            Rule::Plain => "plain",
+            Rule::Count => "count",
+            Rule::Mended => "mended",
+        }
+    }
+}
