@@ -2,8 +2,11 @@
 //!
 //! - [`escaped`]: a text for an element or an attribute, without bytes that are not printable
 //!   ASCII.
+//! - [`readable`]: the same with the characters beyond ASCII.
 #![tactic(auto)]
 
+mod characters;
 mod escape;
 
+pub use characters::readable;
 pub use escape::escaped;

@@ -1,6 +1,8 @@
 use crate::bins::Bins;
 use crate::extent::Extent;
 use crate::labels::{FONT, Label, Labels};
+use crate::legend::Shown;
+use crate::lights::Light;
 use crate::marks::{Mark, Marks, list_marks};
 use crate::numbers::counted;
 use crate::pixels::{LEFT, Pixels, RIGHT, text_width};
@@ -11,31 +13,13 @@ use crate::ticks::write_ticks;
 use crate::times::{DAY, clock_label, date_label, instant_label, span_text};
 use std::alloc::{AllocError, Global};
 
-/// What the picture shows that a legend names.
-#[derive(Clone, Copy)]
-pub(crate) struct Shown {
-    pub(crate) gaps: bool,
-    pub(crate) thin: bool,
-    pub(crate) ticks: bool,
-}
-
-impl Shown {
-    /// What either of them shows.
-    pub(crate) fn and(self, other: Shown) -> Shown {
-        Shown {
-            gaps: self.gaps || other.gaps,
-            thin: self.thin || other.thin,
-            ticks: self.ticks || other.ticks,
-        }
-    }
-}
-
 /// Writes a row with data records, its bars and gaps, and the ticks above them, and answers what
 /// it shows.
 pub(crate) fn write_data_row(
     svg: &mut String,
     recording: &Recording<'_>,
     bins: &Bins,
+    lights: &[(u64, Light)],
     row: Extent,
 ) -> Result<Shown, AllocError> {
     let alloc = bins.alloc();
@@ -49,12 +33,15 @@ pub(crate) fn write_data_row(
         }
     }
     write_thin(svg, alloc, &marks)?;
-    write_lengths(svg, alloc, &marks.marks, row)?;
     let ticks = write_ticks(svg, bins, row, recording)?;
+    write_lights(svg, alloc, lights, row)?;
+    write_labels(svg, alloc, &marks.marks, lights, row)?;
     Ok(Shown {
         gaps: marks.marks.iter().any(|mark| mark.is_gap()),
         thin: !marks.thin.is_empty(),
         ticks,
+        events: false,
+        lights: !lights.is_empty(),
     })
 }
 
@@ -127,23 +114,61 @@ fn mark_title(alloc: Global, mark: &Mark) -> Result<String, AllocError> {
     format!(in alloc; "{records} in {runs}, {from} to {to}")
 }
 
-/// Writes the lengths of the gaps below them, where they fit: of the whole gap, where a row shows
-/// a part of it.
-fn write_lengths(
+/// Writes when lights went off or on as lines through the row.
+fn write_lights(
+    svg: &mut String,
+    alloc: Global,
+    lights: &[(u64, Light)],
+    row: Extent,
+) -> Result<(), AllocError> {
+    for (at, light) in lights {
+        let (x, label) = (Pixels::at(*at, row), light.label());
+        let instant = instant_label(alloc, *at)?;
+        write!(
+            svg,
+            "<path class='o' d='M{x} 0V32'><title>{label}, {instant}</title></path>"
+        )?;
+    }
+    Ok(())
+}
+
+/// Writes the names of the lights, and the lengths of the gaps, below them, where they fit: of the
+/// whole gap, where a row shows a part of it.
+fn write_labels(
     svg: &mut String,
     alloc: Global,
     marks: &[Mark],
+    lights: &[(u64, Light)],
     row: Extent,
 ) -> Result<(), AllocError> {
-    let mut labels = Labels::new(alloc);
+    let mut found = Vec::new(alloc);
     for mark in marks {
         if mark.is_gap() {
             let length = mark.whole.length();
             let text = span_text(alloc, length)?;
-            labels.offer(Label::new(mark.middle(row), text, length))?;
+            found.push(Label::new(mark.middle(row), text, length))?;
         }
     }
+    push_lights(&mut found, alloc, lights, row)?;
+    found.sort_by_key(|label| label.middle())?;
+    let mut labels = Labels::new(alloc);
+    for label in found {
+        labels.offer(label)?;
+    }
     labels.write(svg, 41)
+}
+
+fn push_lights(
+    found: &mut Vec<Label>,
+    alloc: Global,
+    lights: &[(u64, Light)],
+    row: Extent,
+) -> Result<(), AllocError> {
+    for (at, light) in lights {
+        let text = String::from_str(alloc, light.label())?;
+        found.push(Label::new(Pixels::at(*at, row), text, u64::MAX))?;
+    }
+    Ok(())
 }
 
 /// Writes when a row begins: its clock reading, and its day if that is asked for.

@@ -2,6 +2,7 @@ use crate::epochs::{Epoch, Lengths};
 use crate::extent::Extent;
 use crate::pixels::ACROSS;
 use crate::recording::Recording;
+use crate::sleep::Slept;
 use crate::stages::{Stage, Stages};
 use std::alloc::{AllocError, Global};
 
@@ -20,23 +21,42 @@ pub(crate) struct Columns<'a> {
     open: Option<Epoch>,
     /// The lengths of the epochs before it.
     lengths: Lengths,
+    slept: Slept,
+    /// The times with lights off.
+    beds: Vec<Extent>,
 }
 
-/// The stage that each column shows, from the left to the last one that shows any.
+/// The stages over the whole recording.
+#[derive(Drop)]
+pub(crate) struct Staged {
+    /// The stage that each column shows, from the left to the last one that shows any.
+    pub(crate) columns: Vec<Option<Stage>>,
+    /// How long each stage lasted.
+    pub(crate) slept: Slept,
+}
+
+/// The stages over the whole recording, and how long they lasted. `beds` are the times with lights
+/// off.
 pub(crate) fn list_columns(
     alloc: Global,
     recording: &Recording<'_>,
     stages: &Stages,
-) -> Result<Vec<Option<Stage>>, AllocError> {
+    beds: Vec<Extent>,
+) -> Result<Staged, AllocError> {
     let mut columns = Columns {
         recording: *recording,
         runs: joined_runs(alloc, recording)?,
         shown: Vec::new(alloc),
         open: None,
         lengths: Lengths::None,
+        slept: Slept::none(&beds),
+        beds,
     };
     stages.show(&mut columns)?;
-    Ok(columns.shown)
+    Ok(Staged {
+        columns: columns.shown,
+        slept: columns.slept,
+    })
 }
 
 /// The runs, each with the next one where the gap between them is narrower than a column.
@@ -82,7 +102,35 @@ impl Columns<'_> {
         if let Some(length) = epoch.length(next, end, run) {
             self.lengths = self.lengths.and(length);
         }
-        self.show(epoch, run.map_or(end, |run| end.min(run.to)))
+        let end = run.map_or(end, |run| end.min(run.to));
+        let held = Extent {
+            from: epoch.onset,
+            to: end,
+        };
+        self.count(epoch.stage, held);
+        let end = self.past_gap(end);
+        self.show(epoch, next.map_or(end, |next| end.min(next)))
+    }
+
+    /// Counts what was recorded while a stage held.
+    fn count(&mut self, stage: Stage, held: Extent) {
+        self.slept = self.slept.and(stage, self.recording.recorded_within(held));
+        if stage.is_sleep() {
+            for bed in &self.beds {
+                if let Some(part) = bed.within(held) {
+                    let recorded = self.recording.recorded_within(part);
+                    self.slept.in_bed = self.slept.in_bed.saturating_add(recorded);
+                }
+            }
+        }
+    }
+
+    /// The end of an epoch, or, where it lies in a gap narrower than a column, that of the gap.
+    fn past_gap(&self, end: u64) -> u64 {
+        if self.run_at(end).is_none() {
+            return end;
+        }
+        self.recording.next_recorded(end).unwrap_or(end)
     }
 
     /// The run that has the instant.
@@ -92,7 +140,7 @@ impl Columns<'_> {
         if run.has(at) { Some(run) } else { None }
     }
 
-    /// Shows an epoch up to its end, in the columns whose middle was recorded.
+    /// Shows an epoch up to its end, in the columns whose middle lies in a run.
     fn show(&mut self, epoch: Epoch, end: u64) -> Result<(), AllocError> {
         let done = u64::try_from(self.shown.len()).unwrap_or(COLUMNS);
         for column in done..COLUMNS {
@@ -102,7 +150,7 @@ impl Columns<'_> {
             }
             let is_shown = epoch.onset <= middle
                 && epoch.stage != Stage::Untold
-                && self.recording.has_recorded(middle);
+                && self.run_at(middle).is_some();
             self.shown
                 .push(if is_shown { Some(epoch.stage) } else { None })?;
         }

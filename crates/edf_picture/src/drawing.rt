@@ -1,22 +1,46 @@
-use crate::bars::{Shown, write_data_row, write_folded_row, write_row_start};
+ghost use Rattle.std.specs.Prelude.{IfOk, string_bytes};
+ghost use Rattle.edf_picture.specs.Picture.{IsPicture};
+
+use crate::bars::{write_data_row, write_folded_row, write_row_start};
 use crate::bins::Bins;
-use crate::extent::Stretch;
+use crate::extent::{Extent, Stretch};
 use crate::heading::{Counts, Heading, Title};
-use crate::hypnogram::{HEIGHT, Hypnogram};
+use crate::joining::Joined;
+use crate::kinds::Kinds;
+use crate::legend::{Legend, Shown};
+use crate::lights::Lights;
+use crate::overview::Overview;
 use crate::pixels::{LEFT, Pixels};
 use crate::recording::Recording;
 use crate::rows::{Row, list_rows, total_height};
 use crate::scale::Scale;
+use crate::signals::{Signal, Table};
 use crate::stages::Stages;
 use crate::times::DAY;
 use edf_time::Instant;
 use std::alloc::{AllocError, Global};
+
+/// The data records that a picture shows, and their signals.
+#[derive(Clone, Copy)]
+pub struct Recorded<'a> {
+    /// The nanoseconds of a data record.
+    pub duration: u64,
+    /// The stretches without a gap, in the order of their starts.
+    pub stretches: &'a [Stretch],
+    /// The ordinary signals, in the order of the header.
+    pub signals: &'a [Signal<'a>],
+    /// The longest gap that is joined for the view, in nanoseconds; 0 joins none.
+    pub tolerance: u64,
+}
 
 /// Gathers what a picture shows, annotation by annotation, in bounded memory.
 #[derive(Drop)]
 pub struct Sketch {
     /// The annotations that are no stages of sleep.
     events: Bins,
+    /// Those of them that are not drawn as lines.
+    kinds: Kinds,
+    lights: Lights,
     stages: Stages,
     stage_onsets: Bins,
 }
@@ -26,6 +50,8 @@ impl Sketch {
     pub fn new(alloc: Global) -> Sketch {
         Sketch {
             events: Bins::new(alloc),
+            kinds: Kinds::new(alloc),
+            lights: Lights::new(alloc),
             stages: Stages::new(alloc),
             stage_onsets: Bins::new(alloc),
         }
@@ -41,15 +67,18 @@ impl Sketch {
         duration: Option<u64>,
         text: &str,
     ) -> Result<(), AllocError> {
-        if self.stages.add(onset.nanos(), duration, text)? {
-            self.stage_onsets.add(onset.nanos())
-        } else {
-            self.events.add(onset.nanos())
+        let from = onset.nanos();
+        if self.stages.add(from, duration, text)? {
+            return self.stage_onsets.add(from);
         }
+        if !self.lights.add(from, text)? {
+            let to = from.saturating_add(duration.unwrap_or(0));
+            self.kinds.add(Extent { from, to }, text)?;
+        }
+        self.events.add(from)
     }
 
-    /// The picture, as one SVG: of the recording's stretches, in the order of their starts, with
-    /// data records of so many nanoseconds.
+    /// The picture, as one SVG.
     ///
     /// # Errors
     /// Where memory runs out.
@@ -57,27 +86,31 @@ impl Sketch {
         &self,
         alloc: Global,
         title: &Title<'_>,
-        duration: u64,
-        stretches: &[Stretch],
-    ) -> Result<String, AllocError> {
-        let recording = Recording::new(stretches, duration);
-        let counts = self.counts(&recording);
-        let heading = Heading::new(alloc, title, &recording, counts)?;
-        let mut drawn = Drawn {
-            svg: String::new(alloc),
-            foot: heading.height(),
-            shown: Shown {
-                gaps: false,
-                thin: false,
-                ticks: false,
-            },
-        };
-        self.draw_stages(alloc, &recording, &mut drawn)?;
+        recorded: &Recorded<'_>,
+    ) -> Result<String, AllocError>
+        ensures { IfOk result (λ picture. IsPicture (string_bytes picture)) }
+    {
+        let duration = recorded.duration;
+        let joined = Joined::of(alloc, recorded.stretches, duration, recorded.tolerance)?;
+        let recording = Recording::new(&joined.stretches, duration);
+        let heading = Heading::new(alloc, title, &recording, &joined, self.counts(&recording))?;
+        let mut drawn = Drawn::new(alloc);
+        self.draw_overview(alloc, &recording, &mut drawn)?;
         self.draw_rows(alloc, &recording, &mut drawn)?;
+        let table = Table {
+            signals: recorded.signals,
+            duration,
+        };
+        drawn.draw_table(alloc, table)?;
+        let legend = Legend::of(alloc, drawn.shown)?;
+        let top = heading.height().saturating_add(legend.height());
         let mut svg = String::new(alloc);
-        heading.write_start(&mut svg, drawn.foot.saturating_add(16))?;
-        heading.write(&mut svg, drawn.shown)?;
+        heading.write_start(&mut svg, top.saturating_add(drawn.foot).saturating_add(16))?;
+        heading.write(&mut svg)?;
+        legend.write(&mut svg, heading.height())?;
+        write!(svg, "<g transform='translate(0 {top})'>\n")?;
         svg.push_str(drawn.svg.as_str())?;
+        svg.push_str("</g>\n")?;
         svg.push_str("</svg>\n")?;
         Ok(svg)
     }
@@ -95,22 +128,25 @@ impl Sketch {
         }
     }
 
-    /// Draws the hypnogram, if an annotation names a stage.
-    fn draw_stages(
+    /// Draws what goes over the whole recording, if there is something.
+    fn draw_overview(
         &self,
         alloc: Global,
         recording: &Recording<'_>,
         drawn: &mut Drawn,
     ) -> Result<(), AllocError> {
-        let Some(hypnogram) = Hypnogram::of(&self.stages) else {
-            return Ok(());
-        };
         if recording.stretches.is_empty() {
             return Ok(());
         }
+        let overview = Overview::of(alloc, recording, &self.stages, &self.kinds, &self.lights)?;
+        if overview.is_empty() {
+            return Ok(());
+        }
+        drawn.shown.events = overview.has_lanes();
+        drawn.shown.lights = overview.has_lights();
         drawn.open_group()?;
-        hypnogram.write(&mut drawn.svg, alloc, recording, &self.stages)?;
-        drawn.close_group(HEIGHT)
+        overview.write(&mut drawn.svg)?;
+        drawn.close_group(overview.height())
     }
 
     /// Draws the scale and the rows.
@@ -153,7 +189,8 @@ impl Sketch {
                 let today = Some(extent.from / DAY);
                 let alloc = self.events.alloc();
                 write_row_start(svg, alloc, extent.from, scale, day != today)?;
-                let shown = write_data_row(svg, recording, &self.events, *extent)?;
+                let lights = self.lights.list_within(alloc, *extent)?;
+                let shown = write_data_row(svg, recording, &self.events, &lights, *extent)?;
                 drawn.shown = drawn.shown.and(shown);
                 Ok(today)
             }
@@ -180,6 +217,25 @@ struct Drawn {
 }
 
 impl Drawn {
+    fn new(alloc: Global) -> Drawn {
+        Drawn {
+            svg: String::new(alloc),
+            foot: 0,
+            shown: Shown::nothing(),
+        }
+    }
+
+    /// Draws the table of signals, if there are some.
+    fn draw_table(&mut self, alloc: Global, table: Table<'_>) -> Result<(), AllocError> {
+        if table.signals.is_empty() {
+            return Ok(());
+        }
+        self.foot = self.foot.saturating_add(12);
+        self.open_group()?;
+        table.write(&mut self.svg, alloc)?;
+        self.close_group(table.height())
+    }
+
     fn open_group(&mut self) -> Result<(), AllocError> {
         let y = self.foot;
         write!(self.svg, "<g transform='translate(0 {y})'>")

@@ -1,7 +1,6 @@
-use crate::bars::Shown;
-use crate::labels::FONT;
+use crate::joining::Joined;
 use crate::numbers::{counted, thousands};
-use crate::pixels::{LEFT, Pixels, text_width};
+use crate::pixels::LEFT;
 use crate::recording::Recording;
 use crate::times::instant_label;
 use edf_markup::escaped;
@@ -38,6 +37,8 @@ pub(crate) struct Heading {
     /// The first and the last instant.
     time: String,
     summary: String,
+    /// What was joined for the view, if that was asked for.
+    joined: Option<String>,
     annotations: String,
 }
 
@@ -58,7 +59,9 @@ text{font-family:'DejaVu Sans',Verdana,Arial,Helvetica,sans-serif;font-size:12px
 .r{fill:#0072B2}.g{fill:url(#edf-gap);stroke:#D55E00}.w{fill:#fff}\
 .j{stroke:#D55E00;stroke-width:14;fill:none}.k{stroke:#0072B2;stroke-width:12;fill:none}\
 .u{stroke:#D55E00;fill:none}.h{fill:#D55E00;fill-opacity:.25}.t,.a,.s{stroke:#000;fill:none}\
-.t{stroke-width:1.2}.s{stroke-width:1.5}\
+.t{stroke-width:1.2}.s{stroke-width:1.5}.x{stroke:#56B4E9;stroke-width:10;fill:none}\
+.o{stroke:#000;stroke-dasharray:3 2;fill:none}\
+.v{paint-order:stroke;stroke:#fff;stroke-width:3px}\
 .q{stroke:#009E73;stroke-width:6;fill:none}.l{stroke:#ccc;fill:none}</style>\
 <defs><pattern id='edf-gap' width='6' height='6' patternUnits='userSpaceOnUse' \
 patternTransform='rotate(45)'><rect width='6' height='6' fill='#fff'/>\
@@ -69,6 +72,7 @@ impl Heading {
         alloc: Global,
         title: &Title<'_>,
         recording: &Recording<'_>,
+        joined: &Joined,
         counts: Counts,
     ) -> Result<Heading, AllocError> {
         Ok(Heading {
@@ -76,13 +80,16 @@ impl Heading {
             name: title.line(alloc, ALL)?,
             time: time_line(alloc, recording)?,
             summary: recording.summary(alloc)?,
+            joined: joined.line(alloc)?,
             annotations: counts.line(alloc)?,
         })
     }
 
-    /// Its height in pixels.
+    /// Its height without the legend, in pixels.
     pub(crate) fn height(&self) -> u64 {
-        if self.titles.len() > 1 { 158 } else { 138 }
+        let titles = u64::from(self.titles.len() > 1);
+        let lines = titles.saturating_add(u64::from(self.joined.is_some()));
+        lines.saturating_mul(20).saturating_add(100)
     }
 
     /// Writes what stands before anything that is drawn.
@@ -105,16 +112,21 @@ impl Heading {
     }
 
     /// Writes the lines of the heading.
-    pub(crate) fn write(&self, svg: &mut String, shown: Shown) -> Result<(), AllocError> {
+    pub(crate) fn write(&self, svg: &mut String) -> Result<(), AllocError> {
         let mut y = 28u64;
         for title in &self.titles {
             write_line(svg, "b", y, title)?;
             y = y.saturating_add(20);
         }
         write_line(svg, "f", y, &self.time)?;
-        write_line(svg, "f", y.saturating_add(20), &self.summary)?;
-        write_line(svg, "f", y.saturating_add(40), &self.annotations)?;
-        write_legend(svg, y.saturating_add(62), shown)
+        y = y.saturating_add(20);
+        write_line(svg, "f", y, &self.summary)?;
+        y = y.saturating_add(20);
+        if let Some(joined) = &self.joined {
+            write_line(svg, "f", y, joined)?;
+            y = y.saturating_add(20);
+        }
+        write_line(svg, "f", y, &self.annotations)
     }
 }
 
@@ -175,36 +187,4 @@ impl Counts {
         }
         Ok(line)
     }
-}
-
-/// The shapes of the legend, 20 pixels wide.
-const RECORDED: &str = "<rect class='r' y='0' width='20' height='12'/>";
-
-const GAP: &str = "<rect class='g' y='-1' width='20' height='14'/>";
-
-const THIN: &str = "<path class='u' d='M6.5 4v6M12.5 4v6'/>";
-
-const TICKS: &str = "<path class='t' d='M4 12v-4M10 12v-4M16 12v-10'/>";
-
-/// Writes what the shapes mean that are drawn, side by side.
-fn write_legend(svg: &mut String, y: u64, shown: Shown) -> Result<(), AllocError> {
-    let top = y.saturating_sub(10);
-    let mut x = Pixels::whole(LEFT);
-    for (is_shown, shape, text) in [
-        (true, RECORDED, "recorded"),
-        (shown.gaps, GAP, "gap"),
-        (shown.thin, THIN, "gap narrower than a pixel"),
-        (
-            shown.ticks,
-            TICKS,
-            "annotation; taller where there are more",
-        ),
-    ] {
-        if is_shown {
-            write!(svg, "<g transform='translate({x} {top})'>{shape}")?;
-            write!(svg, "<text x='26' y='10'>{text}</text></g>")?;
-            x = x.plus(text_width(text.len(), FONT)).plus(Pixels::whole(44));
-        }
-    }
-    Ok(())
 }

@@ -1,12 +1,6 @@
-use crate::columns::list_columns;
-use crate::extent::Extent;
-use crate::labels::{Label, Labels};
-use crate::marks::{Mark, list_marks};
 use crate::pixels::{LEFT, Pixels, RIGHT};
-use crate::recording::Recording;
 use crate::stages::{Stage, Stages};
-use crate::times::{DAY, HOUR, MINUTE, SECOND, clock_label, date_label};
-use std::alloc::{AllocError, Global};
+use std::alloc::AllocError;
 
 /// The stages over the whole recording, as steps.
 #[derive(Clone, Copy)]
@@ -24,8 +18,8 @@ const TOP: u64 = 12;
 /// The lowest stage.
 const FLOOR: u64 = TOP + 4 * STEP;
 
-/// Its height with the scale below it, in pixels.
-pub(crate) const HEIGHT: u64 = FLOOR + 56;
+/// Its height, in pixels.
+pub(crate) const HEIGHT: u64 = FLOOR + 6;
 
 impl Hypnogram {
     /// A hypnogram, if an annotation names a stage.
@@ -40,7 +34,7 @@ impl Hypnogram {
     }
 
     /// The names of the stages from above. Stages 3 and 4 are both N3.
-    fn names(self) -> [&'static str; 5] {
+    pub(crate) fn names(self) -> [&'static str; 5] {
         let deep = match (self.has_deep_number, self.has_new_names) {
             (true, _) => "N3 (3, 4)",
             (false, true) => "N3",
@@ -53,22 +47,17 @@ impl Hypnogram {
         }
     }
 
-    /// Writes it, with the gaps of the recording and its scale.
+    /// Writes it: a line for each stage, and the stages of the columns.
     pub(crate) fn write(
         self,
         svg: &mut String,
-        alloc: Global,
-        recording: &Recording<'_>,
-        stages: &Stages,
+        columns: &[Option<Stage>],
     ) -> Result<(), AllocError> {
-        self.write_gaps(svg, alloc, recording)?;
         self.write_levels(svg)?;
-        self.write_scale(svg, alloc, recording.all)?;
-        let columns = list_columns(alloc, recording, stages)?;
         svg.push_str("<path class='q' d='")?;
-        write_steps(svg, &columns, Some(Stage::Rem))?;
+        write_steps(svg, columns, Some(Stage::Rem))?;
         svg.push_str("'/><path class='s' d='")?;
-        write_steps(svg, &columns, None)?;
+        write_steps(svg, columns, None)?;
         svg.push_str("'><title>Stages of sleep over the whole recording</title></path>")
     }
 
@@ -83,82 +72,6 @@ impl Hypnogram {
         }
         Ok(())
     }
-
-    fn write_gaps(
-        self,
-        svg: &mut String,
-        alloc: Global,
-        recording: &Recording<'_>,
-    ) -> Result<(), AllocError> {
-        let height = FLOOR + 6;
-        svg.push_str("<path class='h' d='")?;
-        for mark in &list_marks(alloc, recording, recording.all)?.marks {
-            write_gap(svg, mark, recording.all, height)?;
-        }
-        svg.push_str("'/>")
-    }
-
-    fn write_scale(self, svg: &mut String, alloc: Global, all: Extent) -> Result<(), AllocError> {
-        let step = time_step(all);
-        let from = all.from.checked_div(step).unwrap_or(0);
-        let to = all
-            .to
-            .checked_div(step)
-            .unwrap_or(0)
-            .min(from.saturating_add(20));
-        let (y, foot) = (FLOOR + 6, FLOOR + 12);
-        let mut labels = Labels::new(alloc);
-        for place in from..to.saturating_add(1) {
-            let at = place.saturating_mul(step);
-            if all.from <= at && at <= all.to {
-                let x = Pixels::at(at, all);
-                write!(svg, "<path class='a' d='M{x} {y}V{foot}'/>")?;
-                let text = if step < DAY {
-                    clock_label(alloc, at)?
-                } else {
-                    date_label(alloc, at)?
-                };
-                labels.offer(Label::new(x, text, 0))?;
-            }
-        }
-        labels.write(svg, foot.saturating_add(13))
-    }
-}
-
-/// Writes a gap as a box of the hypnogram's height.
-fn write_gap(svg: &mut String, mark: &Mark, all: Extent, height: u64) -> Result<(), AllocError> {
-    if !mark.is_gap() {
-        return Ok(());
-    }
-    let (x, width) = mark.place(all);
-    write!(svg, "M{x} 0h{width}v{height}h-{width}z")
-}
-
-/// The time between two numbers of the scale.
-fn time_step(all: Extent) -> u64 {
-    for step in [
-        SECOND,
-        10 * SECOND,
-        MINUTE,
-        5 * MINUTE,
-        10 * MINUTE,
-        30 * MINUTE,
-        HOUR,
-        2 * HOUR,
-        6 * HOUR,
-        12 * HOUR,
-        DAY,
-        2 * DAY,
-        10 * DAY,
-        30 * DAY,
-        365 * DAY,
-        3_650 * DAY,
-    ] {
-        if all.length() / 10 < step {
-            return step;
-        }
-    }
-    10_000 * DAY
 }
 
 /// The height of a stage, in pixels below the top.

@@ -38,6 +38,10 @@ impl Label {
         }
     }
 
+    pub(crate) fn middle(&self) -> Pixels {
+        self.middle
+    }
+
     fn is_clear_of(&self, next: &Label) -> bool {
         let end = self.middle.plus(self.width.half()).plus(ROOM);
         end <= next.middle.minus(next.width.half())
@@ -49,6 +53,11 @@ impl Labels {
         Labels {
             placed: Vec::new(alloc),
         }
+    }
+
+    /// How many are placed.
+    pub(crate) fn len(&self) -> usize {
+        self.placed.len()
     }
 
     /// Places the label where it fits. Labels come from left to right.

@@ -27,6 +27,12 @@ pub(crate) fn counted(alloc: Global, number: u64, thing: &str) -> Result<String,
     }
 }
 
+/// A number of tenths: `1,231.5`.
+pub(crate) fn tenths(alloc: Global, number: u64) -> Result<String, AllocError> {
+    let (whole, tenth) = (thousands(alloc, number / 10)?, number % 10);
+    format!(in alloc; "{whole}.{tenth}")
+}
+
 /// The share of `part` in `whole`, cut after the first decimal, so that only the whole is 100 %.
 pub(crate) fn percent(alloc: Global, part: u64, whole: u64) -> Result<String, AllocError> {
     if part >= whole {

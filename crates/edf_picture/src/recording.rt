@@ -36,13 +36,29 @@ impl<'a> Recording<'a> {
         Extent::of(stretch, self.duration)
     }
 
-    /// Whether a run has the instant.
-    pub(crate) fn has_recorded(&self, at: u64) -> bool {
+    /// The first instant from this one on that was recorded.
+    pub(crate) fn next_recorded(&self, at: u64) -> Option<u64> {
         let next = self
             .stretches
-            .partition_point(|stretch| stretch.first.nanos() <= at);
-        let run = self.stretches.get(next.saturating_sub(1));
-        run.is_some_and(|run| self.extent_of(run).has(at))
+            .partition_point(|stretch| self.extent_of(stretch).to <= at);
+        let run = self.extent_of(self.stretches.get(next)?);
+        Some(run.from.max(at))
+    }
+
+    /// How much of an extent was recorded, in nanoseconds.
+    pub(crate) fn recorded_within(&self, extent: Extent) -> u64 {
+        let first = self
+            .stretches
+            .partition_point(|stretch| self.extent_of(stretch).to <= extent.from);
+        let (_, later) = self.stretches.split_at(first.min(self.stretches.len()));
+        let mut recorded = 0u64;
+        for stretch in later {
+            let Some(part) = self.extent_of(stretch).within(extent) else {
+                break;
+            };
+            recorded = recorded.saturating_add(part.length());
+        }
+        recorded
     }
 
     pub(crate) fn runs(&self) -> u64 {
@@ -71,6 +87,11 @@ impl<'a> Recording<'a> {
         records
     }
 
+    /// How much was recorded, in nanoseconds.
+    pub(crate) fn recorded(&self) -> u64 {
+        self.records().saturating_mul(self.duration)
+    }
+
     /// `28,755 records of 1 s, 2 runs, 99.8 % of 8 h 00 min; missing 45 s in 1 gap, longest 45 s`.
     pub(crate) fn summary(&self, alloc: Global) -> Result<String, AllocError> {
         if self.stretches.is_empty() {
@@ -81,8 +102,7 @@ impl<'a> Recording<'a> {
         let runs = counted(alloc, self.runs(), "run")?;
         let missing = self.missing();
         let gaps = counted(alloc, missing.gaps, "gap")?;
-        let recorded = self.records().saturating_mul(self.duration);
-        let share = percent(alloc, recorded, self.all.length())?;
+        let share = percent(alloc, self.recorded(), self.all.length())?;
         let span = span_text(alloc, self.all.length())?;
         if missing.gaps == 0 {
             return format!(in alloc; "{records} of {each}, {runs}, {gaps}, {share} of {span}");

@@ -16,6 +16,12 @@ pub(crate) enum Stage {
     Untold,
 }
 
+impl Stage {
+    pub(crate) fn is_sleep(self) -> bool {
+        self != Stage::Wake && self != Stage::Untold
+    }
+}
+
 /// The stage that a text names, and whether by a name with an N (EDF+, standard texts).
 fn named_stage(text: &str) -> Option<(Stage, bool)> {
     match text.as_bytes() {

@@ -7,6 +7,7 @@
 //! - [`Inputs`]: what gives each name its reader.
 //! - [`put_line`]: writes a line, and answers whether it was written whole; [`tell`],
 //!   [`tell_bytes`], [`tell_parts`]: the same, answered by a status.
+//! - [`joined`]: a text of its parts.
 //! - [`fragment_fault_text`], [`fragment_details`]: why a file was not read as a fragment, as a
 //!   line has it; [`tell_refused`], [`tell_memory`]: a line why something is refused.
 //! - [`CommandFault`]: why words ask for nothing; [`fault_by`], [`refuse_value`]: by what `clap`
@@ -23,5 +24,5 @@ mod words;
 pub use inputs::Inputs;
 pub use output::{put_line, tell, tell_bytes, tell_parts};
 pub use status::{Status, status_of_number};
-pub use text::{fragment_details, fragment_fault_text, tell_memory, tell_refused};
+pub use text::{fragment_details, fragment_fault_text, joined, tell_memory, tell_refused};
 pub use words::{CommandFault, VERSION, fault_by, refuse_value, tell_fault};

@@ -1,6 +1,7 @@
-//! The texts of refusals: `E`, the number, the name, and what the fault names.
+//! Texts of parts, and those of refusals: `E`, the number, the name, and what the fault names.
 
 ghost use Rattle.std.specs.Prelude.{◌≡◌, ◌++◌, IfOk, OnOk, string_bytes};
+ghost use Rattle.std.specs.List.{flat_map};
 ghost use Rattle.edf_program.specs.Output.{growth, IsWritten};
 ghost use Rattle.edf_program.specs.Text.{detail, fragment_details, fragment_fault_text};
 ghost use Rattle.edf_program.specs.Text.{memory_line, refused_line};
@@ -10,6 +11,20 @@ use crate::status::Status;
 use edf_fragment::{FragmentFault, Output};
 use itoa::Buffer;
 use std::alloc::{AllocError, Global};
+
+/// The parts of a text, one after another.
+///
+/// # Errors
+/// Where memory runs out.
+pub fn joined(alloc: Global, parts: &[&[u8]]) -> Result<Vec<u8>, AllocError>
+    ensures { IfOk result (λ r. r.items ≡ flat_map (λ part. part.now) parts.now) }
+{
+    let mut text = Vec::new(alloc);
+    for part in parts {
+        text.extend_from_slice(part)?;
+    }
+    Ok(text)
+}
 
 /// A number that a fault names, where it names one.
 fn widened(number: Option<u32>) -> Option<usize>

@@ -8,3 +8,6 @@ pub mod Rejoined
 pub mod Members
 pub mod ByOnset
 pub mod InItsRun
+pub mod Measuring
+pub mod Whole
+pub mod Tallies

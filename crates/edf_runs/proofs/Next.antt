@@ -30,6 +30,7 @@ use Rattle.edf_runs.specs.Again.{fault_again, IsFaultBy, StopsAt, ComesNext}
 use Rattle.edf_canonical.specs.File.{second_of, block_of, BlocksFit}
 use Rattle.edf_runs.specs.Inside.Steps.{StepsOn, HasOthers, ReadSoFar, PutSoFar}
 use Rattle.edf_runs.specs.declared.run.Run.{Run}
+use Rattle.edf_runs.specs.declared.tally.Tally.{Tally}
 use Rattle.edf_runs.specs.declared.fault.WriteFault.{WriteFault}
 use Rattle.edf_runs.specs.declared.fault.WriteFault.TheVariants.{Changed, Read, Memory}
 use Rattle.edf_runs.proofs.Growing.{all_front, all_last, run_end, samples_least}
@@ -330,10 +331,10 @@ all_listed l from to left rest run rs next count so all n =
 
 -- the longest block is as long as was listed
 pub longest_as_listed : (l : Layout) (from to : Progress) (left rest : Option (List ℕ))
-    (a b : Buffered) (run : Run) (next samples count : ℕ) →
-    PutSoFar l from to left rest a b run next samples count
+    (a b : Buffered) (run : Run) (next samples count : ℕ) (tally : Tally) →
+    PutSoFar l from to left rest a b run next samples count tally
     → count ≡ run.records → ComesNext l from left run → samples ≡ run.block_samples
-longest_as_listed l from to left rest a b run next samples count so all n =
+longest_as_listed l from to left rest a b run next samples count tally so all n =
     let same = all_listed l from to left rest run so.records next count so.so_far all n in
     let low = n.listed.least samples (subst (BlocksFit (second_of run.first) samples) (sym same)
     so.put.holds) in

@@ -34,6 +34,10 @@ use Rattle.edf_runs.specs.Written.{CountsFault, run_text, IsRunHeader}
 use Rattle.edf_runs.specs.Written.{ReadsOneMoreAtMost, IsRunWritten, StopsInRun, IsNotWritten}
 use Rattle.edf_runs.specs.Inside.Steps.{ArePut, fault_out, PutSoFar, StepsOn, StopsPutting}
 use Rattle.edf_runs.specs.Inside.Steps.{IsPutAll, IsSent, StopsSending}
+use Rattle.edf_runs.specs.Counted.{IsCountedRun}
+use Rattle.edf_runs.specs.Inside.Tally.{IsTallied}
+use Rattle.edf_runs.specs.declared.tally.Tally.{Tally}
+use Rattle.edf_runs.specs.declared.written.Written.{Written}
 use Rattle.edf_runs.specs.declared.run.Run.{Run}
 use Rattle.edf_runs.specs.declared.fault.WriteFault.{WriteFault}
 use Rattle.edf_runs.specs.declared.fault.WriteFault.TheVariants.{Undated, Changed, Read, Memory}
@@ -66,7 +70,7 @@ out_counts reads old new FailedWrite counts =
 out_counts reads old new NoRoom counts =
     ((refl, counts), λ same. let e : ◌≡◌ {A = WriteFault} Memory Undated = same in cc)
 
-out_same : (fault : OutputFault) → fault_out fault ≢ Changed
+pub out_same : (fault : OutputFault) → fault_out fault ≢ Changed
 out_same FailedWrite same = let e : ◌≡◌ {A = WriteFault} Write Changed = same in cc
 out_same NoRoom same = let e : ◌≡◌ {A = WriteFault} Memory Changed = same in cc
 
@@ -175,29 +179,34 @@ one_put l run rs r samples longest here put sound here-is few is =
     }
 
 pub put_more : (l : Layout) (from mid to : Progress) (left middle rest : Option (List ℕ))
-    (a b c : Buffered) (run : Run) (next later samples longest here count : ℕ) (r : DataRecord)
-    → PutSoFar l from mid left middle a b run next samples count → count < run.records →
+    (a b c : Buffered) (run : Run) (next later samples longest here count : ℕ)
+    (tally more_tally : Tally) (r : DataRecord)
+    → PutSoFar l from mid left middle a b run next samples count tally → count < run.records →
     StepsOn l mid to middle rest next r → later ≡ r.start + duration_of l.key.duration
     → here ≡ (length (block_of (second_of run.first) r) + 1) / 2 → here ≤ run.block_samples →
     longest ≡ max here samples
+    → ((rs : List DataRecord) → IsTallied (duration_of l.key.duration) run rs tally →
+    IsTallied (duration_of l.key.duration) run (rs ++ r ∷ []) more_tally)
     → Writes b c (record_text (second_of run.first) (2 * run.block_samples) r) c.held →
-    PutSoFar l from to left rest a c run later longest (count + 1)
-put_more l from mid to left middle rest a b c run next later samples longest here count r so more
-    step after here-is few is put = record {
+    PutSoFar l from to left rest a c run later longest (count + 1) more_tally
+put_more l from mid to left middle rest a b c run next later samples longest here count tally
+    more_tally r so more step after here-is few is tallies put = record {
       records = so.records ++ r ∷ [];
       so_far = more_so_far l from mid to left middle rest run so.records next later count r
           so.so_far
           more step after;
       put = one_put l run so.records r samples longest here so.put step.sound here-is few is;
+      tallied = tallies so.records so.tallied;
       wrote = text_then a b c run so.records r c.held so.wrote put;
     }
 
 -- all that was listed of a run was put
 pub all_put : (l : Layout) (from to : Progress) (left rest : Option (List ℕ)) (a b : Buffered)
-    (run : Run) (next samples count : ℕ) → PutSoFar l from to left rest a b run next samples count
+    (run : Run) (next samples count : ℕ) (tally : Tally)
+    → PutSoFar l from to left rest a b run next samples count tally
     → count ≡ run.records → samples ≡ run.block_samples →
-    next ≡ run.last + duration_of l.key.duration → IsPutAll l from to left rest a b run
-all_put l from to left rest a b run next samples count so all same ends =
+    next ≡ run.last + duration_of l.key.duration → IsPutAll l from to left rest a b run tally
+all_put l from to left rest a b run next samples count tally so all same ends =
     let d = duration_of l.key.duration in
     let rs = so.records in
     let counted : length rs ≡ run.records = so.so_far.counted ∙ all in
@@ -213,15 +222,16 @@ all_put l from to left rest a b run next samples count so all same ends =
         holds = subst (λ n. BlocksFit (second_of run.first) n rs) same so.put.holds;
         least = λ fewer hold. omega (arith, so.put.least fewer hold, same);
       };
+      tallied = so.tallied;
       put = so.wrote;
     }
 
 -- what was put so far stays a front, where no more is put
 pub stops_put : (l : Layout) (from mid to : Progress) (left middle rest : Option (List ℕ))
-    (a b : Buffered) (run : Run) (next samples count : ℕ)
-    → PutSoFar l from mid left middle a b run next samples count → count ≤ run.records →
+    (a b : Buffered) (run : Run) (next samples count : ℕ) (tally : Tally)
+    → PutSoFar l from mid left middle a b run next samples count tally → count ≤ run.records →
     ReadsOneMoreAtMost l mid to middle rest count run → StopsPutting l from to left rest a b run
-stops_put l from mid to left middle rest a b run next samples count so few more = record {
+stops_put l from mid to left middle rest a b run next samples count tally so few more = record {
   records = so.records;
   mid = mid;
   middle = middle;
@@ -237,15 +247,15 @@ stops_put l from mid to left middle rest a b run next samples count so few more 
 
 -- one more was read, of which a front was put at most
 pub stops_in_put : (l : Layout) (from mid to : Progress) (left middle rest : Option (List ℕ))
-    (a b c : Buffered) (run : Run) (next samples here count : ℕ) (r : DataRecord)
+    (a b c : Buffered) (run : Run) (next samples here count : ℕ) (tally : Tally) (r : DataRecord)
     (unwritten : List ℕ)
-    → PutSoFar l from mid left middle a b run next samples count → count < run.records →
+    → PutSoFar l from mid left middle a b run next samples count tally → count < run.records →
     StepsOn l mid to middle rest next r
     → here ≡ (length (block_of (second_of run.first) r) + 1) / 2 → here ≤ run.block_samples
     → Writes b c (record_text (second_of run.first) (2 * run.block_samples) r) unwritten →
     StopsPutting l from to left rest a c run
-stops_in_put l from mid to left middle rest a b c run next samples here count r unwritten so few
-    step here-is fits put =
+stops_in_put l from mid to left middle rest a b c run next samples here count tally r unwritten so
+    few step here-is fits put =
     let so-far = more_so_far l from mid to left middle rest run so.records next
     (r.start + duration_of l.key.duration) count r so.so_far few step refl in
     record {
@@ -355,13 +365,13 @@ file_len k rs run header sound is =
 -- ---- what is answered
 
 -- what was sent is the run's file
-pub written : (l : Layout) (from to : Progress) (left rest before after : Option (List ℕ))
-    (header : List ℕ) (run : Run) (len : ℕ) → IsKey l.key → MayStart l.key run.first
-    → IsRunHeader header l.key run → IsSent l from to left rest before after header run
+pub went_out : (l : Layout) (from to : Progress) (left rest before after : Option (List ℕ))
+    (header : List ℕ) (run : Run) (len : ℕ) (tally : Tally) → IsKey l.key → MayStart l.key run.first
+    → IsRunHeader header l.key run → IsSent l from to left rest before after header run tally
     → len ≡ length header + run.records
     * (2 * samples_in_all l.key.signals + 2 * run.block_samples) →
     IsRunWritten l from to left rest before after run len
-written l from to left rest before after header run len key begins is-header sent len-is =
+went_out l from to left rest before after header run len tally key begins is-header sent len-is =
     let file = run_file l.key sent.records run header key begins sent.sound sent.listed is-header in
     record {
       records = sent.records;
@@ -373,6 +383,26 @@ written l from to left rest before after header run len key begins is-header sen
           is file;
       wrote = sent.wrote;
       len_is = len-is ∙ file_len l.key sent.records run header sent.sound sent.listed;
+    }
+
+pub counted_run : (l : Layout) (from to : Progress) (left rest before after : Option (List ℕ))
+    (header : List ℕ) (run : Run) (written : Written) (tally : Tally) → IsKey l.key
+    → MayStart l.key run.first
+    → IsRunHeader header l.key run → IsSent l from to left rest before after header run tally
+    → written.bytes ≡ length header + run.records
+    * (2 * samples_in_all l.key.signals + 2 * run.block_samples)
+    → written.annotations ≡ tally.annotations → written.outside ≡ tally.outside →
+    IsCountedRun l from to left rest before after run written
+unfolding went_out
+counted_run l from to left rest before after header run written tally key begins is-header sent
+    len-is all out =
+    record {
+      went_out = went_out l from to left rest before after header run written.bytes tally key begins
+          is-header sent len-is;
+      counted = record {
+        all = all ∙ sent.tallied.counted.all;
+        out = out ∙ sent.tallied.counted.out;
+      };
     }
 
 -- nothing was read or written

@@ -6,3 +6,5 @@ pub mod Written
 pub mod Rejoined
 pub mod Inside
 pub mod ByOnset
+pub mod Canonical
+pub mod Counted

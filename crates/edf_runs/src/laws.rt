@@ -8,6 +8,8 @@ ghost use Rattle.edf_fragment.specs.Fragment.{DataRecord};
 ghost use Rattle.edf_fragment.specs.Sound.{AreSound, MayBegin};
 ghost use Rattle.edf_runs.specs.ByOnset.{EachInItsRun, EachWhereStarted, StayAlike};
 ghost use Rattle.edf_runs.specs.ByOnset.{StayInOrder};
+ghost use Rattle.edf_runs.specs.Canonical.{LeavesFrontOfFile};
+ghost use Rattle.edf_runs.specs.Counted.{OutsideIsNotCovered};
 ghost use Rattle.edf_runs.specs.File.{IsRunFile, IsContinuous};
 ghost use Rattle.edf_runs.specs.Rejoined.{RunsRejoin};
 ghost use Rattle.edf_runs.specs.Runs.{IsRuns, IsTouching};
@@ -54,4 +56,15 @@ pub fn by_onset()
     ensures which { EachWhereStarted }
     ensures alike { StayAlike }
     ensures order { StayInOrder }
+{}
+
+/// Where [`write_canonical`](crate::write_canonical) ends in a fault, and its input spells what was
+/// planned, nothing went out, or a front of the canonical file.
+pub fn a_front_of_the_canonical_file()
+    ensures { LeavesFrontOfFile }
+{}
+
+/// What is counted as outside of a run is just what its data records don't cover.
+pub fn outside_is_not_covered()
+    ensures { OutsideIsNotCovered }
 {}

@@ -10,18 +10,43 @@ use crate::fault::WriteFault;
 use crate::run::Run;
 use crate::run_list::Listing;
 use edf_fragment::{FragmentFault, Input, OpenFragment, Record};
+use edf_header::Identity;
 use edf_header::laws::header_is_layout;
 use std::alloc::Global;
 
 /// Why a second reading stops, by the fault that it met. The file had no fault of form when its
 /// runs were listed, so one of form means that it changed.
-fn fault_again(fault: FragmentFault) -> WriteFault
+pub(crate) fn fault_again(fault: FragmentFault) -> WriteFault
     ensures { result ≡ fault_again fault }
 {
     match fault {
         FragmentFault::Read => WriteFault::Read,
         FragmentFault::Memory => WriteFault::Memory,
         _ => WriteFault::Changed,
+    }
+}
+
+/// Reads again the header of a file, which must name this recording.
+pub(crate) fn open_again<R: Input>(
+    alloc: Global,
+    input: &mut R,
+    identity: &Identity,
+) -> Result<OpenFragment, WriteFault>
+    ensures answer { MatchResult result
+        (λ fragment. ReadsHeader (R.remaining input.old) (R.remaining input.new) fragment.header
+        × (fragment.progress ≡ at_first) × (fragment.header.key ≡ identity.now))
+        (IsNotReopened (R.remaining input.old) (R.remaining input.new) identity.now) }
+    ensures counted { CountsRereads (R.failures input.old) (R.failures input.new) result }
+{
+    match OpenFragment::read(alloc, input) {
+        Ok(fragment) => {
+            if fragment.header().identity().same(identity) {
+                Ok(fragment)
+            } else {
+                Err(WriteFault::Changed)
+            }
+        }
+        Err(fault) => Err(fault_again(fault)),
     }
 }
 
@@ -41,16 +66,7 @@ pub fn reopen<R: Input>(
         (IsNotReopened (R.remaining input.old) (R.remaining input.new) listing.now.identity) }
     ensures counted { CountsRereads (R.failures input.old) (R.failures input.new) result }
 {
-    match OpenFragment::read(alloc, input) {
-        Ok(fragment) => {
-            if fragment.header().identity().same(&listing.identity) {
-                Ok(fragment)
-            } else {
-                Err(WriteFault::Changed)
-            }
-        }
-        Err(fault) => Err(fault_again(fault)),
-    }
+    open_again(alloc, input, &listing.identity)
 }
 
 /// The next data record of a file that is read again, which must start at this instant.

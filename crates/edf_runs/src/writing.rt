@@ -7,6 +7,7 @@ ghost use Rattle.edf_canonical.specs.Output.{buffered};
 ghost use Rattle.edf_runs.specs.File.{marked_continuous};
 ghost use Rattle.edf_runs.specs.Written.{IsRunWritten, IsRunHeader, IsNotWritten};
 ghost use Rattle.edf_runs.specs.Again.{RereadsRun};
+ghost use Rattle.edf_runs.specs.Counted.{IsCountedRun};
 ghost use Rattle.edf_runs.specs.Written.{CountsCalls};
 ghost use Rattle.edf_runs.specs.Inside.Steps.{IsPutAll, StopsPutting, IsSent, StopsSending};
 ghost use Rattle.edf_runs.specs.Inside.Steps.{CountsSending};
@@ -14,6 +15,8 @@ ghost use Rattle.edf_runs.specs.Inside.Steps.{CountsSending};
 use crate::fault::WriteFault;
 use crate::reading::next_at;
 use crate::run::Run;
+use crate::tally::Tally;
+use crate::written::Written;
 use edf_canonical::{Buffer, OutputFault, flush, put, put_record, samples_of};
 use edf_fragment::{Input, OpenFragment, Output};
 use edf_header::laws::{header_is_layout, identity_is_key};
@@ -73,13 +76,13 @@ fn put_records<R: Input, W: Output>(
     run: &Run,
     out: &mut W,
     held: &mut Buffer,
-) -> Result<(), WriteFault>
+) -> Result<Tally, WriteFault>
     ensures reread { RereadsRun fragment.old fragment.new (R.remaining input.old) run.now result }
     ensures put { MatchResult result
-        (λ _. IsPutAll fragment.old.header fragment.old.progress fragment.new.progress
+        (λ tally. IsPutAll fragment.old.header fragment.old.progress fragment.new.progress
         (R.remaining input.old) (R.remaining input.new)
         (buffered W.Output out.old held.old.bytes.items)
-        (buffered W.Output out.new held.new.bytes.items) run.now)
+        (buffered W.Output out.new held.new.bytes.items) run.now tally)
         (λ _. StopsPutting fragment.old.header fragment.old.progress fragment.new.progress
         (R.remaining input.old) (R.remaining input.new)
         (buffered W.Output out.old held.old.bytes.items)
@@ -93,6 +96,7 @@ fn put_records<R: Input, W: Output>(
     let size = 2 * run.block_samples() as usize;
     let mut next = run.first().nanos();
     let mut longest = 0;
+    let mut tally = Tally::of(run, duration);
     for _ in 0..run.records() {
         let data_record = next_at(fragment, input, next)?;
         let samples = samples_of(&data_record, base);
@@ -101,12 +105,13 @@ fn put_records<R: Input, W: Output>(
         }
         put_record(alloc, out, held, &data_record, base, size)?;
         longest = samples.max(longest);
+        tally = tally.with(&data_record);
         next = data_record.start().nanos() + duration;
     }
     if longest != run.block_samples() || next != run.last().nanos() + duration {
         return Err(WriteFault::Changed);
     }
-    Ok(())
+    Ok(tally)
 }
 
 /// Writes a header and then the data records of a run, from an empty buffer.
@@ -117,12 +122,12 @@ fn send_run<R: Input, W: Output>(
     run: &Run,
     header: &[u8],
     out: &mut W,
-) -> Result<(), WriteFault>
+) -> Result<Tally, WriteFault>
     ensures reread { RereadsRun fragment.old fragment.new (R.remaining input.old) run.now result }
     ensures sent { MatchResult result
-        (λ _. IsSent fragment.old.header fragment.old.progress fragment.new.progress
+        (λ tally. IsSent fragment.old.header fragment.old.progress fragment.new.progress
         (R.remaining input.old) (R.remaining input.new) (W.contents out.old) (W.contents out.new)
-        header.now run.now)
+        header.now run.now tally)
         (λ _. StopsSending fragment.old.header fragment.old.progress fragment.new.progress
         (R.remaining input.old) (R.remaining input.new) (W.contents out.old) (W.contents out.new)
         header.now run.now) }
@@ -131,13 +136,14 @@ fn send_run<R: Input, W: Output>(
 {
     let mut held = Buffer::new(alloc);
     put(out, &mut held, header)?;
-    put_records(alloc, fragment, input, run, out, &mut held)?;
+    let tally = put_records(alloc, fragment, input, run, out, &mut held)?;
     flush(out, &mut held)?;
-    Ok(())
+    Ok(tally)
 }
 
 /// Reads the data records of a run again, which come next in its file, and writes the run's file:
-/// their canonical file, but EDF+C in place of EDF+D. It tells the length in bytes.
+/// their canonical file, but EDF+C in place of EDF+D. It tells the length in bytes, how many
+/// annotations the file has, and how many of these have an onset outside of the run.
 ///
 /// One data record is in memory at a time, beside a buffer of 64 KiB. The writer is not flushed.
 ///
@@ -146,6 +152,47 @@ fn send_run<R: Input, W: Output>(
 /// where other data records come than were listed; `Read` (E40) where a read failed, `Memory` (E41)
 /// where memory ran out, `Write` (E43) where a write failed or took none of some bytes. Then a
 /// front of the file may have been written.
+pub fn write_counted<R: Input, W: Output>(
+    alloc: Global,
+    fragment: &mut OpenFragment,
+    input: &mut R,
+    run: &Run,
+    out: &mut W,
+) -> Result<Written, WriteFault>
+    ensures reread { RereadsRun fragment.old fragment.new (R.remaining input.old) run.now result }
+    ensures written { IfOk result
+        (IsCountedRun fragment.old.header fragment.old.progress fragment.new.progress
+        (R.remaining input.old) (R.remaining input.new) (W.contents out.old) (W.contents out.new)
+        run.now) }
+    ensures refused { IfErr result
+        (IsNotWritten fragment.old.header fragment.old.progress fragment.new.progress
+        (R.remaining input.old) (R.remaining input.new) (W.contents out.old) (W.contents out.new)
+        run.now) }
+    ensures dated { (result ≢ Err WriteFault.Undated)
+        ↔ MayStart fragment.old.header.key run.now.first }
+    ensures counted { CountsCalls (R.failures input.old) (R.failures input.new)
+        (W.failures out.old) (W.failures out.new) result }
+{
+    let identity = fragment.header().identity();
+    if !identity.may_start(run.first()) {
+        return Err(WriteFault::Undated);
+    }
+    let Ok(header) = run_header(alloc, identity, run) else {
+        return Err(WriteFault::Memory);
+    };
+    let record_bytes = identity.ordinary_bytes() + 2 * run.block_samples() as usize;
+    let tally = send_run(alloc, fragment, input, run, header.as_slice(), out)?;
+    Ok(Written {
+        bytes: header.len() as u64 + run.records() as u64 * record_bytes as u64,
+        annotations: tally.annotations,
+        outside: tally.outside,
+    })
+}
+
+/// The same, but it tells the length in bytes alone.
+///
+/// # Errors
+/// As [`write_counted`].
 pub fn write_run<R: Input, W: Output>(
     alloc: Global,
     fragment: &mut OpenFragment,
@@ -167,14 +214,8 @@ pub fn write_run<R: Input, W: Output>(
     ensures counted { CountsCalls (R.failures input.old) (R.failures input.new)
         (W.failures out.old) (W.failures out.new) result }
 {
-    let identity = fragment.header().identity();
-    if !identity.may_start(run.first()) {
-        return Err(WriteFault::Undated);
+    match write_counted(alloc, fragment, input, run, out) {
+        Ok(written) => Ok(written.bytes),
+        Err(fault) => Err(fault),
     }
-    let Ok(header) = run_header(alloc, identity, run) else {
-        return Err(WriteFault::Memory);
-    };
-    let record_bytes = identity.ordinary_bytes() + 2 * run.block_samples() as usize;
-    send_run(alloc, fragment, input, run, header.as_slice(), out)?;
-    Ok(header.len() as u64 + run.records() as u64 * record_bytes as u64)
 }

@@ -5,6 +5,7 @@ use crate::folder::Folder;
 use crate::shelf::Shelf;
 use crate::stage::{outcome_of, story};
 use edf_program::Status;
+use edfruns_command::Outputs;
 use std::alloc::Global;
 
 /// The length of `two.edf`.
@@ -15,7 +16,7 @@ fn story_of_failing(alloc: Global, line: &str, first: usize, second: usize) -> O
     let shelf = Shelf::new(alloc).failing(first, second);
     let mut folder = Folder::new(alloc);
     let printed = story(alloc, shelf, &mut folder, usize::MAX, line)?;
-    if folder.count() == 0 {
+    if folder.left() == 0 {
         Some(printed)
     } else {
         None
@@ -51,23 +52,39 @@ fn a_reading_that_fails_is_refused_and_leaves_no_file(rt: HostRuntime) {
     }
 }
 
+#[test]
+fn a_reading_that_fails_leaves_nothing_of_a_canonical_file(rt: HostRuntime) {
+    for is_second in [false, true] {
+        let is_refused = fails_anywhere(rt.alloc(), "canonical two.edf", is_second);
+        assert!(rt; is_refused, "second: {is_second}");
+    }
+}
+
 /// What a command prints, and how many files it leaves, where the second reading finds the file of
 /// that name.
 fn story_of_changed(alloc: Global, line: &str, name: &str) -> Option<(String, usize)> {
     let shelf = Shelf::new(alloc).changed(file_named(alloc, name)?);
     let mut folder = Folder::new(alloc);
     let printed = story(alloc, shelf, &mut folder, usize::MAX, line)?;
-    Some((printed, folder.count()))
+    Some((printed, folder.left()))
 }
 
 #[test]
 fn a_file_that_changed_between_its_readings_is_refused_and_leaves_no_file(rt: HostRuntime) {
-    let expected = "err: two.edf refused E40 Read\nstatus 3\n";
-    for name in ["one.edf", "cut.edf", "tenths.edf", "overlap.edf"] {
-        let printed = story_of_changed(rt.alloc(), "split two.edf night", name);
-        let is_printed = printed.is_some_and(|(text, files)| text.as_str() == expected
-            && files == 0);
-        assert!(rt; is_printed, "{name}");
+    let expected = "err: two.edf changed between its readings\nstatus 3\n";
+    for line in ["canonical two.edf", "split two.edf night"] {
+        for name in [
+            "one.edf",
+            "cut.edf",
+            "loose.edf",
+            "tenths.edf",
+            "overlap.edf",
+        ] {
+            let printed = story_of_changed(rt.alloc(), line, name);
+            let is_printed = printed.is_some_and(|(text, files)| text.as_str() == expected
+                && files == 0);
+            assert!(rt; is_printed, "{line}, {name}");
+        }
     }
 }
 
@@ -80,12 +97,12 @@ fn story_of_grown(alloc: Global) -> Option<(String, usize)> {
     let shelf = Shelf::new(alloc).changed(bytes);
     let mut folder = Folder::new(alloc);
     let printed = story(alloc, shelf, &mut folder, usize::MAX, "split two.edf night")?;
-    Some((printed, folder.count()))
+    Some((printed, folder.left()))
 }
 
 #[test]
 fn a_file_that_grew_between_its_readings_is_refused_and_leaves_no_file(rt: HostRuntime) {
-    let expected = "err: two.edf refused E40 Read\nstatus 3\n";
+    let expected = "err: two.edf changed between its readings\nstatus 3\n";
     let printed = story_of_grown(rt.alloc());
     assert!(rt; printed.is_some_and(|(text, files)| text.as_str() == expected && files == 0));
 }
@@ -94,25 +111,37 @@ fn a_file_that_grew_between_its_readings_is_refused_and_leaves_no_file(rt: HostR
 fn story_of_folder(alloc: Global, mut folder: Folder) -> Option<(String, usize)> {
     let shelf = Shelf::new(alloc);
     let printed = story(alloc, shelf, &mut folder, usize::MAX, "split two.edf night")?;
-    Some((printed, folder.count()))
+    Some((printed, folder.left()))
 }
 
 #[test]
-fn a_file_that_cannot_be_written_is_refused_and_leaves_no_file(rt: HostRuntime) {
-    let expected = "err: two.edf refused E43 Write\nstatus 3\n";
+fn a_file_that_cannot_be_written_is_named_and_no_file_is_left(rt: HostRuntime) {
     let alloc = rt.alloc();
-    for (folder, why) in [
-        (Folder::new(alloc).with_room(0), "no room"),
-        (Folder::new(alloc).with_room(800), "room for a part"),
-        (Folder::new(alloc).unmade(1), "the first not made"),
-        (Folder::new(alloc).unmade(3), "the last not made"),
-        (Folder::new(alloc).unfinished(2), "the second not ended"),
+    for (folder, name) in [
+        (Folder::new(alloc).with_room(0), "night-1.edf"),
+        (Folder::new(alloc).with_room(800), "night-1.edf"),
+        (Folder::new(alloc).unmade(1), "night-1.edf"),
+        (Folder::new(alloc).unmade(3), "night-3.edf"),
+        (Folder::new(alloc).unfinished(2), "night-2.edf"),
     ] {
         let printed = story_of_folder(alloc, folder);
-        let is_printed = printed.is_some_and(|(text, files)| text.as_str() == expected
-            && files == 0);
-        assert!(rt; is_printed, "{why}");
+        let expected = format!(in alloc; "err: {name} refused E43 Write\nstatus 3\n");
+        let is_printed = match (printed, expected) {
+            (Some((text, files)), Ok(expected)) => text == expected && files == 0,
+            _ => false,
+        };
+        assert!(rt; is_printed, "{name}");
     }
+}
+
+#[test]
+fn a_file_that_cannot_be_removed_is_named_and_the_others_are_gone(rt: HostRuntime) {
+    let alloc = rt.alloc();
+    let folder = Folder::new(alloc).unmade(3).unremoved(1);
+    let expected =
+        "err: night-3.edf refused E43 Write\nnight-1.edf could not be removed\nstatus 3\n";
+    let printed = story_of_folder(alloc, folder);
+    assert!(rt; printed.is_some_and(|(text, files)| text.as_str() == expected && files == 1));
 }
 
 /// What a second `split` prints over the files of a first one, and whether those are left.
@@ -122,7 +151,7 @@ fn second_story(alloc: Global) -> Option<(String, usize, bool)> {
     outcome_of(alloc, Shelf::new(alloc), &mut folder, usize::MAX, line)?;
     let printed = story(alloc, Shelf::new(alloc), &mut folder, usize::MAX, line)?;
     let is_left = folder.has("night-1.edf", first_run(alloc).ok()?.as_slice());
-    Some((printed, folder.count(), is_left))
+    Some((printed, folder.left(), is_left))
 }
 
 #[test]
@@ -136,12 +165,58 @@ fn no_file_that_is_there_is_written_over(rt: HostRuntime) {
     );
 }
 
+/// What a `split` of three runs prints where a file of this name is there, and how many are left.
+fn story_beside(alloc: Global, there: &str) -> Option<(String, usize)> {
+    let mut folder = Folder::new(alloc);
+    drop(folder.create(alloc, there).ok()?);
+    let printed = story(
+        alloc,
+        Shelf::new(alloc),
+        &mut folder,
+        usize::MAX,
+        "split two.edf night",
+    )?;
+    Some((printed, folder.left()))
+}
+
+#[test]
+fn the_first_file_of_an_earlier_split_with_other_digits_is_found(rt: HostRuntime) {
+    let alloc = rt.alloc();
+    for name in ["night-3.edf", "night-01.edf", "night-00000001.edf"] {
+        let printed = story_beside(alloc, name);
+        let expected = format!(in alloc;
+            "err: {name} is there already; nothing was written\nstatus 1\n"
+        );
+        let is_printed = match (printed, expected) {
+            (Some((text, files)), Ok(expected)) => text == expected && files == 1,
+            _ => false,
+        };
+        assert!(rt; is_printed, "{name}");
+    }
+}
+
+#[test]
+fn other_files_of_the_prefix_are_left_alone(rt: HostRuntime) {
+    for name in [
+        "night-4.edf",
+        "night-02.edf",
+        "night-000000001.edf",
+        "night1.edf",
+    ] {
+        let printed = story_beside(rt.alloc(), name);
+        let is_done = printed.is_some_and(|(text, files)| {
+            text.as_str().ends_with("status 0\n") && files == 4
+        });
+        assert!(rt; is_done, "{name}");
+    }
+}
+
 /// How a line of words ends with room for so many bytes on standard output, how many bytes went
 /// out, and how many files are left.
 fn outcome_with_room(alloc: Global, line: &str, room: usize) -> Option<(Status, usize, usize)> {
     let mut folder = Folder::new(alloc);
     let outcome = outcome_of(alloc, Shelf::new(alloc), &mut folder, room, line)?;
-    Some((outcome.status, outcome.out.len(), folder.count()))
+    Some((outcome.status, outcome.out.len(), folder.left()))
 }
 
 #[test]
@@ -149,6 +224,7 @@ fn lines_and_files_that_cannot_be_written_are_trouble(rt: HostRuntime) {
     for line in [
         "list two.edf",
         "write two.edf 2",
+        "canonical two.edf",
         "split two.edf night",
         "picture two.edf",
     ] {

@@ -100,6 +100,57 @@ pub(crate) fn third_run(alloc: Global) -> Result<Vec<u8>, AllocError> {
     file_of(alloc, &header, &[(6, b"+0\x14\x14\0")], 6)
 }
 
+/// Four data records with a gap of 8 seconds, and annotations outside of their data records: before
+/// the first run, in it and a nanosecond before its end, at its end, in the gap, at the start of
+/// the second run, in it, at its end, and long after it.
+pub(crate) fn strays(alloc: Global) -> Result<Vec<u8>, AllocError> {
+    let header = q().count("4").annotations_samples("24");
+    let records: &[(u8, &[u8])] = &[
+        (1, b"+0.5\x14\x14\0-3\x14Before\x14\0+0.5\x14First\x14\0"),
+        (2, b"+1.5\x14\x14\0+2.5\x14End\x14\0+11.25\x14Later\x14\0"),
+        (
+            3,
+            b"+10.5\x14\x14\0+5\x14Gap\x14\0+2.499999999\x14Short\x14\0",
+        ),
+        (
+            4,
+            b"+11.5\x14\x14\0+10.5\x14Moved\x14\0+12.5\x14Past\x14\0+99\x14Far\x14\0",
+        ),
+    ];
+    file_of(alloc, &header, records, 48)
+}
+
+/// The file of the first run of `strays`.
+pub(crate) fn first_strays(alloc: Global) -> Result<Vec<u8>, AllocError> {
+    let header = q().reserved("EDF+C").count("2").annotations_samples("16");
+    let records: &[(u8, &[u8])] = &[
+        (1, b"+0.5\x14\x14\0-3\x14Before\x14\0+0.5\x14First\x14\0"),
+        (2, b"+1.5\x14\x14\0+2.5\x14End\x14\0+11.25\x14Later\x14\0"),
+    ];
+    file_of(alloc, &header, records, 32)
+}
+
+/// The file of the second run of `strays`, which begins on the next day at midnight.
+pub(crate) fn second_strays(alloc: Global) -> Result<Vec<u8>, AllocError> {
+    let header = q()
+        .reserved("EDF+C")
+        .recording("Startdate 03-MAR-2002 N1 T3 REC5")
+        .start("03.03.02", "00.00.00")
+        .count("2")
+        .annotations_samples("20");
+    let records: &[(u8, &[u8])] = &[
+        (
+            3,
+            b"+0.5\x14\x14\0-5\x14Gap\x14\0-7.500000001\x14Short\x14\0",
+        ),
+        (
+            4,
+            b"+1.5\x14\x14\0+0.5\x14Moved\x14\0+2.5\x14Past\x14\0+89\x14Far\x14\0",
+        ),
+    ];
+    file_of(alloc, &header, records, 40)
+}
+
 /// A thousand data records, each a second after the end of the one before. The first begins on
 /// 2002-03-03 at midnight.
 pub(crate) fn thousand(alloc: Global) -> Result<Vec<u8>, AllocError> {
@@ -129,6 +180,36 @@ fn tenths(alloc: Global) -> Result<Vec<u8>, AllocError> {
     file_of(alloc, &header, records, 8)
 }
 
+/// The first run of `two_gaps` in a file of an unknown count, marked as one without a gap, with
+/// zeros behind its numbers and more room than it needs.
+fn loose(alloc: Global) -> Result<Vec<u8>, AllocError> {
+    let header = q().reserved("EDF+C").count("-1").annotations_samples("18");
+    let records: &[(u8, &[u8])] = &[
+        (1, b"+0.250\x14\x14\0"),
+        (2, b"+01.25\x14\x14\0+1.50\x14Snore\x14\0"),
+        (3, b"+2.25\x14\x14\0"),
+    ];
+    file_of(alloc, &header, records, 36)
+}
+
+/// The canonical file of `loose`, with room for 20 bytes of annotations.
+pub(crate) fn canonical_loose(alloc: Global) -> Result<Vec<u8>, AllocError> {
+    let header = q().count("3").annotations_samples("10");
+    let records: &[(u8, &[u8])] = &[
+        (1, b"+0.25\x14\x14\0"),
+        (2, b"+1.25\x14\x14\0+1.5\x14Snore\x14\0"),
+        (3, b"+2.25\x14\x14\0"),
+    ];
+    file_of(alloc, &header, records, 20)
+}
+
+/// The canonical file of `one.edf`, with room for 6 bytes of annotations.
+pub(crate) fn canonical_one(alloc: Global) -> Result<Vec<u8>, AllocError> {
+    let header = q().count("2").annotations_samples("3");
+    let records: &[(u8, &[u8])] = &[(1, b"+0\x14\x14\0"), (2, b"+1\x14\x14\0")];
+    file_of(alloc, &header, records, 6)
+}
+
 /// The file of a name, where there is one.
 pub(crate) fn file_named(alloc: Global, name: &str) -> Option<Vec<u8>> {
     let made = match name {
@@ -138,6 +219,7 @@ pub(crate) fn file_named(alloc: Global, name: &str) -> Option<Vec<u8>> {
         "one.edf" => night(alloc, "2", &[b"+0\x14\x14\0", b"+1\x14\x14\0"]),
         "nanosecond.edf" => night(alloc, "2", &[b"+0\x14\x14\0", b"+1.000000001\x14\x14\0"]),
         "day.edf" => night(alloc, "2", &[b"+0\x14\x14\0", b"+86401\x14\x14\0"]),
+        "loose.edf" => loose(alloc),
         "overlap.edf" => night(alloc, "2", &[b"+0\x14\x14\0", b"+0.5\x14\x14\0"]),
         "cut.edf" => night(alloc, "3", &[b"+0\x14\x14\0", b"+2\x14\x14\0"]),
         _ => return None,

@@ -1,64 +1,61 @@
 //! What takes files in place of a disk.
 
-use edf_fragment::Counted;
-use edfruns_command::Outputs;
+ghost use Rattle.std.specs.Prelude.{◌≡◌, ◌++◌, ◌∷◌, [], None, Some, true, MatchResult};
+ghost use Rattle.edfruns_command.specs.Made.{begun};
+
+use edf_fragment::Output;
+use edfruns_command::{MadeFiles, Outputs, Stage};
 use std::alloc::Global;
-use std::cell::RefCell;
-use std::io::{self, Write};
-use std::rc::Rc;
+use std::io;
 
 /// A writer that takes so many bytes, and then fails.
 #[derive(Drop)]
 pub(crate) struct Page {
-    bytes: Rc<RefCell<Vec<u8>>>,
+    bytes: Vec<u8>,
     room: usize,
+    failures: u64,
 }
 
-impl Write for Page {
+impl Output for Page {
+    ghost contents = { λ page. Some page.bytes.items };
+
+    ghost failures = { λ page. page.failures };
+
     fn write(&mut self, buf: &[u8]) -> io::Result<usize> {
-        let Ok(mut bytes) = self.bytes.try_borrow_mut() else {
-            return Err(io::Error::from(io::ErrorKind::Other));
-        };
-        let most = buf.len().min(self.room.saturating_sub(bytes.len()));
-        if most == 0 && !buf.is_empty() {
+        let most = buf.len().min(self.room.saturating_sub(self.bytes.len()));
+        let is_full = most == 0 && !buf.is_empty();
+        if is_full || self.bytes.extend_from_slice(&buf[..most]).is_err() {
+            self.failures = self.failures.saturating_add(1);
             return Err(io::Error::from(io::ErrorKind::StorageFull));
         }
-        bytes.extend_from_slice(&buf[..most])?;
         Ok(most)
     }
-
-    fn flush(&mut self) -> io::Result<()> {
-        Ok(())
-    }
-}
-
-/// A file that was made, or was there before.
-#[derive(Drop)]
-struct Entry {
-    name: String,
-    bytes: Rc<RefCell<Vec<u8>>>,
 }
 
 /// The files that are there.
 #[derive(Drop)]
 pub(crate) struct Folder {
-    entries: Vec<Entry>,
+    files: MadeFiles,
+    failed: u64,
     /// How many bytes each new file takes.
     room: usize,
-    /// Which file from the first can't be made, and which can't be ended; 0 where each can.
+    /// Which file from the first can't be made, ended and removed; 0 where each can.
     unmade: usize,
     unfinished: usize,
-    made: usize,
+    unremoved: usize,
+    asked: usize,
 }
 
 impl Folder {
     pub(crate) fn new(alloc: Global) -> Folder {
         Folder {
-            entries: Vec::new(alloc),
+            files: MadeFiles::new(alloc),
+            failed: 0,
             room: usize::MAX,
             unmade: 0,
             unfinished: 0,
-            made: 0,
+            unremoved: 0,
+            asked: 0,
         }
     }
 
@@ -80,63 +77,108 @@ impl Folder {
         self
     }
 
+    /// The file of that number can't be removed.
+    pub(crate) fn unremoved(mut self, number: usize) -> Folder {
+        self.unremoved = number;
+        self
+    }
+
+    /// Whether the file at a place is there.
+    fn is_left(&self, place: usize) -> bool {
+        !matches!(self.files.stage(place), None | Some(Stage::Removed))
+    }
+
     /// How many files are there.
-    pub(crate) fn count(&self) -> usize {
-        self.entries.len()
+    pub(crate) fn left(&self) -> usize {
+        (0..self.files.count())
+            .filter(|place| self.is_left(*place))
+            .count()
+    }
+
+    /// The place of the file of that name, if it is there.
+    fn place_of(&self, name: &str) -> Option<usize> {
+        for place in 0..self.files.count() {
+            if self.is_left(place) && self.files.name(place) == Some(name) {
+                return Some(place);
+            }
+        }
+        None
     }
 
     /// Whether the file of that name is there with these bytes.
     pub(crate) fn has(&self, name: &str, bytes: &[u8]) -> bool {
-        for entry in &self.entries {
-            if entry.name.as_str() == name {
-                return match entry.bytes.try_borrow() {
-                    Ok(held) => held.as_slice() == bytes,
-                    Err(_) => false,
-                };
-            }
+        match self.place_of(name) {
+            Some(place) => self.files.bytes(place) == Some(bytes),
+            None => false,
         }
-        false
+    }
+
+    /// A new, empty file, which is noted.
+    fn make(&mut self, alloc: Global, name: &str) -> io::Result<Page>
+        ensures answer { MatchResult result
+            (λ page. (self.new.files ≡ self.old.files ++ (begun name.now ∷ []))
+            × (page.bytes.items ≡ []) × (page.failures ≡ 0))
+            (λ _. self.new.files ≡ self.old.files) }
+        ensures failed { self.new.failed ≡ self.old.failed }
+    {
+        self.asked = self.asked.saturating_add(1);
+        if self.asked == self.unmade || self.place_of(name).is_some() {
+            return Err(io::Error::from(io::ErrorKind::AlreadyExists));
+        }
+        self.files.begin(alloc, name)?;
+        Ok(Page {
+            bytes: Vec::new(alloc),
+            room: self.room,
+            failures: 0,
+        })
     }
 }
 
 impl Outputs for Folder {
-    type Writer = Counted<Page>;
+    type Writer = Page;
+
+    ghost known = { λ _. true };
+
+    ghost there = { λ _ _. None };
+
+    ghost made = { λ folder. folder.files };
+
+    ghost failed = { λ folder. folder.failed };
 
     fn is_there(&mut self, name: &str) -> bool {
-        self.entries.iter().any(|entry| entry.name.as_str() == name)
+        self.place_of(name).is_some()
     }
 
-    fn create(&mut self, alloc: Global, name: &str) -> io::Result<Counted<Page>> {
-        self.made = self.made.saturating_add(1);
-        if self.made == self.unmade || self.is_there(name) {
-            return Err(io::Error::from(io::ErrorKind::AlreadyExists));
-        }
-        let bytes = Rc::new(alloc, RefCell::new(Vec::new(alloc)))?;
-        let page = Page {
-            bytes: bytes.clone()?,
-            room: self.room,
-        };
-        let name = String::from_str(alloc, name)?;
-        self.entries.push(Entry { name, bytes })?;
-        Ok(Counted::new(page))
-    }
-
-    fn finish(&mut self, writer: Counted<Page>) -> bool {
-        drop(writer);
-        self.made != self.unfinished
-    }
-
-    fn remove(&mut self, name: &str) -> bool {
-        match self
-            .entries
-            .iter()
-            .position(|entry| entry.name.as_str() == name)
-        {
-            Some(at) if at < self.entries.len() => {
-                drop(self.entries.remove(at));
-                true
+    fn create(&mut self, alloc: Global, name: &str) -> io::Result<Page> {
+        match self.make(alloc, name) {
+            Ok(page) => Ok(page),
+            Err(error) => {
+                self.failed = self.failed.saturating_add(1);
+                Err(error)
             }
-            _ => false,
         }
+    }
+
+    fn finish(&mut self, writer: Page) -> bool {
+        if self.asked == self.unfinished {
+            self.failed = self.failed.saturating_add(1);
+            return false;
+        }
+        self.files.finish(Some(writer.bytes));
+        true
+    }
+
+    fn abandon(&mut self, writer: Page) {
+        self.failed = self.failed.saturating_add(writer.failures);
+    }
+
+    fn count(&self) -> usize {
+        self.files.count()
+    }
+
+    fn remove(&mut self, place: usize) -> bool {
+        let is_gone = place.saturating_add(1) != self.unremoved;
+        self.files.end(place, is_gone);
+        is_gone
     }
 }

@@ -149,14 +149,14 @@ const NIGHTS: &[Night] = &[
         "N3",
     ),
     (
-        "a gap between the middles of two columns, and one over a middle",
+        "gaps narrower than half a pixel, between the middles of two columns and over one",
         &[(0, 1_000), (1_001, 999), (2_004, 6_636)],
         &[
             (0, 1_000, 1, "W"),
             (1_001, 999, 1, "N2"),
             (2_004, 996, 1, "W"),
         ],
-        "M112 12H212V66H312M312.5 12H412",
+        "M112 12H212V66H312.5V12H412",
         "N3",
     ),
     (
@@ -222,6 +222,34 @@ fn a_stage_is_drawn_where_it_was_recorded(rt: HostRuntime) -> Result<(), Fail> {
         assert!(rt; svg.contains(path.as_str()), "{name}");
         let label = format!(in alloc; " y='88'>{lowest}</text>")?;
         assert!(rt; svg.contains(label.as_str()), "{name}");
+    }
+    Ok(())
+}
+
+/// How many milliseconds are missing before each half minute. Half a pixel has 5 s or more.
+const DRIFTS: &[u64] = &[1, 4_999];
+
+#[test]
+fn drift_does_not_dash_the_line(rt: HostRuntime) -> Result<(), Fail> {
+    let alloc = rt.alloc();
+    for missing in DRIFTS.iter().copied() {
+        let mut sketch = Sketch::new(alloc);
+        let mut runs = Vec::new(alloc);
+        let mut start = 79_200u64.saturating_mul(SECOND);
+        for _ in 0..288 {
+            let run = stretch(start, 30).ok_or("run")?;
+            sketch.add_annotation(run.first, Some(30 * SECOND), "Sleep stage N2")?;
+            runs.push(run)?;
+            let step = missing
+                .saturating_mul(1_000_000)
+                .saturating_add(30 * SECOND);
+            start = start.saturating_add(step);
+        }
+        let svg = drawn(alloc, &sketch, b"P7", &runs)?;
+        assert!(rt;
+            svg.contains("<path class='s' d='M112 66H976'>"),
+            "{missing}"
+        );
     }
     Ok(())
 }

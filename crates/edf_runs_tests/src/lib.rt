@@ -11,11 +11,15 @@
 //! - `written`: the files of runs, byte for byte.
 //! - `faults`: readers and writers that fail, files that change, names that are there.
 //! - `memory`: memory that runs out, under each budget until one suffices.
+//! - `counted`: what is told of the annotations of runs.
 //! - `library`: the functions of `edf_runs`, each called once.
 //! - `picture`: what pictures say.
 //! - `hypnogram`: where pictures have which stage of sleep.
+//! - `overview`: the lanes of annotations, lights, minutes, tolerance and signals of pictures.
 #![tactic(auto)]
 
+#[cfg(test)]
+mod counted;
 #[cfg(test)]
 mod faults;
 #[cfg(test)]
@@ -30,6 +34,8 @@ mod library;
 mod lines;
 #[cfg(test)]
 mod memory;
+#[cfg(test)]
+mod overview;
 #[cfg(test)]
 mod picture;
 #[cfg(test)]

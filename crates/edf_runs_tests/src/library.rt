@@ -1,8 +1,11 @@
 //! The functions of `edf_runs`, each called once.
 
-use crate::files::{second_run, two_gaps};
+use crate::files::{canonical_loose, file_named, second_run, two_gaps};
 use edf_fragment::{Counted, Input, OpenFragment};
-use edf_runs::{Listing, Run, add_record, list_runs, reopen, skip_run, write_run};
+use edf_runs::{
+    Listing, Run, add_record, list_runs, plan_canonical, reopen, skip_run, write_canonical,
+    write_run,
+};
 use edf_sample::{Sink, Source};
 use std::alloc::Global;
 
@@ -89,4 +92,24 @@ fn a_run_is_skipped_and_the_next_one_written(rt: HostRuntime) {
     let expected = second_run(rt.alloc()).ok();
     let written = second(rt.alloc());
     assert!(rt; matches!((&written, &expected), (Some((got, 844)), Some(file)) if got == file));
+}
+
+/// The canonical file of `loose.edf` by two readings, with its length as it was answered.
+fn canonical(alloc: Global) -> Option<(Vec<u8>, u64)> {
+    let bytes = file_named(alloc, "loose.edf")?;
+    let mut input = Counted::new(Source::whole(&bytes, 100));
+    let plan = plan_canonical(alloc, &mut input).ok()?;
+    let mut again = Counted::new(Source::whole(&bytes, 7));
+    let mut got = Vec::new(alloc);
+    let mut out = Counted::new(Sink::whole(&mut got, 100));
+    let len = write_canonical(alloc, &mut again, &plan, &mut out).ok()?;
+    drop(out);
+    Some((got, len))
+}
+
+#[test]
+fn a_canonical_file_is_planned_and_written(rt: HostRuntime) {
+    let expected = canonical_loose(rt.alloc()).ok();
+    let written = canonical(rt.alloc());
+    assert!(rt; matches!((&written, &expected), (Some((got, 840)), Some(file)) if got == file));
 }

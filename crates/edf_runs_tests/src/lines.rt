@@ -49,6 +49,10 @@ const STORIES: &[(&str, &str)] = &[
         "err: cut.edf refused E21 CutRecord record=3\nstatus 1\n",
     ),
     (
+        "canonical cut.edf",
+        "err: cut.edf refused E21 CutRecord record=3\nstatus 1\n",
+    ),
+    (
         "picture cut.edf",
         "err: cut.edf refused E21 CutRecord record=3\nstatus 1\n",
     ),
@@ -66,6 +70,13 @@ const STORIES: &[(&str, &str)] = &[
         "err: error: FILE is read twice, which standard input can't be: \
         write it to a file first\n\n\
         Usage: edfruns write <FILE> <N>\n\n\
+        For more information, try '--help'.\nstatus 2\n",
+    ),
+    (
+        "canonical -",
+        "err: error: FILE is read twice, which standard input can't be: \
+        write it to a file first\n\n\
+        Usage: edfruns canonical <FILE>\n\n\
         For more information, try '--help'.\nstatus 2\n",
     ),
     (
@@ -112,6 +123,26 @@ fn is_no_number(alloc: Global, number: &str) -> Option<bool> {
 fn numbers_of_runs_are_digits_from_one(rt: HostRuntime) {
     for number in ["0", "00", "+1", "1.0", "4294967296", "one"] {
         assert_eq!(rt; is_no_number(rt.alloc(), number), Some(true), "{number}");
+    }
+}
+
+/// Whether no tolerance is refused as words that ask for nothing.
+fn is_no_tolerance(alloc: Global, seconds: &str) -> Option<bool> {
+    let line = format!(in alloc; "picture two.edf --tolerance={seconds}").ok()?;
+    let printed = plain_story(alloc, line.as_str())?;
+    let why = "err: error: S is a decimal of seconds, 0 or more, with at most nine digits after \
+        the dot\n";
+    Some(printed.as_str().starts_with(why) && printed.as_str().ends_with("status 2\n"))
+}
+
+#[test]
+fn tolerances_are_decimals_of_seconds(rt: HostRuntime) {
+    for seconds in ["-1", "1s", ".5", "0.0000000001", "9223372037"] {
+        assert_eq!(rt;
+            is_no_tolerance(rt.alloc(), seconds),
+            Some(true),
+            "{seconds}"
+        );
     }
 }
 

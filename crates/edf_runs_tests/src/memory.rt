@@ -48,7 +48,7 @@ fn how_served(status: Status, out: &[u8], err: &[u8], files: usize) -> Option<Se
         Status::Trouble if files == 0 && out.is_empty() => {
             let is_printed = err.is_empty()
                 || err == b"two.edf refused E41 Memory\n".as_slice()
-                || err == b"two.edf refused E43 Write\n".as_slice();
+                || err.starts_with(b"night-") && err.ends_with(b".edf refused E43 Write\n");
             if is_printed {
                 Some(Served::Short)
             } else {
@@ -83,7 +83,7 @@ fn run_under(
     let status = run_runs(alloc, command, &mut held, &mut folder, &mut out, &mut err);
     drop((out, err));
     scarce.ease();
-    how_served(status, &out_bytes, &err_bytes, folder.count())
+    how_served(status, &out_bytes, &err_bytes, folder.left())
 }
 
 /// Under how many budgets memory runs out until one suffices; `None` where one is served otherwise,

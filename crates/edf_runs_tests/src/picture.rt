@@ -1,6 +1,6 @@
 //! Pictures, by what their texts say.
 
-use edf_picture::{Sketch, Stretch, Title};
+use edf_picture::{Recorded, Sketch, Stretch, Title};
 use edf_time::Instant;
 use std::alloc::{AllocError, Global};
 use std::test::Fail;
@@ -34,7 +34,13 @@ pub(crate) fn drawn(
         patient,
         investigation: b"N1",
     };
-    sketch.draw(alloc, &title, SECOND, stretches)
+    let recorded = Recorded {
+        duration: SECOND,
+        stretches,
+        signals: &[],
+        tolerance: 0,
+    };
+    sketch.draw(alloc, &title, &recorded)
 }
 
 #[test]

@@ -1,6 +1,6 @@
 //! The files of runs, byte for byte.
 
-use crate::files::{first_run, second_run, third_run};
+use crate::files::{canonical_loose, canonical_one, first_run, second_run, third_run, two_gaps};
 use crate::folder::Folder;
 use crate::shelf::Shelf;
 use crate::stage::outcome_of;
@@ -11,7 +11,7 @@ use std::alloc::{AllocError, Global};
 fn is_written(alloc: Global, line: &str, expected: Result<Vec<u8>, AllocError>) -> Option<bool> {
     let mut folder = Folder::new(alloc);
     let outcome = outcome_of(alloc, Shelf::new(alloc), &mut folder, usize::MAX, line)?;
-    let is_done = outcome.status == Status::Done && outcome.err.is_empty() && folder.count() == 0;
+    let is_done = outcome.status == Status::Done && outcome.err.is_empty() && folder.left() == 0;
     Some(is_done && outcome.out.as_slice() == expected.ok()?.as_slice())
 }
 
@@ -27,12 +27,24 @@ fn each_run_is_written(rt: HostRuntime) {
     }
 }
 
+#[test]
+fn the_canonical_file_is_written(rt: HostRuntime) {
+    let alloc = rt.alloc();
+    for (line, expected) in [
+        ("canonical loose.edf", canonical_loose(alloc)),
+        ("canonical one.edf", canonical_one(alloc)),
+        ("canonical two.edf", two_gaps(alloc)),
+    ] {
+        assert_eq!(rt; is_written(alloc, line, expected), Some(true), "{line}");
+    }
+}
+
 /// Whether three files are made of two gaps, one for each run.
 fn is_split(alloc: Global) -> Option<bool> {
     let mut folder = Folder::new(alloc);
     let line = "split two.edf night";
     let outcome = outcome_of(alloc, Shelf::new(alloc), &mut folder, usize::MAX, line)?;
-    let is_done = outcome.status == Status::Done && outcome.err.is_empty() && folder.count() == 3;
+    let is_done = outcome.status == Status::Done && outcome.err.is_empty() && folder.left() == 3;
     Some(
         is_done
             && folder.has("night-1.edf", first_run(alloc).ok()?.as_slice())
@@ -55,7 +67,7 @@ fn names_of_thousand(alloc: Global) -> Option<(usize, bool)> {
     let mut lines = text.as_str().lines();
     let first = lines.next()?.starts_with("n-0001.edf 1 ");
     let last = lines.last()?.starts_with("n-1000.edf 1000 ");
-    Some((folder.count(), first && last))
+    Some((folder.left(), first && last))
 }
 
 #[test]
@@ -75,7 +87,13 @@ fn picture_and_status(alloc: Global, line: &str) -> Option<(bool, Status)> {
 
 #[test]
 fn a_file_is_pictured(rt: HostRuntime) {
-    for line in ["picture two.edf", "picture -", "picture thousand.edf"] {
+    for line in [
+        "picture two.edf",
+        "picture -",
+        "picture thousand.edf",
+        "picture two.edf --tolerance 0",
+        "picture --tolerance 1.000000000 thousand.edf",
+    ] {
         assert_eq!(rt;
             picture_and_status(rt.alloc(), line),
             Some((true, Status::Done)),

@@ -1,6 +1,7 @@
 //! Why a file could not be read or written, in plain words for a person.
 
 use crate::terminal::Terminal;
+use std::fs;
 use std::io::{self, ErrorKind};
 
 /// What is said where a disk is full.
@@ -18,6 +19,8 @@ fn system_words(error: &io::Error) -> Option<&'static str> {
             "no permission to write: the file system is read-only",
         ),
         ErrorKind::StorageFull | ErrorKind::QuotaExceeded => Some(FULL),
+        ErrorKind::AlreadyExists => Some("it is there already"),
+        ErrorKind::BrokenPipe => Some("what reads it has ended"),
         ErrorKind::Unsupported | ErrorKind::IsADirectory => Some(
             "not a plain file, but a directory, a device or a linked file",
         ),
@@ -44,8 +47,42 @@ fn reading_words(error: &io::Error) -> Option<&'static str> {
 
 /// Prints why a file of this name, or standard input, could not be read.
 pub(crate) fn tell_unread(terminal: &Terminal<'_>, name: &str, error: &io::Error) {
+    terminal.note_unread();
     match reading_words(error) {
         Some(words) => terminal.say(name, words),
         None => terminal.say(name, error),
+    }
+}
+
+/// Prints why a file of this name, which is begun, could not be made.
+pub(crate) fn tell_unmade(terminal: &Terminal<'_>, name: &str, error: &io::Error) {
+    match error.kind() {
+        ErrorKind::AlreadyExists => terminal.say(
+            name,
+            "it is there already: a program is writing it, or was stopped then; if so, remove it",
+        ),
+        _ => tell_system_error(terminal, name, error),
+    }
+}
+
+/// Prints that a pipe is read a second time.
+pub(crate) fn tell_reread(terminal: &Terminal<'_>, name: &str) {
+    terminal.note_unread();
+    terminal.say(
+        name,
+        "a pipe can't be read a second time, unless it is written again: write it to a file first",
+    );
+}
+
+/// Prints why standard output could not be written, under the name of its file, where it is one.
+pub(crate) fn tell_unwritten(rt: &HostRuntime, terminal: &Terminal<'_>, error: &io::Error) {
+    if !terminal.is_there() {
+        return;
+    }
+    match fs::read_link(rt, "/proc/self/fd/1") {
+        Ok(path) if path.as_str().starts_with('/') => {
+            tell_system_error(terminal, path.as_str(), error);
+        }
+        _ => tell_system_error(terminal, "standard output", error),
     }
 }

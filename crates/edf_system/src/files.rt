@@ -3,14 +3,15 @@
 ghost use Rattle.std.specs.Io.{ReadsAtMost};
 ghost use Rattle.std.specs.Prelude.{◌≡◌, None, map, string_bytes};
 
-use crate::cause::tell_unread;
+use crate::cause::{tell_reread, tell_unread};
 use crate::terminal::Terminal;
 use edf_fragment::Counted;
 use edf_program::Inputs;
 use std::alloc::{AllocError, Global};
 use std::cell::RefCell;
-use std::fs::File;
+use std::fs::{self, File};
 use std::io::{self, BufReader, Read, Stdin};
+use std::os::unix::fs::FileTypeExt;
 use std::rc::Rc;
 
 /// How many bytes of a file are asked for at once.
@@ -19,11 +20,14 @@ const PIECE: usize = 16_384;
 /// How many bytes of standard input are asked for at once.
 const STREAM_PIECE: usize = 65_536;
 
-/// Opens FILE arguments; repeated `-` continues standard input.
+/// Opens FILE arguments; repeated `-` continues standard input, unless they are
+/// [`Files::by_name`].
 #[derive(Drop)]
 pub struct Files<'rt> {
     rt: &'rt HostRuntime,
     terminal: &'rt Terminal<'rt>,
+    /// Whether `-` is standard input.
+    has_stream: bool,
     /// Standard input, once a `-` was opened.
     stream: Option<Rc<RefCell<BufReader<Stdin>>>>,
     /// The names that were opened, in turn.
@@ -35,8 +39,29 @@ impl<'rt> Files<'rt> {
         Files {
             rt,
             terminal,
+            has_stream: true,
             stream: None,
             names: Vec::new(rt.alloc()),
+        }
+    }
+
+    /// Opens files alone: `-` is the name of one, as every other name is.
+    pub fn by_name(rt: &'rt HostRuntime, terminal: &'rt Terminal<'rt>) -> Files<'rt> {
+        Files {
+            rt,
+            terminal,
+            has_stream: false,
+            stream: None,
+            names: Vec::new(rt.alloc()),
+        }
+    }
+
+    /// Whether the file of that name is the first that was opened, which a program that reads one
+    /// twice opens again.
+    fn is_again(&self, name: &str) -> bool {
+        match self.names.first() {
+            Some(first) => first.as_str() == name,
+            None => false,
         }
     }
 
@@ -79,15 +104,37 @@ pub struct FileReader<'rt> {
     terminal: &'rt Terminal<'rt>,
     name: String,
     is_begun: bool,
+    /// Whether a file of that name was opened before.
+    is_again: bool,
     state: FileState,
 }
 
 impl FileReader<'_> {
+    /// How many bytes the file has, where that is known. For a person it prints that a pipe is read
+    /// again.
+    fn size(&self) -> Option<u64> {
+        let FileState::Closed = self.state else {
+            return None;
+        };
+        if !self.terminal.is_there() {
+            return None;
+        }
+        let found = fs::metadata(self.rt, self.name.as_str()).ok()?;
+        if self.is_again && found.file_type().is_fifo() {
+            tell_reread(self.terminal, self.name.as_str());
+        }
+        if found.is_file() {
+            Some(found.len())
+        } else {
+            None
+        }
+    }
+
     /// Opens the file, if it is not open yet.
     fn begin(&mut self) -> io::Result<()> {
         if !self.is_begun {
             self.is_begun = true;
-            self.terminal.begin_file();
+            self.terminal.begin_file(self.size());
         }
         if let FileState::Closed = self.state {
             let file = File::open(self.rt, self.name.as_str())?;
@@ -138,7 +185,7 @@ impl<'rt> Inputs for Files<'rt> {
     ghost opened = { λ files. map string_bytes files.names.items };
 
     fn open(&mut self, alloc: Global, name: &str) -> Result<Counted<FileReader<'rt>>, AllocError> {
-        let state = if name == "-" {
+        let state = if self.has_stream && name == "-" {
             FileState::Stream(self.stream(alloc)?)
         } else {
             FileState::Closed
@@ -148,6 +195,7 @@ impl<'rt> Inputs for Files<'rt> {
             terminal: self.terminal,
             name: String::from_str(alloc, name)?,
             is_begun: false,
+            is_again: self.is_again(name),
             state,
         };
         self.names.push(String::from_str(alloc, name)?)?;

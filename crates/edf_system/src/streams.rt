@@ -1,6 +1,7 @@
 //! The words after a program's name, and its standard streams.
 
-use crate::terminal::{Clearing, Terminal};
+use crate::clearing::Clearing;
+use crate::terminal::Terminal;
 use edf_fragment::Counted;
 use edf_program::{Status, tell_bytes, tell_memory};
 use std::io::{ErrorKind, Stderr, Stdout};
@@ -34,10 +35,18 @@ pub struct Streams<'t> {
 
 impl<'t> Streams<'t> {
     /// The streams of a program whose progress a terminal shows.
-    pub fn new(rt: &HostRuntime, terminal: &'t Terminal<'t>) -> Streams<'t> {
+    pub fn new(rt: &'t HostRuntime, terminal: &'t Terminal<'t>) -> Streams<'t> {
         Streams {
-            out: Counted::new(Clearing::new(terminal, rt.stdout())),
-            err: Counted::new(Clearing::new(terminal, rt.stderr())),
+            out: Counted::new(Clearing::output(rt, terminal, rt.stdout())),
+            err: Counted::new(Clearing::of_lines(rt, terminal, rt.stderr(), false)),
+        }
+    }
+
+    /// Those of a program whose standard output has lines that may tell refusals.
+    pub fn of_answers(rt: &'t HostRuntime, terminal: &'t Terminal<'t>) -> Streams<'t> {
+        Streams {
+            out: Counted::new(Clearing::of_lines(rt, terminal, rt.stdout(), true)),
+            err: Counted::new(Clearing::of_lines(rt, terminal, rt.stderr(), false)),
         }
     }
 }

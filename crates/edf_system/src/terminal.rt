@@ -4,7 +4,7 @@
 
 use std::cell::Cell;
 use std::fmt::Display;
-use std::io::{self, IsTerminal, Write};
+use std::io::IsTerminal;
 
 /// Progress is written again each time this number of bytes was read.
 const MEGABYTE: u64 = 1_000_000;
@@ -22,8 +22,15 @@ pub struct Terminal<'rt> {
     unit: &'static str,
     units: usize,
     begun: Cell<usize>,
+    /// How many bytes of the file were read that was begun last, and how many it has, where that is
+    /// known.
     bytes: Cell<u64>,
+    size: Cell<Option<u64>>,
     is_progress_shown: Cell<bool>,
+    /// Whether it was printed why a file could not be read.
+    is_unread_told: Cell<bool>,
+    /// The numbers of the refusals that were explained, a bit each.
+    explained: Cell<u64>,
 }
 
 impl<'rt> Terminal<'rt> {
@@ -38,7 +45,10 @@ impl<'rt> Terminal<'rt> {
             units: if is_there { units } else { 0 },
             begun: Cell::new(0),
             bytes: Cell::new(0),
+            size: Cell::new(None),
             is_progress_shown: Cell::new(false),
+            is_unread_told: Cell::new(false),
+            explained: Cell::new(0),
         }
     }
 
@@ -56,10 +66,31 @@ impl<'rt> Terminal<'rt> {
         }
     }
 
-    /// Counts one more file as begun, and shows the progress.
-    pub(crate) fn begin_file(&self) {
+    /// Keeps that it was printed why a file could not be read.
+    pub(crate) fn note_unread(&self) {
+        self.is_unread_told.set(true);
+    }
+
+    /// Whether it was printed why a file could not be read.
+    pub(crate) fn is_unread_told(&self) -> bool {
+        self.is_unread_told.get()
+    }
+
+    /// Whether a refusal of that number is the first that is explained, which it is from then on.
+    pub(crate) fn is_first(&self, number: u8) -> bool {
+        let bit = 1u64.checked_shl(u32::from(number)).unwrap_or(0);
+        let explained = self.explained.get();
+        self.explained.set(explained | bit);
+        explained & bit == 0
+    }
+
+    /// Counts one more file as begun, of that size where it is known, and shows the progress.
+    pub(crate) fn begin_file(&self, size: Option<u64>) {
         if self.units > 0 {
             self.begun.set(self.begun.get().saturating_add(1));
+            self.bytes.set(0);
+            self.size.set(size);
+            self.wipe_progress();
             self.show_progress();
         }
     }
@@ -79,7 +110,13 @@ impl<'rt> Terminal<'rt> {
     fn show_progress(&self) {
         let (unit, begun, units) = (self.unit, self.begun.get(), self.units);
         let megabytes = self.bytes.get() / MEGABYTE;
-        let _ = eprint!(self.rt; "\r{unit} {begun} of {units}, {megabytes} MB read");
+        let _ = match self.size.get() {
+            Some(size) => {
+                let all = size.div_ceil(MEGABYTE);
+                eprint!(self.rt; "\r{unit} {begun} of {units}, {megabytes} of {all} MB read")
+            }
+            None => eprint!(self.rt; "\r{unit} {begun} of {units}, {megabytes} MB read"),
+        };
         self.is_progress_shown.set(true);
     }
 
@@ -89,29 +126,5 @@ impl<'rt> Terminal<'rt> {
             let _ = eprint!(self.rt; "{WIPED}");
             self.is_progress_shown.set(false);
         }
-    }
-}
-
-/// A standard stream that erases the line of progress before it writes.
-#[derive(Drop)]
-pub struct Clearing<'t, W> {
-    terminal: &'t Terminal<'t>,
-    stream: W,
-}
-
-impl<'t, W> Clearing<'t, W> {
-    pub(crate) fn new(terminal: &'t Terminal<'t>, stream: W) -> Clearing<'t, W> {
-        Clearing { terminal, stream }
-    }
-}
-
-impl<W: Write> Write for Clearing<'_, W> {
-    fn write(&mut self, buf: &[u8]) -> io::Result<usize> {
-        self.terminal.wipe_progress();
-        self.stream.write(buf)
-    }
-
-    fn flush(&mut self) -> io::Result<()> {
-        self.stream.flush()
     }
 }

@@ -5,26 +5,20 @@
 
 mod new_files;
 
-use edf_fragment::Counted;
+use edf_fragment::Output;
 use edf_program::Status;
-use edf_system::{Files, Streams, Terminal, refuse_words, words};
+use edf_system::{Files, NewFiles, Program, Streams, Terminal, run_program};
 use edfruns_command::{RunsCommand, read_command, run_runs};
-use new_files::NewFiles;
+use new_files::RunFiles;
+use std::alloc::Global;
 use std::process::ExitCode;
-
-/// The command that words ask for, or the status where there is none.
-fn command_of(rt: &HostRuntime, words: &[String]) -> Result<RunsCommand, Status> {
-    let mut out = Counted::new(rt.stdout());
-    let mut err = Counted::new(rt.stderr());
-    read_command(rt.alloc(), words, &mut out, &mut err)
-}
 
 /// Runs a command over the system's files and streams.
 fn run_over(
     rt: &HostRuntime,
     command: &RunsCommand,
     inputs: &mut Files<'_>,
-    outputs: &mut NewFiles<'_>,
+    outputs: &mut RunFiles<'_>,
     streams: &mut Streams<'_>,
 ) -> Status {
     run_runs(
@@ -37,29 +31,32 @@ fn run_over(
     )
 }
 
-/// Does what the command asks for, and shows a person how much of its file was read.
-fn run_command(rt: &HostRuntime, command: &RunsCommand) -> Status {
-    let terminal = Terminal::new(rt, "reading", command.readings());
-    let mut streams = Streams::new(rt, &terminal);
-    let mut inputs = Files::new(rt, &terminal);
-    let mut outputs = NewFiles::new(rt, &terminal);
-    let status = run_over(rt, command, &mut inputs, &mut outputs, &mut streams);
-    terminal.wipe_progress();
-    status
-}
+/// The program.
+struct Edfruns;
 
-/// Does what the words after the program's name ask for, and answers how it went.
-fn run_words(rt: &HostRuntime, words: &[String]) -> Status {
-    match command_of(rt, words) {
-        Ok(command) => run_command(rt, &command),
-        Err(status) => status,
+impl Program for Edfruns {
+    type Command = RunsCommand;
+
+    fn read<O: Output, F: Output>(
+        alloc: Global,
+        words: &[String],
+        out: &mut O,
+        err: &mut F,
+    ) -> Result<RunsCommand, Status> {
+        read_command(alloc, words, out, err)
+    }
+
+    fn run(rt: &HostRuntime, command: &RunsCommand) -> Status {
+        let terminal = Terminal::new(rt, "reading", command.readings());
+        let mut streams = Streams::new(rt, &terminal);
+        let mut inputs = Files::new(rt, &terminal);
+        let mut outputs = RunFiles::new(rt.alloc(), NewFiles::new(rt, &terminal));
+        let status = run_over(rt, command, &mut inputs, &mut outputs, &mut streams);
+        terminal.wipe_progress();
+        status
     }
 }
 
 fn main(rt: HostRuntime) -> ExitCode {
-    let status = match words(&rt) {
-        Ok(words) => run_words(&rt, words.as_slice()),
-        Err(error) => refuse_words(&rt, &error),
-    };
-    ExitCode::from(status.code())
+    run_program::<Edfruns>(&rt)
 }

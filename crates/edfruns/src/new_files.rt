@@ -1,91 +1,97 @@
-//! Files that are made.
+//! The files that `split` makes.
 
-use edf_fragment::Counted;
-use edf_system::{Terminal, tell_system_error};
-use edfruns_command::Outputs;
+ghost use Rattle.std.specs.Prelude.{◌≡◌, None, false};
+ghost use Rattle.edf_fragment.specs.Failures.{one_more};
+
+use edf_system::{NewFile, NewFiles};
+use edfruns_command::{MadeFiles, Outputs};
 use std::alloc::Global;
-use std::fs::{self, File, OpenOptions};
-use std::io::{self, Write};
+use std::io;
 
-/// Makes and removes files, and prints why that failed.
+/// Makes the files of runs.
 #[derive(Drop)]
-pub(crate) struct NewFiles<'rt> {
-    rt: &'rt HostRuntime,
-    terminal: &'rt Terminal<'rt>,
+pub(crate) struct RunFiles<'rt> {
+    files: NewFiles<'rt>,
+    made: MadeFiles,
+    /// How many files could not be made or ended, and how many writes of abandoned ones failed.
+    failed: u64,
 }
 
-impl<'rt> NewFiles<'rt> {
-    pub(crate) fn new(rt: &'rt HostRuntime, terminal: &'rt Terminal<'rt>) -> NewFiles<'rt> {
-        NewFiles { rt, terminal }
-    }
-
-    /// Opens a file that was not there.
-    fn open_new(&self, name: &str) -> io::Result<File> {
-        let mut options = OpenOptions::new();
-        options.write(true).create_new(true);
-        match options.open(self.rt, name) {
-            Ok(file) => Ok(file),
-            Err(error) => {
-                tell_system_error(self.terminal, name, &error);
-                Err(error)
-            }
+impl<'rt> RunFiles<'rt> {
+    pub(crate) fn new(alloc: Global, files: NewFiles<'rt>) -> RunFiles<'rt> {
+        RunFiles {
+            files,
+            made: MadeFiles::new(alloc),
+            failed: 0,
         }
     }
 }
 
-/// A file that is written, which prints why a write failed.
-#[derive(Drop)]
-pub(crate) struct NewFile<'rt> {
-    terminal: &'rt Terminal<'rt>,
-    name: String,
-    file: File,
+/// The count after one more failure.
+fn one_failure_more(count: u64) -> u64
+    ensures { result ≡ one_more count }
+{
+    count.saturating_add(1)
 }
 
-impl Write for NewFile<'_> {
-    fn write(&mut self, buf: &[u8]) -> io::Result<usize> {
-        match self.file.write(buf) {
-            Ok(count) => Ok(count),
-            Err(error) => {
-                tell_system_error(self.terminal, self.name.as_str(), &error);
-                Err(error)
-            }
-        }
-    }
+impl<'rt> Outputs for RunFiles<'rt> {
+    type Writer = NewFile<'rt>;
 
-    fn flush(&mut self) -> io::Result<()> {
-        self.file.flush()
-    }
-}
+    ghost known = { λ _. false };
 
-impl<'rt> Outputs for NewFiles<'rt> {
-    type Writer = Counted<NewFile<'rt>>;
+    ghost there = { λ _ _. None };
+
+    ghost made = { λ files. files.made };
+
+    ghost failed = { λ files. files.failed };
 
     fn is_there(&mut self, name: &str) -> bool {
-        fs::symlink_metadata(self.rt, name).is_ok()
+        self.files.is_there(name)
     }
 
-    fn create(&mut self, alloc: Global, name: &str) -> io::Result<Counted<NewFile<'rt>>> {
-        // The name is copied first: what fails after the file is made would leave it.
-        let owned = String::from_str(alloc, name)?;
-        Ok(Counted::new(NewFile {
-            terminal: self.terminal,
-            file: self.open_new(name)?,
-            name: owned,
-        }))
-    }
-
-    fn finish(&mut self, writer: Counted<NewFile<'rt>>) -> bool {
-        drop(writer);
-        true
-    }
-
-    fn remove(&mut self, name: &str) -> bool {
-        match fs::remove_file(self.rt, name) {
-            Ok(()) => true,
+    // The name is noted first: what fails after the file is made would leave it.
+    fn create(&mut self, alloc: Global, name: &str) -> io::Result<NewFile<'rt>> {
+        if let Err(error) = self.made.begin(alloc, name) {
+            self.failed = one_failure_more(self.failed);
+            return Err(io::Error::from(error));
+        }
+        match self.files.create(alloc, name) {
+            Ok(writer) => Ok(writer),
             Err(error) => {
-                tell_system_error(self.terminal, name, &error);
+                self.made.cancel();
+                self.failed = one_failure_more(self.failed);
+                Err(error)
+            }
+        }
+    }
+
+    fn finish(&mut self, writer: NewFile<'rt>) -> bool {
+        match self.files.finish(writer) {
+            Ok(()) => {
+                self.made.finish(None);
+                true
+            }
+            Err(_) => {
+                self.failed = one_failure_more(self.failed);
                 false
             }
         }
+    }
+
+    fn abandon(&mut self, writer: NewFile<'rt>) {
+        self.failed = self.failed.saturating_add(writer.failures());
+    }
+
+    fn count(&self) -> usize {
+        self.made.count()
+    }
+
+    fn remove(&mut self, place: usize) -> bool {
+        let is_gone = match self.made.name(place) {
+            Some(name) => self.files.remove(name),
+            None => false,
+        };
+        self.made.end(place, is_gone);
+        is_gone
     }
 }

@@ -1,7 +1,7 @@
 -- What is answered where something is told.
 use Rattle.std.proofs.Common.{◌≡◌, ◌≢◌, ◌⊎◌, ℕ, List, [], Bool, true, false, inl, inr, refl, subst, suc, ◌++◌, ◌∷◌}
 use Rattle.std.proofs.Common.{ap, ◌∙◌, sym, arith, append_assoc, replicate}
-use Rattle.std.specs.Prelude.{Option}
+use Rattle.std.specs.Prelude.{Option, Result, Ok, Err, MatchResult}
 use Rattle.std.specs.Bool.{MatchBool}
 use Rattle.edf_fragment.specs.declared.fault.FragmentFault.{FragmentFault}
 use Rattle.edf_fragment.specs.declared.fault.FragmentFault.TheVariants.{Memory}
@@ -49,6 +49,13 @@ pub opened-once : (before after : List (List ℕ)) (name : List ℕ) → after �
     OpensUpTo before after name 1
 opened-once before after name is = record { times = 1; few = omega arith; opened = is }
 
+pub opened-either : {T E : Type 0} (r : Result T E) (before after : List (List ℕ))
+    (name : List ℕ) → after ≡ before ++ (name ∷ []) →
+    MatchResult r (λ _. after ≡ before ++ replicate 1 name)
+    (λ _. OpensUpTo before after name 1)
+opened-either (Ok x) before after name is = is
+opened-either (Err e) before after name is = opened-once before after name is
+
 pub opened-again : (before mid after : List (List ℕ)) (name : List ℕ) (status : Status) →
     mid ≡ before ++ (name ∷ []) → OpensUpTo mid after name 1 → status ≢ Done →
     OpensAgain before after name 2 status
@@ -76,7 +83,24 @@ pub opened-first : (before after : List (List ℕ)) (name : List ℕ) (status : 
 opened-first before after name status first undone =
     record { times = 1; few = omega arith; opened = first; all = λ done. absurd (undone done) }
 
+-- opened once, and then once more at most
+pub opened-then : (before mid after : List (List ℕ)) (name : List ℕ) (status : Status) →
+    mid ≡ before ++ (name ∷ []) → OpensAgain mid after name 1 status →
+    OpensAgain before after name 2 status
+opened-then before mid after name status first then = record {
+  times = suc then.times;
+  few = omega (arith, then.few);
+  opened = then.opened ∙ ap (λ (l : List (List ℕ)). l ++ replicate then.times name) first
+      ∙ append_assoc before (name ∷ []) (replicate then.times name);
+  all = λ done. omega (arith, then.all done);
+}
+
 -- ---- a refusal is no success
+
+pub trouble-undone : (w : Growth) (bytes : List ℕ) (status : Status) →
+    IsWritten w bytes Trouble status → status ≢ Done
+trouble-undone w bytes status (inl whole) done = let a = whole.1 in cc
+trouble-undone w bytes status (inr front) done = let a = front.1 in cc
 
 pub refused-undone : (w : Growth) (bytes : List ℕ) (status : Status) →
     IsWritten w bytes Refused status → status ≢ Done
@@ -104,3 +128,7 @@ counts-write w old new Changed counts = counts.1
 counts-write w old new Read counts = counts.1
 counts-write w old new NoMemory counts = counts.1
 counts-write w old new Write counts = counts.1
+
+pub err-is : (fault : WriteFault) →
+    ◌≡◌ {A = Result (Unit {0}) WriteFault} (Err fault) (Err Changed) → fault ≡ Changed
+err-is fault same = cc

@@ -1,3 +1,11 @@
 mod RunTexts
 mod Answered
 mod Rereading
+mod Walking
+mod MakingFiles
+mod Rereads
+mod SameRuns
+mod Removals
+mod GivingUp
+mod Splits
+mod MadeLists

@@ -54,7 +54,7 @@ reads-then l from mid to left middle rest xs ys going a b = record {
 
 -- ---- one run more
 
-both : {X Y : Type 0} (P : X → Y → Type 0) (xs : List X) (ys : List Y) (x : X) (y : Y) →
+pub both : {X Y : Type 0} (P : X → Y → Type 0) (xs : List X) (ys : List Y) (x : X) (y : Y) →
     AllZip P xs ys → P x y → AllZip P (xs ++ (x ∷ [])) (ys ++ (y ∷ []))
 both P [] [] x y each one = (one, tt)
 both P (a ∷ xs) [] x y each one = absurd each

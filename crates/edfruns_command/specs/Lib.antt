@@ -1,6 +1,13 @@
 pub mod Naming
+pub mod Picturing
 pub mod Lines
+pub mod Made
 pub mod Listing
 pub mod Writing
+pub mod Canonical
+pub mod Rereading
+pub mod Splitting
 pub mod Run
 pub mod Inside
+pub mod InsideMaking
+pub mod InsideSplit

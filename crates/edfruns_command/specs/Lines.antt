@@ -79,16 +79,29 @@ abbrev pub unread_line : List ℕ → List ℕ
 unread_line name = refused_line name (fragment_fault_number fragment.Read)
     (fragment_fault_name fragment.Read)
 
-abbrev pub unwritten_line : List ℕ → List ℕ
-unwritten_line name = refused_line name 43 (codes "Write")
+abbrev pub changed_line : List ℕ → List ℕ
+changed_line name = name ++ codes " changed between its readings\n"
 
--- why the run of this number is not written; what changed between two readings can't be read again
+-- of an output: its name is that of a file, or this one
+abbrev pub unwritten_line : List ℕ → List ℕ
+unwritten_line output = refused_line output 43 (codes "Write")
+
+abbrev pub standard_output : List ℕ
+standard_output = codes "standard output"
+
+-- why the second reading of a file stopped
+abbrev pub reread_line : List ℕ → WriteFault → List ℕ
+reread_line name run.Changed = changed_line name
+reread_line name run.Memory = memory_line name
+reread_line name why = unread_line name
+
+-- why the run of this number is not written to standard output
 abbrev pub run_refused_line : List ℕ → ℕ → WriteFault → List ℕ
 run_refused_line name number run.Undated = undated_line number
-run_refused_line name number run.Changed = unread_line name
+run_refused_line name number run.Changed = changed_line name
 run_refused_line name number run.Read = unread_line name
 run_refused_line name number run.Memory = memory_line name
-run_refused_line name number run.Write = unwritten_line name
+run_refused_line name number run.Write = unwritten_line standard_output
 
 abbrev pub run_refused_status : WriteFault → Status
 run_refused_status run.Undated = Refused

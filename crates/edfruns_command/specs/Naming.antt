@@ -13,3 +13,12 @@ run_name prefix width number = prefix ++ (codes "-" ++ (padded width number ++ c
 -- those of so many runs, numbered from 1: each number has as many digits as the last
 abbrev pub run_names : List ℕ → ℕ → List (List ℕ)
 run_names prefix count = map (run_name prefix (length (decimal count))) (range_with_len 1 count)
+
+-- of a number one, with 1 digit, 2 digits and so on up to 8, as many as the greatest count of data
+-- records has: the first names that an earlier split with this prefix can have given
+abbrev pub first_names : List ℕ → List (List ℕ)
+first_names prefix = map (λ width. run_name prefix width 1) (range_with_len 1 8)
+
+-- what is asked for before files are made: no file may have one of these names
+abbrev pub asked_names : List ℕ → ℕ → List (List ℕ)
+asked_names prefix count = run_names prefix count ++ first_names prefix

@@ -1,6 +1,7 @@
 //! The command line, read by `clap`. Lines of help are broken where they stand, since nothing else
 //! breaks them.
 
+use crate::canonical_command::{canonical_words, read_canonical};
 use crate::list_command::{list_words, read_list};
 use crate::picture_command::{picture_words, read_picture};
 use crate::runs_command::RunsCommand;
@@ -34,7 +35,8 @@ Status:
   3  trouble with a file, standard output or memory";
 
 /// Why words without a command are refused.
-const NO_COMMAND: &str = "a command is wanted: list, write, split or picture";
+const NO_COMMAND: &str = "\
+a command is wanted: list, write, canonical, split or picture";
 
 /// Why `-` is refused where a file is read twice.
 const READ_TWICE: &str = "\
@@ -89,6 +91,7 @@ fn edfruns_words<'a>(alloc: Global) -> Result<Command<'a>, AllocError> {
     program(alloc)?
         .subcommand(list_words(alloc)?)?
         .subcommand(write_words(alloc)?)?
+        .subcommand(canonical_words(alloc)?)?
         .subcommand(split_words(alloc)?)?
         .subcommand(picture_words(alloc)?)
 }
@@ -106,6 +109,7 @@ fn command_in(alloc: Global, matches: &ArgMatches<'_>) -> Result<RunsCommand, Co
     match word {
         "list" => read_list(alloc, values),
         "write" => read_write(alloc, values),
+        "canonical" => read_canonical(alloc, values),
         "split" => read_split(alloc, values),
         "picture" => read_picture(alloc, values),
         _ => Err(refuse_no_command(alloc)?),
@@ -114,10 +118,10 @@ fn command_in(alloc: Global, matches: &ArgMatches<'_>) -> Result<RunsCommand, Co
 
 /// What the words after the program's name ask for.
 ///
-/// The words are `list FILE`, `write FILE N`, `split FILE PREFIX` or `picture FILE`. N is digits,
-/// without a sign, with a value from 1 to 4,294,967,295; zeros may lead. The FILE of `write` and of
-/// `split` is read twice, so it is not `-`. `--help`, `-h`, `help` and `--version`, `-V` are as
-/// `edfstore` has them.
+/// The words are `list FILE`, `write FILE N`, `canonical FILE`, `split FILE PREFIX` or
+/// `picture FILE`. N is digits, without a sign, with a value from 1 to 4,294,967,295; zeros may
+/// lead. The FILE of `write`, `canonical` and `split` is read twice, so it is not `-`. `--help`,
+/// `-h`, `help` and `--version`, `-V` are as `edfstore` has them.
 ///
 /// # Errors
 /// `Help` where help or the version was asked for, `Usage` where the words ask for nothing that can

@@ -4,20 +4,29 @@
 //! - [`read_command`]: the words after the program's name, as a [`RunsCommand`]; help and usage are
 //!   written. [`parse`]: the words, read, and nothing else.
 //! - [`run_runs`]: one command, over what opens files (`edf_program`'s `Inputs`) and what makes
-//!   them ([`Outputs`]).
+//!   them ([`Outputs`], with [`MadeFiles`] for the list of them).
 #![tactic(auto)]
 
 mod arguments;
+mod canonical_command;
 mod lines;
 mod list_command;
+mod made_files;
+mod making;
 mod naming;
+mod outputs;
 mod picture_command;
 mod refusal;
+mod removing;
 mod runs_command;
+mod signals;
 mod split_command;
+mod stop;
 mod texts;
+mod tolerance;
 mod write_command;
 
 pub use arguments::{parse, read_command};
+pub use made_files::MadeFiles;
+pub use outputs::{Outputs, Stage};
 pub use runs_command::{RunsCommand, run_runs};
-pub use split_command::Outputs;

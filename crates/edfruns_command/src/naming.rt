@@ -1,8 +1,9 @@
 //! The names of the files of runs.
 
-ghost use Rattle.std.specs.Prelude.{◌≡◌, ◌++◌, ◌-◌, IfOk, codes, decimal, length, map, replicate};
-ghost use Rattle.std.specs.Prelude.{string_bytes};
+ghost use Rattle.std.specs.Prelude.{◌≡◌, ◌++◌, ◌-◌, IfOk, OnOk, codes, decimal, length, map};
+ghost use Rattle.std.specs.Prelude.{replicate, string_bytes};
 ghost use Rattle.edfruns_command.specs.Naming.{padded, run_name, run_names};
+ghost use Rattle.edfruns_command.specs.Naming.{first_names};
 
 use std::alloc::{AllocError, Global};
 
@@ -43,4 +44,23 @@ pub(crate) fn run_names(
         names.push(run_name(alloc, prefix, width, at + 1)?)?;
     }
     Ok(names)
+}
+
+/// The greatest count of digits of a run's number: a file has at most 99,999,999 data records.
+const MOST_DIGITS: usize = 8;
+
+/// Adds the names of the files of the first run with 1, 2 and up to 8 digits: one of them is there
+/// where an earlier split had this prefix.
+pub(crate) fn push_first_names(
+    alloc: Global,
+    prefix: &str,
+    names: &mut Vec<String>,
+) -> Result<(), AllocError>
+    ensures { OnOk result (map string_bytes names.new.items
+        ≡ map string_bytes names.old.items ++ first_names prefix.now) }
+{
+    for at in 0..MOST_DIGITS {
+        names.push(run_name(alloc, prefix, at + 1, 1)?)?;
+    }
+    Ok(())
 }

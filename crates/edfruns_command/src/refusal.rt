@@ -7,7 +7,10 @@ ghost use Rattle.edf_program.specs.Text.{memory_line};
 ghost use Rattle.edfruns_command.specs.Lines.{file_refused_line, file_refused_status};
 ghost use Rattle.edfruns_command.specs.Lines.{no_run_line, there_line, left_line, undated_line};
 ghost use Rattle.edfruns_command.specs.Lines.{run_refused_line, run_refused_status};
+ghost use Rattle.edfruns_command.specs.Lines.{reread_line, unwritten_line};
+ghost use Rattle.edfruns_command.specs.InsideSplit.{stop_line};
 
+use crate::stop::Stop;
 use edf_fragment::{FragmentFault, Output};
 use edf_program::{
     Status, fragment_fault_text, status_of_number, tell_memory, tell_parts, tell_refused,
@@ -15,6 +18,9 @@ use edf_program::{
 use edf_runs::WriteFault;
 use itoa::Buffer;
 use std::alloc::Global;
+
+/// What the line names where standard output can't be written.
+pub(crate) const STANDARD_OUTPUT: &str = "standard output";
 
 /// Whether what answers this status was written whole, where `Done` was asked for.
 fn is_told(status: Status) -> bool
@@ -45,7 +51,7 @@ pub(crate) fn refuse<F: Output>(
 }
 
 /// Prints that a run starts where no file without a date can. Printing takes no memory.
-fn tell_undated<F: Output>(err: &mut F, number: usize, status: Status) -> Status
+pub(crate) fn tell_undated<F: Output>(err: &mut F, number: usize, status: Status) -> Status
     ensures { IsWritten (growth F.Output err.old err.new) (undated_line number) status result }
 {
     let mut buffer = Buffer::new();
@@ -68,28 +74,31 @@ pub(crate) fn run_refused_status(fault: WriteFault) -> Status
     }
 }
 
-/// Prints why the run of that number is not written, and answers a status. Printing takes no
-/// memory.
-fn tell_run_refused<F: Output>(
-    file: &str,
-    number: usize,
-    fault: WriteFault,
-    err: &mut F,
-    status: Status,
-) -> Status
-    ensures { IsWritten (growth F.Output err.old err.new) (run_refused_line file.now number fault)
-        status result }
+/// Prints why the second reading of a file stopped. Printing takes no memory.
+fn tell_reread<F: Output>(err: &mut F, file: &str, fault: WriteFault, status: Status) -> Status
+    ensures { IsWritten (growth F.Output err.old err.new) (reread_line file.now fault) status
+        result }
 {
-    let read = FragmentFault::Read;
-    let memory = FragmentFault::Memory;
+    let (read, memory) = (FragmentFault::Read, FragmentFault::Memory);
     match fault {
-        WriteFault::Undated => tell_undated(err, number, status),
-        WriteFault::Changed | WriteFault::Read => {
-            tell_refused(err, file, read.number(), read.name(), status)
+        WriteFault::Changed => {
+            let parts = [
+                file.as_bytes(),
+                b" changed between its readings\n".as_slice(),
+            ];
+            tell_parts(err, &parts, status)
         }
         WriteFault::Memory => tell_refused(err, file, memory.number(), memory.name(), status),
-        WriteFault::Write => tell_refused(err, file, 43, "Write", status),
+        _ => tell_refused(err, file, read.number(), read.name(), status),
     }
+}
+
+/// Prints that an output can't be written. Printing takes no memory.
+fn tell_unwritten<F: Output>(err: &mut F, output: &str, status: Status) -> Status
+    ensures { IsWritten (growth F.Output err.old err.new) (unwritten_line output.now) status
+        result }
+{
+    tell_refused(err, output, 43, "Write", status)
 }
 
 /// Prints why the run of that number is not written, and answers the status of that. Printing takes
@@ -103,20 +112,24 @@ pub(crate) fn refuse_run<F: Output>(
     ensures { IsWritten (growth F.Output err.old err.new) (run_refused_line file.now number fault)
         (run_refused_status fault) result }
 {
-    tell_run_refused(file, number, fault, err, run_refused_status(fault))
+    let status = run_refused_status(fault);
+    match fault {
+        WriteFault::Undated => tell_undated(err, number, status),
+        WriteFault::Write => tell_unwritten(err, STANDARD_OUTPUT, status),
+        _ => tell_reread(err, file, fault, status),
+    }
 }
 
-/// Prints why the run of that number is not written, and answers whether that was printed whole.
-pub(crate) fn is_run_refusal_told<F: Output>(
-    file: &str,
-    number: usize,
-    fault: WriteFault,
-    err: &mut F,
-) -> bool
-    ensures { IsPut (growth F.Output err.old err.new) (run_refused_line file.now number fault)
-        result }
+/// Prints why the files of all runs are not there, and answers whether that was printed whole.
+/// Printing takes no memory.
+pub(crate) fn is_stop_told<F: Output>(err: &mut F, file: &str, stop: Stop<'_>) -> bool
+    ensures { IsPut (growth F.Output err.old err.new) (stop_line file.now stop.entry) result }
 {
-    is_told(tell_run_refused(file, number, fault, err, Status::Done))
+    let status = match stop {
+        Stop::Output(name) => tell_unwritten(err, name, Status::Done),
+        Stop::Reading(fault) => tell_reread(err, file, fault, Status::Done),
+    };
+    is_told(status)
 }
 
 /// Prints that there is no run of that number. Printing takes no memory.

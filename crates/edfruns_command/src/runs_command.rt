@@ -1,11 +1,14 @@
 //! The commands: what each asks for, how often it reads its file, and its work.
 
 ghost use Rattle.edf_program.specs.Output.{growth};
-ghost use Rattle.edfruns_command.specs.Run.{IsDone, HasOpened, meaning};
+ghost use Rattle.edfruns_command.specs.Run.{IsDone, HasMade, HasOpened, meaning};
+ghost use Rattle.edfruns_command.specs.Splitting.{making};
 
+use crate::canonical_command::canonical;
 use crate::list_command::list;
+use crate::outputs::Outputs;
 use crate::picture_command::picture;
-use crate::split_command::{Outputs, split};
+use crate::split_command::split;
 use crate::write_command::write;
 use edf_fragment::Output;
 use edf_program::{Inputs, Status};
@@ -27,6 +30,11 @@ pub enum RunsCommand {
         /// The run's number in the list, from 1.
         number: u32,
     },
+    /// Write the canonical EDF+D file to standard output.
+    Canonical {
+        /// The file. It is not `-`.
+        file: String,
+    },
     /// Write each run to an EDF+C file of its own.
     Split {
         /// The file. It is not `-`.
@@ -38,6 +46,8 @@ pub enum RunsCommand {
     Picture {
         /// The file.
         file: String,
+        /// The longest gap that is joined for the view, in nanoseconds; 0 joins none.
+        tolerance: u64,
     },
 }
 
@@ -47,8 +57,12 @@ impl RunsCommand {
         match self {
             RunsCommand::List { file: _ } => 1,
             RunsCommand::Write { file: _, number: _ } => 2,
+            RunsCommand::Canonical { file: _ } => 2,
             RunsCommand::Split { file: _, prefix: _ } => 2,
-            RunsCommand::Picture { file: _ } => 1,
+            RunsCommand::Picture {
+                file: _,
+                tolerance: _,
+            } => 1,
         }
     }
 }
@@ -56,9 +70,10 @@ impl RunsCommand {
 /// Runs a command.
 ///
 /// Lists, files and pictures go to `out`, and why something is not done to `err`. A list goes out
-/// whole, or a front of it where a write failed, or nothing where memory ran out. The clauses say
-/// what `List` and `Write` do. Of `Split` and `Picture` they say nothing; it is tested that `Split`
-/// leaves all its files where it is done, and else none.
+/// whole, or a front of it where a write failed, or nothing where memory ran out. `Split` leaves
+/// all its files where it is done, and else none but those that it names as not removed; the lines
+/// of files that were removed may have gone out, where writing them failed. The clauses say what
+/// `List`, `Write`, `Canonical` and `Split` do, and of `Picture` all but what the picture shows.
 pub fn run_runs<I: Inputs, P: Outputs, O: Output, F: Output>(
     alloc: Global,
     command: &RunsCommand,
@@ -67,8 +82,10 @@ pub fn run_runs<I: Inputs, P: Outputs, O: Output, F: Output>(
     out: &mut O,
     err: &mut F,
 ) -> Status
-    ensures done { IsDone (I.bytes inputs.old) (growth O.Output out.old out.new)
-        (growth F.Output err.old err.new) (meaning command.now) result }
+    ensures done { IsDone (I.bytes inputs.old) (making P.Outputs outputs.old outputs.new)
+        (growth O.Output out.old out.new) (growth F.Output err.old err.new) (meaning command.now)
+        result }
+    ensures made { HasMade (making P.Outputs outputs.old outputs.new) (meaning command.now) }
     ensures opened { HasOpened
         (I.opened inputs.old) (I.opened inputs.new) (meaning command.now) result }
 {
@@ -77,10 +94,18 @@ pub fn run_runs<I: Inputs, P: Outputs, O: Output, F: Output>(
         RunsCommand::Write { file, number } => {
             write(alloc, file.as_str(), *number, inputs, out, err)
         }
-        RunsCommand::Split { file, prefix } => {
-            let (file, prefix) = (file.as_str(), prefix.as_str());
-            split(alloc, file, prefix, inputs, outputs, out, err)
+        RunsCommand::Canonical { file } => canonical(alloc, file.as_str(), inputs, out, err),
+        RunsCommand::Split { file, prefix } => split(
+            alloc,
+            file.as_str(),
+            prefix.as_str(),
+            inputs,
+            outputs,
+            out,
+            err,
+        ),
+        RunsCommand::Picture { file, tolerance } => {
+            picture(alloc, file.as_str(), *tolerance, inputs, out, err)
         }
-        RunsCommand::Picture { file } => picture(alloc, file.as_str(), inputs, out, err),
     }
 }

@@ -1,17 +1,30 @@
 //! `split`: a file for each run.
 
+ghost use Rattle.std.specs.Prelude.{◌≡◌, ◌-◌, ◌≤◌, ℕ, List, All, IfOk, MatchOption, length, map};
+ghost use Rattle.std.specs.Prelude.{string_bytes, take, drop};
+ghost use Rattle.edf_header.specs.Key.{MayStart};
+ghost use Rattle.edf_program.specs.Output.{growth};
+ghost use Rattle.edf_runs.specs.declared.run.Run.{Run as ListedRun};
+ghost use Rattle.edfruns_command.specs.InsideSplit.{IsTaken, IsUndated, IsPlan, SplitsListed};
+ghost use Rattle.edfruns_command.specs.Listing.{OpensAgain};
+ghost use Rattle.edfruns_command.specs.Made.{IsFree, names_of};
+ghost use Rattle.edfruns_command.specs.Splitting.{IsSplit, making};
+
 use crate::arguments::{refuse_stream, required_value, twice_read_file_value, value_in};
 use crate::lines::runs_text;
 use crate::list_command::listing_of;
-use crate::naming::run_names;
-use crate::refusal::{is_left_told, refuse, refuse_run, tell_there};
+use crate::making::make_files;
+use crate::naming::{push_first_names, run_names};
+use crate::outputs::Outputs;
+use crate::refusal::{STANDARD_OUTPUT, refuse, tell_there, tell_undated};
+use crate::removing::give_up;
 use crate::runs_command::RunsCommand;
+use crate::stop::Stop;
 use clap::{ArgMatches, Command};
-use edf_fragment::{FragmentFault, Input, OpenFragment, Output, send};
+use edf_fragment::{Output, send};
 use edf_program::{CommandFault, Inputs, Status, tell_memory};
-use edf_runs::{Listing, WriteFault, reopen, write_run};
+use edf_runs::Listing;
 use std::alloc::{AllocError, Global};
-use std::io;
 
 /// Which files are made, and when none is.
 const SPLIT_MORE: &str = "\
@@ -61,120 +74,98 @@ pub(crate) fn read_split(
     Ok(RunsCommand::Split { file, prefix })
 }
 
-/// What makes the files that `split` writes.
-pub trait Outputs {
-    /// The writers.
-    type Writer: Output + Drop;
-
-    /// Whether there is something of that name. Where that is not known, `create` finds it out.
-    fn is_there(&mut self, name: &str) -> bool;
-
-    /// A writer of a new, empty file of that name.
-    ///
-    /// # Errors
-    /// Where no file of that name could be made, or there was one. What was there is as it was.
-    fn create(&mut self, alloc: Global, name: &str) -> io::Result<Self::Writer>;
-
-    /// Ends a file, all of which was written. Whether it is there now.
-    fn finish(&mut self, writer: Self::Writer) -> bool;
-
-    /// Removes a file that was made here. Whether it is gone.
-    fn remove(&mut self, name: &str) -> bool;
+/// What is known before a file is made.
+#[derive(Drop)]
+struct Plan {
+    /// The names that no file may have: those of the runs, and the first ones of an earlier split.
+    asked: Vec<String>,
+    /// The lines of the runs.
+    text: Vec<u8>,
 }
 
-/// Reads on after the last run, where nothing may follow.
-fn expect_end<R: Input>(fragment: &mut OpenFragment, input: &mut R) -> Result<(), WriteFault> {
-    match fragment.next(input) {
-        Ok(None) => Ok(()),
-        Err(FragmentFault::Read) => Err(WriteFault::Read),
-        Err(FragmentFault::Memory) => Err(WriteFault::Memory),
-        _ => Err(WriteFault::Changed),
-    }
+/// The names and the lines of the listed runs.
+fn plan_of(alloc: Global, prefix: &str, listing: &Listing) -> Result<Plan, AllocError>
+    ensures { IfOk result (λ plan. IsPlan (map string_bytes plan.asked.items) plan.text.items
+        prefix.now listing.now) }
+{
+    let mut asked = run_names(alloc, prefix, listing.runs.as_slice().len())?;
+    let text = runs_text(alloc, &asked, listing)?;
+    push_first_names(alloc, prefix, &mut asked)?;
+    Ok(Plan { asked, text })
 }
 
-/// Reads a file again, and writes a file of one of the names for each of its runs. `made` counts
-/// those that were made, the last of which may be half written after a fault.
-fn write_files<I: Inputs, P: Outputs>(
-    alloc: Global,
-    file: &str,
-    listing: &Listing,
-    names: &[String],
-    inputs: &mut I,
-    outputs: &mut P,
-    made: &mut usize,
-) -> Result<(), WriteFault> {
-    let Ok(mut reader) = inputs.open(alloc, file) else {
-        return Err(WriteFault::Memory);
-    };
-    let mut fragment = reopen(alloc, &mut reader, listing)?;
-    for (run, name) in listing.runs.iter().zip(names) {
-        let Ok(mut writer) = outputs.create(alloc, name.as_str()) else {
-            return Err(WriteFault::Write);
-        };
-        *made = made.saturating_add(1);
-        write_run(alloc, &mut fragment, &mut reader, run, &mut writer)?;
-        if !outputs.finish(writer) {
-            return Err(WriteFault::Write);
+/// So many of these names, from the first.
+fn front_of(names: &[String], count: usize) -> &[String]
+    requires { count ≤ length names.now }
+    ensures { result.now ≡ take count names.now }
+{
+    &names[..count]
+}
+
+/// The number of the first run whose start no header can name, from 1, if there is one.
+fn undated_run(listing: &Listing) -> Option<usize>
+    ensures { MatchOption result
+        (All (λ (run : ListedRun). MayStart listing.now.identity run.first) listing.now.runs.items)
+        (IsUndated listing.now) }
+{
+    for (at, run) in listing.runs.iter().enumerate() {
+        if !listing.identity.may_start(run.first()) {
+            return Some(at + 1);
         }
     }
-    expect_end(&mut fragment, &mut reader)
+    None
 }
 
-/// Removes the first `made` files of these names, and prints which of them could not be removed.
-fn remove_made<P: Outputs, F: Output>(
-    names: &[String],
-    made: usize,
-    outputs: &mut P,
-    err: &mut F,
-    status: Status,
-) -> Status {
-    let mut answer = status;
-    for name in names.iter().take(made) {
-        if !outputs.remove(name.as_str()) {
-            is_left_told(err, name.as_str());
-            answer = Status::Trouble;
+/// The first of these names that something has already, if there is one.
+fn taken_name<'a, P: Outputs>(outputs: &mut P, names: &'a [String]) -> Option<&'a str>
+    ensures answer { MatchOption result
+        (All (IsFree (P.there outputs.old)) (map string_bytes names.now))
+        (λ name. IsTaken (P.there outputs.old) (map string_bytes names.now) name.now) }
+    ensures there { (name : List ℕ) → P.there outputs.new name ≡ P.there outputs.old name }
+    ensures made { P.made outputs.new ≡ P.made outputs.old }
+    ensures failed { P.failed outputs.new ≡ P.failed outputs.old }
+    ensures known { P.known outputs.new ≡ P.known outputs.old }
+{
+    for name in names {
+        if outputs.is_there(name.as_str()) {
+            return Some(name.as_str());
         }
     }
-    answer
+    None
 }
 
-/// Writes a line for each file that was made, and answers how that went.
-fn tell_made<O: Output, F: Output>(
-    alloc: Global,
-    file: &str,
-    listing: &Listing,
-    names: &[String],
-    out: &mut O,
-    err: &mut F,
-) -> Status {
-    match runs_text(alloc, names, listing) {
-        Ok(text) if send(out, text.as_slice()) => Status::Done,
-        Ok(_) => Status::Trouble,
-        Err(_) => tell_memory(err, file),
-    }
-}
-
-/// Writes the files of the listed runs, and a line for each once all are there. After a fault none
-/// is left.
+/// Makes the files of the listed runs, and writes their lines once all are there. After a fault
+/// what was made is removed.
 fn split_listed<I: Inputs, P: Outputs, O: Output, F: Output>(
     alloc: Global,
     file: &str,
     listing: &Listing,
     names: &[String],
+    text: &[u8],
     inputs: &mut I,
     outputs: &mut P,
     out: &mut O,
     err: &mut F,
-) -> Status {
-    let mut made = 0usize;
-    let status = match write_files(alloc, file, listing, names, inputs, outputs, &mut made) {
-        Ok(()) => tell_made(alloc, file, listing, names, out, err),
-        Err(fault) => refuse_run(file, made, fault, err),
-    };
-    if let Status::Done = status {
+) -> Status
+    requires names { length names.now ≡ length listing.now.runs.items }
+    requires dated { All (λ (run : ListedRun). MayStart listing.now.identity run.first)
+        listing.now.runs.items }
+    ensures split { SplitsListed (making P.Outputs outputs.old outputs.new)
+        (growth O.Output out.old out.new) (growth F.Output err.old err.new)
+        (I.bytes inputs.old file.now) file.now listing.now (map string_bytes names.now) text.now
+        result }
+    ensures opened { OpensAgain (I.opened inputs.old) (I.opened inputs.new) file.now 1 result }
+    ensures same { (name : List ℕ) → I.bytes inputs.new name ≡ I.bytes inputs.old name }
+{
+    let first = outputs.count();
+    if let Err(stop) = make_files(alloc, file, listing, names, inputs, outputs) {
+        return give_up(file, stop, names, first, outputs, err);
+    }
+    if send(out, text) {
         return Status::Done;
     }
-    remove_made(names, made, outputs, err, status)
+    let stop = Stop::Output(STANDARD_OUTPUT);
+    give_up(file, stop, names, first, outputs, err)
 }
 
 /// Writes each run of a file to an EDF+C file of its own. No file that is there is written over.
@@ -186,18 +177,35 @@ pub(crate) fn split<I: Inputs, P: Outputs, O: Output, F: Output>(
     outputs: &mut P,
     out: &mut O,
     err: &mut F,
-) -> Status {
+) -> Status
+    ensures split { IsSplit (making P.Outputs outputs.old outputs.new)
+        (growth O.Output out.old out.new) (growth F.Output err.old err.new)
+        (I.bytes inputs.old file.now) file.now prefix.now result }
+    ensures opened { OpensAgain (I.opened inputs.old) (I.opened inputs.new) file.now 2 result }
+    ensures same { (name : List ℕ) → I.bytes inputs.new name ≡ I.bytes inputs.old name }
+{
     let listing = match listing_of(alloc, file, inputs) {
         Ok(listing) => listing,
         Err(fault) => return refuse(alloc, file, fault, err),
     };
-    let Ok(names) = run_names(alloc, prefix, listing.runs.len()) else {
+    let Ok(plan) = plan_of(alloc, prefix, &listing) else {
         return tell_memory(err, file);
     };
-    for name in &names {
-        if outputs.is_there(name.as_str()) {
-            return tell_there(err, name.as_str());
-        }
+    if let Some(number) = undated_run(&listing) {
+        return tell_undated(err, number, Status::Refused);
     }
-    split_listed(alloc, file, &listing, &names, inputs, outputs, out, err)
+    if let Some(name) = taken_name(outputs, &plan.asked) {
+        return tell_there(err, name);
+    }
+    split_listed(
+        alloc,
+        file,
+        &listing,
+        front_of(&plan.asked, listing.runs.as_slice().len()),
+        plan.text.as_slice(),
+        inputs,
+        outputs,
+        out,
+        err,
+    )
 }

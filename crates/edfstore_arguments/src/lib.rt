@@ -2,7 +2,8 @@
 //!
 //! - [`parse`]: the words to an [`Order`], by `clap`, or the `CommandFault` that says why they ask
 //!   for nothing.
-//! - [`Order`]: `take`, `list`, `export` or `convert`, with its values.
+//! - [`Order`]: `take`, `list`, `export` or `convert`, with its values. [`read_place`]: the place
+//!   that a text names.
 //!
 //! No file is opened and nothing is printed here.
 #![tactic(auto)]
@@ -14,4 +15,4 @@ mod matches;
 mod order;
 
 pub use command_line::parse;
-pub use order::Order;
+pub use order::{Order, read_place};

@@ -20,7 +20,9 @@ use Rattle.edf_runs.specs.Runs.{StartFrom, IsListed}
 use Rattle.edf_runs.specs.Read.{ReadsOn}
 use Rattle.edf_runs.specs.Again.{next_start, ComesNext}
 use Rattle.edf_runs.specs.Written.{run_text, ReadsOneMoreAtMost, CountsFault}
+use Rattle.edf_runs.specs.Inside.Tally.{IsTallied}
 use Rattle.edf_runs.specs.declared.run.Run.{Run}
+use Rattle.edf_runs.specs.declared.tally.Tally.{Tally}
 use Rattle.edf_runs.specs.declared.fault.WriteFault.{WriteFault}
 use Rattle.edf_runs.specs.declared.fault.WriteFault.TheVariants.{Undated, Memory, Write}
 
@@ -77,21 +79,23 @@ pub record ArePut (l : Layout) (run : Run) (records : List DataRecord) (samples 
   pub holds : BlocksFit (second_of run.first) samples records
   pub least : (fewer : ℕ) → BlocksFit (second_of run.first) fewer records → samples ≤ fewer
 
--- so far they were read and put
+-- so far they were read, put and counted
 pub record PutSoFar (l : Layout) (from to : Progress) (left rest : Option (List ℕ))
-    (before after : Buffered) (run : Run) (next samples count : ℕ) : Type 0 where
+    (before after : Buffered) (run : Run) (next samples count : ℕ) (tally : Tally) : Type 0 where
   pub records : List DataRecord
   pub so_far : ReadSoFar l from to left rest run records next count
   pub put : ArePut l run records samples
+  pub tallied : IsTallied (duration_of l.key.duration) run records tally
   pub wrote : Writes before after (run_text run records) after.held
 
--- all data records of the run were read and put
+-- all data records of the run were read, put and counted
 pub record IsPutAll (l : Layout) (from to : Progress) (left rest : Option (List ℕ))
-    (before after : Buffered) (run : Run) : Type 0 where
+    (before after : Buffered) (run : Run) (tally : Tally) : Type 0 where
   pub records : List DataRecord
   pub read : ReadsOn l from to left rest records
   pub sound : AllByRecursion (IsSoundRecord l.key) records
   pub listed : IsListed (duration_of l.key.duration) records run
+  pub tallied : IsTallied (duration_of l.key.duration) run records tally
   pub put : Writes before after (run_text run records) after.held
 
 -- the first data records of the run were read, of which a front was written
@@ -107,13 +111,14 @@ pub record StopsPutting (l : Layout) (from to : Progress) (left rest : Option (L
   pub front : (unwritten : List ℕ) × Writes before after (run_text run records) unwritten
   pub more : ReadsOneMoreAtMost l mid to middle rest (length records) run
 
--- a header and all data records of the run were written
+-- a header and all data records of the run were written, and the data records counted
 pub record IsSent (l : Layout) (from to : Progress) (left rest before after : Option (List ℕ))
-    (header : List ℕ) (run : Run) : Type 0 where
+    (header : List ℕ) (run : Run) (tally : Tally) : Type 0 where
   pub records : List DataRecord
   pub read : ReadsOn l from to left rest records
   pub sound : AllByRecursion (IsSoundRecord l.key) records
   pub listed : IsListed (duration_of l.key.duration) records run
+  pub tallied : IsTallied (duration_of l.key.duration) run records tally
   pub wrote : Appends before after (header ++ run_text run records)
 
 -- a front of the header and of the first data records was written

@@ -1,19 +1,24 @@
 use Rattle.std.proofs.Common.{◌≡◌, ℕ, ◌+◌, ◌*◌, ◌/◌, ◌≤◌, ◌<◌, List, [], length, refl, sym, ap, ◌∙◌}
 use Rattle.std.proofs.Common.{subst, arith, append-nil}
 use Rattle.std.proofs.lemmas.Result.{err_from_is_err_and}
+use Rattle.std.proofs.lemmas.Nat.{mul-le}
 use Rattle.std.proofs.KnownBytes.{Appends-nil}
 use Rattle.edf_field.specs.Number.{duration_of}
 use Rattle.edf_header.specs.Key.{Key}
 use Rattle.edf_header.specs.Header.{Layout, IsLayout}
+use Rattle.edf_header.specs.declared.limits.TheConstants.{MOST_RECORDS}
+use Rattle.edf_tal.specs.declared.limits.TheConstants.{MOST_ANNOTATIONS}
 use Rattle.edf_canonical.specs.File.{second_of, block_of, record_text}
 use Rattle.edf_canonical.specs.Output.{buffered, Writes}
 use Rattle.edf_runs.specs.Again.{StopsAt}
 use Rattle.edf_runs.specs.declared.fault.WriteFault.{WriteFault}
 use Rattle.edf_runs.specs.Inside.Steps.{StepsOn}
+use Rattle.edf_runs.specs.Inside.Tally.{IsTallied}
 use Rattle.edf_runs.proofs.Next.{next_as_listed, block_as_listed, longest_as_listed, end_as_listed}
 use Rattle.edf_runs.proofs.Next.{handed_on}
 use Rattle.edf_runs.proofs.SecondReading.{none_so_far}
 use Rattle.edf_runs.proofs.Sending.{none_put, put_more, all_put, stops_in_put, reread_counts}
+use Rattle.edf_runs.proofs.Tallies.{few-annotations}
 use Rattle.edf_runs.proofs.writing.put_records.Goals as goal
 use Rattle.edf_runs.proofs.writing.put_records.Goals.{then-longest-block_samples-via-then-longest-block_samples}
 use Rattle.edf_runs.proofs.writing.put_records.Goals.{then-longest-block_samples-via-else-longest-block_samples+then-next-nanos}
@@ -30,11 +35,26 @@ loop-init g c =
         so_far = none_so_far l from left c.args.run.now c.nanos-next.result
             c.args.fragment.now.within (c.nanos-next.ensures.value ∙ c.first-2.ensures);
         put = none_put l c.args.run.now;
+        tallied = subst (λ n. IsTallied n c.args.run.now [] c.of-tally.result)
+            (c.duration-duration.ensures.value ∙ ap (λ (k : Key). duration_of k.duration)
+            (c.identity.ensures ∙ ap (λ (x : Layout). x.key) c.header-2.ensures))
+            c.of-tally.ensures;
         wrote = record { front = []; wrote = Appends-nil _; parts = append-nil _ };
       };
       reads = refl;
       writes = refl;
     }
+
+pub with-tally-requires : goal.with-tally-requires
+with-tally-requires g c =
+    let i = c.loop.invariant in
+    let l = c.args.fragment.now.header in
+    let rs = i.so_far.records in
+    let few : length rs ≤ MOST_RECORDS =
+    omega (arith, i.so_far.so_far.counted, c.records-end.ensures.value, c.records-end.ensures.few) in
+    let all = few-annotations l.key rs i.so_far.put.sound in
+    let most = mul-le (length rs) MOST_ANNOTATIONS MOST_RECORDS MOST_ANNOTATIONS few (omega arith) in
+    omega (arith, i.so_far.tallied.counted.all, all, most)
 
 pub loop-preserved : goal.loop-preserved
 loop-preserved g c =
@@ -76,9 +96,9 @@ loop-preserved g c =
     record {
       header = c.in_ok-data_record.ensures.header ∙ i.header;
       so_far = put_more l from mid to left middle rest a b d run c.loop.next _ c.loop.longest
-          c.max-longest.result c.samples_of-samples.result c.loop.counter r i.so_far few step after
-          here fits
-          c.max-longest.ensures put;
+          c.max-longest.result c.samples_of-samples.result c.loop.counter c.loop.tally
+          c.with-tally.result r i.so_far few step after here fits c.max-longest.ensures
+          (c.with-tally.ensures (duration_of l.key.duration) run) put;
       reads = c.in_ok-data_record.ensures.counted ∙ i.reads;
       writes = c.in_ok-put_record.ensures.1 ∙ i.writes;
     }
@@ -119,7 +139,7 @@ returns-in_err-put_record-clause-put g c =
     let p = err_from_is_err_and c.from_residual-in_err-put_record.result
     c.from_residual-in_err-put_record.ensures.1 in
     rw (p.1) (stops_in_put l from mid to left middle rest a b d run c.loop.next c.loop.longest
-    c.samples_of-samples.result c.loop.counter r e.0.0 i.so_far few step here fits put)
+    c.samples_of-samples.result c.loop.counter c.loop.tally r e.0.0 i.so_far few step here fits put)
 
 pub returns-clause-put : goal.returns-clause-put
 returns-clause-put g c =
@@ -134,7 +154,8 @@ returns-clause-put g c =
     omega (arith, c.block_samples-2.ensures.value) in
     let ends : c.loop.next ≡ run.last + duration_of l.key.duration =
     omega (arith, c.nanos-else-longest-block_samples.ensures.value, c.last.ensures, duration) in
-    all_put l _ _ _ _ _ _ run c.loop.next c.loop.longest c.loop.counter i.so_far all same ends
+    all_put l _ _ _ _ _ _ run c.loop.next c.loop.longest c.loop.counter c.loop.tally i.so_far
+    all same ends
 
 pub returns-in_err-data_record-clause-reread : goal.returns-in_err-data_record-clause-reread
 returns-in_err-data_record-clause-reread g c =
@@ -217,7 +238,7 @@ returns-then-longest-block_samples-clause-reread g c =
       header = i.header;
       unchanged = λ n same.
           let longest = longest_as_listed l _ _ _ _ _ _ run c.loop.next c.loop.longest
-          c.loop.counter i.so_far all n in
+          c.loop.counter c.loop.tally i.so_far all n in
           let ends = end_as_listed l _ _ _ _ run i.so_far.records c.loop.next c.loop.counter
           i.so_far.so_far all n in
           elim c.then-longest-block_samples.branch [

@@ -26,12 +26,12 @@ returns-in_err-put-clause-sent g c =
       more = inl (refl, refl);
     })
 
-pub returns-in_err-put_records-clause-sent : goal.returns-in_err-put_records-clause-sent
-returns-in_err-put_records-clause-sent g c =
+pub returns-in_err-tally-clause-sent : goal.returns-in_err-tally-clause-sent
+returns-in_err-tally-clause-sent g c =
     let run = c.args.run.now in
-    let e = c.in_err-put_records.ensures.put in
-    let p = err_from_is_err_and c.from_residual-in_err-put_records.result
-    c.from_residual-in_err-put_records.ensures.1 in
+    let e = c.in_err-tally.ensures.put in
+    let p = err_from_is_err_and c.from_residual-in_err-tally.result
+    c.from_residual-in_err-tally.ensures.1 in
     rw (p.1) (record {
       records = e.records;
       mid = e.mid;
@@ -48,7 +48,7 @@ returns-in_err-put_records-clause-sent g c =
 pub returns-in_err-flush-clause-sent : goal.returns-in_err-flush-clause-sent
 returns-in_err-flush-clause-sent g c =
     let run = c.args.run.now in
-    let all = c.in_ok-put_records.ensures.put in
+    let all = c.in_ok-tally.ensures.put in
     let e = c.in_err-flush.ensures in
     let p = err_from_is_err_and c.from_residual-in_err-flush.result
     c.from_residual-in_err-flush.ensures.1 in
@@ -71,20 +71,20 @@ returns-in_err-put-clause-reread g c =
     reread_out _ _ _ c.args.run.now c.from_residual.result p.0 p.1 c.in_err-put.field-0.0 p.2
     refl
 
-pub returns-in_err-put_records-clause-reread : goal.returns-in_err-put_records-clause-reread
-returns-in_err-put_records-clause-reread g c =
-    let p = err_from_is_err_and c.from_residual-in_err-put_records.result
-    c.from_residual-in_err-put_records.ensures.1 in
-    reread_handed_on _ _ _ c.args.run.now c.from_residual-in_err-put_records.result p.0 p.1
-    c.in_err-put_records.field-0.0 p.2
-    c.in_err-put_records.ensures.reread
+pub returns-in_err-tally-clause-reread : goal.returns-in_err-tally-clause-reread
+returns-in_err-tally-clause-reread g c =
+    let p = err_from_is_err_and c.from_residual-in_err-tally.result
+    c.from_residual-in_err-tally.ensures.1 in
+    reread_handed_on _ _ _ c.args.run.now c.from_residual-in_err-tally.result p.0 p.1
+    c.in_err-tally.field-0.0 p.2
+    c.in_err-tally.ensures.reread
 
 pub returns-in_err-flush-clause-reread : goal.returns-in_err-flush-clause-reread
 returns-in_err-flush-clause-reread g c =
     let p = err_from_is_err_and c.from_residual-in_err-flush.result
     c.from_residual-in_err-flush.ensures.1 in
     reread_out _ _ _ c.args.run.now c.from_residual-in_err-flush.result p.0 p.1
-    c.in_err-flush.field-0.0 p.2 c.in_ok-put_records.ensures.reread.header
+    c.in_err-flush.field-0.0 p.2 c.in_ok-tally.ensures.reread.header
 
 pub returns-in_err-put-clause-counted : goal.returns-in_err-put-clause-counted
 returns-in_err-put-clause-counted g c =

@@ -1,12 +1,19 @@
-use Rattle.std.proofs.Common.{◌≡◌, ◌-◌}
-use Rattle.edf_header.specs.Fixed.{most_records}
+use Rattle.std.proofs.Common.{◌≡◌, ◌-◌, List}
+use Rattle.edf_header.specs.Header.{most_records}
+use Rattle.edf_fragment.specs.Fragment.{DataRecord}
 use Rattle.edf_fragment.specs.declared.advance.ReaderState.TheVariants.{Reading}
+use Rattle.edf_fragment.specs.Whole.{HasRead}
+use Rattle.edf_runs.specs.Runs.{AreListed}
 use Rattle.edfruns_command.proofs.picture_command.see_records.Given as goal
 
 abbrev pub invariant-records : goal.invariant-records
 invariant-records g l = record {
   header : l.fragment.header ≡ l.initial.fragment.header;
-  status : l.fragment.progress.state ≡ Reading;
+  state : l.fragment.progress.state ≡ Reading;
+  so_far : (records : List DataRecord)
+      × HasRead l.initial.fragment.header (g.R.Input.remaining l.initial.input)
+      (g.R.Input.remaining l.input) records l.fragment.progress
+      × AreListed l.fn.duration records l.runs.items;
 }
 
 abbrev pub decreases-records : goal.decreases-records

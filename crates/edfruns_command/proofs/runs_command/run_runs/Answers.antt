@@ -1,6 +1,8 @@
-use Rattle.std.proofs.Common.{List, ℕ, sym, subst}
+use Rattle.std.proofs.Common.{List, ℕ, sym, subst, string_bytes}
 use Rattle.edf_program.specs.Output.{growth}
 use Rattle.edfruns_command.specs.Run.{IsDone, meaning}
+use Rattle.edfruns_command.specs.Canonical.{IsCanonicalOut}
+use Rattle.edfruns_command.specs.Splitting.{IsSplit, making}
 use Rattle.edfruns_command.specs.Writing.{IsRunOut}
 use Rattle.edfruns_command.specs.declared.runs_command.RunsCommand.{RunsCommand}
 use Rattle.edfruns_command.proofs.runs_command.run_runs.Goals as goal
@@ -10,9 +12,40 @@ returns-in-Write-clause-done g c =
     let out = growth g.O.Output c.args.out.now c.write.new.out in
     let err = growth g.F.Output c.args.err.now c.write.new.err in
     let bytes = g.I.Inputs.bytes c.args.inputs.now in
+    let made = making g.P.Outputs c.args.outputs.now c.args.outputs.now in
     let Does : RunsCommand → Type 0 = λ command.
-    IsDone bytes out err (meaning command) c.write.result in
+    IsDone bytes made out err (meaning command) c.write.result in
     let Writes : List ℕ → Type 0 = λ name.
     IsRunOut out err (bytes name) name c.in-Write.number c.write.result in
     subst Does (sym c.in-Write.is) (subst Writes c.as_str-in-Write.ensures.value
     c.write.ensures.written)
+
+pub returns-in-Canonical-clause-done : goal.returns-in-Canonical-clause-done
+returns-in-Canonical-clause-done g c =
+    let out = growth g.O.Output c.args.out.now c.canonical.new.out in
+    let err = growth g.F.Output c.args.err.now c.canonical.new.err in
+    let bytes = g.I.Inputs.bytes c.args.inputs.now in
+    let made = making g.P.Outputs c.args.outputs.now c.args.outputs.now in
+    let Does : RunsCommand → Type 0 = λ command.
+    IsDone bytes made out err (meaning command) c.canonical.result in
+    let Writes : List ℕ → Type 0 = λ name.
+    IsCanonicalOut out err (bytes name) name c.canonical.result in
+    subst Does (sym c.in-Canonical.is) (subst Writes c.as_str-in-Canonical.ensures.value
+    c.canonical.ensures.written)
+
+pub returns-in-Split-clause-done : goal.returns-in-Split-clause-done
+returns-in-Split-clause-done g c =
+    let out = growth g.O.Output c.args.out.now c.split.new.out in
+    let err = growth g.F.Output c.args.err.now c.split.new.err in
+    let bytes = g.I.Inputs.bytes c.args.inputs.now in
+    let made = making g.P.Outputs c.args.outputs.now c.split.new.outputs in
+    let Does : RunsCommand → Type 0 = λ command.
+    IsDone bytes made out err (meaning command) c.split.result in
+    let prefix = c.as_str-in-Split-2.result.now in
+    let Splits : List ℕ → Type 0 = λ name.
+    IsSplit made out err (bytes name) name prefix c.split.result in
+    let Named : List ℕ → Type 0 = λ text.
+    IsSplit made out err (bytes (string_bytes c.in-Split.file)) (string_bytes c.in-Split.file) text
+    c.split.result in
+    subst Does (sym c.in-Split.is) (subst Named c.as_str-in-Split-2.ensures.value
+    (subst Splits c.as_str-in-Split.ensures.value c.split.ensures.split))

@@ -1,4 +1,4 @@
-use Rattle.std.proofs.Common.{◌≡◌, ℕ, ◌+◌, ◌*◌, ◌≤◌, List, length, sym, ap, ◌∙◌, subst, rules}
+use Rattle.std.proofs.Common.{◌≡◌, ℕ, ◌+◌, ◌*◌, ◌≤◌, List, length, refl, sym, ap, ◌∙◌, subst, rules}
 use Rattle.std.proofs.Common.{arith}
 use Rattle.std.proofs.lemmas.Result.{err_from_is_err_and}
 use Rattle.std.proofs.lemmas.Nat.{mul-le}
@@ -10,8 +10,8 @@ use Rattle.edf_header.specs.declared.limits.TheConstants.{MOST_SIGNALS}
 use Rattle.edf_tal.specs.declared.limits.TheConstants.{MOST_CANONICAL_BLOCK_SAMPLES}
 use Rattle.edf_runs.specs.Written.{IsRunHeader}
 use Rattle.edf_runs.specs.declared.fault.WriteFault.TheVariants.{Undated}
-use Rattle.edf_runs.proofs.Sending.{written, not_begun, not_written, reread_handed_on}
-use Rattle.edf_runs.proofs.writing.write_run.Goals as goal
+use Rattle.edf_runs.proofs.Sending.{counted_run, not_begun, not_written, reread_handed_on}
+use Rattle.edf_runs.proofs.writing.write_counted.Goals as goal
 
 pub returns-in_default-clause-refused : goal.returns-in_default-clause-refused
 returns-in_default-clause-refused g c =
@@ -19,8 +19,8 @@ returns-in_default-clause-refused g c =
     (g.R.Input.remaining c.args.input.now) (g.W.Output.contents c.args.out.now) c.args.run.now
     c.args.fragment.now.within
 
-pub returns-in_err-send_run-clause-refused : goal.returns-in_err-send_run-clause-refused
-returns-in_err-send_run-clause-refused g c =
+pub returns-in_err-tally-clause-refused : goal.returns-in_err-tally-clause-refused
+returns-in_err-tally-clause-refused g c =
     let l = c.args.fragment.now.header in
     let run = c.args.run.now in
     let key : c.identity-identity.result.now ≡ l.key = c.identity-identity.ensures
@@ -31,10 +31,10 @@ returns-in_err-send_run-clause-refused g c =
     let header : IsRunHeader text l.key run =
     subst (λ (t : List ℕ). IsRunHeader t l.key run) (sym c.as_slice.ensures.value)
     (subst (λ (k : Key). IsRunHeader c.in-Ok.header.items k run) key plain) in
-    let dated : c.in_err-send_run.field-0.0 ≡ Undated → ⊥ = search rules in
+    let dated : c.in_err-tally.field-0.0 ≡ Undated → ⊥ = search rules in
     let p = err_from_is_err_and c.from_residual.result c.from_residual.ensures.1 in
-    rw (p.1, p.2) (not_written l _ _ _ _ _ _ text run c.in_err-send_run.field-0.0 header
-    c.in_err-send_run.ensures.sent dated)
+    rw (p.1, p.2) (not_written l _ _ _ _ _ _ text run c.in_err-tally.field-0.0 header
+    c.in_err-tally.ensures.sent dated)
 
 pub overflow_add-result : goal.overflow_add-result
 overflow_add-result g c =
@@ -82,10 +82,11 @@ returns-clause-written g c =
     ∙ ap (λ n. length text + run.records * (n + 2 * c.block_samples.result)) ordinary
     ∙ ap (λ n. length text + run.records * (2 * samples_in_all l.key.signals + 2 * n))
     c.block_samples.ensures.value in
-    written l _ _ _ _ _ _ text run _ is-key begins header c.in_ok-send_run.ensures.sent whole
+    counted_run l _ _ _ _ _ _ text run _ c.in_ok-tally.tally is-key begins header
+    c.in_ok-tally.ensures.sent whole refl refl
 
-pub returns-in_err-send_run-clause-reread : goal.returns-in_err-send_run-clause-reread
-returns-in_err-send_run-clause-reread g c =
+pub returns-in_err-tally-clause-reread : goal.returns-in_err-tally-clause-reread
+returns-in_err-tally-clause-reread g c =
     let p = err_from_is_err_and c.from_residual.result c.from_residual.ensures.1 in
     reread_handed_on _ _ _ c.args.run.now c.from_residual.result p.0 p.1
-    c.in_err-send_run.field-0.0 p.2 c.in_err-send_run.ensures.reread
+    c.in_err-tally.field-0.0 p.2 c.in_err-tally.ensures.reread

@@ -1,0 +1,131 @@
+-- The canonical file of a whole file, by two readings of it.
+use Rattle.std.specs.Prelude.{◌≡◌, ◌≢◌, ℕ, ◌*◌, ◌≤◌, ◌⊎◌, List, [], ◌∷◌, ◌++◌, length, Option, Some}
+use Rattle.std.specs.Prelude.{Result, Err}
+use Rattle.std.specs.List.{flat_map}
+use Rattle.std.specs.Io.KnownBytes.{Appends, Keeps}
+use Rattle.edf_header.specs.Key.{Key}
+use Rattle.edf_header.specs.Header.{Layout}
+use Rattle.edf_header.specs.Canonical.{IsCanonicalHeader}
+use Rattle.edf_fragment.specs.Fragment.{DataRecord, Spells}
+use Rattle.edf_fragment.specs.Reading.{ReadsHeader, IsAnswer}
+use Rattle.edf_fragment.specs.Whole.{ReadsFragment, HasRead}
+use Rattle.edf_fragment.specs.declared.advance.Progress.{Progress}
+use Rattle.edf_fragment.specs.declared.fault.FragmentFault.{FragmentFault}
+use Rattle.edf_canonical.specs.File.{IsCanonicalFile, second_of, record_text, BlocksFit}
+use Rattle.edf_canonical.specs.Output.{WritesFront}
+use Rattle.edf_runs.specs.Again.{IsNotReopened}
+use Rattle.edf_runs.specs.declared.canonical_plan.CanonicalPlan.{CanonicalPlan}
+use Rattle.edf_runs.specs.declared.canonical_plan.Measure.{Measure}
+use Rattle.edf_runs.specs.declared.fault.WriteFault.{WriteFault}
+use Rattle.edf_runs.specs.declared.fault.WriteFault.TheVariants.{Undated, Changed}
+
+-- when the first of the data records starts, how many there are, and the fewest samples, two bytes
+-- each, that hold the longest block, with onsets counted from the second in which the first starts
+pub record IsMeasured (records : List DataRecord) (measure : Measure) : Type 0 where
+  pub first : DataRecord
+  pub others : List DataRecord
+  pub parts : records ≡ first ∷ others
+  pub start : measure.first ≡ first.start
+  pub count : measure.records ≡ length records
+  pub holds : BlocksFit (second_of measure.first) measure.block_samples records
+  pub least : (fewer : ℕ) → BlocksFit (second_of measure.first) fewer records →
+      measure.block_samples ≤ fewer
+
+-- what the canonical file of data records needs before its first byte: their key, and this of them
+pub record IsPlanned (k : Key) (records : List DataRecord) (plan : CanonicalPlan) : Type 0 where
+  pub identity : plan.identity ≡ k
+  pub measured : IsMeasured records plan.measure
+
+-- the whole input was read, and this is planned of what it spells
+pub record ReadsPlan (left rest : Option (List ℕ)) (plan : CanonicalPlan) : Type 0 where
+  pub layout : Layout
+  pub records : List DataRecord
+  pub read : ReadsFragment left rest layout records
+  pub planned : IsPlanned layout.key records plan
+
+-- a header and data records as they are in a canonical file that was measured so
+abbrev pub planned_text : List ℕ → Measure → List DataRecord → List ℕ
+planned_text header m records = header
+    ++ flat_map (record_text (second_of m.first) (2 * m.block_samples)) records
+
+-- the first of the data records, where there is one, starts at this instant
+abbrev pub StartsAt : ℕ → List DataRecord → Type 0
+StartsAt instant [] = Unit {0}
+StartsAt instant (r ∷ rs) = instant ≡ r.start
+
+-- these may be the first of the data records that were measured: the first starts as theirs, and
+-- there are no more, and no longer blocks
+pub record MayComeFirst (records : List DataRecord) (m : Measure) : Type 0 where
+  pub starts : StartsAt m.first records
+  pub within : length records ≤ m.records
+  pub holds : BlocksFit (second_of m.first) m.block_samples records
+
+-- the whole input was read; it spells what was planned, and its canonical file went out, the only
+-- one that it has, and this is the length
+pub record IsCanonicalWritten (left rest before after : Option (List ℕ)) (plan : CanonicalPlan)
+    (len : ℕ) : Type 0 where
+  pub layout : Layout
+  pub records : List DataRecord
+  pub read : ReadsFragment left rest layout records
+  pub planned : IsPlanned layout.key records plan
+  pub file : List ℕ
+  pub is_file : IsCanonicalFile file layout.key records
+  pub only : (other : List ℕ) → IsCanonicalFile other layout.key records → other ≡ file
+  pub wrote : Appends before after file
+  pub len_is : len ≡ length file
+
+-- nothing was written, or a front of the planned header and these data records
+abbrev pub WritesPlannedFront : Option (List ℕ) → Option (List ℕ) → CanonicalPlan →
+    List DataRecord → Type 0
+WritesPlannedFront before after plan records = Keeps before after
+    ⊎ ((header : List ℕ)
+    × IsCanonicalHeader header plan.identity plan.measure.first plan.measure.records
+    plan.measure.block_samples
+    × WritesFront before after (planned_text header plan.measure records))
+
+-- no more was read, or no more than one answer more
+abbrev pub AnswersOnceAtMost : Layout → Progress → Option (List ℕ) → Option (List ℕ) → Type 0
+AnswersOnceAtMost l from left rest = (rest ≡ left)
+    ⊎ ((to : Progress) × (answer : Result (Option DataRecord) FragmentFault)
+    × IsAnswer l from to left rest answer)
+
+-- the header was read again and names the recording; the first data records were read, which may be
+-- those that were planned, and a front of the planned header and these was written, or nothing; and
+-- no more was asked for than one answer
+pub record StopsInFile (left rest before after : Option (List ℕ)) (plan : CanonicalPlan) : Type 0
+  where
+    pub layout : Layout
+    pub opened : Option (List ℕ)
+    pub header : ReadsHeader left opened layout
+    pub same : layout.key ≡ plan.identity
+    pub records : List DataRecord
+    pub middle : Option (List ℕ)
+    pub progress : Progress
+    pub read : HasRead layout opened middle records progress
+    pub first : MayComeFirst records plan.measure
+    pub front : WritesPlannedFront before after plan records
+    pub more : AnswersOnceAtMost layout progress middle rest
+
+-- why the canonical file was not written, or not to its end: the second reading stopped at the
+-- header and nothing was written, or it stopped later; which of these a fault is, the counts tell
+abbrev pub IsNotCanonical : Option (List ℕ) → Option (List ℕ) → Option (List ℕ) →
+    Option (List ℕ) → CanonicalPlan → WriteFault → Type 0
+IsNotCanonical left rest before after plan fault = (fault ≢ Undated)
+    × ((IsNotReopened left rest plan.identity fault × Keeps before after)
+    ⊎ StopsInFile left rest before after plan)
+
+-- an input that spells what was planned is not told as one that changed
+abbrev pub IsToldUnchanged : {A : Type 0} → Option (List ℕ) → CanonicalPlan →
+    Result A WriteFault → Type 0
+IsToldUnchanged left plan result = (bytes : List ℕ) (k : Key) (records : List DataRecord) →
+    left ≡ Some bytes → Spells bytes k records → IsPlanned k records plan →
+    result ≢ Err Changed
+
+-- where the input spells what was planned, nothing went out before a fault, or a front of its
+-- canonical file
+abbrev pub LeavesFrontOfFile : Type 0
+LeavesFrontOfFile = (left rest before after : Option (List ℕ)) (plan : CanonicalPlan)
+    (fault : WriteFault) (bytes : List ℕ) (k : Key) (records : List DataRecord) (file : List ℕ) →
+    left ≡ Some bytes → Spells bytes k records → IsPlanned k records plan →
+    IsCanonicalFile file k records → IsNotCanonical left rest before after plan fault →
+    Keeps before after ⊎ WritesFront before after file

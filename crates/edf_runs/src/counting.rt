@@ -1,0 +1,57 @@
+//! How many annotations data records have, and how many of these lie outside of a run.
+
+ghost use Rattle.std.specs.Prelude.{◌≡◌, ℕ, ◌*◌, ◌≤◌, ◌++◌, ◌∷◌, [], List, count_by};
+ghost use Rattle.edf_header.specs.declared.limits.TheConstants.{MOST_RECORDS};
+ghost use Rattle.edf_tal.specs.declared.limits.TheConstants.{MOST_ANNOTATIONS};
+ghost use Rattle.edf_fragment.specs.Fragment.{DataRecord};
+ghost use Rattle.edf_runs.specs.Counted.{is_outside};
+ghost use Rattle.edf_runs.specs.Inside.Tally.{IsTallied};
+ghost use Rattle.edf_runs.specs.declared.run.Run.{Run as TheRun};
+
+use crate::run::Run;
+use crate::tally::Tally;
+use edf_field::MOST_DURATION;
+use edf_fragment::Record;
+use edf_tal::Note;
+
+/// How many of these annotations have an onset before one instant, or at or after another.
+fn outside_of(notes: &[Note], first: u64, end: u64) -> usize
+    ensures { result ≡ count_by (is_outside first end) notes.now }
+{
+    notes
+        .iter()
+        .filter(|note| note.onset().nanos() < first || note.onset().nanos() >= end)
+        .count()
+}
+
+impl Tally {
+    /// Of no data record of a run.
+    pub(crate) fn of(run: &Run, duration: u64) -> Tally
+        requires { duration ≤ MOST_DURATION }
+        ensures { IsTallied duration run.now [] result }
+    {
+        Tally {
+            first: run.first().nanos(),
+            end: run.last().nanos() + duration,
+            annotations: 0,
+            outside: 0,
+        }
+    }
+
+    /// With one more data record.
+    pub(crate) fn with(self, data_record: &Record) -> Tally
+        requires { self.annotations ≤ MOST_RECORDS * MOST_ANNOTATIONS }
+        ensures { (d : ℕ) (run : TheRun) (records : List DataRecord) →
+            IsTallied d run records self →
+            IsTallied d run (records ++ data_record.now ∷ []) result }
+    {
+        let notes = data_record.notes();
+        let outside = outside_of(notes, self.first, self.end);
+        Tally {
+            first: self.first,
+            end: self.end,
+            annotations: self.annotations + notes.len() as u64,
+            outside: self.outside + outside as u64,
+        }
+    }
+}

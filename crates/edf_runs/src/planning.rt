@@ -1,0 +1,107 @@
+//! What is known of a canonical file before its first byte is written.
+
+ghost use Rattle.std.specs.Prelude.{◌≡◌, ◌≤◌, ◌<◌, ◌++◌, ◌∷◌, [], List, MatchResult, length};
+ghost use Rattle.edf_header.specs.declared.limits.TheConstants.{MOST_RECORDS};
+ghost use Rattle.edf_fragment.specs.Fragment.{DataRecord};
+ghost use Rattle.edf_fragment.specs.Reading.{CountsAnswer, at_first};
+ghost use Rattle.edf_fragment.specs.Whole.{FailsAfterRecords, IsFragmentFault};
+ghost use Rattle.edf_fragment.specs.Inside.Steps.{ReadsRecords};
+ghost use Rattle.edf_runs.specs.Canonical.{IsMeasured, ReadsPlan};
+ghost use Rattle.edf_runs.specs.Inside.Measuring.{IsMeasuredSoFar};
+
+use crate::canonical_plan::{CanonicalPlan, Measure};
+use edf_canonical::samples_of;
+use edf_fragment::{FragmentFault, Input, OpenFragment, Record};
+use edf_header::MOST_RECORDS;
+use edf_header::laws::header_is_layout;
+use std::alloc::Global;
+
+impl Measure {
+    /// That of one data record.
+    fn of(data_record: &Record) -> Measure
+        ensures { IsMeasured (data_record.now ∷ []) result }
+    {
+        let first = data_record.start();
+        Measure {
+            first,
+            records: 1,
+            block_samples: samples_of(data_record, first.second()),
+        }
+    }
+
+    /// That of one data record more.
+    fn with(&self, data_record: &Record) -> Measure
+        ensures { (records : List DataRecord) → IsMeasured records self.now →
+            length records < MOST_RECORDS →
+            IsMeasured (records ++ data_record.now ∷ []) result }
+    {
+        let samples = samples_of(data_record, self.first.second());
+        Measure {
+            first: self.first,
+            records: (self.records + 1).min(MOST_RECORDS),
+            block_samples: self.block_samples.max(samples),
+        }
+    }
+
+    /// That of the data records before, where there were some, and of this one.
+    pub(crate) fn after(before: Option<Measure>, data_record: &Record) -> Measure
+        ensures { (records : List DataRecord) → IsMeasuredSoFar records before →
+            length records < MOST_RECORDS →
+            IsMeasured (records ++ data_record.now ∷ []) result }
+    {
+        match before {
+            Some(measure) => measure.with(data_record),
+            None => Measure::of(data_record),
+        }
+    }
+}
+
+/// Measures the data records that follow a header that was just read.
+fn measure_records<R: Input>(
+    fragment: &mut OpenFragment,
+    input: &mut R,
+) -> Result<Option<Measure>, FragmentFault>
+    requires { fragment.old.progress ≡ at_first }
+    ensures header { fragment.new.header ≡ fragment.old.header }
+    ensures answer { MatchResult result
+        (λ measure. (records : List DataRecord) × ReadsRecords fragment.old.header
+        (R.remaining input.old) (R.remaining input.new) records
+        × IsMeasuredSoFar records measure)
+        (FailsAfterRecords fragment.old.header (R.remaining input.old) (R.remaining input.new)) }
+    ensures counted { CountsAnswer (R.failures input.old) (R.failures input.new) result }
+{
+    header_is_layout(fragment.header());
+    let mut measure: Option<Measure> = None;
+    'records: loop {
+        let Some(data_record) = fragment.next(input)? else {
+            return Ok(measure);
+        };
+        measure = Some(Measure::after(measure, &data_record));
+    }
+}
+
+/// Reads a whole file of EDF+C or EDF+D, with one data record in memory, and plans its canonical
+/// file.
+///
+/// # Errors
+/// The first fault of the bytes by the order of the header, the data records and the end; `Read`
+/// where a read failed, `Memory` where memory ran out, each in place of whatever would have been
+/// found later.
+pub fn plan_canonical<R: Input>(
+    alloc: Global,
+    input: &mut R,
+) -> Result<CanonicalPlan, FragmentFault>
+    ensures answer { MatchResult result
+        (ReadsPlan (R.remaining input.old) (R.remaining input.new))
+        (IsFragmentFault (R.remaining input.old) (R.remaining input.new)) }
+    ensures counted { CountsAnswer (R.failures input.old) (R.failures input.new) result }
+{
+    let mut fragment = OpenFragment::read(alloc, input)?;
+    match measure_records(&mut fragment, input)? {
+        Some(measure) => Ok(CanonicalPlan {
+            identity: fragment.into_header().into_identity(),
+            measure,
+        }),
+        None => unreachable!(),
+    }
+}

@@ -1,0 +1,97 @@
+//! What to do after a refusal, in a sentence for a person.
+
+/// What to do after a refusal of a file's header, by its number.
+fn on_header(number: u8) -> Option<&'static str> {
+    match number {
+        1 => Some("it has fewer than 256 bytes: it was cut, or is no EDF file; send it again"),
+        2 => Some(
+            "a byte of its header is no printable ASCII, as in a name with other letters: edfmend \
+            spells them in ASCII",
+        ),
+        3 => Some("its first bytes are not those of EDF: it has another format, or is damaged"),
+        4 => Some("its patient field is not that of EDF+: edfmend makes it so"),
+        5 => Some("its recording field is not that of EDF+: edfmend makes it so"),
+        6 => Some("its startdate is no day: look at the recorder's clock"),
+        7 => Some("its starttime is no second of a day: look at the recorder's clock"),
+        8 => Some(
+            "its startdate and the one in its recording field differ: one was edited, so find out \
+            which is right",
+        ),
+        9 => Some(
+            "plain EDF has no annotations signal and no start for each data record: edfstore and \
+            edfruns take EDF+ alone; edfmend makes EDF+ of it",
+        ),
+        10 => Some("its number of data records is no number: edfmend counts them"),
+        11 => Some("its data records have no duration above 0: it is no recording of signals"),
+        12 => Some("its number of signals is not from 2 to 640: files of annotations alone have 1"),
+        13 => Some("its header was edited or is damaged: have its producer write it again"),
+        _ => None,
+    }
+}
+
+/// What to do after a refusal of a file's signal headers, by its number.
+fn on_signals(number: u8) -> Option<&'static str> {
+    match number {
+        14 => Some("it ends in its header, so it was cut: send it again"),
+        15 => Some(
+            "a byte of its signals' headers is no printable ASCII, often a micro or degree sign: \
+            edfmend spells them in ASCII",
+        ),
+        16 => Some(
+            "it has no annotations signal, or nothing else, or that signal's limits are not those \
+            of EDF+: edfmend mends limits",
+        ),
+        17 => Some("this signal's physical limits are no numbers, or equal: edfmend mends them"),
+        18 => Some("this signal's digital limits don't rise: edfmend swaps them"),
+        19 => Some("this signal has no samples: its producer is to leave it out"),
+        20 => Some("its data records are too long: its producer is to write shorter ones"),
+        _ => None,
+    }
+}
+
+/// What to do after a refusal of a file's data records, by its number.
+fn on_records(number: u8) -> Option<&'static str> {
+    match number {
+        21 => Some("it ends within a data record, so it was cut: send it again"),
+        22 => Some("annotations of this data record are not spelled as EDF+ has it, from there on"),
+        23 => Some("an annotation of this data record is no UTF-8: its producer is to write that"),
+        24 => Some("this data record doesn't tell its start: its producer is to write it"),
+        25 => Some("its first data record starts in another second than its header tells"),
+        26 => Some("a time of this data record is not from 1985 to 2184: look at the clock"),
+        27 => Some(
+            "this data record starts before the one before it ends: a clock was set back, or \
+            starts are rounded",
+        ),
+        28 => Some("this data record has too many annotations: its producer is to spread them"),
+        29 => Some("bytes follow its last data record: files were joined, or its count is wrong"),
+        _ => None,
+    }
+}
+
+/// What to do after another refusal, by its number.
+fn on_others(number: u8) -> Option<&'static str> {
+    match number {
+        30 => Some(
+            "it overlaps what is stored, which stays, as where a clock was set back: keep the \
+            file, and tell a person",
+        ),
+        31 => Some(
+            "other samples or annotations are stored for this start, and stay: keep the file, and \
+            tell a person",
+        ),
+        32 => Some("its recording is full: begin another store"),
+        41 => Some("run it again with more memory: what standard output got may not be whole"),
+        43 => Some("mend the cause and run it again: what standard output got is not whole"),
+        _ => None,
+    }
+}
+
+/// What to do after the refusal of that number.
+pub(crate) fn advice(number: u8) -> Option<&'static str> {
+    match number {
+        0..=13 => on_header(number),
+        14..=20 => on_signals(number),
+        21..=29 => on_records(number),
+        _ => on_others(number),
+    }
+}

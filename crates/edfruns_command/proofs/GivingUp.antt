@@ -1,0 +1,135 @@
+-- Files of a split that are removed again, by what was made of them.
+use Rattle.std.proofs.Common.{◌≡◌, ℕ, zero, suc, ◌+◌, ◌-◌, ◌≤◌, List, [], ◌∷◌, ◌++◌, length, take}
+use Rattle.std.proofs.Common.{drop, map, refl, sym, ap, ◌∙◌, subst, arith, length-append}
+use Rattle.std.proofs.Common.{◌⊎◌, inl, inr, Option}
+use Rattle.std.proofs.lemmas.List.{length-map, take_all}
+use Rattle.edf_program.specs.Output.{Growth, Gets}
+use Rattle.edf_program.specs.declared.status.Status.{Status}
+use Rattle.edf_runs.specs.declared.run_list.Listing.{Listing}
+use Rattle.edfruns_command.specs.Lines.{reread_line, unwritten_line, standard_output}
+use Rattle.edfruns_command.specs.Made.{MadeFile, RemovesMade, names_of}
+use Rattle.edfruns_command.specs.Splitting.{Making, LacksLines, LacksOutput, LacksReading}
+use Rattle.edfruns_command.specs.InsideMaking.{HasMade, RereadsAll, StopsMaking}
+use Rattle.edfruns_command.specs.InsideSplit.{RemovesFrom, stop_line}
+use Rattle.edfruns_command.specs.declared.stop.Stop.{Stop}
+use Rattle.edfruns_command.specs.declared.stop.Stop.TheVariants as stop
+
+drop-front : {X : Type 0} (xs ys : List X) → drop (length xs) (xs ++ ys) ≡ ys
+drop-front [] ys = refl
+drop-front (x ∷ xs) ys = drop-front xs ys
+
+pub take-front : {X : Type 0} (xs ys : List X) → take (length xs) (xs ++ ys) ≡ xs
+take-front [] ys = refl
+take-front (x ∷ xs) ys = ap (λ (l : List _). x ∷ l) (take-front xs ys)
+
+take-again : {X : Type 0} (n : ℕ) (xs : List X) → take (length (take n xs)) xs ≡ take n xs
+take-again zero xs = refl
+take-again (suc n) [] = refl
+take-again (suc n) (x ∷ xs) = ap (λ (l : List _). x ∷ l) (take-again n xs)
+
+module _ (m : Making) (first : ℕ) (is : first ≡ length m.before) (names : List (List ℕ))
+    (count : ℕ) (has : HasMade m (take count names)) where
+  all : length m.after ≡ length m.before + length has.files
+  all = ap (λ (fs : List MadeFile). length fs) has.made ∙ length-append m.before has.files
+
+  dropped : drop first m.after ≡ has.files
+  dropped = ap (λ n. drop n m.after) is
+      ∙ ap (λ (fs : List MadeFile). drop (length m.before) fs) has.made
+      ∙ drop-front m.before has.files
+
+  taken : take first m.after ≡ m.before
+  taken = ap (λ n. take n m.after) is
+      ∙ ap (λ (fs : List MadeFile). take (length m.before) fs) has.made
+      ∙ take-front m.before has.files
+
+  pub within : first ≤ length m.after
+  within = omega (arith, is, all)
+
+  pub named : names_of (drop first m.after) ≡ take (length m.after - first) names
+  named =
+      let count_is : length m.after - first ≡ length (take count names) =
+      omega (
+        arith,
+        is,
+        all,
+        length-map has.files (λ (f : MadeFile). f.name),
+        ap (λ (ns : List (List ℕ)). length ns) has.named,
+      ) in
+      ap (λ (fs : List MadeFile). names_of fs) dropped ∙ has.named
+      ∙ sym (take-again count names) ∙ ap (λ n. take n names) (sym count_is)
+
+  pub removes : (after : List MadeFile) (err : Growth) (text : List ℕ) (status : Status) →
+      RemovesFrom first m.after after err text status →
+      RemovesMade m.before after err names count text status
+  removes after err text status from = record {
+    files = from.files;
+    made = from.made ∙ ap (λ (fs : List MadeFile). fs ++ from.files) taken;
+    named = from.named ∙ ap (λ (fs : List MadeFile). names_of fs) dropped ∙ has.named;
+    over = from.over;
+    said = from.said;
+  }
+
+-- ---- what was made, by why it was not all
+
+-- the state after more was done with the files
+abbrev pub ended : Making → List MadeFile → ℕ → Making
+ended m after failed = record {
+  known = m.known;
+  there = m.there;
+  before = m.before;
+  failed_before = m.failed_before;
+  after = after;
+  failed_after = failed;
+}
+
+module _ (m : Making) (bytes : Option (List ℕ)) (listing : Listing) (names : List (List ℕ)) where
+  pub made-of : (why : Stop) → StopsMaking m bytes listing names why →
+      (count : ℕ) × HasMade m (take count names)
+  made-of (stop.Reading why) half = (half.count, half.made)
+  made-of (stop.Output output) lacks = (lacks.3.count, lacks.3.made)
+
+  pub made-all : RereadsAll m bytes listing names → length names ≡ length listing.runs.items →
+      HasMade m (take (length listing.runs.items) names)
+  made-all all fit = record {
+    files = all.files;
+    made = all.made;
+    named = all.named ∙ sym (take_all (length listing.runs.items) names (omega (arith, fit)));
+  }
+
+  module _ (first : ℕ) (is : first ≡ length m.before) (after : List MadeFile) (failed : ℕ)
+      (same : failed ≡ m.failed_after) (out err : Growth) (name : List ℕ) (status : Status) where
+    pub stopped : (why : Stop) → StopsMaking m bytes listing names why → Gets out [] →
+        RemovesFrom first m.after after err (stop_line name why) status →
+        LacksOutput (ended m after failed) bytes listing names out err status
+        ⊎ LacksReading (ended m after failed) bytes listing names out err name status
+    stopped (stop.Reading why) half none from = inr (record {
+      why = why;
+      is_why = half.is_why;
+      count = half.count;
+      stops = half.stops;
+      unfailed = same ∙ half.unfailed;
+      unsaid = none;
+      removes = removes m first is names half.count half.made after err (reread_line name why)
+          status from;
+    })
+    stopped (stop.Output output) (l, start, again, lacks) none from = inl (record {
+      layout = l;
+      start = start;
+      again = again;
+      count = lacks.count;
+      output = output.now;
+      comes = lacks.comes;
+      failed = same ∙ lacks.failed;
+      unsaid = none;
+      removes = removes m first is names lacks.count lacks.made after err
+          (unwritten_line output.now) status from;
+    })
+
+    pub untold : RereadsAll m bytes listing names → length names ≡ length listing.runs.items →
+        RemovesFrom first m.after after err (unwritten_line standard_output) status →
+        LacksLines (ended m after failed) bytes listing names err status
+    untold all fit from = record {
+      unfailed = same ∙ all.unfailed;
+      removes = removes m first is names (length listing.runs.items) (made-all all fit) after err
+          (unwritten_line standard_output) status from;
+    }

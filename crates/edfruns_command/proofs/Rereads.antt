@@ -1,0 +1,179 @@
+-- A second reading of a whole file.
+use Rattle.std.proofs.Common.{◌≡◌, ◌⊎◌, inl, inr, ℕ, ◌+◌, List, [], ◌++◌, length, take, refl, sym, ap}
+use Rattle.std.proofs.Common.{◌∙◌, subst, arith, append-nil, Option, Some, None, Result, Ok, Err}
+use Rattle.std.specs.List.{flat_map}
+use Rattle.std.specs.Io.KnownBytes.{Consumes}
+use Rattle.std.proofs.KnownBytes.{Consumes-trans}
+use Rattle.std.proofs.lemmas.List.{take_all}
+use Rattle.edf_header.specs.Key.{Key}
+use Rattle.edf_header.specs.Header.{Layout}
+use Rattle.edf_fragment.specs.Fragment.{DataRecord}
+use Rattle.edf_fragment.specs.Reading.{ReadsHeader, AnswersIn, EndsThere, at_first}
+use Rattle.edf_fragment.specs.declared.advance.Progress.{Progress}
+use Rattle.edf_fragment.specs.declared.advance.ReaderState.{ReaderState}
+use Rattle.edf_fragment.specs.declared.advance.ReaderState.TheVariants.{Reading}
+use Rattle.edf_fragment.specs.declared.fault.FragmentFault.{FragmentFault}
+use Rattle.edf_fragment.specs.declared.fault.FragmentFault.TheVariants as refused
+use Rattle.edf_fragment.specs.Inside.Steps.{ReadsRecords}
+use Rattle.edf_fragment.proofs.Fragments.{fragment_read}
+use Rattle.edf_runs.specs.Again.{IsNotReopened}
+use Rattle.edf_runs.specs.Read.{ReadsOn}
+use Rattle.edf_runs.specs.declared.run_list.Listing.{Listing}
+use Rattle.edf_runs.specs.declared.fault.WriteFault.{WriteFault}
+use Rattle.edf_runs.specs.declared.fault.WriteFault.TheVariants as fault
+use Rattle.edfruns_command.specs.Writing.{ReadsAgain}
+use Rattle.edfruns_command.specs.Rereading.{IsOfReading, IsNoEnd, StopsRereading}
+use Rattle.edfruns_command.specs.Splitting.{Making}
+use Rattle.edfruns_command.specs.InsideMaking.{Ends, StopsAtEnd, MakesEach, RereadsAll, HasMade}
+use Rattle.edfruns_command.specs.InsideMaking.{HalfRereads, HalfMakesEach, StopsEach, StopsMaking}
+use Rattle.edfruns_command.specs.declared.stop.Stop.{Stop}
+use Rattle.edfruns_command.specs.declared.stop.Stop.TheVariants as stop
+use Rattle.edfruns_command.proofs.MakingFiles.{skips-made}
+
+-- ---- nothing was made
+
+made-none : (m : Making) (names : List (List ℕ)) → m.after ≡ m.before → HasMade m (take 0 names)
+made-none m names none = record {
+  files = [];
+  made = none ∙ sym (append-nil m.before);
+  named = refl;
+}
+
+module _ (m : Making) (bytes : Option (List ℕ)) (listing : Listing) (names : List (List ℕ))
+    (made : m.after ≡ m.before) (failed : m.failed_after ≡ m.failed_before) where
+  pub not-opened : HalfRereads m bytes listing names fault.Memory
+  not-opened = record {
+    is_why = tt;
+    count = 0;
+    stops = inl (refl, inl refl);
+    made = made-none m names made;
+    unfailed = failed;
+  }
+
+  of-reading : (rest : Option (List ℕ)) (key : Key) (why : WriteFault) →
+      IsNotReopened bytes rest key why → IsOfReading why
+  of-reading rest key fault.Undated not = absurd not
+  of-reading rest key fault.Changed not = tt
+  of-reading rest key fault.Read not = tt
+  of-reading rest key fault.Memory not = tt
+  of-reading rest key fault.Write not = absurd not
+
+  pub not-reopened : (rest : Option (List ℕ)) (why : WriteFault) →
+      IsNotReopened bytes rest listing.identity why → HalfRereads m bytes listing names why
+  not-reopened rest why not = record {
+    is_why = of-reading rest listing.identity why not;
+    count = 0;
+    stops = inl (refl, inr (rest, not));
+    made = made-none m names made;
+    unfailed = failed;
+  }
+
+-- ---- after the header
+
+module _ (m : Making) (bytes : Option (List ℕ)) (listing : Listing) (names : List (List ℕ))
+    (l : Layout) (start : Option (List ℕ)) (again : ReadsAgain bytes start listing l) where
+  pub stops-among : (rest : Option (List ℕ)) (why : WriteFault) →
+      HalfMakesEach m names l start rest listing.runs.items why →
+      HalfRereads m bytes listing names why
+  stops-among rest why half = record {
+    is_why = half.is_why;
+    count = half.nth + 1;
+    stops = inr (l, start, rest, again, inl (half.nth, refl, half.stops));
+    made = half.made;
+    unfailed = half.unfailed;
+  }
+
+  pub stops-making : (rest : Option (List ℕ)) (why : Stop) →
+      StopsEach m names l start rest listing.runs.items why →
+      StopsMaking m bytes listing names why
+  stops-making rest (stop.Reading why) half = stops-among rest why half
+  stops-making rest (stop.Output output) lacks = (l, start, again, lacks)
+
+  no-end : (answer : Result (Option DataRecord) FragmentFault) (why : WriteFault) →
+      IsNoEnd answer why → IsOfReading why
+  no-end (Ok (Some r)) why is = subst IsOfReading (sym is) tt
+  no-end (Ok None) why is = absurd is
+  no-end (Err (refused.Header e)) why is = subst IsOfReading (sym is) tt
+  no-end (Err (refused.CutRecord n)) why is = subst IsOfReading (sym is) tt
+  no-end (Err (refused.Tal n e)) why is = subst IsOfReading (sym is) tt
+  no-end (Err refused.Trailing) why is = subst IsOfReading (sym is) tt
+  no-end (Err refused.Read) why is = subst IsOfReading (sym is) tt
+  no-end (Err refused.Memory) why is = subst IsOfReading (sym is) tt
+  no-end (Err refused.Failed) why is = subst IsOfReading (sym is) tt
+
+  module _ (mid to : Progress) (left rest : Option (List ℕ)) (fit : length names
+      ≡ length listing.runs.items)
+      (makes : MakesEach m names l mid start left listing.runs.items) where
+    pub stops-after : (why : WriteFault) → StopsAtEnd l mid to left rest why →
+        HalfRereads m bytes listing names why
+    stops-after why stop = record {
+      is_why = no-end stop.answer why stop.is_why;
+      count = length listing.runs.items;
+      stops = inr (
+        l,
+        start,
+        rest,
+        again,
+        inr (
+          refl,
+          record {
+            from = mid;
+            left = left;
+            skips = skips-made m names l mid start left listing.runs.items makes;
+            to = to;
+            answer = stop.answer;
+            is_answer = stop.is_answer;
+            is_why = stop.is_why;
+          },
+        ),
+      );
+      made = record {
+        files = makes.files;
+        made = makes.made;
+        named = makes.named
+            ∙ sym (take_all (length listing.runs.items) names (omega (arith, fit)));
+      };
+      unfailed = makes.unfailed;
+    }
+
+    ended : Ends l mid to left rest → EndsThere l mid left rest
+    ended ends =
+        let a : AnswersIn Reading l mid to left rest (Ok None) =
+        subst (λ (s : ReaderState). AnswersIn s l mid to left rest (Ok None)) makes.read.state
+        ends in
+        a.1
+
+    abbrev records : List DataRecord
+    records = flat_map (λ part. part) makes.parts
+
+    reads-records : Ends l mid to left rest → ReadsRecords l start rest records
+    reads-records ends =
+        let end = ended ends in
+        let on = makes.read in
+        record {
+          bytes = on.bytes;
+          last = mid.place;
+          read = subst (Consumes start rest) (append-nil on.bytes)
+              (Consumes-trans start left rest on.bytes [] on.read end.read);
+          end = end.end;
+          are_records = on.are_records;
+          least = omega (arith, end.least, on.given);
+          most = omega (arith, end.most, on.given);
+        }
+
+    pub rereads-all : Ends l mid to left rest → RereadsAll m bytes listing names
+    rereads-all ends = record {
+      layout = l;
+      records = records;
+      rest = rest;
+      read = fragment_read bytes start rest l records again.header (reads-records ends);
+      same = again.same;
+      parts = makes.parts;
+      joined = refl;
+      listed = makes.listed;
+      files = makes.files;
+      made = makes.made;
+      named = makes.named;
+      held = makes.held;
+      unfailed = makes.unfailed;
+    }

@@ -1,0 +1,61 @@
+-- A list that is walked, and lines whose labels agree.
+use Rattle.std.proofs.Common.{◌≡◌, ℕ, ◌+◌, ◌-◌, ◌<◌, Bool, true, false, List, [], ◌∷◌, ◌++◌, length}
+use Rattle.std.proofs.Common.{take, drop, get_or, map, refl, sym, ap, ◌∙◌, subst, arith, All}
+use Rattle.std.proofs.Common.{take-append-drop, codes, Option, Some, None, IfSome}
+use Rattle.std.specs.Prelude.{slice_get}
+use Rattle.std.specs.List.{range_with_len}
+use Rattle.std.proofs.lemmas.List.{take_more, drop_more, get_or-map}
+use Rattle.std.proofs.lemmas.List.Elements.{All-push}
+use Rattle.std.proofs.lemmas.List.FromFn.{get_or-map-range_with_len, length-map-range_with_len}
+use Rattle.std.proofs.lemmas.Option.{slice_get-get_or}
+use Rattle.edf_runs.specs.declared.run.Run.{Run}
+use Rattle.edfruns_command.specs.Lines.{run_line, run_lines}
+use Rattle.edfruns_command.specs.Inside.{label_in, label_text}
+
+module _ {X : Type 0} (xs : List X) (i : ℕ) (x : X) (lt : i < length xs) (is : x ≡ get_or xs i x)
+  where
+    pub all-more : (P : X → Type 0) → All P (take i xs) → P x → All P (take (i + 1) xs)
+    all-more P all one = subst (All P) (sym (take_more xs i x lt))
+        (All-push P (take i xs) (get_or xs i x) all (subst P is one))
+
+    pub around : xs ≡ take i xs ++ (x ∷ drop (i + 1) xs)
+    around = sym (take-append-drop i xs) ∙ ap (λ (l : List X). take i xs ++ l)
+        (drop_more xs i x lt ∙ ap (λ (y : X). y ∷ drop (i + 1) xs) (sym is))
+
+    pub mapped : {Y : Type 0} (f : X → Y) → f x ≡ get_or (map f xs) i (f x)
+    mapped f = ap f is ∙ sym (get_or-map f xs i x (f x) lt)
+
+turned : (b : Bool) (o : Option Bool) → IfSome o (λ c. b ≡ c) → IfSome o (λ c. c ≡ b)
+turned b None is = tt
+turned b (Some c) is = sym is
+
+-- what was asked for has been answered
+pub asked-so : (b : Bool) (o asked : Option Bool) → asked ≡ o → IfSome asked (λ c. b ≡ c) →
+    IfSome o (λ c. c ≡ b)
+asked-so b o asked e some = turned b o
+    (subst (λ (p : Option Bool). IfSome p (λ c. b ≡ c)) e some)
+
+-- ---- lines whose labels agree
+
+pub same-labels : (spell : ℕ → List ℕ) (d : ℕ) (f h : ℕ → List ℕ) (number : ℕ)
+    (runs : List Run) → ((k : ℕ) → k < length runs → f (number + k) ≡ h (number + k)) →
+    run_lines spell d f number runs ≡ run_lines spell d h number runs
+same-labels spell d f h number [] same = refl
+same-labels spell d f h number (r ∷ rs) same =
+    let here : f number ≡ h number =
+    subst (λ n. f n ≡ h n) (omega arith) (same 0 (omega arith)) in
+    let later = same-labels spell d f h (number + 1) rs
+    (λ k lt. subst (λ n. f n ≡ h n) (omega arith) (same (k + 1) (omega (arith, lt)))) in
+    let line = run_line spell d number r (slice_get rs 0) in
+    ap (λ (t : List ℕ). t ++ (line ++ run_lines spell d f (number + 1) rs)) here
+    ∙ ap (λ (t : List ℕ). h number ++ (line ++ t)) later
+
+pub labels-of : (name : ℕ → List ℕ) (n k : ℕ) → k < n →
+    label_in (map name (range_with_len 1 n)) (1 + k) ≡ name (1 + k) ++ codes " "
+labels-of name n k lt =
+    let names = map name (range_with_len 1 n) in
+    let at : (1 + k) - 1 ≡ k = omega arith in
+    let within : k < length names = omega (arith, lt, length-map-range_with_len name 1 n) in
+    ap label_text (ap (slice_get names) at ∙ slice_get-get_or names k [] within
+    ∙ ap (λ (t : List ℕ). Some t)
+    (get_or-map-range_with_len name 1 n k (1 + k) [] lt (omega arith)))

@@ -1,0 +1,52 @@
+use Rattle.std.proofs.Common.{List, ℕ, ◌∙◌, subst, inl, inr, refl}
+use Rattle.std.specs.Prelude.{Option}
+use Rattle.edf_program.specs.Output.{growth}
+use Rattle.edf_program.proofs.Puts.{nothing-gets}
+use Rattle.edfruns_command.specs.Canonical.{WritesFile, StopsAgain}
+use Rattle.edfruns_command.proofs.Answered.{refused, opened-again, opened-twice, run-undone}
+use Rattle.edfruns_command.proofs.canonical_command.canonical.Goals as goal
+
+pub returns-in-Err-clause-written : goal.returns-in-Err-clause-written
+returns-in-Err-clause-written g c =
+    inr (inr (refused (growth g.O.Output c.args.out.now c.args.out.now)
+    (growth g.F.Output c.args.err.now c.refuse.new.err)
+    (g.I.Inputs.bytes c.args.inputs.now c.args.file.now) c.args.file.now c.in-Err.fault
+    c.refuse.result
+    (nothing-gets (g.O.Output.contents c.args.out.now) (g.O.Output.failures c.args.out.now))
+    c.in-Err.ensures.answer c.refuse.ensures))
+
+pub returns-in-Ok-write_planned-clause-written : goal.returns-in-Ok-write_planned-clause-written
+returns-in-Ok-write_planned-clause-written g c = inl (record {
+  plan = c.in-Ok.plan;
+  has = c.in-Ok.ensures.answer;
+  writes = subst (λ (b : Option (List ℕ)). WritesFile
+      (growth g.O.Output c.args.out.now c.write_planned.new.out) b c.in-Ok.plan)
+      (c.in-Ok.ensures.same c.args.file.now) c.in-Ok-write_planned.ensures.answer;
+  silent = nothing-gets (g.F.Output.contents c.args.err.now)
+      (g.F.Output.failures c.args.err.now);
+  done = refl;
+})
+
+pub returns-in-Ok-write_planned-clause-opened : goal.returns-in-Ok-write_planned-clause-opened
+returns-in-Ok-write_planned-clause-opened g c =
+    opened-twice _ _ _ _ _ c.in-Ok.ensures.opened c.in-Ok-write_planned.ensures.opened
+
+pub returns-clause-written : goal.returns-clause-written
+returns-clause-written g c = inr (inl (record {
+  plan = c.in-Ok.plan;
+  has = c.in-Ok.ensures.answer;
+  why = c.in-Err-write_planned.fault;
+  stops = subst (λ (b : Option (List ℕ)). StopsAgain
+      (growth g.O.Output c.args.out.now c.write_planned.new.out) b c.in-Ok.plan
+      c.in-Err-write_planned.fault) (c.in-Ok.ensures.same c.args.file.now)
+      c.in-Err-write_planned.ensures.answer;
+  said = c.refuse_run.ensures;
+}))
+
+pub returns-clause-opened : goal.returns-clause-opened
+returns-clause-opened g c = opened-again _ _ _ _ _ c.in-Ok.ensures.opened
+    c.in-Err-write_planned.ensures.opened (run-undone _ _ _ _ c.refuse_run.ensures)
+
+pub returns-in-Ok-write_planned-clause-same : goal.returns-in-Ok-write_planned-clause-same
+returns-in-Ok-write_planned-clause-same g c =
+    λ name. c.in-Ok-write_planned.ensures.same name ∙ c.in-Ok.ensures.same name

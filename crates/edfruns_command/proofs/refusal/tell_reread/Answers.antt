@@ -1,0 +1,15 @@
+use Rattle.std.proofs.Common.{◌++◌, ℕ, List, [], ap, subst, ◌∙◌, codes}
+use Rattle.edf_program.specs.Output.{growth, IsWritten}
+use Rattle.edfruns_command.specs.Lines.{reread_line}
+use Rattle.edf_runs.specs.declared.fault.WriteFault.{WriteFault}
+use Rattle.edfruns_command.proofs.refusal.tell_reread.Goals as goal
+
+pub returns-in-Changed : goal.returns-in-Changed
+returns-in-Changed g c =
+    let IsTold : List ℕ → Type 0 = λ bytes.
+    IsWritten (growth g.F.Output c.args.err.now c.tell_parts.new.out) bytes c.args.status
+    c.tell_parts.result in
+    let told = subst IsTold (ap (λ (t : List ℕ). t ++ (c.as_slice.result.now ++ []))
+    c.as_bytes.ensures.value
+    ∙ ap (λ (t : List ℕ). c.args.file.now ++ (t ++ [])) c.as_slice.ensures) c.tell_parts.ensures in
+    rw c.in-Changed.is told

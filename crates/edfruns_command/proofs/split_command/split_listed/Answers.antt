@@ -1,0 +1,56 @@
+use Rattle.std.proofs.Common.{◌≡◌, ◌∙◌, ℕ, List, inl, inr, refl, map, string_bytes, true, false}
+use Rattle.std.proofs.lemmas.List.{length-map}
+use Rattle.edf_program.specs.Output.{growth}
+use Rattle.edf_program.proofs.Puts.{nothing-gets, grown, put-sent}
+use Rattle.edfruns_command.specs.Splitting.{making}
+use Rattle.edfruns_command.proofs.GivingUp.{made-of, made-all, named, stopped, untold}
+use Rattle.edfruns_command.proofs.split_command.split_listed.Goals as goal
+
+pub give_up-requires-clause-named : goal.give_up-requires-clause-named
+give_up-requires-clause-named g c =
+    let m = making g.P.Outputs c.args.outputs.now c.make_files.new.outputs in
+    let names = map string_bytes c.args.names.now in
+    let has = made-of m (g.I.Inputs.bytes c.args.inputs.now c.args.file.now) c.args.listing.now
+    names c.in-Err.stop c.in-Err.ensures.answer in
+    named m c.count-first.result c.count-first.ensures names has.0 has.1
+
+pub returns-in-Err-clause-split : goal.returns-in-Err-clause-split
+returns-in-Err-clause-split g c =
+    let m = making g.P.Outputs c.args.outputs.now c.make_files.new.outputs in
+    let names = map string_bytes c.args.names.now in
+    inr (inr (stopped m (g.I.Inputs.bytes c.args.inputs.now c.args.file.now) c.args.listing.now
+    names c.count-first.result c.count-first.ensures (g.P.Outputs.made c.give_up.new.outputs)
+    (g.P.Outputs.failed c.give_up.new.outputs) c.give_up.ensures.failed
+    (growth g.O.Output c.args.out.now c.args.out.now)
+    (growth g.F.Output c.args.err.now c.give_up.new.err) c.args.file.now c.give_up.result
+    c.in-Err.stop c.in-Err.ensures.answer
+    (nothing-gets (g.O.Output.contents c.args.out.now) (g.O.Output.failures c.args.out.now))
+    c.give_up.ensures.removed))
+
+pub returns-then-send-clause-split : goal.returns-then-send-clause-split
+returns-then-send-clause-split g c = inl (
+  c.in_default.ensures.answer,
+  put-sent (g.O.Output.contents c.args.out.now) (g.O.Output.failures c.args.out.now)
+      (g.O.Output.contents c.send.new.out) (g.O.Output.failures c.send.new.out)
+      c.args.text.now true c.if-send.ensures,
+  nothing-gets (g.F.Output.contents c.args.err.now) (g.F.Output.failures c.args.err.now),
+  refl,
+)
+
+pub returns-clause-split : goal.returns-clause-split
+returns-clause-split g c =
+    let m = making g.P.Outputs c.args.outputs.now c.make_files.new.outputs in
+    let names = map string_bytes c.args.names.now in
+    inr (inl (
+      put-sent (g.O.Output.contents c.args.out.now) (g.O.Output.failures c.args.out.now)
+          (g.O.Output.contents c.send.new.out) (g.O.Output.failures c.send.new.out)
+          c.args.text.now false c.if-send.ensures,
+      untold m (g.I.Inputs.bytes c.args.inputs.now c.args.file.now) c.args.listing.now names
+          c.count-first.result c.count-first.ensures (g.P.Outputs.made c.give_up-2.new.outputs)
+          (g.P.Outputs.failed c.give_up-2.new.outputs) c.give_up-2.ensures.failed
+          (growth g.O.Output c.args.out.now c.send.new.out)
+          (growth g.F.Output c.args.err.now c.give_up-2.new.err) c.args.file.now
+          c.give_up-2.result c.in_default.ensures.answer
+          (length-map c.args.names.now string_bytes ∙ c.requires.names)
+          c.give_up-2.ensures.removed,
+    ))

@@ -1,0 +1,58 @@
+use Rattle.std.proofs.Common.{◌≡◌, ◌+◌, ◌<◌, ◌∷◌, ◌++◌, ℕ, List, ap, sym, ◌∙◌, subst, arith}
+use Rattle.std.proofs.Common.{All, take, drop, get_or, length, map, string_bytes, true, false}
+use Rattle.std.proofs.lemmas.List.{take_all, length-map}
+use Rattle.edfruns_command.specs.Made.{IsFree, MayBeThere}
+use Rattle.edfruns_command.proofs.Walking.{all-more, around, mapped, asked-so}
+use Rattle.edfruns_command.proofs.split_command.taken_name.Goals as goal
+
+pub returns-then-is_there-clause-answer : goal.returns-then-is_there-clause-answer
+returns-then-is_there-clause-answer g c =
+    let all = c.args.names.now in
+    let names = map string_bytes all in
+    let at = c.loop-name.name-index in
+    let name = string_bytes c.name-item.result in
+    let lt : at < length names = omega (arith, c.loop-name-test.true, length-map all string_bytes) in
+    let is = mapped all at c.name-item.result c.loop-name-test.true c.name-item.is string_bytes in
+    let there = g.P.Outputs.there c.args.outputs.now in
+    let same = subst (λ (n : List ℕ). g.P.Outputs.there c.loop-name.outputs n ≡ there name)
+    (sym c.as_str.ensures.value) (c.loop-name.invariant.there name) in
+    let taken : MayBeThere there name = asked-so true (there name)
+    (g.P.Outputs.there c.loop-name.outputs c.as_str.result.now) same c.if-is_there.ensures.answer in
+    record {
+      front = take at names;
+      later = drop (at + 1) names;
+      parts = around names at name lt is ∙ ap (λ (n : List ℕ). take at names
+          ++ (n ∷ drop (at + 1) names)) (sym c.as_str-then-is_there.ensures.value);
+      free = c.loop-name.invariant.free;
+      taken = subst (MayBeThere there) (sym c.as_str-then-is_there.ensures.value) taken;
+    }
+
+pub loop-name-preserved : goal.loop-name-preserved
+loop-name-preserved g c =
+    let all = c.args.names.now in
+    let names = map string_bytes all in
+    let at = c.loop-name.name-index in
+    let name = string_bytes c.name-item.result in
+    let lt : at < length names = omega (arith, c.loop-name-test.true, length-map all string_bytes) in
+    let is = mapped all at c.name-item.result c.loop-name-test.true c.name-item.is string_bytes in
+    let there = g.P.Outputs.there c.args.outputs.now in
+    let same = subst (λ (n : List ℕ). g.P.Outputs.there c.loop-name.outputs n ≡ there name)
+    (sym c.as_str.ensures.value) (c.loop-name.invariant.there name) in
+    let free : IsFree there name = asked-so false (there name)
+    (g.P.Outputs.there c.loop-name.outputs c.as_str.result.now) same c.if-is_there.ensures.answer in
+    record {
+      free = all-more names at name lt is (IsFree there) c.loop-name.invariant.free free;
+      there = λ other. c.is_there.ensures.there other ∙ c.loop-name.invariant.there other;
+      made = c.is_there.ensures.made ∙ c.loop-name.invariant.made;
+      failed = c.is_there.ensures.failed ∙ c.loop-name.invariant.failed;
+      known = c.is_there.ensures.known ∙ c.loop-name.invariant.known;
+    }
+
+pub returns-clause-answer : goal.returns-clause-answer
+returns-clause-answer g c =
+    let all = c.args.names.now in
+    let names = map string_bytes all in
+    subst (All (IsFree (g.P.Outputs.there c.args.outputs.now)))
+    (take_all c.loop-name.name-index names
+    (omega (arith, c.loop-name-test.false, length-map all string_bytes)))
+    c.loop-name.invariant.free

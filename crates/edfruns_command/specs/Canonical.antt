@@ -1,0 +1,66 @@
+-- What `canonical` does: what it writes, and the status that it answers.
+use Rattle.std.specs.Prelude.{◌≡◌, ◌⊎◌, ℕ, List, [], Option, Err}
+use Rattle.edf_program.specs.Output.{Growth, Gets, IsWritten}
+use Rattle.edf_program.specs.declared.status.Status.{Status}
+use Rattle.edf_program.specs.declared.status.Status.TheVariants.{Done}
+use Rattle.edf_runs.specs.Canonical.{ReadsPlan, IsCanonicalWritten, IsNotCanonical}
+use Rattle.edf_runs.specs.Canonical.{IsToldUnchanged}
+use Rattle.edf_runs.specs.declared.canonical_plan.CanonicalPlan.{CanonicalPlan}
+use Rattle.edf_runs.specs.declared.fault.WriteFault.{WriteFault}
+use Rattle.edf_runs.specs.declared.fault.WriteFault.TheVariants as fault
+use Rattle.edfruns_command.specs.Lines.{run_refused_line, run_refused_status}
+use Rattle.edfruns_command.specs.Listing.{RefusesFile, LacksMemory}
+use Rattle.edfruns_command.specs.Writing.{CountsWrite}
+
+-- the file was read to its end, and this is planned of what it spells
+pub record HasPlan (bytes : Option (List ℕ)) (plan : CanonicalPlan) : Type 0 where
+  pub rest : Option (List ℕ)
+  pub read : ReadsPlan bytes rest plan
+
+module _ (out : Growth) (bytes : Option (List ℕ)) (plan : CanonicalPlan) where
+  -- it was read again and spells what was planned, and its canonical file went out, the only one
+  -- that it has
+  pub record WritesFile : Type 0 where
+    pub rest : Option (List ℕ)
+    pub len : ℕ
+    pub written : IsCanonicalWritten bytes rest out.before out.after plan len
+    pub counted : out.failed_after ≡ out.failed_before
+
+  -- the second reading stopped, or the writing: nothing went out, or a front of the planned header
+  -- and of the data records that were read, which by a law is a front of the canonical file where
+  -- the bytes are known; and these are not told as changed where they spell what was planned
+  pub record StopsInFile (why : WriteFault) : Type 0 where
+    pub rest : Option (List ℕ)
+    pub unwritten : IsNotCanonical bytes rest out.before out.after plan why
+    pub unchanged : IsToldUnchanged {A = Unit {0}} bytes plan (Err why)
+    pub counted : CountsWrite out why
+
+  -- or memory ran out before it was opened again
+  abbrev pub StopsAgain : WriteFault → Type 0
+  StopsAgain why = StopsInFile why ⊎ (Gets out [] × (why ≡ fault.Memory))
+
+-- why it went out no further: as for a run, and no such line names a run's number, since `Undated`
+-- never comes
+abbrev pub canonical_refused_line : List ℕ → WriteFault → List ℕ
+canonical_refused_line name why = run_refused_line name 0 why
+
+module _ (out err : Growth) (bytes : Option (List ℕ)) (name : List ℕ) (status : Status) where
+  -- the canonical file went out
+  pub record WritesCanonical : Type 0 where
+    pub plan : CanonicalPlan
+    pub has : HasPlan bytes plan
+    pub writes : WritesFile out bytes plan
+    pub silent : Gets err []
+    pub done : status ≡ Done
+
+  -- it did not, or not whole, and a line says why
+  pub record StopsWriting : Type 0 where
+    pub plan : CanonicalPlan
+    pub has : HasPlan bytes plan
+    pub why : WriteFault
+    pub stops : StopsAgain out bytes plan why
+    pub said : IsWritten err (canonical_refused_line name why) (run_refused_status why) status
+
+  abbrev pub IsCanonicalOut : Type 0
+  IsCanonicalOut = WritesCanonical ⊎ (StopsWriting
+      ⊎ (RefusesFile out err bytes name status ⊎ LacksMemory out err bytes name status))
