@@ -13,10 +13,10 @@ ghost use Rattle.edf_program.specs.Output.{growth, Gets, IsLinePut, AreLinesPut,
 ghost use Rattle.edf_command.specs.Refusals.{IsSpelling};
 ghost use Rattle.edf_command.specs.Listing.{AreHeldBy, AreRecordingsListed};
 
-use crate::refusal::{joined, spelled};
+use crate::refusal::spelled;
 use edf_fragment::Output;
 use edf_header::Identity;
-use edf_program::{Status, put_line, tell_refused};
+use edf_program::{Status, joined, put_line, tell_refused};
 use edf_store::{Store, StoreFault, Summary};
 use sqlite::Alter;
 use std::alloc::{AllocError, Global};

@@ -1,25 +1,13 @@
 //! The texts of refusals.
 
 ghost use Rattle.std.specs.Prelude.{◌≡◌, ℕ, ◌++◌, List, IfOk, codes};
-ghost use Rattle.std.specs.List.{flat_map};
 ghost use Rattle.edf_command.specs.Refusals.{IsSpelling, details, refusal_text};
 
 use edf_intake::Refusal;
-use edf_program::fragment_details;
+use edf_program::{fragment_details, joined};
 use edf_time::laws::instant_is_in_window;
 use edf_time::{Instant, instant_text};
 use std::alloc::{AllocError, Global};
-
-/// The parts of a text, one after another.
-pub(crate) fn joined(alloc: Global, parts: &[&[u8]]) -> Result<Vec<u8>, AllocError>
-    ensures { IfOk result (λ r. r.items ≡ flat_map (λ part. part.now) parts.now) }
-{
-    let mut text = Vec::new(alloc);
-    for part in parts {
-        text.extend_from_slice(part)?;
-    }
-    Ok(text)
-}
 
 /// The text of an instant.
 pub(crate) fn spelled(alloc: Global, instant: Instant) -> Result<Vec<u8>, AllocError>

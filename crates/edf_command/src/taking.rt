@@ -8,10 +8,10 @@ ghost use Rattle.edf_command.specs.Refusals.{IsSpelling};
 ghost use Rattle.edf_program.specs.Output.{growth, AreLinesPut};
 ghost use Rattle.edf_command.specs.Taking.{IsTaken, HasOpened, OpensFront};
 
-use crate::refusal::{joined, refusal_text};
+use crate::refusal::refusal_text;
 use edf_fragment::Output;
 use edf_intake::{Receipt, Refusal, submit_all};
-use edf_program::{Inputs, Status, put_line, status_of_number, tell_memory};
+use edf_program::{Inputs, Status, joined, put_line, status_of_number, tell_memory};
 use edf_store::Store;
 use sqlite::Alter;
 use std::alloc::{AllocError, Global};

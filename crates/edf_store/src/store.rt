@@ -3,18 +3,20 @@
 ghost use Rattle.std.specs.Prelude.{◌≡◌, ◌≤◌, false, Err, IfOk, IfErr};
 ghost use Rattle.std.specs.Borrow.{sem, RestsIfErr};
 ghost use Rattle.sqlite.specs.Held.{state};
+ghost use Rattle.sqlite.specs.State.{IsLive};
 ghost use Rattle.edf_tables.specs.Made.{IsOurs};
 ghost use Rattle.edf_audit.specs.File.{IsForeignFile};
-ghost use Rattle.edf_store.specs.Held.{Stays};
+ghost use Rattle.edf_store.specs.Held.{Stays, at};
 ghost use Rattle.edf_store.specs.Call.{IsRefusedIfBusy};
 ghost use Rattle.edf_store.specs.StoreTx.{IsBegun};
-ghost use Rattle.edf_store.specs.Open.{IsOpened, IsGivenUp, StaysClean};
+ghost use Rattle.edf_store.specs.Open.{IsOpened, IsGivenBack, IsGivenUp, StaysClean};
 
 use crate::ending::begin_all;
 use crate::fault::StoreFault;
 use crate::transaction::StoreTx;
 use edf_audit::audit;
 use edf_header::MOST_RECORDS;
+use edf_tables::obey;
 use sqlite::{Alter, Connection};
 use std::alloc::Global;
 use std::marker::Model;
@@ -100,10 +102,41 @@ impl<S: Alter + Drop> Store<S> {
     /// where it has rows that submissions do not leave under this cap; else `Memory` (E41) or
     /// `Store` (E42), with its cause. This call leaves our two tables where they come first, in
     /// their order, and what comes after them has trees of its own and is no index and no trigger
-    /// on them; it completes a file with nothing, or with the first table alone. The connection is
-    /// given up. Its rows are as they were, and in a file to complete, a missing table may have
-    /// been made.
-    pub fn open(alloc: Global, mut conn: Connection<S>, cap: u32) -> Result<Store<S>, StoreFault>
+    /// on them; it completes a file with nothing, or with the first table alone. The connection
+    /// comes back with the refusal, so that its file can be closed: one of another schema as it
+    /// was, and every other with the rows that it had, where a missing table may have been made.
+    pub fn open_or_return(
+        alloc: Global,
+        mut conn: Connection<S>,
+        cap: u32,
+    ) -> Result<Store<S>, (StoreFault, Connection<S>)>
+        requires cap_from { 1 ≤ cap }
+        requires cap_to { cap ≤ MOST_RECORDS }
+        requires autocommit { (state S.Store conn).in_transaction ≡ false }
+        ensures cap { IfOk result (λ store. store.cap ≡ cap) }
+        ensures opened { IfOk result (IsOpened S.Store conn) }
+        ensures live { IfOk result (λ store. IsLive (at S.Store store)) }
+        ensures given_back { IfErr result (λ e. IsGivenBack S.Store conn cap e.0 e.1) }
+        ensures other { ¬ IsOurs (state S.Store conn).now → result ≡ Err (StoreFault.Foreign, conn) }
+    {
+        match audit(alloc, &mut conn, cap) {
+            Ok(kept) => {
+                obey(&conn);
+                if kept {
+                    Ok(Store { alloc, conn, cap })
+                } else {
+                    Err((StoreFault::Foreign, conn))
+                }
+            }
+            Err(error) => Err((StoreFault::from(error), conn)),
+        }
+    }
+
+    /// As [`Store::open_or_return`], where the connection of a refused store is dropped.
+    ///
+    /// # Errors
+    /// Those of `open_or_return`, without the connection.
+    pub fn open(alloc: Global, conn: Connection<S>, cap: u32) -> Result<Store<S>, StoreFault>
         requires cap_from { 1 ≤ cap }
         requires cap_to { cap ≤ MOST_RECORDS }
         requires autocommit { (state S.Store conn).in_transaction ≡ false }
@@ -114,11 +147,9 @@ impl<S: Alter + Drop> Store<S> {
         ensures foreign { StaysClean S.Store conn → result ≡ Err StoreFault.Foreign →
             IsForeignFile cap (state S.Store conn).now }
     {
-        let kept = audit(alloc, &mut conn, cap)?;
-        if kept {
-            Ok(Store { alloc, conn, cap })
-        } else {
-            Err(StoreFault::Foreign)
+        match Store::open_or_return(alloc, conn, cap) {
+            Ok(store) => Ok(store),
+            Err((fault, _)) => Err(fault),
         }
     }
 }

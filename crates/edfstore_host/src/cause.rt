@@ -71,7 +71,7 @@ fn tell_refusal(rt: &HostRuntime, terminal: &Terminal<'_>, path: &str, error: Er
 }
 
 /// Prints why a store was not opened. Out of memory has no further cause.
-pub(crate) fn tell_cause(rt: &HostRuntime, terminal: &Terminal<'_>, path: &str, refused: &Refused) {
+pub fn tell_cause(rt: &HostRuntime, terminal: &Terminal<'_>, path: &str, refused: &Refused) {
     if !terminal.is_there() {
         return;
     }

@@ -16,8 +16,8 @@ use std::fs;
 
 /// Why a store was not opened.
 #[derive(Clone, Copy, Drop)]
-pub(crate) struct Refused {
-    pub(crate) fault: StoreFault,
+pub struct Refused {
+    pub fault: StoreFault,
     /// Whether the file was opened and has no table, the first of a store's two alone, or both and
     /// perhaps others after them.
     pub(crate) has_our_tables: bool,
@@ -47,7 +47,7 @@ fn store_over<S: Alter + Drop>(alloc: Global, conn: Connection<S>) -> Result<Sto
 
 /// The store of the file at a path, which is made where there is none. Each page of a new one ends
 /// in SQLite's page sum, and where a file has sums each is compared as it is opened.
-pub(crate) fn open_file(rt: &HostRuntime, path: &str) -> Result<Store<FileStore<File>>, Refused> {
+pub fn open_file(rt: &HostRuntime, path: &str) -> Result<Store<FileStore<File>>, Refused> {
     match Connection::open_from(rt, path, true, Unknown) {
         Ok(conn) => store_over(rt.alloc(), conn),
         Err((error, _)) => Err(Refused {
@@ -73,7 +73,7 @@ fn disk_failure(tally: Tally) -> Option<Error> {
 ///
 /// The answer is what failed of the disk while the store was open, or as it was closed, if that is
 /// known.
-pub(crate) fn close_file(store: Store<FileStore<File>>) -> Option<Error> {
+pub fn close_file(store: Store<FileStore<File>>) -> Option<Error> {
     match store.into_connection().close_files() {
         Ok(files) => disk_failure(files.tally()),
         Err((error, left)) => {

@@ -4,13 +4,17 @@
 //! - [`run_program`]: what the program does. What is read, written and answered is `edf_command`'s;
 //!   here the system is handed to it.
 //! - [`run_words`]: the same by words that the caller has.
+//! - [`open_file`], [`close_file`]: the store of a file; [`Refused`], [`tell_cause`]: why it was not
+//!   opened.
 #![tactic(auto)]
 
 mod cause;
 mod disk;
 
-use cause::{tell_cause, tell_error};
-use disk::{close_file, is_missing, open_file, open_memory};
+pub use cause::tell_cause;
+use cause::tell_error;
+pub use disk::{Refused, close_file, open_file};
+use disk::{is_missing, open_memory};
 use edf_command::{Order, Status, read_command, refuse_store, run, store_path};
 use edf_fragment::Counted;
 use edf_store::Store;
@@ -31,6 +35,16 @@ fn terminal_of<'rt>(rt: &'rt HostRuntime, command: &Order) -> Terminal<'rt> {
         Order::Take { store: _, files } => Terminal::new(rt, "file", files.len()),
         Order::List { .. } | Order::Export { .. } | Order::Convert { .. } => {
             Terminal::new(rt, "file", 0)
+        }
+    }
+}
+
+/// The streams of a command: lines of `take` on standard output may tell refusals.
+fn streams_of<'t>(rt: &'t HostRuntime, terminal: &'t Terminal<'t>, command: &Order) -> Streams<'t> {
+    match command {
+        Order::Take { .. } => Streams::of_answers(rt, terminal),
+        Order::List { .. } | Order::Export { .. } | Order::Convert { .. } => {
+            Streams::new(rt, terminal)
         }
     }
 }
@@ -123,7 +137,7 @@ fn run_in_memory(
 /// What the command asks for, done over the system's files and streams.
 fn run_command(rt: &HostRuntime, command: &Order) -> Status {
     let terminal = terminal_of(rt, command);
-    let mut streams = Streams::new(rt, &terminal);
+    let mut streams = streams_of(rt, &terminal, command);
     let mut inputs = Files::new(rt, &terminal);
     let status = match store_path(command) {
         Some(path) => run_on_file(rt, &terminal, path, command, &mut inputs, &mut streams),

@@ -1,0 +1,113 @@
+-- What a database holds is what the files hold, what the store that is opened over it holds, and
+-- what a crash leaves.
+use Rattle.std.proofs.Common.{◌≡◌, inl, inr, ℕ, [], sym, subst, ◌∙◌}
+use Rattle.std.proofs.Math.Logic.{∥∥₁_elim}
+use Rattle.sqlite_trees.specs.declared.store.Store.{Ghosts}
+use Rattle.sqlite_trees.specs.Props.{Trees-set}
+use Rattle.sqlite_wal.specs.Recovery.{Image}
+use Rattle.sqlite.specs.Tree.{Trees}
+use Rattle.sqlite.specs.Schema.{Schema}
+use Rattle.sqlite.specs.Effect.{Database, IsDatabase}
+use Rattle.sqlite.specs.State.{State}
+use Rattle.sqlite.specs.Held.{Held, state}
+use Rattle.sqlite.specs.Start.{FindsIn}
+use Rattle.edf_schema.specs.Columns.{stored_recordings}
+use Rattle.edf_tables.specs.Schema.{no_schema, one_schema, both_schema, HasBoth}
+use Rattle.edf_tables.specs.Made.{HasTables, from_none, from_one, from_both, IsMadeOf, left_first}
+use Rattle.edf_tables.specs.Made.{left_both, left_second}
+use Rattle.edf_tables.specs.Others.{KeepsTrees}
+use Rattle.edf_tables.proofs.Schemas.{none_not_one, none_not_both, one_not_both, made_both}
+use Rattle.edf_holdings.specs.Holdings.{Holdings, nothing_held}
+use Rattle.edf_rows.specs.Rows.{AreKept}
+use Rattle.edf_store.specs.Held.{StoreModel, at, Holds}
+use Rattle.edf_store.specs.Open.{IsOpened}
+use Rattle.edf_session.specs.Files.{Keeps, no_table, one_table, both_tables, TreesKeep, FilesKeep}
+use Rattle.edf_session.proofs.Schemas.{schema_once, unlisted, kept_schema}
+use Rattle.edf_session.proofs.Nothing.{nothing_found, nothing_kept}
+
+db_of : Schema → Trees → Database
+db_of schema trees = record { schema = schema; trees = trees }
+
+pub nothing_of : (cap : ℕ) (db : Database) (h : Holdings) → Keeps cap db h → db.schema ≡ no_schema →
+    h ≡ nothing_held
+nothing_of cap db h (no_table is none) now = none
+nothing_of cap db h (one_table is empty none) now = none
+nothing_of cap db h (both_tables both kept) now = absurd (none_not_both db.schema now both)
+
+empty_of : (cap : ℕ) (db : Database) (h : Holdings) → Keeps cap db h → db.schema ≡ one_schema →
+    (stored_recordings db.trees ≡ []) × (h ≡ nothing_held)
+empty_of cap db h (no_table is none) now = absurd (none_not_one db.schema is now)
+empty_of cap db h (one_table is empty none) now = (empty, none)
+empty_of cap db h (both_tables both kept) now = absurd (one_not_both db.schema now both)
+
+kept_of : (cap : ℕ) (db : Database) (h : Holdings) → Keeps cap db h → HasBoth db.schema →
+    AreKept cap db.trees h
+kept_of cap db h (no_table is none) now = absurd (none_not_both db.schema is now)
+kept_of cap db h (one_table is empty none) now = absurd (one_not_both db.schema is now)
+kept_of cap db h (both_tables both kept) now = kept
+
+-- ---- of files that are opened
+
+pub trees_keep : (cap : ℕ) (trees : Trees) (h : Holdings) (db : Database) → TreesKeep cap trees h →
+    IsDatabase db → db.trees ≡ trees → Keeps cap db h
+trees_keep cap trees h db it sound same =
+    let schema = schema_once trees db.schema it.schema (subst (λ (t : Trees). IsDatabase (record {
+      schema = db.schema;
+      trees = t;
+    })) same sound) it.is_database in
+    let eq : (record {
+      schema = it.schema;
+      trees = trees;
+    }) ≡ db = λ i. record { schema = sym schema i; trees = sym same i } in
+    subst (λ (d : Database). Keeps cap d h) eq it.keeps
+
+pub found_keeps : (cap : ℕ) (image : Image) (s : State) (h : Holdings) → FilesKeep cap image h →
+    FindsIn image s → IsDatabase s.committed → Keeps cap s.committed h
+found_keeps cap image s h (inl (nothing, none)) found sound =
+    no_table (unlisted s.committed.trees s.committed.schema
+    (nothing_found image s.committed.trees nothing found.reads).1 sound) none
+found_keeps cap image s h (inr (db, held, it)) found sound =
+    trees_keep cap db h s.committed it sound (∥∥₁_elim held (Trees-set _ _)
+    (λ holds. found.holds db holds))
+
+-- ---- of a store that is opened
+
+pub tables_keep : (cap : ℕ) (old new : Database) (h : Holdings) → Keeps cap old h →
+    HasTables old new → AreKept cap new.trees h
+tables_keep cap old new h it (from_none none both first second) =
+    subst (AreKept cap new.trees) (sym (nothing_of cap old h it none))
+    (nothing_kept cap new.trees first second)
+tables_keep cap old new h it (from_one one both same second) =
+    let was = empty_of cap old h it one in
+    subst (AreKept cap new.trees) (sym was.1) (nothing_kept cap new.trees (same ∙ was.0) second)
+tables_keep cap old new h it (from_both both same) =
+    subst (λ (d : Database). AreKept cap d.trees h) (sym same) (kept_of cap old h it both)
+
+pub opened_holds : {S : Type 0} (g : Ghosts S) (conn : Held S) (store : StoreModel S) →
+    IsOpened g conn store → (h : Holdings) → Keeps store.cap (state g conn).now h → Holds g store h
+opened_holds g conn store o h it clean is_open = tables_keep store.cap (state g conn).now
+    (at g store).committed h it (o.tables clean)
+
+-- ---- after a crash
+
+pub made_keeps : (cap : ℕ) (old : Database) (rows : Trees) (h : Holdings) → Keeps cap old h →
+    IsMadeOf old rows → (schema : Schema) → IsDatabase (record { schema = schema; trees = rows }) →
+    Keeps cap (record { schema = schema; trees = rows }) h
+made_keeps cap old rows h it (left_first none made empty) schema sound =
+    one_table (schema_once rows schema one_schema sound made) empty (nothing_of cap old h it none)
+made_keeps cap old rows h it (left_both none made first second) schema sound =
+    both_tables (made_both schema (schema_once rows schema both_schema sound made))
+    (subst (AreKept cap rows) (sym (nothing_of cap old h it none))
+    (nothing_kept cap rows first second))
+made_keeps cap old rows h it (left_second one made same second) schema sound =
+    let was = empty_of cap old h it one in
+    both_tables (made_both schema (schema_once rows schema both_schema sound made))
+    (subst (AreKept cap rows) (sym was.1) (nothing_kept cap rows (same ∙ was.0) second))
+
+pub left_keeps : (cap : ℕ) (old : Database) (rows : Trees) (left : Holdings) → HasBoth old.schema →
+    IsDatabase old → KeepsTrees old.schema old.trees rows → AreKept cap rows left →
+    (schema : Schema) → IsDatabase (record { schema = schema; trees = rows }) →
+    Keeps cap (record { schema = schema; trees = rows }) left
+left_keeps cap old rows left both sound keeps kept schema now =
+    both_tables (subst HasBoth (sym (kept_schema old.schema schema old.trees rows sound keeps now))
+    both) kept

@@ -1,0 +1,139 @@
+-- What the files hold once a run has let them go.
+use Rattle.std.proofs.Common.{◌≡◌, inl, inr, ℕ, List, Option, IsTrue, refl, sym, subst, ◌∙◌, arith}
+use Rattle.std.proofs.Math.Logic.{∥∥₁_map}
+use Rattle.sqlite_disk.specs.declared.Disk.{Ghosts}
+use Rattle.sqlite_disk.specs.declared.Files.{Files}
+use Rattle.sqlite_wal.specs.Recovery.{Image}
+use Rattle.sqlite_wal.specs.Files.{outcomes}
+use Rattle.sqlite_wal.specs.Reads.{AreClean}
+use Rattle.sqlite_wal.proofs.LogLemmas.{SeenMayStay}
+use Rattle.sqlite_pool.proofs.StateLemmas.{clean_is, may_leave_is}
+use Rattle.sqlite_trees.specs.View.{IsClean, IsQuiet}
+use Rattle.sqlite_trees.proofs.Doubt.{no_doubt}
+use Rattle.sqlite_store.specs.declared.store.FileStore.{FileStore}
+use Rattle.sqlite_store.specs.FileStore.{view, faults, recovers, is_shielded, files as store_files}
+use Rattle.sqlite_store.specs.Laws.{settled_at, stays_at}
+use Rattle.sqlite.specs.Tree.{Trees}
+use Rattle.sqlite.specs.Effect.{Database, IsDatabase}
+use Rattle.sqlite.specs.State.{HasCleanDisk, Survives}
+use Rattle.sqlite.specs.Held.{Held, AreDatabases}
+use Rattle.sqlite.specs.Closing.{IsCopied}
+use Rattle.sqlite.specs.Files.{IsOpened, file_state}
+use Rattle.sqlite.specs.Start.{FindsIn}
+use Rattle.sqlite.proofs.Theorems.{opens_again}
+use Rattle.edf_holdings.specs.Holdings.{Holdings}
+use Rattle.edfstore_arguments.specs.Arguments.{Asked}
+use Rattle.edf_command.specs.Run.{files_of}
+use Rattle.edf_session.specs.Files.{Keeps, TreesKeep, FilesKeep}
+use Rattle.edf_session.specs.Front.{IsAfterFront}
+use Rattle.edf_session.specs.Run.{MayBeLeft}
+use Rattle.edf_session.specs.Steps.{LeadsTo}
+use Rattle.edf_session.specs.Close.{HoldsLeft, LeavesEach}
+use Rattle.edf_session.proofs.Fronts.{no_front}
+use Rattle.edf_session.proofs.Keeping.{found_keeps}
+
+same_keep : (cap : ℕ) (db : Database) (trees : Trees) (h : Holdings) → trees ≡ db.trees →
+    IsDatabase db → Keeps cap db h → TreesKeep cap trees h
+same_keep cap db trees h same sound keeps =
+    let eq : db ≡ (record {
+      schema = db.schema;
+      trees = trees;
+    }) = λ i. record { schema = db.schema; trees = sym same i } in
+    record {
+      schema = db.schema;
+      is_database = subst IsDatabase eq sound;
+      keeps = subst (λ (d : Database). Keeps cap d h) eq keeps;
+    }
+
+module _ {D : Type 0} {g : Ghosts D} where
+  -- the files of a store that is let go
+  pub leaves : (c : Held (FileStore D g)) (store : FileStore D g) (files : Files D) →
+      (files.log, files.db) ≡ store_files store → IsQuiet view faults recovers is_shielded c.store
+      store → (IsClean (view store) → IsTrue (view store).is_numbered) →
+      (IsClean (view store) → AreDatabases (recovers store)) → AreClean g files.log files.db →
+      LeavesEach c files
+  leaves c store files same quiet numbered sound clean =
+      let sure = subst (λ (p : D × D). AreClean g p.0 p.1) same clean in
+      let none : IsClean (view store) = no_doubt _ (clean_is store.pool ∙ sure) in
+      record {
+        was_clean = omega (arith, quiet.clean, none);
+        each = λ image may.
+            ∥∥₁_map (opens_again store (numbered none) (sound none) image
+            (may_leave_is store.pool image sure (subst (λ (p : D × D). outcomes g p.0 p.1 image)
+            same may))) (λ it.
+            let r : HoldsLeft c image = record {
+              db = it.0;
+              may = quiet.outcomes it.0 it.1;
+              holds = it.2;
+            } in r);
+      }
+
+  -- the files of a store that is closed
+  pub closes : SeenMayStay g → (c : Held (FileStore D g)) (files : Files D) → IsCopied c files →
+      LeavesEach c files
+  closes stays c files copied = record {
+    was_clean = copied.was_clean;
+    each = λ image may. ∥∥₁_map (copied.left image may).both
+        (λ it. let r : HoldsLeft c image = record {
+          db = (file_state c).committed.trees;
+          may =
+              stays_at c.store stays copied.was_open;
+          holds = it;
+        } in r);
+  }
+
+  pub leads : SeenMayStay g → (cap : ℕ) (bytes : List ℕ → Option (List ℕ)) (asked : Asked)
+      (start : Image) (first last : Held (FileStore D g)) (files : Files D) →
+      (HasCleanDisk (file_state first) → IsOpened first) →
+      (HasCleanDisk (file_state first) → FindsIn start (file_state first)) →
+      Survives (file_state first) (file_state last) (MayBeLeft cap bytes asked
+      (file_state first).now) → LeavesEach last files → (image : Image) →
+      outcomes g files.log files.db image → LeadsTo cap bytes (files_of asked) start image
+  leads stays cap bytes asked start first last files opens finds s left image may h keep =
+      let early : HasCleanDisk (file_state first) = omega (arith, s.clean, left.was_clean) in
+      let opened = opens early in
+      let sound = opened.1 opened.0.is_open in
+      let keeps = found_keeps cap start (file_state first) h keep (finds early) sound.1 in
+      let now = subst (λ (d : Database). Keeps cap d h) (sym opened.0.clean) keeps in
+      ∥∥₁_map (left.each image may) (λ it.
+      let r : (z : Holdings) × IsAfterFront cap bytes (files_of asked) h z × FilesKeep cap image z =
+      elim (s.crash left.was_clean it.db it.may) [
+        | inl early ↦ (
+          h,
+          no_front cap bytes (files_of asked) h,
+          inr (
+            it.db,
+            ∣ it.holds ∣₁,
+            same_keep cap (file_state first).committed it.db h
+                (settled_at first.store stays it.db opened.0.is_open early) sound.1 keeps,
+          ),
+        )
+        | inr made ↦
+            let rows = made h now in
+            let inside = it.holds.2 in (
+              rows.left,
+              rows.front,
+              inr (
+                it.db,
+                ∣ it.holds ∣₁,
+                record {
+                  schema = inside.schema;
+                  is_database = inside.sound;
+                  keeps = rows.keeps inside.schema inside.sound;
+                },
+              ),
+            )
+      ] in r)
+
+  -- what is held as the run ends is in the database file alone
+  pub ends_in : (cap : ℕ) (last : Held (FileStore D g)) (files : Files D) (h : Holdings) →
+      IsCopied last files → IsDatabase (file_state last).committed →
+      Keeps cap (file_state last).committed h → (image : Image) →
+      outcomes g files.log files.db image → FilesKeep cap image h
+  ends_in cap last files h copied sound keeps image may =
+      inr (
+        (file_state last).committed.trees,
+        (copied.left image may).both,
+        same_keep cap
+            (file_state last).committed _ h refl sound keeps,
+      )

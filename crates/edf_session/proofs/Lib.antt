@@ -1,0 +1,9 @@
+pub mod Schemas
+pub mod Nothing
+pub mod Keeping
+pub mod Fronts
+pub mod Crashes
+pub mod Running
+pub mod LetGo
+pub mod Chains
+pub mod Ending

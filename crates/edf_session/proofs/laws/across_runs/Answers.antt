@@ -1,0 +1,10 @@
+use Rattle.std.proofs.Common.{refl, inl}
+use Rattle.edf_session.proofs.Chains.{result}
+use Rattle.edf_session.proofs.laws.across_runs.Goals as goal
+
+pub returns-clause-law : goal.returns-clause-law
+returns-clause-law c cap sessions h start end sound keep runs =
+    result cap sessions h start end sound runs keep
+
+pub returns-clause-first : goal.returns-clause-first
+returns-clause-first c cap start none = inl (none, refl)

@@ -1,0 +1,31 @@
+-- What the two files of a store, the log and the database file, hold.
+use Rattle.std.specs.Prelude.{◌≡◌, ◌⊎◌, ℕ, []}
+use Rattle.sqlite_wal.specs.Recovery.{Image}
+use Rattle.sqlite.specs.Tree.{Trees}
+use Rattle.sqlite.specs.Schema.{Schema}
+use Rattle.sqlite.specs.Effect.{Database, IsDatabase}
+use Rattle.sqlite.specs.Files.{HoldsDatabase, IsNothing}
+use Rattle.edf_schema.specs.Columns.{stored_recordings}
+use Rattle.edf_tables.specs.Schema.{no_schema, one_schema, HasBoth}
+use Rattle.edf_holdings.specs.Holdings.{Holdings, nothing_held}
+use Rattle.edf_rows.specs.Rows.{AreKept}
+
+-- a database keeps these: it has neither table, or the first without a row, and nothing is held; or
+-- it has both, whose rows stand for them
+pub data Keeps (cap : ℕ) (db : Database) (h : Holdings) : Type 0 where
+  no_table : db.schema ≡ no_schema → h ≡ nothing_held → Keeps cap db h
+  one_table : db.schema ≡ one_schema → stored_recordings db.trees ≡ [] → h ≡ nothing_held →
+      Keeps cap db h
+  both_tables : HasBoth db.schema → AreKept cap db.trees h → Keeps cap db h
+
+-- the trees are those of such a database
+pub record TreesKeep (cap : ℕ) (trees : Trees) (h : Holdings) : Type 0 where
+  pub schema : Schema
+  pub is_database : IsDatabase (record { schema = schema; trees = trees })
+  pub keeps : Keeps cap (record { schema = schema; trees = trees }) h
+
+-- the files, as bytes, keep these: there is no database yet and nothing is held; or they have such
+-- a database
+abbrev pub FilesKeep : ℕ → Image → Holdings → Type 0
+FilesKeep cap image h = (IsNothing image × (h ≡ nothing_held))
+    ⊎ ((db : Trees) × ∥ HoldsDatabase image db ∥₁ × TreesKeep cap db h)

@@ -1,0 +1,86 @@
+//! One run over the files at a path.
+
+ghost use Rattle.std.specs.Prelude.{◌≡◌, ◌≤◌, None, IfOk, IfErr};
+ghost use Rattle.sqlite_wal.specs.Files.{outcomes, image_at};
+ghost use Rattle.sqlite_wal.specs.Reads.{AreClean};
+ghost use Rattle.sqlite_wal.specs.Recovery.{Image};
+ghost use Rattle.edfstore_arguments.specs.Arguments.{meaning};
+ghost use Rattle.edf_program.specs.Output.{growth};
+ghost use Rattle.edf_command.specs.Run.{files_of};
+ghost use Rattle.edf_command.specs.Taking.{HasOpened};
+ghost use Rattle.edf_session.specs.Steps.{IsStep};
+ghost use Rattle.edf_session.specs.Close.{LeadsIfNumbered, EndsOrRefuses, IsUnopened};
+ghost use Rattle.edf_session.specs.Across.{RunsAfterAll};
+
+use crate::session::{Session, run_and_close};
+use crate::watch::{Watch, refuse};
+use edf_command::{Inputs, Order, Status};
+use edf_fragment::Output;
+use edf_header::MOST_RECORDS;
+use edf_store::StoreFault;
+use sqlite::{Connection, FileFrom, Start};
+use sqlite_disk::Disk;
+
+/// One run over the files at a path, which are made where there are none: they are opened, the
+/// command is run over their store, and they are closed. A new file's pages end in sums.
+///
+/// `start` stands for what the files hold at the start, whatever that is. Where the disk gives
+/// back what was written and the files were closed:
+/// - the store held what the files hold, the command was run over that, and the files then hold,
+///   also after a crash, what the store held in the end (`ended`);
+/// - all named files were submitted in turn, or nothing changed (`steps`);
+/// - after any runs, of which each began with what the one before left as it ended or crashed, it
+///   is what all of them submitted, in their order, of which the headline speaks (`across`).
+///
+/// # Errors
+/// The status, where the files were not opened; a line says why.
+pub fn run_path<S: Start, I: Inputs, O: Output, F: Output, W: Watch>(
+    rt: &HostRuntime,
+    path: &str,
+    start: S,
+    cap: u32,
+    command: &Order,
+    inputs: &mut I,
+    out: &mut O,
+    err: &mut F,
+    watch: &mut W,
+) -> Result<Session<FileFrom<S>>, Status>
+    requires cap_from { 1 ≤ cap }
+    requires cap_to { cap ≤ MOST_RECORDS }
+    ensures ended { IfOk result (λ s. s.failure ≡ None →
+        AreClean ⟦<FileFrom<S> as Disk>⟧ s.files.log s.files.db →
+        EndsOrRefuses ⟦<FileFrom<S> as Disk>⟧ cap (growth O.Output out.old out.new)
+        (growth F.Output err.old err.new) (I.bytes inputs.old) (meaning command.now) s.status
+        (image_at S.Start) s.files) }
+    ensures steps { IfOk result (λ s. s.failure ≡ None →
+        AreClean ⟦<FileFrom<S> as Disk>⟧ s.files.log s.files.db →
+        (image : Image) → outcomes ⟦<FileFrom<S> as Disk>⟧ s.files.log s.files.db image →
+        IsStep cap (I.bytes inputs.old) (files_of (meaning command.now)) (image_at S.Start)
+        image) }
+    ensures across { IfOk result (λ s. s.failure ≡ None →
+        AreClean ⟦<FileFrom<S> as Disk>⟧ s.files.log s.files.db →
+        RunsAfterAll ⟦<FileFrom<S> as Disk>⟧ cap (growth O.Output out.old out.new)
+        (growth F.Output err.old err.new) (I.bytes inputs.old) (meaning command.now) s.status
+        (image_at S.Start) s.files) }
+    ensures unclosed { IfOk result (λ s. LeadsIfNumbered ⟦<FileFrom<S> as Disk>⟧ cap
+        (I.bytes inputs.old) (files_of (meaning command.now)) (image_at S.Start) s.files) }
+    ensures opened { IfOk result (λ s. HasOpened
+        (I.opened inputs.old) (I.opened inputs.new) (files_of (meaning command.now)) s.status) }
+    ensures unopened { IfErr result (IsUnopened (growth O.Output out.old out.new)
+        (growth F.Output err.old err.new)) }
+    ensures unread { IfErr result (λ _. inputs.new ≡ inputs.old) }
+{
+    match Connection::open_from(rt, path, true, start) {
+        Ok(conn) => Ok(run_and_close::<FileFrom<S>, I, O, F, W>(
+            rt.alloc(),
+            conn,
+            cap,
+            command,
+            inputs,
+            out,
+            err,
+            watch,
+        )),
+        Err((error, _)) => Err(refuse(&StoreFault::from(error), false, err, watch)),
+    }
+}
