@@ -1,0 +1,53 @@
+"""A client of `edfserve`, and the lines that it prints of its own."""
+import subprocess
+from pathlib import Path
+from subprocess import PIPE
+
+NO_COMMAND = "no such command\n"
+
+
+def status(number: int) -> str:
+    return f"status {number}\n"
+
+
+def exported(name: str, data: bytes) -> str:
+    return f"{name} exported bytes={len(data)}\n"
+
+
+def is_there(name: str) -> str:
+    return f"{name} is there\n"
+
+
+class Client:
+    """A session over a pipe, that waits for each answer."""
+
+    def __init__(self, program: Path, folder: Path, *words):
+        self.child = subprocess.Popen([program, *words, "s.db"], cwd=folder, stdin=PIPE,
+                                      stdout=PIPE, stderr=PIPE)
+
+    def send(self, line: str) -> None:
+        self.child.stdin.write(line.encode() + b"\n")
+        self.child.stdin.flush()
+
+    def answer(self) -> str:
+        """The lines of one answer, its status among them; what came, where the session ended."""
+        lines = []
+        while True:
+            line = self.child.stdout.readline().decode()
+            lines.append(line)
+            if not line or line.startswith("status "):
+                return "".join(lines)
+
+    def ask(self, line: str) -> str:
+        self.send(line)
+        return self.answer()
+
+    def peak(self) -> int:
+        """The most memory that it had, in bytes."""
+        text = Path(f"/proc/{self.child.pid}/status").read_text()
+        return 1024 * int(text.split("VmHWM:")[1].split()[0])
+
+    def end(self) -> tuple:
+        """Ends its input: its status, and what else it wrote."""
+        out, err = self.child.communicate()
+        return self.child.returncode, out.decode(), err.decode()

@@ -1,0 +1,308 @@
+"""Clients of `edfserve`, and what a session answers and leaves, against the plain model.
+
+    python3 -m checks.serve [--program PATH] [--edfserve PATH] [--seed SEED] [COUNT]
+
+A client that waits for each answer, one that sends all at once, one that stops reading; names with
+spaces and beyond ASCII; lines that are none, of the greatest length and longer, cut by the end of
+the input; a store that is refused; a full disk, and room again. Over a pipe, a named pipe, and by
+socat a socket, where it is installed. Then COUNT sessions (100 if left out) are killed at a random
+moment and begun again: what was answered is held, and in the end all of it is.
+"""
+import os
+import random
+import shutil
+import signal
+import subprocess
+import tempfile
+import time
+from pathlib import Path
+from subprocess import PIPE
+
+from checks.lib import arguments, faults, measure, model, named, night, printed, serving
+from checks.lib.checks import Checks, Lost, compare, end
+from checks.lib.serving import NO_COMMAND, Client, exported, status
+
+MOST_LINE = 65_536
+MOST_GROWTH = 8_000_000     # bytes of memory that a client may cost which does not read
+SMALL = night.Night(records=480, samples=(64, 32), fragments=24)
+
+
+class Session:
+    """What a session answers, by the model."""
+
+    def __init__(self, folder: Path, held=None):
+        self.folder, self.held, self.worst = folder, held or model.Store(), 0
+
+    def tell(self, text: str, code: int) -> str:
+        self.worst = max(self.worst, code)
+        return text + status(code)
+
+    def take(self, name: str) -> str:
+        path = self.folder / name
+        if not path.is_file():
+            return self.tell(printed.fault(name, faults.read()), 3)
+        answer = self.held.take(path.read_bytes())
+        return self.tell(printed.line(name, answer), 0 if printed.is_accepted(answer) else 1)
+
+    def list(self) -> str:
+        return self.tell(self.held.lines(), 0)
+
+    def export(self, place: int, name: str) -> str:
+        if place not in range(1, len(self.held.held) + 1):
+            return self.tell(printed.no_recording(place), 1)
+        if (self.folder / name).exists():
+            return self.tell(serving.is_there(name), 1)
+        return self.tell(exported(name, self.held.export(place)), 0)
+
+    def none(self) -> str:
+        return self.tell(NO_COMMAND, 2)
+
+
+def laid(folder: Path) -> list:
+    """The files of a small night under odd names, a broken one, and one of another recording."""
+    names = []
+    for nth, path in enumerate(SMALL.parts(folder)):
+        name = (f"part {nth}.edf", f"Nacht Müller {nth}.edf", f"部分-{nth}.edf",
+                f" leading {nth}.edf")[nth % 4]
+        path.rename(folder / name)
+        names.append(name)
+    (folder / "cut.edf").write_bytes((folder / names[0]).read_bytes()[:-7])
+    (folder / "other.edf").write_bytes(named.files()["p5.edf"])
+    return names
+
+
+def script(folder: Path) -> list:
+    """Lines of each kind, each with its answer by the model."""
+    names, told = laid(folder), Session(folder)
+    asked = [(f"take {name}", told.take(name)) for name in names[:8]]
+    asked.append(("list", told.list()))
+    asked += [(f"take {name}", told.take(name)) for name in (names[12], names[3], "cut.edf",
+                                                             "missing.edf", "other.edf")]
+    asked += [("list", told.list()), ("export 1 Nacht ä.edf", told.export(1, "Nacht ä.edf")),
+              ("export 9 none.edf", told.export(9, "none.edf")),
+              ("export 1 cut.edf", told.export(1, "cut.edf"))]
+    for line in ("lists", "take", "take ", "export 1", "export 0 x", "export x y", "runs 1", "",
+                 " list", "list ", "LIST", "\ttake part", "take\0"):
+        asked.append((line, told.none()))
+    asked.append(("list", told.list()))
+    return asked
+
+
+def compare_export(checks: Checks, folder: Path, held: model.Store) -> None:
+    checks.same("the exported file", (folder / "Nacht ä.edf").read_bytes(), held.export(1))
+    checks.same("no part of a file is left", list(folder.glob("*.part")), [])
+
+
+def held_by(asked: list, folder: Path) -> model.Store:
+    held = model.Store()
+    for line, _ in asked:
+        path = folder / line.removeprefix("take ")
+        if line.startswith("take ") and path.is_file():
+            held.take(path.read_bytes())
+    return held
+
+
+def waits(checks: Checks, given) -> None:
+    checks.begin("a client that waits for each answer")
+    asked = script(checks.folder)
+    client = Client(given.edfserve, checks.folder)
+    for line, answer in asked:
+        checks.same(line, client.ask(line), answer)
+    checks.same("the end", client.end(), (3, "", ""))
+    compare_export(checks, checks.folder, held_by(asked, checks.folder))
+
+
+def sends_all(checks: Checks, given, way: str, words) -> None:
+    """All lines at once, by a way that makes them a session's standard input."""
+    checks.begin(f"a client that sends all at once, over {way}")
+    asked = script(checks.folder)
+    lines = "".join(f"{line}\n" for line, _ in asked).encode()
+    ran = words(lines)
+    checks.same("the answers", ran.out.decode(), "".join(answer for _, answer in asked))
+    compare_export(checks, checks.folder, held_by(asked, checks.folder))
+
+
+def over_a_pipe(checks: Checks, given):
+    return lambda lines: measure.ran(given.edfserve, "s.db", given=lines, folder=checks.folder)
+
+
+def over_a_named_pipe(checks: Checks, given):
+    def run(lines: bytes) -> measure.Ran:
+        os.mkfifo(checks.folder / "lines")
+        (checks.folder / "sent").write_bytes(lines)
+        line = 'cat sent > lines & exec "$0" s.db < lines'
+        return measure.ran("bash", "-c", line, given.edfserve, folder=checks.folder)
+    return run
+
+
+def over_a_socket(checks: Checks, given):
+    def run(lines: bytes) -> measure.Ran:
+        folder = checks.folder
+        listening = ("socat", "-t", "60", "UNIX-LISTEN:socket", f"EXEC:{given.edfserve} s.db")
+        server = subprocess.Popen(listening, cwd=folder)
+        while not (folder / "socket").exists():
+            time.sleep(0.01)
+        ran = measure.ran("socat", "-t", "60", "-", "UNIX-CONNECT:socket", given=lines,
+                          folder=folder)
+        server.wait()
+        return ran
+    return run
+
+
+def stops_reading(checks: Checks, given) -> None:
+    """A client that sends on and reads nothing costs no memory; then it gets every answer."""
+    checks.begin("a client that stops reading")
+    names, told = laid(checks.folder), Session(checks.folder)
+    client = Client(given.edfserve, checks.folder)
+    client.ask(f"take {names[0]}"), told.take(names[0])
+    before, answer = client.peak(), told.list()
+    os.set_blocking(client.child.stdin.fileno(), False)
+    sent, until = 0, time.monotonic() + 5
+    while time.monotonic() < until:
+        sent += client.child.stdin.raw.write(b"list\n") == 5
+    checks.same("more memory than before", client.peak() - before < MOST_GROWTH, True)
+    os.set_blocking(client.child.stdin.fileno(), True)
+    out, err = client.child.communicate()
+    checks.same("each line has its answer", out.decode() == answer * sent, True)
+    checks.same("the end", (client.child.returncode, err), (0, b""))
+
+
+def lengths(checks: Checks, given) -> None:
+    checks.begin("lines of the greatest length, longer, and cut")
+    (checks.folder / "p.edf").write_bytes(named.files()["p5.edf"])
+    run = over_a_pipe(checks, given)
+    unread = printed.fault("x" * (MOST_LINE - 5), faults.read())
+    for size, answer in ((MOST_LINE, unread + status(3)), (MOST_LINE + 1, NO_COMMAND + status(2)),
+                         (50 * MOST_LINE, NO_COMMAND + status(2))):
+        line = b"take ".ljust(size, b"x")
+        for after, more in ((b"\n", ""), (b"\nlist\n", status(0)), (b"", "")):
+            ran = run(line + after)
+            checks.same(f"{size} bytes", (ran.out.decode(), ran.err), (answer + more, b""))
+    for line, answer, code in (
+            (b"take p.edf", printed.line("p.edf", printed.NEW) + status(0), 0),
+            (b"lis", NO_COMMAND + status(2), 2), (b"", "", 0),
+            (b"take \xff\n", NO_COMMAND + status(2), 2)):
+        ran = run(line)
+        checks.same(f"{line} and the end", (ran.out.decode(), ran.status), (answer, code))
+
+
+def refused_store(checks: Checks, given) -> None:
+    checks.begin("a store that is refused")
+    checks.file("s.db", b"no database at all" * 100)
+    ran = over_a_pipe(checks, given)(b"list\n")
+    first, *cause = ran.err.decode().splitlines(keepends=True)
+    checks.same("standard output and status", (ran.out, ran.status), (b"", 3))
+    checks.same("the refusal and its cause", (first, len(cause)), (printed.NO_STORE, 1))
+    checks.same("the file is as it was", checks.content("s.db"), b"no database at all" * 100)
+
+
+def full_disk(checks: Checks, given) -> None:
+    checks.begin("a full disk, and room again")
+    disk = checks.folder / "disk"
+    disk.mkdir()
+    if measure.ran("mount", "-t", "tmpfs", "-o", "size=3m", "edfserve", disk).status:
+        print("a full disk: nobody may mount here, left out")
+        return
+    try:
+        names, held = laid(checks.folder), model.Store()
+        client = Client(given.edfserve, disk)
+        parts = [f"../{name}" for name in names]
+        client.ask(f"take {parts[0]}"), held.take((checks.folder / names[0]).read_bytes())
+        filler = disk / "filler"
+        with open(filler, "wb", buffering=0) as made:
+            try:
+                while True:
+                    made.write(bytes(4096))
+            except OSError:
+                pass
+        answer = client.ask("export 1 x.edf")
+        checks.same("export: its status", answer.endswith(status(3)), True)
+        answer = client.ask(f"take {parts[1]}")
+        if answer.endswith(status(0)):      # the log had room
+            held.take((checks.folder / names[1]).read_bytes())
+        else:
+            checks.same("take: its status", answer.endswith(status(3)), True)
+        checks.same("nothing was made", (disk / "x.edf").exists(), False)
+        filler.unlink()
+        for name in names[1:]:
+            answer = held.take((checks.folder / name).read_bytes())
+            checks.same(name, client.ask(f"take ../{name}"),
+                        printed.line(f"../{name}", answer) + status(0))
+        checks.same("export", client.ask("export 1 x.edf"),
+                    exported("x.edf", held.export(1)) + status(0))
+        checks.same("the exported file", (disk / "x.edf").read_bytes(), held.export(1))
+        checks.same("the end", client.end()[0], 3)
+    finally:
+        measure.ran("umount", "-l", disk)
+
+
+def killed_once(program: Path, folder: Path, names: list, rng: random.Random) -> int:
+    """Begins a session over these files and kills it; how many were answered."""
+    child = subprocess.Popen([program, "s.db"], cwd=folder, stdin=PIPE, stdout=PIPE)
+    child.stdin.write("".join(f"take {name}\n" for name in names).encode())
+    child.stdin.flush()
+    time.sleep(rng.uniform(0, 0.25))
+    child.send_signal(signal.SIGKILL)
+    out, _ = child.communicate()
+    return out.count(b"status 0\n")
+
+
+def killed(given, folder: Path, seed: int) -> None:
+    """One store whose sessions are killed until all is held."""
+    rng = random.Random(seed)
+    names = laid(folder)
+    rng.shuffle(names)
+    holdings = [model.Store()]
+    for nth in range(len(names)):
+        held = model.Store()
+        for name in names[:nth + 1]:
+            held.take((folder / name).read_bytes())
+        holdings.append(held)
+    lists = [held.lines() for held in holdings]
+    answered = killed_once(given.edfserve, folder, names, rng)
+    listed = measure.done(given.program, "list", "s.db", folder=folder).out.decode()
+    if listed not in lists[answered:answered + 2]:
+        raise Lost(f"{answered} files were answered, and the store has {listed!r}")
+    client = Client(given.edfserve, folder)
+    for name in names:
+        if f"{name} {printed.ACCEPTED} " not in client.ask(f"take {name}"):
+            raise Lost(f"{name} is not accepted when the session is begun again")
+    compare("the list", client.ask("list"), lists[-1] + status(0))
+    compare("the end", client.end(), (0, "", ""))
+    export = measure.done(given.program, "export", "s.db", 1, folder=folder).out
+    compare("the export", export, holdings[-1].export(1))
+
+
+def kills(given) -> int:
+    for nth in range(given.count):
+        with measure.scratch() as folder:
+            killed(given, Path(folder), given.seed + nth)
+    return given.count
+
+
+def main() -> None:
+    parser = arguments.Parser(__doc__, programs=("edfstore", "edfserve"), count=100)
+    parser.add_argument("--seed", type=int, default=1, help="of the kills, 1 if left out")
+    given = parser.read()
+    with tempfile.TemporaryDirectory(prefix="edfserve-checks-") as name:
+        checks = Checks(given.edfserve, Path(name), "edfserve")
+        waits(checks, given)
+        sends_all(checks, given, "a pipe", over_a_pipe(checks, given))
+        sends_all(checks, given, "a named pipe", over_a_named_pipe(checks, given))
+        if shutil.which("socat"):
+            sends_all(checks, given, "a socket", over_a_socket(checks, given))
+        stops_reading(checks, given)
+        lengths(checks, given)
+        refused_store(checks, given)
+        full_disk(checks, given)
+        try:
+            count = kills(given)
+        except Lost as why:
+            print(f"LOST: {why}")
+            end(checks.done + 1, checks.failed + 1)
+    print(f"{count} sessions killed, and begun again: nothing was lost")
+    end(checks.done + count, checks.failed)
+
+
+if __name__ == "__main__":
+    main()
