@@ -1,26 +1,44 @@
 -- Data records, carried over one after another.
-use Rattle.std.proofs.Common.{◌≡◌, ℕ, ◌+◌, ◌≤◌, ◌<◌, List, [], ◌∷◌, ◌++◌, length, refl, sym, ap}
+use Rattle.std.proofs.Common.{◌≡◌, ℕ, ◌+◌, ◌*◌, ◌≤◌, ◌<◌, List, [], ◌∷◌, ◌++◌, length, refl, sym, ap}
+use Rattle.std.proofs.Common.{suc}
+use Rattle.std.proofs.Math.Nat.{suc-mul}
 use Rattle.std.proofs.Common.{◌∙◌, subst, arith, append-nil, length-append, Option, rules}
 use Rattle.std.specs.Io.KnownBytes.{Consumes, IsAtEnd}
 use Rattle.std.proofs.KnownBytes.{Consumes-nil, Consumes-trans, Appends-nil}
 use Rattle.std.proofs.lemmas.Grind.{flat_map-append}
 use Rattle.std.proofs.lemmas.List.Elements.{All-nil, All-push, AllZip-push}
+use Rattle.edf_field.specs.Number.{duration_of}
 use Rattle.edf_header.specs.Header.{Layout, least_records}
 use Rattle.edf_tal.specs.declared.place.Place.{Place}
 use Rattle.edf_tal.specs.declared.place.Place.TheVariants.{First}
-use Rattle.edf_fragment.specs.Fragment.{AreDataRecords}
+use Rattle.edf_fragment.specs.Fragment.{DataRecord, AreDataRecords}
 use Rattle.edf_fragment.specs.Reading.{at_first}
 use Rattle.edf_fragment.specs.declared.advance.Progress.{Progress}
 use Rattle.edf_fragment.proofs.Runs.{AreDataRecords-snoc}
 use Rattle.edf_canonical.specs.Output.{Buffered}
 use Rattle.edf_canonical.proofs.Puts.{writes-then, writes-same}
 use Rattle.edf_mend.specs.Carried.{IsCarried}
-use Rattle.edf_mend.specs.Mended.{joined}
+use Rattle.edf_mend.specs.Mended.{joined, AreInTurn, FollowInTurn}
 use Rattle.edf_mend.specs.Inside.Steps.{CarriedSoFar, CarriesOne, CarriedAll}
 
 pub joined-one : (ps : List (List ℕ)) (p : List ℕ) → joined (ps ++ p ∷ []) ≡ joined ps ++ p
 joined-one ps p = flat_map-append (λ (x : List ℕ). x) ps (p ∷ [])
     ∙ ap (λ (x : List ℕ). joined ps ++ x) (append-nil p)
+
+past : (start duration n : ℕ) →
+    start + suc n * duration ≡ start + duration + n * duration
+past start duration n = omega (arith, suc-mul n duration)
+
+-- one more in turn
+in-turn-one : (start duration : ℕ) (rs : List DataRecord) (r : DataRecord) →
+    AreInTurn start duration rs → r.start ≡ start + length rs * duration → r.annotations ≡ [] →
+    AreInTurn start duration (rs ++ r ∷ [])
+in-turn-one start duration [] r turn at none = (omega (arith, at), none, tt)
+in-turn-one start duration (x ∷ rs) r turn at none = (
+  turn.0,
+  turn.1,
+  in-turn-one (start + duration) duration rs r turn.2 (at ∙ past start duration (length rs)) none,
+)
 
 module _ (l : Layout) (left : Option (List ℕ)) (a : Buffered) (size added : ℕ) where
   -- none so far
@@ -31,19 +49,23 @@ module _ (l : Layout) (left : Option (List ℕ)) (a : Buffered) (size added : �
     records = [];
     read = Consumes-nil left;
     put = record { front = []; wrote = Appends-nil a.contents; parts = append-nil a.held };
-    are_records = (ap (λ (x : Progress). x.place) first, refl);
+    carries = record {
+      are_records = (ap (λ (x : Progress). x.place) first, refl);
+      in_turn = λ _. tt;
+      carried = search rules;
+      sizes = All-nil (λ (r : List ℕ). length r ≡ size);
+      counted = refl;
+    };
     given = ap (λ (x : Progress). x.given) first;
     within = omega (arith, ap (λ (x : Progress). x.given) first);
     state = ap (λ (x : Progress). x.state) first;
-    carried = search rules;
-    sizes = All-nil (λ (r : List ℕ). length r ≡ size);
     counted = refl;
   }
 
   -- one more
   pub one-carried : (p q : Progress) (mid rest : Option (List ℕ)) (b c : Buffered) (old : List ℕ)
       (count : ℕ) → CarriedSoFar l p left mid a b size added count → Consumes mid rest old
-      → length old ≡ size → CarriesOne l p q b c added old
+      → length old ≡ size → CarriesOne l p q b c count added old
       → CarriedSoFar l q left rest a c size added (count + 1)
   one-carried p q mid rest b c old count so read len one =
       let olds : joined (so.olds ++ old ∷ []) ≡ joined so.olds ++ old = joined-one so.olds old in
@@ -52,9 +74,14 @@ module _ (l : Layout) (left : Option (List ℕ)) (a : Buffered) (size added : �
       let is = one.accepted in
       let records = so.records ++ one.r ∷ [] in
       let more = AreDataRecords-snoc l First p.place (joined so.news) one.new so.records one.r
-      so.are_records is.is_record in
+      so.carries.are_records is.is_record in
       let placed = subst (λ (x : Place). AreDataRecords l First (joined so.news ++ one.new) records
       x []) (sym is.place) more in
+      let turn : 0 < added → FollowInTurn l records = λ some.
+      let here = one.in_turn some in
+      in-turn-one l.start (duration_of l.key.duration) so.records one.r (so.carries.in_turn some)
+      (subst (λ (n : ℕ). one.r.start ≡ l.start + n * duration_of l.key.duration) so.counted here.0)
+      here.1 in
       record {
         olds = so.olds ++ old ∷ [];
         news = so.news ++ one.new ∷ [];
@@ -62,14 +89,24 @@ module _ (l : Layout) (left : Option (List ℕ)) (a : Buffered) (size added : �
         read = subst (Consumes left rest) (sym olds)
             (Consumes-trans left mid rest (joined so.olds) old so.read read);
         put = writes-same a c _ _ c.held (sym news) (writes-then a b c _ _ c.held so.put one.put);
-        are_records = subst (λ (x : List ℕ). AreDataRecords l First x records q.place [])
-            (sym news) placed;
+        carries = record {
+          are_records = subst (λ (x : List ℕ). AreDataRecords l First x records q.place [])
+              (sym news) placed;
+          in_turn = turn;
+          carried = AllZip-push (IsCarried l added) so.olds so.news old one.new
+              so.carries.carried one.carried;
+          sizes = All-push (λ (r : List ℕ). length r ≡ size) so.olds old so.carries.sizes len;
+          counted = omega (
+            arith,
+            so.carries.counted,
+            length-append so.olds (old ∷ []),
+            length-append so.records (one.r ∷ []),
+          );
+        };
         given = omega (arith, is.given, so.given, length-append so.records (one.r ∷ []));
         within = omega (arith, is.given, is.may_come);
         state = is.state;
-        carried = AllZip-push (IsCarried l added) so.olds so.news old one.new so.carried one.carried;
-        sizes = All-push (λ (r : List ℕ). length r ≡ size) so.olds old so.sizes len;
-        counted = omega (arith, so.counted, length-append so.olds (old ∷ []));
+        counted = omega (arith, so.counted, length-append so.records (one.r ∷ []));
       }
 
   -- all of them
@@ -78,20 +115,22 @@ module _ (l : Layout) (left : Option (List ℕ)) (a : Buffered) (size added : �
       → IsAtEnd rest → at ≡ length piece → at < size → least_records l.count ≤ p.given
       → CarriedAll l left rest a b size added count at
   all-carried p mid rest b piece count at so read end is cut least = record {
-    olds = so.olds;
-    news = so.news;
-    records = so.records;
-    last = p.place;
-    piece = piece;
-    read = Consumes-trans left mid rest (joined so.olds) piece so.read read;
-    end = end;
+    bytes = joined so.news;
+    all = record {
+      olds = so.olds;
+      news = so.news;
+      records = so.records;
+      last = p.place;
+      piece = piece;
+      read = Consumes-trans left mid rest (joined so.olds) piece so.read read;
+      end = end;
+      carries = so.carries;
+      bytes_are = refl;
+      least = omega (arith, so.given, least);
+      most = omega (arith, so.given, so.within);
+      counted = so.counted;
+      cut = omega (arith, is, cut);
+      left_out_is = is;
+    };
     put = so.put;
-    are_records = so.are_records;
-    least = omega (arith, so.given, least);
-    most = omega (arith, so.given, so.within);
-    carried = so.carried;
-    sizes = so.sizes;
-    counted = so.counted;
-    cut = omega (arith, is, cut);
-    left_out_is = is;
   }

@@ -1,22 +1,38 @@
 -- A mended file from its parts.
 use Rattle.std.proofs.Common.{◌≡◌, ℕ, ◌+◌, List, ◌++◌, length, refl, sym, ◌∙◌, subst, arith}
-use Rattle.std.proofs.Common.{Option, All}
+use Rattle.std.proofs.Common.{Option, Some, None, All, ◌≤◌, ap}
 use Rattle.std.specs.List.{AllZip}
-use Rattle.std.specs.Io.KnownBytes.{Consumes}
+use Rattle.std.specs.Io.KnownBytes.{Consumes, Appends}
 use Rattle.std.proofs.KnownBytes.{Consumes-trans}
 use Rattle.std.proofs.lemmas.List.Elements.{All-weaker}
-use Rattle.edf_header.specs.Header.{Layout, layout_of}
+use Rattle.edf_header.specs.Header.{Layout, layout_of, least_records, most_records}
+use Rattle.edf_fragment.specs.Fragment.{DataRecord}
 use Rattle.edf_fragment.specs.declared.open_fragment.OpenFragment.{OpenFragment}
 use Rattle.edf_fragment.proofs.Runs.{IsHeader-more}
 use Rattle.edf_mend.specs.Edits.{RuleEdits, AreMendedBy}
 use Rattle.edf_mend.specs.Patient.{IsHonest, KeepsPatient}
 use Rattle.edf_mend.specs.Clock.{KeepsClock}
 use Rattle.edf_mend.specs.Carried.{IsCarried}
-use Rattle.edf_mend.specs.Mended.{joined, Mends}
+use Rattle.edf_mend.specs.Mended.{joined, Mends, SaysCount}
 use Rattle.edf_mend.specs.declared.ledger.Ledger.{Ledger}
 use Rattle.edf_mend.specs.declared.drafting.Draft.{Draft}
 use Rattle.edf_mend.specs.declared.records.Shape.{Shape}
-use Rattle.edf_mend.specs.Inside.Steps.{IsOpened, IsDrafted, IsFitting, IsSent}
+use Rattle.edf_mend.specs.Inside.Steps.{IsOpened, IsDrafted, IsFitting, IsSent, IsCounted}
+
+-- a header that counts its data records says how many there are
+says-count : (count : Option ℕ) (records : List DataRecord) (n : ℕ) (step : RuleEdits) →
+    least_records count ≤ length records → length records ≤ most_records count →
+    n ≡ length records → IsCounted count step → SaysCount count n step
+says-count None records n step least most same counted is = absurd (counted is refl)
+says-count (Some m) records n step least most same counted is =
+    ap (λ (x : ℕ). Some x) (omega (arith, least, most, same))
+
+count-said : (count : Option ℕ) (records : List DataRecord) (n : ℕ) (steps : List RuleEdits) →
+    least_records count ≤ length records → length records ≤ most_records count →
+    n ≡ length records → All (IsCounted count) steps → All (SaysCount count n) steps
+count-said count records n steps least most same counted =
+    All-weaker (IsCounted count) (SaysCount count n)
+    (λ step is. says-count count records n step least most same is) steps counted
 
 pub mends : (left mid rest before after given : Option (List ℕ)) (ledger : Ledger)
     (old_header new_header : List ℕ) (draft : Draft) (o : OpenFragment) (shape : Shape) →
@@ -24,16 +40,19 @@ pub mends : (left mid rest before after given : Option (List ℕ)) (ledger : Led
     IsDrafted old_header given draft → IsOpened new_header o → KeepsClock old_header new_header →
     KeepsPatient given old_header new_header →
     IsFitting o.header shape → shape.added ≡ draft.added
+    → All (IsCounted o.header.count) draft.steps.items
     → IsSent o.header mid rest before after new_header shape.size shape.added ledger.records
     ledger.left_out
     → ledger.steps.items ≡ draft.steps.items → ledger.added ≡ draft.added →
     Mends left rest before after given ledger
 mends left mid rest before after given ledger old_header new_header draft o shape new_is read drafted
-    opened clock patient fits added sent steps added_is =
+    opened clock patient fits added counts sent steps added_is =
     let h = opened.header in
     let l : Layout = layout_of h in
-    let s = subst (λ (x : Layout). IsSent x mid rest before after new_header shape.size shape.added
-    ledger.records ledger.left_out) opened.layout sent in
+    let whole = subst (λ (x : Layout). IsSent x mid rest before after new_header shape.size
+    shape.added ledger.records ledger.left_out) opened.layout sent in
+    let s = whole.all in
+    let same_bytes : whole.bytes ≡ joined s.news = s.bytes_are in
     let f = subst (λ (x : Layout). IsFitting x shape) opened.layout fits in
     let same : shape.added ≡ ledger.added = added ∙ sym added_is in
     let total : shape.size + ledger.added ≡ l.record_bytes = omega (arith, f.size, same) in
@@ -44,7 +63,7 @@ mends left mid rest before after given ledger old_header new_header draft o shap
       new = new_header ++ joined s.news;
       read = Consumes-trans left mid rest old_header (joined s.olds ++ s.piece) read s.read;
       end = s.end;
-      wrote = s.wrote;
+      wrote = subst (λ (x : List ℕ). Appends before after (new_header ++ x)) same_bytes whole.wrote;
       mended = record {
         key = l.key;
         records = s.records;
@@ -54,7 +73,7 @@ mends left mid rest before after given ledger old_header new_header draft o shap
           last = s.last;
           is_header = IsHeader-more new_header (joined s.news) h opened.is_header;
           key = refl;
-          are_records = s.are_records;
+          are_records = s.carries.are_records;
           least = s.least;
           most = s.most;
         };
@@ -71,12 +90,17 @@ mends left mid rest before after given ledger old_header new_header draft o shap
         honest = subst (λ (x : List RuleEdits). All (IsHonest given) x) (sym steps) drafted.honest;
         patient = patient;
         clock = clock;
-        carried = subst (λ (n : ℕ). AllZip (IsCarried l n) s.olds s.news) same s.carried;
+        carried = subst (λ (n : ℕ). AllZip (IsCarried l n) s.olds s.news) same s.carries.carried;
+        in_turn = λ some. s.carries.in_turn (omega (arith, some, same));
+        count = count-said l.count s.records ledger.records ledger.steps.items s.least s.most
+            s.counted (subst (λ (x : List RuleEdits). All (IsCounted l.count) x) (sym steps)
+            (subst (λ (x : Layout). All (IsCounted x.count) draft.steps.items) opened.layout
+            counts));
         size = All-weaker (λ (r : List ℕ). length r ≡ shape.size)
             (λ (r : List ℕ). length r + ledger.added ≡ l.record_bytes)
-            (λ r is. omega (arith, is, total)) s.olds s.sizes;
+            (λ r is. omega (arith, is, total)) s.olds s.carries.sizes;
         cut = omega (arith, s.cut, total);
-        counted = s.counted;
+        counted = s.counted ∙ sym s.carries.counted;
         left_out_is = s.left_out_is;
       };
     }

@@ -4,4 +4,5 @@ pub mod Clock
 pub mod Carried
 pub mod Mended
 pub mod Counts
+pub mod Answers
 pub mod Inside

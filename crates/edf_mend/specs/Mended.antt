@@ -1,25 +1,46 @@
 -- What a mended file is.
-use Rattle.std.specs.Prelude.{◌≡◌, ℕ, ◌+◌, ◌<◌, List, [], ◌++◌, length, All, Option, Some, None}
+use Rattle.std.specs.Prelude.{◌≡◌, ℕ, ◌+◌, ◌<◌, List, [], ◌∷◌, ◌++◌, length, All, Option, Some}
+use Rattle.std.specs.Prelude.{None}
 use Rattle.std.specs.List.{flat_map, AllZip}
 use Rattle.std.specs.Io.KnownBytes.{Consumes, Appends, IsAtEnd}
+use Rattle.edf_field.specs.Number.{duration_of}
 use Rattle.edf_header.specs.Key.{Key}
 use Rattle.edf_header.specs.Header.{IsHeader, Layout, layout_of}
 use Rattle.edf_fragment.specs.Fragment.{DataRecord, Spells}
 use Rattle.edf_fragment.specs.Whole.{ReadsFragment, IsFragmentFault}
 use Rattle.edf_fragment.specs.declared.fault.FragmentFault.{FragmentFault}
-use Rattle.edf_mend.specs.Edits.{AreMendedBy}
+use Rattle.edf_fragment.specs.declared.fault.FragmentFault.TheVariants.{Read, Memory, Failed}
+use Rattle.edf_mend.specs.Edits.{RuleEdits, AreMendedBy}
 use Rattle.edf_mend.specs.Patient.{IsHonest, KeepsPatient}
 use Rattle.edf_mend.specs.Clock.{KeepsClock}
 use Rattle.edf_mend.specs.Carried.{IsCarried}
 use Rattle.edf_mend.specs.declared.ledger.Ledger.{Ledger}
+use Rattle.edf_mend.specs.declared.rule.Rule.TheVariants.{Count}
 
 -- pieces, joined
 abbrev pub joined : List (List ℕ) → List ℕ
 joined pieces = flat_map (λ piece. piece) pieces
 
+-- where the rule `count` changed the header, the header counts this many data records, and is not
+-- silent about their number
+abbrev pub SaysCount : Option ℕ → ℕ → RuleEdits → Type 0
+SaysCount count records step = step.rule ≡ Count → count ≡ Some records
+
+-- data records without annotations, the first of which starts there, and each other one a duration
+-- after the one before
+abbrev pub AreInTurn : ℕ → ℕ → List DataRecord → Type 0
+AreInTurn start duration [] = Unit {0}
+AreInTurn start duration (r ∷ rs) = (r.start ≡ start) × (r.annotations ≡ [])
+    × AreInTurn (start + duration) duration rs
+
+-- the same of all that a header has, from the start that it tells
+abbrev pub FollowInTurn : Layout → List DataRecord → Type 0
+FollowInTurn l records = AreInTurn l.start (duration_of l.key.duration) records
+
 -- `after` is the file `before`, mended: it spells a fragment; its header is the one before with the
--- told edits, and its data records are those before, each carried over; of what was before only a
--- piece of a data record at the end is left out, whose length is told
+-- told edits, and its data records are those before, each carried over; where each got an
+-- annotations block, they follow in turn; of what was before only a piece of a data record at the
+-- end is left out, whose length is told
 pub record IsMended (before : List ℕ) (given : Option (List ℕ)) (ledger : Ledger)
     (after : List ℕ) : Type 0 where
   pub key : Key
@@ -38,6 +59,8 @@ pub record IsMended (before : List ℕ) (given : Option (List ℕ)) (ledger : Le
   pub patient : KeepsPatient given old_header new_header
   pub clock : KeepsClock old_header new_header
   pub carried : AllZip (IsCarried (layout_of spells.header) ledger.added) old_records new_records
+  pub in_turn : 0 < ledger.added → FollowInTurn (layout_of spells.header) records
+  pub count : All (SaysCount (layout_of spells.header).count ledger.records) ledger.steps.items
   pub size : All (λ r. length r + ledger.added ≡ (layout_of spells.header).record_bytes) old_records
   pub cut : length left_out + ledger.added < (layout_of spells.header).record_bytes
   pub counted : ledger.records ≡ length old_records
@@ -49,11 +72,19 @@ pub record TellsNone (ledger : Ledger) : Type 0 where
   pub added : ledger.added ≡ 0
   pub left_out : ledger.left_out ≡ 0
 
+-- a fault of the bytes, and none of reading them
+abbrev pub IsOfBytes : FragmentFault → Type 0
+IsOfBytes Read = ⊥
+IsOfBytes Memory = ⊥
+IsOfBytes Failed = ⊥
+IsOfBytes fault = Unit {0}
+
 -- what a first reading finds: the whole input spells a fragment; or this is its first fault
 abbrev pub SurveysAs : Option (List ℕ) → Option FragmentFault → Type 0
 SurveysAs left None = (rest : Option (List ℕ)) × (layout : Layout) × (records : List DataRecord)
     × ReadsFragment left rest layout records
 SurveysAs left (Some fault) = (rest : Option (List ℕ)) × IsFragmentFault left rest fault
+    × IsOfBytes fault
 
 -- a whole input was read, and the file that was written is what it was, mended
 pub record Mends (left rest before after : Option (List ℕ)) (given : Option (List ℕ))

@@ -1,6 +1,6 @@
 -- A patient's code is never made up.
 use Rattle.std.specs.Prelude.{◌≡◌, ◌≢◌, ◌≤◌, ◌⊎◌, List, [], slice_index_or, Option, Some, ℕ}
-use Rattle.std.specs.Prelude.{All}
+use Rattle.std.specs.Prelude.{All, length}
 use Rattle.edf_field.specs.Text.{subfields, IsPrintable}
 use Rattle.edf_header.specs.Fields.{patient_field}
 use Rattle.edf_mend.specs.Edits.{Edit, RuleEdits}
@@ -10,9 +10,12 @@ use Rattle.edf_mend.specs.declared.rule.Rule.TheVariants.{Ascii, Patient}
 abbrev pub code_of : List ℕ → List ℕ
 code_of field = slice_index_or (subfields field) 0 []
 
--- the code stays, or becomes the one that was given
-abbrev pub KeepsCode : Option (List ℕ) → Edit → Type 0
-KeepsCode given e = (code_of e.new ≡ code_of e.old) ⊎ (given ≡ Some (code_of e.new))
+-- the whole patient field changes; its code stays, or becomes the one that was given
+pub record KeepsCode (given : Option (List ℕ)) (e : Edit) : Type 0 where
+  pub at : e.at ≡ 8
+  pub old : length e.old ≡ 80
+  pub new : length e.new ≡ 80
+  pub code : (code_of e.new ≡ code_of e.old) ⊎ (given ≡ Some (code_of e.new))
 
 -- nothing up to the end of the patient field changes
 abbrev pub IsBehindPatient : Edit → Type 0

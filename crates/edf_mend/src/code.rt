@@ -19,10 +19,14 @@ pub(crate) fn code_of(field: &[u8]) -> &[u8]
     }
 }
 
-/// Whether the code of a field is kept, or is the one that was given.
+/// Whether a change is one of the whole patient field, and its code is kept, or is the one that was
+/// given.
 fn keeps_code(given: Option<&[u8]>, change: &Change) -> bool
     ensures { IsTrue result → KeepsCode (option_map (λ code. code.now) given.entry) change.now }
 {
+    if change.at() != 8 || change.old().len() != 80 || change.new().len() != 80 {
+        return false;
+    }
     let code = code_of(change.new());
     if code == code_of(change.old()) {
         return true;
@@ -87,8 +91,9 @@ fn has_unprintable(text: &[u8]) -> bool
 pub(crate) fn keeps_patient(given: Option<&[u8]>, before: &[u8], after: &[u8]) -> bool
     requires before { 256 ≤ length before.now }
     requires after { 256 ≤ length after.now }
-    ensures { IsTrue result →
+    ensures patient { IsTrue result →
         KeepsPatient (option_map (λ code. code.now) given.entry) before.now after.now }
+    ensures same { after.now ≡ before.now → IsTrue result }
 {
     let old = code_of(&before[8..88]);
     let new = code_of(&after[8..88]);

@@ -1,8 +1,9 @@
 //! The header of the mended file, and the steps that lead to it.
 
 ghost use Rattle.std.specs.Prelude.{◌≡◌, ◌++◌, ◌∷◌, [], ℕ, List, None, Ok, option_map, All, OnOk};
-ghost use Rattle.std.specs.Prelude.{IfOk, IfErr, Option};
+ghost use Rattle.std.specs.Prelude.{IfOk, IfErr, MatchResult, Option};
 ghost use Rattle.edf_mend.specs.Edits.{AreEdited, AreMendedBy};
+ghost use Rattle.edf_mend.specs.Answers.{IsTrouble, AsksCode};
 ghost use Rattle.edf_mend.specs.Patient.{IsHonest};
 ghost use Rattle.edf_mend.specs.Inside.Steps.{IsDrafted};
 ghost use Rattle.edf_mend.specs.Inside.Faults.{IsQuiet};
@@ -93,7 +94,8 @@ fn apply_rule(
     survey: &Survey,
     patient: Option<&[u8]>,
 ) -> Result<usize, MendFault>
-    ensures { IfErr result IsQuiet }
+    ensures asked { IfErr result (AsksCode (option_map (λ code. code.now) patient.entry)) }
+    ensures quiet { IfErr result IsQuiet }
 {
     match rule {
         Rule::Ascii => mend_ascii(alloc, header.as_mut_slice())?,
@@ -129,6 +131,7 @@ fn take_step(
     ensures drafted { (before : List ℕ) → OnOk result
         (IsDrafted before (option_map (λ code. code.now) patient.entry) draft.old →
         IsDrafted before (option_map (λ code. code.now) patient.entry) draft.new) }
+    ensures asked { IfErr result (AsksCode (option_map (λ code. code.now) patient.entry)) }
     ensures quiet { IfErr result IsQuiet }
 {
     let mut made = draft.header.clone()?;
@@ -159,8 +162,9 @@ pub(crate) fn draft_header(
 ) -> Result<Draft, MendFault>
     ensures drafted { IfOk result
         (IsDrafted old.now (option_map (λ code. code.now) patient.entry)) }
-    ensures kept { survey.now.fault ≡ None → IfOk result
-        (λ draft. (draft.steps.items ≡ []) × (draft.added ≡ 0)) }
+    ensures kept { survey.now.fault ≡ None → MatchResult result
+        (λ draft. (draft.steps.items ≡ []) × (draft.added ≡ 0)) IsTrouble }
+    ensures asked { IfErr result (AsksCode (option_map (λ code. code.now) patient.entry)) }
     ensures quiet { IfErr result IsQuiet }
 {
     let mut draft = Draft {

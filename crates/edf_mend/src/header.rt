@@ -1,8 +1,12 @@
 //! The header of a file that is to be mended, as bytes.
 
-ghost use Rattle.std.specs.Prelude.{◌≤◌, length, IfOk};
+ghost use Rattle.std.specs.Prelude.{◌≡◌, ◌≤◌, ◌<◌, ◌+◌, ◌*◌, ℕ, List, Some, length, IfOk, IfErr};
 ghost use Rattle.std.specs.Io.KnownBytes.{Consumes};
+ghost use Rattle.edf_field.specs.Number.{IsNumber};
+ghost use Rattle.edf_header.specs.Fields.{signals_field};
+ghost use Rattle.edf_mend.specs.Answers.{RefusesFor};
 ghost use Rattle.edf_mend.specs.Inside.Faults.{CountsReads};
+ghost use Rattle.edf_mend.specs.Inside.Steps.{EndsInHeader};
 
 use crate::fault::MendFault;
 use edf_field::read_whole;
@@ -12,7 +16,9 @@ use std::alloc::Global;
 
 /// How many signals a header names, or 0 where it names more than a file may have, or none.
 pub(crate) fn signals_named(header: &[u8]) -> usize
-    ensures { result ≤ MOST_SIGNALS }
+    ensures few { result ≤ MOST_SIGNALS }
+    ensures named { 256 ≤ length header.now → (n : ℕ) → IsNumber (signals_field header.now) n →
+        n ≤ MOST_SIGNALS → result ≡ n }
 {
     if header.len() < 256 {
         return 0;
@@ -28,6 +34,11 @@ pub(crate) fn read_header<R: Input>(alloc: Global, input: &mut R) -> Result<Vec<
     ensures read { IfOk result
         (λ header. Consumes (R.remaining input.old) (R.remaining input.new) header.items) }
     ensures long { IfOk result (λ header. 256 ≤ length header.items) }
+    ensures whole { IfOk result (λ header. (n : ℕ) → IsNumber (signals_field header.items) n →
+        n ≤ MOST_SIGNALS → length header.items ≡ 256 + 256 * n) }
+    ensures refused { IfErr result (RefusesFor (EndsInHeader (R.remaining input.old))) }
+    ensures further { (taken : List ℕ) × Consumes (R.remaining input.old) (R.remaining input.new)
+        taken }
     ensures counted { CountsReads (R.failures input.old) (R.failures input.new) result }
 {
     let mut fixed = [0u8; 256];

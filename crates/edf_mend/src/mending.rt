@@ -1,24 +1,26 @@
 //! A mended file, written in a second reading.
 
-ghost use Rattle.std.specs.Prelude.{◌≡◌, ◌≤◌, ◌++◌, [], ℕ, List, Option, None, option_map};
-ghost use Rattle.std.specs.Prelude.{length, IfOk};
-ghost use Rattle.std.specs.Prelude.{IsTrue};
+ghost use Rattle.std.specs.Prelude.{◌≡◌, ◌≤◌, ◌++◌, [], ℕ, List, Option, Some, None, option_map};
+ghost use Rattle.std.specs.Prelude.{length, IfOk, IfErr, IsTrue, All, MatchResult, ⊤};
 ghost use Rattle.std.specs.Io.KnownBytes.{Consumes, Appends, IsAtEnd};
+ghost use Rattle.edf_header.specs.Key.{Key};
+ghost use Rattle.edf_fragment.specs.Fragment.{DataRecord, Spells};
 ghost use Rattle.edf_fragment.specs.Reading.{at_first};
 ghost use Rattle.edf_canonical.specs.Output.{buffered};
-ghost use Rattle.edf_mend.specs.Mended.{IsMended, Mends, TellsNone};
+ghost use Rattle.edf_mend.specs.Answers.{RefusesFor, IsTrouble, AsksCode, GoesOn, Copies};
+ghost use Rattle.edf_mend.specs.Mended.{Mends, TellsNone};
 ghost use Rattle.edf_mend.specs.Clock.{KeepsClock};
 ghost use Rattle.edf_mend.specs.Patient.{KeepsPatient};
 ghost use Rattle.edf_mend.specs.Counts.{CountsCalls};
-ghost use Rattle.edf_mend.specs.Inside.Steps.{IsFitting, IsSent};
+ghost use Rattle.edf_mend.specs.Inside.Steps.{IsFitting, IsSent, HoldsRecords, IsCounted};
 
 use crate::accepting::accept_header;
 use crate::clock::keeps_clock;
 use crate::code::keeps_patient;
-use crate::drafting::draft_header;
+use crate::drafting::{Draft, draft_header};
 use crate::fault::MendFault;
 use crate::header::read_header;
-use crate::ledger::Ledger;
+use crate::ledger::{Ledger, Step};
 use crate::records::{Shape, carry_records, shape_of};
 use crate::rule::Rule;
 use crate::surveying::Survey;
@@ -42,6 +44,11 @@ fn send<R: Input, W: Output>(
     ensures sent { IfOk result (λ told. IsSent fragment.old.header
         (R.remaining input.old) (R.remaining input.new) (W.contents out.old) (W.contents out.new)
         header.now shape.size shape.added told.0 told.1) }
+    ensures welcome { shape.added ≡ 0 → HoldsRecords fragment.old.header (R.remaining input.old) →
+        MatchResult result (λ told. told.1 ≡ 0) IsTrouble }
+    ensures asked { IfErr result (RefusesFor ⊤) }
+    ensures further { GoesOn (R.remaining input.old) (R.remaining input.new)
+        (W.contents out.old) (W.contents out.new) }
     ensures counted { CountsCalls (R.failures input.old) (R.failures input.new)
         (W.failures out.old) (W.failures out.new) result }
 {
@@ -66,6 +73,7 @@ fn keeps_identity(given: Option<&[u8]>, before: &[u8], after: &[u8]) -> bool
     ensures clock { IsTrue result → KeepsClock before.now after.now }
     ensures patient { IsTrue result →
         KeepsPatient (option_map (λ code. code.now) given.entry) before.now after.now }
+    ensures same { 256 ≤ length before.now → after.now ≡ before.now → IsTrue result }
 {
     if before.len() < 256 || after.len() < 256 {
         return false;
@@ -73,10 +81,33 @@ fn keeps_identity(given: Option<&[u8]>, before: &[u8], after: &[u8]) -> bool
     keeps_clock(before, after) && keeps_patient(given, before, after)
 }
 
+/// Whether the header counts its data records, where the rule `count` changed it.
+fn says_count(count: Option<u32>, steps: &[Step]) -> bool
+    ensures counts { IsTrue result → All (IsCounted count) steps.now }
+    ensures none { steps.now ≡ [] → IsTrue result }
+{
+    for step in steps {
+        if step.rule() == Rule::Count && count.is_none() {
+            return false;
+        }
+    }
+    true
+}
+
+/// The same, of an open file and what was drafted.
+fn counts_records(fragment: &OpenFragment, draft: &Draft) -> bool
+    ensures counts { IsTrue result →
+        All (IsCounted fragment.now.header.count) draft.now.steps.items }
+    ensures none { draft.now.steps.items ≡ [] → IsTrue result }
+{
+    says_count(fragment.header().count(), draft.steps.as_slice())
+}
+
 /// Whether so many bytes after the last data record may be left out: none of a file without a
 /// fault.
 fn may_leave(survey: &Survey, left_out: usize) -> bool
-    ensures { IsTrue result → survey.now.fault ≡ None → left_out ≡ 0 }
+    ensures none { IsTrue result → survey.now.fault ≡ None → left_out ≡ 0 }
+    ensures same { left_out ≡ 0 → IsTrue result }
 {
     survey.fault.is_some() || left_out == 0
 }
@@ -93,7 +124,7 @@ fn may_leave(survey: &Survey, left_out: usize) -> bool
 /// `Refused` where the file still has a fault, which is the first; `Code` where a code of the
 /// patient is wanted, and none was given; `Read` where a read failed, `Write` where a write failed
 /// or took none of some bytes, `Memory` where memory ran out. A front of a file may have been
-/// written then.
+/// written then. A file that is a fragment is never refused, and never asked for a code.
 pub fn mend<R: Input, W: Output>(
     alloc: Global,
     input: &mut R,
@@ -106,6 +137,14 @@ pub fn mend<R: Input, W: Output>(
         (W.contents out.old) (W.contents out.new)
         (option_map (λ code. code.now) patient.entry) ledger) }
     ensures unchanged { survey.now.fault ≡ None → IfOk result TellsNone }
+    ensures copied { survey.now.fault ≡ None → IfOk result (λ _. Copies (R.remaining input.old)
+        (R.remaining input.new) (W.contents out.old) (W.contents out.new)) }
+    ensures welcome { (bytes : List ℕ) (key : Key) (records : List DataRecord) →
+        survey.now.fault ≡ None → R.remaining input.old ≡ Some bytes → Spells bytes key records →
+        IfErr result IsTrouble }
+    ensures asked { IfErr result (AsksCode (option_map (λ code. code.now) patient.entry)) }
+    ensures further { GoesOn (R.remaining input.old) (R.remaining input.new)
+        (W.contents out.old) (W.contents out.new) }
     ensures counted { CountsCalls (R.failures input.old) (R.failures input.new)
         (W.failures out.old) (W.failures out.new) result }
 {
@@ -114,6 +153,9 @@ pub fn mend<R: Input, W: Output>(
     let mut fragment = accept_header(alloc, draft.header.as_slice())?;
     if !keeps_identity(patient, old.as_slice(), draft.header.as_slice()) {
         return Err(MendFault::Refused(FragmentFault::Header(HeaderFault::Patient)));
+    }
+    if !counts_records(&fragment, &draft) {
+        return Err(MendFault::Refused(FragmentFault::Header(HeaderFault::Count)));
     }
     let shape = shape_of(fragment.header(), draft.added)?;
     let (records, left_out) = send(

@@ -1,6 +1,7 @@
 //! The rule `patient`: a patient identification of EDF+ (additional specifications).
 
-ghost use Rattle.std.specs.Prelude.{IfErr};
+ghost use Rattle.std.specs.Prelude.{IfErr, option_map};
+ghost use Rattle.edf_mend.specs.Answers.{AsksCode, IsTrouble};
 ghost use Rattle.edf_mend.specs.Inside.Faults.{IsQuiet};
 
 use crate::fault::MendFault;
@@ -30,7 +31,8 @@ fn spelled_otherwise<'a>(
     alloc: Global,
     old: &'a [u8],
 ) -> Result<Option<(Vec<u8>, &'a [u8])>, MendFault>
-    ensures { IfErr result IsQuiet }
+    ensures trouble { IfErr result IsTrouble }
+    ensures quiet { IfErr result IsQuiet }
 {
     let Some((code, rest)) = next_subfield(old) else {
         return Ok(None);
@@ -60,7 +62,8 @@ fn spelled_otherwise<'a>(
 
 /// The front of a field whose code was given, with nothing known of sex and birthdate.
 fn with_given_code(alloc: Global, given: Option<&[u8]>) -> Result<Vec<u8>, MendFault>
-    ensures { IfErr result IsQuiet }
+    ensures asked { IfErr result (AsksCode (option_map (λ code. code.now) given.entry)) }
+    ensures quiet { IfErr result IsQuiet }
 {
     let Some(code) = given else {
         return Err(MendFault::Code);
@@ -73,7 +76,8 @@ fn with_given_code(alloc: Global, given: Option<&[u8]>) -> Result<Vec<u8>, MendF
 
 /// A patient field: code, sex, birthdate, and what else the old one had, or `X` for the name.
 fn patient_text(alloc: Global, old: &[u8], given: Option<&[u8]>) -> Result<Vec<u8>, MendFault>
-    ensures { IfErr result IsQuiet }
+    ensures asked { IfErr result (AsksCode (option_map (λ code. code.now) given.entry)) }
+    ensures quiet { IfErr result IsQuiet }
 {
     let (mut text, rest) = match spelled_otherwise(alloc, old)? {
         Some(found) => found,
@@ -96,7 +100,8 @@ pub(crate) fn mend_patient(
     header: &mut [u8],
     given: Option<&[u8]>,
 ) -> Result<(), MendFault>
-    ensures { IfErr result IsQuiet }
+    ensures asked { IfErr result (AsksCode (option_map (λ code. code.now) given.entry)) }
+    ensures quiet { IfErr result IsQuiet }
 {
     let old = part(header, 8, 80);
     if is_patient(old) {

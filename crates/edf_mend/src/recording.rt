@@ -1,7 +1,8 @@
 //! The rules `recording` and `mended`: a recording identification of EDF+ (additional
 //! specifications), which says that the file was mended.
 
-ghost use Rattle.std.specs.Prelude.{IfErr};
+ghost use Rattle.std.specs.Prelude.{IfErr, ⊤};
+ghost use Rattle.edf_mend.specs.Answers.{RefusesFor};
 ghost use Rattle.edf_mend.specs.Inside.Faults.{IsQuiet};
 
 use crate::fault::MendFault;
@@ -103,7 +104,8 @@ fn recording_text(
 /// the date of the startdate field is added. Codes that it lacks are `X`. What else was there comes
 /// after, as far as the field goes.
 pub(crate) fn mend_recording(alloc: Global, header: &mut [u8]) -> Result<(), MendFault>
-    ensures { IfErr result IsQuiet }
+    ensures asked { IfErr result (RefusesFor ⊤) }
+    ensures quiet { IfErr result IsQuiet }
 {
     let old = part(header, 88, 80);
     if old.len() != 80 || read_recording(old).is_some() {
@@ -140,7 +142,8 @@ fn says_mended(field: &[u8]) -> bool {
 /// # Errors
 /// `Recording` where the first five leave none.
 pub(crate) fn mark_mended(alloc: Global, header: &mut [u8]) -> Result<(), MendFault>
-    ensures { IfErr result IsQuiet }
+    ensures asked { IfErr result (RefusesFor ⊤) }
+    ensures quiet { IfErr result IsQuiet }
 {
     let old = part(header, 88, 80);
     if says_mended(old) {

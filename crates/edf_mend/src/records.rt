@@ -1,20 +1,24 @@
 //! Data records, carried over one after another.
 
-ghost use Rattle.std.specs.Prelude.{◌≡◌, ◌≢◌, ℕ, ◌+◌, ◌<◌, ◌≤◌, ◌++◌, ◌∷◌, [], List, Ok, length};
-ghost use Rattle.std.specs.Prelude.{IfOk, IfErr, IsTrue, MatchResult};
+ghost use Rattle.std.specs.Prelude.{◌≡◌, ◌≢◌, ℕ, ◌+◌, ◌*◌, ◌<◌, ◌≤◌, ◌++◌, ◌∷◌, [], List, Ok, ⊤};
+ghost use Rattle.std.specs.Prelude.{length, IfOk, IfErr, IfSome, IsTrue, MatchResult};
+ghost use Rattle.edf_field.specs.Number.{duration_of};
+ghost use Rattle.std.specs.Io.KnownBytes.{Appends};
 ghost use Rattle.edf_fragment.specs.Fragment.{DataRecord};
 ghost use Rattle.edf_fragment.specs.Reading.{at_first};
 ghost use Rattle.edf_fragment.specs.declared.advance.ReaderState.TheVariants.{Reading};
 ghost use Rattle.edf_canonical.specs.Output.{buffered, IsPutThrough};
 ghost use Rattle.edf_mend.specs.Carried.{IsCarried};
 ghost use Rattle.edf_mend.specs.Counts.{CountsCalls};
+ghost use Rattle.edf_mend.specs.Answers.{RefusesFor, IsTrouble, GoesOn};
 ghost use Rattle.edf_mend.specs.Inside.Steps.{IsAccepted, CarriesOne, CarriedAll, IsFitting};
+ghost use Rattle.edf_mend.specs.Inside.Steps.{IsUnfit, HoldsRecords};
 ghost use Rattle.edf_mend.specs.Inside.Faults.{IsQuiet, CountsWrites};
 
 use crate::accepting::{accept_end, accept_record};
 use crate::fault::MendFault;
 use edf_canonical::{Buffer, put};
-use edf_fragment::{Filled, FragmentFault, Input, OpenFragment, Output, fill};
+use edf_fragment::{Filled, FragmentFault, Input, OpenFragment, Output, Record, fill};
 use edf_header::{Header, HeaderFault, MOST_RECORDS};
 use edf_tal::{TalFault, write_block};
 use edf_time::Instant;
@@ -44,6 +48,7 @@ fn has_block_after(header: &Header, size: usize, added: usize) -> bool
 pub(crate) fn shape_of(header: &Header, added: usize) -> Result<Shape, MendFault>
     ensures fitting { IfOk result (λ shape. IsFitting header.now shape) }
     ensures added { IfOk result (λ shape. shape.added ≡ added) }
+    ensures refused { IfErr result (RefusesFor (0 < added)) }
     ensures quiet { IfErr result IsQuiet }
 {
     let refused = MendFault::Refused(FragmentFault::Header(HeaderFault::Annotations));
@@ -57,9 +62,23 @@ pub(crate) fn shape_of(header: &Header, added: usize) -> Result<Shape, MendFault
 }
 
 /// The start of a data record of a file without gaps, counted from 0.
-fn start_in_turn(header: &Header, nth: u32) -> Option<Instant> {
-    let passed = u64::from(nth).saturating_mul(header.identity().duration());
-    Instant::at(header.start().nanos().saturating_add(passed))
+fn start_in_turn(header: &Header, nth: u32) -> Option<Instant>
+    ensures { IfSome result
+        (λ start. start ≡ header.now.start + nth * duration_of header.now.key.duration) }
+{
+    let passed = u64::from(nth).checked_mul(header.identity().duration())?;
+    Instant::at(header.start().nanos().checked_add(passed)?)
+}
+
+/// The refusal of a data record, counted from 0, which does not start where the one before ends.
+fn out_of_turn(nth: u32) -> MendFault
+    ensures refused { RefusesFor ⊤ result }
+    ensures quiet { IsQuiet result }
+{
+    MendFault::Refused(FragmentFault::Tal {
+        nth: nth.saturating_add(1),
+        fault: TalFault::Window,
+    })
 }
 
 /// The annotations block of a data record of a file without gaps, counted from 0: that it starts
@@ -71,18 +90,15 @@ fn block_in_turn(
     added: usize,
 ) -> Result<Vec<u8>, MendFault>
     ensures size { IfOk result (λ block. length block.items ≡ added) }
+    ensures refused { IfErr result (RefusesFor ⊤) }
     ensures quiet { IfErr result IsQuiet }
 {
-    let refused = MendFault::Refused(FragmentFault::Tal {
-        nth: nth.saturating_add(1),
-        fault: TalFault::Window,
-    });
     let Some(start) = start_in_turn(header, nth) else {
-        return Err(refused);
+        return Err(out_of_turn(nth));
     };
     let mut block = write_block(alloc, start, &[], header.start())?;
     let Some(zeros) = added.checked_sub(block.len()) else {
-        return Err(refused);
+        return Err(out_of_turn(nth));
     };
     let fill = vec![in alloc; 0u8; zeros]?;
     block.extend_from_slice(fill.as_slice())?;
@@ -99,6 +115,7 @@ fn with_block(
 ) -> Result<Vec<u8>, MendFault>
     requires { IsFitting header.now (record { size = length old.now; added = added }) }
     ensures carried { IfOk result (λ new. IsCarried header.now added old.now new.items) }
+    ensures refused { IfErr result (RefusesFor (0 < added)) }
     ensures quiet { IfErr result IsQuiet }
 {
     let mut new = Vec::from_slice(alloc, old)?;
@@ -107,6 +124,29 @@ fn with_block(
         new.extend_from_slice(block.as_slice())?;
     }
     Ok(new)
+}
+
+/// Finds that a data record, counted from 0, to which bytes were added starts where the one before
+/// ends, and has no annotations.
+fn find_in_turn(
+    header: &Header,
+    data_record: &Record,
+    nth: u32,
+    added: usize,
+) -> Result<(), MendFault>
+    ensures in_turn { IfOk result (λ _. 0 < added →
+        (data_record.now.start ≡ header.now.start + nth * duration_of header.now.key.duration)
+        × (data_record.now.annotations ≡ [])) }
+    ensures refused { IfErr result (RefusesFor (0 < added)) }
+    ensures quiet { IfErr result IsQuiet }
+{
+    if added == 0 {
+        return Ok(());
+    }
+    match start_in_turn(header, nth) {
+        Some(start) if data_record.start() == start && data_record.notes().is_empty() => Ok(()),
+        _ => Err(out_of_turn(nth)),
+    }
 }
 
 /// Carries a data record over: it is accepted, and put.
@@ -125,11 +165,16 @@ fn carry_record<W: Output>(
     ensures header { fragment.new.header ≡ fragment.old.header }
     ensures carried { IfOk result (λ _. CarriesOne fragment.old.header fragment.old.progress
         fragment.new.progress (buffered W.Output out.old held.old.bytes.items)
-        (buffered W.Output out.new held.new.bytes.items) added old.now) }
+        (buffered W.Output out.new held.new.bytes.items) nth added old.now) }
+    ensures refused { added ≡ 0 → IfErr result
+        (RefusesFor (IsUnfit fragment.old.header fragment.old.progress old.now)) }
+    ensures asked { IfErr result (RefusesFor ⊤) }
+    ensures grown { (written : List ℕ) × Appends (W.contents out.old) (W.contents out.new) written }
     ensures counted { CountsWrites (W.failures out.old) (W.failures out.new) result }
 {
     let new = with_block(alloc, fragment.header(), old, nth, added)?;
-    accept_record(fragment, new.as_slice())?;
+    let accepted = accept_record(fragment, new.as_slice())?;
+    find_in_turn(fragment.header(), &accepted, nth, added)?;
     put(out, held, new.as_slice())?;
     Ok(())
 }
@@ -152,6 +197,11 @@ pub(crate) fn carry_records<R: Input, W: Output>(
         (R.remaining input.old) (R.remaining input.new)
         (buffered W.Output out.old held.old.bytes.items)
         (buffered W.Output out.new held.new.bytes.items) shape.size shape.added told.0 told.1) }
+    ensures welcome { shape.added ≡ 0 → HoldsRecords fragment.old.header (R.remaining input.old) →
+        MatchResult result (λ told. told.1 ≡ 0) IsTrouble }
+    ensures asked { IfErr result (RefusesFor ⊤) }
+    ensures further { GoesOn (R.remaining input.old) (R.remaining input.new)
+        (W.contents out.old) (W.contents out.new) }
     ensures counted { CountsCalls (R.failures input.old) (R.failures input.new)
         (W.failures out.old) (W.failures out.new) result }
 {

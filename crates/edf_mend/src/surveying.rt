@@ -1,12 +1,13 @@
 //! The first reading of a file.
 
-ghost use Rattle.std.specs.Prelude.{◌≡◌, ℕ, List, Option, None, MatchOption, IfOk};
+ghost use Rattle.std.specs.Prelude.{◌≡◌, ℕ, List, Option, None, MatchOption, IfOk, IfErr};
 ghost use Rattle.edf_header.specs.Header.{Layout};
 ghost use Rattle.edf_fragment.specs.Fragment.{DataRecord};
 ghost use Rattle.edf_fragment.specs.Reading.{at_first};
 ghost use Rattle.edf_fragment.specs.Whole.{ReadsFragment, IsFragmentFault, FailsAfterRecords};
 ghost use Rattle.edf_fragment.specs.Call.{ReadsInput, ValueOr, input_state};
 ghost use Rattle.edf_fragment.specs.Inside.Steps.{ReadsRecords};
+ghost use Rattle.edf_mend.specs.Answers.{IsTrouble};
 ghost use Rattle.edf_mend.specs.Mended.{SurveysAs};
 
 use crate::fault::MendFault;
@@ -19,7 +20,7 @@ use std::io;
 pub struct Survey {
     /// The first fault of the bytes, or none where they spell a fragment.
     pub fault: Option<FragmentFault>,
-    /// How many bytes the file has; 0 where it has no fault.
+    /// How many bytes the file has.
     pub bytes: u64,
 }
 
@@ -82,7 +83,9 @@ fn read_all<R: Input>(alloc: Global, input: &mut R) -> Result<(), FragmentFault>
 }
 
 /// Reads on to the end, through a buffer.
-fn read_to_end<R: Input>(alloc: Global, input: &mut R) -> Result<(), MendFault> {
+fn read_to_end<R: Input>(alloc: Global, input: &mut R) -> Result<(), MendFault>
+    ensures { IfErr result IsTrouble }
+{
     let mut buf = vec![in alloc; 0u8; 65_536]?;
     for _ in 0..u64::MAX {
         match input.read(buf.as_mut_slice()) {
@@ -100,7 +103,8 @@ fn read_to_end<R: Input>(alloc: Global, input: &mut R) -> Result<(), MendFault> 
 /// # Errors
 /// `Read` where a read failed, `Memory` where memory ran out.
 pub fn survey_file<R: Input + Drop>(alloc: Global, input: R) -> Result<Survey, MendFault>
-    ensures { IfOk result (λ survey. SurveysAs (R.remaining input) survey.fault) }
+    ensures surveyed { IfOk result (λ survey. SurveysAs (R.remaining input) survey.fault) }
+    ensures trouble { IfErr result IsTrouble }
 {
     let mut tallied = Tallied { input, bytes: 0 };
     let fault = match read_all(alloc, &mut tallied) {

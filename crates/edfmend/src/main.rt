@@ -4,26 +4,23 @@
 
 mod new_file;
 
-use edf_fragment::Counted;
+use edf_fragment::Output;
 use edf_program::Status;
-use edf_system::{Files, Streams, Terminal, refuse_words, words};
+use edf_system::{Files, NewFiles, Program, Streams, Terminal, run_program};
 use edfmend_command::{MendCommand, read_command, run_mend};
-use new_file::NewFiles;
+use new_file::MendedFiles;
+use std::alloc::Global;
 use std::process::ExitCode;
 
-/// The command that words ask for, or the status where there is none.
-fn command_of(rt: &HostRuntime, words: &[String]) -> Result<MendCommand, Status> {
-    let mut out = Counted::new(rt.stdout());
-    let mut err = Counted::new(rt.stderr());
-    read_command(rt.alloc(), words, &mut out, &mut err)
-}
+/// How often a file is read.
+const READINGS: usize = 2;
 
 /// Runs a command over the system's files and streams.
 fn run_over(
     rt: &HostRuntime,
     command: &MendCommand,
     inputs: &mut Files<'_>,
-    maker: &mut NewFiles<'_>,
+    maker: &mut MendedFiles<'_>,
     streams: &mut Streams<'_>,
 ) -> Status {
     run_mend(
@@ -36,29 +33,32 @@ fn run_over(
     )
 }
 
-/// Does what the command asks for, and shows a person how much of its file was read.
-fn run_command(rt: &HostRuntime, command: &MendCommand) -> Status {
-    let terminal = Terminal::new(rt, "reading", 2);
-    let mut streams = Streams::new(rt, &terminal);
-    let mut inputs = Files::new(rt, &terminal);
-    let mut maker = NewFiles::new(rt, &terminal);
-    let status = run_over(rt, command, &mut inputs, &mut maker, &mut streams);
-    terminal.wipe_progress();
-    status
-}
+/// The program.
+struct Edfmend;
 
-/// Does what the words after the program's name ask for, and answers how it went.
-fn run_words(rt: &HostRuntime, words: &[String]) -> Status {
-    match command_of(rt, words) {
-        Ok(command) => run_command(rt, &command),
-        Err(status) => status,
+impl Program for Edfmend {
+    type Command = MendCommand;
+
+    fn read<O: Output, F: Output>(
+        alloc: Global,
+        words: &[String],
+        out: &mut O,
+        err: &mut F,
+    ) -> Result<MendCommand, Status> {
+        read_command(alloc, words, out, err)
+    }
+
+    fn run(rt: &HostRuntime, command: &MendCommand) -> Status {
+        let terminal = Terminal::new(rt, "reading", READINGS);
+        let mut streams = Streams::new(rt, &terminal);
+        let mut inputs = Files::new(rt, &terminal);
+        let mut maker = MendedFiles::new(NewFiles::new(rt, &terminal));
+        let status = run_over(rt, command, &mut inputs, &mut maker, &mut streams);
+        terminal.wipe_progress();
+        status
     }
 }
 
 fn main(rt: HostRuntime) -> ExitCode {
-    let status = match words(&rt) {
-        Ok(words) => run_words(&rt, words.as_slice()),
-        Err(error) => refuse_words(&rt, &error),
-    };
-    ExitCode::from(status.code())
+    run_program::<Edfmend>(&rt)
 }

@@ -13,16 +13,17 @@ pub trait Maker {
     /// it out.
     fn is_there(&mut self, name: &str) -> bool;
 
-    /// A writer of a new, empty file of that name.
+    /// A writer of a new, empty file, which gets that name once it is whole.
     ///
     /// # Errors
-    /// Where no file of that name could be made, or there was one. What was there is as it was.
+    /// Where no file could be made, or there was one of that name or its other one. What was there
+    /// is as it was.
     fn create(&mut self, alloc: Global, name: &str) -> io::Result<Self::Writer>;
 
     /// Ends a file, all of which was written: it is on the disk, and then gets its name, where
     /// there is none of that name. Whether it has it.
-    fn finish(&mut self, writer: Self::Writer, part: &str, name: &str) -> bool;
+    fn finish(&mut self, writer: Self::Writer) -> bool;
 
-    /// Removes a file that was made here. Whether it is gone.
+    /// Removes a file that was begun here, whole or not. Whether it is gone.
     fn remove(&mut self, name: &str) -> bool;
 }

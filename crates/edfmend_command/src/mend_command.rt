@@ -5,8 +5,8 @@ use crate::maker::Maker;
 use crate::refusal::refuse;
 use edf_fragment::{Counted, Output};
 use edf_mend::{Ledger, MendFault, Rule, Survey, mend, survey_file};
-use edf_program::{Inputs, Status, tell_memory, tell_parts};
-use std::alloc::{AllocError, Global};
+use edf_program::{Inputs, Status, tell_parts};
+use std::alloc::Global;
 use std::io;
 
 /// What a command line of `edfmend` asks for.
@@ -70,29 +70,23 @@ fn mend_nowhere<I: Inputs>(
     mend_into(alloc, command, &survey, inputs, &mut nowhere)
 }
 
-/// The name of a file that is not whole yet.
-fn part_name(alloc: Global, name: &str) -> Result<String, AllocError> {
-    format!(in alloc; "{name}.part")
-}
-
 /// Both readings, with the mended file written and named. `is_made` tells whether a part of it was
 /// made, which is there after an error.
 fn make_file<I: Inputs, M: Maker>(
     alloc: Global,
     command: &MendCommand,
     name: &str,
-    part: &str,
     inputs: &mut I,
     maker: &mut M,
     is_made: &mut bool,
 ) -> Result<Ledger, MendFault> {
     let survey = survey_of(alloc, command, inputs)?;
-    let Ok(mut writer) = maker.create(alloc, part) else {
+    let Ok(mut writer) = maker.create(alloc, name) else {
         return Err(MendFault::Write);
     };
     *is_made = true;
     let ledger = mend_into(alloc, command, &survey, inputs, &mut writer)?;
-    if !maker.finish(writer, part, name) {
+    if !maker.finish(writer) {
         return Err(MendFault::Write);
     }
     *is_made = false;
@@ -129,22 +123,11 @@ fn mend_to<I: Inputs, M: Maker, O: Output, F: Output>(
         let parts = [name.as_bytes(), b" is there already; nothing was written\n"];
         return tell_parts(err, &parts, Status::Refused);
     }
-    let Ok(part) = part_name(alloc, name) else {
-        return tell_memory(err, file);
-    };
     let mut is_made = false;
-    let answer = make_file(
-        alloc,
-        command,
-        name,
-        part.as_str(),
-        inputs,
-        maker,
-        &mut is_made,
-    );
+    let answer = make_file(alloc, command, name, inputs, maker, &mut is_made);
     let status = tell_answer(alloc, file, answer, out, err);
-    if is_made && !maker.remove(part.as_str()) {
-        let parts = [part.as_bytes(), b" could not be removed\n".as_slice()];
+    if is_made && !maker.remove(name) {
+        let parts = [name.as_bytes(), b".part could not be removed\n"];
         return tell_parts(err, &parts, Status::Trouble);
     }
     status

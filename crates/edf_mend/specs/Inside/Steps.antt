@@ -1,9 +1,13 @@
 -- Words of private contracts.
-use Rattle.std.specs.Prelude.{◌≡◌, ℕ, ◌+◌, ◌≤◌, ◌<◌, List, [], ◌++◌, length, All, Option, ◌∷◌}
+use Rattle.std.specs.Prelude.{◌≡◌, ◌≢◌, ℕ, ◌+◌, ◌*◌, ◌≤◌, ◌<◌, List, [], ◌∷◌, ◌++◌, length, All}
+use Rattle.std.specs.Prelude.{Option, Some, None}
 use Rattle.std.specs.List.{AllZip}
 use Rattle.std.specs.Io.KnownBytes.{Consumes, Appends, IsAtEnd}
-use Rattle.edf_header.specs.Header.{HeaderRecord, IsHeader, Layout, layout_of, least_records}
-use Rattle.edf_header.specs.Header.{most_records}
+use Rattle.edf_field.specs.Number.{IsNumber, duration_of}
+use Rattle.edf_header.specs.Fields.{signals_field}
+use Rattle.edf_header.specs.Header.{HeaderRecord, IsHeader, Layout, IsLayout, layout_of}
+use Rattle.edf_header.specs.Header.{least_records, most_records}
+use Rattle.edf_header.specs.declared.limits.TheConstants.{MOST_RECORDS, MOST_SIGNALS}
 use Rattle.edf_tal.specs.declared.place.Place.{Place}
 use Rattle.edf_tal.specs.declared.place.Place.TheVariants.{First}
 use Rattle.edf_fragment.specs.Fragment.{DataRecord, AreDataRecords, IsDataRecord, place_after}
@@ -13,11 +17,17 @@ use Rattle.edf_fragment.specs.declared.advance.ReaderState.TheVariants.{Reading}
 use Rattle.edf_fragment.specs.declared.open_fragment.OpenFragment.{OpenFragment}
 use Rattle.edf_canonical.specs.Output.{Buffered, Writes}
 use Rattle.edf_mend.specs.Carried.{IsCarried}
-use Rattle.edf_mend.specs.Mended.{joined}
+use Rattle.edf_mend.specs.Mended.{joined, FollowInTurn}
 use Rattle.edf_mend.specs.declared.records.Shape.{Shape}
 use Rattle.edf_mend.specs.declared.drafting.Draft.{Draft}
-use Rattle.edf_mend.specs.Edits.{AreMendedBy}
+use Rattle.edf_mend.specs.Edits.{RuleEdits, AreMendedBy}
+use Rattle.edf_mend.specs.declared.rule.Rule.TheVariants.{Count}
 use Rattle.edf_mend.specs.Patient.{IsHonest}
+
+-- the input ends before the last byte of a header with so many signals as it names
+abbrev pub EndsInHeader : Option (List ℕ) → Type 0
+EndsInHeader left = (bytes : List ℕ) → left ≡ Some bytes → (n : ℕ) →
+    IsNumber (signals_field bytes) n → n ≤ MOST_SIGNALS → length bytes < 256 + 256 * n
 
 -- the header of an open fragment is just these bytes, and no data record was read
 pub record IsOpened (bytes : List ℕ) (o : OpenFragment) : Type 0 where
@@ -35,6 +45,32 @@ pub record IsAccepted (l : Layout) (from to : Progress) (bytes : List ℕ) (r : 
     pub given : to.given ≡ from.given + 1
     pub state : to.state ≡ Reading
 
+-- no data record that is these bytes may come there
+abbrev pub IsUnfit : Layout → Progress → List ℕ → Type 0
+IsUnfit l p bytes = p.given < most_records l.count → (r : DataRecord) →
+    IsDataRecord l p.place bytes r → ⊥
+
+-- the input is the data records that go with a header, and nothing else
+pub record HoldsRecords (l : Layout) (left : Option (List ℕ)) : Type 0 where
+  pub bytes : List ℕ
+  pub records : List DataRecord
+  pub last : Place
+  pub left_is : left ≡ Some bytes
+  pub layout : IsLayout l
+  pub are_records : AreDataRecords l First bytes records last []
+  pub least : least_records l.count ≤ length records
+  pub most : length records ≤ most_records l.count
+  pub few : length records ≤ MOST_RECORDS
+
+-- these data records were read and carried over as these bytes
+pub record CarriesRecords (l : Layout) (size added : ℕ) (olds news : List (List ℕ))
+    (records : List DataRecord) (last : Place) : Type 0 where
+  pub are_records : AreDataRecords l First (joined news) records last []
+  pub in_turn : 0 < added → FollowInTurn l records
+  pub carried : AllZip (IsCarried l added) olds news
+  pub sizes : All (λ r. length r ≡ size) olds
+  pub counted : length olds ≡ length records
+
 -- these data records were read, carried over, accepted and put
 pub record CarriedSoFar (l : Layout) (p : Progress) (left rest : Option (List ℕ))
     (before after : Buffered) (size added count : ℕ) : Type 0 where
@@ -43,17 +79,16 @@ pub record CarriedSoFar (l : Layout) (p : Progress) (left rest : Option (List �
   pub records : List DataRecord
   pub read : Consumes left rest (joined olds)
   pub put : Writes before after (joined news) after.held
-  pub are_records : AreDataRecords l First (joined news) records p.place []
+  pub carries : CarriesRecords l size added olds news records p.place
   pub given : p.given ≡ length records
   pub within : p.given ≤ most_records l.count
   pub state : p.state ≡ Reading
-  pub carried : AllZip (IsCarried l added) olds news
-  pub sizes : All (λ r. length r ≡ size) olds
-  pub counted : count ≡ length olds
+  pub counted : count ≡ length records
 
--- the last one was read, no more must come, and a piece of less than one is left
-pub record CarriedAll (l : Layout) (left rest : Option (List ℕ)) (before after : Buffered)
-    (size added count left_out : ℕ) : Type 0 where
+-- all that an input has were read and carried over as these bytes, no more must come, and a piece of
+-- less than one is left
+pub record CarriesAll (l : Layout) (left rest : Option (List ℕ)) (size added count left_out : ℕ)
+    (bytes : List ℕ) : Type 0 where
   pub olds : List (List ℕ)
   pub news : List (List ℕ)
   pub records : List DataRecord
@@ -61,15 +96,27 @@ pub record CarriedAll (l : Layout) (left rest : Option (List ℕ)) (before after
   pub piece : List ℕ
   pub read : Consumes left rest (joined olds ++ piece)
   pub end : IsAtEnd rest
-  pub put : Writes before after (joined news) after.held
-  pub are_records : AreDataRecords l First (joined news) records last []
+  pub carries : CarriesRecords l size added olds news records last
+  pub bytes_are : bytes ≡ joined news
   pub least : least_records l.count ≤ length records
   pub most : length records ≤ most_records l.count
-  pub carried : AllZip (IsCarried l added) olds news
-  pub sizes : All (λ r. length r ≡ size) olds
-  pub counted : count ≡ length olds
+  pub counted : count ≡ length records
   pub cut : length piece < size
   pub left_out_is : left_out ≡ length piece
+
+-- and were put
+pub record CarriedAll (l : Layout) (left rest : Option (List ℕ)) (before after : Buffered)
+    (size added count left_out : ℕ) : Type 0 where
+  pub bytes : List ℕ
+  pub all : CarriesAll l left rest size added count left_out bytes
+  pub put : Writes before after bytes after.held
+
+-- and were written after a header
+pub record IsSent (l : Layout) (left rest before after : Option (List ℕ)) (header : List ℕ)
+    (size added count left_out : ℕ) : Type 0 where
+  pub bytes : List ℕ
+  pub all : CarriesAll l left rest size added count left_out bytes
+  pub wrote : Appends before after (header ++ bytes)
 
 -- the data records of this layout have the shape: so many bytes before, and those that are added;
 -- and where some are added, they are the one annotations block
@@ -77,36 +124,23 @@ pub record IsFitting (l : Layout) (shape : Shape) : Type 0 where
   pub size : shape.size + shape.added ≡ l.record_bytes
   pub block : 0 < shape.added → l.blocks ≡ record { at = shape.size; bytes = shape.added } ∷ []
 
--- a data record was carried over, accepted and put
-pub record CarriesOne (l : Layout) (from to : Progress) (before after : Buffered) (added : ℕ)
+-- a data record was carried over, accepted and put; where it got a block, it starts so many
+-- durations after the header's start, and has no annotations
+pub record CarriesOne (l : Layout) (from to : Progress) (before after : Buffered) (nth added : ℕ)
     (old : List ℕ) : Type 0 where
   pub new : List ℕ
   pub r : DataRecord
   pub carried : IsCarried l added old new
   pub accepted : IsAccepted l from to new r
+  pub in_turn : 0 < added → (r.start ≡ l.start + nth * duration_of l.key.duration)
+      × (r.annotations ≡ [])
   pub put : Writes before after new after.held
-
--- a header was written, and the data records after it, which are the last of the input
-pub record IsSent (l : Layout) (left rest before after : Option (List ℕ)) (header : List ℕ)
-    (size added count left_out : ℕ) : Type 0 where
-  pub olds : List (List ℕ)
-  pub news : List (List ℕ)
-  pub records : List DataRecord
-  pub last : Place
-  pub piece : List ℕ
-  pub read : Consumes left rest (joined olds ++ piece)
-  pub end : IsAtEnd rest
-  pub wrote : Appends before after (header ++ joined news)
-  pub are_records : AreDataRecords l First (joined news) records last []
-  pub least : least_records l.count ≤ length records
-  pub most : length records ≤ most_records l.count
-  pub carried : AllZip (IsCarried l added) olds news
-  pub sizes : All (λ r. length r ≡ size) olds
-  pub counted : count ≡ length olds
-  pub cut : length piece < size
-  pub left_out_is : left_out ≡ length piece
 
 -- the steps lead from the header before to that of the draft, and make no code up
 pub record IsDrafted (before : List ℕ) (given : Option (List ℕ)) (draft : Draft) : Type 0 where
   pub steps : AreMendedBy before draft.steps.items draft.header.items
   pub honest : All (IsHonest given) draft.steps.items
+
+-- a step of the rule `count` leaves a header that counts its data records
+abbrev pub IsCounted : Option ℕ → RuleEdits → Type 0
+IsCounted count step = step.rule ≡ Count → count ≢ None

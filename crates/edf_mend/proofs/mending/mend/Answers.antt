@@ -1,9 +1,13 @@
-use Rattle.std.proofs.Common.{rules, ◌≡◌, ℕ, List, refl, subst, option_map}
+use Rattle.std.proofs.Common.{rules, ◌≡◌, ◌<◌, ◌∙◌, ℕ, List, [], refl, sym, subst, arith, option_map}
 use Rattle.std.proofs.lemmas.Result.{err_from_is_err_and}
 use Rattle.edf_mend.specs.Clock.{KeepsClock}
 use Rattle.edf_mend.specs.Patient.{KeepsPatient}
 use Rattle.edf_mend.specs.Counts.{CountsFault}
-use Rattle.edf_mend.specs.Inside.Steps.{IsDrafted, IsOpened, IsSent, IsFitting}
+use Rattle.edf_mend.specs.Inside.Steps.{IsDrafted, IsOpened, IsSent, IsFitting, EndsInHeader}
+use Rattle.edf_header.specs.Header.{IsHeader}
+use Rattle.edf_mend.proofs.Accepted.{refuses-then, refuses-some, asks-none, NoHeader}
+use Rattle.edf_mend.proofs.Further.{further-then, reads-on}
+use Rattle.edf_mend.proofs.Good.{not-in-header, good-header, good-opened, drafted-none, copies}
 use Rattle.edf_mend.proofs.Parts.{mends}
 use Rattle.edf_mend.proofs.mending.mend.Goals as goal
 
@@ -55,6 +59,7 @@ returns-clause-mended g c =
     subst (λ (x : List ℕ). KeepsPatient given x new) before_is
     (subst (λ (x : List ℕ). KeepsPatient given before x) after_is
     (c.keeps_identity.ensures.patient (search rules))) in
+    let counts = c.counts_records.ensures.counts (search rules) in
     let fits : IsFitting o.header c.in_ok-shape.shape = search rules in
     let added : c.in_ok-shape.shape.added ≡ draft.added = search rules in
     let sent : IsSent o.header (g.R.Input.remaining c.read_header.new.input)
@@ -64,4 +69,151 @@ returns-clause-mended g c =
     mends (g.R.Input.remaining c.args.input.now) (g.R.Input.remaining c.read_header.new.input)
     (g.R.Input.remaining c.send.new.input) (g.W.Output.contents c.args.out.now)
     (g.W.Output.contents c.send.new.out) given _ old new draft o c.in_ok-shape.shape refl
-    c.in_ok-old.ensures.read drafted opened clock patient fits added sent refl refl
+    c.in_ok-old.ensures.read drafted opened clock patient fits added counts sent refl refl
+
+pub returns-clause-copied : goal.returns-clause-copied
+returns-clause-copied g c none =
+    let kept = c.in_ok-draft.ensures.kept none in
+    copies (g.R.Input.remaining c.args.input.now) (g.R.Input.remaining c.send.new.input)
+    (g.W.Output.contents c.args.out.now) (g.W.Output.contents c.send.new.out)
+    (option_map (λ code. code.now) c.args.patient) _ (returns-clause-mended g c)
+    (record { header = kept.0; added = kept.1; left_out = search rules })
+
+pub returns-in_err-old-clause-welcome : goal.returns-in_err-old-clause-welcome
+returns-in_err-old-clause-welcome g c bytes key records none left_is spells =
+    let p = err_from_is_err_and c.from_residual.result c.from_residual.ensures.1 in
+    rw (p.1, p.2) (refuses-then (EndsInHeader (g.R.Input.remaining c.args.input.now)) ⊥
+    c.in_err-old.field-0.0 (not-in-header bytes spells.rest spells.header
+    (g.R.Input.remaining c.args.input.now) left_is spells.is_header) c.in_err-old.ensures.refused)
+
+pub returns-in_err-draft-clause-welcome : goal.returns-in_err-draft-clause-welcome
+returns-in_err-draft-clause-welcome g c bytes key records none left_is spells =
+    let p = err_from_is_err_and c.from_residual-in_err-draft.result
+    c.from_residual-in_err-draft.ensures.1 in
+    rw (p.1, p.2) (c.in_err-draft.ensures.kept none)
+
+pub returns-in_err-fragment-clause-welcome : goal.returns-in_err-fragment-clause-welcome
+returns-in_err-fragment-clause-welcome g c bytes key records none left_is spells =
+    let p = err_from_is_err_and c.from_residual-in_err-fragment.result
+    c.from_residual-in_err-fragment.ensures.1 in
+    let given = option_map (λ code. code.now) c.args.patient in
+    let old = c.in_ok-old.old.items in
+    let draft = c.in_ok-draft.draft in
+    let drafted : IsDrafted old given draft = search rules in
+    let slice : c.as_slice-2.result.now ≡ draft.header.items = search rules in
+    let same = slice ∙ drafted-none old given draft drafted (c.in_ok-draft.ensures.kept none).0 in
+    let good = good-header (g.R.Input.remaining c.args.input.now)
+    (g.R.Input.remaining c.read_header.new.input) bytes key records old left_is spells
+    c.in_ok-old.ensures.read c.in_ok-old.ensures.long c.in_ok-old.ensures.whole in
+    rw (p.1, p.2) (refuses-then (NoHeader c.as_slice-2.result.now) ⊥ c.in_err-fragment.field-0.0
+    (λ no. no good.header (subst (λ (x : List ℕ). IsHeader x good.header []) (sym same)
+    good.is_header)) c.in_err-fragment.ensures.refused)
+
+pub returns-in_err-shape-clause-welcome : goal.returns-in_err-shape-clause-welcome
+returns-in_err-shape-clause-welcome g c bytes key records none left_is spells =
+    let p = err_from_is_err_and c.from_residual-in_err-shape.result
+    c.from_residual-in_err-shape.ensures.1 in
+    rw (p.1, p.2) (refuses-then (0 < c.in_ok-draft.draft.added) ⊥ c.in_err-shape.field-0.0
+    (λ some. omega (arith, some, (c.in_ok-draft.ensures.kept none).1)) c.in_err-shape.ensures.refused)
+
+pub returns-in_err-records-clause-welcome : goal.returns-in_err-records-clause-welcome
+returns-in_err-records-clause-welcome g c bytes key records none left_is spells =
+    let p = err_from_is_err_and c.from_residual-in_err-records.result
+    c.from_residual-in_err-records.ensures.1 in
+    let given = option_map (λ code. code.now) c.args.patient in
+    let old = c.in_ok-old.old.items in
+    let draft = c.in_ok-draft.draft in
+    let drafted : IsDrafted old given draft = search rules in
+    let same = drafted-none old given draft drafted (c.in_ok-draft.ensures.kept none).0 in
+    let good = good-header (g.R.Input.remaining c.args.input.now)
+    (g.R.Input.remaining c.read_header.new.input) bytes key records old left_is spells
+    c.in_ok-old.ensures.read c.in_ok-old.ensures.long c.in_ok-old.ensures.whole in
+    let opened : IsOpened draft.header.items c.in_ok-fragment.fragment = search rules in
+    let holds = good-opened old (g.R.Input.remaining c.read_header.new.input)
+    c.in_ok-fragment.fragment good
+    (subst (λ (x : List ℕ). IsOpened x c.in_ok-fragment.fragment) same opened) in
+    rw (p.1, p.2) (c.in_err-records.ensures.welcome (c.in_ok-shape.ensures.added
+    ∙ (c.in_ok-draft.ensures.kept none).1) holds)
+
+pub returns-in_err-records-clause-further : goal.returns-in_err-records-clause-further
+returns-in_err-records-clause-further g c =
+    further-then (g.R.Input.remaining c.args.input.now)
+    (g.R.Input.remaining c.read_header.new.input) (g.R.Input.remaining c.send.new.input)
+    (g.W.Output.contents c.args.out.now) (g.W.Output.contents c.args.out.now)
+    (g.W.Output.contents c.send.new.out) (reads-on (g.R.Input.remaining c.args.input.now)
+    (g.R.Input.remaining c.read_header.new.input) (g.W.Output.contents c.args.out.now)
+    c.in_ok-old.old.items c.in_ok-old.ensures.read) c.in_err-records.ensures.further
+
+pub returns-then-not-keeps_identity-clause-further :
+    goal.returns-then-not-keeps_identity-clause-further
+returns-then-not-keeps_identity-clause-further g c =
+    reads-on (g.R.Input.remaining c.args.input.now) (g.R.Input.remaining c.read_header.new.input)
+    (g.W.Output.contents c.args.out.now) c.in_ok-old.old.items c.in_ok-old.ensures.read
+
+pub returns-then-not-counts_records-clause-further :
+    goal.returns-then-not-counts_records-clause-further
+returns-then-not-counts_records-clause-further g c =
+    reads-on (g.R.Input.remaining c.args.input.now) (g.R.Input.remaining c.read_header.new.input)
+    (g.W.Output.contents c.args.out.now) c.in_ok-old.old.items c.in_ok-old.ensures.read
+
+pub returns-in_err-shape-clause-further : goal.returns-in_err-shape-clause-further
+returns-in_err-shape-clause-further g c =
+    reads-on (g.R.Input.remaining c.args.input.now) (g.R.Input.remaining c.read_header.new.input)
+    (g.W.Output.contents c.args.out.now) c.in_ok-old.old.items c.in_ok-old.ensures.read
+
+pub returns-then-not-may_leave-clause-further : goal.returns-then-not-may_leave-clause-further
+returns-then-not-may_leave-clause-further g c =
+    further-then (g.R.Input.remaining c.args.input.now)
+    (g.R.Input.remaining c.read_header.new.input) (g.R.Input.remaining c.send.new.input)
+    (g.W.Output.contents c.args.out.now) (g.W.Output.contents c.args.out.now)
+    (g.W.Output.contents c.send.new.out) (reads-on (g.R.Input.remaining c.args.input.now)
+    (g.R.Input.remaining c.read_header.new.input) (g.W.Output.contents c.args.out.now)
+    c.in_ok-old.old.items c.in_ok-old.ensures.read) c.in_ok-records.ensures.further
+
+pub returns-clause-further : goal.returns-clause-further
+returns-clause-further g c =
+    further-then (g.R.Input.remaining c.args.input.now)
+    (g.R.Input.remaining c.read_header.new.input) (g.R.Input.remaining c.send.new.input)
+    (g.W.Output.contents c.args.out.now) (g.W.Output.contents c.args.out.now)
+    (g.W.Output.contents c.send.new.out) (reads-on (g.R.Input.remaining c.args.input.now)
+    (g.R.Input.remaining c.read_header.new.input) (g.W.Output.contents c.args.out.now)
+    c.in_ok-old.old.items c.in_ok-old.ensures.read) c.in_ok-records.ensures.further
+
+pub returns-clause-unchanged : goal.returns-clause-unchanged
+returns-clause-unchanged g c none =
+    let kept = c.in_ok-draft.ensures.kept none in
+    record { header = kept.0; added = kept.1; left_out = search rules }
+
+pub returns-in_err-shape-clause-asked : goal.returns-in_err-shape-clause-asked
+returns-in_err-shape-clause-asked g c =
+    let p = err_from_is_err_and c.from_residual-in_err-shape.result
+    c.from_residual-in_err-shape.ensures.1 in
+    rw (p.1, p.2) (asks-none (option_map (λ code. code.now) c.args.patient)
+    c.in_err-shape.field-0.0 (refuses-some (0 < c.in_ok-draft.draft.added)
+    c.in_err-shape.field-0.0 c.in_err-shape.ensures.refused))
+
+pub returns-in_err-records-clause-asked : goal.returns-in_err-records-clause-asked
+returns-in_err-records-clause-asked g c =
+    let p = err_from_is_err_and c.from_residual-in_err-records.result
+    c.from_residual-in_err-records.ensures.1 in
+    rw (p.1, p.2) (asks-none (option_map (λ code. code.now) c.args.patient)
+    c.in_err-records.field-0.0 c.in_err-records.ensures.asked)
+
+pub returns-then-not-may_leave-clause-welcome : goal.returns-then-not-may_leave-clause-welcome
+returns-then-not-may_leave-clause-welcome g c bytes key records none left_is spells =
+    let given = option_map (λ code. code.now) c.args.patient in
+    let old = c.in_ok-old.old.items in
+    let draft = c.in_ok-draft.draft in
+    let drafted : IsDrafted old given draft = search rules in
+    let same = drafted-none old given draft drafted (c.in_ok-draft.ensures.kept none).0 in
+    let good = good-header (g.R.Input.remaining c.args.input.now)
+    (g.R.Input.remaining c.read_header.new.input) bytes key records old left_is spells
+    c.in_ok-old.ensures.read c.in_ok-old.ensures.long c.in_ok-old.ensures.whole in
+    let opened : IsOpened draft.header.items c.in_ok-fragment.fragment = search rules in
+    let holds = good-opened old (g.R.Input.remaining c.read_header.new.input)
+    c.in_ok-fragment.fragment good
+    (subst (λ (x : List ℕ). IsOpened x c.in_ok-fragment.fragment) same opened) in
+    let all = c.in_ok-records.ensures.welcome (c.in_ok-shape.ensures.added
+    ∙ (c.in_ok-draft.ensures.kept none).1) holds in
+    let may = c.may_leave.ensures.same all in
+    search (rules, may)

@@ -1,0 +1,27 @@
+% Writes a file of two signals by the biosig package of Octave.
+addpath(genpath('/usr/share/octave/site/m/biosig'));
+rate = 64; seconds = 8; t = (0:rate * seconds - 1)' / rate;
+HDR.TYPE = 'EDF';
+HDR.VERSION = 0;
+HDR.FileName = 'octave.edf';
+HDR.NS = 2;
+HDR.SampleRate = rate;
+HDR.SPR = rate;
+HDR.Dur = 1;
+HDR.NRec = -1;
+HDR.T0 = [2023 11 4 22 58 30];
+HDR.Patient.Id = 'S-0117'; HDR.Patient.Name = 'X'; HDR.Patient.Sex = 0; HDR.Patient.Birthday = [1979 2 28 0 0 0];
+HDR.Label = {'EEG C3-A2'; 'Resp nasal'};
+HDR.PhysDim = {'uV'; 'mV'};
+HDR.PhysMax = [200; 5]; HDR.PhysMin = [-200; -5];
+HDR.DigMax = [2047; 2047]; HDR.DigMin = [-2048; -2048];
+HDR.GDFTYP = [3; 3];
+HDR.AS.SPR = [rate; rate];
+HDR.Filter.LowPass = [NaN NaN]; HDR.Filter.HighPass = [NaN NaN]; HDR.Filter.Notch = [NaN NaN];
+HDR.PhysDimCode = [4275; 4274];
+HDR.Transducer = {'AgAgCl'; 'thermistor'};
+data = [100 * sin(2 * pi * 3 * t), 2 * sin(2 * pi * 0.25 * t)];
+HDR = sopen(HDR, 'w');
+HDR.FLAG.UCAL = 0;
+HDR = swrite(HDR, data);
+HDR = sclose(HDR);

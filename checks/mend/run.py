@@ -1,0 +1,157 @@
+"""`edfmend` on files spoilt by hand: each rule alone, two and three faults, and ten at once.
+
+    python3 -m checks.mend.run [--edfmend PATH] [--program PATH]
+
+Each mended file is accepted by the plain model and by `edfstore`, has the samples that were there,
+and is mended to itself, with an empty ledger. The ledger names the rule. A good file is copied; a
+file that is there is not written over; where a code is wanted, and none is given, nothing is made.
+"""
+import itertools
+import tempfile
+from pathlib import Path
+
+from checks.lib import arguments, by_hand, measure, mended, printed
+from checks.lib.checks import Checks, Lost
+from checks.lib.edf import Header, Signal, annotations_signal, fragment, keeping, tal
+
+CODE = ("--patient", "S-0118")
+SIGNALS = (Signal(), Signal("Resp nasal", "thermistor", "mV", "-3", "3", "-100", "100", "", "1"))
+RECORDS = [(bytes([nth, 0, 5, 1, 9, nth]), keeping(f"+{nth}") + tal(f"+{nth}.5", "Snore"))
+           for nth in range(3)]
+GOOD = fragment(Header((*SIGNALS, annotations_signal(12)), count="3", reserved="EDF+C"), RECORDS)
+PLAIN = fragment(Header(SIGNALS, count="3", reserved=""), [(samples, []) for samples, _ in RECORDS])
+
+
+def at_field(which: int, text):
+    return lambda data: by_hand.field(data, which, text)
+
+
+def at_column(which: int, signal: int, text):
+    return lambda data: by_hand.column(data, which, signal, text)
+
+
+# A name, the rule that the ledger names, and what spoils a good file. No two of one field.
+FAULTS = (
+    ("a dimension in Latin-1", "ascii", at_column(by_hand.DIMENSION, 1, b"\xb5V")),
+    ("a transducer in UTF-8", "ascii", at_column(by_hand.TRANSDUCER, 1, "Müller 37°".encode())),
+    ("a zero byte in a label", "ascii", at_column(by_hand.LABEL, 1, b"EEG\0Fpz-Cz")),
+    ("sex and month in small letters", "patient",
+     at_field(by_hand.PATIENT, "P7 f 02-may-1951 X")),
+    ("a recording that is a name", "recording", at_field(by_hand.RECORDING, "Night 1")),
+    ("a comma", "physical", at_column(by_hand.LOW, 1, "-440,5")),
+    ("no digit before the dot", "physical", at_column(by_hand.HIGH, 2, ".5")),
+    ("digital limits that fall", "digital",
+     lambda data: by_hand.column(by_hand.column(data, by_hand.DIGITAL_LOW, 2, "100"),
+                                 by_hand.DIGITAL_HIGH, 2, "-100")),
+    ("other limits of annotations", "annotations", at_column(by_hand.DIGITAL_LOW, 3, "-2048")),
+    ("a count of more", "count", at_field(by_hand.COUNT, "7")),
+)
+OTHERS = (
+    ("a patient that is a name", "patient", at_field(by_hand.PATIENT, "Haagse Harry"), CODE),
+    ("a name in Latin-1", "patient", at_field(by_hand.PATIENT, b"J\xfcrgen"), CODE),
+    ("equal physical limits", "physical", lambda data: by_hand.column(
+        by_hand.column(data, by_hand.LOW, 1, "0"), by_hand.HIGH, 1, "0"), ()),
+    ("no count, and a piece of a data record", "count",
+     lambda data: by_hand.unknown(data) + b"abc", ()),
+    ("a recording with a small month", "recording",
+     at_field(by_hand.RECORDING, "Startdate 02-mar-2002 N1 T3 REC5"), ()),
+)
+
+
+def mend(checks: Checks, mender: mended.Mender, what: str, data: bytes, words, rules) -> bytes:
+    """Mends a file and looks at what was made; its ledger names these rules."""
+    ran = mender.mend(data, *words)
+    checks.same(f"{what}: status and errors", (ran.status, ran.err), (0, b""))
+    named = {line.split(" ")[0] for line in ran.out.decode().splitlines()}
+    checks.same(f"{what}: rules that the ledger lacks", set(rules) - named, set())
+    try:
+        made = mender.look(data, ran)
+    except Lost as why:
+        checks.same(f"{what}: {why}", True, False)
+        return b""
+    again = mender.mend(made, *words)
+    checks.same(f"{what}: mended twice", (again.outcome(), mender.made.read_bytes() == made),
+                ((b"", b"", 0), True))
+    return made
+
+
+def each_rule(checks: Checks, mender: mended.Mender) -> list:
+    """The mended files."""
+    checks.begin("each rule")
+    made = [mend(checks, mender, what, spoil(GOOD), (), [rule]) for what, rule, spoil in FAULTS]
+    made += [mend(checks, mender, what, spoil(GOOD), words, [rule])
+             for what, rule, spoil, words in OTHERS]
+    made.append(mend(checks, mender, "a plain file", PLAIN, (), ["plain"]))
+    made.append(mend(checks, mender, "a plain file of a name", by_hand.field(
+        by_hand.field(PLAIN, by_hand.PATIENT, "Haagse Harry"), by_hand.RECORDING, "Night 1"),
+                     CODE, ["plain", "patient", "recording"]))
+    return made
+
+
+def several(checks: Checks, mender: mended.Mender) -> list:
+    """Two, three, and all faults at once; the mended files."""
+    made = []
+    for count in (2, 3, len(FAULTS)):
+        checks.begin(f"{count} faults at once")
+        for chosen in itertools.combinations(FAULTS, count):
+            data = GOOD
+            for _, _, spoil in chosen:
+                data = spoil(data)
+            what = ", ".join(name for name, _, _ in chosen)
+            made.append(mend(checks, mender, what, data, (), {rule for _, rule, _ in chosen}))
+    return made
+
+
+def untouched(checks: Checks, mender: mended.Mender) -> None:
+    checks.begin("what is left as it was")
+    for name, data in (("good", GOOD), *by_hand.FILES.items()):
+        for words in ((), CODE):
+            ran = mender.mend(data, *words)
+            checks.same(f"{name}: a good file", (ran.outcome(), mender.made.read_bytes() == data),
+                        ((b"", b"", 0), True))
+    named = by_hand.field(GOOD, by_hand.PATIENT, "Haagse Harry")
+    ran = mender.mend(named)
+    checks.same("without a code", (ran.status, mender.left()), (1, []))
+    ran = mender.mend(b"no EDF at all")
+    checks.same("no EDF", (ran.status, mender.left()), (1, []))
+    mender.made.write_bytes(b"mine")
+    mender.given.write_bytes(named)
+    ran = measure.ran(mender.program, "in.edf", "out.edf", *CODE, folder=mender.folder)
+    checks.same("a file that is there", (ran.status, mender.made.read_bytes(), mender.left()),
+                (1, b"mine", ["out.edf"]))
+    mender.made.unlink()
+    dry = measure.ran(mender.program, "in.edf", "--dry-run", *CODE, folder=mender.folder)
+    wet = mender.mend(named, *CODE)
+    checks.same("--dry-run: the same ledger", dry.outcome(), wet.outcome())
+
+
+def taken(checks: Checks, program: Path, folder: Path, made: list) -> None:
+    """Each mended file alone in an empty store."""
+    checks.begin("edfstore")
+    names = []
+    for nth, data in enumerate(made):
+        names.append(folder / f"mended {nth}.edf")
+        names[-1].write_bytes(data)
+    for at in range(0, len(names), 50):
+        lines = measure.ran(program, "take", ":memory:", *names[at:at + 50]).out.decode()
+        refused = [line for line in lines.splitlines() if printed.number(line) not in
+                   ("", "E31")]
+        checks.same("refused by its form", refused, [])
+
+
+def main() -> None:
+    given = arguments.Parser(__doc__, programs=("edfstore", "edfmend")).read()
+    with tempfile.TemporaryDirectory(prefix="edfmend-checks-") as name:
+        folder = Path(name) / "mending"
+        folder.mkdir()
+        checks = Checks(given.edfmend, Path(name) / "none", "edfmend")
+        checks.folder.mkdir()
+        mender = mended.Mender(given.edfmend, folder)
+        made = each_rule(checks, mender) + several(checks, mender)
+        untouched(checks, mender)
+        taken(checks, given.program, Path(name), [data for data in made if data])
+    checks.end()
+
+
+if __name__ == "__main__":
+    main()
