@@ -1,0 +1,360 @@
+"""Three recorders upload a night each into the receiving folder of `examples/receiving`, which is
+killed again and again; each export is then the recorder's card.
+
+    python3 -m checks.receiving [--program PATH] [--edfserve PATH] [--seed SEED] [--control] [KILLS]
+
+Uploads are slow, broken off and begun again, sent twice, renamed while nothing receives, of count
+-1 and written data record by record, under names with spaces and letters beyond ASCII, by `cp` and
+`mv` and, where it is installed, by OpenSSH's `sftp`. `receive` and its `edfserve` are killed 50
+times if KILLS is left out, and begun again as systemd does it. One store's disk is filled, and has
+room again. In the morning the card comes. Then each upload that was renamed is in taken/ or
+refused/, nothing was taken in part, and each export is that of the card.
+
+--control runs three other `receive`s, each of which must lose something: one takes files that are
+still written, one moves a file before its answer, one forgets what came while nothing received.
+"""
+import errno
+import os
+import random
+import shutil
+import signal
+import subprocess
+import threading
+import time
+from dataclasses import dataclass, field
+from pathlib import Path
+
+from checks.lib import arguments, measure, model, night
+from checks.lib.checks import Lost, end
+
+RECEIVE = arguments.TOP / "examples/receiving/receive"
+SFTP, SFTP_SERVER = shutil.which("sftp"), Path("/usr/lib/openssh/sftp-server")
+NAMES = ("part {:02}.edf", "Nacht Müller {:02}.edf", "p{:02}.EDF", "部分-{:02}.edf")
+MOST_SECONDS = 120      # until all that came is answered, and in a control
+IN_CONTROL = 15
+NEVER_SENT = 2          # files of each night that only the card brings
+CONTROLS = {
+    "takes a file that is still written": (
+        ("events=moved_to\n", "events=create,moved_to,modify\n"),
+        (".* | *.part | *$'\\n'*", ".taking | *$'\\n'*")),
+    "moves a file before its answer": (
+        ('  printf \'take %s\\n\' "$1" >&"${serve[1]}" || fail "edfserve has ended"\n',
+         '  put_away "inbox/.taking/$1" taken; sleep 0.1\n'
+         '  printf \'take %s\\n\' "$1" >&"${serve[1]}" || fail "edfserve has ended"\n'),
+        ('put_away "inbox/.taking/$1" taken ;;', ": ;;"),
+        ('put_away "inbox/.taking/$1" refused ;;', 'put_away "taken/$1" refused ;;'),
+        ("cd inbox/.taking ", "cd taken ")),
+    "forgets what came while it was down": (
+        ("receive_all\nwhile", "due=$((SECONDS + wait))\nwhile"),
+        ("  if [ $SECONDS -ge $due ]; then receive_all; fi\n", "")),
+}
+
+
+def uncounted(data: bytes) -> bytes:
+    """The file as a recorder writes it that does not know yet how many data records come."""
+    return data[:236] + b"-1      " + data[244:]
+
+
+@dataclass
+class Site:
+    """A recorder, its folder, and what receives there."""
+    folder: Path
+    parts: list
+    card: Path
+    script: Path
+    added: dict
+    rng: random.Random
+    child: subprocess.Popen = None
+    renamed: dict = field(default_factory=dict)     # the uploads' bytes, by their names
+    kills: int = 0
+    lost: str = ""
+    is_over: bool = False
+    lock: threading.Lock = field(default_factory=threading.Lock)
+
+    @property
+    def inbox(self) -> Path:
+        return self.folder / "inbox"
+
+    def start(self) -> None:
+        self.child = subprocess.Popen(
+            ["bash", self.script, self.folder, self.folder / "night.db"], start_new_session=True,
+            env={**os.environ, **self.added}, stdin=subprocess.DEVNULL,
+            stdout=subprocess.DEVNULL, stderr=open(self.folder / "journal", "ab"))
+
+    def end(self) -> None:
+        """Ends all that receives here, as a service is ended."""
+        try:
+            os.killpg(self.child.pid, signal.SIGKILL)
+        except ProcessLookupError:
+            pass
+        self.child.wait()
+
+    def supervise(self) -> None:
+        """Begins it again where it ended, as systemd does."""
+        while not self.is_over:
+            with self.lock:
+                if self.child is not None and self.child.poll() is not None:
+                    self.end()
+                    self.start()
+            time.sleep(0.05)
+
+    def kill(self) -> None:
+        """Kills receive, or its edfserve alone."""
+        with self.lock:
+            if self.rng.random() < 0.5:
+                self.end()
+            else:
+                measure.ran("pkill", "-KILL", "-s", self.child.pid, "-x", "edfserve")
+            self.kills += 1
+
+    def write(self, name: str, data: bytes, pieces: int) -> Path:
+        """Writes a file under its upload's name, in pieces."""
+        hidden = self.inbox / (f".{name}" if self.rng.random() < 0.5 else f"{name}.part")
+        with open(hidden, "wb") as made:
+            step = max(1, len(data) // pieces)
+            for at in range(0, len(data), step):
+                made.write(data[at:at + step])
+                made.flush()
+                time.sleep(0.02)
+        return hidden
+
+    def rename(self, hidden: Path, name: str, data: bytes) -> None:
+        os.rename(hidden, self.inbox / name)
+        self.renamed[name] = data
+
+    def upload(self, name: str, data: bytes) -> None:
+        """Uploads a file; where the disk is full, it begins again."""
+        while True:
+            try:
+                return self.upload_once(name, data)
+            except OSError as why:
+                if why.errno != errno.ENOSPC:
+                    raise
+                time.sleep(0.2)
+
+    def upload_once(self, name: str, data: bytes) -> None:
+        way = self.rng.choice(("at once", "slow", "broken off", "uncounted", "sftp"))
+        if way == "sftp" and SFTP and SFTP_SERVER.exists():
+            source = self.folder / "outside"
+            source.write_bytes(data)
+            lines = f'put "{source}" "{self.inbox}/{name}.part"\n' \
+                    f'rename "{self.inbox}/{name}.part" "{self.inbox}/{name}"\n'
+            if measure.ran(SFTP, "-q", "-b", "-", "-D", SFTP_SERVER, given=lines.encode()).status:
+                raise OSError(errno.ENOSPC, "sftp failed")
+            self.renamed[name] = data
+            return
+        if way == "broken off":
+            self.write(name, data[:len(data) // 2], 2)
+        if way == "uncounted":
+            data = uncounted(data)
+        self.rename(self.write(name, data, 1 if way == "at once" else 12), name, data)
+
+    def send(self) -> None:
+        """Sends the night but for what only the card brings, some files twice and one cut."""
+        order = self.rng.sample(self.parts, len(self.parts))[NEVER_SENT:]
+        for at, path in enumerate(order):
+            data, form = path.read_bytes(), NAMES[at % len(NAMES)]
+            self.upload(form.format(at), data)
+            if at % 5 == 0:
+                self.upload(f"again {form.format(at)}", data)
+            if at == 3:
+                self.upload("cut.edf", data[:-100])
+            time.sleep(self.rng.uniform(0, 0.2))
+
+    def send_all(self) -> None:
+        """Sends it, and keeps why that failed: a `receive` may have taken what was still written."""
+        try:
+            self.send()
+        except OSError as why:
+            self.lost = str(why)
+
+    def is_quiet(self) -> bool:
+        """Whether each upload that was renamed is put away."""
+        left = [*self.inbox.glob("*.edf"), *self.inbox.glob("*.EDF"),
+                *(self.inbox / ".taking").glob("*")]
+        return not [path for path in left if not path.name.startswith(".")]
+
+
+def expected(site: Site) -> bytes:
+    """The export of all that was uploaded."""
+    held = model.Store()
+    for data in site.renamed.values():
+        held.take(data)
+    return held.export(1)
+
+
+def look(site: Site, program: Path) -> int:
+    """Compares what a site has with what was sent; how many uploads it looked at."""
+    if site.lost:
+        raise Lost(f"an upload failed: {site.lost}")
+    for name, data in site.renamed.items():
+        found = [path for place in ("taken", "refused")
+                 for path in (site.folder / place).glob(f"{name}*")
+                 if not path.name.endswith(".txt") and path.read_bytes() == data]
+        if not found:
+            raise Lost(f"{name} is in neither taken/ nor refused/")
+        is_cut = name == "cut.edf"
+        if (found[0].parent.name == "refused") != is_cut:
+            raise Lost(f"{name} is in {found[0].parent.name}/")
+    line = site.folder / "refused/cut.edf.txt"
+    if not line.exists() or " E21 " not in line.read_text():
+        raise Lost("the cut file's line is not beside it")
+    export = measure.ran(program, "export", site.folder / "night.db", 1)
+    if export.status or export.out != expected(site):
+        raise Lost(f"the export is not that of the uploads: {export.err!r}")
+    return len(site.renamed)
+
+
+class Disk:
+    """A small disk, which is filled and has room again; an ordinary folder where nobody may
+    mount."""
+
+    def __init__(self, place: Path):
+        self.place = place
+        place.mkdir()
+        self.is_mounted = not measure.ran("mount", "-t", "tmpfs", "-o", "size=64m", "edfstore",
+                                          place).status
+
+    def fill(self) -> None:
+        if self.is_mounted:
+            try:
+                with open(self.place / "filler", "wb") as made:
+                    for _ in range(64):
+                        made.write(bytes(1 << 20))
+            except OSError:
+                pass
+
+    def empty(self) -> None:
+        (self.place / "filler").unlink(missing_ok=True)
+
+    def end(self) -> None:
+        if self.is_mounted:
+            measure.ran("umount", "-l", self.place)
+
+
+def sites_in(folder: Path, disk: Disk, script: Path, added: dict, seed: int) -> list:
+    sites = []
+    for nth in range(3):
+        home = (disk.place if nth == 0 else folder) / f"recorder {nth}"
+        source = folder / f"source {nth}"
+        home.mkdir(), source.mkdir()
+        sent = night.Night(records=960, samples=(64, 32), fragments=24, seed=seed + nth,
+                           patient=f"P{nth} F 02-MAY-1951 X")
+        site = Site(home, sent.parts(source), sent.card(source / "card.edf"), script, added,
+                    random.Random(f"{seed} {nth}"))
+        (home / "inbox").mkdir()
+        sites.append(site)
+    return sites
+
+
+def disturb(sites: list, disk: Disk, kills: int, senders: list, rng: random.Random) -> None:
+    """Kills what receives while uploads come, and fills the disk for a while."""
+    while any(it.is_alive() for it in senders) or sum(it.kills for it in sites) < kills:
+        time.sleep(rng.uniform(0.05, 0.4))
+        if sum(it.kills for it in sites) < kills:
+            rng.choice(sites).kill()
+        if disk.is_mounted and rng.random() < 0.1:
+            disk.fill()
+            time.sleep(0.5)
+            disk.empty()
+
+
+def settle(sites: list, seconds: float) -> None:
+    """Waits until all that came is put away, so many seconds at the most."""
+    until = time.monotonic() + seconds
+    while not all(it.is_quiet() for it in sites) and time.monotonic() < until:
+        time.sleep(0.2)
+    time.sleep(1)
+
+
+def stopped(sites: list, program: Path) -> int:
+    """Ends what receives, looks at what each site has, and begins it again."""
+    for site in sites:
+        site.lock.acquire()
+        site.end()
+    try:
+        return sum(look(site, program) for site in sites)
+    finally:
+        for site in sites:
+            site.start()
+            site.lock.release()
+
+
+def night_of(sites: list, disk: Disk, given, seconds: float) -> int:
+    """The uploads of a night, and in the morning the cards; how many uploads were looked at."""
+    for site in sites:
+        site.start()
+        threading.Thread(target=site.supervise, daemon=True).start()
+    senders = [threading.Thread(target=it.send_all) for it in sites]
+    for it in senders:
+        it.start()
+    disturb(sites, disk, given.count, senders, random.Random(given.seed))
+    settle(sites, seconds)
+    stopped(sites, given.program)
+    for site in sites:
+        site.upload("card.edf", site.card.read_bytes())
+    settle(sites, seconds)
+    return stopped(sites, given.program)
+
+
+def tried(given, script: Path, folder: Path, seconds: float = MOST_SECONDS) -> int:
+    """One night of three recorders; how many uploads were looked at."""
+    added = {"PATH": f"{given.edfserve.parent}:{os.environ['PATH']}", "RECEIVE_WAIT": "1"}
+    disk = Disk(folder / "disk")
+    sites = sites_in(folder, disk, script, added, given.seed)
+    try:
+        return night_of(sites, disk, given, seconds)
+    finally:
+        for site in sites:
+            site.is_over = True
+            with site.lock:
+                if site.child:
+                    site.end()
+        disk.end()
+
+
+def controlled(name: str, folder: Path) -> Path:
+    """A `receive` that does what its name says."""
+    text = RECEIVE.read_text()
+    for old, new in CONTROLS[name]:
+        if old not in text:
+            raise SystemExit(f"receive has no line {old!r} for the control that {name}")
+        text = text.replace(old, new)
+    path = folder / "receive"
+    path.write_text(text)
+    return path
+
+
+def control(given) -> None:
+    failed = 0
+    for name in CONTROLS:
+        with measure.scratch() as scratch:
+            try:
+                tried(given, controlled(name, Path(scratch)), Path(scratch), IN_CONTROL)
+                print(f"NOT FOUND: a receive that {name}")
+                failed += 1
+            except Lost as why:
+                print(f"found: a receive that {name}: {why}")
+    end(len(CONTROLS), failed)
+
+
+def main() -> None:
+    parser = arguments.Parser(__doc__, programs=("edfstore", "edfserve"), count=50)
+    parser.add_argument("--seed", type=int, default=1, help="of the nights, 1 if left out")
+    parser.add_argument("--control", action="store_true", help="run three wrong ones instead")
+    given = parser.read()
+    if given.control:
+        control(given)
+    with measure.scratch() as scratch:
+        try:
+            count = tried(given, RECEIVE, Path(scratch))
+        except Lost as why:
+            print(f"LOST OR IN PART: {why}")
+            end(1, 1)
+    print(f"{count} uploads of three recorders, {given.count} kills: each is in taken/ or refused/, "
+          "and each export is that of its card")
+    end(count, 0)
+
+
+if __name__ == "__main__":
+    main()
