@@ -1,7 +1,7 @@
 # shellcheck shell=bash
 # What the scripts of this folder share: which sources the programs are made from, and their digest.
 top=$(cd "$(dirname "${BASH_SOURCE[0]}")/.." && pwd)
-programs=(edfstore edfruns)
+programs=(edfstore edfruns edfserve edfmend)
 release=$top/release
 
 # Where the program $1 is when it was built here.

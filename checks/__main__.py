@@ -1,8 +1,9 @@
 """Runs the checks of the programs at hand, side by side: a quick look in less than three minutes.
 
-    checks/run [--program PATH] [--edfruns PATH] [--long] [--jobs N] [--only NAME]... [--control]
+    checks/run [--program PATH] [--edfruns PATH] [--edfserve PATH] [--edfmend PATH] [--long]
+               [--jobs N] [--only NAME]... [--control]
 
-The programs are those that bin/edfstore and bin/edfruns run, where none is named. Each check is a
+The programs are those that the scripts of bin run, where none is named. Each check is a
 module of this folder with a count of its own; --long takes those of docs/RELIABILITY.md, and the
 checks of the release as well. A line says what was tried, how often, and in how many seconds; the
 output of a check that fails follows it. A check that needs what is not here is left out, and the
@@ -11,7 +12,7 @@ how many passed and failed; the status is 0 where none failed and one at least p
 
 A check passes only where its module ends with status 0 and its last line is `N tried, 0 failed`, N
 not 0. --control gives each of them programs that write a 2 for each 1, into the files of `edfruns
-split` too: all must fail, and then the status is 0.
+split` and `edfmend` too: all must fail, and then the status is 0.
 
 Scratch files are in TMPDIR, else in memory (/dev/shm) where 4 GB of it are free; kills and cuts of
 power are tried on a disk, in TMPDIR or /tmp.
@@ -35,19 +36,21 @@ SHOWN = 40          # lines of the output of a check that failed
 IN_QUICK, IN_LONG = 900, 6 * 3600       # seconds that a check may take
 WRONG = """#!/bin/bash
 export LC_ALL=C
-"{program}" "$@" | tr 1 2
+"{program}" "$@" | stdbuf -oL tr 1 2
 status=${{PIPESTATUS[0]}}
+wrong() {{ if [ -f "$1" ]; then tr 1 2 < "$1" > "$1.wrong" && mv "$1.wrong" "$1"; fi; }}
 if [ "${{1:-}}" = split ]; then
-  for made in "$3"-*.edf; do
-    if [ -f "$made" ]; then tr 1 2 < "$made" > "$made.wrong" && mv "$made.wrong" "$made"; fi
-  done
+  for made in "$3"-*.edf; do wrong "$made"; done
+elif [ {name} = edfmend ]; then
+  wrong "${{2:-}}"
 fi
 exit "$status"
 """
 DEBIANS_OWN = "/usr/bin/python3"        # the Python that knows the packages of Debian
 READERS = ("cc", "save2gdf", "edfbrowser", "Xvfb", "xdotool", "xwininfo", "python3-mne",
            "libedf-dev")
-EDFSTORE, EDFRUNS = "program", "edfruns"        # the options that name the programs
+# The options that name the programs
+EDFSTORE, EDFRUNS, EDFSERVE, EDFMEND = "program", "edfruns", "edfserve", "edfmend"
 
 
 @dataclass(frozen=True)
@@ -88,12 +91,22 @@ CHECKS = (
     Check("split", "lines and files of edfruns", (EDFSTORE, EDFRUNS)),
     Check("lines.shell", "lines that a person may type", needs=("sqlite3",)),
     Check("lines.run", "exact lines, files and statuses"),
-    Check("lines.terminal", "what is printed on a terminal alone", needs=("sqlite3",)),
+    Check("lines.terminal", "what is printed on a terminal alone", (EDFSTORE, EDFRUNS),
+          needs=("sqlite3",)),
     Check("rot", "changes of a store's files", counts=(100, 1_000)),
     Check("warned", "answers that the documents warn of", counts=(100, 1_000)),
     Check("hypnogram", "nights with gaps and stages of sleep, drawn", (EDFRUNS,),
           counts=(200, 2_000)),
     Check("lines.stored", "stored runs", (EDFSTORE, EDFRUNS)),
+    Check("serve", "answers of edfserve to its clients, kills", (EDFSTORE, EDFSERVE),
+          counts=(20, 100)),
+    Check("receiving", "uploads into a receiving folder", (EDFSTORE, EDFSERVE), counts=(10, 50),
+          needs=("inotifywait",), is_on_disk=True, is_for_long=True),
+    Check("mend.run", "files spoilt by hand, mended", (EDFSTORE, EDFMEND)),
+    Check("mend.fuzz", "files spoilt at random, mended", (EDFMEND,), counts=(2_000, 100_000)),
+    Check("mend.foreign", "files of other programs, mended", (EDFSTORE, EDFMEND),
+          needs=("cc", "save2gdf", "python3-mne", "libedf-dev"), is_for_long=True,
+          python=DEBIANS_OWN),
     Check("edits.standing", "edits whose lines stand in the sources", ()),
     Check("released", "first commands and comparisons of clones", (),
           needs=("git", "tar", "xz"), is_for_long=True),
@@ -212,7 +225,7 @@ def wrong_programs(programs: dict, folder: Path) -> dict:
     made = {}
     for name, program in programs.items():
         made[name] = folder / name
-        made[name].write_text(WRONG.format(program=program))
+        made[name].write_text(WRONG.format(program=program, name=name))
         made[name].chmod(0o755)
     return made
 
@@ -233,7 +246,7 @@ def chosen(names: list, is_long: bool, is_control: bool) -> tuple:
 
 
 def words() -> arguments.Parser:
-    parser = arguments.Parser(__doc__, arguments.BOTH, prog="checks/run")
+    parser = arguments.Parser(__doc__, arguments.PROGRAMS, prog="checks/run")
     parser.add_argument("--long", action="store_true", help="the counts of docs/RELIABILITY.md")
     parser.add_argument("--jobs", type=int, default=os.cpu_count(), metavar="N",
                         help="checks at a time")
@@ -245,9 +258,9 @@ def words() -> arguments.Parser:
 def main() -> None:
     given = words().read()
     named, out = chosen(given.only, given.long, given.control)
-    print(f"{given.program}\n{given.edfruns}\n{measure.machine()}\n", flush=True)
+    programs = {option: getattr(given, option) for option in arguments.OPTIONS.values()}
+    print(*programs.values(), f"{measure.machine()}\n", sep="\n", flush=True)
     begun = time.perf_counter()
-    programs = {EDFSTORE: given.program, EDFRUNS: given.edfruns}
     with measure.scratch() as folder:
         if given.control:
             programs = wrong_programs(programs, Path(folder))

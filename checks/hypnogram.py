@@ -1,11 +1,14 @@
-"""Draws random nights by `edfruns picture`, and compares the line of their stages of sleep with a
-plain model of the rule, half pixel by half pixel.
+"""Draws random nights by `edfruns picture`, reads the pictures back, and compares with plain models
+of the rules: the line of the stages of sleep, half pixel by half pixel; the minutes of each stage,
+the sleep and its efficiency; the lane of each text, its count, rate and bars (`lib.events`);
+what a tolerance joins.
 
     python3 -m checks.hypnogram [--edfruns PATH] [--seed SEED] [COUNT]      200 nights if left out
 
-The nights have up to six runs, with gaps from a millisecond to hours. Their stages have durations
-or not, are scored each half minute or where they change, stand in order or not, and may lie outside
-of all runs. The first night that is drawn otherwise is left in the folder that is named.
+The nights have up to six runs, with gaps from a millisecond to hours; some lack a millisecond, or
+a nanosecond, before each data record. Their stages have durations or not, are scored each half
+minute or where they change, stand in order or not, and may lie outside of all runs. The first night
+that is drawn otherwise is left in the folder that is named.
 """
 import bisect
 import random
@@ -13,8 +16,10 @@ import re
 import tempfile
 from dataclasses import dataclass
 from pathlib import Path
+from xml.etree import ElementTree
 
-from checks.lib import arguments, checks, edf, measure
+from checks.lib import arguments, checks, edf, events, measure
+from checks.lib.events import Event as Stage, clock, within
 from checks.lib.gapped import SECOND, decimal, onset
 
 LEFT, COLUMNS = 112, 1_728      # where the line begins, and how many half pixels it has
@@ -24,16 +29,13 @@ HEIGHTS = {"W": 12, "R": 30, "REM": 30, "N1": 48, "1": 48, "N2": 66, "2": 66, "N
 GAPS = (SECOND // 1_000, SECOND, 4 * SECOND, HALF_MINUTE, 600 * SECOND, 4_800 * SECOND)
 
 
-@dataclass(frozen=True)
-class Stage:
-    onset: int          # nanoseconds after the night's start
-    duration: int       # 0 where it has none
-    name: str
-
-
 def random_runs(chance: random.Random, seconds: int) -> list:
     """The start of each run and its end."""
     runs, start = [], 0
+    if chance.random() < 0.1:
+        step, missing = seconds * SECOND, chance.choice((1_000_000, 1))
+        return [(nth * (step + missing), nth * (step + missing) + step)
+                for nth in range(chance.randint(2, 900))]
     for _ in range(chance.randint(1, 6)):
         runs.append((start, start + chance.randint(1, 150) * seconds * SECOND))
         start = runs[-1][1] + chance.choice(GAPS)
@@ -61,14 +63,15 @@ def random_stages(chance: random.Random, end: int) -> list:
     return stages
 
 
-def file_of(runs: list, seconds: int, stages: list) -> bytes:
-    """An EDF+D file of the runs, with the stages in any data records, in their order."""
+def file_of(runs: list, seconds: int, notes: list) -> bytes:
+    """An EDF+D file of the runs, with the notes in any data records, in their order."""
     starts = [start for first, end in runs for start in range(first, end, seconds * SECOND)]
     blocks = [edf.keeping(onset(start)) for start in starts]
-    for nth, stage in enumerate(stages):
-        duration = decimal(stage.duration) if stage.duration else ""
-        note = edf.tal(onset(stage.onset), f"Sleep stage {stage.name}", duration=duration)
-        blocks[nth * len(blocks) // len(stages)] += note
+    for nth, note in enumerate(notes):
+        duration = decimal(note.duration) if note.duration else ""
+        text = note.name if note.name in events.NAMES else f"Sleep stage {note.name}"
+        blocks[nth * len(blocks) // len(notes)] += edf.tal(onset(note.onset), text,
+                                                           duration=duration)
     signals = (edf.Signal(), edf.annotations_signal(max(map(len, blocks)) // 2 + 1))
     header = edf.Header(signals, starttime="22.00.00", count=str(len(blocks)),
                         duration=str(seconds))
@@ -108,16 +111,51 @@ def spans_of(runs: list, scored: list) -> list:
     return spans
 
 
+def past_gap(runs: list, seen: list, end: int) -> int:
+    """Where a stage ends on the picture: a gap that is not seen belongs to the stage before it."""
+    if run_end(seen, end) is None:
+        return end
+    return next(max(start, end) for start, stop in runs if end < stop)
+
+
 def expected(runs: list, scored: list) -> list:
     """The height of the line in each half pixel, by the instant in its middle."""
-    spans, heights = spans_of(seen_runs(runs), scored), []
+    seen = seen_runs(runs)
+    spans, heights = spans_of(seen, scored), []
     onsets = [start for start, _, _ in spans]
     for column in range(COLUMNS):
         middle = runs[-1][1] * (2 * column + 1) // (2 * COLUMNS)
-        _, end, height = spans[max(0, bisect.bisect_right(onsets, middle) - 1)]
-        holds = onsets[0] <= middle < end and run_end(runs, middle) is not None
+        nth = max(0, bisect.bisect_right(onsets, middle) - 1)
+        _, end, height = spans[nth]
+        holds = onsets[0] <= middle < past_gap(runs, seen, end) and run_end(seen, middle)
         heights.append(height if holds else None)
     return heights
+
+
+def recorded(runs: list, start: int, end: int) -> int:
+    """How much of a time was recorded."""
+    return sum(max(0, min(end, to) - max(start, first)) for first, to in runs)
+
+
+def sleep_lines(runs: list, scored: list, lights: list) -> list:
+    """The two lines under the hypnogram."""
+    spans = spans_of(seen_runs(runs), scored)
+    names = {stage.name for stage in scored}
+    is_new, has_deep = names & {"N1", "N2", "N3"}, names & {"3", "4"}
+    deep = "N3 (3, 4)" if has_deep else "N3" if is_new else "3"
+    labels = ["W", "R", *(("N1", "N2") if is_new else ("1", "2")), deep]
+    times = [sum(recorded(runs, start, end) for start, end, at in spans if at == height)
+             for height in (12, 30, 48, 66, 84)]
+    stages = ", ".join(f"{name} {clock(time)}" for name, time in zip(labels, times))
+    sleep = f"Total sleep time {clock(sum(times[1:]))} min"
+    beds = events.beds(lights)
+    if beds:
+        time = sum(to - start for start, to in beds)
+        slept = sum(recorded(runs, max(start, first), min(end, to)) for first, to in beds
+                    for start, end, height in spans if height and height > 12)
+        sleep += (f"; sleep efficiency {events.share(slept, time)} of the {clock(time)} min"
+                  " from lights off to lights on")
+    return [f"Minutes: {stages}", sleep]
 
 
 def line_of(picture: str) -> list:
@@ -133,19 +171,63 @@ def line_of(picture: str) -> list:
     return heights
 
 
+@dataclass(frozen=True)
+class Night:
+    file: bytes
+    runs: list
+    stages: list
+    happened: list
+    tolerance: int
+
+    def drawn(self) -> tuple:
+        return self.runs, self.stages, self.happened, self.tolerance
+
+
+def night_of(seed: int, nth: int) -> Night:
+    chance = random.Random(seed * 1_000_003 + nth)
+    seconds = chance.choice((1, 10, 30, 60))
+    runs = random_runs(chance, seconds)
+    stages = random_stages(chance, runs[-1][1])
+    happened = events.random_events(chance, runs[-1][1])
+    notes = stages + happened
+    if chance.random() < 0.3:
+        chance.shuffle(notes)
+        stages = [note for note in notes if note.name in HEIGHTS]
+        happened = [note for note in notes if note.name not in HEIGHTS]
+    return Night(file_of(runs, seconds, notes), runs, stages, happened,
+                 chance.choice((0, 0, 0, 1, SECOND // 1_000, SECOND, 5 * SECOND)))
+
+
+def is_seen(picture: str, runs: list, scored: list, happened: list, tolerance: int) -> bool:
+    """Whether a picture has all that the models say."""
+    try:
+        ElementTree.fromstring(picture)
+    except ElementTree.ParseError:
+        return False
+    view, joined = events.joined(runs, tolerance)
+    lights = [event for event in happened if event.name in events.LIGHTS]
+    others = [event for event in happened if event.name not in events.LIGHTS]
+    texts = re.findall(r"<text[^>]*>([^<]*)</text>", picture)
+    told = [text for text in texts if text.startswith(("Minutes", "Total sleep"))]
+    hours = sum(end - start for start, end in runs)
+    return (line_of(picture) == expected(view, scored)
+            and told == sleep_lines(view, scored, lights)
+            and (not tolerance or joined in texts)
+            and events.lanes_of(picture) == events.lanes(others, runs[-1][1], hours)
+            and events.lines_of(picture) == within(lights, runs[-1][1]))
+
+
 def main() -> None:
     parser = arguments.Parser(__doc__, ("edfruns",), count=200)
     parser.add_argument("--seed", type=int, default=1, help="of the nights, 1 if left out")
     given, folder = parser.read(), Path(tempfile.mkdtemp(prefix="hypnogram-"))
     path = folder / "night.edf"
     for nth in range(given.count):
-        chance = random.Random(given.seed * 1_000_003 + nth)
-        seconds = chance.choice((1, 10, 30, 60))
-        runs = random_runs(chance, seconds)
-        stages = random_stages(chance, runs[-1][1])
-        path.write_bytes(file_of(runs, seconds, stages))
-        ran = measure.ran(given.edfruns, "picture", path)
-        if ran.status or line_of(ran.out.decode()) != expected(runs, stages):
+        night = night_of(given.seed, nth)
+        path.write_bytes(night.file)
+        words = ("--tolerance", decimal(night.tolerance)) if night.tolerance else ()
+        ran = measure.ran(given.edfruns, "picture", *words, path)
+        if ran.status or not is_seen(ran.out.decode(), *night.drawn()):
             print(f"{path}: night {nth} of seed {given.seed} is drawn otherwise")
             checks.end(nth + 1, 1)
     path.unlink()

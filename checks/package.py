@@ -4,9 +4,10 @@
 
 bin/package makes it twice, in two places, times, time zones and languages, and both must have the
 same bytes; PACKAGE is looked at instead of these where it is named. It has the released programs,
-both man pages, the documents and the examples, and less than MOST bytes; `lintian` finds no error,
-and `man` no warning of the installed pages. As root and with debootstrap it is installed by `dpkg
--i` on a Debian of the least packages, run there and removed again. FOLDER is such a Debian; else
+their man pages, the documents and the examples, and less than MOST bytes; no link of its documents
+is dead, `lintian` finds no error, and `man` no warning of the installed pages. As root and with
+debootstrap it is installed by `dpkg -i` on a Debian of the least packages, run there, by the
+commands that README and the examples' README show too, and removed again. FOLDER is such a Debian; else
 one is made, which takes minutes and the network, and is gone at the end. Without root or
 debootstrap it is unpacked here, `ldd` says what it lacks, and it is run here: the last lines say
 which of the ways was taken.
@@ -19,12 +20,12 @@ import os
 import shutil
 from pathlib import Path
 
-from checks.lib import arguments, measure, model, printed, runs
+from checks.lib import arguments, links, measure, model, printed, runs, sessions
 from checks.lib.checks import Checks
 
-MOST = 1_200_000
+MOST = 2_400_000
 SUITE = "bookworm"
-PROGRAMS = ("edfstore", "edfruns")
+PROGRAMS = ("edfstore", "edfruns", "edfserve", "edfmend")
 SHARED = "usr/share/doc/edfstore"
 EXAMPLES = ("edflib.edf", "one-record.edf")
 DOCUMENTS = ("README.md", "copyright", "changelog.gz", "docs/FORMAT.md", "docs/REFUSALS.md",
@@ -99,6 +100,7 @@ def contents(checks: Checks, package: Path, folder: Path) -> Path:
         rendered(checks, name, root)
     missing = [name for name in DOCUMENTS if not (root / SHARED / name).is_file()]
     checks.same("documents that it lacks", missing, [])
+    checks.same("dead links", links.dead(sorted((root / SHARED).rglob("*.md")), root / SHARED), [])
     changelog = text("zcat", root / SHARED / "changelog.gz")
     checks.same("the changelog's version", changelog.split(")")[0], f"edfstore ({version}")
     return root
@@ -193,6 +195,10 @@ class Bare:
     def at_home(self, *words) -> measure.Ran:
         return self.run("sh", "-c", 'cd /root/night && exec "$@"', "sh", *words)
 
+    def shown(self, script: str, folder: str) -> measure.Ran:
+        """Runs a script in that folder."""
+        return self.run("sh", "-c", 'cd "$1" && eval "$2"', "sh", folder, script)
+
     def install(self, path: Path) -> int:
         shutil.copy(path, self.root / "tmp/given.deb")
         return self.run("dpkg", "-i", "/tmp/given.deb").status
@@ -201,6 +207,20 @@ class Bare:
         """What of the package is there."""
         paths = (*(f"usr/bin/{name}" for name in PROGRAMS), SHARED)
         return [path for path in paths if (self.root / path).exists()]
+
+
+def as_shown(checks: Checks, bare: Bare) -> None:
+    """The commands that the documents show, with what they say that these print."""
+    checks.begin("the documents' commands")
+    readme, examples = f"/{SHARED}/README.md", f"/{SHARED}/examples/README.md"
+    for document in (readme, examples):
+        for shown in sessions.sessions(bare.root / document[1:]):
+            written = bare.shown(shown.script, os.path.dirname(document)).out.decode()
+            checks.same(f"{document}: what is printed", shown.differences(written), [])
+    for lines in sessions.commands(bare.root / readme[1:], PROGRAMS):
+        script = f"set -e; cp -r examples/oximeter /tmp/first; cd /tmp/first\n{lines}"
+        checks.same("README: its first commands",
+                    bare.shown(script, f"/{SHARED}").outcome()[1:], (b"", 0))
 
 
 def on_a_bare_debian(checks: Checks, package: Path, folder: Path, given) -> None:
@@ -217,6 +237,7 @@ def on_a_bare_debian(checks: Checks, package: Path, folder: Path, given) -> None
     checks.same("dpkg --verify", bare.run("dpkg", "--verify", "edfstore").out, b"")
     (bare.root / "root/night").mkdir()
     run_there(checks, "a bare Debian", bare.at_home, bare.root / "root/night")
+    as_shown(checks, bare)
     for name in PROGRAMS:
         rendered(checks, name, bare.root)
     checks.same("dpkg -P", bare.run("dpkg", "-P", "edfstore").status, 0)

@@ -23,7 +23,7 @@ from checks.lib.checks import Checks
 SECONDS = 2.0
 TIMES = 3       # clones at most, since others may use the machine
 EXAMPLES = ("examples/edflib.edf", "examples/one-record.edf")
-PROGRAMS = ("edfstore", "edfruns")
+PROGRAMS = ("edfstore", "edfruns", "edfserve", "edfmend")
 SAME = "release: {}, as it was proved here, has the released bytes\n"
 OTHER = "release: {}, as it was proved here, does NOT have the released bytes\n"
 NONE = ("release: no {} lies here to compare: rt ci kept what an earlier run on this machine "

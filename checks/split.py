@@ -1,12 +1,12 @@
-"""Checks `edfruns list`, `write` and `split`: lines, files and statuses on small files and on a
-night with three gaps.
+"""Checks `edfruns list`, `write`, `canonical` and `split`: lines, files and statuses on small files
+and on a night with three gaps.
 
     python3 -m checks.split [--program PATH] [--edfruns PATH]
 
 Without words it runs bin/edfstore and bin/edfruns. Small files are compared with lines written by
 hand; every file of a run with the plain model in checks/lib/runs.py, byte for byte. The files of a
 split go to `edfstore take` in several orders and with repeats, and the export is compared with
-`edfstore convert` of what was split.
+`edfstore convert` of what was split, and so is what `canonical` writes.
 """
 import os
 import random
@@ -146,6 +146,7 @@ def files_of_each(programs: Programs, name: str, data: bytes, listed: str) -> No
         checks.same(part, checks.content(part), run.to_bytes())
     checks.same("the files", checks.names(), sorted(["a.edf", *names]))
     converted = programs.converted("a.edf")
+    checks.run("canonical", "a.edf", out=converted)
     programs.takes("in order", names, converted)
     programs.takes("backwards, and again", names[::-1] + names, converted)
     for part, run in zip(names, made):      # a run's file has one run, itself
@@ -168,7 +169,7 @@ def refused_files(programs: Programs) -> None:
         convert = programs.edfstore.ran("convert", "a.edf")
         checks.same("edfstore convert", (convert.err, convert.status), (line.encode(), 1))
         for words in (("list", "a.edf"), ("write", "a.edf", "1"), ("write", "a.edf", "9"),
-                      ("split", "a.edf", "part"), ("picture", "a.edf")):
+                      ("canonical", "a.edf"), ("split", "a.edf", "part"), ("picture", "a.edf")):
             checks.run(*words, err=line, status=1)
         checks.run("list", "-", given=data, err=printed.fault("-", fault), status=1)
         checks.same("the files", checks.names(), ["a.edf"])
@@ -179,6 +180,7 @@ def words_that_ask_for_nothing(programs: Programs) -> None:
     checks.begin("words that ask for nothing")
     checks.file("a.edf", FILES["R9"])
     for words in ((), ("write", "-", "1"), ("split", "-", "part"), ("list",), ("write", "a.edf"),
+                  ("canonical",), ("canonical", "-"), ("canonical", "a.edf", "more"),
                   ("split", "a.edf"), ("frob", "a.edf"), ("list", "a.edf", "more"),
                   ("write", "a.edf", "1", "more"), ("list", "-x"),
                   *(("write", "a.edf", number)
@@ -193,20 +195,21 @@ def trouble(programs: Programs) -> None:
     """What is not there or can't be written."""
     checks = programs.checks
     checks.begin("trouble")
-    for words in (("list", "none.edf"), ("write", "none.edf", "1"), ("split", "none.edf", "part"),
-                  ("list", ".")):
+    for words in (("list", "none.edf"), ("write", "none.edf", "1"), ("canonical", "none.edf"),
+                  ("split", "none.edf", "part"), ("list", ".")):
         checks.run(*words, err=printed.line(words[1], printed.UNREAD), status=3)
     checks.file("a.edf", FILES["R9"])
     checks.shell("edfruns list a.edf > /dev/full", status=3)
-    unwritten = printed.line("a.edf", printed.UNWRITTEN)
-    checks.shell("edfruns write a.edf 1 > /dev/full", err=unwritten, status=3)
-    checks.shell("edfruns split a.edf none/part", err=unwritten, status=3)
-    checks.shell("edfruns split a.edf part > /dev/full", status=3)
+    for words in ("write a.edf 1", "canonical a.edf", "split a.edf part"):
+        checks.shell(f"edfruns {words} > /dev/full", err=printed.UNWRITTEN_OUTPUT, status=3)
+    checks.shell("edfruns split a.edf none/part",
+                 err=printed.line("none/part-1.edf", printed.UNWRITTEN), status=3)
     checks.same("the files", checks.names(), ["a.edf"])
 
 
 def files_that_are_there(programs: Programs) -> None:
-    """No file that is there is written over, and none is left beside it."""
+    """No file that is there is written over, or that comes to be there, and none is left beside
+    it."""
     checks, made = programs.checks, runs.read_runs(FILES["R9"])
     for taken in ("part-1.edf", "part-2.edf"):
         checks.begin(f"{taken} is there")
@@ -224,11 +227,27 @@ def files_that_are_there(programs: Programs) -> None:
     (checks.folder / "part-2.edf").symlink_to("elsewhere")
     checks.run("split", "a.edf", "part", err=printed.is_there("part-2.edf"), status=1)
     checks.same("the files", checks.names(), ["a.edf", "part-2.edf"])
+    checks.begin("a file that another program has begun, or left, is there")
+    checks.file("a.edf", FILES["R9"])
+    checks.file("part-2.edf.part", b"mine")
+    checks.run("split", "a.edf", "part", err=printed.line("part-2.edf", printed.UNWRITTEN),
+               status=3)
+    checks.same("the files", checks.names(), ["a.edf", "part-2.edf.part"])
+    checks.same("the begun file", checks.content("part-2.edf.part"), b"mine")
+    checks.begin("a file of that name is made meanwhile")
+    checks.file("a.edf", FILES["R9"])
+    os.mkfifo(checks.folder / "f")
+    feed = ("(cat a.edf > f; sleep 0.5; (head -c 770 a.edf; sleep 0.5; printf mine > part-1.edf; "
+            "tail -c +771 a.edf) > f) &")
+    checks.shell(f"{feed} edfruns split f part; s=$?; kill %1 2> /dev/null; exit $s",
+                 err=printed.line("part-1.edf", printed.UNWRITTEN), status=3)
+    checks.same("the files", checks.names(), ["a.edf", "f", "part-1.edf"])
+    checks.same("the other's file", checks.content("part-1.edf"), b"mine")
 
 
 def a_file_that_changes(programs: Programs) -> None:
     """A named pipe that gives another file when it is read again: the run that was listed does not
-    come next, so the words are refused as where a read fails, and no file is left."""
+    come next, and no file is left."""
     checks, data = programs.checks, FILES["R9"]
     cut, later, longer = data[:-20], small("+0", "+9"), small("+0", "+1", "+5")
     for name, second in (("cut", cut), ("with another start", later), ("with a longer run", longer),
@@ -238,9 +257,12 @@ def a_file_that_changes(programs: Programs) -> None:
         checks.file("b.edf", second)
         os.mkfifo(checks.folder / "f")
         feed = "(cat a.edf > f; sleep 0.5; cat b.edf > f) &"
-        for words in ("write f 2 > out", "split f part"):
+        given = ["write f 2 > out", "split f part"]
+        if second != later:     # its first start, its number and its sizes are the same
+            given.append("canonical f > out")
+        for words in given:
             checks.shell(f"{feed} edfruns {words}; s=$?; kill %1 2> /dev/null; exit $s",
-                         err=printed.line("f", printed.UNREAD), status=3)
+                         err=printed.changed("f"), status=3)
         checks.same("the files", checks.names(), ["a.edf", "b.edf", "f", "out"])
 
 
@@ -310,6 +332,7 @@ def a_night_with_three_gaps(programs: Programs) -> None:
     for name, given in (("night.edf", data), ("export.edf", converted)):
         checks.run("list", name, out=listed)
         checks.run("list", "-", given=given, out=listed)
+        checks.run("canonical", name, out=converted)
         checks.run("split", name, f"{name}-run", out=runs.split_lines(f"{name}-run", made))
         for run, part in zip(made, runs.split_names(f"{name}-run", made)):
             checks.run("write", name, str(run.number), out=run.to_bytes())

@@ -6,9 +6,9 @@ instructions that they take.
 Best of COUNT runs of each, 3 if left out; --short: a night of 12.8 MB.
 
 A night of 195 MB: its card, which is one run, and the same night with three gaps, which is four.
-`list` and `picture` read once, `write` and `split` twice. Each word is run from a file, right after
-a `cat` of that file: into another file for `write` and `split`, which write as much, and to
-/dev/null for the others. `list` and `picture` read a pipe too, right after a `cat` between pipes.
+`list` and `picture` read once, `write`, `canonical` and `split` twice. Each word is run from a
+file, right after a `cat` of that file: into another file for those three, which write as much, and
+to /dev/null for the others. `list` and `picture` read a pipe too, right after a `cat` between pipes.
 From file to file `cat` lets the kernel copy, and no byte passes through it; between pipes it reads
 and writes. What is written is compared with the plain model's, but for the picture. Then the same
 words on a night of 7,200 records of 1.7 kB, whose instructions callgrind counts. It needs time and
@@ -19,7 +19,7 @@ import sys
 from dataclasses import dataclass
 from pathlib import Path
 
-from checks.lib import arguments, gapped, measure, night, runs
+from checks.lib import arguments, gapped, measure, model, night, runs
 
 LIST_MOST, WRITE_MOST, PEAK_MOST = 1.5, 3.0, 16_000_000     # the goals
 
@@ -45,13 +45,14 @@ class Line:
 
 # The words that write as much as they read: their `cat` writes a file too, and that of the others
 # nothing.
-COPIES = ("write", "split")
+COPIES = ("write", "canonical", "split")
 
 
 def words_of(name: str, path: Path, folder: Path) -> dict:
     """Each word's command without the program, and the file for its standard output."""
     return {f"list, {name}": (["list", path], folder / f"{name}.txt"),
             f"write 1, {name}": (["write", path, "1"], folder / f"{name}-one.edf"),
+            f"canonical, {name}": (["canonical", path], folder / f"{name}-canonical.edf"),
             f"split, {name}": (["split", path, folder / f"{name}-run"],
                                folder / f"{name}-split.txt"),
             f"picture, {name}": (["picture", path], folder / f"{name}.svg")}
@@ -83,14 +84,18 @@ def one_round(program, files: dict, folder: Path, best: dict) -> None:
 def compared(files: dict, folder: Path) -> None:
     """What the last round wrote, against the model."""
     for name, path in files.items():
-        made = runs.read_runs(path.read_bytes())
+        data = path.read_bytes()
+        made = runs.read_runs(data)
         expected = [run.to_bytes() for run in made]
         same = ((folder / f"{name}.txt").read_text() == runs.lines(made),
                 (folder / f"{name}-one.edf").read_bytes() == expected[0],
+                (folder / f"{name}-canonical.edf").read_bytes() ==
+                model.canonical(*model.read(data)),
                 [(folder / part).read_bytes() for part in runs.split_names(f"{name}-run", made)] ==
                 expected)
         if not all(same):
-            sys.exit(f"{name}: lines, the first run and the files of the split are as the model's: "
+            sys.exit(f"{name}: lines, the first run, the canonical file and the files of the split "
+                     f"are as the model's: "
                      f"{same}")
 
 
@@ -122,7 +127,7 @@ def nights(folder: Path, kind: night.Night, prefix: str = "") -> dict:
 
 def verdict(best: dict) -> None:
     ratios = {word: line.seconds / line.copied for word, line in best.items()}
-    for kind, most in (("list", LIST_MOST), ("write", WRITE_MOST)):
+    for kind, most in (("list", LIST_MOST), ("write", WRITE_MOST), ("canonical", WRITE_MOST)):
         worst = max(ratio for word, ratio in ratios.items() if word.startswith(kind))
         print(f"`{kind}` takes at most {worst:.2f} times `cat` (goal: at most {most})")
     peak = max(line.peak for line in best.values())

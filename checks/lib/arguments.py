@@ -11,8 +11,10 @@ import sys
 from pathlib import Path
 
 TOP = Path(__file__).resolve().parents[2]
-OPTIONS = {"edfstore": "program", "edfruns": "edfruns"}     # the option that names each program
-BOTH = tuple(OPTIONS)
+# The option that names each program
+OPTIONS = {"edfstore": "program", "edfruns": "edfruns", "edfserve": "edfserve",
+           "edfmend": "edfmend"}
+PROGRAMS, BOTH = tuple(OPTIONS), ("edfstore", "edfruns")
 
 
 def path(word: str) -> Path:

@@ -71,6 +71,7 @@ def lines(*pairs) -> str:
     return "".join(line(name, text) for name, text in pairs)
 
 
+UNWRITTEN_OUTPUT = fault("standard output", faults.write())
 NO_STORE, FOREIGN = fault("store", faults.store()), fault("store", faults.foreign())
 
 
@@ -125,6 +126,11 @@ def is_there(name: str) -> str:
     return f"{name} is there already; nothing was written\n"
 
 
+def changed(name: str) -> str:
+    """What `edfruns` prints of a file that is another when it is read again."""
+    return f"{name} changed between its readings\n"
+
+
 def undated(number: int) -> str:
     """What `edfruns` prints of a run that no header can date."""
     return f"run {number} starts after 2084, which a file without a date can't tell\n"
@@ -149,6 +155,36 @@ NOT_PERMITTED = "no permission to read and write it, or files beside it"
 BUSY = "another program has it open; run this again when that has ended"
 OTHER_TABLES = ("its tables are not a store's, or have an index or a trigger; it was left as it is")
 OTHER_ROWS = "its rows are such as no submissions leave; put it aside, as it is"
+FULL = "the disk is full"
+THERE = "it is there already: a program is writing it, or was stopped then; if so, remove it"
+A_PIPE = ("a pipe can't be read a second time, unless it is written again: write it to a file "
+          "first")
+CHANGED = "it changed between the two readings: run this again once no program writes it"
+
+# What to do after a refusal
+TOO_SHORT = "it has fewer than 256 bytes: it was cut, or is no EDF file; send it again"
+PLAIN = ("plain EDF has no annotations signal and no start for each data record: edfstore and "
+         "edfruns take EDF+ alone; edfmend makes EDF+ of it")
+CUT = "it ends within a data record, so it was cut: send it again"
+OTHER_LETTERS = ("a byte of its header is no printable ASCII, as in a name with other letters: "
+                 "edfmend spells them in ASCII")
+IS_BDF = ("a BDF file, whose samples have 24 bits: edfstore and edfruns take EDF+ alone, so export "
+          "it as EDF+")
+NO_SEX = ("the second subfield of its patient field is no sex (F, M or X): edfmend makes it that "
+          "of EDF+")
+NO_BIRTHDATE = ("the third subfield of its patient field is no birthdate (dd-MMM-yyyy, in "
+                "capitals, or X): edfmend makes it that of EDF+")
+FEW_OF_PATIENT = ("its patient field has fewer than the four subfields code, sex, birthdate and "
+                  "name: edfmend makes it that of EDF+")
+NO_STARTDATE = ("its recording field does not begin with Startdate and a space: edfmend makes it "
+                "that of EDF+")
+NO_DATE = ("after Startdate its recording field has no date (dd-MMM-yyyy, in capitals) and no X: "
+           "edfmend makes it that of EDF+")
+FEW_OF_RECORDING = ("its recording field has fewer than the three subfields investigation, "
+                    "technician and equipment after its date: edfmend makes it that of EDF+")
+STORED_OTHERWISE = ("other samples or annotations are stored for this start, and stay: keep the "
+                    "file, and tell a person")
+NOT_WHOLE = "mend the cause and run it again: what standard output got is not whole"
 
 
 def cause(path, text: str) -> str:
@@ -156,6 +192,8 @@ def cause(path, text: str) -> str:
     return f"{path}: {text}\n"
 
 
-def step(nth: int, count: int, megabytes: int = 0) -> str:
-    """What `take` prints at each file, and at each megabyte that it has read."""
-    return f"\rfile {nth} of {count}, {megabytes} MB read"
+def step(nth: int, count: int, megabytes: int = 0, size: int = 0, unit: str = "file") -> str:
+    """What is printed as the nth file is begun, and at each megabyte that was read of it. It has
+    `size` megabytes, the last of which may be less than one; 0 where that is not known."""
+    known = f" of {size}" if size else ""
+    return f"\r{unit} {nth} of {count}, {megabytes}{known} MB read"
