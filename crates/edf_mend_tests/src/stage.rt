@@ -73,7 +73,7 @@ impl Maker for Desk {
         }))
     }
 
-    fn finish(&mut self, writer: Counted<Page>, _part: &str, _name: &str) -> bool {
+    fn finish(&mut self, writer: Counted<Page>) -> bool {
         drop(writer);
         self.is_named = true;
         true
