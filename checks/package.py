@@ -7,9 +7,10 @@ same bytes; PACKAGE is looked at instead of these where it is named. It has the 
 their man pages, the documents and the examples, and less than MOST bytes; no link of its documents
 is dead, `lintian` finds no error, and `man` no warning of the installed pages. As root and with
 debootstrap it is installed by `dpkg -i` on a Debian of the least packages, run there, by the
-commands that README and the examples' README show too, and removed again. FOLDER is such a Debian; else
-one is made, which takes minutes and the network, and is gone at the end. Without root or
-debootstrap it is unpacked here, `ldd` says what it lacks, and it is run here: the last lines say
+commands that README, REFUSALS and the examples' READMEs show too, and removed again: the folder of
+examples/receiving gets a file by SFTP and one by `cp`, where packages can be had. FOLDER is such a
+Debian; else one is made, which takes minutes and the network, and is gone at the end. Without root
+or debootstrap it is unpacked here, `ldd` says what it lacks, and it is run here: the last lines say
 which of the ways was taken.
 
 Three controls must fail: a package without its copyright file has an error by lintian, one that
@@ -20,13 +21,15 @@ import os
 import shutil
 from pathlib import Path
 
-from checks.lib import arguments, links, measure, model, printed, runs, sessions
+from checks.lib import arguments, installed, links, measure, model, printed, runs, serving, sessions
 from checks.lib.checks import Checks
 
 MOST = 2_400_000
 SUITE = "bookworm"
 PROGRAMS = ("edfstore", "edfruns", "edfserve", "edfmend")
 SHARED = "usr/share/doc/edfstore"
+SERVICE = {"usr/lib/edfstore/receive": ("examples/receiving/receive", 0o755),
+           installed.UNIT: ("examples/receiving/edfserve@.service", 0o644)}
 EXAMPLES = ("edflib.edf", "one-record.edf")
 DOCUMENTS = ("README.md", "copyright", "changelog.gz", "docs/FORMAT.md", "docs/REFUSALS.md",
              "docs/RELIABILITY.md", "docs/READERS.md", *(f"examples/{name}" for name in EXAMPLES))
@@ -98,6 +101,12 @@ def contents(checks: Checks, package: Path, folder: Path) -> Path:
         page = text("zcat", root / f"usr/share/man/man1/{name}.1.gz")
         checks.same(f"{name}.1", page == (arguments.TOP / f"docs/{name}.1").read_text(), True)
         rendered(checks, name, root)
+    for name, (source, mode) in SERVICE.items():
+        there = root / name
+        checks.same(name, (there.read_bytes(), there.stat().st_mode & 0o777),
+                    ((arguments.TOP / source).read_bytes(), mode))
+    runs_there = (root / installed.UNIT).read_text().split("\nExecStart=/")[1].split(" ")[0]
+    checks.same("the unit runs what is there", (root / runs_there).is_file(), True)
     missing = [name for name in DOCUMENTS if not (root / SHARED / name).is_file()]
     checks.same("documents that it lacks", missing, [])
     checks.same("dead links", links.dead(sorted((root / SHARED).rglob("*.md")), root / SHARED), [])
@@ -205,7 +214,7 @@ class Bare:
 
     def installed(self) -> list:
         """What of the package is there."""
-        paths = (*(f"usr/bin/{name}" for name in PROGRAMS), SHARED)
+        paths = (*(f"usr/bin/{name}" for name in PROGRAMS), *SERVICE, SHARED)
         return [path for path in paths if (self.root / path).exists()]
 
 
@@ -221,6 +230,36 @@ def as_shown(checks: Checks, bare: Bare) -> None:
         script = f"set -e; cp -r examples/oximeter /tmp/first; cd /tmp/first\n{lines}"
         checks.same("README: its first commands",
                     bare.shown(script, f"/{SHARED}").outcome()[1:], (b"", 0))
+    in_sentences(checks, bare)
+
+
+def in_sentences(checks: Checks, bare: Bare) -> None:
+    """The commands that README names in its sentences, and those of REFUSALS for a cut file."""
+    checks.begin("the documents' other commands")
+    place = bare.root / "tmp/other"
+    place.mkdir()
+    whole = (arguments.TOP / "examples/oximeter/part1.edf").read_bytes()
+    (place / "part7.edf").write_bytes(whole)
+    (place / "cut.edf").write_bytes((whole[:236] + b"-1      " + whole[244:])[:10_000])
+    (place / "in.edf").write_bytes(whole[:192] + b" " * 44 + whole[236:])
+
+    def run(line: str) -> tuple:
+        return bare.shown(line, "/tmp/other").outcome()
+
+    held = model.Store()
+    taken = printed.lines(("part7.edf", held.take(whole)))
+    asked = "printf 'take part7.edf\\nexport 1 so_far.edf\\n' | edfserve night.db"
+    wanted = taken + serving.status(0) + serving.exported("so_far.edf", held.export(1)) \
+        + serving.status(0)
+    checks.same("edfserve", run(asked), (wanted.encode(), b"", 0))
+    shown = sessions.sessions(bare.root / SHARED / "docs/REFUSALS.md")
+    checks.same("REFUSALS: a cut file", [run(it.script)[1:] for it in shown], [(b"", 0)])
+    checks.same("REFUSALS: what there is of it", run("edfstore take :memory: front.edf")[0],
+                b"front.edf accepted new=59 known=0\n")
+    checks.same("edfmend --dry-run", run("edfmend --dry-run in.edf")[2], 0)
+    checks.same("edfmend", run("edfmend in.edf out.edf")[2], 0)
+    checks.same("edfstore take :memory: *.edf", run("edfstore take :memory: out.edf part7.edf"),
+                (b"out.edf accepted new=160 known=0\npart7.edf accepted new=160 known=0\n", b"", 0))
 
 
 def on_a_bare_debian(checks: Checks, package: Path, folder: Path, given) -> None:
@@ -238,6 +277,7 @@ def on_a_bare_debian(checks: Checks, package: Path, folder: Path, given) -> None
     (bare.root / "root/night").mkdir()
     run_there(checks, "a bare Debian", bare.at_home, bare.root / "root/night")
     as_shown(checks, bare)
+    installed.tried(checks, bare.root)
     for name in PROGRAMS:
         rendered(checks, name, bare.root)
     checks.same("dpkg -P", bare.run("dpkg", "-P", "edfstore").status, 0)

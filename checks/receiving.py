@@ -5,13 +5,18 @@ killed again and again; each export is then the recorder's card.
 
 Uploads are slow, broken off and begun again, sent twice, renamed while nothing receives, of count
 -1 and written data record by record, under names with spaces and letters beyond ASCII, by `cp` and
-`mv` and, where it is installed, by OpenSSH's `sftp`. `receive` and its `edfserve` are killed 50
-times if KILLS is left out, and begun again as systemd does it. One store's disk is filled, and has
-room again. In the morning the card comes. Then each upload that was renamed is in taken/ or
-refused/, nothing was taken in part, and each export is that of the card.
+`mv` and, where it is installed, by OpenSSH's `sftp`. Two files of each recorder, of count -1, are
+written under their names, and never renamed: one is kept open, and rests inside a data record for
+longer than RECEIVE_STILL, one is opened anew for each piece. `receive` and its `edfserve` are
+killed 50 times if KILLS is left out, and begun again as systemd does it. One store's disk is
+filled, and has room again. In the morning all is begun again, and the card comes. Then each upload
+is in taken/ or refused/, nothing was taken in part, and each export is that of the card. Before
+that one file is put into a folder without a rename: it waits, or is taken by --on-close.
 
---control runs three other `receive`s, each of which must lose something: one takes files that are
-still written, one moves a file before its answer, one forgets what came while nothing received.
+--control runs other `receive`s, each of which must lose something: one takes files whose names say
+that they are still written, one any that lie there, one at its start any that lie there, one then
+also those that are open, one moves a file before its answer, one forgets what came while nothing
+received.
 """
 import errno
 import os
@@ -32,27 +37,52 @@ SFTP, SFTP_SERVER = shutil.which("sftp"), Path("/usr/lib/openssh/sftp-server")
 NAMES = ("part {:02}.edf", "Nacht Müller {:02}.edf", "p{:02}.EDF", "部分-{:02}.edf")
 MOST_SECONDS = 120      # until all that came is answered, and in a control
 IN_CONTROL = 15
+RECORDS, FRAGMENTS = 960, 24
 NEVER_SENT = 2          # files of each night that only the card brings
+STILL = 6               # seconds without a change, here; a rest of a writer, by whether it is open
+RESTS = {True: 8, False: 2.5}
 CONTROLS = {
-    "takes a file that is still written": (
+    "takes a file whose name says that it is still written": (
         ("events=moved_to\n", "events=create,moved_to,modify\n"),
         (".* | *.part | *$'\\n'*", ".taking | *$'\\n'*")),
+    "takes any file that lies there": (
+        ('! is_still "inbox/$name"', "false"), ('[ -n "${early[$name]:-}" ]', "true")),
+    "takes at its start any file that lies there": (('! is_still "inbox/$name"', "false"),),
+    "takes at its start a file that is open": (("! perl", "! false"),),
     "moves a file before its answer": (
-        ('  printf \'take %s\\n\' "$1" >&"${serve[1]}" || fail "edfserve has ended"\n',
+        ('  printf \'take %s\\n\' "$1" >&"$ask" || fail "edfserve has ended"\n',
          '  put_away "inbox/.taking/$1" taken; sleep 0.1\n'
-         '  printf \'take %s\\n\' "$1" >&"${serve[1]}" || fail "edfserve has ended"\n'),
-        ('put_away "inbox/.taking/$1" taken ;;', ": ;;"),
-        ('put_away "inbox/.taking/$1" refused ;;', 'put_away "taken/$1" refused ;;'),
+         '  printf \'take %s\\n\' "$1" >&"$ask" || fail "edfserve has ended"\n'),
+        ('  put_away "inbox/.taking/$1" $place\n',
+         '  [ $place = taken ] || put_away "taken/$1" refused\n'),
         ("cd inbox/.taking ", "cd taken ")),
     "forgets what came while it was down": (
-        ("receive_all\nwhile", "due=$((SECONDS + wait))\nwhile"),
-        ("  if [ $SECONDS -ge $due ]; then receive_all; fi\n", "")),
+        ("for name in inbox/*; do early[${name##*/}]=1; done\nsweep\n",
+         "due=$((SECONDS + wait))\n"),
+        ("  if [ $SECONDS -ge $due ]; then sweep; fi\n", "")),
 }
 
 
 def uncounted(data: bytes) -> bytes:
     """The file as a recorder writes it that does not know yet how many data records come."""
     return data[:236] + b"-1      " + data[244:]
+
+
+def append(path: Path, data: bytes, made: int = None) -> None:
+    """Writes it behind what the file has, by `made` where it is open already; where the disk is
+    full, once there is room."""
+    while data:
+        try:
+            opened = os.open(path, os.O_WRONLY | os.O_CREAT | os.O_APPEND) if made is None else made
+            try:
+                data = data[os.write(opened, data):]
+            finally:
+                if made is None:
+                    os.close(opened)
+        except OSError as why:
+            if why.errno != errno.ENOSPC:
+                raise
+            time.sleep(0.1)
 
 
 @dataclass
@@ -65,7 +95,9 @@ class Site:
     added: dict
     rng: random.Random
     child: subprocess.Popen = None
-    renamed: dict = field(default_factory=dict)     # the uploads' bytes, by their names
+    options: tuple = ()
+    sent: dict = field(default_factory=dict)        # the uploads' bytes, by their names
+    in_place: tuple = ("kept open.edf", "opened anew.edf")
     kills: int = 0
     lost: str = ""
     is_over: bool = False
@@ -77,7 +109,8 @@ class Site:
 
     def start(self) -> None:
         self.child = subprocess.Popen(
-            ["bash", self.script, self.folder, self.folder / "night.db"], start_new_session=True,
+            ["bash", self.script, *self.options, self.folder, self.folder / "night.db"],
+            start_new_session=True,
             env={**os.environ, **self.added}, stdin=subprocess.DEVNULL,
             stdout=subprocess.DEVNULL, stderr=open(self.folder / "journal", "ab"))
 
@@ -120,7 +153,7 @@ class Site:
 
     def rename(self, hidden: Path, name: str, data: bytes) -> None:
         os.rename(hidden, self.inbox / name)
-        self.renamed[name] = data
+        self.sent[name] = data
 
     def upload(self, name: str, data: bytes) -> None:
         """Uploads a file; where the disk is full, it begins again."""
@@ -141,7 +174,7 @@ class Site:
                     f'rename "{self.inbox}/{name}.part" "{self.inbox}/{name}"\n'
             if measure.ran(SFTP, "-q", "-b", "-", "-D", SFTP_SERVER, given=lines.encode()).status:
                 raise OSError(errno.ENOSPC, "sftp failed")
-            self.renamed[name] = data
+            self.sent[name] = data
             return
         if way == "broken off":
             self.write(name, data[:len(data) // 2], 2)
@@ -149,10 +182,29 @@ class Site:
             data = uncounted(data)
         self.rename(self.write(name, data, 1 if way == "at once" else 12), name, data)
 
+    def write_in_place(self, name: str, data: bytes) -> None:
+        """Writes a file under its name, one and a half data records at a time."""
+        head = int(data[184:192])
+        step = (len(data) - head) * 3 // (2 * RECORDS // FRAGMENTS)
+        path, is_kept_open = self.inbox / name, name == self.in_place[0]
+        append(path, data[:head])
+        made = os.open(path, os.O_WRONLY | os.O_APPEND) if is_kept_open else None
+        for nth, at in enumerate(range(head, len(data), step)):
+            append(path, data[at:at + step], made)
+            time.sleep(RESTS[is_kept_open] if nth == 6 else 0.3)    # 10.5 data records are there
+        if is_kept_open:
+            os.close(made)
+        self.sent[name] = data
+
     def send(self) -> None:
         """Sends the night but for what only the card brings, some files twice and one cut."""
-        order = self.rng.sample(self.parts, len(self.parts))[NEVER_SENT:]
-        for at, path in enumerate(order):
+        parts = self.rng.sample(self.parts, len(self.parts))[NEVER_SENT:]
+        writers = [threading.Thread(target=self.tell, args=(self.write_in_place, name,
+                                                            uncounted(parts.pop().read_bytes())))
+                   for name in self.in_place]
+        for it in writers:
+            it.start()
+        for at, path in enumerate(parts):
             data, form = path.read_bytes(), NAMES[at % len(NAMES)]
             self.upload(form.format(at), data)
             if at % 5 == 0:
@@ -160,25 +212,27 @@ class Site:
             if at == 3:
                 self.upload("cut.edf", data[:-100])
             time.sleep(self.rng.uniform(0, 0.2))
+        for it in writers:
+            it.join()
 
-    def send_all(self) -> None:
-        """Sends it, and keeps why that failed: a `receive` may have taken what was still written."""
+    def tell(self, work, *given) -> None:
+        """Does it, and keeps why that failed: a `receive` may have taken what was still written."""
         try:
-            self.send()
+            work(*given)
         except OSError as why:
             self.lost = str(why)
 
-    def is_quiet(self) -> bool:
-        """Whether each upload that was renamed is put away."""
+    def is_quiet(self, besides: tuple) -> bool:
+        """Whether each upload is put away, besides these."""
         left = [*self.inbox.glob("*.edf"), *self.inbox.glob("*.EDF"),
                 *(self.inbox / ".taking").glob("*")]
-        return not [path for path in left if not path.name.startswith(".")]
+        return not [path for path in left if not path.name.startswith((".", *besides))]
 
 
 def expected(site: Site) -> bytes:
     """The export of all that was uploaded."""
     held = model.Store()
-    for data in site.renamed.values():
+    for data in site.sent.values():
         held.take(data)
     return held.export(1)
 
@@ -187,7 +241,7 @@ def look(site: Site, program: Path) -> int:
     """Compares what a site has with what was sent; how many uploads it looked at."""
     if site.lost:
         raise Lost(f"an upload failed: {site.lost}")
-    for name, data in site.renamed.items():
+    for name, data in site.sent.items():
         found = [path for place in ("taken", "refused")
                  for path in (site.folder / place).glob(f"{name}*")
                  if not path.name.endswith(".txt") and path.read_bytes() == data]
@@ -202,7 +256,7 @@ def look(site: Site, program: Path) -> int:
     export = measure.ran(program, "export", site.folder / "night.db", 1)
     if export.status or export.out != expected(site):
         raise Lost(f"the export is not that of the uploads: {export.err!r}")
-    return len(site.renamed)
+    return len(site.sent)
 
 
 class Disk:
@@ -238,7 +292,7 @@ def sites_in(folder: Path, disk: Disk, script: Path, added: dict, seed: int) -> 
         home = (disk.place if nth == 0 else folder) / f"recorder {nth}"
         source = folder / f"source {nth}"
         home.mkdir(), source.mkdir()
-        sent = night.Night(records=960, samples=(64, 32), fragments=24, seed=seed + nth,
+        sent = night.Night(records=RECORDS, samples=(64, 32), fragments=FRAGMENTS, seed=seed + nth,
                            patient=f"P{nth} F 02-MAY-1951 X")
         site = Site(home, sent.parts(source), sent.card(source / "card.edf"), script, added,
                     random.Random(f"{seed} {nth}"))
@@ -259,21 +313,21 @@ def disturb(sites: list, disk: Disk, kills: int, senders: list, rng: random.Rand
             disk.empty()
 
 
-def settle(sites: list, seconds: float) -> None:
-    """Waits until all that came is put away, so many seconds at the most."""
+def settle(sites: list, seconds: float, besides: tuple = ()) -> None:
+    """Waits until all that came is put away, besides these, so many seconds at the most."""
     until = time.monotonic() + seconds
-    while not all(it.is_quiet() for it in sites) and time.monotonic() < until:
+    while not all(it.is_quiet(besides) for it in sites) and time.monotonic() < until:
         time.sleep(0.2)
     time.sleep(1)
 
 
-def stopped(sites: list, program: Path) -> int:
+def stopped(sites: list, looked=lambda site: 0) -> int:
     """Ends what receives, looks at what each site has, and begins it again."""
     for site in sites:
         site.lock.acquire()
         site.end()
     try:
-        return sum(look(site, program) for site in sites)
+        return sum(map(looked, sites))
     finally:
         for site in sites:
             site.start()
@@ -285,23 +339,59 @@ def night_of(sites: list, disk: Disk, given, seconds: float) -> int:
     for site in sites:
         site.start()
         threading.Thread(target=site.supervise, daemon=True).start()
-    senders = [threading.Thread(target=it.send_all) for it in sites]
+    senders = [threading.Thread(target=it.tell, args=(it.send,)) for it in sites]
     for it in senders:
         it.start()
     disturb(sites, disk, given.count, senders, random.Random(given.seed))
+    settle(sites, seconds, besides=sites[0].in_place)
+    stopped(sites)
     settle(sites, seconds)
-    stopped(sites, given.program)
+    stopped(sites, lambda site: look(site, given.program))
     for site in sites:
         site.upload("card.edf", site.card.read_bytes())
     settle(sites, seconds)
-    return stopped(sites, given.program)
+    return stopped(sites, lambda site: look(site, given.program))
+
+
+def surroundings(given, still: int) -> dict:
+    return {"PATH": f"{given.edfserve.parent}:{os.environ['PATH']}", "RECEIVE_WAIT": "1",
+            "RECEIVE_STILL": str(still)}
+
+
+def unrenamed(given, folder: Path) -> None:
+    """A file that was put there without a rename waits, and the journal says so once, until
+    `receive` begins again; --on-close takes it at once."""
+    source = arguments.TOP / "examples/oximeter/part1.edf"
+    for options in ((), ("--on-close",)):
+        home = folder / f"without a rename {len(options)}"
+        (home / "inbox").mkdir(parents=True)
+        site = Site(home, [], source, RECEIVE, surroundings(given, 2), random.Random(0),
+                    options=options)
+        site.start()
+        try:
+            site.rename(site.write("first.edf", source.read_bytes(), 1), "first.edf", b"")
+            settle([site], 20)          # now it watches
+            shutil.copy(source, home / "inbox/there.edf")
+            if options:
+                settle([site], 20)
+            time.sleep(8)
+            waits, lines = (home / "inbox/there.edf").exists(), (home / "journal").read_text()
+            told = lines.count("receive: there.edf: no rename of it was seen")
+            if (waits, told) != ((False, 0) if options else (True, 1)):
+                raise Lost(f"{options}: waits in the inbox: {waits}, told {told} times")
+            site.end()
+            site.start()
+            settle([site], 20)
+            if not (home / "taken/there.edf").exists():
+                raise Lost(f"{options}: not taken at the next start")
+        finally:
+            site.end()
 
 
 def tried(given, script: Path, folder: Path, seconds: float = MOST_SECONDS) -> int:
     """One night of three recorders; how many uploads were looked at."""
-    added = {"PATH": f"{given.edfserve.parent}:{os.environ['PATH']}", "RECEIVE_WAIT": "1"}
     disk = Disk(folder / "disk")
-    sites = sites_in(folder, disk, script, added, given.seed)
+    sites = sites_in(folder, disk, script, surroundings(given, STILL), given.seed)
     try:
         return night_of(sites, disk, given, seconds)
     finally:
@@ -341,18 +431,20 @@ def control(given) -> None:
 def main() -> None:
     parser = arguments.Parser(__doc__, programs=("edfstore", "edfserve"), count=50)
     parser.add_argument("--seed", type=int, default=1, help="of the nights, 1 if left out")
-    parser.add_argument("--control", action="store_true", help="run three wrong ones instead")
+    parser.add_argument("--control", action="store_true", help="run wrong ones instead")
     given = parser.read()
+    measure.need("inotifywait", "perl")
     if given.control:
         control(given)
     with measure.scratch() as scratch:
         try:
+            unrenamed(given, Path(scratch))
             count = tried(given, RECEIVE, Path(scratch))
         except Lost as why:
             print(f"LOST OR IN PART: {why}")
             end(1, 1)
-    print(f"{count} uploads of three recorders, {given.count} kills: each is in taken/ or refused/, "
-          "and each export is that of its card")
+    print(f"{count} uploads of three recorders, {given.count} kills: each is in taken/ or "
+          "refused/, and each export is that of its card")
     end(count, 0)
 
 
