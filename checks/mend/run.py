@@ -18,7 +18,8 @@ CODE = ("--patient", "S-0118")
 SIGNALS = (Signal(), Signal("Resp nasal", "thermistor", "mV", "-3", "3", "-100", "100", "", "1"))
 RECORDS = [(bytes([nth, 0, 5, 1, 9, nth]), keeping(f"+{nth}") + tal(f"+{nth}.5", "Snore"))
            for nth in range(3)]
-GOOD = fragment(Header((*SIGNALS, annotations_signal(12)), count="3", reserved="EDF+C"), RECORDS)
+GOOD = fragment(Header((*SIGNALS, annotations_signal(16)), count="3", reserved="EDF+C"), RECORDS)
+BLOCK = slice(6, 38)                     # of a data record of GOOD
 PLAIN = fragment(Header(SIGNALS, count="3", reserved=""), [(samples, []) for samples, _ in RECORDS])
 
 
@@ -28,6 +29,23 @@ def at_field(which: int, text):
 
 def at_column(which: int, signal: int, text):
     return lambda data: by_hand.column(data, which, signal, text)
+
+
+def in_block(nth: int, old: bytes, new: bytes):
+    """Other bytes in the annotations block of a data record of GOOD, counted from 0; its fill makes
+    room for them."""
+    def spoil(data: bytes) -> bytes:
+        at = len(GOOD) - (3 - nth) * BLOCK.stop + BLOCK.start
+        end = at + BLOCK.stop - BLOCK.start
+        block = data[at:end].replace(old, new, 1).rstrip(b"\0") + b"\0"
+        return data[:at] + block.ljust(end - at, b"\0") + data[end:]
+    return spoil
+
+
+def without_annotations(data: bytes) -> bytes:
+    """The file without its last signal, which is that of annotations."""
+    header = Header(SIGNALS, count="3", reserved="EDF+C")
+    return fragment(header, [(samples, []) for samples, _ in RECORDS])
 
 
 # A name, the rule that the ledger names, and what spoils a good file. No two of one field.
@@ -45,6 +63,8 @@ FAULTS = (
                                  by_hand.DIGITAL_HIGH, 2, "-100")),
     ("other limits of annotations", "annotations", at_column(by_hand.DIGITAL_LOW, 3, "-2048")),
     ("a count of more", "count", at_field(by_hand.COUNT, "7")),
+    ("a text in Latin-1", "texts", in_block(0, b"Snore", b"Sn\xf6re")),
+    ("an onset finer than a nanosecond", "texts", in_block(2, b"+2.5", b"+2.5000000004")),
 )
 OTHERS = (
     ("a patient that is a name", "patient", at_field(by_hand.PATIENT, "Haagse Harry"), CODE),
@@ -53,6 +73,11 @@ OTHERS = (
         by_hand.column(data, by_hand.LOW, 1, "0"), by_hand.HIGH, 1, "0"), ()),
     ("no count, and a piece of a data record", "count",
      lambda data: by_hand.unknown(data) + b"abc", ()),
+    ("EDF+C without an annotations signal", "annotations", without_annotations, ()),
+    ("a block filled with spaces", "texts",
+     lambda data: data[:-12] + b" " * 12, ()),
+    ("a duration finer than a nanosecond", "texts",
+     in_block(1, b"+1.5", b"+1.5\x150.33333333333"), ()),
     ("a recording with a small month", "recording",
      at_field(by_hand.RECORDING, "Startdate 02-mar-2002 N1 T3 REC5"), ()),
 )

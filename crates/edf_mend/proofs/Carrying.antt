@@ -6,7 +6,7 @@ use Rattle.std.proofs.Common.{◌∙◌, subst, arith, append-nil, length-append
 use Rattle.std.specs.Io.KnownBytes.{Consumes, IsAtEnd}
 use Rattle.std.proofs.KnownBytes.{Consumes-nil, Consumes-trans, Appends-nil}
 use Rattle.std.proofs.lemmas.Grind.{flat_map-append}
-use Rattle.std.proofs.lemmas.List.Elements.{All-nil, All-push, AllZip-push}
+use Rattle.std.proofs.lemmas.List.Elements.{All-nil, All-push, AllZip-push, length_all_zip}
 use Rattle.edf_field.specs.Number.{duration_of}
 use Rattle.edf_header.specs.Header.{Layout, least_records}
 use Rattle.edf_tal.specs.declared.place.Place.{Place}
@@ -18,7 +18,10 @@ use Rattle.edf_fragment.proofs.Runs.{AreDataRecords-snoc}
 use Rattle.edf_canonical.specs.Output.{Buffered}
 use Rattle.edf_canonical.proofs.Puts.{writes-then, writes-same}
 use Rattle.edf_mend.specs.Carried.{IsCarried}
+use Rattle.edf_mend.specs.Rewritten.{RecordEdits}
+use Rattle.edf_mend.specs.Texts.{IsRespelled}
 use Rattle.edf_mend.specs.Mended.{joined, AreInTurn, FollowInTurn}
+use Rattle.edf_mend.proofs.Telling.{told-one}
 use Rattle.edf_mend.specs.Inside.Steps.{CarriedSoFar, CarriesOne, CarriedAll}
 
 pub joined-one : (ps : List (List ℕ)) (p : List ℕ) → joined (ps ++ p ∷ []) ≡ joined ps ++ p
@@ -42,7 +45,7 @@ in-turn-one start duration (x ∷ rs) r turn at none = (
 
 module _ (l : Layout) (left : Option (List ℕ)) (a : Buffered) (size added : ℕ) where
   -- none so far
-  pub none-carried : (p : Progress) → p ≡ at_first → CarriedSoFar l p left left a a size added 0
+  pub none-carried : (p : Progress) → p ≡ at_first → CarriedSoFar l p left left a a size added 0 []
   none-carried p first = record {
     olds = [];
     news = [];
@@ -50,9 +53,11 @@ module _ (l : Layout) (left : Option (List ℕ)) (a : Buffered) (size added : �
     read = Consumes-nil left;
     put = record { front = []; wrote = Appends-nil a.contents; parts = append-nil a.held };
     carries = record {
+      carried_records = [];
       are_records = (ap (λ (x : Progress). x.place) first, refl);
       in_turn = λ _. tt;
       carried = search rules;
+      rewritten = refl;
       sizes = All-nil (λ (r : List ℕ). length r ≡ size);
       counted = refl;
     };
@@ -64,10 +69,11 @@ module _ (l : Layout) (left : Option (List ℕ)) (a : Buffered) (size added : �
 
   -- one more
   pub one-carried : (p q : Progress) (mid rest : Option (List ℕ)) (b c : Buffered) (old : List ℕ)
-      (count : ℕ) → CarriedSoFar l p left mid a b size added count → Consumes mid rest old
-      → length old ≡ size → CarriesOne l p q b c count added old
-      → CarriedSoFar l q left rest a c size added (count + 1)
-  one-carried p q mid rest b c old count so read len one =
+      (count : ℕ) (told tells : List RecordEdits) → CarriedSoFar l p left mid a b size added count told
+      → Consumes mid rest old → length old ≡ size
+      → CarriesOne l p q b c count added told tells old
+      → CarriedSoFar l q left rest a c size added (count + 1) tells
+  one-carried p q mid rest b c old count told tells so read len one =
       let olds : joined (so.olds ++ old ∷ []) ≡ joined so.olds ++ old = joined-one so.olds old in
       let news : joined (so.news ++ one.new ∷ []) ≡ joined so.news ++ one.new =
       joined-one so.news one.new in
@@ -93,8 +99,17 @@ module _ (l : Layout) (left : Option (List ℕ)) (a : Buffered) (size added : �
           are_records = subst (λ (x : List ℕ). AreDataRecords l First x records q.place [])
               (sym news) placed;
           in_turn = turn;
-          carried = AllZip-push (IsCarried l added) so.olds so.news old one.new
+          carried_records = so.carries.carried_records ++ one.mid ∷ [];
+          carried = AllZip-push (IsCarried l added) so.olds so.carries.carried_records old one.mid
               so.carries.carried one.carried;
+          rewritten = told-one (IsRespelled l) 0 so.carries.carried_records so.news one.mid one.new told tells
+              count so.carries.rewritten one.rewritten (omega (
+                arith,
+                so.counted,
+                so.carries.counted,
+                length_all_zip (IsCarried l added) so.olds so.carries.carried_records
+                    so.carries.carried,
+              ));
           sizes = All-push (λ (r : List ℕ). length r ≡ size) so.olds old so.carries.sizes len;
           counted = omega (
             arith,
@@ -111,10 +126,10 @@ module _ (l : Layout) (left : Option (List ℕ)) (a : Buffered) (size added : �
 
   -- all of them
   pub all-carried : (p : Progress) (mid rest : Option (List ℕ)) (b : Buffered) (piece : List ℕ)
-      (count at : ℕ) → CarriedSoFar l p left mid a b size added count → Consumes mid rest piece
-      → IsAtEnd rest → at ≡ length piece → at < size → least_records l.count ≤ p.given
-      → CarriedAll l left rest a b size added count at
-  all-carried p mid rest b piece count at so read end is cut least = record {
+      (count at : ℕ) (told : List RecordEdits) → CarriedSoFar l p left mid a b size added count told
+      → Consumes mid rest piece → IsAtEnd rest → at ≡ length piece → at < size
+      → least_records l.count ≤ p.given → CarriedAll l left rest a b size added count at told
+  all-carried p mid rest b piece count at told so read end is cut least = record {
     bytes = joined so.news;
     all = record {
       olds = so.olds;

@@ -7,6 +7,7 @@ use Rattle.edf_header.specs.Header.{Layout}
 use Rattle.edf_fragment.specs.declared.advance.Progress.{Progress}
 use Rattle.edf_canonical.specs.Output.{Buffered}
 use Rattle.edf_mend.specs.Answers.{GoesOn}
+use Rattle.edf_mend.specs.Rewritten.{RecordEdits}
 use Rattle.edf_mend.specs.Mended.{joined}
 use Rattle.edf_mend.specs.Inside.Steps.{CarriedSoFar}
 
@@ -54,9 +55,9 @@ read-whole left rest taken bytes is read end =
 
 -- the data records so far
 pub carried-on : (l : Layout) (p : Progress) (left rest : Option (List ℕ)) (a b : Buffered)
-    (size added count : ℕ) → CarriedSoFar l p left rest a b size added count →
-    GoesOn left rest a.contents b.contents
-carried-on l p left rest a b size added count so = record {
+    (size added count : ℕ) (told : List RecordEdits) →
+    CarriedSoFar l p left rest a b size added count told → GoesOn left rest a.contents b.contents
+carried-on l p left rest a b size added count told so = record {
   taken = joined so.olds;
   written = so.put.front;
   read = so.read;
@@ -65,9 +66,10 @@ carried-on l p left rest a b size added count so = record {
 
 -- and some bytes after them
 pub carried-reads : (l : Layout) (p : Progress) (left mid rest : Option (List ℕ)) (a b : Buffered)
-    (size added count : ℕ) → CarriedSoFar l p left mid a b size added count → (taken : List ℕ) →
+    (size added count : ℕ) (told : List RecordEdits) →
+    CarriedSoFar l p left mid a b size added count told → (taken : List ℕ) →
     Consumes mid rest taken → GoesOn left rest a.contents b.contents
-carried-reads l p left mid rest a b size added count so taken read =
+carried-reads l p left mid rest a b size added count told so taken read =
     further-then left mid rest a.contents b.contents b.contents
-    (carried-on l p left mid a b size added count so)
+    (carried-on l p left mid a b size added count told so)
     (reads-on mid rest b.contents taken read)

@@ -26,6 +26,7 @@ use Rattle.edf_fragment.proofs.Runs.{AreDataRecords-more}
 use Rattle.edf_canonical.specs.Output.{Buffered}
 use Rattle.edf_mend.specs.Answers.{Copies}
 use Rattle.edf_mend.specs.Edits.{RuleEdits, AreMendedBy}
+use Rattle.edf_mend.specs.Rewritten.{RecordEdits}
 use Rattle.edf_mend.specs.Mended.{joined, Mends, TellsNone}
 use Rattle.edf_mend.specs.declared.drafting.Draft.{Draft}
 use Rattle.edf_mend.specs.declared.ledger.Ledger.{Ledger}
@@ -156,12 +157,13 @@ module _ (l : Layout) (p : Progress) where
   leaves : (all : List ℕ) (mid : Option (List ℕ)) (a b : Buffered) (size count : ℕ)
       (rs : List DataRecord) (last : Place) → IsLayout l → AreDataRecords l First all rs last []
       → least_records l.count ≤ length rs → length rs ≤ most_records l.count
-      → length rs ≤ MOST_RECORDS → CarriedSoFar l p (Some all) mid a b size 0 count
+      → length rs ≤ MOST_RECORDS → CarriedSoFar l p (Some all) mid a b size 0 count []
       → LeavesRecords l p mid
   leaves all None a b size count rs last i are least most few so = absurd so.read
   leaves all (Some rest) a b size count rs last i are least most few so =
-      let kept : so.news ≡ so.olds = AllZip-map (λ (x : List ℕ). x) so.olds so.news
-      so.carries.carried ∙ map-id so.olds in
+      let kept : so.news ≡ so.olds = so.carries.rewritten
+      ∙ AllZip-map (λ (x : List ℕ). x) so.olds so.carries.carried_records so.carries.carried
+      ∙ map-id so.olds in
       let parts : all ≡ joined so.news ++ rest = so.read
       ∙ ap (λ (x : List (List ℕ)). joined x ++ rest) (sym kept) in
       let ours = AreDataRecords-more l First p.place (joined so.news) [] rest so.records
@@ -184,14 +186,16 @@ module _ (l : Layout) (p : Progress) where
       }
 
   -- where nothing is added
-  pub leaves-records : (left mid : Option (List ℕ)) (a b : Buffered) (size added count : ℕ) →
-      added ≡ 0 → HoldsRecords l left → CarriedSoFar l p left mid a b size added count →
-      LeavesRecords l p mid
-  leaves-records left mid a b size added count none holds so =
-      let known = subst (λ (x : Option (List ℕ)). CarriedSoFar l p x mid a b size added count)
+  pub leaves-records : (left mid : Option (List ℕ)) (a b : Buffered) (size added count : ℕ)
+      (told : List RecordEdits) → added ≡ 0 → told ≡ [] → HoldsRecords l left →
+      CarriedSoFar l p left mid a b size added count told → LeavesRecords l p mid
+  leaves-records left mid a b size added count told none untold holds so =
+      let known = subst (λ (x : Option (List ℕ)). CarriedSoFar l p x mid a b size added count told)
       holds.left_is so in
-      let plain = subst (λ (n : ℕ). CarriedSoFar l p (Some holds.bytes) mid a b size n count) none
-      known in
+      let still = subst (λ (x : List RecordEdits). CarriedSoFar l p (Some holds.bytes) mid a b size
+      added count x) untold known in
+      let plain = subst (λ (n : ℕ). CarriedSoFar l p (Some holds.bytes) mid a b size n count [])
+      none still in
       leaves holds.bytes mid a b size count holds.records holds.last holds.layout
       holds.are_records holds.least holds.most holds.few plain
 

@@ -1,4 +1,6 @@
+pub mod Outside
 pub mod Edited
+pub mod Telling
 pub mod Carrying
 pub mod Parts
 pub mod OneToOne

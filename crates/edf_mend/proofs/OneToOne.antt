@@ -8,6 +8,8 @@ use Rattle.edf_fragment.proofs.Fronts.{same_front}
 use Rattle.edf_header.specs.Header.{layout_of}
 use Rattle.edf_mend.specs.Edits.{Edit, RuleEdits, AreEdited, AreMendedBy}
 use Rattle.edf_mend.specs.Carried.{IsCarried}
+use Rattle.edf_mend.specs.Rewritten.{RecordEdits, AreRewritten}
+use Rattle.edf_mend.specs.Texts.{IsRespelled}
 use Rattle.edf_mend.specs.Mended.{joined, IsMended, TellsNone}
 use Rattle.edf_mend.specs.declared.ledger.Ledger.{Ledger}
 
@@ -64,10 +66,14 @@ unchanged before after given ledger m none =
     let header : m.new_header ≡ m.old_header =
     subst (λ (x : List RuleEdits). AreMendedBy m.old_header x m.new_header) none.header
     m.mended_header in
-    let kept = subst (λ (n : ℕ). AllZip (IsCarried l n) m.old_records m.new_records) none.added
+    let kept = subst (λ (n : ℕ). AllZip (IsCarried l n) m.old_records m.carried_records) none.added
     m.carried in
-    let records : m.new_records ≡ m.old_records =
-    AllZip-map (λ (x : List ℕ). x) m.old_records m.new_records kept ∙ map-id m.old_records in
+    let as_carried : m.new_records ≡ m.carried_records =
+    subst (λ (x : List RecordEdits). AreRewritten (IsRespelled l) 0 m.carried_records x
+    m.new_records) none.texts
+    m.texts in
+    let records : m.new_records ≡ m.old_records = as_carried
+    ∙ AllZip-map (λ (x : List ℕ). x) m.old_records m.carried_records kept ∙ map-id m.old_records in
     let left : m.left_out ≡ [] = nothing m.left_out (omega (arith, m.left_out_is, none.left_out)) in
     m.after_is ∙ ap (λ (x : List ℕ). x ++ joined m.new_records) header
     ∙ ap (λ (x : List (List ℕ)). m.old_header ++ joined x) records

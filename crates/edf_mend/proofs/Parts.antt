@@ -42,7 +42,7 @@ pub mends : (left mid rest before after given : Option (List ℕ)) (ledger : Led
     IsFitting o.header shape → shape.added ≡ draft.added
     → All (IsCounted o.header.count) draft.steps.items
     → IsSent o.header mid rest before after new_header shape.size shape.added ledger.records
-    ledger.left_out
+    ledger.left_out ledger.texts.items
     → ledger.steps.items ≡ draft.steps.items → ledger.added ≡ draft.added →
     Mends left rest before after given ledger
 mends left mid rest before after given ledger old_header new_header draft o shape new_is read drafted
@@ -50,7 +50,7 @@ mends left mid rest before after given ledger old_header new_header draft o shap
     let h = opened.header in
     let l : Layout = layout_of h in
     let whole = subst (λ (x : Layout). IsSent x mid rest before after new_header shape.size
-    shape.added ledger.records ledger.left_out) opened.layout sent in
+    shape.added ledger.records ledger.left_out ledger.texts.items) opened.layout sent in
     let s = whole.all in
     let same_bytes : whole.bytes ≡ joined s.news = s.bytes_are in
     let f = subst (λ (x : Layout). IsFitting x shape) opened.layout fits in
@@ -80,6 +80,7 @@ mends left mid rest before after given ledger old_header new_header draft o shap
         old_header = old_header;
         new_header = new_header;
         old_records = s.olds;
+        carried_records = s.carries.carried_records;
         new_records = s.news;
         left_out = s.piece;
         before_is = refl;
@@ -90,7 +91,9 @@ mends left mid rest before after given ledger old_header new_header draft o shap
         honest = subst (λ (x : List RuleEdits). All (IsHonest given) x) (sym steps) drafted.honest;
         patient = patient;
         clock = clock;
-        carried = subst (λ (n : ℕ). AllZip (IsCarried l n) s.olds s.news) same s.carries.carried;
+        carried = subst (λ (n : ℕ). AllZip (IsCarried l n) s.olds s.carries.carried_records) same
+            s.carries.carried;
+        texts = s.carries.rewritten;
         in_turn = λ some. s.carries.in_turn (omega (arith, some, same));
         count = count-said l.count s.records ledger.records ledger.steps.items s.least s.most
             s.counted (subst (λ (x : List RuleEdits). All (IsCounted l.count) x) (sym steps)

@@ -2,6 +2,8 @@ pub mod Edits
 pub mod Patient
 pub mod Clock
 pub mod Carried
+pub mod Rewritten
+pub mod Texts
 pub mod Mended
 pub mod Counts
 pub mod Answers

@@ -14,6 +14,8 @@ use Rattle.edf_mend.specs.Edits.{RuleEdits, AreMendedBy}
 use Rattle.edf_mend.specs.Patient.{IsHonest, KeepsPatient}
 use Rattle.edf_mend.specs.Clock.{KeepsClock}
 use Rattle.edf_mend.specs.Carried.{IsCarried}
+use Rattle.edf_mend.specs.Rewritten.{AreRewritten}
+use Rattle.edf_mend.specs.Texts.{IsRespelled}
 use Rattle.edf_mend.specs.declared.ledger.Ledger.{Ledger}
 use Rattle.edf_mend.specs.declared.rule.Rule.TheVariants.{Count}
 
@@ -38,9 +40,9 @@ abbrev pub FollowInTurn : Layout → List DataRecord → Type 0
 FollowInTurn l records = AreInTurn l.start (duration_of l.key.duration) records
 
 -- `after` is the file `before`, mended: it spells a fragment; its header is the one before with the
--- told edits, and its data records are those before, each carried over; where each got an
--- annotations block, they follow in turn; of what was before only a piece of a data record at the
--- end is left out, whose length is told
+-- told edits, and its data records are those before, each carried over, and rewritten where that is
+-- told; where each got an annotations block, they follow in turn; of what was before only a piece of
+-- a data record at the end is left out, whose length is told
 pub record IsMended (before : List ℕ) (given : Option (List ℕ)) (ledger : Ledger)
     (after : List ℕ) : Type 0 where
   pub key : Key
@@ -49,6 +51,7 @@ pub record IsMended (before : List ℕ) (given : Option (List ℕ)) (ledger : Le
   pub old_header : List ℕ
   pub new_header : List ℕ
   pub old_records : List (List ℕ)
+  pub carried_records : List (List ℕ)
   pub new_records : List (List ℕ)
   pub left_out : List ℕ
   pub before_is : before ≡ old_header ++ (joined old_records ++ left_out)
@@ -58,7 +61,10 @@ pub record IsMended (before : List ℕ) (given : Option (List ℕ)) (ledger : Le
   pub honest : All (IsHonest given) ledger.steps.items
   pub patient : KeepsPatient given old_header new_header
   pub clock : KeepsClock old_header new_header
-  pub carried : AllZip (IsCarried (layout_of spells.header) ledger.added) old_records new_records
+  pub carried : AllZip (IsCarried (layout_of spells.header) ledger.added) old_records
+      carried_records
+  pub texts : AreRewritten (IsRespelled (layout_of spells.header)) 0 carried_records
+      ledger.texts.items new_records
   pub in_turn : 0 < ledger.added → FollowInTurn (layout_of spells.header) records
   pub count : All (SaysCount (layout_of spells.header).count ledger.records) ledger.steps.items
   pub size : All (λ r. length r + ledger.added ≡ (layout_of spells.header).record_bytes) old_records
@@ -70,6 +76,7 @@ pub record IsMended (before : List ℕ) (given : Option (List ℕ)) (ledger : Le
 pub record TellsNone (ledger : Ledger) : Type 0 where
   pub header : ledger.steps.items ≡ []
   pub added : ledger.added ≡ 0
+  pub texts : ledger.texts.items ≡ []
   pub left_out : ledger.left_out ≡ 0
 
 -- a fault of the bytes, and none of reading them

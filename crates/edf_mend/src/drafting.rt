@@ -1,7 +1,7 @@
 //! The header of the mended file, and the steps that lead to it.
 
 ghost use Rattle.std.specs.Prelude.{◌≡◌, ◌++◌, ◌∷◌, [], ℕ, List, None, Ok, option_map, All, OnOk};
-ghost use Rattle.std.specs.Prelude.{IfOk, IfErr, MatchResult, Option};
+ghost use Rattle.std.specs.Prelude.{IfOk, IfErr, MatchResult, Option, false};
 ghost use Rattle.edf_mend.specs.Edits.{AreEdited, AreMendedBy};
 ghost use Rattle.edf_mend.specs.Answers.{IsTrouble, AsksCode};
 ghost use Rattle.edf_mend.specs.Patient.{IsHonest};
@@ -22,13 +22,14 @@ use crate::patient::mend_patient;
 use crate::physical::mend_physical;
 use crate::plain::mend_plain;
 use crate::recording::{mark_mended, mend_recording};
+use crate::records::Rewriting;
 use crate::rule::Rule;
 use crate::surveying::Survey;
 use edf_fragment::FragmentFault;
 use edf_header::HeaderFault;
 use std::alloc::{AllocError, Global};
 
-/// All rules, in the order in which they are applied.
+/// The rules for headers, in the order in which they are applied.
 const ORDER: [Rule; 9] = [
     Rule::Ascii,
     Rule::Patient,
@@ -41,12 +42,14 @@ const ORDER: [Rule; 9] = [
     Rule::Mended,
 ];
 
-/// A header as rules left it, the steps so far, and how many bytes they add to each data record.
+/// A header as rules left it, the steps so far, how many bytes they add to each data record, and
+/// which rules rewrite data records.
 #[derive(Drop)]
 pub(crate) struct Draft {
     pub(crate) header: Vec<u8>,
     pub(crate) steps: Vec<Step>,
     pub(crate) added: usize,
+    pub(crate) rewriting: Rewriting,
 }
 
 /// The fields of a header with `n` signals, and of one to which `more` signals are added.
@@ -103,21 +106,35 @@ fn apply_rule(
         Rule::Recording => mend_recording(alloc, header.as_mut_slice())?,
         Rule::Physical => mend_physical(alloc, header.as_mut_slice())?,
         Rule::Digital => mend_digital(alloc, header.as_mut_slice())?,
-        Rule::Annotations => mend_annotations(header.as_mut_slice()),
-        Rule::Plain => return Ok(mend_plain(alloc, header)?),
+        Rule::Annotations => return Ok(mend_annotations(alloc, header)?),
+        Rule::Plain => return Ok(added.max(mend_plain(alloc, header)?)),
         Rule::Count => mend_count(alloc, header.as_mut_slice(), added, survey.bytes)?,
+        Rule::Texts => {}
         Rule::Mended => mark_mended(alloc, header.as_mut_slice())?,
     }
     Ok(added)
 }
 
-/// Whether a rule is applied: one that was asked for, where any were; and the mark that a file was
-/// mended where another changed something.
-fn is_wanted(rule: Rule, only: &[Rule], steps: &[Step]) -> bool {
-    if rule == Rule::Mended {
-        return !steps.is_empty();
-    }
+/// Whether a rule was asked for: each is where none was named.
+fn is_asked(rule: Rule, only: &[Rule]) -> bool {
     only.is_empty() || only.iter().any(|wanted| *wanted == rule)
+}
+
+/// Whether the fault that a first reading found is one of the data records.
+fn is_in_records(survey: &Survey) -> bool {
+    matches!(
+        survey.fault,
+        Some(FragmentFault::Tal { .. } | FragmentFault::Trailing)
+    )
+}
+
+/// Whether a rule is applied: one that was asked for; and the mark that a file was mended where
+/// another changed something, or data records are to be.
+fn is_wanted(rule: Rule, only: &[Rule], steps: &[Step], survey: &Survey) -> bool {
+    if rule == Rule::Mended {
+        return !steps.is_empty() || is_in_records(survey);
+    }
+    is_asked(rule, only)
 }
 
 /// Takes the step of a rule. One that changes nothing is not told.
@@ -163,7 +180,8 @@ pub(crate) fn draft_header(
     ensures drafted { IfOk result
         (IsDrafted old.now (option_map (λ code. code.now) patient.entry)) }
     ensures kept { survey.now.fault ≡ None → MatchResult result
-        (λ draft. (draft.steps.items ≡ []) × (draft.added ≡ 0)) IsTrouble }
+        (λ draft. (draft.steps.items ≡ []) × (draft.added ≡ 0)
+        × (draft.rewriting.texts ≡ false)) IsTrouble }
     ensures asked { IfErr result (AsksCode (option_map (λ code. code.now) patient.entry)) }
     ensures quiet { IfErr result IsQuiet }
 {
@@ -171,12 +189,14 @@ pub(crate) fn draft_header(
         header: Vec::from_slice(alloc, old)?,
         steps: Vec::new(alloc),
         added: 0,
+        rewriting: Rewriting { texts: false },
     };
     if survey.fault.is_none() {
         return Ok(draft);
     }
+    draft.rewriting.texts = is_asked(Rule::Texts, only);
     for rule in &ORDER {
-        if is_wanted(*rule, only, draft.steps.as_slice()) {
+        if is_wanted(*rule, only, draft.steps.as_slice(), survey) {
             take_step(alloc, &mut draft, *rule, survey, patient)?;
         }
     }

@@ -1,6 +1,7 @@
 //! What was changed of a file.
 
 use crate::change::Change;
+use crate::rewriting::RecordChanges;
 use crate::rule::Rule;
 use std::marker::Model;
 
@@ -52,6 +53,8 @@ pub struct Ledger {
     pub steps: Vec<Step>,
     /// How many bytes were added to each data record: the block of a new annotations signal, or 0.
     pub added: usize,
+    /// The changes of annotations blocks, data record by data record.
+    pub texts: Vec<RecordChanges>,
     /// How many data records there are, before and after.
     pub records: u32,
     /// How many bytes after the last whole data record were left out.

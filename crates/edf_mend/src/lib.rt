@@ -22,12 +22,15 @@ mod piece;
 mod plain;
 mod recording;
 mod records;
+mod rewriting;
 mod rule;
 mod surveying;
+mod texts;
 
 pub use change::Change;
 pub use fault::MendFault;
 pub use ledger::{Ledger, Step};
 pub use mending::mend;
+pub use rewriting::RecordChanges;
 pub use rule::Rule;
 pub use surveying::{Survey, survey_file};

@@ -2,6 +2,7 @@
 
 ghost use Rattle.std.specs.Prelude.{◌≡◌, ◌≤◌, ◌++◌, [], ℕ, List, Option, Some, None, option_map};
 ghost use Rattle.std.specs.Prelude.{length, IfOk, IfErr, IsTrue, All, MatchResult, ⊤};
+ghost use Rattle.std.specs.Prelude.{false};
 ghost use Rattle.std.specs.Io.KnownBytes.{Consumes, Appends, IsAtEnd};
 ghost use Rattle.edf_header.specs.Key.{Key};
 ghost use Rattle.edf_fragment.specs.Fragment.{DataRecord, Spells};
@@ -21,7 +22,8 @@ use crate::drafting::{Draft, draft_header};
 use crate::fault::MendFault;
 use crate::header::read_header;
 use crate::ledger::{Ledger, Step};
-use crate::records::{Shape, carry_records, shape_of};
+use crate::records::{Rewriting, Shape, carry_records, shape_of};
+use crate::rewriting::RecordChanges;
 use crate::rule::Rule;
 use crate::surveying::Survey;
 use edf_canonical::{Buffer, flush, put};
@@ -38,14 +40,18 @@ fn send<R: Input, W: Output>(
     out: &mut W,
     header: &[u8],
     shape: Shape,
+    rewriting: Rewriting,
+    texts: &mut Vec<RecordChanges>,
 ) -> Result<(u32, usize), MendFault>
     requires first { fragment.old.progress ≡ at_first }
     requires fitting { IsFitting fragment.old.header shape }
+    requires untold { texts.old.items ≡ [] }
     ensures sent { IfOk result (λ told. IsSent fragment.old.header
         (R.remaining input.old) (R.remaining input.new) (W.contents out.old) (W.contents out.new)
-        header.now shape.size shape.added told.0 told.1) }
-    ensures welcome { shape.added ≡ 0 → HoldsRecords fragment.old.header (R.remaining input.old) →
-        MatchResult result (λ told. told.1 ≡ 0) IsTrouble }
+        header.now shape.size shape.added told.0 told.1 texts.new.items) }
+    ensures untold { rewriting.texts ≡ false → texts.new.items ≡ [] }
+    ensures welcome { shape.added ≡ 0 → rewriting.texts ≡ false →
+        HoldsRecords fragment.old.header (R.remaining input.old) → MatchResult result (λ told. told.1 ≡ 0) IsTrouble }
     ensures asked { IfErr result (RefusesFor ⊤) }
     ensures further { GoesOn (R.remaining input.old) (R.remaining input.new)
         (W.contents out.old) (W.contents out.new) }
@@ -63,6 +69,8 @@ fn send<R: Input, W: Output>(
         &mut held,
         old.as_mut_slice(),
         shape,
+        rewriting,
+        texts,
     )?;
     flush(out, &mut held)?;
     Ok(told)
@@ -158,6 +166,7 @@ pub fn mend<R: Input, W: Output>(
         return Err(MendFault::Refused(FragmentFault::Header(HeaderFault::Count)));
     }
     let shape = shape_of(fragment.header(), draft.added)?;
+    let mut texts = Vec::new(alloc);
     let (records, left_out) = send(
         alloc,
         &mut fragment,
@@ -165,6 +174,8 @@ pub fn mend<R: Input, W: Output>(
         out,
         draft.header.as_slice(),
         shape,
+        draft.rewriting,
+        &mut texts,
     )?;
     if !may_leave(survey, left_out) {
         return Err(MendFault::Refused(FragmentFault::Trailing));
@@ -172,6 +183,7 @@ pub fn mend<R: Input, W: Output>(
     Ok(Ledger {
         steps: draft.steps,
         added: draft.added,
+        texts,
         records,
         left_out,
     })

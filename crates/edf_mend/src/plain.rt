@@ -74,18 +74,24 @@ fn with_signal(alloc: Global, header: &[u8], n: usize) -> Result<Vec<u8>, AllocE
     Ok(made)
 }
 
-/// Marks a header EDF+C that has no mark of EDF+, and gives it an annotations signal as the last
-/// one where it has none. It tells how many bytes are added to each data record.
-pub(crate) fn mend_plain(alloc: Global, header: &mut Vec<u8>) -> Result<usize, AllocError> {
-    if is_marked(header.as_slice()) {
-        return Ok(0);
-    }
+/// Gives a header an annotations signal as the last one where it has none. It tells how many bytes
+/// are added to each data record.
+pub(crate) fn add_signal(alloc: Global, header: &mut Vec<u8>) -> Result<usize, AllocError> {
     let n = signals_named(header.as_slice());
-    set(header.as_mut_slice(), 192, 44, b"EDF+C".as_slice());
     if n == 0 || n >= MOST_SIGNALS || has_annotations(header.as_slice(), n) {
         return Ok(0);
     }
     let made = with_signal(alloc, header.as_slice(), n)?;
     *header = made;
     Ok(NEW_BLOCK)
+}
+
+/// Marks a header EDF+C that has no mark of EDF+, and gives it an annotations signal as the last
+/// one where it has none. It tells how many bytes are added to each data record.
+pub(crate) fn mend_plain(alloc: Global, header: &mut Vec<u8>) -> Result<usize, AllocError> {
+    if is_marked(header.as_slice()) {
+        return Ok(0);
+    }
+    set(header.as_mut_slice(), 192, 44, b"EDF+C".as_slice());
+    add_signal(alloc, header)
 }

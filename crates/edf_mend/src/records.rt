@@ -1,7 +1,7 @@
 //! Data records, carried over one after another.
 
 ghost use Rattle.std.specs.Prelude.{◌≡◌, ◌≢◌, ℕ, ◌+◌, ◌*◌, ◌<◌, ◌≤◌, ◌++◌, ◌∷◌, [], List, Ok, ⊤};
-ghost use Rattle.std.specs.Prelude.{length, IfOk, IfErr, IfSome, IsTrue, MatchResult};
+ghost use Rattle.std.specs.Prelude.{length, IfOk, IfErr, IfSome, IsTrue, MatchResult, false};
 ghost use Rattle.edf_field.specs.Number.{duration_of};
 ghost use Rattle.std.specs.Io.KnownBytes.{Appends};
 ghost use Rattle.edf_fragment.specs.Fragment.{DataRecord};
@@ -17,6 +17,8 @@ ghost use Rattle.edf_mend.specs.Inside.Faults.{IsQuiet, CountsWrites};
 
 use crate::accepting::{accept_end, accept_record};
 use crate::fault::MendFault;
+use crate::rewriting::RecordChanges;
+use crate::texts::mend_texts;
 use edf_canonical::{Buffer, put};
 use edf_fragment::{Filled, FragmentFault, Input, OpenFragment, Output, Record, fill};
 use edf_header::{Header, HeaderFault, MOST_RECORDS};
@@ -31,6 +33,13 @@ pub(crate) struct Shape {
     pub(crate) size: usize,
     /// How many are added to each.
     pub(crate) added: usize,
+}
+
+/// Which rules rewrite data records.
+#[derive(Clone, Copy)]
+pub(crate) struct Rewriting {
+    /// Whether the rule `texts` does.
+    pub(crate) texts: bool,
 }
 
 /// Whether a data record has one annotations block, its last `added` bytes.
@@ -158,6 +167,8 @@ fn carry_record<W: Output>(
     old: &[u8],
     nth: u32,
     added: usize,
+    rewriting: Rewriting,
+    texts: &mut Vec<RecordChanges>,
 ) -> Result<(), MendFault>
     requires going { fragment.old.progress.state ≡ Reading }
     requires fitting { IsFitting fragment.old.header
@@ -165,14 +176,17 @@ fn carry_record<W: Output>(
     ensures header { fragment.new.header ≡ fragment.old.header }
     ensures carried { IfOk result (λ _. CarriesOne fragment.old.header fragment.old.progress
         fragment.new.progress (buffered W.Output out.old held.old.bytes.items)
-        (buffered W.Output out.new held.new.bytes.items) nth added old.now) }
-    ensures refused { added ≡ 0 → IfErr result
+        (buffered W.Output out.new held.new.bytes.items) nth added texts.old.items texts.new.items
+        old.now) }
+    ensures untold { rewriting.texts ≡ false → texts.new.items ≡ texts.old.items }
+    ensures refused { added ≡ 0 → rewriting.texts ≡ false → IfErr result
         (RefusesFor (IsUnfit fragment.old.header fragment.old.progress old.now)) }
     ensures asked { IfErr result (RefusesFor ⊤) }
     ensures grown { (written : List ℕ) × Appends (W.contents out.old) (W.contents out.new) written }
     ensures counted { CountsWrites (W.failures out.old) (W.failures out.new) result }
 {
-    let new = with_block(alloc, fragment.header(), old, nth, added)?;
+    let mid = with_block(alloc, fragment.header(), old, nth, added)?;
+    let new = mend_texts(alloc, fragment.header(), rewriting.texts, mid, nth, texts)?;
     let accepted = accept_record(fragment, new.as_slice())?;
     find_in_turn(fragment.header(), &accepted, nth, added)?;
     put(out, held, new.as_slice())?;
@@ -189,15 +203,21 @@ pub(crate) fn carry_records<R: Input, W: Output>(
     held: &mut Buffer,
     old: &mut [u8],
     shape: Shape,
+    rewriting: Rewriting,
+    texts: &mut Vec<RecordChanges>,
 ) -> Result<(u32, usize), MendFault>
     requires room { length old.old ≡ shape.size }
     requires first { fragment.old.progress ≡ at_first }
     requires fitting { IsFitting fragment.old.header shape }
+    requires untold { texts.old.items ≡ [] }
     ensures carried { IfOk result (λ told. CarriedAll fragment.old.header
         (R.remaining input.old) (R.remaining input.new)
         (buffered W.Output out.old held.old.bytes.items)
-        (buffered W.Output out.new held.new.bytes.items) shape.size shape.added told.0 told.1) }
-    ensures welcome { shape.added ≡ 0 → HoldsRecords fragment.old.header (R.remaining input.old) →
+        (buffered W.Output out.new held.new.bytes.items) shape.size shape.added told.0 told.1
+        texts.new.items) }
+    ensures untold { rewriting.texts ≡ false → texts.new.items ≡ [] }
+    ensures welcome { shape.added ≡ 0 → rewriting.texts ≡ false →
+        HoldsRecords fragment.old.header (R.remaining input.old) →
         MatchResult result (λ told. told.1 ≡ 0) IsTrouble }
     ensures asked { IfErr result (RefusesFor ⊤) }
     ensures further { GoesOn (R.remaining input.old) (R.remaining input.new)
@@ -208,7 +228,17 @@ pub(crate) fn carry_records<R: Input, W: Output>(
     for nth in 0..=MOST_RECORDS {
         match fill(input, old) {
             Filled::Full => {
-                carry_record(alloc, fragment, out, held, old, nth, shape.added)?;
+                carry_record(
+                    alloc,
+                    fragment,
+                    out,
+                    held,
+                    old,
+                    nth,
+                    shape.added,
+                    rewriting,
+                    texts,
+                )?;
             }
             Filled::Cut { at } => {
                 accept_end(fragment)?;

@@ -11,12 +11,16 @@ pub enum Rule {
     Physical,
     /// Digital values that fall: both pairs are swapped, which is the same mapping.
     Digital,
-    /// The limits of an annotations signal become those of the standard.
+    /// The limits of an annotations signal become those of the standard; a file of EDF+C that has
+    /// none gets one.
     Annotations,
     /// A file without the mark of EDF+ gets it, and an annotations signal.
     Plain,
     /// The number of data records becomes that of the whole ones that are there.
     Count,
+    /// Annotations blocks: texts of Latin-1 become UTF-8, times finer than a nanosecond are rounded,
+    /// and what fills a block becomes zeros.
+    Texts,
     /// The recording field says that the file was mended.
     Mended,
 }
@@ -33,6 +37,7 @@ impl Rule {
             Rule::Annotations => "annotations",
             Rule::Plain => "plain",
             Rule::Count => "count",
+            Rule::Texts => "texts",
             Rule::Mended => "mended",
         }
     }

@@ -5,6 +5,7 @@
 //!
 //! - `stage`: the command, run over one file.
 //! - `rules`: each rule, and several at once.
+//! - `texts`: annotations blocks that are rewritten.
 //! - `answers`: files that are copied, refused, or asked a code for.
 //! - `library`: the functions of `edf_mend`, each called once.
 #![tactic(auto)]
@@ -17,3 +18,5 @@ mod library;
 mod rules;
 #[cfg(test)]
 mod stage;
+#[cfg(test)]
+mod texts;

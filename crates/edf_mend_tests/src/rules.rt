@@ -15,6 +15,7 @@ const MENDED_LINE: &str = "mended at=88 old=\"Startdate 02-MAR-2002 N1 T3 REC5\"
 new=\"Startdate 02-MAR-2002 N1 T3 REC5 mended\"\nstatus 0\n";
 
 /// A file before, the one after, and the lines but for that of the mark.
+#[derive(Clone, Copy)]
 struct Case {
     before: Header<'static>,
     after: Header<'static>,
@@ -208,4 +209,60 @@ fn plain_edf_gets_an_annotations_signal_and_its_starts_in_turn(rt: HostRuntime) 
     };
     assert_eq!(rt; outcome.text.as_str(), PLAIN_LINES);
     assert!(rt; outcome.made == Some(after));
+}
+
+/// The lines that mend EDF+C without an annotations signal.
+const ADDED_LINES: &str = "annotations records=2 block=32\n\
+annotations at=184 old=\"512\" new=\"768\"\n\
+annotations at=252 old=\"1\" new=\"2\"\n";
+
+/// EDF+C of two data records without an annotations signal, and the mended file.
+fn without_annotations(alloc: Global) -> Option<[Vec<u8>; 2]> {
+    let one = [Signal::eeg()];
+    let two = [Signal::eeg(), Signal::annotations("16")];
+    let plus = q().reserved("EDF+C").count("2");
+    let before = plus.header_bytes("512").signals("1").listed(&one);
+    let after = plus.recording(MENDED).listed(&two);
+    Some([
+        file(alloc, &before, &[&PLAIN[..8]]).ok()?,
+        file(alloc, &after, &[&PLUS]).ok()?,
+    ])
+}
+
+#[test]
+fn edf_plus_without_gaps_gets_the_annotations_signal_that_it_lacks(rt: HostRuntime) {
+    let Some([before, after]) = without_annotations(rt.alloc()) else {
+        assert!(rt; false, "out of memory");
+        return;
+    };
+    let Some(outcome) = outcome_of(rt.alloc(), &before, "in.edf out.edf") else {
+        assert!(rt; false, "out of memory");
+        return;
+    };
+    let lines = format!(in rt.alloc(); "{ADDED_LINES}{MENDED_LINE}");
+    assert!(rt; lines.is_ok_and(|lines| outcome.text == lines));
+    assert!(rt; outcome.made == Some(after));
+}
+
+/// EDF+D of two ordinary signals, without an annotations signal.
+fn with_gaps(alloc: Global) -> Option<Vec<u8>> {
+    let two = [Signal::eeg(), Signal::eeg()];
+    file(alloc, &q().reserved("EDF+D").listed(&two), &[&PLAIN[..8]]).ok()
+}
+
+#[test]
+fn edf_plus_with_gaps_and_without_starts_is_not_mended(rt: HostRuntime) {
+    let Some(before) = with_gaps(rt.alloc()) else {
+        assert!(rt; false, "out of memory");
+        return;
+    };
+    let Some(outcome) = outcome_of(rt.alloc(), &before, "in.edf out.edf") else {
+        assert!(rt; false, "out of memory");
+        return;
+    };
+    assert_eq!(rt;
+        outcome.text.as_str(),
+        "err: in.edf refused E16 Annotations\nstatus 1\n"
+    );
+    assert!(rt; outcome.made.is_none());
 }

@@ -23,9 +23,12 @@ Rules, in the order in which they are applied:
   physical     physical limits are spelled as EDF has them; equal ones become the
                digital ones
   digital      digital limits that fall are swapped, and the physical ones too
-  annotations  the limits of an annotations signal become those of EDF+
+  annotations  the limits of an annotations signal become those of EDF+; EDF+C
+               without one gets it
   plain        plain EDF becomes EDF+C, with an annotations signal
   count        the number of data records becomes that of the whole ones
+  texts        annotations of Latin-1 become UTF-8, times are rounded to the nanosecond,
+               and what fills an annotations block becomes zeros
 
 A line is printed for each change. A file that needs none is copied as it is.
 IN is never written, and no file that is there is written over.
@@ -107,6 +110,7 @@ fn rule_named(name: &str) -> Option<Rule> {
         "annotations" => Some(Rule::Annotations),
         "plain" => Some(Rule::Plain),
         "count" => Some(Rule::Count),
+        "texts" => Some(Rule::Texts),
         _ => None,
     }
 }

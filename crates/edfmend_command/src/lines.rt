@@ -2,7 +2,7 @@
 
 use edf_canonical::{Buffer, flush, put};
 use edf_fragment::Output;
-use edf_mend::{Change, Ledger, Rule};
+use edf_mend::{Change, Ledger, RecordChanges, Rule, Step};
 use std::alloc::{AllocError, Global};
 
 /// The digits of numbers to the base 16.
@@ -47,11 +47,73 @@ fn change_line(alloc: Global, rule: Rule, change: &Change) -> Result<Vec<u8>, Al
     Ok(text)
 }
 
-/// The line of the rule `plain`: how many data records got a block.
-fn plain_line(alloc: Global, ledger: &Ledger) -> Result<Vec<u8>, AllocError> {
-    let (records, bytes) = (ledger.records, ledger.added);
-    let line = format!(in alloc; "plain records={records} block={bytes}\n")?;
+/// Adds a label and bytes in quotes; zeros alone by their number.
+fn push_bytes(
+    alloc: Global,
+    text: &mut Vec<u8>,
+    label: &str,
+    bytes: &[u8],
+) -> Result<(), AllocError> {
+    if !bytes.is_empty() && bytes.iter().all(|b| *b == 0) {
+        let count = bytes.len();
+        let zeros = format!(in alloc; " {label}_zeros={count}")?;
+        return text.extend_from_slice(zeros.as_bytes());
+    }
+    let front = format!(in alloc; " {label}=\"")?;
+    text.extend_from_slice(front.as_bytes())?;
+    for b in bytes {
+        push_byte(text, *b)?;
+    }
+    text.push(b'"')?;
+    Ok(())
+}
+
+/// The line of a change in a data record, which counts from 1: its offset in it, and what was and
+/// is there.
+fn record_line(
+    alloc: Global,
+    rule: Rule,
+    nth: u32,
+    change: &Change,
+) -> Result<Vec<u8>, AllocError> {
+    let (name, record, at) = (rule.name(), nth.saturating_add(1), change.at());
+    let front = format!(in alloc; "{name} record={record} at={at}")?;
+    let mut text = Vec::from_slice(alloc, front.as_bytes())?;
+    push_bytes(alloc, &mut text, "old", change.old())?;
+    push_bytes(alloc, &mut text, "new", change.new())?;
+    text.push(b'\n')?;
+    Ok(text)
+}
+
+/// Puts the lines of changes in data records. Whether all were put.
+fn put_records<O: Output>(
+    alloc: Global,
+    rule: Rule,
+    records: &[RecordChanges],
+    out: &mut O,
+    held: &mut Buffer,
+) -> bool {
+    for record in records {
+        for change in record.changes() {
+            let line = record_line(alloc, rule, record.nth(), change);
+            if !put_line(out, held, line) {
+                return false;
+            }
+        }
+    }
+    true
+}
+
+/// The line of a new annotations signal: how many data records got a block.
+fn added_line(alloc: Global, rule: Rule, ledger: &Ledger) -> Result<Vec<u8>, AllocError> {
+    let (name, records, bytes) = (rule.name(), ledger.records, ledger.added);
+    let line = format!(in alloc; "{name} records={records} block={bytes}\n")?;
     Vec::from_slice(alloc, line.as_bytes())
+}
+
+/// Whether a step added fields, which only those of a new annotations signal are.
+fn adds_signal(step: &Step) -> bool {
+    step.changes().iter().any(|change| change.old().is_empty())
 }
 
 /// The line of bytes that were left out.
@@ -69,13 +131,13 @@ fn put_line<O: Output>(out: &mut O, held: &mut Buffer, line: Result<Vec<u8>, All
 }
 
 /// Writes a line for each change that a ledger tells; the header of a new annotations signal, which
-/// is always the same, is in the line of the rule `plain`. Whether all were written. After one that
-/// is not written whole none is written.
+/// is always the same, is in the line of the rule that added it. Whether all were written. After one
+/// that is not written whole none is written.
 pub(crate) fn put_ledger<O: Output>(alloc: Global, ledger: &Ledger, out: &mut O) -> bool {
     let mut held = Buffer::new(alloc);
     for step in &ledger.steps {
-        let is_whole = step.rule() == Rule::Plain && ledger.added != 0;
-        if is_whole && !put_line(out, &mut held, plain_line(alloc, ledger)) {
+        let line = added_line(alloc, step.rule(), ledger);
+        if adds_signal(step) && !put_line(out, &mut held, line) {
             return false;
         }
         for change in step.changes() {
@@ -84,6 +146,10 @@ pub(crate) fn put_ledger<O: Output>(alloc: Global, ledger: &Ledger, out: &mut O)
                 return false;
             }
         }
+    }
+    let texts = ledger.texts.as_slice();
+    if !put_records(alloc, Rule::Texts, texts, out, &mut held) {
+        return false;
     }
     let left_out = ledger.left_out;
     if left_out != 0 && !put_line(out, &mut held, left_out_line(alloc, left_out)) {

@@ -17,6 +17,8 @@ use Rattle.edf_fragment.specs.declared.advance.ReaderState.TheVariants.{Reading}
 use Rattle.edf_fragment.specs.declared.open_fragment.OpenFragment.{OpenFragment}
 use Rattle.edf_canonical.specs.Output.{Buffered, Writes}
 use Rattle.edf_mend.specs.Carried.{IsCarried}
+use Rattle.edf_mend.specs.Rewritten.{RecordEdits, AreRewritten, IsTold}
+use Rattle.edf_mend.specs.Texts.{IsRespelled}
 use Rattle.edf_mend.specs.Mended.{joined, FollowInTurn}
 use Rattle.edf_mend.specs.declared.records.Shape.{Shape}
 use Rattle.edf_mend.specs.declared.drafting.Draft.{Draft}
@@ -62,24 +64,26 @@ pub record HoldsRecords (l : Layout) (left : Option (List ℕ)) : Type 0 where
   pub most : length records ≤ most_records l.count
   pub few : length records ≤ MOST_RECORDS
 
--- these data records were read and carried over as these bytes
+-- these data records were read and carried over as these bytes, and those that are told rewritten
 pub record CarriesRecords (l : Layout) (size added : ℕ) (olds news : List (List ℕ))
-    (records : List DataRecord) (last : Place) : Type 0 where
+    (texts : List RecordEdits) (records : List DataRecord) (last : Place) : Type 0 where
+  pub carried_records : List (List ℕ)
   pub are_records : AreDataRecords l First (joined news) records last []
   pub in_turn : 0 < added → FollowInTurn l records
-  pub carried : AllZip (IsCarried l added) olds news
+  pub carried : AllZip (IsCarried l added) olds carried_records
+  pub rewritten : AreRewritten (IsRespelled l) 0 carried_records texts news
   pub sizes : All (λ r. length r ≡ size) olds
   pub counted : length olds ≡ length records
 
 -- these data records were read, carried over, accepted and put
 pub record CarriedSoFar (l : Layout) (p : Progress) (left rest : Option (List ℕ))
-    (before after : Buffered) (size added count : ℕ) : Type 0 where
+    (before after : Buffered) (size added count : ℕ) (texts : List RecordEdits) : Type 0 where
   pub olds : List (List ℕ)
   pub news : List (List ℕ)
   pub records : List DataRecord
   pub read : Consumes left rest (joined olds)
   pub put : Writes before after (joined news) after.held
-  pub carries : CarriesRecords l size added olds news records p.place
+  pub carries : CarriesRecords l size added olds news texts records p.place
   pub given : p.given ≡ length records
   pub within : p.given ≤ most_records l.count
   pub state : p.state ≡ Reading
@@ -88,7 +92,7 @@ pub record CarriedSoFar (l : Layout) (p : Progress) (left rest : Option (List �
 -- all that an input has were read and carried over as these bytes, no more must come, and a piece of
 -- less than one is left
 pub record CarriesAll (l : Layout) (left rest : Option (List ℕ)) (size added count left_out : ℕ)
-    (bytes : List ℕ) : Type 0 where
+    (texts : List RecordEdits) (bytes : List ℕ) : Type 0 where
   pub olds : List (List ℕ)
   pub news : List (List ℕ)
   pub records : List DataRecord
@@ -96,7 +100,7 @@ pub record CarriesAll (l : Layout) (left rest : Option (List ℕ)) (size added c
   pub piece : List ℕ
   pub read : Consumes left rest (joined olds ++ piece)
   pub end : IsAtEnd rest
-  pub carries : CarriesRecords l size added olds news records last
+  pub carries : CarriesRecords l size added olds news texts records last
   pub bytes_are : bytes ≡ joined news
   pub least : least_records l.count ≤ length records
   pub most : length records ≤ most_records l.count
@@ -106,16 +110,16 @@ pub record CarriesAll (l : Layout) (left rest : Option (List ℕ)) (size added c
 
 -- and were put
 pub record CarriedAll (l : Layout) (left rest : Option (List ℕ)) (before after : Buffered)
-    (size added count left_out : ℕ) : Type 0 where
+    (size added count left_out : ℕ) (texts : List RecordEdits) : Type 0 where
   pub bytes : List ℕ
-  pub all : CarriesAll l left rest size added count left_out bytes
+  pub all : CarriesAll l left rest size added count left_out texts bytes
   pub put : Writes before after bytes after.held
 
 -- and were written after a header
 pub record IsSent (l : Layout) (left rest before after : Option (List ℕ)) (header : List ℕ)
-    (size added count left_out : ℕ) : Type 0 where
+    (size added count left_out : ℕ) (texts : List RecordEdits) : Type 0 where
   pub bytes : List ℕ
-  pub all : CarriesAll l left rest size added count left_out bytes
+  pub all : CarriesAll l left rest size added count left_out texts bytes
   pub wrote : Appends before after (header ++ bytes)
 
 -- the data records of this layout have the shape: so many bytes before, and those that are added;
@@ -127,10 +131,12 @@ pub record IsFitting (l : Layout) (shape : Shape) : Type 0 where
 -- a data record was carried over, accepted and put; where it got a block, it starts so many
 -- durations after the header's start, and has no annotations
 pub record CarriesOne (l : Layout) (from to : Progress) (before after : Buffered) (nth added : ℕ)
-    (old : List ℕ) : Type 0 where
+    (told tells : List RecordEdits) (old : List ℕ) : Type 0 where
+  pub mid : List ℕ
   pub new : List ℕ
   pub r : DataRecord
-  pub carried : IsCarried l added old new
+  pub carried : IsCarried l added old mid
+  pub rewritten : IsTold (IsRespelled l) nth mid told tells new
   pub accepted : IsAccepted l from to new r
   pub in_turn : 0 < added → (r.start ≡ l.start + nth * duration_of l.key.duration)
       × (r.annotations ≡ [])

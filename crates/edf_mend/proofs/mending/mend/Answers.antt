@@ -51,7 +51,6 @@ returns-clause-mended g c =
     let o = c.in_ok-fragment.fragment in
     let drafted : IsDrafted old given draft = search rules in
     let opened : IsOpened new o = search rules in
-    let clock : KeepsClock old new = search (rules, c.keeps_identity.ensures.clock) in
     let before = c.as_slice-3.result.now in
     let before_is : before ≡ old = search rules in
     let after_is : c.as_slice-4.result.now ≡ new = search rules in
@@ -59,13 +58,16 @@ returns-clause-mended g c =
     subst (λ (x : List ℕ). KeepsPatient given x new) before_is
     (subst (λ (x : List ℕ). KeepsPatient given before x) after_is
     (c.keeps_identity.ensures.patient (search rules))) in
+    let clock : KeepsClock old new = subst (λ (x : List ℕ). KeepsClock x new) before_is
+    (subst (λ (x : List ℕ). KeepsClock before x) after_is
+    (c.keeps_identity.ensures.clock (search rules))) in
     let counts = c.counts_records.ensures.counts (search rules) in
     let fits : IsFitting o.header c.in_ok-shape.shape = search rules in
     let added : c.in_ok-shape.shape.added ≡ draft.added = search rules in
     let sent : IsSent o.header (g.R.Input.remaining c.read_header.new.input)
     (g.R.Input.remaining c.send.new.input) (g.W.Output.contents c.args.out.now)
     (g.W.Output.contents c.send.new.out) new c.in_ok-shape.shape.size c.in_ok-shape.shape.added
-    c.in_ok-records.records c.in_ok-records.left_out = search rules in
+    c.in_ok-records.records c.in_ok-records.left_out c.send.new.texts.items = search rules in
     mends (g.R.Input.remaining c.args.input.now) (g.R.Input.remaining c.read_header.new.input)
     (g.R.Input.remaining c.send.new.input) (g.W.Output.contents c.args.out.now)
     (g.W.Output.contents c.send.new.out) given _ old new draft o c.in_ok-shape.shape refl
@@ -77,7 +79,12 @@ returns-clause-copied g c none =
     copies (g.R.Input.remaining c.args.input.now) (g.R.Input.remaining c.send.new.input)
     (g.W.Output.contents c.args.out.now) (g.W.Output.contents c.send.new.out)
     (option_map (λ code. code.now) c.args.patient) _ (returns-clause-mended g c)
-    (record { header = kept.0; added = kept.1; left_out = search rules })
+    (record {
+      header = kept.0;
+      added = kept.1;
+      texts = c.send.ensures.untold kept.2;
+      left_out = search rules;
+    })
 
 pub returns-in_err-old-clause-welcome : goal.returns-in_err-old-clause-welcome
 returns-in_err-old-clause-welcome g c bytes key records none left_is spells =
@@ -133,7 +140,7 @@ returns-in_err-records-clause-welcome g c bytes key records none left_is spells 
     c.in_ok-fragment.fragment good
     (subst (λ (x : List ℕ). IsOpened x c.in_ok-fragment.fragment) same opened) in
     rw (p.1, p.2) (c.in_err-records.ensures.welcome (c.in_ok-shape.ensures.added
-    ∙ (c.in_ok-draft.ensures.kept none).1) holds)
+    ∙ (c.in_ok-draft.ensures.kept none).1) (c.in_ok-draft.ensures.kept none).2 holds)
 
 pub returns-in_err-records-clause-further : goal.returns-in_err-records-clause-further
 returns-in_err-records-clause-further g c =
@@ -182,7 +189,12 @@ returns-clause-further g c =
 pub returns-clause-unchanged : goal.returns-clause-unchanged
 returns-clause-unchanged g c none =
     let kept = c.in_ok-draft.ensures.kept none in
-    record { header = kept.0; added = kept.1; left_out = search rules }
+    record {
+      header = kept.0;
+      added = kept.1;
+      texts = c.send.ensures.untold kept.2;
+      left_out = search rules;
+    }
 
 pub returns-in_err-shape-clause-asked : goal.returns-in_err-shape-clause-asked
 returns-in_err-shape-clause-asked g c =
@@ -214,6 +226,6 @@ returns-then-not-may_leave-clause-welcome g c bytes key records none left_is spe
     c.in_ok-fragment.fragment good
     (subst (λ (x : List ℕ). IsOpened x c.in_ok-fragment.fragment) same opened) in
     let all = c.in_ok-records.ensures.welcome (c.in_ok-shape.ensures.added
-    ∙ (c.in_ok-draft.ensures.kept none).1) holds in
+    ∙ (c.in_ok-draft.ensures.kept none).1) (c.in_ok-draft.ensures.kept none).2 holds in
     let may = c.may_leave.ensures.same all in
     search (rules, may)

@@ -1,11 +1,12 @@
-use Rattle.std.proofs.Common.{rules, ◌≡◌, ◌≤◌, ◌<◌, length, take, subst, ◌∙◌, arith, refl}
+use Rattle.std.proofs.Common.{rules, ◌≡◌, ◌≤◌, ◌<◌, length, take, subst, ◌∙◌, arith, refl, sym, List, []}
 use Rattle.std.proofs.Common.{length-take-le}
 use Rattle.std.proofs.lemmas.Result.{err_from_is_err_and}
 use Rattle.std.specs.Io.KnownBytes.{Consumes}
 use Rattle.edf_header.specs.Header.{Layout, least_records}
 use Rattle.edf_canonical.specs.Output.{buffered}
 use Rattle.edf_mend.specs.Answers.{RefusesFor}
-use Rattle.edf_mend.specs.Inside.Steps.{CarriesOne, IsUnfit}
+use Rattle.edf_mend.specs.Rewritten.{RecordEdits}
+use Rattle.edf_mend.specs.Inside.Steps.{CarriesOne, CarriedSoFar, IsUnfit}
 use Rattle.edf_mend.proofs.Accepted.{refuses-then}
 use Rattle.edf_mend.proofs.Carrying.{none-carried, one-carried, all-carried}
 use Rattle.edf_mend.proofs.Further.{carried-reads, further-then, writes-on}
@@ -16,9 +17,16 @@ pub loop-nth-init : goal.loop-nth-init
 loop-nth-init g c = record {
   header = refl;
   room = search rules;
-  so_far = none-carried c.args.fragment.now.header (g.R.Input.remaining c.args.input.now)
+  so_far = subst (λ (x : List RecordEdits). CarriedSoFar c.args.fragment.now.header
+      c.args.fragment.now.progress (g.R.Input.remaining c.args.input.now)
+      (g.R.Input.remaining c.args.input.now)
+      (buffered g.W.Output c.args.out.now c.args.held.now.bytes.items)
       (buffered g.W.Output c.args.out.now c.args.held.now.bytes.items) c.args.shape.size
-      c.args.shape.added c.args.fragment.now.progress c.requires.first;
+      c.args.shape.added 0 x) (sym c.requires.untold)
+      (none-carried c.args.fragment.now.header (g.R.Input.remaining c.args.input.now)
+      (buffered g.W.Output c.args.out.now c.args.held.now.bytes.items) c.args.shape.size
+      c.args.shape.added c.args.fragment.now.progress c.requires.first);
+  untold = λ _. c.requires.untold;
   reads = refl;
   writes = refl;
 }
@@ -48,7 +56,7 @@ returns-in-Cut-clause-carried g c =
     c.args.shape.added c.loop-nth.fragment.progress (g.R.Input.remaining c.loop-nth.input)
     (g.R.Input.remaining c.fill.new.input)
     (buffered g.W.Output c.loop-nth.out c.loop-nth.held.bytes.items) (take c.in-Cut.at
-    c.fill.new.buf) c.loop-nth.nth c.in-Cut.at i.so_far cut.1 cut.2 (search rules)
+    c.fill.new.buf) c.loop-nth.nth c.in-Cut.at c.loop-nth.texts.items i.so_far cut.1 cut.2 (search rules)
     (omega (arith, cut.0, size)) least
 
 pub loop-nth-preserved : goal.loop-nth-preserved
@@ -63,22 +71,26 @@ loop-nth-preserved g c =
     let rest = g.R.Input.remaining c.fill.new.input in
     let read : Consumes mid rest c.fill.new.buf = c.in-Full.ensures.full refl in
     let size : length c.fill.new.buf ≡ c.args.shape.size = search rules in
-    let one = subst (λ (x : Layout). CarriesOne x p q b d c.loop-nth.nth c.args.shape.added
-    c.fill.new.buf) i.header
+    let told = c.loop-nth.texts.items in
+    let tells = c.carry_record.new.texts.items in
+    let one = subst (λ (x : Layout). CarriesOne x p q b d c.loop-nth.nth c.args.shape.added told
+    tells c.fill.new.buf) i.header
     c.in_ok-carry_record-in-Full.ensures.carried in
     record {
       header = c.in_ok-carry_record-in-Full.ensures.header ∙ i.header;
       room = search rules;
       so_far = one-carried l (g.R.Input.remaining c.args.input.now)
           (buffered g.W.Output c.args.out.now c.args.held.now.bytes.items) c.args.shape.size
-          c.args.shape.added p q mid rest b d c.fill.new.buf c.loop-nth.nth i.so_far read size one;
+          c.args.shape.added p q mid rest b d c.fill.new.buf c.loop-nth.nth told tells i.so_far read
+          size one;
+      untold = λ off. c.carry_record.ensures.untold off ∙ i.untold off;
       reads = search rules;
       writes = search rules;
     }
 
 pub returns-in_err-carry_record-in-Full-clause-welcome :
     goal.returns-in_err-carry_record-in-Full-clause-welcome
-returns-in_err-carry_record-in-Full-clause-welcome g c none holds =
+returns-in_err-carry_record-in-Full-clause-welcome g c none off holds =
     let i = c.loop-nth.invariant in
     let l = c.args.fragment.now.header in
     let at = c.loop-nth.fragment.progress in
@@ -88,18 +100,18 @@ returns-in_err-carry_record-in-Full-clause-welcome g c none holds =
     let left = leaves-records l at (g.R.Input.remaining c.args.input.now) mid
     (buffered g.W.Output c.args.out.now c.args.held.now.bytes.items)
     (buffered g.W.Output c.loop-nth.out c.loop-nth.held.bytes.items) c.args.shape.size
-    c.args.shape.added c.loop-nth.nth none holds i.so_far in
+    c.args.shape.added c.loop-nth.nth c.loop-nth.texts.items none (i.untold off) holds i.so_far in
     let size : length buf ≡ c.args.shape.size = search rules in
     let refused = subst (λ (x : Layout). RefusesFor (IsUnfit x at buf)
     c.in_err-carry_record-in-Full.field-0.0) i.header
-    (c.in_err-carry_record-in-Full.ensures.refused none) in
+    (c.in_err-carry_record-in-Full.ensures.refused none off) in
     rw (p.1, p.2) (refuses-then (IsUnfit l at buf) ⊥ c.in_err-carry_record-in-Full.field-0.0
     (never-unfit l at mid (g.R.Input.remaining c.fill.new.input) buf holds.layout left
     (c.in-Full.ensures.full refl) (omega (arith, size, none, c.requires.fitting.size))) refused)
 
 pub returns-in_err-accept_end-in-Cut-clause-welcome :
     goal.returns-in_err-accept_end-in-Cut-clause-welcome
-returns-in_err-accept_end-in-Cut-clause-welcome g c none holds =
+returns-in_err-accept_end-in-Cut-clause-welcome g c none off holds =
     let i = c.loop-nth.invariant in
     let l = c.args.fragment.now.header in
     let at = c.loop-nth.fragment.progress in
@@ -113,7 +125,7 @@ returns-in_err-accept_end-in-Cut-clause-welcome g c none holds =
     (g.R.Input.remaining c.loop-nth.input)
     (buffered g.W.Output c.args.out.now c.args.held.now.bytes.items)
     (buffered g.W.Output c.loop-nth.out c.loop-nth.held.bytes.items) c.args.shape.size
-    c.args.shape.added c.loop-nth.nth none holds i.so_far in
+    c.args.shape.added c.loop-nth.nth c.loop-nth.texts.items none (i.untold off) holds i.so_far in
     let ends = ends-whole l at (g.R.Input.remaining c.loop-nth.input)
     (g.R.Input.remaining c.fill.new.input) (take c.in-Cut.at c.fill.new.buf) holds.layout left
     cut.1 cut.2 (omega (arith, piece, cut.0, size, none, c.requires.fitting.size)) in
@@ -123,7 +135,7 @@ returns-in_err-accept_end-in-Cut-clause-welcome g c none holds =
     c.in_err-accept_end-in-Cut.field-0.0 (λ low. omega (arith, low, ends.enough)) refused)
 
 pub returns-in-Cut-clause-welcome : goal.returns-in-Cut-clause-welcome
-returns-in-Cut-clause-welcome g c none holds =
+returns-in-Cut-clause-welcome g c none off holds =
     let i = c.loop-nth.invariant in
     let l = c.args.fragment.now.header in
     let at = c.loop-nth.fragment.progress in
@@ -135,7 +147,7 @@ returns-in-Cut-clause-welcome g c none holds =
     (g.R.Input.remaining c.loop-nth.input)
     (buffered g.W.Output c.args.out.now c.args.held.now.bytes.items)
     (buffered g.W.Output c.loop-nth.out c.loop-nth.held.bytes.items) c.args.shape.size
-    c.args.shape.added c.loop-nth.nth none holds i.so_far in
+    c.args.shape.added c.loop-nth.nth c.loop-nth.texts.items none (i.untold off) holds i.so_far in
     let ends = ends-whole l at (g.R.Input.remaining c.loop-nth.input)
     (g.R.Input.remaining c.fill.new.input) (take c.in-Cut.at c.fill.new.buf) holds.layout left
     cut.1 cut.2 (omega (arith, piece, cut.0, size, none, c.requires.fitting.size)) in
@@ -154,7 +166,7 @@ returns-in_err-carry_record-in-Full-clause-further g c =
     (g.R.Input.remaining c.args.input.now) (g.R.Input.remaining c.loop-nth.input) rest
     (buffered g.W.Output c.args.out.now c.args.held.now.bytes.items)
     (buffered g.W.Output c.loop-nth.out c.loop-nth.held.bytes.items) c.args.shape.size
-    c.args.shape.added c.loop-nth.nth c.loop-nth.invariant.so_far c.fill.new.buf
+    c.args.shape.added c.loop-nth.nth c.loop-nth.texts.items c.loop-nth.invariant.so_far c.fill.new.buf
     (c.in-Full.ensures.full refl)) (writes-on rest between after grown.0 grown.1)
 
 pub returns-in_err-accept_end-in-Cut-clause-further :
@@ -165,7 +177,7 @@ returns-in_err-accept_end-in-Cut-clause-further g c =
     (g.R.Input.remaining c.fill.new.input)
     (buffered g.W.Output c.args.out.now c.args.held.now.bytes.items)
     (buffered g.W.Output c.loop-nth.out c.loop-nth.held.bytes.items) c.args.shape.size
-    c.args.shape.added c.loop-nth.nth c.loop-nth.invariant.so_far (take c.in-Cut.at c.fill.new.buf)
+    c.args.shape.added c.loop-nth.nth c.loop-nth.texts.items c.loop-nth.invariant.so_far (take c.in-Cut.at c.fill.new.buf)
     (c.in-Cut.ensures.cut c.in-Cut.at refl).1
 
 pub returns-in-Cut-clause-further : goal.returns-in-Cut-clause-further
@@ -175,7 +187,7 @@ returns-in-Cut-clause-further g c =
     (g.R.Input.remaining c.fill.new.input)
     (buffered g.W.Output c.args.out.now c.args.held.now.bytes.items)
     (buffered g.W.Output c.loop-nth.out c.loop-nth.held.bytes.items) c.args.shape.size
-    c.args.shape.added c.loop-nth.nth c.loop-nth.invariant.so_far (take c.in-Cut.at c.fill.new.buf)
+    c.args.shape.added c.loop-nth.nth c.loop-nth.texts.items c.loop-nth.invariant.so_far (take c.in-Cut.at c.fill.new.buf)
     (c.in-Cut.ensures.cut c.in-Cut.at refl).1
 
 pub returns-in-Failed-clause-further : goal.returns-in-Failed-clause-further
@@ -186,4 +198,4 @@ returns-in-Failed-clause-further g c =
     (g.R.Input.remaining c.fill.new.input)
     (buffered g.W.Output c.args.out.now c.args.held.now.bytes.items)
     (buffered g.W.Output c.loop-nth.out c.loop-nth.held.bytes.items) c.args.shape.size
-    c.args.shape.added c.loop-nth.nth c.loop-nth.invariant.so_far stopped.bytes stopped.read
+    c.args.shape.added c.loop-nth.nth c.loop-nth.texts.items c.loop-nth.invariant.so_far stopped.bytes stopped.read
