@@ -13,7 +13,7 @@ import random
 from dataclasses import dataclass
 from pathlib import Path
 
-from checks.lib import arguments, edf, faults, gapped, measure, printed, runs
+from checks.lib import arguments, edf, faults, gapped, measure, model, printed, runs
 from checks.lib.by_hand import COUNT, DURATION, field, unknown
 from checks.lib.checks import Checks
 
@@ -57,9 +57,10 @@ def noted(*records, **fields) -> bytes:
                                  for nth, (onset, *notes) in enumerate(records, 1)])
 
 
-def line(number: int, records: int, first: str, seconds: str, gap: str = "") -> str:
+def line(number: int, records: int, first: str, seconds: str, gap: str = "",
+         joined: str = "") -> str:
     """What `list` says of a run that starts on this day and time of March 2002."""
-    return printed.run(number, records, f"2002-03-{first}", seconds, gap)
+    return printed.run(number, records, f"2002-03-{first}", seconds, gap, joined)
 
 
 OVER_2084 = (printed.run(1, 1, "2084-12-31T23:59:50", "1", "14") +
@@ -137,6 +138,11 @@ def files_of_each(programs: Programs, name: str, data: bytes, listed: str) -> No
     checks.same("the model's lines", runs.lines(made), listed)
     checks.run("list", "a.edf", out=listed)
     checks.run("list", "-", given=data, out=listed)
+    checks.run("list", "a.edf", "-", given=data, out="".join(
+        f"{file} {line}\n" for file in ("a.edf", "-") for line in listed.splitlines()))
+    for tolerance in sorted({0, *(run.gap for run in made)} | {run.gap - 1 for run in made[:-1]}):
+        checks.run("list", "--tolerance", model.shortest(tolerance).decode(), "a.edf",
+                   out=runs.joined_lines(made, tolerance))
     for run in made:
         checks.run("write", "a.edf", str(run.number), out=run.to_bytes())
     checks.run("write", "a.edf", str(len(made) + 1), err=printed.no_run(len(made) + 1), status=1)
@@ -181,7 +187,7 @@ def words_that_ask_for_nothing(programs: Programs) -> None:
     checks.file("a.edf", FILES["R9"])
     for words in ((), ("write", "-", "1"), ("split", "-", "part"), ("list",), ("write", "a.edf"),
                   ("canonical",), ("canonical", "-"), ("canonical", "a.edf", "more"),
-                  ("split", "a.edf"), ("frob", "a.edf"), ("list", "a.edf", "more"),
+                  ("split", "a.edf"), ("frob", "a.edf"), ("list", "--tolerance", "one", "a.edf"),
                   ("write", "a.edf", "1", "more"), ("list", "-x"),
                   *(("write", "a.edf", number)
                     for number in ("0", "-1", "+1", "one", "1.0", "4294967296", ""))):
@@ -199,7 +205,12 @@ def trouble(programs: Programs) -> None:
                   ("split", "none.edf", "part"), ("list", ".")):
         checks.run(*words, err=printed.line(words[1], printed.UNREAD), status=3)
     checks.file("a.edf", FILES["R9"])
-    checks.shell("edfruns list a.edf > /dev/full", status=3)
+    listed = runs.lines(runs.read_runs(FILES["R9"])).splitlines()
+    checks.run("list", "a.edf", "none.edf", "a.edf",
+               out="".join(f"a.edf {line}\n" for line in 2 * listed),
+               err=printed.line("none.edf", printed.UNREAD), status=3)
+    for names in ("a.edf", "a.edf none.edf"):       # the second is not read
+        checks.shell(f"edfruns list {names} > /dev/full", status=3)
     for words in ("write a.edf 1", "canonical a.edf", "split a.edf part"):
         checks.shell(f"edfruns {words} > /dev/full", err=printed.UNWRITTEN_OUTPUT, status=3)
     checks.shell("edfruns split a.edf none/part",
@@ -327,6 +338,18 @@ def a_night_with_three_gaps(programs: Programs) -> None:
               line(3, 7_070, "03T04:04:16.25", "7070", "7.75") +
               line(4, 3_474, "03T06:02:14", "3474"))
     checks.same("the model's lines", runs.lines(made), listed)
+    alone = " joined=0 missing=0"
+    first = line(1, 9_121, "02T22:30:00", "9121", "1200", alone)
+    second = line(2, 9_135, "03T01:22:01", "9135", "600.25", alone)
+    for tolerance, joined in (
+            ("7.749999999", first + second +
+             line(3, 7_070, "03T04:04:16.25", "7070", "7.75", alone) +
+             line(4, 3_474, "03T06:02:14", "3474", "", alone)),
+            ("7.75", first + second +
+             line(3, 10_544, "03T04:04:16.25", "10551.75", "", " joined=1 missing=7.75")),
+            ("700", first +
+             line(2, 19_679, "03T01:22:01", "20287", "", " joined=2 missing=608"))):
+        checks.run("list", "--tolerance", tolerance, "night.edf", out=joined)
     converted = programs.converted("night.edf")
     checks.file("export.edf", converted)
     for name, given in (("night.edf", data), ("export.edf", converted)):

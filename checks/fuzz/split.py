@@ -4,10 +4,10 @@ against a plain model.
     python3 -m checks.fuzz.split [--edfruns PATH] [--seed SEED] [COUNT]    1,000 files if left out
 
 The files are those of fuzz/run.py (cases.py), about half of them broken. Of each, `list` from
-standard input is what the model has; of a file with runs, `write` writes the first, the last and
-one between as the model has them, and every eighth is split too. Then the model's store takes the
-runs' files in any order, some twice, and must accept each and export the canonical file of the
-whole. The first that fails is left in the folder that is named.
+standard input is what the model has, with a tolerance too; of a file with runs, `write` writes the
+first, the last and one between as the model has them, and every eighth is split too. Then the
+model's store takes the runs' files in any order, some twice, and must accept each and export the
+canonical file of the whole. The first that fails is left in the folder that is named.
 """
 import collections
 import random
@@ -30,6 +30,14 @@ def written(program: measure.Program, made: list, chance: random.Random) -> None
         undated = (b"", printed.undated(run.number).encode(), 1)
         compare(f"run {run.number}", program.ran("write", "a.edf", run.number).outcome(),
                 undated if is_undated(run) else (run.to_bytes(), b"", 0))
+
+
+def listed_joined(program: measure.Program, data: bytes, made: list, chance: random.Random) -> None:
+    """The list with a tolerance of one of its gaps, or a nanosecond less."""
+    tolerance = max(chance.choice(made).gap - chance.randint(0, 1), 0)
+    words = "list", "--tolerance", model.shortest(tolerance).decode(), "-"
+    compare("list with a tolerance", program.ran(*words, given=data).outcome(),
+            (runs.joined_lines(made, tolerance).encode(), b"", 0))
 
 
 def was_split(program: measure.Program, made: list) -> None:
@@ -69,6 +77,7 @@ def checked(program: measure.Program, data: bytes, chance: random.Random) -> str
         return "refused"
     compare("list", program.ran("list", "-", given=data).outcome(),
             (runs.lines(made).encode(), b"", 0))
+    listed_joined(program, data, made, chance)
     written(program, made, chance)
     if not any(map(is_undated, made)):
         taken_back(data, made, chance)

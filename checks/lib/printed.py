@@ -98,10 +98,11 @@ def counts_listed(text: str) -> list:
     return [(int(one[1]), int(one[2])) for one in found] if all(found) else []
 
 
-def run(number: int, records: int, first: str, seconds: str, gap: str = "") -> str:
-    """A line of `edfruns list`; the last run has no gap."""
+def run(number: int, records: int, first: str, seconds: str, gap: str = "",
+        joined: str = "") -> str:
+    """A line of `edfruns list`; the last run has no gap, and a line without a tolerance no end."""
     rest = f" gap={gap}" if gap else ""
-    return f"{number} records={records} first={first} seconds={seconds}{rest}\n"
+    return f"{number} records={records} first={first} seconds={seconds}{rest}{joined}\n"
 
 
 # Other lines

@@ -211,6 +211,36 @@ fn other_files_of_the_prefix_are_left_alone(rt: HostRuntime) {
     }
 }
 
+/// What a list of three files prints with room for so many bytes on standard output.
+fn list_with_room(alloc: Global, room: usize) -> Option<String> {
+    let line = "list one.edf tenths.edf none.edf";
+    let mut folder = Folder::new(alloc);
+    story(alloc, Shelf::new(alloc), &mut folder, room, line)
+}
+
+#[test]
+fn a_list_ends_at_the_line_that_cannot_be_written(rt: HostRuntime) {
+    for (room, expected) in [
+        (5usize, "one.estatus 3\n"),
+        (
+            60,
+            "one.edf 1 records=2 first=2002-03-02T23:59:50 seconds=2\ntentstatus 3\n",
+        ),
+        (
+            200,
+            "one.edf 1 records=2 first=2002-03-02T23:59:50 seconds=2\n\
+            tenths.edf 1 records=4 first=2002-03-02T23:59:50 seconds=0.4\n\
+            err: none.edf refused E40 Read\nstatus 3\n",
+        ),
+    ] {
+        let printed = list_with_room(rt.alloc(), room);
+        assert!(rt;
+            printed.is_some_and(|text| text.as_str() == expected),
+            "{room}"
+        );
+    }
+}
+
 /// How a line of words ends with room for so many bytes on standard output, how many bytes went
 /// out, and how many files are left.
 fn outcome_with_room(alloc: Global, line: &str, room: usize) -> Option<(Status, usize, usize)> {

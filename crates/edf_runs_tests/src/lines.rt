@@ -31,6 +31,46 @@ const STORIES: &[(&str, &str)] = &[
         3 records=1 first=2002-03-03T01:00:00 seconds=1\nstatus 0\n",
     ),
     (
+        "list one.edf tenths.edf",
+        "one.edf 1 records=2 first=2002-03-02T23:59:50 seconds=2\n\
+        tenths.edf 1 records=4 first=2002-03-02T23:59:50 seconds=0.4\nstatus 0\n",
+    ),
+    (
+        "list one.edf cut.edf none.edf day.edf",
+        "one.edf 1 records=2 first=2002-03-02T23:59:50 seconds=2\n\
+        day.edf 1 records=1 first=2002-03-02T23:59:50 seconds=1 gap=86400\n\
+        day.edf 2 records=1 first=2002-03-03T23:59:51 seconds=1\n\
+        err: cut.edf refused E21 CutRecord record=3\n\
+        none.edf refused E40 Read\nstatus 3\n",
+    ),
+    (
+        "list cut.edf one.edf",
+        "one.edf 1 records=2 first=2002-03-02T23:59:50 seconds=2\n\
+        err: cut.edf refused E21 CutRecord record=3\nstatus 1\n",
+    ),
+    (
+        "list --tolerance 7.5 two.edf",
+        "1 records=5 first=2002-03-02T23:59:50.25 seconds=12.5 gap=3597.25 joined=1 missing=7.5\n\
+        2 records=1 first=2002-03-03T01:00:00 seconds=1 joined=0 missing=0\nstatus 0\n",
+    ),
+    (
+        "list --tolerance 7.499999999 two.edf",
+        "1 records=3 first=2002-03-02T23:59:50.25 seconds=3 gap=7.5 joined=0 missing=0\n\
+        2 records=2 first=2002-03-03T00:00:00.75 seconds=2 gap=3597.25 joined=0 missing=0\n\
+        3 records=1 first=2002-03-03T01:00:00 seconds=1 joined=0 missing=0\nstatus 0\n",
+    ),
+    (
+        "list two.edf one.edf --tolerance=4000",
+        "two.edf 1 records=6 first=2002-03-02T23:59:50.25 seconds=3610.75 joined=2 \
+        missing=3604.75\n\
+        one.edf 1 records=2 first=2002-03-02T23:59:50 seconds=2 joined=0 missing=0\nstatus 0\n",
+    ),
+    (
+        "list --tolerance 1 thousand.edf",
+        "1 records=1000 first=2002-03-03T00:00:00 seconds=1999 joined=999 missing=999\n\
+        status 0\n",
+    ),
+    (
         "split two.edf night",
         "night-1.edf 1 records=3 first=2002-03-02T23:59:50.25 seconds=3 gap=7.5\n\
         night-2.edf 2 records=2 first=2002-03-03T00:00:00.75 seconds=2 gap=3597.25\n\
@@ -126,9 +166,9 @@ fn numbers_of_runs_are_digits_from_one(rt: HostRuntime) {
     }
 }
 
-/// Whether no tolerance is refused as words that ask for nothing.
-fn is_no_tolerance(alloc: Global, seconds: &str) -> Option<bool> {
-    let line = format!(in alloc; "picture two.edf --tolerance={seconds}").ok()?;
+/// Whether no tolerance is refused as words of this command that ask for nothing.
+fn is_no_tolerance(alloc: Global, command: &str, seconds: &str) -> Option<bool> {
+    let line = format!(in alloc; "{command} two.edf --tolerance={seconds}").ok()?;
     let printed = plain_story(alloc, line.as_str())?;
     let why = "err: error: S is a decimal of seconds, 0 or more, with at most nine digits after \
         the dot\n";
@@ -137,12 +177,14 @@ fn is_no_tolerance(alloc: Global, seconds: &str) -> Option<bool> {
 
 #[test]
 fn tolerances_are_decimals_of_seconds(rt: HostRuntime) {
-    for seconds in ["-1", "1s", ".5", "0.0000000001", "9223372037"] {
-        assert_eq!(rt;
-            is_no_tolerance(rt.alloc(), seconds),
-            Some(true),
-            "{seconds}"
-        );
+    for command in ["list", "picture"] {
+        for seconds in ["-1", "1s", ".5", "0.0000000001", "9223372037"] {
+            assert_eq!(rt;
+                is_no_tolerance(rt.alloc(), command, seconds),
+                Some(true),
+                "{command}, {seconds}"
+            );
+        }
     }
 }
 

@@ -106,8 +106,11 @@ fn short_until_whole(alloc: Global, command: &RunsCommand) -> Option<u32> {
 
 /// The commands to list two gaps and to split it.
 fn commands(alloc: Global) -> Option<[RunsCommand; 2]> {
+    let mut files = Vec::new(alloc);
+    files.push(String::from_str(alloc, "two.edf").ok()?).ok()?;
     let list = RunsCommand::List {
-        file: String::from_str(alloc, "two.edf").ok()?,
+        files,
+        tolerance: Some(7_500_000_000),
     };
     let split = RunsCommand::Split {
         file: String::from_str(alloc, "two.edf").ok()?,

@@ -1,4 +1,7 @@
 mod RunTexts
+mod GroupLines
+mod Groups
+mod Listed
 mod Answered
 mod Rereading
 mod Walking

@@ -1,6 +1,8 @@
 -- What private functions do.
-use Rattle.std.specs.Prelude.{◌≡◌, ℕ, ◌-◌, ◌≤◌, List, [], ◌++◌, replicate, codes, slice_get}
-use Rattle.std.specs.Prelude.{Option, Some, None}
+use Rattle.std.specs.Prelude.{◌≡◌, ℕ, ◌+◌, ◌-◌, ◌≤◌, ◌<◌, List, [], ◌++◌, replicate, codes}
+use Rattle.std.specs.Prelude.{Option, Some, None, length, take, slice_get}
+use Rattle.edf_runs.specs.declared.run.Run.{Run}
+use Rattle.edfruns_command.specs.Joining.{AreClose}
 
 -- a name was opened again and again, at most so often
 pub record OpensUpTo (before after : List (List ℕ)) (name : List ℕ) (most : ℕ) : Type 0 where
@@ -18,3 +20,12 @@ label_text (Some name) = name ++ codes " "
 -- that of the line of this number, from 1
 abbrev pub label_in : List (List ℕ) → ℕ → List ℕ
 label_in names number = label_text (slice_get names (number - 1))
+
+-- ---- groups of runs
+
+-- so many runs, from the first on, have a line together: one, where no tolerance is given, and else
+-- as many as have no longer gap between them
+abbrev pub IsFrontGroup : ℕ → Option ℕ → List Run → ℕ → Type 0
+IsFrontGroup d None runs count = count ≡ 1
+IsFrontGroup d (Some most) runs count = AreClose d most (take count runs)
+    × (count < length runs → ¬ AreClose d most (take (count + 1) runs))

@@ -1,8 +1,10 @@
 pub mod Naming
 pub mod Picturing
 pub mod Lines
+pub mod Joining
 pub mod Made
 pub mod Listing
+pub mod Listed
 pub mod Writing
 pub mod Canonical
 pub mod Rereading

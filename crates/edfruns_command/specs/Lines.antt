@@ -45,11 +45,6 @@ run_lines spell d label number [] = []
 run_lines spell d label number (r ∷ rs) = label number
     ++ (run_line spell d number r (slice_get rs 0) ++ run_lines spell d label (number + 1) rs)
 
--- of `list`: without a label
-abbrev pub list_lines : (ℕ → List ℕ) → Listing → List ℕ
-list_lines spell listing =
-    run_lines spell (duration_of listing.identity.duration) (λ number. []) 1 listing.runs.items
-
 -- of `split`: each after the name of its file and a space
 abbrev pub split_lines : (ℕ → List ℕ) → List ℕ → Listing → List ℕ
 split_lines spell prefix listing =

@@ -1,15 +1,14 @@
--- What `list` does: what it writes, and the status that it answers.
-use Rattle.std.specs.Prelude.{◌≡◌, ◌⊎◌, ℕ, ◌≤◌, List, [], ◌++◌, Option, replicate}
+-- What is found where the runs of a file are listed, and what is written where it has none.
+use Rattle.std.specs.Prelude.{◌≡◌, ℕ, ◌≤◌, List, ◌++◌, Option, replicate}
 use Rattle.edf_fragment.specs.Whole.{IsFragmentFault}
 use Rattle.edf_fragment.specs.declared.fault.FragmentFault.{FragmentFault}
-use Rattle.edf_program.specs.Output.{Growth, Gets, IsWritten, Explains}
+use Rattle.edf_program.specs.Output.{Growth, Explains}
 use Rattle.edf_program.specs.Text.{memory_line}
 use Rattle.edf_program.specs.declared.status.Status.{Status}
 use Rattle.edf_program.specs.declared.status.Status.TheVariants.{Done, Trouble}
 use Rattle.edf_runs.specs.Read.{ReadsRuns}
 use Rattle.edf_runs.specs.declared.run_list.Listing.{Listing}
-use Rattle.edfruns_command.specs.Lines.{IsSpelling, list_lines, file_refused_line}
-use Rattle.edfruns_command.specs.Lines.{file_refused_status}
+use Rattle.edfruns_command.specs.Lines.{file_refused_line, file_refused_status}
 
 -- the file's name was opened again and again, `most` times at most, and just so often where all
 -- was done
@@ -40,14 +39,3 @@ module _ (out err : Growth) (bytes : Option (List ℕ)) (name : List ℕ) (statu
     pub fault : FragmentFault
     pub met : HasFault bytes fault
     pub said : Explains out err (file_refused_line name fault) (file_refused_status fault) status
-
-  -- each run of the file has its line
-  pub record ListsRuns : Type 0 where
-    pub listing : Listing
-    pub has : HasRuns bytes listing
-    pub said : (spell : ℕ → List ℕ) → IsSpelling spell →
-        IsWritten out (list_lines spell listing) Done status
-    pub silent : Gets err []
-
-  abbrev pub IsFileListed : Type 0
-  IsFileListed = ListsRuns ⊎ (RefusesFile ⊎ LacksMemory)

@@ -1,8 +1,9 @@
 -- What a command does: what it writes, the status that it answers, and which files it opens.
-use Rattle.std.specs.Prelude.{ℕ, List, Option, string_bytes}
+use Rattle.std.specs.Prelude.{ℕ, List, Option, map, string_bytes}
 use Rattle.edf_program.specs.Output.{Growth}
 use Rattle.edf_program.specs.declared.status.Status.{Status}
-use Rattle.edfruns_command.specs.Listing.{IsFileListed, OpensAgain}
+use Rattle.edfruns_command.specs.Listed.{IsListOut, OpensEach}
+use Rattle.edfruns_command.specs.Listing.{OpensAgain}
 use Rattle.edfruns_command.specs.Picturing.{IsPictured}
 use Rattle.edfruns_command.specs.Writing.{IsRunOut}
 use Rattle.edfruns_command.specs.Canonical.{IsCanonicalOut}
@@ -10,9 +11,10 @@ use Rattle.edfruns_command.specs.Splitting.{Making, MakesNothing, IsSplit}
 use Rattle.edfruns_command.specs.declared.runs_command.RunsCommand.{RunsCommand}
 use Rattle.edfruns_command.specs.declared.runs_command.RunsCommand.TheVariants as parsed
 
--- what can be asked for, with the values: the file's text, the run's number, the prefix's text
+-- what can be asked for, with the values: the files' texts, the tolerance in nanoseconds, the run's
+-- number, the prefix's text
 pub data Asked : Type 0 where
-  list : List ℕ → Asked
+  list : List (List ℕ) → Option ℕ → Asked
   write : List ℕ → ℕ → Asked
   canonical : List ℕ → Asked
   split : List ℕ → List ℕ → Asked
@@ -20,7 +22,7 @@ pub data Asked : Type 0 where
 
 -- what a command asks for
 abbrev pub meaning : RunsCommand → Asked
-meaning (parsed.List file) = list (string_bytes file)
+meaning (parsed.List files tolerance) = list (map string_bytes files.items) tolerance
 meaning (parsed.Write file number) = write (string_bytes file) number
 meaning (parsed.Canonical file) = canonical (string_bytes file)
 meaning (parsed.Split file prefix) = split (string_bytes file) (string_bytes prefix)
@@ -28,7 +30,8 @@ meaning (parsed.Picture file tolerance) = picture (string_bytes file)
 
 -- by the bytes that names stand for, what makes files and the two writers
 abbrev pub IsDone : (List ℕ → Option (List ℕ)) → Making → Growth → Growth → Asked → Status → Type 0
-IsDone bytes made out err (list file) status = IsFileListed out err (bytes file) file status
+IsDone bytes made out err (list files tolerance) status =
+    IsListOut bytes out err tolerance files status
 IsDone bytes made out err (write file number) status =
     IsRunOut out err (bytes file) file number status
 IsDone bytes made out err (canonical file) status = IsCanonicalOut out err (bytes file) file status
@@ -41,10 +44,10 @@ abbrev pub HasMade : Making → Asked → Type 0
 HasMade made (split file prefix) = Unit {0}
 HasMade made asked = MakesNothing made
 
--- `list` and `picture` read their file once, and `write`, `canonical` and `split` twice, where they
--- are done
+-- `list` reads each of its files once, `picture` its file once, and `write`, `canonical` and
+-- `split` theirs twice, where they are done
 abbrev pub HasOpened : List (List ℕ) → List (List ℕ) → Asked → Status → Type 0
-HasOpened before after (list file) status = OpensAgain before after file 1 status
+HasOpened before after (list files tolerance) status = OpensEach before after files status
 HasOpened before after (write file number) status = OpensAgain before after file 2 status
 HasOpened before after (canonical file) status = OpensAgain before after file 2 status
 HasOpened before after (split file prefix) status = OpensAgain before after file 2 status

@@ -118,10 +118,11 @@ fn command_in(alloc: Global, matches: &ArgMatches<'_>) -> Result<RunsCommand, Co
 
 /// What the words after the program's name ask for.
 ///
-/// The words are `list FILE`, `write FILE N`, `canonical FILE`, `split FILE PREFIX` or
+/// The words are `list FILE..`, `write FILE N`, `canonical FILE`, `split FILE PREFIX` or
 /// `picture FILE`. N is digits, without a sign, with a value from 1 to 4,294,967,295; zeros may
-/// lead. The FILE of `write`, `canonical` and `split` is read twice, so it is not `-`. `--help`,
-/// `-h`, `help` and `--version`, `-V` are as `edfstore` has them.
+/// lead. `list` and `picture` have an option `--tolerance S`, a decimal of seconds. The FILE of
+/// `write`, `canonical` and `split` is read twice, so it is not `-`. `--help`, `-h`, `help` and
+/// `--version`, `-V` are as `edfstore` has them.
 ///
 /// # Errors
 /// `Help` where help or the version was asked for, `Usage` where the words ask for nothing that can

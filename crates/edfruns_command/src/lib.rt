@@ -5,10 +5,14 @@
 //!   written. [`parse`]: the words, read, and nothing else.
 //! - [`run_runs`]: one command, over what opens files (`edf_program`'s `Inputs`) and what makes
 //!   them ([`Outputs`], with [`MadeFiles`] for the list of them).
+//! - [`laws`]: runs have groups that share a line, and no others. The function does nothing: its
+//!   contract is a law.
 #![tactic(auto)]
 
 mod arguments;
 mod canonical_command;
+mod joining;
+pub mod laws;
 mod lines;
 mod list_command;
 mod made_files;

@@ -13,7 +13,7 @@ use edf_time::write_seconds;
 use std::alloc::{AllocError, Global};
 
 /// ` gap=S`: the seconds from the end of a run to the start of the next, if there is one.
-fn gap_text(alloc: Global, end: u64, next: Option<&Run>) -> Result<Vec<u8>, AllocError>
+pub(crate) fn gap_text(alloc: Global, end: u64, next: Option<&Run>) -> Result<Vec<u8>, AllocError>
     ensures { IfOk result (λ r. (d : ℕ) (run : Run) → end ≡ end_of d run →
         r.items ≡ gap_text d run (option_map (λ run. run.now) next.entry)) }
 {
@@ -54,7 +54,7 @@ fn run_line(
 }
 
 /// The run at a place, from 0, if there is one.
-fn run_at(runs: &[Run], at: usize) -> Option<&Run>
+pub(crate) fn run_at(runs: &[Run], at: usize) -> Option<&Run>
     ensures { option_map (λ run. run.now) result ≡ slice_get runs.now at }
 {
     runs.get(at)

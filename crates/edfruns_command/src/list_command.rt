@@ -1,17 +1,26 @@
-//! `list`: a line for each run.
+//! `list`: a line for each run, or for those that are joined.
 
-ghost use Rattle.std.specs.Prelude.{◌≡◌, ◌⊎◌, ◌++◌, ℕ, List, MatchResult, replicate};
-ghost use Rattle.edf_program.specs.Output.{growth};
+ghost use Rattle.std.specs.Prelude.{◌≡◌, ◌⊎◌, ◌++◌, ◌∷◌, [], ℕ, List, Some, IfOk, MatchResult};
+ghost use Rattle.std.specs.Prelude.{MatchOption, map, replicate, string_bytes};
+ghost use Rattle.edf_field.specs.Number.{duration_of};
+ghost use Rattle.edf_program.specs.Output.{growth, Gets, GetsFront};
+ghost use Rattle.edf_runs.specs.declared.run.Run.{Run};
 ghost use Rattle.edfruns_command.specs.Inside.{OpensUpTo};
-ghost use Rattle.edfruns_command.specs.Listing.{HasRuns, HasFault, IsFileListed, OpensAgain};
+ghost use Rattle.edfruns_command.specs.Joining.{AreSeen, group_lines};
+ghost use Rattle.edfruns_command.specs.Lines.{IsSpelling};
+ghost use Rattle.edfruns_command.specs.Listed.{CutsLines, IsFileListed, IsListOut, OpensEach};
+ghost use Rattle.edfruns_command.specs.Listed.{are_several, file_label, worse};
+ghost use Rattle.edfruns_command.specs.Listing.{HasRuns, HasFault};
 
-use crate::arguments::{file_value, value_in};
-use crate::lines::runs_text;
+use crate::arguments::required_value;
+use crate::joining::list_text;
 use crate::refusal::refuse;
 use crate::runs_command::RunsCommand;
-use clap::{ArgMatches, Command};
-use edf_fragment::{FragmentFault, Output};
-use edf_program::{CommandFault, Inputs, Status, tell_bytes, tell_memory};
+use crate::texts::joined;
+use crate::tolerance::{read_tolerance, tolerance_option};
+use clap::{Arg, ArgAction, ArgMatches, Command};
+use edf_fragment::{FragmentFault, Output, send};
+use edf_program::{CommandFault, Inputs, Status, tell_memory};
 use edf_runs::{Listing, list_runs};
 use std::alloc::{AllocError, Global};
 
@@ -19,21 +28,53 @@ use std::alloc::{AllocError, Global};
 const LIST_MORE: &str = "\
 Lists the runs of a file in time order, a line each: its number, how many data
 records it has, the start of the first, how many seconds it lasts, and, where
-another run follows, how many seconds are missing before that.";
+another run follows, how many seconds are missing before that. Where there are
+several files, each line begins with its file's name.
 
-const LIST_EXAMPLE: &str = "\
-Example:
+With --tolerance, runs between which at most S seconds are missing share a line,
+which ends with how many gaps it has and how many seconds they are together.
+'edfruns write' and 'edfruns split' never join runs, and N of 'edfruns write'
+counts those of a list without --tolerance.";
+
+const LIST_EXAMPLES: &str = "\
+Examples:
   edfruns list night.edf
   1 records=3 first=2002-03-02T23:59:50 seconds=3 gap=7.5
-  2 records=2 first=2002-03-03T00:00:00.5 seconds=2";
+  2 records=2 first=2002-03-03T00:00:00.5 seconds=2
+  edfruns list --tolerance 10 night.edf
+  1 records=5 first=2002-03-02T23:59:50 seconds=12.5 joined=1 missing=7.5
+  edfruns list *.edf";
+
+/// What usage calls the command.
+const NAME: &str = "edfruns list";
+
+/// The files, each of which is read once.
+fn files_value<'a>(alloc: Global) -> Arg<'a> {
+    let text = "Files in EDF+C or EDF+D, or - for standard input";
+    required_value(alloc, "FILE", text)
+        .action(ArgAction::Append)
+        .num_args(1..)
+}
 
 /// The word and its values, as `clap` gets them.
 pub(crate) fn list_words<'a>(alloc: Global) -> Result<Command<'a>, AllocError> {
     Command::new(alloc, "list")
-        .about("Lists the runs of a file")
+        .about("Lists the runs of files")
         .long_about(LIST_MORE)
-        .after_help(LIST_EXAMPLE)
-        .arg(file_value(alloc))
+        .after_help(LIST_EXAMPLES)
+        .arg(tolerance_option(alloc))?
+        .arg(files_value(alloc))
+}
+
+/// The files that were given.
+fn files_in(alloc: Global, values: &ArgMatches<'_>) -> Result<Vec<String>, AllocError> {
+    let mut files = Vec::new(alloc);
+    if let Some(names) = values.get_strs("FILE") {
+        for name in names {
+            files.push(String::from_str(alloc, name)?)?;
+        }
+    }
+    Ok(files)
 }
 
 /// What its values ask for.
@@ -41,8 +82,9 @@ pub(crate) fn read_list(
     alloc: Global,
     values: &ArgMatches<'_>,
 ) -> Result<RunsCommand, CommandFault> {
-    let file = String::from_str(alloc, value_in(values, "FILE"))?;
-    Ok(RunsCommand::List { file })
+    let tolerance = read_tolerance(alloc, values, list_words(alloc), NAME)?;
+    let files = files_in(alloc, values)?;
+    Ok(RunsCommand::List { files, tolerance })
 }
 
 /// The runs of a file, which is read once.
@@ -65,25 +107,118 @@ pub(crate) fn listing_of<I: Inputs>(
     }
 }
 
-/// Writes a line for each run of a file.
-pub(crate) fn list<I: Inputs, O: Output, F: Output>(
+/// Whether lines have their file's name.
+fn are_several(files: &[String]) -> bool
+    ensures { result ≡ are_several (map string_bytes files.now) }
+{
+    files.len() > 1
+}
+
+/// What stands before each line of a file, where there are several.
+fn file_label(alloc: Global, file: &str, several: bool) -> Result<Vec<u8>, AllocError>
+    ensures { IfOk result (λ r. r.items ≡ file_label several file.now) }
+{
+    if several {
+        joined(alloc, &[file.as_bytes(), b" "])
+    } else {
+        Ok(Vec::new(alloc))
+    }
+}
+
+/// The lines of a file.
+fn text_of(
     alloc: Global,
     file: &str,
+    several: bool,
+    tolerance: Option<u64>,
+    listing: &Listing,
+) -> Result<Vec<u8>, AllocError>
+    ensures { let d = duration_of listing.now.identity.duration in IfOk result (λ r.
+        (groups : List (List Run)) × AreSeen d tolerance listing.now.runs.items groups
+        × ((spell : ℕ → List ℕ) → IsSpelling spell →
+        r.items ≡ group_lines spell tolerance d (file_label several file.now) 1 groups)) }
+{
+    let label = file_label(alloc, file, several)?;
+    list_text(alloc, label.as_slice(), tolerance, listing)
+}
+
+/// Writes lines; `None` where they could not be written whole.
+fn send_lines<O: Output>(out: &mut O, text: &[u8]) -> Option<Status>
+    ensures { let w = growth O.Output out.old out.new in MatchOption result
+        (GetsFront w text.now) (λ status. Gets w text.now × (status ≡ Status.Done)) }
+{
+    if send(out, text) {
+        Some(Status::Done)
+    } else {
+        None
+    }
+}
+
+/// Writes the lines of a file; `None` where they could not be written whole.
+fn list_file<I: Inputs, O: Output, F: Output>(
+    alloc: Global,
+    file: &str,
+    several: bool,
+    tolerance: Option<u64>,
     inputs: &mut I,
     out: &mut O,
     err: &mut F,
-) -> Status
-    ensures listed { IsFileListed (growth O.Output out.old out.new)
-        (growth F.Output err.old err.new) (I.bytes inputs.old file.now) file.now result }
-    ensures opened { OpensAgain (I.opened inputs.old) (I.opened inputs.new) file.now 1 result }
+) -> Option<Status>
+    ensures listed { let o = growth O.Output out.old out.new in
+        let e = growth F.Output err.old err.new in
+        let bytes = I.bytes inputs.old file.now in
+        let label = file_label several file.now in
+        MatchOption result (CutsLines o e bytes label tolerance)
+        (IsFileListed o e bytes label tolerance file.now) }
+    ensures opened { OpensUpTo (I.opened inputs.old) (I.opened inputs.new) file.now 1 }
+    ensures done { result ≡ Some Status.Done →
+        I.opened inputs.new ≡ I.opened inputs.old ++ (file.now ∷ []) }
     ensures same { (name : List ℕ) → I.bytes inputs.new name ≡ I.bytes inputs.old name }
 {
     let listing = match listing_of(alloc, file, inputs) {
         Ok(listing) => listing,
-        Err(fault) => return refuse(alloc, file, fault, err),
+        Err(fault) => return Some(refuse(alloc, file, fault, err)),
     };
-    match runs_text(alloc, &[], &listing) {
-        Ok(text) => tell_bytes(out, text.as_slice(), Status::Done),
-        Err(_) => tell_memory(err, file),
+    match text_of(alloc, file, several, tolerance, &listing) {
+        Ok(text) => send_lines(out, text.as_slice()),
+        Err(_) => Some(tell_memory(err, file)),
     }
+}
+
+/// The worse of two statuses: that with the higher number.
+fn worse(status: Status, other: Status) -> Status
+    ensures { result ≡ worse status other }
+{
+    if status.code() < other.code() {
+        other
+    } else {
+        status
+    }
+}
+
+/// Writes the lines of each file in the order of the words, also after one that is refused. It ends
+/// where lines could not be written whole.
+pub(crate) fn list<I: Inputs, O: Output, F: Output>(
+    alloc: Global,
+    files: &[String],
+    tolerance: Option<u64>,
+    inputs: &mut I,
+    out: &mut O,
+    err: &mut F,
+) -> Status
+    ensures listed { IsListOut (I.bytes inputs.old) (growth O.Output out.old out.new)
+        (growth F.Output err.old err.new) tolerance (map string_bytes files.now) result }
+    ensures opened { OpensEach (I.opened inputs.old) (I.opened inputs.new)
+        (map string_bytes files.now) result }
+    ensures same { (name : List ℕ) → I.bytes inputs.new name ≡ I.bytes inputs.old name }
+{
+    let several = are_several(files);
+    let mut status = Status::Done;
+    for file in files {
+        match list_file(alloc, file.as_str(), several, tolerance, inputs, out, err) {
+            Some(one) => status = worse(status, one),
+            None => return Status::Trouble,
+        }
+    }
+    status
 }

@@ -66,7 +66,10 @@ pub(crate) fn read_picture(
 ) -> Result<RunsCommand, CommandFault> {
     let tolerance = read_tolerance(alloc, values, picture_words(alloc), NAME)?;
     let file = String::from_str(alloc, value_in(values, "FILE"))?;
-    Ok(RunsCommand::Picture { file, tolerance })
+    Ok(RunsCommand::Picture {
+        file,
+        tolerance: tolerance.unwrap_or(0),
+    })
 }
 
 /// What a picture shows of the data records that were read so far.

@@ -18,10 +18,12 @@ use std::alloc::Global;
 /// is read once. None of them is looked at here.
 #[derive(Debug, Drop)]
 pub enum RunsCommand {
-    /// List the runs of the file.
+    /// List the runs of files.
     List {
-        /// The file.
-        file: String,
+        /// The files, one at least.
+        files: Vec<String>,
+        /// The longest gap between runs that share a line, in nanoseconds, if any do.
+        tolerance: Option<u64>,
     },
     /// Write the EDF+C file of one run to standard output.
     Write {
@@ -52,10 +54,13 @@ pub enum RunsCommand {
 }
 
 impl RunsCommand {
-    /// How often it reads its file, if nothing is wrong.
+    /// How often it reads a file, if nothing is wrong.
     pub fn readings(&self) -> usize {
         match self {
-            RunsCommand::List { file: _ } => 1,
+            RunsCommand::List {
+                files,
+                tolerance: _,
+            } => files.len(),
             RunsCommand::Write { file: _, number: _ } => 2,
             RunsCommand::Canonical { file: _ } => 2,
             RunsCommand::Split { file: _, prefix: _ } => 2,
@@ -69,11 +74,12 @@ impl RunsCommand {
 
 /// Runs a command.
 ///
-/// Lists, files and pictures go to `out`, and why something is not done to `err`. A list goes out
-/// whole, or a front of it where a write failed, or nothing where memory ran out. `Split` leaves
-/// all its files where it is done, and else none but those that it names as not removed; the lines
-/// of files that were removed may have gone out, where writing them failed. The clauses say what
-/// `List`, `Write`, `Canonical` and `Split` do, and of `Picture` all but what the picture shows.
+/// Lists, files and pictures go to `out`, and why something is not done to `err`. The list of a
+/// file goes out whole, or a front of it where a write failed, or nothing where memory ran out.
+/// `Split` leaves all its files where it is done, and else none but those that it names as not
+/// removed; the lines of files that were removed may have gone out, where writing them failed. The
+/// clauses say what `List`, `Write`, `Canonical` and `Split` do, and of `Picture` all but what the
+/// picture shows.
 pub fn run_runs<I: Inputs, P: Outputs, O: Output, F: Output>(
     alloc: Global,
     command: &RunsCommand,
@@ -90,7 +96,9 @@ pub fn run_runs<I: Inputs, P: Outputs, O: Output, F: Output>(
         (I.opened inputs.old) (I.opened inputs.new) (meaning command.now) result }
 {
     match command {
-        RunsCommand::List { file } => list(alloc, file.as_str(), inputs, out, err),
+        RunsCommand::List { files, tolerance } => {
+            list(alloc, files.as_slice(), *tolerance, inputs, out, err)
+        }
         RunsCommand::Write { file, number } => {
             write(alloc, file.as_str(), *number, inputs, out, err)
         }

@@ -23,7 +23,7 @@ pub(crate) fn tolerance_option<'a>(alloc: Global) -> Arg<'a> {
         .help(HELP)
 }
 
-/// The nanoseconds that its value names: 0 where the option is left out.
+/// The nanoseconds that its value names, if the option is given.
 ///
 /// # Errors
 /// `Usage` where the value is no decimal of seconds; `words` are those of the command, which usage
@@ -33,12 +33,12 @@ pub(crate) fn read_tolerance<'a>(
     values: &ArgMatches<'_>,
     words: Result<Command<'a>, AllocError>,
     name: &str,
-) -> Result<u64, CommandFault> {
+) -> Result<Option<u64>, CommandFault> {
     let Some(text) = values.get_str(TOLERANCE) else {
-        return Ok(0);
+        return Ok(None);
     };
     match read_seconds(text.as_bytes()) {
-        Ok(nanos) => Ok(nanos),
+        Ok(nanos) => Ok(Some(nanos)),
         Err(_) => Err(refuse_value(alloc, words?, name, BAD_SECONDS)?),
     }
 }

@@ -1,36 +1,107 @@
-use Rattle.std.proofs.Common.{◌∙◌, ℕ, List, inl, inr, subst}
-use Rattle.edf_program.specs.Output.{growth, IsWritten}
-use Rattle.edf_program.specs.declared.status.Status.TheVariants.{Done}
-use Rattle.edf_program.proofs.Puts.{nothing-gets}
-use Rattle.edfruns_command.proofs.Answered.{refused}
+use Rattle.std.proofs.Common.{◌∙◌, ◌+◌, ◌++◌, ◌∷◌, [], ℕ, List, Bool, inr, refl, sym, ap, subst, append-nil}
+use Rattle.std.proofs.Common.{map, take, drop, string_bytes, Global}
+use Rattle.std.specs.Prelude.{Option, Some}
+use Rattle.edf_program.specs.Output.{growth}
+use Rattle.edf_program.specs.declared.status.Status.{Status}
+use Rattle.edf_program.specs.declared.status.Status.TheVariants.{Trouble}
+use Rattle.edfruns_command.specs.Inside.{OpensUpTo}
+use Rattle.edfruns_command.specs.Listed.{AreListed, StopsListing, IsFileListed, CutsLines, OpensEach}
+use Rattle.edfruns_command.specs.Listed.{held_before, held_after, file_label}
+use Rattle.edfruns_command.proofs.Listed.{listed_more, each_more, each_cut, names_more, names_around}
 use Rattle.edfruns_command.proofs.list_command.list.Goals as goal
 
-pub returns-in-Err-clause-listed : goal.returns-in-Err-clause-listed
-returns-in-Err-clause-listed g c =
-    inr (refused (growth g.O.Output c.args.out.now c.args.out.now)
-    (growth g.F.Output c.args.err.now c.refuse.new.err)
-    (g.I.Inputs.bytes c.args.inputs.now c.args.file.now) c.args.file.now c.in-Err.fault
-    c.refuse.result
-    (nothing-gets (g.O.Output.contents c.args.out.now) (g.O.Output.failures c.args.out.now))
-    c.in-Err.ensures.answer c.refuse.ensures)
+pub loop-file-init : goal.loop-file-init
+loop-file-init g c = record {
+  listed = (refl, refl, refl);
+  opened = record { some = refl; all = λ done. sym (append-nil _) };
+  same = λ name. refl;
+}
 
-pub returns-in-Ok-runs_text-clause-listed : goal.returns-in-Ok-runs_text-clause-listed
-returns-in-Ok-runs_text-clause-listed g c = inl (record {
-  listing = c.in-Ok.listing;
-  has = c.in-Ok.ensures.answer;
-  said = λ spell is.
-      let IsOut : List ℕ → Type 0 = λ bytes.
-      IsWritten (growth g.O.Output c.args.out.now c.tell_bytes.new.out) bytes Done
-      c.tell_bytes.result in
-      subst IsOut (c.as_slice.ensures.value ∙ c.in-Ok-runs_text.ensures spell is)
-      c.tell_bytes.ensures;
-  silent = nothing-gets (g.F.Output.contents c.args.err.now)
-      (g.F.Output.failures c.args.err.now);
-})
+pub loop-file-preserved : goal.loop-file-preserved
+loop-file-preserved g c =
+    let bytes = g.I.Inputs.bytes c.args.inputs.now in
+    let several = c.are_several-several.result in
+    let most = c.args.tolerance in
+    let files = c.args.files.now in
+    let i = c.loop-file.file-index in
+    let text = string_bytes {Z = Global} in
+    let name = text c.file-item.result in
+    let names = map text (take i files) in
+    let one = c.in-Some.one in
+    let out = growth g.O.Output c.args.out.now c.list_file.new.out in
+    let err = growth g.F.Output c.args.err.now c.list_file.new.err in
+    let mid_out = growth g.O.Output c.loop-file.out c.list_file.new.out in
+    let mid_err = growth g.F.Output c.loop-file.err c.list_file.new.err in
+    let before = g.I.Inputs.opened c.args.inputs.now in
+    let mid = g.I.Inputs.opened c.loop-file.inputs in
+    let after = g.I.Inputs.opened c.list_file.new.inputs in
+    let more = names_more text files i c.file-item.result c.loop-file-test.true c.file-item.is in
+    let told = subst (λ (b : Option (List ℕ)). IsFileListed mid_out mid_err b
+    (file_label several c.as_str.result.now) most c.as_str.result.now one)
+    (c.loop-file.invariant.same c.as_str.result.now) c.in-Some.ensures.listed in
+    let listed = subst (λ (n : List ℕ). IsFileListed mid_out mid_err (bytes n)
+    (file_label several n) most n one) c.as_str.ensures.value told in
+    let opened = subst (λ (n : List ℕ). OpensUpTo mid after n 1) c.as_str.ensures.value
+    c.in-Some.ensures.opened in
+    record {
+      listed = subst (λ (l : List (List ℕ)). AreListed bytes several most (held_before out)
+          (held_after out) (held_before err) (held_after err) l c.worse-status.result) (sym more)
+          (subst (λ (s : Status). AreListed bytes several most (held_before out)
+          (held_after out) (held_before err) (held_after err) (names ++ (name ∷ [])) s)
+          (sym c.worse-status.ensures)
+          (listed_more bytes several most (held_before out) (held_before mid_out)
+          (held_after out) (held_before err) (held_before mid_err) (held_after err) names name
+          c.loop-file.status one c.loop-file.invariant.listed listed));
+      opened = subst (λ (l : List (List ℕ)). OpensEach before after l c.worse-status.result)
+          (sym more) (subst (λ (s : Status). OpensEach before after (names ++ (name ∷ [])) s)
+          (sym c.worse-status.ensures)
+          (each_more before mid after names name c.loop-file.status
+          c.loop-file.invariant.opened opened one
+          (λ done. c.in-Some.ensures.done (ap (λ (s : Status). Some s) done)
+          ∙ ap (λ (n : List ℕ). mid ++ (n ∷ [])) c.as_str.ensures.value)));
+      same = λ other. c.in-Some.ensures.same other ∙ c.loop-file.invariant.same other;
+    }
 
-pub returns-clause-listed : goal.returns-clause-listed
-returns-clause-listed g c =
-    inr (inr (
-      nothing-gets (g.O.Output.contents c.args.out.now) (g.O.Output.failures c.args.out.now),
-      c.tell_memory.ensures,
-    ))
+pub returns-in-None-clause-listed : goal.returns-in-None-clause-listed
+returns-in-None-clause-listed g c =
+    let bytes = g.I.Inputs.bytes c.args.inputs.now in
+    let several = c.are_several-several.result in
+    let most = c.args.tolerance in
+    let files = c.args.files.now in
+    let i = c.loop-file.file-index in
+    let text = string_bytes {Z = Global} in
+    let out = growth g.O.Output c.args.out.now c.list_file.new.out in
+    let err = growth g.F.Output c.args.err.now c.list_file.new.err in
+    let mid_out = growth g.O.Output c.loop-file.out c.list_file.new.out in
+    let mid_err = growth g.F.Output c.loop-file.err c.list_file.new.err in
+    let told = subst (λ (b : Option (List ℕ)). CutsLines mid_out mid_err b
+    (file_label several c.as_str.result.now) most)
+    (c.loop-file.invariant.same c.as_str.result.now) c.in-None.ensures.listed in
+    inr (subst (λ (s : Bool). StopsListing bytes s most (held_before out) (held_after out)
+    (held_before err) (held_after err) (map text files) Trouble) c.are_several-several.ensures
+    (record {
+      front = map text (take i files);
+      name = text c.file-item.result;
+      later = map text (drop (i + 1) files);
+      parts = names_around text files i c.file-item.result c.loop-file-test.true c.file-item.is;
+      mid = held_before mid_out;
+      mid_err = held_before mid_err;
+      earlier = c.loop-file.status;
+      listed = c.loop-file.invariant.listed;
+      cut = subst (λ (n : List ℕ). CutsLines mid_out mid_err (bytes n) (file_label several n) most)
+          c.as_str.ensures.value told;
+      trouble = refl;
+    }))
+
+pub returns-in-None-clause-opened : goal.returns-in-None-clause-opened
+returns-in-None-clause-opened g c =
+    let files = c.args.files.now in
+    let i = c.loop-file.file-index in
+    let text = string_bytes {Z = Global} in
+    let mid = g.I.Inputs.opened c.loop-file.inputs in
+    let after = g.I.Inputs.opened c.list_file.new.inputs in
+    each_cut (g.I.Inputs.opened c.args.inputs.now) mid after (map text (take i files))
+    (text c.file-item.result) c.loop-file.status c.loop-file.invariant.opened
+    (subst (λ (n : List ℕ). OpensUpTo mid after n 1) c.as_str.ensures.value
+    c.in-None.ensures.opened) (map text (drop (i + 1) files)) (map text files)
+    (names_around text files i c.file-item.result c.loop-file-test.true c.file-item.is)

@@ -1,11 +1,34 @@
-use Rattle.std.proofs.Common.{List, ℕ, sym, subst, string_bytes}
+use Rattle.std.proofs.Common.{List, ℕ, sym, subst, map, string_bytes}
 use Rattle.edf_program.specs.Output.{growth}
-use Rattle.edfruns_command.specs.Run.{IsDone, meaning}
+use Rattle.edfruns_command.specs.Listed.{IsListOut, OpensEach}
+use Rattle.edfruns_command.specs.Run.{IsDone, HasOpened, meaning}
 use Rattle.edfruns_command.specs.Canonical.{IsCanonicalOut}
 use Rattle.edfruns_command.specs.Splitting.{IsSplit, making}
 use Rattle.edfruns_command.specs.Writing.{IsRunOut}
 use Rattle.edfruns_command.specs.declared.runs_command.RunsCommand.{RunsCommand}
 use Rattle.edfruns_command.proofs.runs_command.run_runs.Goals as goal
+
+pub returns-in-List-clause-done : goal.returns-in-List-clause-done
+returns-in-List-clause-done g c =
+    let out = growth g.O.Output c.args.out.now c.list.new.out in
+    let err = growth g.F.Output c.args.err.now c.list.new.err in
+    let bytes = g.I.Inputs.bytes c.args.inputs.now in
+    let made = making g.P.Outputs c.args.outputs.now c.args.outputs.now in
+    let Does : RunsCommand → Type 0 = λ command.
+    IsDone bytes made out err (meaning command) c.list.result in
+    subst Does (sym c.in-List.is)
+    (subst (λ files. IsListOut bytes out err c.in-List.tolerance (map string_bytes files)
+    c.list.result) c.as_slice.ensures.value c.list.ensures.listed)
+
+pub returns-in-List-clause-opened : goal.returns-in-List-clause-opened
+returns-in-List-clause-opened g c =
+    let before = g.I.Inputs.opened c.args.inputs.now in
+    let after = g.I.Inputs.opened c.list.new.inputs in
+    let Opens : RunsCommand → Type 0 = λ command.
+    HasOpened before after (meaning command) c.list.result in
+    subst Opens (sym c.in-List.is)
+    (subst (λ files. OpensEach before after (map string_bytes files) c.list.result)
+    c.as_slice.ensures.value c.list.ensures.opened)
 
 pub returns-in-Write-clause-done : goal.returns-in-Write-clause-done
 returns-in-Write-clause-done g c =
@@ -17,7 +40,7 @@ returns-in-Write-clause-done g c =
     IsDone bytes made out err (meaning command) c.write.result in
     let Writes : List ℕ → Type 0 = λ name.
     IsRunOut out err (bytes name) name c.in-Write.number c.write.result in
-    subst Does (sym c.in-Write.is) (subst Writes c.as_str-in-Write.ensures.value
+    subst Does (sym c.in-Write.is) (subst Writes c.as_str.ensures.value
     c.write.ensures.written)
 
 pub returns-in-Canonical-clause-done : goal.returns-in-Canonical-clause-done

@@ -1,0 +1,120 @@
+-- What `list` does: what it writes, the status that it answers, and which files it opens.
+use Rattle.std.specs.Prelude.{◌≡◌, ◌⊎◌, ℕ, List, [], ◌∷◌, ◌++◌, Bool, true, false, Option}
+use Rattle.std.specs.Prelude.{nat_lt, length, codes, if◌then◌else◌}
+use Rattle.edf_field.specs.Number.{duration_of}
+use Rattle.edf_program.specs.Output.{Growth, Gets, GetsFront}
+use Rattle.edf_program.specs.Status.{exit_code}
+use Rattle.edf_program.specs.declared.status.Status.{Status}
+use Rattle.edf_program.specs.declared.status.Status.TheVariants.{Done, Trouble}
+use Rattle.edf_runs.specs.declared.run.Run.{Run}
+use Rattle.edf_runs.specs.declared.run_list.Listing.{Listing}
+use Rattle.edfruns_command.specs.Joining.{AreSeen, group_lines}
+use Rattle.edfruns_command.specs.Lines.{IsSpelling}
+use Rattle.edfruns_command.specs.Listing.{HasRuns, RefusesFile, LacksMemory}
+
+-- ---- one file
+
+-- lines have their file's name where there are several files
+abbrev pub are_several : List (List ℕ) → Bool
+are_several names = nat_lt 1 (length names)
+
+abbrev pub file_label : Bool → List ℕ → List ℕ
+file_label false name = []
+file_label true name = name ++ codes " "
+
+-- the file was read to its end, and this was done with the lines of its runs: each run has its own,
+-- or those that are joined have one together
+pub record TellsRuns (bytes : Option (List ℕ)) (label : List ℕ) (most : Option ℕ)
+    (Tells : List ℕ → Type 0) : Type 0 where
+  pub listing : Listing
+  pub has : HasRuns bytes listing
+  pub groups : List (List Run)
+  pub seen : AreSeen (duration_of listing.identity.duration) most listing.runs.items groups
+  pub told : (spell : ℕ → List ℕ) → IsSpelling spell →
+      Tells (group_lines spell most (duration_of listing.identity.duration) label 1 groups)
+
+module _ (out err : Growth) (bytes : Option (List ℕ)) (label : List ℕ) (most : Option ℕ) where
+  -- its lines went out whole
+  abbrev pub ListsRuns : Status → Type 0
+  ListsRuns status = TellsRuns bytes label most (Gets out) × Gets err [] × (status ≡ Done)
+
+  -- a front of them did, and then a write failed
+  abbrev pub CutsLines : Type 0
+  CutsLines = TellsRuns bytes label most (GetsFront out) × Gets err []
+
+  -- they went out whole, or the file was refused, or there was no memory for them
+  abbrev pub IsFileListed : List ℕ → Status → Type 0
+  IsFileListed name status = ListsRuns status
+      ⊎ (RefusesFile out err bytes name status ⊎ LacksMemory out err bytes name status)
+
+-- ---- one file after another
+
+-- what a writer holds, where that is known, and how many of its writes failed or took nothing
+pub record Held : Type 0 where
+  pub contents : Option (List ℕ)
+  pub failures : ℕ
+
+abbrev pub held_before : Growth → Held
+held_before w = record { contents = w.before; failures = w.failed_before }
+
+abbrev pub held_after : Growth → Held
+held_after w = record { contents = w.after; failures = w.failed_after }
+
+abbrev pub between : Held → Held → Growth
+between old new = record {
+  before = old.contents;
+  failed_before = old.failures;
+  after = new.contents;
+  failed_after = new.failures;
+}
+
+-- the worse of two statuses: that with the higher number
+abbrev pub worse : Status → Status → Status
+worse status other = if nat_lt (exit_code status) (exit_code other) then other else status
+
+module _ (bytes : List ℕ → Option (List ℕ)) (several : Bool) (most : Option ℕ) where
+  -- of what the two writers held before and after: each file was listed or refused, in the order of
+  -- the words, and the status is the worst
+  abbrev pub AreListed : Held → Held → Held → Held → List (List ℕ) → Status → Type 0
+  AreListed out out' err err' [] status = (out' ≡ out) × (err' ≡ err) × (status ≡ Done)
+  AreListed out out' err err' (name ∷ names) status = (mid : Held) × (mid_err : Held)
+      × (one : Status) × (others : Status)
+      × IsFileListed (between out mid) (between err mid_err) (bytes name)
+      (file_label several name) most name one
+      × AreListed mid out' mid_err err' names others × (status ≡ worse one others)
+
+  -- the lines of one file could not be written whole, and nothing was done with those after it
+  pub record StopsListing (out out' err err' : Held) (names : List (List ℕ)) (status : Status)
+      : Type 0 where
+    pub front : List (List ℕ)
+    pub name : List ℕ
+    pub later : List (List ℕ)
+    pub parts : names ≡ front ++ (name ∷ later)
+    pub mid : Held
+    pub mid_err : Held
+    pub earlier : Status
+    pub listed : AreListed out mid err mid_err front earlier
+    pub cut : CutsLines (between mid out') (between mid_err err') (bytes name)
+        (file_label several name) most
+    pub trouble : status ≡ Trouble
+
+abbrev pub IsListOut : (List ℕ → Option (List ℕ)) → Growth → Growth → Option ℕ → List (List ℕ) →
+    Status → Type 0
+IsListOut bytes out err most names status =
+    AreListed bytes (are_several names) most (held_before out) (held_after out) (held_before err)
+    (held_after err) names status
+    ⊎ StopsListing bytes (are_several names) most (held_before out) (held_after out)
+    (held_before err) (held_after err) names status
+
+-- ---- which files are opened
+
+-- some of these names were opened, each once, in their order
+abbrev pub OpensSome : List (List ℕ) → List (List ℕ) → List (List ℕ) → Type 0
+OpensSome before after [] = after ≡ before
+OpensSome before after (name ∷ names) = OpensSome before after names
+    ⊎ OpensSome (before ++ (name ∷ [])) after names
+
+-- and all of them where all was done
+pub record OpensEach (before after names : List (List ℕ)) (status : Status) : Type 0 where
+  pub some : OpensSome before after names
+  pub all : status ≡ Done → after ≡ before ++ names
