@@ -75,6 +75,8 @@ CHECKS = (
           is_for_long=True),
     Check("readers.of_runs", "runs of a night read by other programs", (EDFRUNS,),
           needs=READERS, is_for_long=True, python=DEBIANS_OWN),
+    Check("readers.apneas", "apneas read where they happened", (EDFRUNS,), needs=READERS,
+          is_for_long=True, python=DEBIANS_OWN),
     Check("readers.converter", "splits of nights, by edfruns and by EDFbrowser",
           (EDFSTORE, EDFRUNS), needs=READERS, is_for_long=True, python=DEBIANS_OWN),
     Check("powercut.run", "states after a cut of power", counts=(100, 1_000), needs=("cc",),

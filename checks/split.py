@@ -63,6 +63,11 @@ def line(number: int, records: int, first: str, seconds: str, gap: str = "",
     return printed.run(number, records, f"2002-03-{first}", seconds, gap, joined)
 
 
+def split_line(name: str, of_run: str, annotations: int, outside: int) -> str:
+    """What `split` says of a file, by the line of its run."""
+    return f"{name} {printed.counted(of_run, annotations, outside)}"
+
+
 OVER_2084 = (printed.run(1, 1, "2084-12-31T23:59:50", "1", "14") +
              printed.run(2, 1, "2085-01-01T00:00:05", "1"))
 
@@ -144,7 +149,7 @@ def files_of_each(programs: Programs, name: str, data: bytes, listed: str) -> No
         checks.run("list", "--tolerance", model.shortest(tolerance).decode(), "a.edf",
                    out=runs.joined_lines(made, tolerance))
     for run in made:
-        checks.run("write", "a.edf", str(run.number), out=run.to_bytes())
+        checks.run("write", "a.edf", str(run.number), out=run.to_bytes(), err=run.told())
     checks.run("write", "a.edf", str(len(made) + 1), err=printed.no_run(len(made) + 1), status=1)
     names = runs.split_names("part", made)
     checks.run("split", "a.edf", "part", out=runs.split_lines("part", made))
@@ -156,8 +161,67 @@ def files_of_each(programs: Programs, name: str, data: bytes, listed: str) -> No
     programs.takes("in order", names, converted)
     programs.takes("backwards, and again", names[::-1] + names, converted)
     for part, run in zip(names, made):      # a run's file has one run, itself
-        checks.run("list", part, out=runs.lines(runs.read_runs(run.to_bytes())))
-        checks.run("write", part, "1", out=run.to_bytes())
+        (alone,) = runs.read_runs(run.to_bytes())
+        checks.run("list", part, out=alone.line())
+        checks.run("write", part, "1", out=run.to_bytes(), err=alone.told())
+    by_onset_of_each(programs, data, runs.read_by_onset(data))
+
+
+def by_onset_of_each(programs: Programs, data: bytes, made: list) -> None:
+    """`write --by-onset` of each run and `split --by-onset`; and the files, taken back, have the
+    annotations of the whole, each once."""
+    checks = programs.checks
+    for run in made:
+        checks.run("write", "--by-onset", "a.edf", str(run.number), out=run.to_bytes(),
+                   err=run.told())
+    checks.run("split", "a.edf", "onset", "--by-onset", out=runs.split_lines("onset", made))
+    names = runs.split_names("onset", made)
+    for part, run in zip(names, made):
+        checks.same(part, checks.content(part), run.to_bytes())
+    again = [note for name in names for record in model.read(checks.content(name))[1]
+             for note in record.notes]
+    whole = [note for record in model.read(data)[1] for note in record.notes]
+    checks.same("the annotations of all files", sorted(again, key=repr), sorted(whole, key=repr))
+
+
+def where_annotations_happened(programs: Programs) -> None:
+    """Lines and files by hand: annotations before the first data record, at the end of a run, at
+    the start of the next, in a gap and after the last."""
+    checks = programs.checks
+    before, within = edf.tal("-30", "Before", duration="5"), edf.tal("+0.5", "Earlier")
+    at_end, in_gap = edf.tal("+2", "At the end"), edf.tal("+59.999999999", "In the gap")
+    at_start, after = edf.tal("+60", "At the start"), edf.tal("+90.5", "After")
+    of_runs = (line(1, 2, "02T22:00:00", "2", "58"), line(2, 2, "02T22:01:00", "2"))
+    checks.begin("where annotations happened")
+    checks.file("a.edf", noted(("+0", after, at_start), ("+1", before), ("+60", at_end, within),
+                               ("+61", in_gap)))
+    checks.run("split", "a.edf", "part", out=split_line("part-1.edf", of_runs[0], 3, 3) +
+               split_line("part-2.edf", of_runs[1], 3, 3))
+    checks.run("split", "--by-onset", "a.edf", "onset",
+               out=split_line("onset-1.edf", of_runs[0], 4, 3) +
+               split_line("onset-2.edf", of_runs[1], 2, 1))
+    checks.file("b.edf", noted(("+0", before, within), ("+1", at_end, in_gap), ("+60", at_start),
+                               ("+61", after)))
+    checks.run("split", "b.edf", "by-hand", out=split_line("by-hand-1.edf", of_runs[0], 4, 3) +
+               split_line("by-hand-2.edf", of_runs[1], 2, 1))
+    for number in "12":
+        checks.same(f"onset-{number}.edf", checks.content(f"onset-{number}.edf"),
+                    checks.content(f"by-hand-{number}.edf"))
+
+
+def too_many_in_a_data_record(programs: Programs) -> None:
+    """6,000 annotations in each of two data records, all with an onset in the second: a data record
+    may have 10,000."""
+    checks, notes = programs.checks, 6_000 * edf.tal("+5", "x")
+    header = edf.Header((edf.Signal(), edf.annotations_signal(20_000)), count="2")
+    checks.begin("too many annotations in a data record by onset")
+    checks.file("a.edf", edf.fragment(header, [(b"\0\0\0\0", edf.keeping(onset) + notes)
+                                               for onset in ("+0", "+5")]))
+    checks.run("split", "a.edf", "part", "--by-onset", err=printed.crowded(2), status=1)
+    checks.run("write", "--by-onset", "a.edf", "1", err=printed.crowded(2), status=1)
+    checks.same("the files", checks.names(), ["a.edf"])
+    checks.run("split", "a.edf", "part", out=runs.split_lines("part", runs.read_runs(
+        checks.content("a.edf"))))
 
 
 def each_case(programs: Programs) -> None:
@@ -188,11 +252,13 @@ def words_that_ask_for_nothing(programs: Programs) -> None:
     for words in ((), ("write", "-", "1"), ("split", "-", "part"), ("list",), ("write", "a.edf"),
                   ("canonical",), ("canonical", "-"), ("canonical", "a.edf", "more"),
                   ("split", "a.edf"), ("frob", "a.edf"), ("list", "--tolerance", "one", "a.edf"),
-                  ("write", "a.edf", "1", "more"), ("list", "-x"),
+                  ("write", "a.edf", "1", "more"), ("list", "-x"), ("list", "--by-onset", "a.edf"),
+                  ("split", "--by-onset=yes", "a.edf", "part"), ("split", "--by-onset", "a.edf"),
                   *(("write", "a.edf", number)
                     for number in ("0", "-1", "+1", "one", "1.0", "4294967296", ""))):
         checks.run(*words, given=FILES["R9"], err=None, status=2)
-    checks.run("write", "a.edf", "001", out=runs.read_runs(FILES["R9"])[0].to_bytes())
+    first = runs.read_runs(FILES["R9"])[0]
+    checks.run("write", "a.edf", "001", out=first.to_bytes(), err=first.told())
     checks.run("write", "a.edf", "4294967295", err=printed.no_run(4294967295), status=1)
     checks.same("the files", checks.names(), ["a.edf"])
 
@@ -288,7 +354,8 @@ def a_thousand_runs(programs: Programs) -> None:
                 (1_000, line(1_000, 1, "02T22:49:57", "1")))
     checks.run("list", "a.edf", out=runs.lines(made))
     for number in (1, 2, 500, 999, 1_000):
-        checks.run("write", "a.edf", str(number), out=made[number - 1].to_bytes())
+        run = made[number - 1]
+        checks.run("write", "a.edf", str(number), out=run.to_bytes(), err=run.told())
     checks.run("split", "a.edf", "part", out=runs.split_lines("part", made))
     names = runs.split_names("part", made)
     checks.same("the first and the last", (names[0], names[-1]), ("part-0001.edf", "part-1000.edf"))
@@ -310,8 +377,10 @@ def a_run_that_no_header_can_date(programs: Programs) -> None:
     checks.begin("a run after 2084 in a file without a date")
     checks.file("a.edf", data)
     checks.run("list", "a.edf", out=OVER_2084)
-    checks.run("write", "a.edf", "1", out=runs.read_runs(data)[0].to_bytes())
-    for words in (("write", "a.edf", "2"), ("split", "a.edf", "part")):
+    first = runs.read_runs(data)[0]
+    checks.run("write", "a.edf", "1", out=first.to_bytes(), err=first.told())
+    for words in (("write", "a.edf", "2"), ("split", "a.edf", "part"),
+                  ("split", "a.edf", "part", "--by-onset")):
         checks.run(*words, err=printed.undated(2), status=1)
     checks.same("the files", checks.names(), ["a.edf"])
 
@@ -358,8 +427,11 @@ def a_night_with_three_gaps(programs: Programs) -> None:
         checks.run("canonical", name, out=converted)
         checks.run("split", name, f"{name}-run", out=runs.split_lines(f"{name}-run", made))
         for run, part in zip(made, runs.split_names(f"{name}-run", made)):
-            checks.run("write", name, str(run.number), out=run.to_bytes())
+            checks.run("write", name, str(run.number), out=run.to_bytes(), err=run.told())
             checks.same(part, checks.content(part), run.to_bytes())
+    for run in runs.read_by_onset(data):
+        checks.run("write", "night.edf", str(run.number), "--by-onset", out=run.to_bytes(),
+                   err=run.told())
     one, two, three, four = runs.split_names("night.edf-run", made)
     for order in ([one, two, three, four], [four, three, two, one], [three, one, four, two],
                   [two, two, four, one, two, three, one], [one, "night.edf", three],
@@ -372,9 +444,10 @@ def main() -> None:
     with measure.scratch() as name:
         checks = Checks(given.edfruns, Path(name), "edfruns")
         programs = Programs(checks, measure.Program(given.program, checks.folder))
-        for case in (each_case, refused_files, words_that_ask_for_nothing, trouble,
-                     files_that_are_there, a_file_that_changes, a_run_that_no_header_can_date,
-                     digits_of_the_names, a_thousand_runs, a_night_with_three_gaps):
+        for case in (each_case, where_annotations_happened, too_many_in_a_data_record,
+                     refused_files, words_that_ask_for_nothing, trouble, files_that_are_there,
+                     a_file_that_changes, a_run_that_no_header_can_date, digits_of_the_names,
+                     a_thousand_runs, a_night_with_three_gaps):
             case(programs)
     checks.end()
 

@@ -5,9 +5,10 @@ against a plain model.
 
 The files are those of fuzz/run.py (cases.py), about half of them broken. Of each, `list` from
 standard input is what the model has, with a tolerance too; of a file with runs, `write` writes the
-first, the last and one between as the model has them, and every eighth is split too. Then the
-model's store takes the runs' files in any order, some twice, and must accept each and export the
-canonical file of the whole. The first that fails is left in the folder that is named.
+first, the last and one between as the model has them, and every eighth is split too, and again with
+`--by-onset`. Then the model's store takes the runs' files in any order, some twice, and must accept
+each and export the canonical file of the whole. The first that fails is left in the folder that is
+named.
 """
 import collections
 import random
@@ -29,7 +30,7 @@ def written(program: measure.Program, made: list, chance: random.Random) -> None
     for run in {run.number: run for run in (made[0], made[-1], chance.choice(made))}.values():
         undated = (b"", printed.undated(run.number).encode(), 1)
         compare(f"run {run.number}", program.ran("write", "a.edf", run.number).outcome(),
-                undated if is_undated(run) else (run.to_bytes(), b"", 0))
+                undated if is_undated(run) else (run.to_bytes(), run.told().encode(), 0))
 
 
 def listed_joined(program: measure.Program, data: bytes, made: list, chance: random.Random) -> None:
@@ -40,9 +41,9 @@ def listed_joined(program: measure.Program, data: bytes, made: list, chance: ran
             (runs.joined_lines(made, tolerance).encode(), b"", 0))
 
 
-def was_split(program: measure.Program, made: list) -> None:
+def was_split(program: measure.Program, made: list, *words: str) -> None:
     names = runs.split_names("part", made)
-    compare("split", program.ran("split", "a.edf", "part").outcome(),
+    compare("split", program.ran("split", "a.edf", "part", *words).outcome(),
             (runs.split_lines("part", made).encode(), b"", 0))
     compare("the files of split",
             {path.name: path.read_bytes() for path in program.folder.glob("part-*")},
@@ -83,6 +84,7 @@ def checked(program: measure.Program, data: bytes, chance: random.Random) -> str
         taken_back(data, made, chance)
         if chance.random() < 0.125:
             was_split(program, made)
+            was_split(program, runs.read_by_onset(data), "--by-onset")
     return f"of {len(made)} run{'s' * (len(made) > 1)}"
 
 

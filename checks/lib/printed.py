@@ -105,6 +105,11 @@ def run(number: int, records: int, first: str, seconds: str, gap: str = "",
     return f"{number} records={records} first={first} seconds={seconds}{rest}{joined}\n"
 
 
+def counted(of_run: str, annotations: int, outside: int) -> str:
+    """The same of a file of `edfruns split` or `write`, with its annotations."""
+    return f"{of_run.rstrip()} annotations={annotations} outside={outside}\n"
+
+
 # Other lines
 
 NOT_UTF_8 = "error: a word is not UTF-8\n"
@@ -130,6 +135,12 @@ def is_there(name: str) -> str:
 def changed(name: str) -> str:
     """What `edfruns` prints of a file that is another when it is read again."""
     return f"{name} changed between its readings\n"
+
+
+def crowded(number: int) -> str:
+    """What `edfruns` prints of a run that by onset would have a data record with too many
+    annotations."""
+    return f"run {number} would have too many annotations in a data record\n"
 
 
 def undated(number: int) -> str:
@@ -185,6 +196,8 @@ FEW_OF_RECORDING = ("its recording field has fewer than the three subfields inve
                     "technician and equipment after its date: edfmend makes it that of EDF+")
 STORED_OTHERWISE = ("other samples or annotations are stored for this start, and stay: keep the "
                     "file, and tell a person")
+LEFT_OUT = ("readers may leave out annotations that lie outside of the run; with --by-onset only "
+            "those do whose onsets lie in no run")
 NOT_WHOLE = "mend the cause and run it again: what standard output got is not whole"
 
 

@@ -4,13 +4,16 @@ before ends, to the nanosecond.
 
     from checks.lib import runs
     made = runs.read_runs(data)         or model.Refused, with the first fault of the file
+    made = runs.read_by_onset(data)     with each annotation where its onset is
     made[0].line()                      its line, as text
     runs.joined_lines(made, tolerance)  the lines of `list --tolerance`, of so many nanoseconds
+    made[0].told()                      the same, with how many annotations it has
     made[0].to_bytes()                  its file
     runs.split_lines("night", made)     what `split` prints
     runs.split_names("night", made)     the files that it makes
 """
-from dataclasses import dataclass
+from bisect import bisect_right
+from dataclasses import dataclass, replace
 
 from . import model, printed
 
@@ -37,6 +40,15 @@ class Run:
         return printed.run(self.number, len(self.records), model.instant_text(self.first()),
                            seconds, gap if self.gap else "")
 
+    def counts(self) -> tuple:
+        """How many annotations it has, and how many of these have an onset outside of it."""
+        onsets = [onset for record in self.records for onset, _, _ in record.notes]
+        end = self.first() + self.length()
+        return len(onsets), sum(not self.first() <= onset < end for onset in onsets)
+
+    def told(self) -> str:
+        return printed.counted(self.line(), *self.counts())
+
     def to_bytes(self) -> bytes:
         """The canonical file of its data records, but that it is marked as one without a gap."""
         data = bytearray(model.canonical(self.key, list(self.records)))
@@ -55,8 +67,25 @@ def parted(key: model.Key, records: list) -> list:
     return stretches
 
 
+def by_onset(records: list) -> list:
+    """Each annotation in the last data record that starts at or before its onset, or in the first,
+    in the order of the file."""
+    starts, lists = [record.start for record in records], [[] for _ in records]
+    for note in (note for record in records for note in record.notes):
+        lists[max(bisect_right(starts, note[0]) - 1, 0)].append(note)
+    return [replace(record, notes=tuple(notes)) for record, notes in zip(records, lists)]
+
+
 def read_runs(data: bytes) -> list:
+    return runs_of(*model.read(data))
+
+
+def read_by_onset(data: bytes) -> list:
     key, records = model.read(data)
+    return runs_of(key, by_onset(records))
+
+
+def runs_of(key: model.Key, records: list) -> list:
     stretches = parted(key, records)
     nexts = [stretch[0].start for stretch in stretches[1:]]
     gaps = [start - stretch[-1].start - key.duration()
@@ -103,4 +132,4 @@ def split_names(prefix: str, runs: list) -> list:
 
 
 def split_lines(prefix: str, runs: list) -> str:
-    return "".join(f"{name} {run.line()}" for name, run in zip(split_names(prefix, runs), runs))
+    return "".join(f"{name} {run.told()}" for name, run in zip(split_names(prefix, runs), runs))

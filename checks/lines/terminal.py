@@ -197,6 +197,31 @@ def files_of_runs(checks: Checks) -> None:
                 + cause("standard output", printed.NOT_WHOLE))
 
 
+# An annotation in the first data record whose onset lies in the second, which is another run.
+STRAY = edf.fragment(edf.Header((edf.Signal(), edf.annotations_signal(12)), count="2"),
+                     [(b"\1\0\2\0", edf.keeping("+0") + edf.tal("+9", "Apnea")),
+                      (b"\3\0\4\0", edf.keeping("+9"))])
+
+
+def outside_of_runs(checks: Checks) -> None:
+    """What edfruns prints once below a line that tells of annotations outside of their run."""
+    made, by_onset = runs.read_runs(STRAY), runs.read_by_onset(STRAY)
+    above = step(1, 2, 0, 1, "reading") + WIPED + step(2, 2, 0, 1, "reading") + WIPED
+    checks.begin("annotations outside of their run")
+    checks.file("a.edf", STRAY)
+    checks.same("the model's counts", [run.counts() for run in made + by_onset],
+                [(1, 1), (0, 0), (0, 0), (1, 0)])
+    on_terminal(checks, "split a.edf part", runs.split_lines("part", made),
+                above + cause("part-1.edf", printed.LEFT_OUT))
+    on_terminal(checks, "split --by-onset a.edf to-view", runs.split_lines("to-view", by_onset),
+                above)
+    on_terminal(checks, "write a.edf 1", made[0].to_bytes(),
+                above + made[0].told() + cause("standard output", printed.LEFT_OUT))
+    on_terminal(checks, "write a.edf 2", made[1].to_bytes(), above + made[1].told())
+    on_terminal(checks, "write a.edf 2 --by-onset", by_onset[1].to_bytes(),
+                above + by_onset[1].told())
+
+
 def read_again(checks: Checks) -> None:
     """What edfruns prints of a pipe, and of a file that changed."""
     fed = (("a pipe that is read twice", "cat a.edf > f; sleep 0.5; : > f", printed.A_PIPE, 0),
@@ -224,7 +249,7 @@ def main() -> None:
             case(checks)
         of_runs = Checks(given.edfruns, Path(name), "edfruns")
         of_runs.done, of_runs.failed = checks.done, checks.failed
-        for case in (files_of_runs, read_again):
+        for case in (files_of_runs, outside_of_runs, read_again):
             case(of_runs)
     of_runs.end()
 

@@ -82,7 +82,7 @@ def by_biosig(path: Path, folder: Path, samples: tuple) -> Content:
     written = written_by("save2gdf", "-JSON", path)
     said = json.loads(written[written.index("{"):], strict=False)
     begun, times, notes = stamp(said["StartOfRecording"]), [], []
-    for event in said["EVENT"]:
+    for event in said.get("EVENT", []):
         at = (stamp(event["TimeStamp"]) - begun).total_seconds()
         if event["TYP"] == "0x7ffe":
             times.append(at)

@@ -91,7 +91,7 @@ some_more [] r same = let none : ◌≡◌ {A = List DataRecord} (r ∷ []) [] =
 some_more (x ∷ xs) r same = let none : ◌≡◌ {A = List DataRecord} (x ∷ (xs ++ r ∷ [])) [] = same in
     cc
 
-first_run : (d : ℕ) (records : List DataRecord) (r : DataRecord) → IsRuns d records [] →
+pub first_run : (d : ℕ) (records : List DataRecord) (r : DataRecord) → IsRuns d records [] →
     IsRuns d (records ++ r ∷ []) ((r ∷ []) ∷ [])
 first_run d records r is = record {
   joined = ap (λ (x : List DataRecord). x ++ r ∷ []) is.joined;
@@ -100,7 +100,7 @@ first_run d records r is = record {
   parted = tt;
 }
 
-longer_run : (d : ℕ) (records : List DataRecord) (runs : List (List DataRecord))
+pub longer_run : (d : ℕ) (records : List DataRecord) (runs : List (List DataRecord))
     (run : List DataRecord) (r : DataRecord) → IsRuns d records (runs ++ run ∷ [])
     → IsTouching d (run ++ r ∷ []) → IsRuns d (records ++ r ∷ []) (runs ++ (run ++ r ∷ []) ∷ [])
 longer_run d records runs run r is touching = record {
@@ -113,7 +113,7 @@ longer_run d records runs run r is touching = record {
   parted = parted_longer d runs run (r ∷ []) is.parted;
 }
 
-next_run : (d : ℕ) (records : List DataRecord) (runs : List (List DataRecord))
+pub next_run : (d : ℕ) (records : List DataRecord) (runs : List (List DataRecord))
     (run : List DataRecord) (r : DataRecord) → IsRuns d records (runs ++ run ∷ [])
     → ¬ IsTouching d (run ++ r ∷ []) →
     IsRuns d (records ++ r ∷ []) ((runs ++ run ∷ []) ++ (r ∷ []) ∷ [])
@@ -244,7 +244,7 @@ zip_more d [] (y ∷ ys) run x each is = absurd each
 zip_more d (r ∷ rs) [] run x each is = absurd each
 zip_more d (r ∷ rs) (y ∷ ys) run x each is = (each.0, zip_more d rs ys run x each.1 is)
 
-few_in : (d : ℕ) (records : List DataRecord) (runs : List (List DataRecord))
+pub few_in : (d : ℕ) (records : List DataRecord) (runs : List (List DataRecord))
     (run : List DataRecord) → IsRuns d records (runs ++ run ∷ []) → length run ≤ length records
 few_in d records runs run is =
     let all : length (joined runs ++ run) ≡ length records =
@@ -279,7 +279,7 @@ longer_listed d records before run new r are next more =
           (more l.last l.listed (few_in d records l.front l.last runs));
     }
 
-parts_touch : (d : ℕ) (rs : List DataRecord) (run : Run) (r : DataRecord) → IsListed d rs run →
+pub parts_touch : (d : ℕ) (rs : List DataRecord) (run : Run) (r : DataRecord) → IsListed d rs run →
     IsTouching d (rs ++ r ∷ []) → r.start ≡ run.last + d
 parts_touch d [] run r is touching = absurd (omega (arith, is.count, run.records_some))
 parts_touch d (x ∷ xs) run r is touching =

@@ -11,3 +11,8 @@ pub mod InItsRun
 pub mod Measuring
 pub mod Whole
 pub mod Tallies
+pub mod Annotated
+pub mod OneMore
+pub mod KeptRuns
+pub mod Gathering
+pub mod KeptByOnset

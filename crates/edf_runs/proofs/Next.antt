@@ -3,6 +3,7 @@ use Rattle.std.proofs.Common.{◌≡◌, ◌≢◌, ℕ, ◌+◌, ◌*◌, ◌/�
 use Rattle.std.proofs.Common.{refl, sym, ap, ◌∙◌, subst, arith, append_assoc, append-nil}
 use Rattle.std.proofs.Common.{length-append, All, Option, None, Some, Ok, Err, Result}
 use Rattle.std.proofs.Math.Nat.{suc-mul}
+use Rattle.std.specs.List.{slice_get}
 use Rattle.std.specs.Io.KnownBytes.{Consumes, IsAtEnd}
 use Rattle.edf_field.specs.Number.{duration_of}
 use Rattle.edf_header.specs.Header.{Layout, IsLayout, most_records}
@@ -24,16 +25,17 @@ use Rattle.edf_fragment.specs.declared.fault.FragmentFault.TheVariants.{Read as 
 use Rattle.edf_fragment.specs.declared.fault.FragmentFault.TheVariants.{Memory as NoMemory, Failed}
 use Rattle.edf_fragment.proofs.Fronts.{same_front}
 use Rattle.edf_fragment.proofs.Layouts.{record-some}
-use Rattle.edf_canonical.specs.Output.{Buffered}
 use Rattle.edf_runs.specs.Runs.{StartFrom}
 use Rattle.edf_runs.specs.Again.{fault_again, IsFaultBy, StopsAt, ComesNext}
 use Rattle.edf_canonical.specs.File.{second_of, block_of, BlocksFit}
-use Rattle.edf_runs.specs.Inside.Steps.{StepsOn, HasOthers, ReadSoFar, PutSoFar}
+use Rattle.edf_runs.specs.WrittenByOnset.{annotated, StartAlike, ComesByOnset}
+use Rattle.edf_runs.specs.Inside.Steps.{StepsOn, HasOthers, ReadSoFar, ArePut, annotated_one}
 use Rattle.edf_runs.specs.declared.run.Run.{Run}
-use Rattle.edf_runs.specs.declared.tally.Tally.{Tally}
 use Rattle.edf_runs.specs.declared.fault.WriteFault.{WriteFault}
 use Rattle.edf_runs.specs.declared.fault.WriteFault.TheVariants.{Changed, Read, Memory}
 use Rattle.edf_runs.proofs.Growing.{all_front, all_last, run_end, samples_least}
+use Rattle.edf_runs.proofs.Annotated.{annotated-length, annotated-front, annotated-more}
+use Rattle.edf_runs.proofs.Annotated.{starts-annotated, start-alike}
 
 -- ---- one more data record of known bytes
 
@@ -151,8 +153,9 @@ reading l from to left rest answer going is =
     a.1
 
 pub has_all : (l : Layout) (from : Progress) (left : Option (List ℕ)) (run : Run)
-    (n : ComesNext l from left run) → HasOthers l from left n.records []
-has_all l from left run n = record {
+    (kept : List DataRecord) (n : ComesByOnset l from left run kept) →
+    HasOthers l from left n.records []
+has_all l from left run kept n = record {
   going = n.going;
   others = n.records;
   parts = refl;
@@ -162,6 +165,22 @@ has_all l from left run n = record {
   after = n.rest;
   are_records = n.are_records;
   within = n.within;
+}
+
+-- where nothing is kept, a run that comes next comes so
+pub comes_plain : (l : Layout) (from : Progress) (left : Option (List ℕ)) (run : Run) →
+    ComesNext l from left run → ComesByOnset l from left run []
+comes_plain l from left run n = record {
+  going = n.going;
+  bytes = n.bytes;
+  known = n.known;
+  records = n.records;
+  last = n.last;
+  rest = n.rest;
+  are_records = n.are_records;
+  within = n.within;
+  alike = tt;
+  listed = n.listed;
 }
 
 -- there is another, where fewer were read
@@ -279,78 +298,97 @@ no_change l from to left rest d at all records instant layout h few starts is st
     (has_next l from left all records h few) h.parts h.known h.are_records h.within h.going
     starts is stop
 
--- ---- so far
-
-few_listed : (l : Layout) (from mid : Progress) (left middle : Option (List ℕ)) (run : Run)
-    (rs : List DataRecord) (next count : ℕ)
-    (so : ReadSoFar l from mid left middle run rs next count)
-    (n : ComesNext l from left run) → count < run.records → length rs < length n.records
-few_listed l from mid left middle run rs next count so n few =
-    omega (arith, so.counted, few, n.listed.count)
-
-pub next_as_listed : (l : Layout) (from mid to : Progress) (left middle rest : Option (List ℕ))
-    (run : Run) (rs : List DataRecord) (next count : ℕ) → IsLayout l
-    → ReadSoFar l from mid left middle run rs next count → count < run.records →
-    ComesNext l from left run → ¬ StopsAt l mid to middle rest next Changed
-next_as_listed l from mid to left middle rest run rs next count layout so few n =
-    no_change l mid to middle rest (duration_of l.key.duration) run.first n.records rs next layout
-    (so.listed n) (few_listed l from mid left middle run rs next count so n few) n.listed.starts
-    so.next_is
-
--- the block of the one that was read fits
-pub block_as_listed : (l : Layout) (from mid to : Progress) (left middle rest : Option (List ℕ))
-    (run : Run) (rs : List DataRecord) (next count here : ℕ) (r : DataRecord)
-    → ReadSoFar l from mid left middle run rs next count → count < run.records →
-    StepsOn l mid to middle rest next r →
-    here ≡ (length (block_of (second_of run.first) r) + 1) / 2
-    → ComesNext l from left run → here ≤ run.block_samples
-block_as_listed l from mid to left middle rest run rs next count here r so few step is n =
-    let h = has_more l mid to middle rest n.records rs next r (so.listed n)
-    (few_listed l from mid left middle run rs next count so n few) step in
-    let fits : DataRecord → Type 0 =
-    λ x. length (block_of (second_of run.first) x) ≤ 2 * run.block_samples in
-    let all : All fits ((rs ++ r ∷ []) ++ h.others) =
-    subst (λ (x : List DataRecord). All fits x) h.parts n.listed.holds in
-    let one = all_last fits rs r (all_front fits (rs ++ r ∷ []) h.others all) in
-    omega (arith, is, samples_least _ run.block_samples one)
-
 none_more : (xs : List DataRecord) → length xs ≡ 0 → xs ≡ []
 none_more [] none = refl
 none_more (x ∷ xs) none = absurd (omega (arith, none))
 
-all_listed : (l : Layout) (from to : Progress) (left rest : Option (List ℕ)) (run : Run)
-    (rs : List DataRecord) (next count : ℕ) (so : ReadSoFar l from to left rest run rs next count)
-    → count ≡ run.records → (n : ComesNext l from left run) → n.records ≡ rs
-all_listed l from to left rest run rs next count so all n =
-    let h = so.listed n in
-    let len : length n.records ≡ length rs + length h.others =
-    ap (λ (z : List DataRecord). length z) h.parts ∙ length-append rs h.others in
-    h.parts ∙ ap (λ (x : List DataRecord). rs
-    ++ x) (none_more h.others (omega (arith, len, so.counted, all, n.listed.count)))
-    ∙ append-nil rs
+-- ---- so far
 
--- the longest block is as long as was listed
-pub longest_as_listed : (l : Layout) (from to : Progress) (left rest : Option (List ℕ))
-    (a b : Buffered) (run : Run) (next samples count : ℕ) (tally : Tally) →
-    PutSoFar l from to left rest a b run next samples count tally
-    → count ≡ run.records → ComesNext l from left run → samples ≡ run.block_samples
-longest_as_listed l from to left rest a b run next samples count tally so all n =
-    let same = all_listed l from to left rest run so.records next count so.so_far all n in
-    let low = n.listed.least samples (subst (BlocksFit (second_of run.first) samples) (sym same)
-    so.put.holds) in
-    omega (arith, low, so.put.within)
+module _ (l : Layout) (from : Progress) (left : Option (List ℕ)) (run : Run)
+    (kept : List DataRecord) (n : ComesByOnset l from left run kept) where
+  counted : length n.records ≡ run.records
+  counted = sym (annotated-length kept n.records) ∙ sym n.listed.count
 
--- the run ends where was listed
-pub end_as_listed : (l : Layout) (from to : Progress) (left rest : Option (List ℕ)) (run : Run)
-    (rs : List DataRecord) (next count : ℕ) → ReadSoFar l from to left rest run rs next count
-    → count ≡ run.records → ComesNext l from left run → next ≡ run.last + duration_of l.key.duration
-end_as_listed l from to left rest run rs next count so all n =
-    let same = all_listed l from to left rest run rs next count so all n in
-    let d = duration_of l.key.duration in
-    let ends = run_end d n.records run n.listed in
-    let len : length n.records * d ≡ length rs * d =
-    ap (λ (z : List DataRecord). length z * d) same in
-    omega (arith, ends, len, so.next_is)
+  starting : StartFrom (duration_of l.key.duration) run.first n.records
+  starting = starts-annotated (duration_of l.key.duration) run.first kept n.records n.listed.starts
+
+module _ (l : Layout) (from mid : Progress) (left middle : Option (List ℕ)) (run : Run)
+    (kept rs : List DataRecord) (next count : ℕ)
+    (so : ReadSoFar l from mid left middle run rs next count)
+    (n : ComesByOnset l from left run kept) where
+  has_so_far : HasOthers l mid middle n.records rs
+  has_so_far = so.first n.records (has_all l from left run kept n) (counted l from left run kept n)
+
+  few_listed : count < run.records → length rs < length n.records
+  few_listed few = omega (arith, so.counted, few, counted l from left run kept n)
+
+  pub next_as_listed : (to : Progress) (rest : Option (List ℕ)) → IsLayout l
+      → count < run.records → ¬ StopsAt l mid to middle rest next Changed
+  next_as_listed to rest layout few =
+      no_change l mid to middle rest (duration_of l.key.duration) run.first n.records rs next layout
+      has_so_far (few_listed few) (starting l from left run kept n) so.next_is
+
+  has_next_too : (to : Progress) (rest : Option (List ℕ)) (r : DataRecord) → count < run.records
+      → StepsOn l mid to middle rest next r → HasOthers l to rest n.records (rs ++ r ∷ [])
+  has_next_too to rest r few step =
+      has_more l mid to middle rest n.records rs next r has_so_far (few_listed few) step
+
+  -- the block of the one that was read fits
+  pub block_as_listed : (to : Progress) (rest : Option (List ℕ)) (here : ℕ) (r q : DataRecord)
+      → count < run.records → StepsOn l mid to middle rest next r →
+      q ≡ annotated_one (slice_get kept (length rs)) r
+      → here ≡ (length (block_of (second_of run.first) q) + 1) / 2 → here ≤ run.block_samples
+  block_as_listed to rest here r q few step is here-is =
+      let h = has_next_too to rest r few step in
+      let fits : DataRecord → Type 0 =
+      λ x. length (block_of (second_of run.first) x) ≤ 2 * run.block_samples in
+      let front = annotated-front kept (rs ++ r ∷ []) h.others in
+      let all : All fits (annotated kept (rs ++ r ∷ []) ++ front.0) =
+      subst (λ (x : List DataRecord). All fits x)
+      (ap (annotated kept) h.parts ∙ front.1) n.listed.holds in
+      let ones : All fits (annotated kept rs ++ q ∷ []) =
+      subst (λ (x : List DataRecord). All fits x)
+      (annotated-more kept rs r ∙ ap (λ (x : DataRecord). annotated kept rs ++ x ∷ []) (sym is))
+      (all_front fits (annotated kept (rs ++ r ∷ [])) front.0 all) in
+      let one = all_last fits (annotated kept rs) q ones in
+      omega (arith, here-is, samples_least _ run.block_samples one)
+
+  -- what was kept of the one that was read starts when it does
+  pub start_as_listed : (to : Progress) (rest : Option (List ℕ)) (r k : DataRecord)
+      → count < run.records → StepsOn l mid to middle rest next r →
+      slice_get kept (length rs) ≡ Some k → k.start ≡ r.start
+  start_as_listed to rest r k few step is =
+      let h = has_next_too to rest r few step in
+      let alike = subst (StartAlike kept) (h.parts ∙ append_assoc rs (r ∷ []) h.others) n.alike in
+      start-alike kept rs r k h.others alike is
+
+  all_listed : count ≡ run.records → n.records ≡ rs
+  all_listed all =
+      let h = has_so_far in
+      let len : length n.records ≡ length rs + length h.others =
+      ap (λ (z : List DataRecord). length z) h.parts ∙ length-append rs h.others in
+      let same = counted l from left run kept n in
+      h.parts ∙ ap (λ (x : List DataRecord). rs
+      ++ x) (none_more h.others (omega (arith, len, so.counted, all, same)))
+      ∙ append-nil rs
+
+  -- the longest block is as long as was listed
+  pub longest_as_listed : (samples : ℕ) → ArePut l run (annotated kept rs) samples
+      → count ≡ run.records → samples ≡ run.block_samples
+  longest_as_listed samples put all =
+      let low = n.listed.least samples (subst (λ x. BlocksFit (second_of run.first) samples
+      (annotated kept x)) (sym (all_listed all)) put.holds) in
+      omega (arith, low, put.within)
+
+  -- the run ends where was listed
+  pub end_as_listed : count ≡ run.records → next ≡ run.last + duration_of l.key.duration
+  end_as_listed all =
+      let d = duration_of l.key.duration in
+      let ends = run_end d (annotated kept n.records) run n.listed in
+      let same : length (annotated kept n.records) ≡ length rs =
+      annotated-length kept n.records ∙ ap (λ (z : List DataRecord). length z) (all_listed all) in
+      let len : length (annotated kept n.records) * d ≡ length rs * d = ap (λ z. z * d) same in
+      omega (arith, ends, len, so.next_is)
 
 -- a fault that is handed on
 pub handed_on : {A : Type 0} (result : Result A WriteFault) (fault before : WriteFault) →

@@ -17,17 +17,17 @@ joined runs = flat_map (λ run. run) runs
 -- ---- the runs of a list, found from its back
 
 -- whether data records that come next start at this instant
-abbrev begins_at : ℕ → List DataRecord → Bool
+abbrev pub begins_at : ℕ → List DataRecord → Bool
 begins_at instant [] = true
 begins_at instant (s ∷ rs) = eqb s.start instant
 
 -- a data record before a run and others: it joins the run, or is a run of its own
-abbrev put_before : Bool → DataRecord → List DataRecord → List (List DataRecord) →
+abbrev pub put_before : Bool → DataRecord → List DataRecord → List (List DataRecord) →
     List (List DataRecord)
 put_before true r run runs = (r ∷ run) ∷ runs
 put_before false r run runs = (r ∷ []) ∷ (run ∷ runs)
 
-abbrev before_runs : ℕ → DataRecord → List (List DataRecord) → List (List DataRecord)
+abbrev pub before_runs : ℕ → DataRecord → List (List DataRecord) → List (List DataRecord)
 before_runs d r [] = (r ∷ []) ∷ []
 before_runs d r (run ∷ runs) = put_before (begins_at (r.start + d) run) r run runs
 

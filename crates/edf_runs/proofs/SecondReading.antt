@@ -20,7 +20,7 @@ use Rattle.edf_runs.specs.Inside.Steps.{StepsOn, ReadSoFar}
 use Rattle.edf_runs.specs.declared.run.Run.{Run}
 use Rattle.edf_runs.specs.declared.fault.WriteFault.{WriteFault}
 use Rattle.edf_runs.proofs.Growing.{starts_more}
-use Rattle.edf_runs.proofs.Next.{has_all, has_more}
+use Rattle.edf_runs.proofs.Next.{has_more}
 
 -- ---- one data record
 
@@ -100,7 +100,7 @@ none_so_far l from left run next few is =
       counted = refl;
       next_is =
           omega (arith, is);
-      listed = λ n. has_all l from left run n;
+      first = λ all has len. has;
     }
 
 -- one more, after which the next one starts where it ends
@@ -120,8 +120,8 @@ more_so_far l from mid to left middle rest run rs next later count r so few step
       next_is = let e = suc-mul (length rs) d in
           let m : length (rs ++ r ∷ []) * d ≡ suc (length rs) * d = ap (λ n. n * d) more in
           omega (arith, after, place, e, m);
-      listed = λ n. has_more l mid to middle rest n.records rs next r (so.listed n)
-          (omega (arith, so.counted, few, n.listed.count)) step;
+      first = λ all has len. has_more l mid to middle rest all rs next r (so.first all has len)
+          (omega (arith, so.counted, few, len)) step;
     }
 
 pub stops_before : (l : Layout) (from mid to : Progress) (left middle rest : Option (List ℕ))

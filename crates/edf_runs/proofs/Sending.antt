@@ -2,9 +2,10 @@
 use Rattle.std.proofs.Common.{◌≡◌, ◌≢◌, ℕ, inl, inr, ◌+◌, ◌*◌, ◌/◌, ◌≤◌, ◌<◌, max, List, [], ◌∷◌}
 use Rattle.std.proofs.Common.{◌++◌}
 use Rattle.std.proofs.Common.{length, refl, sym, ap, ◌∙◌, subst, arith, append_assoc, append-nil}
-use Rattle.std.proofs.Common.{All, Option, Result, Err}
-use Rattle.std.specs.List.{AllByRecursion}
-use Rattle.std.proofs.KnownBytes.{Keeps-refl}
+use Rattle.std.proofs.Common.{All, Option, Result, Ok, Err}
+use Rattle.std.specs.Prelude.{IfOk, IfErr}
+use Rattle.std.specs.List.{AllByRecursion, slice_get}
+use Rattle.std.proofs.KnownBytes.{Keeps-refl, Appends-nil}
 use Rattle.std.proofs.lemmas.Grind.{flat_map-append}
 use Rattle.std.proofs.lemmas.List.Elements.{All-nil, All-cons, All-push, All-weaker}
 use Rattle.std.proofs.lemmas.List.Elements.{All-from_recursion, recursion_from_All}
@@ -30,10 +31,12 @@ use Rattle.edf_canonical.proofs.Written.{laid-out, file-length}
 use Rattle.edf_runs.specs.Runs.{StartFrom, IsListed}
 use Rattle.edf_runs.specs.File.{marked_continuous, IsRunFile}
 use Rattle.edf_runs.specs.Again.{CountsRereadFault, RereadsRun}
+use Rattle.edf_runs.specs.WrittenByOnset.{annotated, RereadsByOnset, IsWrittenByOnset}
+use Rattle.edf_runs.specs.WrittenByOnset.{StopsByOnset, IsNotWrittenByOnset}
 use Rattle.edf_runs.specs.Written.{CountsFault, run_text, IsRunHeader}
-use Rattle.edf_runs.specs.Written.{ReadsOneMoreAtMost, IsRunWritten, StopsInRun, IsNotWritten}
+use Rattle.edf_runs.specs.Written.{ReadsOneMoreAtMost, StopsInRun, IsNotWritten}
 use Rattle.edf_runs.specs.Inside.Steps.{ArePut, fault_out, PutSoFar, StepsOn, StopsPutting}
-use Rattle.edf_runs.specs.Inside.Steps.{IsPutAll, IsSent, StopsSending}
+use Rattle.edf_runs.specs.Inside.Steps.{IsPutAll, IsSent, StopsSending, annotated_one}
 use Rattle.edf_runs.specs.Counted.{IsCountedRun}
 use Rattle.edf_runs.specs.Inside.Tally.{IsTallied}
 use Rattle.edf_runs.specs.declared.tally.Tally.{Tally}
@@ -44,8 +47,10 @@ use Rattle.edf_runs.specs.declared.fault.WriteFault.TheVariants.{Undated, Change
 use Rattle.edf_runs.specs.declared.fault.WriteFault.TheVariants.{Write}
 use Rattle.edf_runs.proofs.Growing.{touching_from, samples_hold, samples_least, all_front, all_last}
 use Rattle.edf_runs.proofs.Growing.{last_end}
-use Rattle.edf_runs.proofs.Next.{handed_on}
-use Rattle.edf_runs.proofs.SecondReading.{more_so_far, none_read}
+use Rattle.edf_runs.proofs.Next.{handed_on, comes_plain}
+use Rattle.edf_runs.proofs.Annotated.{annotated-none, annotated-length, annotated-starts}
+use Rattle.edf_runs.proofs.Annotated.{annotated-more}
+use Rattle.edf_runs.proofs.SecondReading.{more_so_far, none_read, none_so_far}
 use Rattle.edf_runs.proofs.RunFiles.{marked-front, marked-len, one-run-file}
 
 -- ---- what is counted, and what no call tells
@@ -75,10 +80,11 @@ out_same FailedWrite same = let e : ◌≡◌ {A = WriteFault} Write Changed = s
 out_same NoRoom same = let e : ◌≡◌ {A = WriteFault} Memory Changed = same in cc
 
 module _ {A : Type 0} (old new : OpenFragment) (left : Option (List ℕ)) (run : Run)
-    (result : Result A WriteFault) (told : WriteFault) (is : result ≡ Err told) where
+    (kept : List DataRecord) (result : Result A WriteFault) (told : WriteFault)
+    (is : result ≡ Err told) where
   -- a fault of the output is no change
   pub reread_out : (fault : OutputFault) → told ≡ fault_out fault → new.header ≡ old.header →
-      RereadsRun old new left run result
+      RereadsByOnset old new left run kept result
   reread_out fault by header = record {
     header = header;
     unchanged = λ n same. out_same fault (handed_on result told (fault_out fault) is by same);
@@ -86,12 +92,22 @@ module _ {A : Type 0} (old new : OpenFragment) (left : Option (List ℕ)) (run :
 
   -- a fault that is handed on
   pub reread_handed_on : {B : Type 0} (fault : WriteFault) → told ≡ fault →
-      RereadsRun {A = B} old new left run (Err fault) → RereadsRun old new left run result
+      RereadsByOnset {A = B} old new left run kept (Err fault) →
+      RereadsByOnset old new left run kept result
   reread_handed_on fault by inner = record {
     header = inner.header;
     unchanged = λ n same. inner.unchanged n (ap (λ (x : WriteFault). Err x)
         (handed_on result told fault is by same));
   }
+
+-- where nothing is kept
+pub reread_plain : {A : Type 0} (old new : OpenFragment) (left : Option (List ℕ)) (run : Run)
+    (result : Result A WriteFault) → RereadsByOnset old new left run [] result →
+    RereadsRun old new left run result
+reread_plain old new left run result reread = record {
+  header = reread.header;
+  unchanged = λ n. reread.unchanged (comes_plain old.header old.progress left run n);
+}
 
 -- ---- the text of the data records
 
@@ -150,6 +166,12 @@ sent_front before after header run rs later w =
 
 -- ---- data record by data record
 
+pub none_hold : (run : Run) (kept : List DataRecord) →
+    BlocksFit (second_of run.first) run.block_samples (annotated kept [])
+none_hold run kept = subst (BlocksFit (second_of run.first) run.block_samples)
+    (sym (annotated-none kept))
+    (All-nil (λ r. length (block_of (second_of run.first) r) ≤ 2 * run.block_samples))
+
 pub none_put : (l : Layout) (run : Run) → ArePut l run [] 0
 none_put l run = record {
   sound = tt;
@@ -157,6 +179,23 @@ none_put l run = record {
   holds = All-nil (λ r. length (block_of (second_of run.first) r) ≤ 2 * 0);
   least = λ fewer hold. omega arith;
 }
+
+-- nothing is put where nothing was read
+pub none_so_put : (l : Layout) (from : Progress) (left : Option (List ℕ)) (a : Buffered) (run : Run)
+    (kept : List DataRecord) (next : ℕ) (tally : Tally) → from.given ≤ most_records l.count
+    → next ≡ run.first → IsTallied (duration_of l.key.duration) run [] tally →
+    PutSoFar l from from left left a a run kept next 0 0 tally
+none_so_put l from left a run kept next tally few is tallied =
+    let none = sym (annotated-none kept) in
+    record {
+      records = [];
+      so_far = none_so_far l from left run next few is;
+      put = subst (λ (x : List DataRecord). ArePut l run x 0) none (none_put l run);
+      tallied = subst (λ (x : List DataRecord).
+          IsTallied (duration_of l.key.duration) run x tally) none tallied;
+      wrote = subst (λ (x : List DataRecord). Writes a a (run_text run x) a.held) none
+          (record { front = []; wrote = Appends-nil _; parts = append-nil _ });
+    }
 
 one_put : (l : Layout) (run : Run) (rs : List DataRecord) (r : DataRecord)
     (samples longest here : ℕ) → ArePut l run rs samples → IsSoundRecord l.key r
@@ -178,46 +217,63 @@ one_put l run rs r samples longest here put sound here-is few is =
           omega (arith, is, here-is, low, high);
     }
 
+more-annotated : (kept rs : List DataRecord) (r q : DataRecord) →
+    q ≡ annotated_one (slice_get kept (length rs)) r →
+    annotated kept (rs ++ r ∷ []) ≡ annotated kept rs ++ q ∷ []
+more-annotated kept rs r q is = annotated-more kept rs r
+    ∙ ap (λ (x : DataRecord). annotated kept rs ++ x ∷ []) (sym is)
+
 pub put_more : (l : Layout) (from mid to : Progress) (left middle rest : Option (List ℕ))
-    (a b c : Buffered) (run : Run) (next later samples longest here count : ℕ)
-    (tally more_tally : Tally) (r : DataRecord)
-    → PutSoFar l from mid left middle a b run next samples count tally → count < run.records →
+    (a b c : Buffered) (run : Run) (kept : List DataRecord)
+    (next later samples longest here count : ℕ) (tally more_tally : Tally) (r q : DataRecord)
+    (so : PutSoFar l from mid left middle a b run kept next samples count tally)
+    → count < run.records →
     StepsOn l mid to middle rest next r → later ≡ r.start + duration_of l.key.duration
-    → here ≡ (length (block_of (second_of run.first) r) + 1) / 2 → here ≤ run.block_samples →
+    → q ≡ annotated_one (slice_get kept (length so.records)) r → IsSoundRecord l.key q
+    → here ≡ (length (block_of (second_of run.first) q) + 1) / 2 → here ≤ run.block_samples →
     longest ≡ max here samples
     → ((rs : List DataRecord) → IsTallied (duration_of l.key.duration) run rs tally →
-    IsTallied (duration_of l.key.duration) run (rs ++ r ∷ []) more_tally)
-    → Writes b c (record_text (second_of run.first) (2 * run.block_samples) r) c.held →
-    PutSoFar l from to left rest a c run later longest (count + 1) more_tally
-put_more l from mid to left middle rest a b c run next later samples longest here count tally
-    more_tally r so more step after here-is few is tallies put = record {
+    IsTallied (duration_of l.key.duration) run (rs ++ q ∷ []) more_tally)
+    → Writes b c (record_text (second_of run.first) (2 * run.block_samples) q) c.held →
+    PutSoFar l from to left rest a c run kept later longest (count + 1) more_tally
+put_more l from mid to left middle rest a b c run kept next later samples longest here count tally
+    more_tally r q so more step after is sound here-is few is-max tallies put =
+    let same = more-annotated kept so.records r q is in
+    record {
       records = so.records ++ r ∷ [];
       so_far = more_so_far l from mid to left middle rest run so.records next later count r
-          so.so_far
-          more step after;
-      put = one_put l run so.records r samples longest here so.put step.sound here-is few is;
-      tallied = tallies so.records so.tallied;
-      wrote = text_then a b c run so.records r c.held so.wrote put;
+          so.so_far more step after;
+      put = subst (λ (x : List DataRecord). ArePut l run x longest) (sym same)
+          (one_put l run (annotated kept so.records) q samples longest here so.put sound here-is few
+          is-max);
+      tallied = subst (λ (x : List DataRecord).
+          IsTallied (duration_of l.key.duration) run x more_tally) (sym same)
+          (tallies (annotated kept so.records) so.tallied);
+      wrote = subst (λ (x : List DataRecord). Writes a c (run_text run x) c.held) (sym same)
+          (text_then a b c run (annotated kept so.records) q c.held so.wrote put);
     }
 
 -- all that was listed of a run was put
 pub all_put : (l : Layout) (from to : Progress) (left rest : Option (List ℕ)) (a b : Buffered)
-    (run : Run) (next samples count : ℕ) (tally : Tally)
-    → PutSoFar l from to left rest a b run next samples count tally
+    (run : Run) (kept : List DataRecord) (next samples count : ℕ) (tally : Tally)
+    → PutSoFar l from to left rest a b run kept next samples count tally
     → count ≡ run.records → samples ≡ run.block_samples →
-    next ≡ run.last + duration_of l.key.duration → IsPutAll l from to left rest a b run tally
-all_put l from to left rest a b run next samples count tally so all same ends =
+    next ≡ run.last + duration_of l.key.duration → IsPutAll l from to left rest a b run kept tally
+all_put l from to left rest a b run kept next samples count tally so all same ends =
     let d = duration_of l.key.duration in
-    let rs = so.records in
-    let counted : length rs ≡ run.records = so.so_far.counted ∙ all in
+    let rs = annotated kept so.records in
+    let raw : length so.records ≡ run.records = so.so_far.counted ∙ all in
+    let counted : length rs ≡ run.records = annotated-length kept so.records ∙ raw in
     record {
-      records = rs;
+      records = so.records;
       read = so.so_far.read;
+      starts = so.so_far.starts;
+      count = raw;
       sound = so.put.sound;
       listed = record {
         count = sym counted;
-        starts = so.so_far.starts;
-        last = let m : length rs * d ≡ run.records * d = ap (λ n. n * d) counted in
+        starts = annotated-starts d run.first kept so.records so.so_far.starts;
+        last = let m : length so.records * d ≡ run.records * d = ap (λ n. n * d) raw in
             omega (arith, so.so_far.next_is, ends, m, last_end run.records d run.records_some);
         holds = subst (λ n. BlocksFit (second_of run.first) n rs) same so.put.holds;
         least = λ fewer hold. omega (arith, so.put.least fewer hold, same);
@@ -228,10 +284,12 @@ all_put l from to left rest a b run next samples count tally so all same ends =
 
 -- what was put so far stays a front, where no more is put
 pub stops_put : (l : Layout) (from mid to : Progress) (left middle rest : Option (List ℕ))
-    (a b : Buffered) (run : Run) (next samples count : ℕ) (tally : Tally)
-    → PutSoFar l from mid left middle a b run next samples count tally → count ≤ run.records →
-    ReadsOneMoreAtMost l mid to middle rest count run → StopsPutting l from to left rest a b run
-stops_put l from mid to left middle rest a b run next samples count tally so few more = record {
+    (a b : Buffered) (run : Run) (kept : List DataRecord) (next samples count : ℕ)
+    (tally : Tally) → PutSoFar l from mid left middle a b run kept next samples count tally
+    → count ≤ run.records →
+    ReadsOneMoreAtMost l mid to middle rest count run →
+    StopsPutting l from to left rest a b run kept
+stops_put l from mid to left middle rest a b run kept next samples count tally so few more = record {
   records = so.records;
   mid = mid;
   middle = middle;
@@ -240,24 +298,27 @@ stops_put l from mid to left middle rest a b run next samples count tally so few
   within = omega (arith, so.so_far.counted);
   holds = All-weaker (λ r. length (block_of (second_of run.first) r) ≤ 2 * samples)
       (λ r. length (block_of (second_of run.first) r) ≤ 2 * run.block_samples)
-      (λ r h. omega (arith, h, so.put.within)) so.records so.put.holds;
+      (λ r h. omega (arith, h, so.put.within)) (annotated kept so.records) so.put.holds;
   front = (b.held, so.wrote);
   more = subst (λ n. ReadsOneMoreAtMost l mid to middle rest n run) (sym so.so_far.counted) more;
 }
 
 -- one more was read, of which a front was put at most
 pub stops_in_put : (l : Layout) (from mid to : Progress) (left middle rest : Option (List ℕ))
-    (a b c : Buffered) (run : Run) (next samples here count : ℕ) (tally : Tally) (r : DataRecord)
-    (unwritten : List ℕ)
-    → PutSoFar l from mid left middle a b run next samples count tally → count < run.records →
+    (a b c : Buffered) (run : Run) (kept : List DataRecord) (next samples here count : ℕ)
+    (tally : Tally) (r q : DataRecord) (unwritten : List ℕ)
+    (so : PutSoFar l from mid left middle a b run kept next samples count tally)
+    → count < run.records →
     StepsOn l mid to middle rest next r
-    → here ≡ (length (block_of (second_of run.first) r) + 1) / 2 → here ≤ run.block_samples
-    → Writes b c (record_text (second_of run.first) (2 * run.block_samples) r) unwritten →
-    StopsPutting l from to left rest a c run
-stops_in_put l from mid to left middle rest a b c run next samples here count tally r unwritten so
-    few step here-is fits put =
+    → q ≡ annotated_one (slice_get kept (length so.records)) r
+    → here ≡ (length (block_of (second_of run.first) q) + 1) / 2 → here ≤ run.block_samples
+    → Writes b c (record_text (second_of run.first) (2 * run.block_samples) q) unwritten →
+    StopsPutting l from to left rest a c run kept
+stops_in_put l from mid to left middle rest a b c run kept next samples here count tally r q
+    unwritten so few step is here-is fits put =
     let so-far = more_so_far l from mid to left middle rest run so.records next
     (r.start + duration_of l.key.duration) count r so.so_far few step refl in
+    let same = more-annotated kept so.records r q is in
     record {
       records = so.records ++ r ∷ [];
       mid = to;
@@ -265,13 +326,18 @@ stops_in_put l from mid to left middle rest a b c run next samples here count ta
       read = so-far.read;
       starts = so-far.starts;
       within = omega (arith, so-far.counted);
-      holds = All-push (λ x. length (block_of (second_of run.first) x) ≤ 2 * run.block_samples)
-          so.records r
+      holds = subst (BlocksFit (second_of run.first) run.block_samples) (sym same)
+          (All-push (λ x. length (block_of (second_of run.first) x) ≤ 2 * run.block_samples)
+          (annotated kept so.records) q
           (All-weaker (λ x. length (block_of (second_of run.first) x) ≤ 2 * samples)
           (λ x. length (block_of (second_of run.first) x) ≤ 2 * run.block_samples)
-          (λ x h. omega (arith, h, so.put.within)) so.records so.put.holds)
-          (samples_hold _ run.block_samples (omega (arith, here-is, fits)));
-      front = (unwritten, text_then a b c run so.records r unwritten so.wrote put);
+          (λ x h. omega (arith, h, so.put.within)) (annotated kept so.records) so.put.holds)
+          (samples_hold _ run.block_samples (omega (arith, here-is, fits))));
+      front = (
+        unwritten,
+        subst (λ (x : List DataRecord). Writes a c (run_text run x) unwritten) (sym same)
+            (text_then a b c run (annotated kept so.records) q unwritten so.wrote put),
+      );
       more = inl (refl, refl);
     }
 
@@ -364,67 +430,120 @@ file_len k rs run header sound is =
 
 -- ---- what is answered
 
--- what was sent is the run's file
+-- what was sent is the file of the run with these annotations
 pub went_out : (l : Layout) (from to : Progress) (left rest before after : Option (List ℕ))
-    (header : List ℕ) (run : Run) (len : ℕ) (tally : Tally) → IsKey l.key → MayStart l.key run.first
-    → IsRunHeader header l.key run → IsSent l from to left rest before after header run tally
-    → len ≡ length header + run.records
-    * (2 * samples_in_all l.key.signals + 2 * run.block_samples) →
-    IsRunWritten l from to left rest before after run len
-went_out l from to left rest before after header run len tally key begins is-header sent len-is =
-    let file = run_file l.key sent.records run header key begins sent.sound sent.listed is-header in
-    record {
-      records = sent.records;
-      read = sent.read;
-      listed = sent.listed;
-      file = sent_text header run sent.records;
-      is_file = file;
-      only = λ other is. one-run-file other (sent_text header run sent.records) l.key sent.records
-          is file;
-      wrote = sent.wrote;
-      len_is = len-is ∙ file_len l.key sent.records run header sent.sound sent.listed;
-    }
-
-pub counted_run : (l : Layout) (from to : Progress) (left rest before after : Option (List ℕ))
-    (header : List ℕ) (run : Run) (written : Written) (tally : Tally) → IsKey l.key
-    → MayStart l.key run.first
-    → IsRunHeader header l.key run → IsSent l from to left rest before after header run tally
+    (header : List ℕ) (run : Run) (kept : List DataRecord) (written : Written) (tally : Tally)
+    → IsKey l.key → MayStart l.key run.first → IsRunHeader header l.key run
+    → IsSent l from to left rest before after header run kept tally
     → written.bytes ≡ length header + run.records
     * (2 * samples_in_all l.key.signals + 2 * run.block_samples)
     → written.annotations ≡ tally.annotations → written.outside ≡ tally.outside →
-    IsCountedRun l from to left rest before after run written
-unfolding went_out
-counted_run l from to left rest before after header run written tally key begins is-header sent
+    IsWrittenByOnset l from to left rest before after run kept written
+went_out l from to left rest before after header run kept written tally key begins is-header sent
     len-is all out =
+    let rs = annotated kept sent.records in
+    let file = run_file l.key rs run header key begins sent.sound sent.listed is-header in
     record {
-      went_out = went_out l from to left rest before after header run written.bytes tally key begins
-          is-header sent len-is;
+      records = sent.records;
+      read = sent.read;
+      count = sent.count;
+      listed = sent.listed;
+      file = sent_text header run rs;
+      is_file = file;
+      only = λ other is. one-run-file other (sent_text header run rs) l.key rs is file;
+      wrote = sent.wrote;
+      len_is = len-is ∙ file_len l.key rs run header sent.sound sent.listed;
       counted = record {
         all = all ∙ sent.tallied.counted.all;
         out = out ∙ sent.tallied.counted.out;
       };
     }
 
+-- where nothing is kept
+pub written_plain : (l : Layout) (from to : Progress) (left rest before after : Option (List ℕ))
+    (run : Run) (written : Written)
+    → IsWrittenByOnset l from to left rest before after run [] written →
+    IsCountedRun l from to left rest before after run written
+written_plain l from to left rest before after run written w = record {
+  went_out = record {
+    records = w.records;
+    read = w.read;
+    listed = w.listed;
+    file = w.file;
+    is_file = w.is_file;
+    only = w.only;
+    wrote = w.wrote;
+    len_is = w.len_is;
+  };
+  counted = w.counted;
+}
+
+stops_plain : (l : Layout) (from to : Progress) (left rest before after : Option (List ℕ))
+    (run : Run) → StopsByOnset l from to left rest before after run [] →
+    StopsInRun l from to left rest before after run
+stops_plain l from to left rest before after run s = record {
+  records = s.records;
+  mid = s.mid;
+  middle = s.middle;
+  read = s.read;
+  starts = s.starts;
+  within = s.within;
+  holds = s.holds;
+  front = s.front;
+  more = s.more;
+}
+
+pub not_written_plain : (l : Layout) (from to : Progress)
+    (left rest before after : Option (List ℕ)) (run : Run) (fault : WriteFault)
+    → IsNotWrittenByOnset l from to left rest before after run [] fault →
+    IsNotWritten l from to left rest before after run fault
+not_written_plain l from to left rest before after run Undated s = s
+not_written_plain l from to left rest before after run Changed s =
+    stops_plain l from to left rest before after run s
+not_written_plain l from to left rest before after run Read s =
+    stops_plain l from to left rest before after run s
+not_written_plain l from to left rest before after run Memory s =
+    stops_plain l from to left rest before after run s
+not_written_plain l from to left rest before after run Write s =
+    stops_plain l from to left rest before after run s
+
+pub ok_plain : (l : Layout) (from to : Progress) (left rest before after : Option (List ℕ))
+    (run : Run) (result : Result Written WriteFault)
+    → IfOk result (IsWrittenByOnset l from to left rest before after run []) →
+    IfOk result (IsCountedRun l from to left rest before after run)
+ok_plain l from to left rest before after run (Ok written) w =
+    written_plain l from to left rest before after run written w
+ok_plain l from to left rest before after run (Err fault) w = w
+
+pub err_plain : (l : Layout) (from to : Progress) (left rest before after : Option (List ℕ))
+    (run : Run) (result : Result Written WriteFault)
+    → IfErr result (IsNotWrittenByOnset l from to left rest before after run []) →
+    IfErr result (IsNotWritten l from to left rest before after run)
+err_plain l from to left rest before after run (Ok written) s = s
+err_plain l from to left rest before after run (Err fault) s =
+    not_written_plain l from to left rest before after run fault s
+
 -- nothing was read or written
-pub not_begun : (l : Layout) (from : Progress) (left before : Option (List ℕ)) (run : Run) →
-    from.given ≤ most_records l.count → StopsInRun l from from left left before before run
-not_begun l from left before run few = record {
+pub not_begun : (l : Layout) (from : Progress) (left before : Option (List ℕ)) (run : Run)
+    (kept : List DataRecord) → from.given ≤ most_records l.count →
+    StopsByOnset l from from left left before before run kept
+not_begun l from left before run kept few = record {
   records = [];
   mid = from;
   middle = left;
   read = none_read l from left few;
   starts = tt;
   within = omega arith;
-  holds = All-nil (λ r. length (block_of (second_of run.first) r) ≤ 2 * run.block_samples);
+  holds = none_hold run kept;
   front = inl (Keeps-refl before);
   more = inl (refl, refl);
 }
 
 stops_in_run : (l : Layout) (from to : Progress) (left rest before after : Option (List ℕ))
-    (header : List ℕ) (run : Run) → IsRunHeader header l.key run
-    → StopsSending l from to left rest before after header run →
-    StopsInRun l from to left rest before after run
-stops_in_run l from to left rest before after header run is-header s = record {
+    (header : List ℕ) (run : Run) (kept : List DataRecord) → IsRunHeader header l.key run
+    → StopsSending l from to left rest before after header run kept →
+    StopsByOnset l from to left rest before after run kept
+stops_in_run l from to left rest before after header run kept is-header s = record {
   records = s.records;
   mid = s.mid;
   middle = s.middle;
@@ -437,16 +556,17 @@ stops_in_run l from to left rest before after header run is-header s = record {
 }
 
 pub not_written : (l : Layout) (from to : Progress) (left rest before after : Option (List ℕ))
-    (header : List ℕ) (run : Run) (fault : WriteFault) → IsRunHeader header l.key run
-    → StopsSending l from to left rest before after header run → (fault ≡ Undated → ⊥) →
-    IsNotWritten l from to left rest before after run fault
-not_written l from to left rest before after header run Undated is-header s dated =
+    (header : List ℕ) (run : Run) (kept : List DataRecord) (fault : WriteFault)
+    → IsRunHeader header l.key run
+    → StopsSending l from to left rest before after header run kept → (fault ≡ Undated → ⊥) →
+    IsNotWrittenByOnset l from to left rest before after run kept fault
+not_written l from to left rest before after header run kept Undated is-header s dated =
     absurd (dated refl)
-not_written l from to left rest before after header run Changed is-header s dated =
-    stops_in_run l from to left rest before after header run is-header s
-not_written l from to left rest before after header run Read is-header s dated =
-    stops_in_run l from to left rest before after header run is-header s
-not_written l from to left rest before after header run Memory is-header s dated =
-    stops_in_run l from to left rest before after header run is-header s
-not_written l from to left rest before after header run Write is-header s dated =
-    stops_in_run l from to left rest before after header run is-header s
+not_written l from to left rest before after header run kept Changed is-header s dated =
+    stops_in_run l from to left rest before after header run kept is-header s
+not_written l from to left rest before after header run kept Read is-header s dated =
+    stops_in_run l from to left rest before after header run kept is-header s
+not_written l from to left rest before after header run kept Memory is-header s dated =
+    stops_in_run l from to left rest before after header run kept is-header s
+not_written l from to left rest before after header run kept Write is-header s dated =
+    stops_in_run l from to left rest before after header run kept is-header s

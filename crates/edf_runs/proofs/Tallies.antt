@@ -14,7 +14,9 @@ use Rattle.edf_fragment.specs.Fragment.{DataRecord}
 use Rattle.edf_fragment.specs.Sound.{IsSoundRecord}
 use Rattle.edf_runs.specs.ByOnset.{annotations_of}
 use Rattle.edf_runs.specs.Counted.{AreCounted, is_outside, run_end, OutsideIsNotCovered}
+use Rattle.edf_runs.specs.Inside.Tally.{IsTallied}
 use Rattle.edf_runs.specs.declared.run.Run.{Run}
+use Rattle.edf_runs.specs.declared.tally.Tally.{Tally}
 use Rattle.edf_runs.proofs.Growing.{run_end as ends-at}
 
 pub annotations-more : (records : List DataRecord) (r : DataRecord) →
@@ -45,6 +47,24 @@ counted-more d run records r annotations outside more out before more-is out-is 
         ap (λ (l : List Annotation). count_by p l) longer,
         sum_by-append (λ (a : Annotation). cond (p a) 1 0) (annotations_of records) r.annotations,
       );
+    }
+
+-- annotations alone are counted
+pub tallied-same : (d : ℕ) (run : Run) (rs : List DataRecord) (a q : DataRecord) (tally : Tally) →
+    a.annotations ≡ q.annotations → IsTallied d run (rs ++ a ∷ []) tally →
+    IsTallied d run (rs ++ q ∷ []) tally
+tallied-same d run rs a q tally same is =
+    let p = is_outside run.first (run_end d run) in
+    let notes : annotations_of (rs ++ a ∷ []) ≡ annotations_of (rs ++ q ∷ []) =
+    annotations-more rs a
+    ∙ ap (λ (l : List Annotation). annotations_of rs ++ l) same ∙ sym (annotations-more rs q) in
+    record {
+      first = is.first;
+      end = is.end;
+      counted = record {
+        all = is.counted.all ∙ ap (λ (l : List Annotation). length l) notes;
+        out = is.counted.out ∙ ap (λ (l : List Annotation). count_by p l) notes;
+      };
     }
 
 -- each has 10,000 at most

@@ -8,3 +8,7 @@ pub mod Inside
 pub mod ByOnset
 pub mod Canonical
 pub mod Counted
+pub mod WrittenByOnset
+pub mod OnsetRead
+pub mod AsRead
+pub mod KeptByOnset

@@ -10,11 +10,12 @@ use edf_canonical::samples_of;
 use edf_field::MOST_DURATION;
 use edf_fragment::Record;
 use edf_header::MOST_RECORDS;
+use edf_time::Instant;
 use std::alloc::AllocError;
 
 impl Run {
     /// The run of one data record.
-    fn of(data_record: &Record) -> Run
+    pub(crate) fn of(data_record: &Record) -> Run
         ensures { (d : ℕ) → IsListed d (data_record.now ∷ []) result }
     {
         let first = data_record.start();
@@ -26,16 +27,16 @@ impl Run {
         }
     }
 
-    /// Whether a data record starts where this run ends.
-    fn touches(&self, data_record: &Record, duration: u64) -> bool
+    /// Whether this run ends at an instant.
+    pub(crate) fn ends_at(&self, instant: Instant, duration: u64) -> bool
         requires { duration ≤ MOST_DURATION }
-        ensures { IsTrue result ↔ (data_record.now.start ≡ self.now.last + duration) }
+        ensures { IsTrue result ↔ (instant ≡ self.now.last + duration) }
     {
-        data_record.start().nanos() == self.last.nanos() + duration
+        instant.nanos() == self.last.nanos() + duration
     }
 
     /// This run with one more data record, which starts where it ends.
-    fn with(&self, data_record: &Record) -> Run
+    pub(crate) fn with(&self, data_record: &Record) -> Run
         ensures { (d : ℕ) (records : List DataRecord) → IsListed d records self.now →
             data_record.now.start ≡ self.now.last + d → length records < MOST_RECORDS →
             IsListed d (records ++ data_record.now ∷ []) result }
@@ -67,7 +68,9 @@ pub fn add_record(
 {
     match runs.pop() {
         None => runs.push(Run::of(data_record))?,
-        Some(run) if run.touches(data_record, duration) => runs.push(run.with(data_record))?,
+        Some(run) if run.ends_at(data_record.start(), duration) => runs.push(run.with(
+            data_record,
+        ))?,
         Some(run) => {
             runs.push(run)?;
             runs.push(Run::of(data_record))?;

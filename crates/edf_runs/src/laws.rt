@@ -11,6 +11,7 @@ ghost use Rattle.edf_runs.specs.ByOnset.{StayInOrder};
 ghost use Rattle.edf_runs.specs.Canonical.{LeavesFrontOfFile};
 ghost use Rattle.edf_runs.specs.Counted.{OutsideIsNotCovered};
 ghost use Rattle.edf_runs.specs.File.{IsRunFile, IsContinuous};
+ghost use Rattle.edf_runs.specs.KeptByOnset.{KeptAreByOnset, StaySound};
 ghost use Rattle.edf_runs.specs.Rejoined.{RunsRejoin};
 ghost use Rattle.edf_runs.specs.Runs.{IsRuns, IsTouching};
 
@@ -67,4 +68,12 @@ pub fn a_front_of_the_canonical_file()
 /// What is counted as outside of a run is just what its data records don't cover.
 pub fn outside_is_not_covered()
     ensures { OutsideIsNotCovered }
+{}
+
+/// The runs of a recording, read a second time, with what was kept of them where they were listed
+/// by onset, are the runs of its data records by onset; and these are sound, so that their runs
+/// have files, where none has too many annotations.
+pub fn kept_by_onset()
+    ensures runs { KeptAreByOnset }
+    ensures sound { StaySound }
 {}

@@ -7,6 +7,9 @@
 //! - [`reopen`], [`skip_run`], [`write_run`]: a second reading, past runs and over one whose file
 //!   is written; [`WriteFault`]: why it is not. [`write_counted`] tells what was [`Written`], with
 //!   the annotations that lie outside of the run.
+//! - [`list_by_onset`], [`reopen_by_onset`], [`write_by_onset`]: the same with each annotation in
+//!   the data record that has its onset; an [`OnsetListing`] keeps the annotations of each
+//!   [`OnsetRun`]; [`OnsetFault`]: why there is none.
 //! - [`plan_canonical`], [`write_canonical`]: the canonical file of a whole file, by two readings
 //!   from any reader; a [`CanonicalPlan`] is what is kept between them.
 //! - [`laws`]: each list of data records has its runs; a run's file is read again; nothing is lost
@@ -14,10 +17,15 @@
 #![tactic(auto)]
 
 mod adding;
+mod assigning;
 mod canonical_plan;
 mod counting;
 mod fault;
+mod keeping;
 pub mod laws;
+mod listing_by_onset;
+mod onset_listing;
+mod onset_run;
 mod planning;
 mod reading;
 mod run;
@@ -30,10 +38,13 @@ mod written;
 pub use adding::add_record;
 pub use canonical_plan::CanonicalPlan;
 pub use fault::WriteFault;
+pub use listing_by_onset::list_by_onset;
+pub use onset_listing::{OnsetFault, OnsetListing};
+pub use onset_run::OnsetRun;
 pub use planning::plan_canonical;
-pub use reading::{reopen, skip_run};
+pub use reading::{reopen, reopen_by_onset, skip_run};
 pub use run::Run;
 pub use run_list::{Listing, list_runs};
-pub use writing::{write_counted, write_run};
+pub use writing::{write_by_onset, write_counted, write_run};
 pub use writing_canonical::write_canonical;
 pub use written::Written;

@@ -1,12 +1,15 @@
 //! Data records of a file that is read a second time.
 
-ghost use Rattle.std.specs.Prelude.{◌≡◌, MatchResult};
+ghost use Rattle.std.specs.Prelude.{◌≡◌, List, MatchResult};
 ghost use Rattle.edf_fragment.specs.Reading.{ReadsHeader, at_first};
 ghost use Rattle.edf_runs.specs.Again.{fault_again, IsNotReopened, PassesRun, StopsBefore, StopsAt};
+ghost use Rattle.edf_fragment.specs.Fragment.{DataRecord};
 ghost use Rattle.edf_runs.specs.Again.{RereadsRun, CountsRereads};
+ghost use Rattle.edf_runs.specs.WrittenByOnset.{RereadsByOnset};
 ghost use Rattle.edf_runs.specs.Inside.Steps.{StepsOn};
 
 use crate::fault::WriteFault;
+use crate::onset_listing::OnsetListing;
 use crate::run::Run;
 use crate::run_list::Listing;
 use edf_fragment::{FragmentFault, Input, OpenFragment, Record};
@@ -69,6 +72,24 @@ pub fn reopen<R: Input>(
     open_again(alloc, input, &listing.identity)
 }
 
+/// Reads again the header of a file whose runs were listed by onset.
+///
+/// # Errors
+/// As [`reopen`].
+pub fn reopen_by_onset<R: Input>(
+    alloc: Global,
+    input: &mut R,
+    listing: &OnsetListing,
+) -> Result<OpenFragment, WriteFault>
+    ensures answer { MatchResult result
+        (λ fragment. ReadsHeader (R.remaining input.old) (R.remaining input.new) fragment.header
+        × (fragment.progress ≡ at_first) × (fragment.header.key ≡ listing.now.identity))
+        (IsNotReopened (R.remaining input.old) (R.remaining input.new) listing.now.identity) }
+    ensures counted { CountsRereads (R.failures input.old) (R.failures input.new) result }
+{
+    open_again(alloc, input, &listing.identity)
+}
+
 /// The next data record of a file that is read again, which must start at this instant.
 pub(crate) fn next_at<R: Input>(
     fragment: &mut OpenFragment,
@@ -107,6 +128,8 @@ pub fn skip_run<R: Input>(
     run: &Run,
 ) -> Result<(), WriteFault>
     ensures reread { RereadsRun fragment.old fragment.new (R.remaining input.old) run.now result }
+    ensures by_onset { (kept : List DataRecord) →
+        RereadsByOnset fragment.old fragment.new (R.remaining input.old) run.now kept result }
     ensures answer { MatchResult result
         (λ _. PassesRun fragment.old.header fragment.old.progress fragment.new.progress
         (R.remaining input.old) (R.remaining input.new) run.now)

@@ -151,6 +151,50 @@ pub(crate) fn second_strays(alloc: Global) -> Result<Vec<u8>, AllocError> {
     file_of(alloc, &header, records, 40)
 }
 
+/// The file of the first run of `strays` by onset: all that begin before the second run starts.
+pub(crate) fn first_by_onset(alloc: Global) -> Result<Vec<u8>, AllocError> {
+    let header = q().reserved("EDF+C").count("2").annotations_samples("23");
+    let records: &[(u8, &[u8])] = &[
+        (1, b"+0.5\x14\x14\0-3\x14Before\x14\0+0.5\x14First\x14\0"),
+        (
+            2,
+            b"+1.5\x14\x14\0+2.5\x14End\x14\0+5\x14Gap\x14\0+2.499999999\x14Short\x14\0",
+        ),
+    ];
+    file_of(alloc, &header, records, 46)
+}
+
+/// The file of the second run of `strays` by onset, which begins on the next day at midnight.
+pub(crate) fn second_by_onset(alloc: Global) -> Result<Vec<u8>, AllocError> {
+    let header = q()
+        .reserved("EDF+C")
+        .recording("Startdate 03-MAR-2002 N1 T3 REC5")
+        .start("03.03.02", "00.00.00")
+        .count("2")
+        .annotations_samples("20");
+    let records: &[(u8, &[u8])] = &[
+        (3, b"+0.5\x14\x14\0+0.5\x14Moved\x14\0"),
+        (
+            4,
+            b"+1.5\x14\x14\0+1.25\x14Later\x14\0+2.5\x14Past\x14\0+89\x14Far\x14\0",
+        ),
+    ];
+    file_of(alloc, &header, records, 40)
+}
+
+/// Two data records without a gap, each of which has so many annotations, all with the onset of the
+/// first.
+pub(crate) fn crowded(alloc: Global, count: usize) -> Result<Vec<u8>, AllocError> {
+    let header = q().count("2").annotations_samples("15010");
+    let mut first = Vec::from_slice(alloc, b"+0\x14\x14\0".as_slice())?;
+    let mut second = Vec::from_slice(alloc, b"+1\x14\x14\0".as_slice())?;
+    for _ in 0..count {
+        first.extend_from_slice(b"+0\x14a\x14\0".as_slice())?;
+        second.extend_from_slice(b"+0\x14b\x14\0".as_slice())?;
+    }
+    file_of(alloc, &header, &[(1, &first), (2, &second)], 30_020)
+}
+
 /// A thousand data records, each a second after the end of the one before. The first begins on
 /// 2002-03-03 at midnight.
 pub(crate) fn thousand(alloc: Global) -> Result<Vec<u8>, AllocError> {
@@ -216,6 +260,8 @@ pub(crate) fn file_named(alloc: Global, name: &str) -> Option<Vec<u8>> {
         "two.edf" | "-" => two_gaps(alloc),
         "thousand.edf" => thousand(alloc),
         "tenths.edf" => tenths(alloc),
+        "strays.edf" => strays(alloc),
+        "crowded.edf" => crowded(alloc, 5_001),
         "one.edf" => night(alloc, "2", &[b"+0\x14\x14\0", b"+1\x14\x14\0"]),
         "nanosecond.edf" => night(alloc, "2", &[b"+0\x14\x14\0", b"+1.000000001\x14\x14\0"]),
         "day.edf" => night(alloc, "2", &[b"+0\x14\x14\0", b"+86401\x14\x14\0"]),

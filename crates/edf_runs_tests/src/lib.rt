@@ -11,6 +11,7 @@
 //! - `written`: the files of runs, byte for byte.
 //! - `faults`: readers and writers that fail, files that change, names that are there.
 //! - `memory`: memory that runs out, under each budget until one suffices.
+//! - `by_onset`: the files of runs by onset, byte for byte.
 //! - `counted`: what is told of the annotations of runs.
 //! - `library`: the functions of `edf_runs`, each called once.
 //! - `picture`: what pictures say.
@@ -18,6 +19,8 @@
 //! - `overview`: the lanes of annotations, lights, minutes, tolerance and signals of pictures.
 #![tactic(auto)]
 
+#[cfg(test)]
+mod by_onset;
 #[cfg(test)]
 mod counted;
 #[cfg(test)]

@@ -72,9 +72,29 @@ const STORIES: &[(&str, &str)] = &[
     ),
     (
         "split two.edf night",
-        "night-1.edf 1 records=3 first=2002-03-02T23:59:50.25 seconds=3 gap=7.5\n\
-        night-2.edf 2 records=2 first=2002-03-03T00:00:00.75 seconds=2 gap=3597.25\n\
-        night-3.edf 3 records=1 first=2002-03-03T01:00:00 seconds=1\nstatus 0\n",
+        "night-1.edf 1 records=3 first=2002-03-02T23:59:50.25 seconds=3 gap=7.5 \
+        annotations=1 outside=0\n\
+        night-2.edf 2 records=2 first=2002-03-03T00:00:00.75 seconds=2 gap=3597.25 \
+        annotations=2 outside=2\n\
+        night-3.edf 3 records=1 first=2002-03-03T01:00:00 seconds=1 annotations=0 outside=0\n\
+        status 0\n",
+    ),
+    (
+        "split --by-onset two.edf night",
+        "night-1.edf 1 records=3 first=2002-03-02T23:59:50.25 seconds=3 gap=7.5 \
+        annotations=2 outside=0\n\
+        night-2.edf 2 records=2 first=2002-03-03T00:00:00.75 seconds=2 gap=3597.25 \
+        annotations=1 outside=1\n\
+        night-3.edf 3 records=1 first=2002-03-03T01:00:00 seconds=1 annotations=0 outside=0\n\
+        status 0\n",
+    ),
+    (
+        "write crowded.edf 1 --by-onset",
+        "err: run 1 would have too many annotations in a data record\nstatus 1\n",
+    ),
+    (
+        "split --by-onset cut.edf night",
+        "err: cut.edf refused E21 CutRecord record=3\nstatus 1\n",
     ),
     (
         "list cut.edf",

@@ -104,29 +104,36 @@ fn short_until_whole(alloc: Global, command: &RunsCommand) -> Option<u32> {
     None
 }
 
-/// The commands to list two gaps and to split it.
-fn commands(alloc: Global) -> Option<[RunsCommand; 2]> {
+/// The command to split two gaps.
+fn split(alloc: Global, is_by_onset: bool) -> Option<RunsCommand> {
+    Some(
+        RunsCommand::Split {
+            file: String::from_str(alloc, "two.edf").ok()?,
+            prefix: String::from_str(alloc, "night").ok()?,
+            is_by_onset,
+        },
+    )
+}
+
+/// The commands to list two gaps and to split it, as it is and by onset.
+fn commands(alloc: Global) -> Option<[RunsCommand; 3]> {
     let mut files = Vec::new(alloc);
     files.push(String::from_str(alloc, "two.edf").ok()?).ok()?;
     let list = RunsCommand::List {
         files,
         tolerance: Some(7_500_000_000),
     };
-    let split = RunsCommand::Split {
-        file: String::from_str(alloc, "two.edf").ok()?,
-        prefix: String::from_str(alloc, "night").ok()?,
-    };
-    Some([list, split])
+    Some([list, split(alloc, false)?, split(alloc, true)?])
 }
 
 #[test]
 fn a_command_without_memory_writes_nothing_and_leaves_no_file(rt: HostRuntime) {
-    let Some([list, split]) = commands(rt.alloc()) else {
+    let Some(commands) = commands(rt.alloc()) else {
         assert!(rt; false, "out of memory");
         return;
     };
-    let listed = short_until_whole(rt.alloc(), &list);
-    assert!(rt; matches!(listed, Some(10..)), "{listed:?}");
-    let made = short_until_whole(rt.alloc(), &split);
-    assert!(rt; matches!(made, Some(10..)), "{made:?}");
+    for command in &commands {
+        let short = short_until_whole(rt.alloc(), command);
+        assert!(rt; matches!(short, Some(10..)), "{command:?}: {short:?}");
+    }
 }

@@ -9,7 +9,7 @@ use std::io::{self, Write};
 const LONGEST: usize = 8_192;
 
 /// A standard stream that erases the line of progress before it writes, and prints what to do below
-/// each line that tells a refusal.
+/// each line that tells a refusal, or annotations outside of their run.
 #[derive(Drop)]
 pub struct Clearing<'t, W> {
     rt: &'t HostRuntime,

@@ -42,7 +42,7 @@ impl<'t> Streams<'t> {
         }
     }
 
-    /// Those of a program whose standard output has lines that may tell refusals.
+    /// Those of a program whose standard output has lines below which something may be said.
     pub fn of_answers(rt: &'t HostRuntime, terminal: &'t Terminal<'t>) -> Streams<'t> {
         Streams {
             out: Counted::new(Clearing::of_lines(rt, terminal, rt.stdout(), true)),

@@ -13,9 +13,14 @@ use Rattle.edf_runs.specs.declared.fault.WriteFault.{WriteFault}
 use Rattle.edf_runs.specs.declared.fault.WriteFault.TheVariants.{Undated, Changed, Read, Write}
 use Rattle.edf_runs.specs.declared.fault.WriteFault.TheVariants.{Memory as NoMemory}
 use Rattle.edf_runs.specs.Written.{CountsFault}
-use Rattle.edfruns_command.specs.Inside.{OpensUpTo}
+use Rattle.edf_runs.specs.declared.onset_listing.OnsetFault.{OnsetFault}
+use Rattle.edf_runs.specs.declared.onset_listing.OnsetFault.TheVariants as onset
+use Rattle.edf_fragment.specs.Fault.{fragment_fault_number}
+use Rattle.edfruns_command.proofs.Undone.{number-undone}
+use Rattle.edfruns_command.specs.Inside.{OpensUpTo, IsPlanRefused}
+use Rattle.edfruns_command.specs.Planning.{HasPlanFault, LacksPlan}
 use Rattle.edfruns_command.specs.Writing.{CountsWrite}
-use Rattle.edfruns_command.specs.Lines.{file_refused_line, file_refused_status}
+use Rattle.edfruns_command.specs.Lines.{file_refused_line, file_refused_status, crowded_line}
 use Rattle.edfruns_command.specs.Lines.{run_refused_status}
 use Rattle.edfruns_command.specs.Listing.{HasFault, RefusesFile, LacksMemory, OpensAgain}
 
@@ -132,3 +137,41 @@ counts-write w old new Write counts = counts.1
 pub err-is : (fault : WriteFault) →
     ◌≡◌ {A = Result (Unit {0}) WriteFault} (Err fault) (Err Changed) → fault ≡ Changed
 err-is fault same = cc
+
+-- ---- why nothing is written of a file
+
+pub lacks-plan : (out err : Growth) (bytes : Option (List ℕ)) (name : List ℕ) (status : Status)
+    (by_onset : Bool) → Gets out [] → (fault : OnsetFault) → HasPlanFault by_onset bytes fault →
+    IsPlanRefused err name fault status → LacksPlan out err bytes name status by_onset
+lacks-plan out err bytes name status by_onset nothing (onset.Fragment met) has said =
+    inr (refused out err bytes name met status nothing has said)
+lacks-plan out err bytes name status by_onset nothing (onset.TooMany number) has said =
+    inl (record { number = number; crowded = has; said = (nothing, said) })
+lacks-plan out err bytes name status by_onset nothing onset.Memory has said =
+    inr (inr (nothing, said))
+
+written-undone : (w : Growth) (bytes : List ℕ) (wanted status : Status) → wanted ≢ Done →
+    IsWritten w bytes wanted status → status ≢ Done
+written-undone w bytes wanted status undone (inl whole) done = undone (sym whole.1 ∙ done)
+written-undone w bytes wanted status undone (inr front) done = let a = front.1 in cc
+
+pub plan-undone : (err : Growth) (name : List ℕ) (fault : OnsetFault) (status : Status) →
+    IsPlanRefused err name fault status → status ≢ Done
+plan-undone err name (onset.Fragment met) status (inl said) done =
+    written-undone err (file_refused_line name met) (file_refused_status met) status
+    (number-undone (fragment_fault_number met)) said done
+plan-undone err name (onset.Fragment met) status (inr said) done =
+    trouble-undone err (memory_line name) status said done
+plan-undone err name (onset.TooMany number) status said done =
+    refused-undone err (crowded_line number) status said done
+plan-undone err name onset.Memory status said done =
+    trouble-undone err (memory_line name) status said done
+
+pub opened-refused : (before after : List (List ℕ)) (name : List ℕ) (status : Status) →
+    OpensUpTo before after name 1 → status ≢ Done → OpensAgain before after name 2 status
+opened-refused before after name status up undone = record {
+  times = up.times;
+  few = omega (arith, up.few);
+  opened = up.opened;
+  all = λ done. absurd (undone done);
+}

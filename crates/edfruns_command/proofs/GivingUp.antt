@@ -3,14 +3,15 @@ use Rattle.std.proofs.Common.{◌≡◌, ℕ, zero, suc, ◌+◌, ◌-◌, ◌�
 use Rattle.std.proofs.Common.{drop, map, refl, sym, ap, ◌∙◌, subst, arith, length-append}
 use Rattle.std.proofs.Common.{◌⊎◌, inl, inr, Option}
 use Rattle.std.proofs.lemmas.List.{length-map, take_all}
-use Rattle.edf_program.specs.Output.{Growth, Gets}
+use Rattle.edf_program.specs.Output.{Growth, Gets, GetsFront}
 use Rattle.edf_program.specs.declared.status.Status.{Status}
-use Rattle.edf_runs.specs.declared.run_list.Listing.{Listing}
-use Rattle.edfruns_command.specs.Lines.{reread_line, unwritten_line, standard_output}
+use Rattle.edf_runs.specs.declared.onset_listing.OnsetListing.{OnsetListing}
+use Rattle.edfruns_command.specs.Lines.{IsSpelling, reread_line, unwritten_line}
+use Rattle.edfruns_command.specs.Lines.{standard_output}
 use Rattle.edfruns_command.specs.Made.{MadeFile, RemovesMade, names_of}
-use Rattle.edfruns_command.specs.Splitting.{Making, LacksLines, LacksOutput, LacksReading}
+use Rattle.edfruns_command.specs.Splitting.{Making, LacksOutput, LacksReading, lines_of}
 use Rattle.edfruns_command.specs.InsideMaking.{HasMade, RereadsAll, StopsMaking}
-use Rattle.edfruns_command.specs.InsideSplit.{RemovesFrom, stop_line}
+use Rattle.edfruns_command.specs.InsideSplit.{RemovesFrom, CutsLines, stop_line}
 use Rattle.edfruns_command.specs.declared.stop.Stop.{Stop}
 use Rattle.edfruns_command.specs.declared.stop.Stop.TheVariants as stop
 
@@ -82,26 +83,26 @@ ended m after failed = record {
   failed_after = failed;
 }
 
-module _ (m : Making) (bytes : Option (List ℕ)) (listing : Listing) (names : List (List ℕ)) where
-  pub made-of : (why : Stop) → StopsMaking m bytes listing names why →
+module _ (m : Making) (bytes : Option (List ℕ)) (plan : OnsetListing) (names : List (List ℕ)) where
+  pub made-of : (why : Stop) → StopsMaking m bytes plan names why →
       (count : ℕ) × HasMade m (take count names)
   made-of (stop.Reading why) half = (half.count, half.made)
   made-of (stop.Output output) lacks = (lacks.3.count, lacks.3.made)
 
-  pub made-all : RereadsAll m bytes listing names → length names ≡ length listing.runs.items →
-      HasMade m (take (length listing.runs.items) names)
+  pub made-all : RereadsAll m bytes plan names → length names ≡ length plan.runs.items →
+      HasMade m (take (length plan.runs.items) names)
   made-all all fit = record {
     files = all.files;
     made = all.made;
-    named = all.named ∙ sym (take_all (length listing.runs.items) names (omega (arith, fit)));
+    named = all.named ∙ sym (take_all (length plan.runs.items) names (omega (arith, fit)));
   }
 
   module _ (first : ℕ) (is : first ≡ length m.before) (after : List MadeFile) (failed : ℕ)
       (same : failed ≡ m.failed_after) (out err : Growth) (name : List ℕ) (status : Status) where
-    pub stopped : (why : Stop) → StopsMaking m bytes listing names why → Gets out [] →
+    pub stopped : (why : Stop) → StopsMaking m bytes plan names why → Gets out [] →
         RemovesFrom first m.after after err (stop_line name why) status →
-        LacksOutput (ended m after failed) bytes listing names out err status
-        ⊎ LacksReading (ended m after failed) bytes listing names out err name status
+        LacksOutput (ended m after failed) bytes plan names out err status
+        ⊎ LacksReading (ended m after failed) bytes plan names out err name status
     stopped (stop.Reading why) half none from = inr (record {
       why = why;
       is_why = half.is_why;
@@ -125,11 +126,16 @@ module _ (m : Making) (bytes : Option (List ℕ)) (listing : Listing) (names : L
           (unwritten_line output.now) status from;
     })
 
-    pub untold : RereadsAll m bytes listing names → length names ≡ length listing.runs.items →
+    pub untold : (all : RereadsAll m bytes plan names) →
+        ((spell : ℕ → List ℕ) → IsSpelling spell →
+        GetsFront out (lines_of spell plan names all.again.parts)) →
+        length names ≡ length plan.runs.items →
         RemovesFrom first m.after after err (unwritten_line standard_output) status →
-        LacksLines (ended m after failed) bytes listing names err status
-    untold all fit from = record {
+        CutsLines (ended m after failed) out err bytes plan names status
+    untold all said fit from = record {
+      again = all.again;
+      said = said;
       unfailed = same ∙ all.unfailed;
-      removes = removes m first is names (length listing.runs.items) (made-all all fit) after err
+      removes = removes m first is names (length plan.runs.items) (made-all all fit) after err
           (unwritten_line standard_output) status from;
     }

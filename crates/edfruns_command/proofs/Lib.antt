@@ -2,6 +2,8 @@ mod RunTexts
 mod GroupLines
 mod Groups
 mod Listed
+mod CountedLines
+mod Undone
 mod Answered
 mod Rereading
 mod Walking

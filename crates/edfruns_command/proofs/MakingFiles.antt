@@ -1,10 +1,10 @@
 -- Files that are made one after another, while their runs are read.
-use Rattle.std.proofs.Common.{◌≡◌, ◌⊎◌, inl, inr, ℕ, ◌+◌, ◌<◌, List, [], ◌∷◌, ◌++◌, length, take}
+use Rattle.std.proofs.Common.{◌≡◌, ◌⊎◌, inl, inr, ℕ, suc, codes, ◌+◌, ◌<◌, List, [], ◌∷◌, ◌++◌, length, take}
 use Rattle.std.proofs.Common.{drop, get_or, map, refl, sym, ap, ◌∙◌, subst, arith, append_assoc}
 use Rattle.std.proofs.Common.{append-nil, take-append-drop, Option, true, Some, None, ◌≢◌}
 use Rattle.std.specs.Prelude.{slice_get}
 use Rattle.std.specs.List.{flat_map, AllZip}
-use Rattle.std.proofs.lemmas.List.{take_more, drop_more, map-append, length-take-le}
+use Rattle.std.proofs.lemmas.List.{take_more, drop_more, map-append, length-map, length-take-le}
 use Rattle.edf_field.specs.Number.{duration_of}
 use Rattle.edf_header.specs.Key.{Key}
 use Rattle.edf_header.specs.Header.{Layout}
@@ -12,27 +12,35 @@ use Rattle.edf_fragment.specs.Failures.{one_more}
 use Rattle.edf_fragment.specs.Fragment.{DataRecord}
 use Rattle.edf_fragment.specs.Reading.{at_first}
 use Rattle.edf_fragment.specs.declared.advance.Progress.{Progress}
+use Rattle.edf_runs.specs.AsRead.{runs_of}
+use Rattle.edf_runs.specs.KeptByOnset.{annotated_runs}
+use Rattle.edf_runs.specs.OnsetRead.{kept_of}
 use Rattle.edf_runs.specs.Read.{ReadsOn}
-use Rattle.edf_runs.specs.Runs.{IsListed}
-use Rattle.edf_runs.specs.declared.run.Run.{Run}
+use Rattle.edf_runs.specs.WrittenByOnset.{annotated, ComesByOnset, IsNotWrittenByOnset}
+use Rattle.edf_runs.specs.declared.onset_run.OnsetRun.{OnsetRun}
+use Rattle.edf_runs.specs.declared.written.Written.{Written}
 use Rattle.edf_runs.specs.declared.fault.WriteFault.{WriteFault}
+use Rattle.edf_runs.proofs.Annotated.{annotated-length, starts-annotated}
 use Rattle.edf_runs.proofs.Growing.{joined_more}
 use Rattle.edfruns_command.specs.Made.{MadeFile, begun, names_of}
 use Rattle.edfruns_command.specs.Writing.{IsPassed, SkipsRuns}
 use Rattle.edfruns_command.specs.Rereading.{IsAtRun, StopsAmong, ComesToOutput}
-use Rattle.edfruns_command.specs.Splitting.{Making, HoldsRun}
+use Rattle.edfruns_command.specs.Splitting.{Making, HoldsRun, IsKeptRun}
 use Rattle.edfruns_command.specs.InsideMaking.{MakesFile, HalfMakes, LacksFile, HasMade, MakesEach}
 use Rattle.edfruns_command.specs.InsideMaking.{HalfMakesEach, LacksOneOf, StopsFile, StopsEach}
-use Rattle.edfruns_command.specs.InsideMaking.{IsStopOf}
+use Rattle.edfruns_command.specs.InsideMaking.{IsStopOf, MakesFirst, AreLinesOf}
+use Rattle.edfruns_command.specs.Lines.{IsSpelling}
+use Rattle.edfruns_command.specs.Counting.{run_front, counts_text, counted_line, split_lines}
 use Rattle.edfruns_command.specs.declared.stop.Stop.{Stop}
 use Rattle.edfruns_command.specs.declared.stop.Stop.TheVariants as stop
-use Rattle.edf_runs.specs.Again.{ComesNext}
-use Rattle.edf_runs.specs.Written.{IsNotWritten, CountsFault}
+use Rattle.edf_runs.specs.Written.{CountsFault}
 use Rattle.edf_runs.specs.declared.fault.WriteFault.TheVariants as fault
 use Rattle.edf_runs.proofs.SecondReading.{none_read}
 use Rattle.std.specs.Io.KnownBytes.{Appends}
 use Rattle.edfruns_command.specs.Made.{failed_with}
 use Rattle.edfruns_command.proofs.Rereading.{both, one-more, reads-then}
+use Rattle.edfruns_command.proofs.CountedLines.{counted-text, lines-more}
+use Rattle.edfruns_command.proofs.Walking.{mapped}
 
 -- from the state before one to the state after another
 abbrev pub then : Making → Making → Making
@@ -46,16 +54,22 @@ then a b = record {
 }
 
 -- the data records of listed runs are those that are passed
-passed : (d : ℕ) (parts : List (List DataRecord)) (runs : List Run) →
-    AllZip (IsListed d) parts runs → AllZip (IsPassed d) parts runs
+passed : (d : ℕ) (parts : List (List DataRecord)) (runs : List OnsetRun) →
+    AllZip (IsKeptRun d) parts runs → AllZip (IsPassed d) parts (runs_of runs)
 passed d [] [] each = tt
 passed d (p ∷ ps) [] each = absurd each
 passed d [] (r ∷ rs) each = absurd each
-passed d (p ∷ ps) (r ∷ rs) each = ((each.0.starts, sym each.0.count), passed d ps rs each.1)
+passed d (p ∷ ps) (r ∷ rs) each = (
+  (
+    starts-annotated d r.run.first (kept_of r) p each.0.starts,
+    sym (annotated-length (kept_of r) p) ∙ sym each.0.count,
+  ),
+  passed d ps rs each.1,
+)
 
 pub skips-made : (m : Making) (names : List (List ℕ)) (l : Layout) (to : Progress)
-    (left rest : Option (List ℕ)) (runs : List Run) → MakesEach m names l to left rest runs →
-    SkipsRuns l to left rest runs
+    (left rest : Option (List ℕ)) (runs : List OnsetRun) → MakesEach m names l to left rest runs →
+    SkipsRuns l to left rest (runs_of runs)
 skips-made m names l to left rest runs made = record {
   passed = made.parts;
   are_passed = passed (duration_of l.key.duration) made.parts runs made.listed;
@@ -71,9 +85,33 @@ names-more files file names i name lt is named before =
     ∙ ap (λ (n : List ℕ). take i names ++ (n ∷ [])) (named ∙ is)
     ∙ sym (take_more names i name lt)
 
+-- with one run more, one more goes out, with what was kept of it
+outgoing-more : (P : List DataRecord → OnsetRun → Type 0) (parts : List (List DataRecord))
+    (runs : List OnsetRun) (part : List DataRecord) (run : OnsetRun) → AllZip P parts runs →
+    annotated_runs (parts ++ (part ∷ [])) (runs ++ (run ∷ []))
+    ≡ annotated_runs parts runs ++ (annotated (kept_of run) part ∷ [])
+outgoing-more P [] [] part run each = refl
+outgoing-more P (p ∷ ps) [] part run each = absurd each
+outgoing-more P [] (r ∷ rs) part run each = absurd each
+outgoing-more P (p ∷ ps) (r ∷ rs) part run each =
+    ap (λ (l : List (List DataRecord)). annotated (kept_of r) p ∷ l)
+    (outgoing-more P ps rs part run each.1)
+
+outs-count : (P : List DataRecord → OnsetRun → Type 0) (parts : List (List DataRecord))
+    (runs : List OnsetRun) → AllZip P parts runs →
+    length (annotated_runs parts runs) ≡ length runs
+outs-count P [] [] each = refl
+outs-count P (p ∷ ps) [] each = absurd each
+outs-count P [] (r ∷ rs) each = absurd each
+outs-count P (p ∷ ps) (r ∷ rs) each = ap suc (outs-count P ps rs each.1)
+
+memory-unchanged : fault.Memory ≢ fault.Changed
+memory-unchanged is = cc
+
 module _ (a b : Making) (known : b.known ≡ a.known) (before : b.before ≡ a.after)
     (failed : b.failed_before ≡ a.failed_after) (names : List (List ℕ)) (l : Layout)
-    (mid to : Progress) (left middle rest : Option (List ℕ)) (runs : List Run) (i : ℕ) (run : Run)
+    (mid to : Progress) (left middle rest : Option (List ℕ)) (runs : List OnsetRun) (i : ℕ)
+    (run : OnsetRun)
     (name : List ℕ) (lt : i < length runs) (is : run ≡ get_or runs i run)
     (named : i < length names) (is_name : name ≡ get_or names i name)
     (so_far : MakesEach a (take i names) l mid left middle (take i runs)) where
@@ -102,18 +140,28 @@ module _ (a b : Making) (known : b.known ≡ a.known) (before : b.before ≡ a.a
   at-run = record {
     front = take i runs;
     later = drop (i + 1) runs;
-    parts = sym (take-append-drop i runs) ∙ ap (λ (rs : List Run). take i runs ++ rs)
-        (drop_more runs i run lt ∙ ap (λ (r : Run). r ∷ drop (i + 1) runs) (sym is));
+    parts = sym (take-append-drop i runs) ∙ ap (λ (rs : List OnsetRun). take i runs ++ rs)
+        (drop_more runs i run lt ∙ ap (λ (r : OnsetRun). r ∷ drop (i + 1) runs) (sym is));
     nth_is = sym (length-take-le i runs (omega (arith, lt)));
     skips = skips-made a (take i names) l mid left middle (take i runs) so_far;
   }
 
+  -- the runs that go out, one more
+  pub outs-more : (records : List DataRecord) →
+      annotated_runs (so_far.parts ++ (records ∷ [])) (take (i + 1) runs)
+      ≡ annotated_runs so_far.parts (take i runs) ++ (annotated (kept_of run) records ∷ [])
+  outs-more records =
+      ap (annotated_runs (so_far.parts ++ (records ∷ []))) (take_more runs i run lt
+      ∙ ap (λ (r : OnsetRun). take i runs ++ (r ∷ [])) (sym is))
+      ∙ outgoing-more (IsKeptRun (duration_of l.key.duration)) so_far.parts (take i runs) records
+      run so_far.listed
+
   -- one file more
-  pub makes-more : MakesFile b name l mid to middle rest run →
+  pub makes-more : (written : Written) → MakesFile b name l mid to middle rest run written →
       MakesEach (then a b) (take (i + 1) names) l to left rest (take (i + 1) runs)
-  makes-more one = record {
+  makes-more written one = record {
     parts = so_far.parts ++ (one.records ∷ []);
-    listed = one-more (IsListed (duration_of l.key.duration)) so_far.parts runs i one.records run
+    listed = one-more (IsKeptRun (duration_of l.key.duration)) so_far.parts runs i one.records run
         lt is so_far.listed one.listed;
     read = subst (ReadsOn l at_first to left rest)
         (sym (joined_more so_far.parts one.records))
@@ -121,8 +169,90 @@ module _ (a b : Making) (known : b.known ≡ a.known) (before : b.before ≡ a.a
     files = so_far.files ++ (one.file ∷ []);
     made = more-made one.file one.made;
     named = names-more so_far.files one.file names i name named is_name one.named so_far.named;
-    held = both (HoldsRun a.known l.key) so_far.parts so_far.files one.records one.file so_far.held
-        (subst (λ known. HoldsRun known l.key one.records one.file) known one.held);
+    held = subst (λ (rs : List (List DataRecord)). AllZip (HoldsRun a.known l.key) rs
+        (so_far.files ++ (one.file ∷ []))) (sym (outs-more one.records))
+        (both (HoldsRun a.known l.key) (annotated_runs so_far.parts (take i runs)) so_far.files
+        (annotated (kept_of run) one.records) one.file so_far.held
+        (subst (λ known. HoldsRun known l.key (annotated (kept_of run) one.records) one.file) known
+        one.held));
+    unfailed = one.unfailed ∙ failed ∙ so_far.unfailed;
+  }
+
+  -- the line of its file
+  abbrev line_of_file : Written → (ℕ → List ℕ) → List ℕ
+  line_of_file written spell = name ++ (codes " "
+      ++ (run_front spell (duration_of l.key.duration) (i + 1) run.run
+      (slice_get (runs_of runs) (i + 1)) ++ counts_text written.annotations written.outside))
+
+  -- and their lines, one more
+  pub first-more : (text more : List ℕ) (written : Written) →
+      AreLinesOf (duration_of l.key.duration) names runs
+      (annotated_runs so_far.parts (take i runs)) text →
+      MakesFile b name l mid to middle rest run written →
+      ((spell : ℕ → List ℕ) → IsSpelling spell → more ≡ text ++ line_of_file written spell) →
+      MakesFirst (then a b) names l to left rest runs (i + 1) more
+  unfolding makes-more
+  first-more text more written lines one grows =
+      let d = duration_of l.key.duration in
+      let outs = annotated_runs so_far.parts (take i runs) in
+      let out = annotated (kept_of run) one.records in
+      let count : length outs ≡ i = outs-count (IsKeptRun d) so_far.parts (take i runs)
+      so_far.listed ∙ length-take-le i runs (omega (arith, lt)) in
+      let at_name : name ≡ get_or names (length outs) name =
+      subst (λ k. name ≡ get_or names k name) (sym count) is_name in
+      let at_run : run.run ≡ get_or (runs_of runs) (length outs) run.run =
+      subst (λ k. run.run ≡ get_or (runs_of runs) k run.run) (sym count)
+      (mapped runs i run lt is (λ (r : OnsetRun). r.run)) in
+      let all : length (runs_of runs) ≡ length runs = length-map runs (λ (r : OnsetRun). r.run) in
+      let place : i + 1 ≡ 1 + length outs = omega (arith, count) in
+      let after : i + 1 ≡ length outs + 1 = omega (arith, count) in
+      record {
+        each = makes-more written one;
+        lines = λ spell spelled.
+            let line : ℕ → ℕ → List ℕ = λ k n. name ++ (codes " " ++ counted_line spell d k run.run
+            (slice_get (runs_of runs) n) out) in
+            let told : line_of_file written spell ≡ line (i + 1) (i + 1) =
+            ap (λ (t : List ℕ). name ++ (codes " " ++ (run_front spell d (i + 1) run.run
+            (slice_get (runs_of runs) (i + 1)) ++ t)))
+            (counted-text d run.run out written.annotations written.outside one.counted) in
+            grows spell spelled
+            ∙ ap (λ (t : List ℕ). t ++ line_of_file written spell) (lines spell spelled)
+            ∙ ap (λ (t : List ℕ). split_lines spell d 1 names (runs_of runs) outs ++ t)
+            (told ∙ ap (λ k. line k (i + 1)) place ∙ ap (line (1 + length outs)) after)
+            ∙ sym (lines-more spell d 1 names (runs_of runs) outs out name run.run
+            (omega (arith, count, named)) (omega (arith, count, lt, all)) at_name at_run)
+            ∙ ap (split_lines spell d 1 names (runs_of runs)) (sym (outs-more one.records));
+      }
+
+  -- there was no memory for its line
+  pub stops-telling : (written : Written) → MakesFile b name l mid to middle rest run written →
+      HalfMakesEach (then a b) names l left rest runs fault.Memory
+  stops-telling written one = record {
+    is_why = tt;
+    nth = i;
+    stops = record {
+      run = run;
+      from = mid;
+      left = middle;
+      at_run = at-run;
+      to = to;
+      blank = None;
+      half = None;
+      unwritten = record {
+        records = one.records;
+        mid = to;
+        middle = rest;
+        read = one.read;
+        starts = starts-annotated (duration_of l.key.duration) run.run.first (kept_of run)
+            one.records one.listed.starts;
+        within = omega (arith, one.listed.count, annotated-length (kept_of run) one.records);
+        holds = one.listed.holds;
+        front = inl tt;
+        more = inl (refl, refl);
+      };
+      unchanged = λ next. memory-unchanged;
+    };
+    made = has-more one.file one.made one.named;
     unfailed = one.unfailed ∙ failed ∙ so_far.unfailed;
   }
 
@@ -187,19 +317,23 @@ module _ (a b : Making) (known : b.known ≡ a.known) (before : b.before ≡ a.a
 
 -- ---- no file yet
 
-pub makes-none : (m : Making) (l : Layout) (to : Progress) (left : Option (List ℕ)) →
-    to ≡ at_first → m.after ≡ m.before → m.failed_after ≡ m.failed_before →
-    MakesEach m [] l to left left []
-makes-none m l to left first made failed = record {
-  parts = [];
-  listed = tt;
-  read = subst (λ (p : Progress). ReadsOn l at_first p left left []) (sym first)
-      (none_read l at_first left (omega arith));
-  files = [];
-  made = made ∙ sym (append-nil m.before);
-  named = refl;
-  held = tt;
-  unfailed = failed;
+pub first-none : (m : Making) (names : List (List ℕ)) (l : Layout) (to : Progress)
+    (left : Option (List ℕ)) (runs : List OnsetRun) (text : List ℕ) → to ≡ at_first →
+    m.after ≡ m.before → m.failed_after ≡ m.failed_before → text ≡ [] →
+    MakesFirst m names l to left left runs 0 text
+first-none m names l to left runs text first made failed none = record {
+  each = record {
+    parts = [];
+    listed = tt;
+    read = subst (λ (p : Progress). ReadsOn l at_first p left left []) (sym first)
+        (none_read l at_first left (omega arith));
+    files = [];
+    made = made ∙ sym (append-nil m.before);
+    named = refl;
+    held = tt;
+    unfailed = failed;
+  };
+  lines = λ spell is. none;
 }
 
 -- ---- one file
@@ -216,7 +350,7 @@ filled before after file empty wrote =
     held-by file after (subst (λ (b : Option (List ℕ)). Appends b after file) empty wrote)
 
 module _ (m : Making) (name : List ℕ) (l : Layout) (from to : Progress)
-    (left rest : Option (List ℕ)) (run : Run) (blank half : Option (List ℕ))
+    (left rest : Option (List ℕ)) (run : OnsetRun) (blank half : Option (List ℕ))
     (reads reads' failures failures' : ℕ) (none : failures ≡ 0)
     (made : m.after ≡ m.before ++ (begun name ∷ []))
     (failed : m.failed_after ≡ failed_with m.failed_before failures') where
@@ -225,8 +359,9 @@ module _ (m : Making) (name : List ℕ) (l : Layout) (from to : Progress)
 
   -- a run that was not written to its end
   pub half-made : (met : WriteFault) (why : Stop) → IsStopOf met name why →
-      IsNotWritten l from to left rest blank half run met →
-      (ComesNext l from left run → met ≢ fault.Changed) → met ≢ fault.Undated →
+      IsNotWrittenByOnset l from to left rest blank half run.run (kept_of run) met →
+      (ComesByOnset l from left run.run (kept_of run) → met ≢ fault.Changed) →
+      met ≢ fault.Undated →
       CountsFault reads reads' failures failures' met →
       StopsFile m name l from to left rest run why
   half-made fault.Undated why is not same dated counts = absurd (dated refl)

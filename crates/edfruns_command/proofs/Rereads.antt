@@ -5,6 +5,7 @@ use Rattle.std.specs.List.{flat_map}
 use Rattle.std.specs.Io.KnownBytes.{Consumes}
 use Rattle.std.proofs.KnownBytes.{Consumes-trans}
 use Rattle.std.proofs.lemmas.List.{take_all}
+use Rattle.edf_field.specs.Number.{duration_of}
 use Rattle.edf_header.specs.Key.{Key}
 use Rattle.edf_header.specs.Header.{Layout}
 use Rattle.edf_fragment.specs.Fragment.{DataRecord}
@@ -18,14 +19,17 @@ use Rattle.edf_fragment.specs.Inside.Steps.{ReadsRecords}
 use Rattle.edf_fragment.proofs.Fragments.{fragment_read}
 use Rattle.edf_runs.specs.Again.{IsNotReopened}
 use Rattle.edf_runs.specs.Read.{ReadsOn}
-use Rattle.edf_runs.specs.declared.run_list.Listing.{Listing}
+use Rattle.edf_runs.specs.KeptByOnset.{annotated_runs}
+use Rattle.edf_runs.specs.declared.onset_run.OnsetRun.{OnsetRun}
+use Rattle.edf_runs.specs.declared.onset_listing.OnsetListing.{OnsetListing}
 use Rattle.edf_runs.specs.declared.fault.WriteFault.{WriteFault}
 use Rattle.edf_runs.specs.declared.fault.WriteFault.TheVariants as fault
 use Rattle.edfruns_command.specs.Writing.{ReadsAgain}
 use Rattle.edfruns_command.specs.Rereading.{IsOfReading, IsNoEnd, StopsRereading}
 use Rattle.edfruns_command.specs.Splitting.{Making}
-use Rattle.edfruns_command.specs.InsideMaking.{Ends, StopsAtEnd, MakesEach, RereadsAll, HasMade}
+use Rattle.edfruns_command.specs.InsideMaking.{Ends, StopsAtEnd, MakesEach, MakesFirst, HasMade}
 use Rattle.edfruns_command.specs.InsideMaking.{HalfRereads, HalfMakesEach, StopsEach, StopsMaking}
+use Rattle.edfruns_command.specs.InsideMaking.{RereadsAll, RereadsWith, AreLinesOf}
 use Rattle.edfruns_command.specs.declared.stop.Stop.{Stop}
 use Rattle.edfruns_command.specs.declared.stop.Stop.TheVariants as stop
 use Rattle.edfruns_command.proofs.MakingFiles.{skips-made}
@@ -39,9 +43,9 @@ made-none m names none = record {
   named = refl;
 }
 
-module _ (m : Making) (bytes : Option (List ℕ)) (listing : Listing) (names : List (List ℕ))
+module _ (m : Making) (bytes : Option (List ℕ)) (plan : OnsetListing) (names : List (List ℕ))
     (made : m.after ≡ m.before) (failed : m.failed_after ≡ m.failed_before) where
-  pub not-opened : HalfRereads m bytes listing names fault.Memory
+  pub not-opened : HalfRereads m bytes plan names fault.Memory
   not-opened = record {
     is_why = tt;
     count = 0;
@@ -59,9 +63,9 @@ module _ (m : Making) (bytes : Option (List ℕ)) (listing : Listing) (names : L
   of-reading rest key fault.Write not = absurd not
 
   pub not-reopened : (rest : Option (List ℕ)) (why : WriteFault) →
-      IsNotReopened bytes rest listing.identity why → HalfRereads m bytes listing names why
+      IsNotReopened bytes rest plan.identity why → HalfRereads m bytes plan names why
   not-reopened rest why not = record {
-    is_why = of-reading rest listing.identity why not;
+    is_why = of-reading rest plan.identity why not;
     count = 0;
     stops = inl (refl, inr (rest, not));
     made = made-none m names made;
@@ -70,11 +74,11 @@ module _ (m : Making) (bytes : Option (List ℕ)) (listing : Listing) (names : L
 
 -- ---- after the header
 
-module _ (m : Making) (bytes : Option (List ℕ)) (listing : Listing) (names : List (List ℕ))
-    (l : Layout) (start : Option (List ℕ)) (again : ReadsAgain bytes start listing l) where
+module _ (m : Making) (bytes : Option (List ℕ)) (plan : OnsetListing) (names : List (List ℕ))
+    (l : Layout) (start : Option (List ℕ)) (again : ReadsAgain bytes start plan.identity l) where
   pub stops-among : (rest : Option (List ℕ)) (why : WriteFault) →
-      HalfMakesEach m names l start rest listing.runs.items why →
-      HalfRereads m bytes listing names why
+      HalfMakesEach m names l start rest plan.runs.items why →
+      HalfRereads m bytes plan names why
   stops-among rest why half = record {
     is_why = half.is_why;
     count = half.nth + 1;
@@ -84,8 +88,8 @@ module _ (m : Making) (bytes : Option (List ℕ)) (listing : Listing) (names : L
   }
 
   pub stops-making : (rest : Option (List ℕ)) (why : Stop) →
-      StopsEach m names l start rest listing.runs.items why →
-      StopsMaking m bytes listing names why
+      StopsEach m names l start rest plan.runs.items why →
+      StopsMaking m bytes plan names why
   stops-making rest (stop.Reading why) half = stops-among rest why half
   stops-making rest (stop.Output output) lacks = (l, start, again, lacks)
 
@@ -102,13 +106,13 @@ module _ (m : Making) (bytes : Option (List ℕ)) (listing : Listing) (names : L
   no-end (Err refused.Failed) why is = subst IsOfReading (sym is) tt
 
   module _ (mid to : Progress) (left rest : Option (List ℕ)) (fit : length names
-      ≡ length listing.runs.items)
-      (makes : MakesEach m names l mid start left listing.runs.items) where
+      ≡ length plan.runs.items)
+      (makes : MakesEach m names l mid start left plan.runs.items) where
     pub stops-after : (why : WriteFault) → StopsAtEnd l mid to left rest why →
-        HalfRereads m bytes listing names why
+        HalfRereads m bytes plan names why
     stops-after why stop = record {
       is_why = no-end stop.answer why stop.is_why;
-      count = length listing.runs.items;
+      count = length plan.runs.items;
       stops = inr (
         l,
         start,
@@ -119,7 +123,7 @@ module _ (m : Making) (bytes : Option (List ℕ)) (listing : Listing) (names : L
           record {
             from = mid;
             left = left;
-            skips = skips-made m names l mid start left listing.runs.items makes;
+            skips = skips-made m names l mid start left plan.runs.items makes;
             to = to;
             answer = stop.answer;
             is_answer = stop.is_answer;
@@ -131,7 +135,7 @@ module _ (m : Making) (bytes : Option (List ℕ)) (listing : Listing) (names : L
         files = makes.files;
         made = makes.made;
         named = makes.named
-            ∙ sym (take_all (length listing.runs.items) names (omega (arith, fit)));
+            ∙ sym (take_all (length plan.runs.items) names (omega (arith, fit)));
       };
       unfailed = makes.unfailed;
     }
@@ -161,19 +165,49 @@ module _ (m : Making) (bytes : Option (List ℕ)) (listing : Listing) (names : L
           most = omega (arith, end.most, on.given);
         }
 
-    pub rereads-all : Ends l mid to left rest → RereadsAll m bytes listing names
+    pub rereads-all : Ends l mid to left rest → RereadsAll m bytes plan names
     rereads-all ends = record {
-      layout = l;
-      records = records;
-      rest = rest;
-      read = fragment_read bytes start rest l records again.header (reads-records ends);
-      same = again.same;
-      parts = makes.parts;
-      joined = refl;
-      listed = makes.listed;
+      again = record {
+        layout = l;
+        records = records;
+        rest = rest;
+        read = fragment_read bytes start rest l records again.header (reads-records ends);
+        same = again.same;
+        parts = makes.parts;
+        joined = refl;
+        listed = makes.listed;
+      };
       files = makes.files;
       made = makes.made;
       named = makes.named;
       held = makes.held;
       unfailed = makes.unfailed;
     }
+
+    pub rereads-with : (text : List ℕ) → Ends l mid to left rest →
+        AreLinesOf (duration_of l.key.duration) names plan.runs.items
+        (annotated_runs makes.parts plan.runs.items) text → RereadsWith m bytes plan names text
+    unfolding rereads-all
+    rereads-with text ends lines = (
+      rereads-all ends,
+      subst (λ (k : Key). AreLinesOf (duration_of k.duration) names plan.runs.items
+          (annotated_runs makes.parts plan.runs.items) text) again.same lines,
+    )
+
+-- ---- all of the runs
+
+-- all files with their lines, where so many are all
+pub all-made : (m : Making) (names : List (List ℕ)) (l : Layout) (to : Progress)
+    (left rest : Option (List ℕ)) (runs : List OnsetRun) (text : List ℕ) → length names ≡ length runs →
+    MakesFirst m names l to left rest runs (length runs) text →
+    (each : MakesEach m names l to left rest runs)
+    × AreLinesOf (duration_of l.key.duration) names runs (annotated_runs each.parts runs) text
+all-made m names l to left rest runs text fit made =
+    let rs : take (length runs) runs ≡ runs = take_all (length runs) runs (omega arith) in
+    let ns : take (length runs) names ≡ names = take_all (length runs) names (omega (arith, fit)) in
+    let Goes : List OnsetRun → List (List ℕ) → Type 0 = λ some those.
+    (each : MakesEach m those l to left rest some)
+    × AreLinesOf (duration_of l.key.duration) names runs (annotated_runs each.parts some) text in
+    subst (λ (some : List OnsetRun). Goes some names) rs
+    (subst (λ (those : List (List ℕ)). Goes (take (length runs) runs) those) ns
+    (made.each, made.lines))

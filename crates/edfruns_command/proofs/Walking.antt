@@ -34,28 +34,3 @@ pub asked-so : (b : Bool) (o asked : Option Bool) → asked ≡ o → IfSome ask
     IfSome o (λ c. c ≡ b)
 asked-so b o asked e some = turned b o
     (subst (λ (p : Option Bool). IfSome p (λ c. b ≡ c)) e some)
-
--- ---- lines whose labels agree
-
-pub same-labels : (spell : ℕ → List ℕ) (d : ℕ) (f h : ℕ → List ℕ) (number : ℕ)
-    (runs : List Run) → ((k : ℕ) → k < length runs → f (number + k) ≡ h (number + k)) →
-    run_lines spell d f number runs ≡ run_lines spell d h number runs
-same-labels spell d f h number [] same = refl
-same-labels spell d f h number (r ∷ rs) same =
-    let here : f number ≡ h number =
-    subst (λ n. f n ≡ h n) (omega arith) (same 0 (omega arith)) in
-    let later = same-labels spell d f h (number + 1) rs
-    (λ k lt. subst (λ n. f n ≡ h n) (omega arith) (same (k + 1) (omega (arith, lt)))) in
-    let line = run_line spell d number r (slice_get rs 0) in
-    ap (λ (t : List ℕ). t ++ (line ++ run_lines spell d f (number + 1) rs)) here
-    ∙ ap (λ (t : List ℕ). h number ++ (line ++ t)) later
-
-pub labels-of : (name : ℕ → List ℕ) (n k : ℕ) → k < n →
-    label_in (map name (range_with_len 1 n)) (1 + k) ≡ name (1 + k) ++ codes " "
-labels-of name n k lt =
-    let names = map name (range_with_len 1 n) in
-    let at : (1 + k) - 1 ≡ k = omega arith in
-    let within : k < length names = omega (arith, lt, length-map-range_with_len name 1 n) in
-    ap label_text (ap (slice_get names) at ∙ slice_get-get_or names k [] within
-    ∙ ap (λ (t : List ℕ). Some t)
-    (get_or-map-range_with_len name 1 n k (1 + k) [] lt (omega arith)))

@@ -10,19 +10,24 @@ use Rattle.edf_fragment.specs.Reading.{IsAnswer, at_first}
 use Rattle.edf_fragment.specs.Whole.{ReadsFragment}
 use Rattle.edf_fragment.specs.declared.advance.Progress.{Progress}
 use Rattle.edf_fragment.specs.declared.fault.FragmentFault.{FragmentFault}
-use Rattle.edf_runs.specs.Again.{ComesNext}
+use Rattle.edf_runs.specs.AsRead.{runs_of}
+use Rattle.edf_runs.specs.Counted.{AreCounted}
+use Rattle.edf_runs.specs.KeptByOnset.{annotated_runs}
+use Rattle.edf_runs.specs.OnsetRead.{kept_of}
 use Rattle.edf_runs.specs.Read.{ReadsOn}
-use Rattle.edf_runs.specs.Runs.{IsListed}
-use Rattle.edf_runs.specs.Written.{IsNotWritten}
-use Rattle.edf_runs.specs.declared.run.Run.{Run}
-use Rattle.edf_runs.specs.declared.run_list.Listing.{Listing}
+use Rattle.edf_runs.specs.WrittenByOnset.{annotated, ComesByOnset, IsNotWrittenByOnset}
+use Rattle.edf_runs.specs.declared.written.Written.{Written}
+use Rattle.edf_runs.specs.declared.onset_run.OnsetRun.{OnsetRun}
+use Rattle.edf_runs.specs.declared.onset_listing.OnsetListing.{OnsetListing}
 use Rattle.edf_runs.specs.declared.fault.WriteFault.{WriteFault}
 use Rattle.edf_runs.specs.declared.fault.WriteFault.TheVariants as fault
 use Rattle.edfruns_command.specs.Made.{MadeFile, begun, names_of}
 use Rattle.edfruns_command.specs.Writing.{ReadsAgain}
 use Rattle.edfruns_command.specs.Rereading.{IsOfReading, IsNoEnd, StopsAmong, StopsRereading}
 use Rattle.edfruns_command.specs.Rereading.{ComesToOutput}
-use Rattle.edfruns_command.specs.Splitting.{Making, HoldsRun}
+use Rattle.edfruns_command.specs.Splitting.{Making, HoldsRun, IsKeptRun, lines_of}
+use Rattle.edfruns_command.specs.Lines.{IsSpelling}
+use Rattle.edfruns_command.specs.Counting.{split_lines}
 use Rattle.edfruns_command.specs.declared.stop.Stop.{Stop}
 use Rattle.edfruns_command.specs.declared.stop.Stop.TheVariants as stop
 
@@ -39,26 +44,28 @@ pub record StopsAtEnd (l : Layout) (from to : Progress) (left rest : Option (Lis
 
 -- ---- one file
 
--- it was made, of the run whose data records were read
+-- it was made, of the run whose data records were read, with what was kept of them
 pub record MakesFile (m : Making) (name : List ℕ) (l : Layout) (from to : Progress)
-    (left rest : Option (List ℕ)) (run : Run) : Type 0 where
+    (left rest : Option (List ℕ)) (run : OnsetRun) (written : Written) : Type 0 where
   pub records : List DataRecord
   pub read : ReadsOn l from to left rest records
-  pub listed : IsListed (duration_of l.key.duration) records run
+  pub listed : IsKeptRun (duration_of l.key.duration) records run
+  pub counted : AreCounted (duration_of l.key.duration) run.run (annotated (kept_of run) records)
+      written.annotations written.outside
   pub file : MadeFile
   pub made : m.after ≡ m.before ++ (file ∷ [])
   pub named : file.name ≡ name
-  pub held : HoldsRun m.known l.key records file
+  pub held : HoldsRun m.known l.key (annotated (kept_of run) records) file
   pub unfailed : m.failed_after ≡ m.failed_before
 
 -- it was begun, but the run could not be read to its end
 pub record HalfMakes (m : Making) (name : List ℕ) (l : Layout) (from to : Progress)
-    (left rest : Option (List ℕ)) (run : Run) (why : WriteFault) : Type 0 where
+    (left rest : Option (List ℕ)) (run : OnsetRun) (why : WriteFault) : Type 0 where
   pub is_why : IsOfReading why
   pub blank : Option (List ℕ)
   pub half : Option (List ℕ)
-  pub unwritten : IsNotWritten l from to left rest blank half run why
-  pub unchanged : ComesNext l from left run → why ≢ fault.Changed
+  pub unwritten : IsNotWrittenByOnset l from to left rest blank half run.run (kept_of run) why
+  pub unchanged : ComesByOnset l from left run.run (kept_of run) → why ≢ fault.Changed
   pub made : m.after ≡ m.before ++ (begun name ∷ [])
   pub unfailed : m.failed_after ≡ m.failed_before
 
@@ -76,7 +83,7 @@ pub record LacksFile (m : Making) (name output : List ℕ) : Type 0 where
   pub failed : m.failed_after ≡ one_more m.failed_before
 
 abbrev pub StopsFile : Making → List ℕ → Layout → Progress → Progress → Option (List ℕ) →
-    Option (List ℕ) → Run → Stop → Type 0
+    Option (List ℕ) → OnsetRun → Stop → Type 0
 StopsFile m name l from to left rest run (stop.Reading why) =
     HalfMakes m name l from to left rest run why
 StopsFile m name l from to left rest run (stop.Output output) = LacksFile m name output.now
@@ -91,19 +98,33 @@ pub record HasMade (m : Making) (names : List (List ℕ)) : Type 0 where
 
 -- of each of the runs one of these names was made, and their data records were read
 pub record MakesEach (m : Making) (names : List (List ℕ)) (l : Layout) (to : Progress)
-    (left rest : Option (List ℕ)) (runs : List Run) : Type 0 where
+    (left rest : Option (List ℕ)) (runs : List OnsetRun) : Type 0 where
   pub parts : List (List DataRecord)
-  pub listed : AllZip (IsListed (duration_of l.key.duration)) parts runs
+  pub listed : AllZip (IsKeptRun (duration_of l.key.duration)) parts runs
   pub read : ReadsOn l at_first to left rest (flat_map (λ part. part) parts)
   pub files : List MadeFile
   pub made : m.after ≡ m.before ++ files
   pub named : names_of files ≡ names
-  pub held : AllZip (HoldsRun m.known l.key) parts files
+  pub held : AllZip (HoldsRun m.known l.key) (annotated_runs parts runs) files
   pub unfailed : m.failed_after ≡ m.failed_before
+
+-- the text is the lines of such files, the first of all runs
+abbrev pub AreLinesOf : ℕ → List (List ℕ) → List OnsetRun → List (List DataRecord) → List ℕ →
+    Type 0
+AreLinesOf d names runs files text = (spell : ℕ → List ℕ) → IsSpelling spell →
+    text ≡ split_lines spell d 1 names (runs_of runs) files
+
+-- so many of the files were made, and these are their lines
+pub record MakesFirst (m : Making) (names : List (List ℕ)) (l : Layout) (to : Progress)
+    (left rest : Option (List ℕ)) (runs : List OnsetRun) (count : ℕ) (text : List ℕ) : Type 0
+  where
+    pub each : MakesEach m (take count names) l to left rest (take count runs)
+    pub lines : AreLinesOf (duration_of l.key.duration) names runs
+        (annotated_runs each.parts (take count runs)) text
 
 -- one was not, or not whole
 pub record HalfMakesEach (m : Making) (names : List (List ℕ)) (l : Layout)
-    (left rest : Option (List ℕ)) (runs : List Run) (why : WriteFault) : Type 0 where
+    (left rest : Option (List ℕ)) (runs : List OnsetRun) (why : WriteFault) : Type 0 where
   pub is_why : IsOfReading why
   pub nth : ℕ
   pub stops : StopsAmong l left rest runs nth why
@@ -111,14 +132,14 @@ pub record HalfMakesEach (m : Making) (names : List (List ℕ)) (l : Layout)
   pub unfailed : m.failed_after ≡ m.failed_before
 
 pub record LacksOneOf (m : Making) (names : List (List ℕ)) (l : Layout) (left : Option (List ℕ))
-    (runs : List Run) (output : List ℕ) : Type 0 where
+    (runs : List OnsetRun) (output : List ℕ) : Type 0 where
   pub count : ℕ
   pub comes : ComesToOutput l left runs names count output
   pub made : HasMade m (take count names)
   pub failed : m.failed_after ≡ one_more m.failed_before
 
 abbrev pub StopsEach : Making → List (List ℕ) → Layout → Option (List ℕ) → Option (List ℕ) →
-    List Run → Stop → Type 0
+    List OnsetRun → Stop → Type 0
 StopsEach m names l left rest runs (stop.Reading why) =
     HalfMakesEach m names l left rest runs why
 StopsEach m names l left rest runs (stop.Output output) =
@@ -126,33 +147,44 @@ StopsEach m names l left rest runs (stop.Output output) =
 
 -- ---- the second reading, from the file's first byte on
 
--- it was read to its end, and files were made of all runs
-pub record RereadsAll (m : Making) (bytes : Option (List ℕ)) (listing : Listing)
-    (names : List (List ℕ)) : Type 0 where
+-- it was read to its end, and has such runs
+pub record RereadsParts (bytes : Option (List ℕ)) (plan : OnsetListing) : Type 0 where
   pub layout : Layout
   pub records : List DataRecord
   pub rest : Option (List ℕ)
   pub read : ReadsFragment bytes rest layout records
-  pub same : layout.key ≡ listing.identity
+  pub same : layout.key ≡ plan.identity
   pub parts : List (List DataRecord)
   pub joined : flat_map (λ part. part) parts ≡ records
-  pub listed : AllZip (IsListed (duration_of layout.key.duration)) parts listing.runs.items
+  pub listed : AllZip (IsKeptRun (duration_of layout.key.duration)) parts plan.runs.items
+
+-- and files were made of all of them
+pub record RereadsAll (m : Making) (bytes : Option (List ℕ)) (plan : OnsetListing)
+    (names : List (List ℕ)) : Type 0 where
+  pub again : RereadsParts bytes plan
   pub files : List MadeFile
   pub made : m.after ≡ m.before ++ files
   pub named : names_of files ≡ names
-  pub held : AllZip (HoldsRun m.known layout.key) parts files
+  pub held : AllZip (HoldsRun m.known again.layout.key)
+      (annotated_runs again.parts plan.runs.items) files
   pub unfailed : m.failed_after ≡ m.failed_before
 
-pub record HalfRereads (m : Making) (bytes : Option (List ℕ)) (listing : Listing)
+-- with their lines
+abbrev pub RereadsWith : Making → Option (List ℕ) → OnsetListing → List (List ℕ) → List ℕ → Type 0
+RereadsWith m bytes plan names text = (all : RereadsAll m bytes plan names)
+    × ((spell : ℕ → List ℕ) → IsSpelling spell →
+    text ≡ lines_of spell plan names all.again.parts)
+
+pub record HalfRereads (m : Making) (bytes : Option (List ℕ)) (plan : OnsetListing)
     (names : List (List ℕ)) (why : WriteFault) : Type 0 where
   pub is_why : IsOfReading why
   pub count : ℕ
-  pub stops : StopsRereading bytes listing count why
+  pub stops : StopsRereading bytes plan count why
   pub made : HasMade m (take count names)
   pub unfailed : m.failed_after ≡ m.failed_before
 
-abbrev pub StopsMaking : Making → Option (List ℕ) → Listing → List (List ℕ) → Stop → Type 0
-StopsMaking m bytes listing names (stop.Reading why) = HalfRereads m bytes listing names why
-StopsMaking m bytes listing names (stop.Output output) =
-    (l : Layout) × (start : Option (List ℕ)) × ReadsAgain bytes start listing l
-    × LacksOneOf m names l start listing.runs.items output.now
+abbrev pub StopsMaking : Making → Option (List ℕ) → OnsetListing → List (List ℕ) → Stop → Type 0
+StopsMaking m bytes plan names (stop.Reading why) = HalfRereads m bytes plan names why
+StopsMaking m bytes plan names (stop.Output output) =
+    (l : Layout) × (start : Option (List ℕ)) × ReadsAgain bytes start plan.identity l
+    × LacksOneOf m names l start plan.runs.items output.now

@@ -7,22 +7,18 @@ use Rattle.edf_header.specs.Key.{MayStart}
 use Rattle.edf_program.specs.Output.{Growth, Gets, GetsFront, IsPut, IsWritten}
 use Rattle.edf_program.specs.declared.status.Status.{Status}
 use Rattle.edf_program.specs.declared.status.Status.TheVariants.{Done, Trouble}
-use Rattle.edf_runs.specs.declared.run.Run.{Run}
-use Rattle.edf_runs.specs.declared.run_list.Listing.{Listing}
-use Rattle.edfruns_command.specs.Naming.{asked_names}
-use Rattle.edfruns_command.specs.Lines.{IsSpelling, split_lines, reread_line, unwritten_line}
-use Rattle.edfruns_command.specs.Made.{MadeFile, IsFree, MayBeThere, IsOver, left_text, names_of}
-use Rattle.edfruns_command.specs.Splitting.{Making, LacksLines, LacksOutput, LacksReading}
-use Rattle.edfruns_command.specs.InsideMaking.{RereadsAll}
+use Rattle.edf_runs.specs.declared.onset_run.OnsetRun.{OnsetRun}
+use Rattle.edf_runs.specs.declared.onset_listing.OnsetListing.{OnsetListing}
+use Rattle.edfruns_command.specs.Lines.{IsSpelling, reread_line, unwritten_line}
+use Rattle.edfruns_command.specs.Lines.{standard_output}
+use Rattle.edfruns_command.specs.Made.{MadeFile, IsFree, MayBeThere, IsOver, RemovesMade}
+use Rattle.edfruns_command.specs.Made.{left_text, names_of}
+use Rattle.edfruns_command.specs.Splitting.{Making, LacksOutput, LacksReading, lines_of}
+use Rattle.edfruns_command.specs.InsideMaking.{RereadsParts, RereadsAll}
 use Rattle.edfruns_command.specs.declared.stop.Stop.{Stop}
 use Rattle.edfruns_command.specs.declared.stop.Stop.TheVariants as stop
 
 -- ---- before a file is made
-
--- these are the names that are asked for, and the lines of the runs
-pub record IsPlan (asked : List (List ℕ)) (text prefix : List ℕ) (listing : Listing) : Type 0 where
-  pub asks : asked ≡ asked_names prefix (length listing.runs.items)
-  pub lines : (spell : ℕ → List ℕ) → IsSpelling spell → text ≡ split_lines spell prefix listing
 
 -- of some names this one may be taken, and none before it is
 pub record IsTaken (there : List ℕ → Option Bool) (names : List (List ℕ)) (found : List ℕ) : Type 0
@@ -34,13 +30,13 @@ pub record IsTaken (there : List ℕ → Option Bool) (names : List (List ℕ)) 
     pub taken : MayBeThere there found
 
 -- the run of this number is the first whose start no header can name
-pub record IsUndated (listing : Listing) (number : ℕ) : Type 0 where
-  pub front : List Run
-  pub run : Run
-  pub later : List Run
-  pub parts : listing.runs.items ≡ front ++ (run ∷ later)
-  pub dated : All (λ (earlier : Run). MayStart listing.identity earlier.first) front
-  pub undated : ¬ MayStart listing.identity run.first
+pub record IsUndated (plan : OnsetListing) (number : ℕ) : Type 0 where
+  pub front : List OnsetRun
+  pub run : OnsetRun
+  pub later : List OnsetRun
+  pub parts : plan.runs.items ≡ front ++ (run ∷ later)
+  pub dated : All (λ (earlier : OnsetRun). MayStart plan.identity earlier.run.first) front
+  pub undated : ¬ MayStart plan.identity run.run.first
   pub number_is : number ≡ length front + 1
 
 -- ---- what is said, and what is removed
@@ -75,10 +71,21 @@ pub record RemovesFrom (first : ℕ) (old new : List MadeFile) (err : Growth) (t
 
 -- ---- all of it, where nothing was there of the names
 
-abbrev pub SplitsListed : Making → Growth → Growth → Option (List ℕ) → List ℕ → Listing →
-    List (List ℕ) → List ℕ → Status → Type 0
-SplitsListed m out err bytes name listing names text status =
-    (RereadsAll m bytes listing names × Gets out text × Gets err [] × (status ≡ Done))
-    ⊎ ((GetsFront out text × LacksLines m bytes listing names err status)
-    ⊎ (LacksOutput m bytes listing names out err status
-    ⊎ LacksReading m bytes listing names out err name status))
+-- all were made, but the lines could not be written whole
+pub record CutsLines (m : Making) (out err : Growth) (bytes : Option (List ℕ))
+    (plan : OnsetListing) (names : List (List ℕ)) (status : Status) : Type 0 where
+  pub again : RereadsParts bytes plan
+  pub said : (spell : ℕ → List ℕ) → IsSpelling spell →
+      GetsFront out (lines_of spell plan names again.parts)
+  pub unfailed : m.failed_after ≡ m.failed_before
+  pub removes : RemovesMade m.before m.after err names (length plan.runs.items)
+      (unwritten_line standard_output) status
+
+abbrev pub SplitsListed : Making → Growth → Growth → Option (List ℕ) → List ℕ → OnsetListing →
+    List (List ℕ) → Status → Type 0
+SplitsListed m out err bytes name plan names status =
+    ((all : RereadsAll m bytes plan names) × ((spell : ℕ → List ℕ) → IsSpelling spell →
+    Gets out (lines_of spell plan names all.again.parts)) × Gets err [] × (status ≡ Done))
+    ⊎ (CutsLines m out err bytes plan names status
+    ⊎ (LacksOutput m bytes plan names out err status
+    ⊎ LacksReading m bytes plan names out err name status))

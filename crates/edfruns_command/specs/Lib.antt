@@ -5,6 +5,8 @@ pub mod Joining
 pub mod Made
 pub mod Listing
 pub mod Listed
+pub mod Counting
+pub mod Planning
 pub mod Writing
 pub mod Canonical
 pub mod Rereading

@@ -1,5 +1,5 @@
 -- The lines that the program writes: functions of names, runs and faults. A line ends with byte 10.
-use Rattle.std.specs.Prelude.{ℕ, ◌+◌, ◌-◌, ◌<◌, List, [], ◌∷◌, ◌++◌, length, codes, decimal, Option}
+use Rattle.std.specs.Prelude.{ℕ, ◌+◌, ◌-◌, ◌<◌, List, [], ◌∷◌, ◌++◌, codes, decimal, Option}
 use Rattle.std.specs.Prelude.{Some, None, slice_get}
 use Rattle.edf_time.specs.Civil.{window, IsInstantText}
 use Rattle.edf_time.specs.Decimal.{short}
@@ -15,7 +15,6 @@ use Rattle.edf_runs.specs.declared.run.Run.{Run}
 use Rattle.edf_runs.specs.declared.run_list.Listing.{Listing}
 use Rattle.edf_runs.specs.declared.fault.WriteFault.{WriteFault}
 use Rattle.edf_runs.specs.declared.fault.WriteFault.TheVariants as run
-use Rattle.edfruns_command.specs.Naming.{run_name}
 
 -- how instants are written: each of the window by its text, of which it has one by a law
 abbrev pub IsSpelling : (ℕ → List ℕ) → Type 0
@@ -45,12 +44,6 @@ run_lines spell d label number [] = []
 run_lines spell d label number (r ∷ rs) = label number
     ++ (run_line spell d number r (slice_get rs 0) ++ run_lines spell d label (number + 1) rs)
 
--- of `split`: each after the name of its file and a space
-abbrev pub split_lines : (ℕ → List ℕ) → List ℕ → Listing → List ℕ
-split_lines spell prefix listing =
-    let width = length (decimal (length listing.runs.items)) in
-    run_lines spell (duration_of listing.identity.duration)
-    (λ number. run_name prefix width number ++ codes " ") 1 listing.runs.items
 
 -- ---- why something is not done
 
@@ -69,6 +62,10 @@ no_run_line number = codes "no run " ++ (decimal number ++ (10 ∷ []))
 abbrev pub undated_line : ℕ → List ℕ
 undated_line number = codes "run " ++ (decimal number
     ++ codes " starts after 2084, which a file without a date can't tell\n")
+
+abbrev pub crowded_line : ℕ → List ℕ
+crowded_line number = codes "run " ++ (decimal number
+    ++ codes " would have too many annotations in a data record\n")
 
 abbrev pub unread_line : List ℕ → List ℕ
 unread_line name = refused_line name (fragment_fault_number fragment.Read)

@@ -6,10 +6,12 @@ use Rattle.edf_fragment.specs.Fragment.{DataRecord}
 use Rattle.edf_fragment.specs.Reading.{IsAnswer}
 use Rattle.edf_fragment.specs.declared.advance.Progress.{Progress}
 use Rattle.edf_fragment.specs.declared.fault.FragmentFault.{FragmentFault}
-use Rattle.edf_runs.specs.Again.{IsNotReopened, ComesNext, fault_again}
-use Rattle.edf_runs.specs.Written.{IsNotWritten}
-use Rattle.edf_runs.specs.declared.run.Run.{Run}
-use Rattle.edf_runs.specs.declared.run_list.Listing.{Listing}
+use Rattle.edf_runs.specs.Again.{IsNotReopened, fault_again}
+use Rattle.edf_runs.specs.AsRead.{runs_of}
+use Rattle.edf_runs.specs.OnsetRead.{kept_of}
+use Rattle.edf_runs.specs.WrittenByOnset.{ComesByOnset, IsNotWrittenByOnset}
+use Rattle.edf_runs.specs.declared.onset_run.OnsetRun.{OnsetRun}
+use Rattle.edf_runs.specs.declared.onset_listing.OnsetListing.{OnsetListing}
 use Rattle.edf_runs.specs.declared.fault.WriteFault.{WriteFault}
 use Rattle.edf_runs.specs.declared.fault.WriteFault.TheVariants as fault
 use Rattle.edfruns_command.specs.Writing.{SkipsRuns, ReadsAgain}
@@ -23,26 +25,26 @@ IsOfReading fault.Memory = Unit {0}
 IsOfReading fault.Write = ⊥
 
 -- after the header just the data records of the runs before this one were read, which are so many
-pub record IsAtRun (l : Layout) (from : Progress) (start left : Option (List ℕ)) (runs : List Run)
-    (nth : ℕ) (run : Run) : Type 0 where
-  pub front : List Run
-  pub later : List Run
+pub record IsAtRun (l : Layout) (from : Progress) (start left : Option (List ℕ)) (runs : List OnsetRun)
+    (nth : ℕ) (run : OnsetRun) : Type 0 where
+  pub front : List OnsetRun
+  pub later : List OnsetRun
   pub parts : runs ≡ front ++ (run ∷ later)
   pub nth_is : nth ≡ length front
-  pub skips : SkipsRuns l from start left front
+  pub skips : SkipsRuns l from start left (runs_of front)
 
 -- it stopped in the run after so many, and nothing changed where this one comes next
-pub record StopsAmong (l : Layout) (start rest : Option (List ℕ)) (runs : List Run) (nth : ℕ)
+pub record StopsAmong (l : Layout) (start rest : Option (List ℕ)) (runs : List OnsetRun) (nth : ℕ)
     (why : WriteFault) : Type 0 where
-  pub run : Run
+  pub run : OnsetRun
   pub from : Progress
   pub left : Option (List ℕ)
   pub at_run : IsAtRun l from start left runs nth run
   pub to : Progress
   pub blank : Option (List ℕ)
   pub half : Option (List ℕ)
-  pub unwritten : IsNotWritten l from to left rest blank half run why
-  pub unchanged : ComesNext l from left run → why ≢ fault.Changed
+  pub unwritten : IsNotWrittenByOnset l from to left rest blank half run.run (kept_of run) why
+  pub unchanged : ComesByOnset l from left run.run (kept_of run) → why ≢ fault.Changed
 
 -- an answer after all runs that is not the end
 abbrev pub IsNoEnd : Result (Option DataRecord) FragmentFault → WriteFault → Type 0
@@ -51,11 +53,11 @@ IsNoEnd (Ok None) why = ⊥
 IsNoEnd (Err refused) why = why ≡ fault_again refused
 
 -- it stopped after all runs
-pub record StopsAfter (l : Layout) (start rest : Option (List ℕ)) (runs : List Run)
+pub record StopsAfter (l : Layout) (start rest : Option (List ℕ)) (runs : List OnsetRun)
     (why : WriteFault) : Type 0 where
   pub from : Progress
   pub left : Option (List ℕ)
-  pub skips : SkipsRuns l from start left runs
+  pub skips : SkipsRuns l from start left (runs_of runs)
   pub to : Progress
   pub answer : Result (Option DataRecord) FragmentFault
   pub is_answer : IsAnswer l from to left rest answer
@@ -63,28 +65,28 @@ pub record StopsAfter (l : Layout) (start rest : Option (List ℕ)) (runs : List
 
 -- after the header it stopped, when so many files were made: that of a run is made before the run
 -- is read
-abbrev pub StopsAtRuns : Layout → Option (List ℕ) → Option (List ℕ) → List Run → ℕ → WriteFault →
+abbrev pub StopsAtRuns : Layout → Option (List ℕ) → Option (List ℕ) → List OnsetRun → ℕ → WriteFault →
     Type 0
 StopsAtRuns l start rest runs count why =
     ((nth : ℕ) × (count ≡ nth + 1) × StopsAmong l start rest runs nth why)
     ⊎ ((count ≡ length runs) × StopsAfter l start rest runs why)
 
 -- it stopped: before a data record was read, where no file was made, or later
-abbrev pub StopsRereading : Option (List ℕ) → Listing → ℕ → WriteFault → Type 0
-StopsRereading bytes listing count why =
+abbrev pub StopsRereading : Option (List ℕ) → OnsetListing → ℕ → WriteFault → Type 0
+StopsRereading bytes plan count why =
     ((count ≡ 0) × ((why ≡ fault.Memory)
-    ⊎ ((rest : Option (List ℕ)) × IsNotReopened bytes rest listing.identity why)))
+    ⊎ ((rest : Option (List ℕ)) × IsNotReopened bytes rest plan.identity why)))
     ⊎ ((l : Layout) × (start : Option (List ℕ)) × (rest : Option (List ℕ))
-    × ReadsAgain bytes start listing l × StopsAtRuns l start rest listing.runs.items count why)
+    × ReadsAgain bytes start plan.identity l × StopsAtRuns l start rest plan.runs.items count why)
 
 -- it came to the run whose file has this name, when so many files were made: that one, or those
 -- before it
-pub record ComesToOutput (l : Layout) (start : Option (List ℕ)) (runs : List Run)
+pub record ComesToOutput (l : Layout) (start : Option (List ℕ)) (runs : List OnsetRun)
     (names : List (List ℕ)) (count : ℕ) (output : List ℕ) : Type 0 where
   pub from : Progress
   pub left : Option (List ℕ)
   pub nth : ℕ
-  pub run : Run
+  pub run : OnsetRun
   pub at_run : IsAtRun l from start left runs nth run
   pub is_output : slice_get names nth ≡ Some output
   pub made : (count ≡ nth) ⊎ (count ≡ nth + 1)

@@ -1,5 +1,5 @@
 -- What a command does: what it writes, the status that it answers, and which files it opens.
-use Rattle.std.specs.Prelude.{ℕ, List, Option, map, string_bytes}
+use Rattle.std.specs.Prelude.{ℕ, Bool, List, Option, map, string_bytes}
 use Rattle.edf_program.specs.Output.{Growth}
 use Rattle.edf_program.specs.declared.status.Status.{Status}
 use Rattle.edfruns_command.specs.Listed.{IsListOut, OpensEach}
@@ -12,43 +12,44 @@ use Rattle.edfruns_command.specs.declared.runs_command.RunsCommand.{RunsCommand}
 use Rattle.edfruns_command.specs.declared.runs_command.RunsCommand.TheVariants as parsed
 
 -- what can be asked for, with the values: the files' texts, the tolerance in nanoseconds, the run's
--- number, the prefix's text
+-- number, the prefix's text, and whether annotations are to be where their onsets are
 pub data Asked : Type 0 where
   list : List (List ℕ) → Option ℕ → Asked
-  write : List ℕ → ℕ → Asked
+  write : List ℕ → ℕ → Bool → Asked
   canonical : List ℕ → Asked
-  split : List ℕ → List ℕ → Asked
+  split : List ℕ → List ℕ → Bool → Asked
   picture : List ℕ → Asked
 
 -- what a command asks for
 abbrev pub meaning : RunsCommand → Asked
 meaning (parsed.List files tolerance) = list (map string_bytes files.items) tolerance
-meaning (parsed.Write file number) = write (string_bytes file) number
+meaning (parsed.Write file number by_onset) = write (string_bytes file) number by_onset
 meaning (parsed.Canonical file) = canonical (string_bytes file)
-meaning (parsed.Split file prefix) = split (string_bytes file) (string_bytes prefix)
+meaning (parsed.Split file prefix by_onset) =
+    split (string_bytes file) (string_bytes prefix) by_onset
 meaning (parsed.Picture file tolerance) = picture (string_bytes file)
 
 -- by the bytes that names stand for, what makes files and the two writers
 abbrev pub IsDone : (List ℕ → Option (List ℕ)) → Making → Growth → Growth → Asked → Status → Type 0
 IsDone bytes made out err (list files tolerance) status =
     IsListOut bytes out err tolerance files status
-IsDone bytes made out err (write file number) status =
-    IsRunOut out err (bytes file) file number status
+IsDone bytes made out err (write file number by_onset) status =
+    IsRunOut out err (bytes file) file number by_onset status
 IsDone bytes made out err (canonical file) status = IsCanonicalOut out err (bytes file) file status
-IsDone bytes made out err (split file prefix) status =
-    IsSplit made out err (bytes file) file prefix status
+IsDone bytes made out err (split file prefix by_onset) status =
+    IsSplit made out err (bytes file) file prefix by_onset status
 IsDone bytes made out err (picture file) status = IsPictured out err (bytes file) file status
 
 -- `split` alone makes files
 abbrev pub HasMade : Making → Asked → Type 0
-HasMade made (split file prefix) = Unit {0}
+HasMade made (split file prefix by_onset) = Unit {0}
 HasMade made asked = MakesNothing made
 
 -- `list` reads each of its files once, `picture` its file once, and `write`, `canonical` and
 -- `split` theirs twice, where they are done
 abbrev pub HasOpened : List (List ℕ) → List (List ℕ) → Asked → Status → Type 0
 HasOpened before after (list files tolerance) status = OpensEach before after files status
-HasOpened before after (write file number) status = OpensAgain before after file 2 status
+HasOpened before after (write file number by_onset) status = OpensAgain before after file 2 status
 HasOpened before after (canonical file) status = OpensAgain before after file 2 status
-HasOpened before after (split file prefix) status = OpensAgain before after file 2 status
+HasOpened before after (split file prefix by_onset) status = OpensAgain before after file 2 status
 HasOpened before after (picture file) status = OpensAgain before after file 1 status

@@ -11,16 +11,21 @@ use Rattle.edf_fragment.specs.Whole.{ReadsFragment}
 use Rattle.edf_program.specs.Output.{Growth, Gets, GetsFront, Explains}
 use Rattle.edf_program.specs.declared.status.Status.{Status}
 use Rattle.edf_program.specs.declared.status.Status.TheVariants.{Done, Refused}
+use Rattle.edf_runs.specs.AsRead.{runs_of}
 use Rattle.edf_runs.specs.File.{IsRunFile}
+use Rattle.edf_runs.specs.KeptByOnset.{annotated_runs}
+use Rattle.edf_runs.specs.OnsetRead.{kept_of}
 use Rattle.edf_runs.specs.Runs.{IsRuns, IsListed}
-use Rattle.edf_runs.specs.declared.run.Run.{Run}
-use Rattle.edf_runs.specs.declared.run_list.Listing.{Listing}
+use Rattle.edf_runs.specs.WrittenByOnset.{annotated}
+use Rattle.edf_runs.specs.declared.onset_run.OnsetRun.{OnsetRun}
+use Rattle.edf_runs.specs.declared.onset_listing.OnsetListing.{OnsetListing}
 use Rattle.edf_runs.specs.declared.fault.WriteFault.{WriteFault}
 use Rattle.edfruns_command.specs.Naming.{run_names, asked_names}
-use Rattle.edfruns_command.specs.Lines.{IsSpelling, split_lines, there_line, undated_line}
-use Rattle.edfruns_command.specs.Lines.{reread_line, unwritten_line, standard_output}
+use Rattle.edfruns_command.specs.Lines.{IsSpelling, there_line, undated_line, reread_line}
+use Rattle.edfruns_command.specs.Lines.{unwritten_line, standard_output}
+use Rattle.edfruns_command.specs.Counting.{split_lines}
 use Rattle.edfruns_command.specs.Made.{MadeFile, IsFree, MayBeThere, RemovesMade, names_of}
-use Rattle.edfruns_command.specs.Listing.{HasRuns, RefusesFile, LacksMemory}
+use Rattle.edfruns_command.specs.Planning.{HasPlan, LacksPlan}
 use Rattle.edfruns_command.specs.Writing.{ReadsAgain}
 use Rattle.edfruns_command.specs.Rereading.{IsOfReading, StopsRereading, ComesToOutput}
 use Rattle.edfruns_command.specs.declared.outputs.Outputs.{Ghosts}
@@ -59,103 +64,120 @@ pub record HoldsRun (known : Bool) (k : Key) (run : List DataRecord) (made : Mad
 
 -- ---- what was made of a file, whose files of runs are to have these names
 
-module _ (m : Making) (bytes : Option (List ℕ)) (listing : Listing) (names : List (List ℕ)) where
-  -- it was read a second time to its end, and of each of its runs, in turn, a file was made that
-  -- has the run's name; no other was made
+-- of these data records, with the annotations that were kept of them, just this was listed
+abbrev pub IsKeptRun : ℕ → List DataRecord → OnsetRun → Type 0
+IsKeptRun d records run = IsListed d (annotated (kept_of run) records) run.run
+
+-- the file was read a second time to its end; these are its runs, and of each just this was listed
+pub record RereadsRuns (bytes : Option (List ℕ)) (plan : OnsetListing) : Type 0 where
+  pub layout : Layout
+  pub records : List DataRecord
+  pub rest : Option (List ℕ)
+  pub read : ReadsFragment bytes rest layout records
+  pub same : layout.key ≡ plan.identity
+  pub runs : List (List DataRecord)
+  pub are_runs : IsRuns (duration_of layout.key.duration) records runs
+  pub listed : AllZip (IsKeptRun (duration_of layout.key.duration)) runs plan.runs.items
+
+-- the lines of the files of runs, which go out with the annotations that were kept of them, where
+-- any were
+abbrev pub lines_of : (ℕ → List ℕ) → OnsetListing → List (List ℕ) → List (List DataRecord) → List ℕ
+lines_of spell plan names runs = split_lines spell (duration_of plan.identity.duration) 1 names
+    (runs_of plan.runs.items) (annotated_runs runs plan.runs.items)
+
+module _ (m : Making) (bytes : Option (List ℕ)) (plan : OnsetListing) (names : List (List ℕ)) where
+  -- of each run, in turn, a file was made that has the run's name, of its data records with the
+  -- annotations that were kept of them, where any were; no other was made
   pub record MakesRuns : Type 0 where
-    pub layout : Layout
-    pub records : List DataRecord
-    pub rest : Option (List ℕ)
-    pub read : ReadsFragment bytes rest layout records
-    pub same : layout.key ≡ listing.identity
-    pub runs : List (List DataRecord)
-    pub are_runs : IsRuns (duration_of layout.key.duration) records runs
-    pub listed : AllZip (IsListed (duration_of layout.key.duration)) runs listing.runs.items
+    pub again : RereadsRuns bytes plan
     pub files : List MadeFile
     pub made : m.after ≡ m.before ++ files
     pub named : names_of files ≡ names
-    pub held : AllZip (HoldsRun m.known layout.key) runs files
+    pub held : AllZip (HoldsRun m.known again.layout.key)
+        (annotated_runs again.runs plan.runs.items) files
     pub unfailed : m.failed_after ≡ m.failed_before
 
   -- all were made, but the lines could not be written whole; so what was made was removed
-  pub record LacksLines (err : Growth) (status : Status) : Type 0 where
+  pub record LacksLines (out err : Growth) (status : Status) : Type 0 where
+    pub again : RereadsRuns bytes plan
+    pub said : (spell : ℕ → List ℕ) → IsSpelling spell →
+        GetsFront out (lines_of spell plan names again.runs)
     pub unfailed : m.failed_after ≡ m.failed_before
-    pub removes : RemovesMade m.before m.after err names (length listing.runs.items)
+    pub removes : RemovesMade m.before m.after err names (length plan.runs.items)
         (unwritten_line standard_output) status
 
   -- one could not be made, written or ended; so what was made was removed
   pub record LacksOutput (out err : Growth) (status : Status) : Type 0 where
     pub layout : Layout
     pub start : Option (List ℕ)
-    pub again : ReadsAgain bytes start listing layout
+    pub again : ReadsAgain bytes start plan.identity layout
     pub count : ℕ
     pub output : List ℕ
-    pub comes : ComesToOutput layout start listing.runs.items names count output
+    pub comes : ComesToOutput layout start plan.runs.items names count output
     pub failed : m.failed_after ≡ one_more m.failed_before
     pub unsaid : Gets out []
     pub removes : RemovesMade m.before m.after err names count (unwritten_line output) status
 
-  -- it could not be read again; so what was made was removed
+  -- it could not be read again, or memory ran out; so what was made was removed
   pub record LacksReading (out err : Growth) (name : List ℕ) (status : Status) : Type 0 where
     pub why : WriteFault
     pub is_why : IsOfReading why
     pub count : ℕ
-    pub stops : StopsRereading bytes listing count why
+    pub stops : StopsRereading bytes plan count why
     pub unfailed : m.failed_after ≡ m.failed_before
     pub unsaid : Gets out []
     pub removes : RemovesMade m.before m.after err names count (reread_line name why) status
 
 module _ (m : Making) (out err : Growth) (bytes : Option (List ℕ)) (name prefix : List ℕ)
-    (status : Status) where
+    (by_onset : Bool) (status : Status) where
   -- its runs were listed, each has a start that a header can name, and there was nothing of the
   -- names that were asked for
-  pub record IsReady (listing : Listing) : Type 0 where
-    pub has : HasRuns bytes listing
-    pub dated : All (λ (run : Run). MayStart listing.identity run.first) listing.runs.items
-    pub free : All (IsFree m.there) (asked_names prefix (length listing.runs.items))
+  pub record IsReady (plan : OnsetListing) : Type 0 where
+    pub has : HasPlan by_onset bytes plan
+    pub dated : All (λ (run : OnsetRun). MayStart plan.identity run.run.first) plan.runs.items
+    pub free : All (IsFree m.there) (asked_names prefix (length plan.runs.items))
 
   -- of each run there is a file now, and each has its line
-  pub record SplitsFile (listing : Listing) : Type 0 where
-    pub makes : MakesRuns m bytes listing (run_names prefix (length listing.runs.items))
-    pub said : (spell : ℕ → List ℕ) → IsSpelling spell →
-        Gets out (split_lines spell prefix listing)
+  pub record SplitsFile (plan : OnsetListing) : Type 0 where
+    pub makes : MakesRuns m bytes plan (run_names prefix (length plan.runs.items))
+    pub said : (spell : ℕ → List ℕ) → IsSpelling spell → Gets out
+        (lines_of spell plan (run_names prefix (length plan.runs.items)) makes.again.runs)
     pub silent : Gets err []
     pub done : status ≡ Done
 
   -- or files could not be made of all runs, or not be told
-  abbrev pub GivesUp : Listing → Type 0
-  GivesUp listing =
-      let names = run_names prefix (length listing.runs.items) in
-      (((spell : ℕ → List ℕ) → IsSpelling spell → GetsFront out (split_lines spell prefix listing))
-      × LacksLines m bytes listing names err status)
-      ⊎ (LacksOutput m bytes listing names out err status
-      ⊎ LacksReading m bytes listing names out err name status)
+  abbrev pub GivesUp : OnsetListing → Type 0
+  GivesUp plan =
+      let names = run_names prefix (length plan.runs.items) in
+      LacksLines m bytes plan names out err status
+      ⊎ (LacksOutput m bytes plan names out err status
+      ⊎ LacksReading m bytes plan names out err name status)
 
   -- there is something of one of the names that are asked for, and of none before it
   pub record FindsName : Type 0 where
-    pub listing : Listing
-    pub has : HasRuns bytes listing
+    pub plan : OnsetListing
+    pub has : HasPlan by_onset bytes plan
     pub front : List (List ℕ)
     pub found : List ℕ
     pub later : List (List ℕ)
-    pub parts : asked_names prefix (length listing.runs.items) ≡ front ++ (found ∷ later)
+    pub parts : asked_names prefix (length plan.runs.items) ≡ front ++ (found ∷ later)
     pub free : All (IsFree m.there) front
     pub taken : MayBeThere m.there found
     pub said : Explains out err (there_line found) Refused status
 
   -- no header can name when a run starts, and that is the first such
   pub record LacksDate : Type 0 where
-    pub listing : Listing
-    pub has : HasRuns bytes listing
-    pub front : List Run
-    pub run : Run
-    pub later : List Run
-    pub parts : listing.runs.items ≡ front ++ (run ∷ later)
-    pub dated : All (λ (earlier : Run). MayStart listing.identity earlier.first) front
-    pub undated : ¬ MayStart listing.identity run.first
+    pub plan : OnsetListing
+    pub has : HasPlan by_onset bytes plan
+    pub front : List OnsetRun
+    pub run : OnsetRun
+    pub later : List OnsetRun
+    pub parts : plan.runs.items ≡ front ++ (run ∷ later)
+    pub dated : All (λ (earlier : OnsetRun). MayStart plan.identity earlier.run.first) front
+    pub undated : ¬ MayStart plan.identity run.run.first
     pub said : Explains out err (undated_line (length front + 1)) Refused status
 
   abbrev pub IsSplit : Type 0
-  IsSplit = ((listing : Listing) × IsReady listing × (SplitsFile listing ⊎ GivesUp listing))
+  IsSplit = ((plan : OnsetListing) × IsReady plan × (SplitsFile plan ⊎ GivesUp plan))
       ⊎ (MakesNothing m × (FindsName ⊎ (LacksDate
-      ⊎ (RefusesFile out err bytes name status ⊎ LacksMemory out err bytes name status))))
+      ⊎ LacksPlan out err bytes name status by_onset)))

@@ -11,6 +11,7 @@
 
 mod arguments;
 mod canonical_command;
+mod counting;
 mod joining;
 pub mod laws;
 mod lines;
@@ -20,6 +21,7 @@ mod making;
 mod naming;
 mod outputs;
 mod picture_command;
+mod planning;
 mod refusal;
 mod removing;
 mod runs_command;

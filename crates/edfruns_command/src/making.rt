@@ -1,21 +1,24 @@
 //! The files of runs, made in a second reading.
 
-ghost use Rattle.std.specs.Prelude.{◌≡◌, ◌≢◌, ◌++◌, ℕ, List, All, MatchResult, length, map};
+ghost use Rattle.std.specs.Prelude.{◌≡◌, ◌≢◌, ◌≤◌, ◌++◌, ℕ, List, All, MatchResult, length, map};
 ghost use Rattle.std.specs.Prelude.{replicate, string_bytes};
+ghost use Rattle.edf_field.specs.Number.{duration_of};
 ghost use Rattle.edf_header.specs.Key.{MayStart};
 ghost use Rattle.edf_fragment.specs.Reading.{at_first};
-ghost use Rattle.edf_runs.specs.declared.run.Run.{Run as ListedRun};
+ghost use Rattle.edf_runs.specs.declared.onset_run.OnsetRun.{OnsetRun as PlannedRun};
 ghost use Rattle.edfruns_command.specs.Inside.{OpensUpTo};
-ghost use Rattle.edfruns_command.specs.InsideMaking.{MakesFile, StopsFile, MakesEach, StopsEach};
-ghost use Rattle.edfruns_command.specs.InsideMaking.{RereadsAll, StopsMaking, IsStopOf};
+ghost use Rattle.edfruns_command.specs.InsideMaking.{MakesFile, StopsFile, MakesFirst, StopsEach};
+ghost use Rattle.edfruns_command.specs.InsideMaking.{RereadsWith, StopsMaking, IsStopOf};
 ghost use Rattle.edfruns_command.specs.InsideMaking.{Ends, StopsAtEnd};
 ghost use Rattle.edfruns_command.specs.Splitting.{making};
 
+use crate::counting::with_line;
 use crate::outputs::Outputs;
 use crate::stop::Stop;
+use edf_field::MOST_DURATION;
 use edf_fragment::{FragmentFault, Input, OpenFragment};
 use edf_program::Inputs;
-use edf_runs::{Listing, Run, WriteFault, reopen, write_run};
+use edf_runs::{OnsetListing, OnsetRun, WriteFault, Written, reopen_by_onset, write_by_onset};
 use std::alloc::Global;
 
 /// Reads on after the last run, where nothing may follow.
@@ -50,15 +53,15 @@ fn make_file<'a, R: Input, P: Outputs>(
     alloc: Global,
     fragment: &mut OpenFragment,
     reader: &mut R,
-    run: &Run,
+    run: &OnsetRun,
     name: &'a str,
     outputs: &mut P,
-) -> Result<(), Stop<'a>>
-    requires dated { MayStart fragment.old.header.key run.now.first }
+) -> Result<Written, Stop<'a>>
+    requires dated { MayStart fragment.old.header.key run.now.run.first }
     ensures header { fragment.new.header ≡ fragment.old.header }
     ensures known { P.known outputs.new ≡ P.known outputs.old }
     ensures answer { MatchResult result
-        (λ _. MakesFile (making P.Outputs outputs.old outputs.new) name.now fragment.old.header
+        (MakesFile (making P.Outputs outputs.old outputs.new) name.now fragment.old.header
         fragment.old.progress fragment.new.progress (R.remaining reader.old)
         (R.remaining reader.new) run.now)
         (StopsFile (making P.Outputs outputs.old outputs.new) name.now fragment.old.header
@@ -68,10 +71,10 @@ fn make_file<'a, R: Input, P: Outputs>(
     let Ok(mut writer) = outputs.create(alloc, name) else {
         return Err(Stop::Output(name));
     };
-    match write_run(alloc, fragment, reader, run, &mut writer) {
-        Ok(_) => {
+    match write_by_onset(alloc, fragment, reader, run, &mut writer) {
+        Ok(written) => {
             if outputs.finish(writer) {
-                Ok(())
+                Ok(written)
             } else {
                 Err(Stop::Output(name))
             }
@@ -83,50 +86,61 @@ fn make_file<'a, R: Input, P: Outputs>(
     }
 }
 
-/// Makes the files of all runs whose data records follow a header that was just read.
+/// Makes the files of all runs whose data records follow a header that was just read, and answers
+/// their lines.
 fn make_each<'a, R: Input, P: Outputs>(
     alloc: Global,
     fragment: &mut OpenFragment,
     reader: &mut R,
-    runs: &[Run],
+    runs: &[OnsetRun],
     names: &'a [String],
+    duration: u64,
     outputs: &mut P,
-) -> Result<(), Stop<'a>>
+) -> Result<Vec<u8>, Stop<'a>>
+    requires duration { duration ≡ duration_of fragment.old.header.key.duration }
+    requires most { duration ≤ MOST_DURATION }
     requires first { fragment.old.progress ≡ at_first }
     requires names { length names.now ≡ length runs.now }
-    requires dated { All (λ (run : ListedRun). MayStart fragment.old.header.key run.first)
+    requires dated { All (λ (run : PlannedRun). MayStart fragment.old.header.key run.run.first)
         runs.now }
     ensures header { fragment.new.header ≡ fragment.old.header }
     ensures answer { MatchResult result
-        (λ _. MakesEach (making P.Outputs outputs.old outputs.new) (map string_bytes names.now)
-        fragment.old.header fragment.new.progress (R.remaining reader.old)
-        (R.remaining reader.new) runs.now)
+        (λ text. MakesFirst (making P.Outputs outputs.old outputs.new)
+        (map string_bytes names.now) fragment.old.header fragment.new.progress
+        (R.remaining reader.old) (R.remaining reader.new) runs.now (length runs.now) text.items)
         (StopsEach (making P.Outputs outputs.old outputs.new) (map string_bytes names.now)
         fragment.old.header (R.remaining reader.old) (R.remaining reader.new) runs.now) }
 {
+    let mut text = Vec::new(alloc);
     for (at, run) in runs.iter().enumerate() {
-        make_file(alloc, fragment, reader, run, names[at].as_str(), outputs)?;
+        let name = names[at].as_str();
+        let written = make_file(alloc, fragment, reader, run, name, outputs)?;
+        let Ok(longer) = with_line(alloc, text, duration, name, runs, at, run, &written) else {
+            return Err(Stop::Reading(WriteFault::Memory));
+        };
+        text = longer;
     }
-    Ok(())
+    Ok(text)
 }
 
-/// Reads a file again, and makes a file of one of the names for each of its runs.
+/// Reads a file again, makes a file of one of the names for each of its runs, and answers their
+/// lines.
 pub(crate) fn make_files<'a, I: Inputs, P: Outputs>(
     alloc: Global,
     file: &str,
-    listing: &Listing,
+    plan: &OnsetListing,
     names: &'a [String],
     inputs: &mut I,
     outputs: &mut P,
-) -> Result<(), Stop<'a>>
-    requires names { length names.now ≡ length listing.now.runs.items }
-    requires dated { All (λ (run : ListedRun). MayStart listing.now.identity run.first)
-        listing.now.runs.items }
+) -> Result<Vec<u8>, Stop<'a>>
+    requires names { length names.now ≡ length plan.now.runs.items }
+    requires dated { All (λ (run : PlannedRun). MayStart plan.now.identity run.run.first)
+        plan.now.runs.items }
     ensures answer { MatchResult result
-        (λ _. RereadsAll (making P.Outputs outputs.old outputs.new) (I.bytes inputs.old file.now)
-        listing.now (map string_bytes names.now))
+        (λ text. RereadsWith (making P.Outputs outputs.old outputs.new)
+        (I.bytes inputs.old file.now) plan.now (map string_bytes names.now) text.items)
         (StopsMaking (making P.Outputs outputs.old outputs.new) (I.bytes inputs.old file.now)
-        listing.now (map string_bytes names.now)) }
+        plan.now (map string_bytes names.now)) }
     ensures opened { MatchResult result
         (λ _. I.opened inputs.new ≡ I.opened inputs.old ++ replicate 1 file.now)
         (λ _. OpensUpTo (I.opened inputs.old) (I.opened inputs.new) file.now 1) }
@@ -135,20 +149,21 @@ pub(crate) fn make_files<'a, I: Inputs, P: Outputs>(
     let Ok(mut reader) = inputs.open(alloc, file) else {
         return Err(Stop::Reading(WriteFault::Memory));
     };
-    let mut fragment = match reopen(alloc, &mut reader, listing) {
+    let mut fragment = match reopen_by_onset(alloc, &mut reader, plan) {
         Ok(fragment) => fragment,
         Err(fault) => return Err(Stop::Reading(fault)),
     };
-    make_each(
+    let text = make_each(
         alloc,
         &mut fragment,
         &mut reader,
-        &listing.runs,
+        &plan.runs,
         names,
+        plan.identity.duration(),
         outputs,
     )?;
     match expect_end(&mut fragment, &mut reader) {
-        Ok(()) => Ok(()),
+        Ok(()) => Ok(text),
         Err(fault) => Err(Stop::Reading(fault)),
     }
 }

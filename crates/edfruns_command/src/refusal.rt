@@ -6,6 +6,7 @@ ghost use Rattle.edf_program.specs.Output.{growth, IsPut, IsWritten};
 ghost use Rattle.edf_program.specs.Text.{memory_line};
 ghost use Rattle.edfruns_command.specs.Lines.{file_refused_line, file_refused_status};
 ghost use Rattle.edfruns_command.specs.Lines.{no_run_line, there_line, left_line, undated_line};
+ghost use Rattle.edfruns_command.specs.Lines.{crowded_line};
 ghost use Rattle.edfruns_command.specs.Lines.{run_refused_line, run_refused_status};
 ghost use Rattle.edfruns_command.specs.Lines.{reread_line, unwritten_line};
 ghost use Rattle.edfruns_command.specs.InsideSplit.{stop_line};
@@ -62,6 +63,22 @@ pub(crate) fn tell_undated<F: Output>(err: &mut F, number: usize, status: Status
         b" starts after 2084, which a file without a date can't tell\n",
     ];
     tell_parts(err, &parts, status)
+}
+
+/// Prints that by onset a data record of a run would have more annotations than one may have.
+/// Printing takes no memory.
+pub(crate) fn tell_crowded<F: Output>(err: &mut F, number: u64) -> Status
+    ensures { IsWritten (growth F.Output err.old err.new) (crowded_line number) Status.Refused
+        result }
+{
+    let mut buffer = Buffer::new();
+    let digits = buffer.format(number);
+    let parts = [
+        b"run ".as_slice(),
+        digits.as_bytes(),
+        b" would have too many annotations in a data record\n",
+    ];
+    tell_parts(err, &parts, Status::Refused)
 }
 
 /// The status where a run is not written.

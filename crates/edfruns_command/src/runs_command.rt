@@ -31,6 +31,8 @@ pub enum RunsCommand {
         file: String,
         /// The run's number in the list, from 1.
         number: u32,
+        /// Whether it has the annotations whose onsets lie in it, in place of its own.
+        is_by_onset: bool,
     },
     /// Write the canonical EDF+D file to standard output.
     Canonical {
@@ -43,6 +45,8 @@ pub enum RunsCommand {
         file: String,
         /// How the names of the new files begin.
         prefix: String,
+        /// Whether each has the annotations whose onsets lie in it, in place of its own.
+        is_by_onset: bool,
     },
     /// Write a picture of the file to standard output.
     Picture {
@@ -61,9 +65,17 @@ impl RunsCommand {
                 files,
                 tolerance: _,
             } => files.len(),
-            RunsCommand::Write { file: _, number: _ } => 2,
+            RunsCommand::Write {
+                file: _,
+                number: _,
+                is_by_onset: _,
+            } => 2,
             RunsCommand::Canonical { file: _ } => 2,
-            RunsCommand::Split { file: _, prefix: _ } => 2,
+            RunsCommand::Split {
+                file: _,
+                prefix: _,
+                is_by_onset: _,
+            } => 2,
             RunsCommand::Picture {
                 file: _,
                 tolerance: _,
@@ -74,12 +86,12 @@ impl RunsCommand {
 
 /// Runs a command.
 ///
-/// Lists, files and pictures go to `out`, and why something is not done to `err`. The list of a
-/// file goes out whole, or a front of it where a write failed, or nothing where memory ran out.
-/// `Split` leaves all its files where it is done, and else none but those that it names as not
-/// removed; the lines of files that were removed may have gone out, where writing them failed. The
-/// clauses say what `List`, `Write`, `Canonical` and `Split` do, and of `Picture` all but what the
-/// picture shows.
+/// Lists, files and pictures go to `out`, and why something is not done, and the line of a file of
+/// `Write`, to `err`. The list of a file goes out whole, or a front of it where a write failed, or
+/// nothing where memory ran out. `Split` leaves all its files where it is done, and else none but
+/// those that it names as not removed; the lines of files that were removed may have gone out, where
+/// writing them failed. The clauses say what `List`, `Write`, `Canonical` and `Split` do, and of
+/// `Picture` all but what the picture shows.
 pub fn run_runs<I: Inputs, P: Outputs, O: Output, F: Output>(
     alloc: Global,
     command: &RunsCommand,
@@ -99,14 +111,21 @@ pub fn run_runs<I: Inputs, P: Outputs, O: Output, F: Output>(
         RunsCommand::List { files, tolerance } => {
             list(alloc, files.as_slice(), *tolerance, inputs, out, err)
         }
-        RunsCommand::Write { file, number } => {
-            write(alloc, file.as_str(), *number, inputs, out, err)
-        }
+        RunsCommand::Write {
+            file,
+            number,
+            is_by_onset,
+        } => write(alloc, file.as_str(), *number, *is_by_onset, inputs, out, err),
         RunsCommand::Canonical { file } => canonical(alloc, file.as_str(), inputs, out, err),
-        RunsCommand::Split { file, prefix } => split(
+        RunsCommand::Split {
+            file,
+            prefix,
+            is_by_onset,
+        } => split(
             alloc,
             file.as_str(),
             prefix.as_str(),
+            *is_by_onset,
             inputs,
             outputs,
             out,

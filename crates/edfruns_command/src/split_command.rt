@@ -4,26 +4,26 @@ ghost use Rattle.std.specs.Prelude.{◌≡◌, ◌-◌, ◌≤◌, ℕ, List, Al
 ghost use Rattle.std.specs.Prelude.{string_bytes, take, drop};
 ghost use Rattle.edf_header.specs.Key.{MayStart};
 ghost use Rattle.edf_program.specs.Output.{growth};
-ghost use Rattle.edf_runs.specs.declared.run.Run.{Run as ListedRun};
-ghost use Rattle.edfruns_command.specs.InsideSplit.{IsTaken, IsUndated, IsPlan, SplitsListed};
+ghost use Rattle.edf_runs.specs.declared.onset_run.OnsetRun.{OnsetRun as PlannedRun};
+ghost use Rattle.edfruns_command.specs.InsideSplit.{IsTaken, IsUndated, SplitsListed};
 ghost use Rattle.edfruns_command.specs.Listing.{OpensAgain};
 ghost use Rattle.edfruns_command.specs.Made.{IsFree, names_of};
+ghost use Rattle.edfruns_command.specs.Naming.{asked_names};
 ghost use Rattle.edfruns_command.specs.Splitting.{IsSplit, making};
 
 use crate::arguments::{refuse_stream, required_value, twice_read_file_value, value_in};
-use crate::lines::runs_text;
-use crate::list_command::listing_of;
 use crate::making::make_files;
 use crate::naming::{push_first_names, run_names};
 use crate::outputs::Outputs;
-use crate::refusal::{STANDARD_OUTPUT, refuse, tell_there, tell_undated};
+use crate::planning::{by_onset_option, is_by_onset, plan_of, refuse_plan};
+use crate::refusal::{STANDARD_OUTPUT, tell_there, tell_undated};
 use crate::removing::give_up;
 use crate::runs_command::RunsCommand;
 use crate::stop::Stop;
 use clap::{ArgMatches, Command};
 use edf_fragment::{Output, send};
 use edf_program::{CommandFault, Inputs, Status, tell_memory};
-use edf_runs::Listing;
+use edf_runs::OnsetListing;
 use std::alloc::{AllocError, Global};
 
 /// Which files are made, and when none is.
@@ -37,14 +37,19 @@ anything fails, the files that were made are removed again: all are there or non
 FILE is read twice, first for its runs and then for their data records, so it
 can't be standard input.
 
-A line tells what each file has, as 'edfruns list' does:
-  PREFIX-1.edf 1 records=K first=I seconds=S gap=S";
+A line tells what each file has, as 'edfruns list' does, with how many annotations,
+and how many of these have an onset outside of the run:
+  PREFIX-1.edf 1 records=K first=I seconds=S gap=S annotations=K outside=M
+
+With --by-onset each annotation is in the file of the run in which its onset lies,
+and one whose onset lies in no run in that of the run before it, or of the first.
+Such files have other data records: they are for viewers, not for 'edfstore take'.";
 
 const SPLIT_EXAMPLE: &str = "\
 Example:
   edfruns split night.edf night
-  night-1.edf 1 records=3 first=2002-03-02T23:59:50 seconds=3 gap=7.5
-  night-2.edf 2 records=2 first=2002-03-03T00:00:00.5 seconds=2";
+  night-1.edf 1 records=3 first=2002-03-02T23:59:50 seconds=3 gap=7.5 annotations=2 outside=1
+  night-2.edf 2 records=2 first=2002-03-03T00:00:00.5 seconds=2 annotations=0 outside=0";
 
 /// The word and its values, as `clap` gets them.
 pub(crate) fn split_words<'a>(alloc: Global) -> Result<Command<'a>, AllocError> {
@@ -52,6 +57,7 @@ pub(crate) fn split_words<'a>(alloc: Global) -> Result<Command<'a>, AllocError> 
         .about("Writes each run to an EDF+C file of its own")
         .long_about(SPLIT_MORE)
         .after_help(SPLIT_EXAMPLE)
+        .arg(by_onset_option(alloc))?
         .arg(twice_read_file_value(alloc))?
         .arg(required_value(
             alloc,
@@ -71,27 +77,22 @@ pub(crate) fn read_split(
     }
     let file = String::from_str(alloc, file)?;
     let prefix = String::from_str(alloc, value_in(values, "PREFIX"))?;
-    Ok(RunsCommand::Split { file, prefix })
+    Ok(
+        RunsCommand::Split {
+            file,
+            prefix,
+            is_by_onset: is_by_onset(values),
+        },
+    )
 }
 
-/// What is known before a file is made.
-#[derive(Drop)]
-struct Plan {
-    /// The names that no file may have: those of the runs, and the first ones of an earlier split.
-    asked: Vec<String>,
-    /// The lines of the runs.
-    text: Vec<u8>,
-}
-
-/// The names and the lines of the listed runs.
-fn plan_of(alloc: Global, prefix: &str, listing: &Listing) -> Result<Plan, AllocError>
-    ensures { IfOk result (λ plan. IsPlan (map string_bytes plan.asked.items) plan.text.items
-        prefix.now listing.now) }
+/// The names that no file may have: those of the runs, and the first ones of an earlier split.
+fn asked_names(alloc: Global, prefix: &str, count: usize) -> Result<Vec<String>, AllocError>
+    ensures { IfOk result (λ r. map string_bytes r.items ≡ asked_names prefix.now count) }
 {
-    let mut asked = run_names(alloc, prefix, listing.runs.as_slice().len())?;
-    let text = runs_text(alloc, &asked, listing)?;
+    let mut asked = run_names(alloc, prefix, count)?;
     push_first_names(alloc, prefix, &mut asked)?;
-    Ok(Plan { asked, text })
+    Ok(asked)
 }
 
 /// So many of these names, from the first.
@@ -103,13 +104,13 @@ fn front_of(names: &[String], count: usize) -> &[String]
 }
 
 /// The number of the first run whose start no header can name, from 1, if there is one.
-fn undated_run(listing: &Listing) -> Option<usize>
+fn undated_run(plan: &OnsetListing) -> Option<usize>
     ensures { MatchOption result
-        (All (λ (run : ListedRun). MayStart listing.now.identity run.first) listing.now.runs.items)
-        (IsUndated listing.now) }
+        (All (λ (run : PlannedRun). MayStart plan.now.identity run.run.first) plan.now.runs.items)
+        (IsUndated plan.now) }
 {
-    for (at, run) in listing.runs.iter().enumerate() {
-        if !listing.identity.may_start(run.first()) {
+    for (at, run) in plan.runs.iter().enumerate() {
+        if !plan.identity.may_start(run.run().first()) {
             return Some(at + 1);
         }
     }
@@ -139,29 +140,28 @@ fn taken_name<'a, P: Outputs>(outputs: &mut P, names: &'a [String]) -> Option<&'
 fn split_listed<I: Inputs, P: Outputs, O: Output, F: Output>(
     alloc: Global,
     file: &str,
-    listing: &Listing,
+    plan: &OnsetListing,
     names: &[String],
-    text: &[u8],
     inputs: &mut I,
     outputs: &mut P,
     out: &mut O,
     err: &mut F,
 ) -> Status
-    requires names { length names.now ≡ length listing.now.runs.items }
-    requires dated { All (λ (run : ListedRun). MayStart listing.now.identity run.first)
-        listing.now.runs.items }
+    requires names { length names.now ≡ length plan.now.runs.items }
+    requires dated { All (λ (run : PlannedRun). MayStart plan.now.identity run.run.first)
+        plan.now.runs.items }
     ensures split { SplitsListed (making P.Outputs outputs.old outputs.new)
         (growth O.Output out.old out.new) (growth F.Output err.old err.new)
-        (I.bytes inputs.old file.now) file.now listing.now (map string_bytes names.now) text.now
-        result }
+        (I.bytes inputs.old file.now) file.now plan.now (map string_bytes names.now) result }
     ensures opened { OpensAgain (I.opened inputs.old) (I.opened inputs.new) file.now 1 result }
     ensures same { (name : List ℕ) → I.bytes inputs.new name ≡ I.bytes inputs.old name }
 {
     let first = outputs.count();
-    if let Err(stop) = make_files(alloc, file, listing, names, inputs, outputs) {
-        return give_up(file, stop, names, first, outputs, err);
-    }
-    if send(out, text) {
+    let text = match make_files(alloc, file, plan, names, inputs, outputs) {
+        Ok(text) => text,
+        Err(stop) => return give_up(file, stop, names, first, outputs, err),
+    };
+    if send(out, text.as_slice()) {
         return Status::Done;
     }
     let stop = Stop::Output(STANDARD_OUTPUT);
@@ -173,6 +173,7 @@ pub(crate) fn split<I: Inputs, P: Outputs, O: Output, F: Output>(
     alloc: Global,
     file: &str,
     prefix: &str,
+    is_by_onset: bool,
     inputs: &mut I,
     outputs: &mut P,
     out: &mut O,
@@ -180,29 +181,28 @@ pub(crate) fn split<I: Inputs, P: Outputs, O: Output, F: Output>(
 ) -> Status
     ensures split { IsSplit (making P.Outputs outputs.old outputs.new)
         (growth O.Output out.old out.new) (growth F.Output err.old err.new)
-        (I.bytes inputs.old file.now) file.now prefix.now result }
+        (I.bytes inputs.old file.now) file.now prefix.now is_by_onset result }
     ensures opened { OpensAgain (I.opened inputs.old) (I.opened inputs.new) file.now 2 result }
     ensures same { (name : List ℕ) → I.bytes inputs.new name ≡ I.bytes inputs.old name }
 {
-    let listing = match listing_of(alloc, file, inputs) {
-        Ok(listing) => listing,
-        Err(fault) => return refuse(alloc, file, fault, err),
+    let plan = match plan_of(alloc, file, is_by_onset, inputs) {
+        Ok(plan) => plan,
+        Err(fault) => return refuse_plan(alloc, file, fault, err),
     };
-    let Ok(plan) = plan_of(alloc, prefix, &listing) else {
+    let Ok(asked) = asked_names(alloc, prefix, plan.runs.as_slice().len()) else {
         return tell_memory(err, file);
     };
-    if let Some(number) = undated_run(&listing) {
+    if let Some(number) = undated_run(&plan) {
         return tell_undated(err, number, Status::Refused);
     }
-    if let Some(name) = taken_name(outputs, &plan.asked) {
+    if let Some(name) = taken_name(outputs, &asked) {
         return tell_there(err, name);
     }
     split_listed(
         alloc,
         file,
-        &listing,
-        front_of(&plan.asked, listing.runs.as_slice().len()),
-        plan.text.as_slice(),
+        &plan,
+        front_of(&asked, plan.runs.as_slice().len()),
         inputs,
         outputs,
         out,

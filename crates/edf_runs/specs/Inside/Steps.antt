@@ -1,6 +1,6 @@
 -- One step of a second reading, and of the writing beside it.
-use Rattle.std.specs.Prelude.{◌≡◌, ◌≢◌, ℕ, ◌+◌, ◌≤◌, List, ◌++◌, length, Option, Some, Ok, Result}
-use Rattle.std.specs.Prelude.{MatchResult}
+use Rattle.std.specs.Prelude.{◌≡◌, ◌≢◌, ℕ, ◌+◌, ◌≤◌, List, [], ◌++◌, length, Option, Some, None, Ok}
+use Rattle.std.specs.Prelude.{Result, MatchResult}
 use Rattle.std.specs.List.{AllByRecursion}
 use Rattle.std.specs.Io.KnownBytes.{Appends}
 use Rattle.edf_field.specs.Number.{duration_of}
@@ -18,8 +18,9 @@ use Rattle.edf_canonical.specs.declared.fault.OutputFault.TheVariants.{Write as 
 use Rattle.edf_canonical.specs.declared.fault.OutputFault.TheVariants.{Memory as NoRoom}
 use Rattle.edf_runs.specs.Runs.{StartFrom, IsListed}
 use Rattle.edf_runs.specs.Read.{ReadsOn}
-use Rattle.edf_runs.specs.Again.{next_start, ComesNext}
+use Rattle.edf_runs.specs.Again.{next_start}
 use Rattle.edf_runs.specs.Written.{run_text, ReadsOneMoreAtMost, CountsFault}
+use Rattle.edf_runs.specs.WrittenByOnset.{annotated, with_annotations}
 use Rattle.edf_runs.specs.Inside.Tally.{IsTallied}
 use Rattle.edf_runs.specs.declared.run.Run.{Run}
 use Rattle.edf_runs.specs.declared.tally.Tally.{Tally}
@@ -36,6 +37,16 @@ abbrev pub CountsSending : {A : Type 0} → ℕ → ℕ → ℕ → ℕ → Resu
 CountsSending reads reads' writes writes' result =
     MatchResult result (λ _. (reads' ≡ reads) × (writes' ≡ writes))
     (λ fault. CountsFault reads reads' writes writes' fault × (fault ≢ Undated))
+
+-- the data record with what was kept of it, where something was
+abbrev pub annotated_one : Option DataRecord → DataRecord → DataRecord
+annotated_one None r = r
+annotated_one (Some kept) r = with_annotations kept r
+
+-- without its samples, what was kept of a data record starts when it does
+pub record IsKeptOf (r kept : DataRecord) : Type 0 where
+  pub bare : kept.samples ≡ []
+  pub start : kept.start ≡ r.start
 
 -- one more data record was read, which starts at this instant
 pub record StepsOn (l : Layout) (from to : Progress) (left rest : Option (List ℕ)) (instant : ℕ)
@@ -62,14 +73,15 @@ pub record HasOthers (l : Layout) (to : Progress) (rest : Option (List ℕ))
   pub within : to.given + length others ≤ most_records l.count
 
 -- the data records that were read so far, as many as `count`; the next one starts at `next`; and
--- where the run came next, they are its first ones
+-- where as many data records came next as the run has, they are the first of these
 pub record ReadSoFar (l : Layout) (from to : Progress) (left rest : Option (List ℕ)) (run : Run)
     (records : List DataRecord) (next count : ℕ) : Type 0 where
   pub read : ReadsOn l from to left rest records
   pub starts : StartFrom (duration_of l.key.duration) run.first records
   pub counted : length records ≡ count
   pub next_is : next ≡ next_start l run records
-  pub listed : (n : ComesNext l from left run) → HasOthers l to rest n.records records
+  pub first : (all : List DataRecord) → HasOthers l from left all [] → length all ≡ run.records →
+      HasOthers l to rest all records
 
 -- these are sound ones, and `samples` samples are the fewest that hold the longest of their blocks,
 -- 0 where there is none
@@ -79,57 +91,62 @@ pub record ArePut (l : Layout) (run : Run) (records : List DataRecord) (samples 
   pub holds : BlocksFit (second_of run.first) samples records
   pub least : (fewer : ℕ) → BlocksFit (second_of run.first) fewer records → samples ≤ fewer
 
--- so far they were read, put and counted
+-- so far they were read, put with the annotations that were kept of them, and counted
 pub record PutSoFar (l : Layout) (from to : Progress) (left rest : Option (List ℕ))
-    (before after : Buffered) (run : Run) (next samples count : ℕ) (tally : Tally) : Type 0 where
+    (before after : Buffered) (run : Run) (kept : List DataRecord) (next samples count : ℕ)
+    (tally : Tally) : Type 0 where
   pub records : List DataRecord
   pub so_far : ReadSoFar l from to left rest run records next count
-  pub put : ArePut l run records samples
-  pub tallied : IsTallied (duration_of l.key.duration) run records tally
-  pub wrote : Writes before after (run_text run records) after.held
+  pub put : ArePut l run (annotated kept records) samples
+  pub tallied : IsTallied (duration_of l.key.duration) run (annotated kept records) tally
+  pub wrote : Writes before after (run_text run (annotated kept records)) after.held
 
--- all data records of the run were read, put and counted
+-- all data records of the run were read, put with these annotations, and counted
 pub record IsPutAll (l : Layout) (from to : Progress) (left rest : Option (List ℕ))
-    (before after : Buffered) (run : Run) (tally : Tally) : Type 0 where
+    (before after : Buffered) (run : Run) (kept : List DataRecord) (tally : Tally) : Type 0 where
   pub records : List DataRecord
   pub read : ReadsOn l from to left rest records
-  pub sound : AllByRecursion (IsSoundRecord l.key) records
-  pub listed : IsListed (duration_of l.key.duration) records run
-  pub tallied : IsTallied (duration_of l.key.duration) run records tally
-  pub put : Writes before after (run_text run records) after.held
+  pub starts : StartFrom (duration_of l.key.duration) run.first records
+  pub count : length records ≡ run.records
+  pub sound : AllByRecursion (IsSoundRecord l.key) (annotated kept records)
+  pub listed : IsListed (duration_of l.key.duration) (annotated kept records) run
+  pub tallied : IsTallied (duration_of l.key.duration) run (annotated kept records) tally
+  pub put : Writes before after (run_text run (annotated kept records)) after.held
 
 -- the first data records of the run were read, of which a front was written
 pub record StopsPutting (l : Layout) (from to : Progress) (left rest : Option (List ℕ))
-    (before after : Buffered) (run : Run) : Type 0 where
+    (before after : Buffered) (run : Run) (kept : List DataRecord) : Type 0 where
   pub records : List DataRecord
   pub mid : Progress
   pub middle : Option (List ℕ)
   pub read : ReadsOn l from mid left middle records
   pub starts : StartFrom (duration_of l.key.duration) run.first records
   pub within : length records ≤ run.records
-  pub holds : BlocksFit (second_of run.first) run.block_samples records
-  pub front : (unwritten : List ℕ) × Writes before after (run_text run records) unwritten
+  pub holds : BlocksFit (second_of run.first) run.block_samples (annotated kept records)
+  pub front : (unwritten : List ℕ)
+      × Writes before after (run_text run (annotated kept records)) unwritten
   pub more : ReadsOneMoreAtMost l mid to middle rest (length records) run
 
 -- a header and all data records of the run were written, and the data records counted
 pub record IsSent (l : Layout) (from to : Progress) (left rest before after : Option (List ℕ))
-    (header : List ℕ) (run : Run) (tally : Tally) : Type 0 where
+    (header : List ℕ) (run : Run) (kept : List DataRecord) (tally : Tally) : Type 0 where
   pub records : List DataRecord
   pub read : ReadsOn l from to left rest records
-  pub sound : AllByRecursion (IsSoundRecord l.key) records
-  pub listed : IsListed (duration_of l.key.duration) records run
-  pub tallied : IsTallied (duration_of l.key.duration) run records tally
-  pub wrote : Appends before after (header ++ run_text run records)
+  pub count : length records ≡ run.records
+  pub sound : AllByRecursion (IsSoundRecord l.key) (annotated kept records)
+  pub listed : IsListed (duration_of l.key.duration) (annotated kept records) run
+  pub tallied : IsTallied (duration_of l.key.duration) run (annotated kept records) tally
+  pub wrote : Appends before after (header ++ run_text run (annotated kept records))
 
 -- a front of the header and of the first data records was written
 pub record StopsSending (l : Layout) (from to : Progress) (left rest before after : Option (List ℕ))
-    (header : List ℕ) (run : Run) : Type 0 where
+    (header : List ℕ) (run : Run) (kept : List DataRecord) : Type 0 where
   pub records : List DataRecord
   pub mid : Progress
   pub middle : Option (List ℕ)
   pub read : ReadsOn l from mid left middle records
   pub starts : StartFrom (duration_of l.key.duration) run.first records
   pub within : length records ≤ run.records
-  pub holds : BlocksFit (second_of run.first) run.block_samples records
-  pub front : WritesFront before after (header ++ run_text run records)
+  pub holds : BlocksFit (second_of run.first) run.block_samples (annotated kept records)
+  pub front : WritesFront before after (header ++ run_text run (annotated kept records))
   pub more : ReadsOneMoreAtMost l mid to middle rest (length records) run

@@ -1,16 +1,12 @@
-use Rattle.std.proofs.Common.{◌≡◌, ◌<◌, List, ◌++◌, ◌∷◌, [], length, refl, ap, ◌∙◌, sym, subst}
-use Rattle.std.proofs.Common.{arith, Ok, Some, None, Option}
+use Rattle.std.proofs.Common.{◌≡◌, ◌<◌, ◌++◌, ◌∷◌, [], length, refl, ap, ◌∙◌, sym, subst}
+use Rattle.std.proofs.Common.{arith, Ok, Some}
 use Rattle.edf_header.specs.Header.{Layout, IsLayout}
 use Rattle.edf_header.specs.declared.limits.TheConstants.{MOST_RECORDS}
-use Rattle.edf_fragment.specs.Fragment.{DataRecord}
 use Rattle.edf_fragment.specs.Reading.{progress_after, GivesRecord}
 use Rattle.edf_fragment.specs.Whole.{HasRead}
 use Rattle.edf_fragment.specs.declared.advance.Progress.{Progress}
 use Rattle.edf_fragment.proofs.Fragments.{reads_none}
 use Rattle.edf_fragment.proofs.Runs.{next_of, reads_more}
-use Rattle.edf_runs.specs.Canonical.{IsMeasured}
-use Rattle.edf_runs.specs.Inside.Measuring.{IsMeasuredSoFar}
-use Rattle.edf_runs.specs.declared.canonical_plan.Measure.{Measure}
 use Rattle.edf_runs.proofs.planning.measure_records.Goals as goal
 
 pub records-init : goal.records-init

@@ -6,7 +6,7 @@ use Rattle.edf_header.specs.Header.{Layout, IsLayout}
 use Rattle.edf_runs.specs.Again.{StopsAt}
 use Rattle.edf_runs.specs.declared.fault.WriteFault.{WriteFault}
 use Rattle.edf_runs.specs.Inside.Steps.{StepsOn}
-use Rattle.edf_runs.proofs.Next.{next_as_listed, handed_on}
+use Rattle.edf_runs.proofs.Next.{next_as_listed, comes_plain, handed_on}
 use Rattle.edf_runs.proofs.SecondReading.{none_so_far, more_so_far}
 use Rattle.edf_runs.proofs.reading.skip_run.Goals as goal
 
@@ -61,6 +61,7 @@ returns-in_err-next_at-clause-reread g c =
     let i = c.loop.invariant in
     let l = c.args.fragment.now.header in
     let run = c.args.run.now in
+    let from = c.args.fragment.now.progress in
     let mid = c.loop.fragment.progress in
     let to = c.next_at.new.fragment.progress in
     let left = g.R.Input.remaining c.args.input.now in
@@ -77,7 +78,34 @@ returns-in_err-next_at-clause-reread g c =
       header = c.in_err-next_at.ensures.header ∙ i.header;
       unchanged = λ n same.
           let changed = handed_on c.from_residual.result p.0 fault p.1 p.2 same in
-          next_as_listed l c.args.fragment.now.progress mid to left middle rest run i.so_far.0
-          c.loop.next c.loop.counter layout i.so_far.1 few n
+          next_as_listed l from mid left middle run [] i.so_far.0 c.loop.next c.loop.counter
+          i.so_far.1 (comes_plain l from left run n) to rest layout few
+          (subst (λ (x : WriteFault). StopsAt l mid to middle rest c.loop.next x) changed stop);
+    }
+
+pub returns-in_err-next_at-clause-by_onset : goal.returns-in_err-next_at-clause-by_onset
+returns-in_err-next_at-clause-by_onset g c kept =
+    let i = c.loop.invariant in
+    let l = c.args.fragment.now.header in
+    let run = c.args.run.now in
+    let from = c.args.fragment.now.progress in
+    let mid = c.loop.fragment.progress in
+    let to = c.next_at.new.fragment.progress in
+    let left = g.R.Input.remaining c.args.input.now in
+    let middle = g.R.Input.remaining c.loop.input in
+    let rest = g.R.Input.remaining c.next_at.new.input in
+    let fault = c.in_err-next_at.field-0.0 in
+    let layout : IsLayout l = subst IsLayout c.header.ensures c.header_is_layout.ensures in
+    let few : c.loop.counter < run.records = omega (arith, c.records-end.ensures.value) in
+    let p = err_from_is_err_and c.from_residual.result c.from_residual.ensures.1 in
+    let stop : StopsAt l mid to middle rest c.loop.next fault =
+    subst (λ (x : Layout). StopsAt x mid to middle rest c.loop.next fault) i.header
+    c.in_err-next_at.ensures.step in
+    record {
+      header = c.in_err-next_at.ensures.header ∙ i.header;
+      unchanged = λ n same.
+          let changed = handed_on c.from_residual.result p.0 fault p.1 p.2 same in
+          next_as_listed l from mid left middle run kept i.so_far.0 c.loop.next c.loop.counter
+          i.so_far.1 n to rest layout few
           (subst (λ (x : WriteFault). StopsAt l mid to middle rest c.loop.next x) changed stop);
     }

@@ -1,19 +1,18 @@
-use Rattle.std.proofs.Common.{rules, ◌≡◌, ◌≤◌, ℕ, ◌+◌, ◌*◌, length, List, [], ◌∷◌, ◌++◌, ◌<◌}
-use Rattle.std.proofs.Common.{refl, sym, ap, ◌∙◌, subst, arith, inl, inr, Ok, Err, Some, None}
-use Rattle.std.proofs.Common.{Option, Result, true, false, length-append}
+use Rattle.std.proofs.Common.{◌≡◌, ◌≤◌, ℕ, ◌*◌, length, [], ◌∷◌, ◌++◌, ◌<◌}
+use Rattle.std.proofs.Common.{refl, sym, ◌∙◌, subst, arith, inl, Ok, Err, Some, None}
+use Rattle.std.proofs.Common.{Option, true, false, length-append}
 use Rattle.std.proofs.lemmas.Result.{err_from_is_err_and}
 use Rattle.edf_header.specs.Header.{Layout, IsLayout}
 use Rattle.edf_header.specs.declared.limits.TheConstants.{MOST_RECORDS}
 use Rattle.edf_fragment.specs.Fragment.{DataRecord}
 use Rattle.edf_fragment.specs.Reading.{IsAnswer}
-use Rattle.edf_fragment.specs.declared.fault.FragmentFault.{FragmentFault}
 use Rattle.edf_fragment.proofs.Fragments.{one_more_read}
 use Rattle.edf_canonical.specs.File.{second_of, block_of, record_text}
 use Rattle.edf_canonical.specs.Output.{buffered, Writes}
 use Rattle.edf_runs.specs.Canonical.{IsMeasured}
 use Rattle.edf_runs.specs.Inside.Measuring.{IsMeasuredSoFar}
 use Rattle.edf_runs.proofs.Next.{handed_on}
-use Rattle.edf_runs.proofs.Sending.{out_counts, out_same}
+use Rattle.edf_runs.proofs.Sending.{out_same}
 use Rattle.edf_runs.proofs.Whole.{one_more_fits, all_at_end, no_fault, put_one_more, may_come}
 use Rattle.edf_runs.proofs.Whole.{last_fits, whole_measured, IsNoMore, same_measure}
 use Rattle.edf_runs.proofs.Whole.{err_is}

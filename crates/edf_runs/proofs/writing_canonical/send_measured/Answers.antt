@@ -1,4 +1,4 @@
-use Rattle.std.proofs.Common.{◌≡◌, inl, inr, List, [], refl, sym, ap, subst, Ok, Err, None}
+use Rattle.std.proofs.Common.{inl, inr, [], refl, sym, ap, subst, Ok, Err, None}
 use Rattle.std.proofs.lemmas.Result.{err_from_is_err_and}
 use Rattle.edf_fragment.specs.Whole.{HasRead}
 use Rattle.edf_fragment.specs.declared.advance.Progress.{Progress}

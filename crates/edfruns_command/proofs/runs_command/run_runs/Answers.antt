@@ -39,7 +39,7 @@ returns-in-Write-clause-done g c =
     let Does : RunsCommand → Type 0 = λ command.
     IsDone bytes made out err (meaning command) c.write.result in
     let Writes : List ℕ → Type 0 = λ name.
-    IsRunOut out err (bytes name) name c.in-Write.number c.write.result in
+    IsRunOut out err (bytes name) name c.in-Write.number c.in-Write.is_by_onset c.write.result in
     subst Does (sym c.in-Write.is) (subst Writes c.as_str.ensures.value
     c.write.ensures.written)
 
@@ -66,9 +66,9 @@ returns-in-Split-clause-done g c =
     IsDone bytes made out err (meaning command) c.split.result in
     let prefix = c.as_str-in-Split-2.result.now in
     let Splits : List ℕ → Type 0 = λ name.
-    IsSplit made out err (bytes name) name prefix c.split.result in
+    IsSplit made out err (bytes name) name prefix c.in-Split.is_by_onset c.split.result in
     let Named : List ℕ → Type 0 = λ text.
     IsSplit made out err (bytes (string_bytes c.in-Split.file)) (string_bytes c.in-Split.file) text
-    c.split.result in
+    c.in-Split.is_by_onset c.split.result in
     subst Does (sym c.in-Split.is) (subst Named c.as_str-in-Split-2.ensures.value
     (subst Splits c.as_str-in-Split.ensures.value c.split.ensures.split))

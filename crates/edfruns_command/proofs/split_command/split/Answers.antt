@@ -6,14 +6,14 @@ use Rattle.std.proofs.lemmas.List.FromFn.{length-map-range_with_len}
 use Rattle.edf_program.specs.Output.{growth, IsWritten}
 use Rattle.edf_program.specs.declared.status.Status.TheVariants.{Refused}
 use Rattle.edf_program.proofs.Puts.{nothing-gets}
-use Rattle.edf_runs.specs.declared.run.Run.{Run}
+use Rattle.edf_runs.specs.declared.onset_run.OnsetRun.{OnsetRun}
 use Rattle.edfruns_command.specs.Lines.{undated_line}
 use Rattle.edfruns_command.specs.Made.{IsFree}
 use Rattle.edfruns_command.specs.Naming.{run_name, run_names, first_names, asked_names}
 use Rattle.edfruns_command.specs.Splitting.{Making, making}
 use Rattle.edfruns_command.specs.InsideSplit.{SplitsListed}
-use Rattle.edfruns_command.proofs.Answered.{refused, opened-first, opened-then, refused-undone}
-use Rattle.edfruns_command.proofs.Answered.{trouble-undone}
+use Rattle.edfruns_command.proofs.Answered.{opened-first, opened-then, opened-refused}
+use Rattle.edfruns_command.proofs.Answered.{refused-undone, trouble-undone, plan-undone, lacks-plan}
 use Rattle.edfruns_command.proofs.GivingUp.{take-front}
 use Rattle.edfruns_command.proofs.Splits.{splits, as-before, names-count}
 use Rattle.edfruns_command.proofs.split_command.split.Goals as goal
@@ -22,22 +22,26 @@ pub returns-in-Err-clause-split : goal.returns-in-Err-clause-split
 returns-in-Err-clause-split g c =
     inr (
       (refl, refl),
-      inr (inr (refused (growth g.O.Output c.args.out.now c.args.out.now)
-          (growth g.F.Output c.args.err.now c.refuse.new.err)
-          (g.I.Inputs.bytes c.args.inputs.now c.args.file.now) c.args.file.now c.in-Err.fault
-          c.refuse.result
+      inr (inr (lacks-plan (growth g.O.Output c.args.out.now c.args.out.now)
+          (growth g.F.Output c.args.err.now c.refuse_plan.new.err)
+          (g.I.Inputs.bytes c.args.inputs.now c.args.file.now) c.args.file.now
+          c.refuse_plan.result c.args.is_by_onset
           (nothing-gets (g.O.Output.contents c.args.out.now) (g.O.Output.failures c.args.out.now))
-          c.in-Err.ensures.answer c.refuse.ensures)),
+          c.in-Err.fault c.in-Err.ensures.answer c.refuse_plan.ensures)),
     )
+
+pub returns-in-Err-clause-opened : goal.returns-in-Err-clause-opened
+returns-in-Err-clause-opened g c = opened-refused _ _ _ _ c.in-Err.ensures.opened
+    (plan-undone _ _ _ _ c.refuse_plan.ensures)
 
 pub returns-in_default-clause-split : goal.returns-in_default-clause-split
 returns-in_default-clause-split g c =
     inr (
       (refl, refl),
-      inr (inr (inr (
+      inr (inr (inr (inr (
         nothing-gets (g.O.Output.contents c.args.out.now) (g.O.Output.failures c.args.out.now),
         c.tell_memory.ensures,
-      ))),
+      )))),
     )
 
 pub returns-in_default-clause-opened : goal.returns-in_default-clause-opened
@@ -50,7 +54,7 @@ returns-in-Some-clause-split g c =
     inr (
       (refl, refl),
       inr (inl (record {
-        listing = c.in-Ok.listing;
+        plan = c.in-Ok.plan;
         has = c.in-Ok.ensures.answer;
         front = u.front;
         run = u.run;
@@ -76,12 +80,13 @@ returns-in-Some-taken_name-clause-split g c =
     inr (
       (c.in-Some-taken_name.ensures.made, c.in-Some-taken_name.ensures.failed),
       inl (record {
-        listing = c.in-Ok.listing;
+        plan = c.in-Ok.plan;
         has = c.in-Ok.ensures.answer;
         front = t.front;
         found = c.in-Some-taken_name.name.now;
         later = t.later;
-        parts = sym c.in-Ok-plan_of.ensures.asks
+        parts = sym (c.in-Ok-asked_names.ensures ∙ ap (λ (rs : List OnsetRun). asked_names c.args.prefix.now
+    (length rs)) c.as_slice.ensures.value)
             ∙ ap (map string_bytes) (sym c.deref.ensures.value) ∙ t.parts;
         free = t.free;
         taken = t.taken;
@@ -98,37 +103,39 @@ returns-in-Some-taken_name-clause-opened g c = opened-first _ _ _ _ c.in-Ok.ensu
 
 pub front_of-requires : goal.front_of-requires
 front_of-requires g c =
-    let asked = c.in-Ok-plan_of.plan.asked.items in
-    let runs = c.in-Ok.listing.runs.items in
+    let asked = c.in-Ok-asked_names.asked.items in
+    let runs = c.in-Ok.plan.runs.items in
     omega (
       arith,
-      ap (λ (rs : List Run). length rs) c.as_slice.ensures.value,
+      ap (λ (rs : List OnsetRun). length rs) c.as_slice-2.ensures.value,
       ap (λ (ns : List _). length ns) c.deref-2.ensures.value,
       names-count c.args.prefix.now (length runs) (map string_bytes asked)
-          c.in-Ok-plan_of.ensures.asks,
+          (c.in-Ok-asked_names.ensures ∙ ap (λ (rs : List OnsetRun). asked_names c.args.prefix.now
+    (length rs)) c.as_slice.ensures.value),
       length-map asked string_bytes,
     )
 
 pub split_listed-requires-clause-names : goal.split_listed-requires-clause-names
 split_listed-requires-clause-names g c =
-    let asked = c.in-Ok-plan_of.plan.asked.items in
-    let runs = c.in-Ok.listing.runs.items in
+    let asked = c.in-Ok-asked_names.asked.items in
+    let runs = c.in-Ok.plan.runs.items in
     ap (λ (ns : List _). length ns) c.front_of.ensures
-    ∙ length-take-le (length c.as_slice.result.now) c.deref-2.result.now (omega (
+    ∙ length-take-le (length c.as_slice-2.result.now) c.deref-2.result.now (omega (
       arith,
-      ap (λ (rs : List Run). length rs) c.as_slice.ensures.value,
+      ap (λ (rs : List OnsetRun). length rs) c.as_slice-2.ensures.value,
       ap (λ (ns : List _). length ns) c.deref-2.ensures.value,
       names-count c.args.prefix.now (length runs) (map string_bytes asked)
-          c.in-Ok-plan_of.ensures.asks,
+          (c.in-Ok-asked_names.ensures ∙ ap (λ (rs : List OnsetRun). asked_names c.args.prefix.now
+    (length rs)) c.as_slice.ensures.value),
       length-map asked string_bytes,
     ))
-    ∙ ap (λ (rs : List Run). length rs) c.as_slice.ensures.value
+    ∙ ap (λ (rs : List OnsetRun). length rs) c.as_slice-2.ensures.value
 
 pub returns-clause-split : goal.returns-clause-split
 returns-clause-split g c =
     let prefix = c.args.prefix.now in
-    let listing = c.in-Ok.listing in
-    let runs = listing.runs.items in
+    let plan = c.in-Ok.plan in
+    let runs = plan.runs.items in
     let n = length runs in
     let out = growth g.O.Output c.args.out.now c.split_listed.new.out in
     let err = growth g.F.Output c.args.err.now c.split_listed.new.err in
@@ -137,44 +144,40 @@ returns-clause-split g c =
     let m = making g.P.Outputs c.args.outputs.now c.split_listed.new.outputs in
     let later = making g.P.Outputs c.taken_name.new.outputs c.split_listed.new.outputs in
     let status = c.split_listed.result in
-    let asked = map string_bytes c.in-Ok-plan_of.plan.asked.items in
-    let text = c.in-Ok-plan_of.plan.text.items in
+    let asked = map string_bytes c.in-Ok-asked_names.asked.items in
     let same : ◌≡◌ {A = Making} later m = as-before later m c.in_default-taken_name.ensures.known
     c.in_default-taken_name.ensures.there c.in_default-taken_name.ensures.made
     c.in_default-taken_name.ensures.failed refl refl in
-    let count : length c.as_slice.result.now ≡ n =
-    ap (λ (rs : List Run). length rs) c.as_slice.ensures.value in
+    let count : length c.as_slice-2.result.now ≡ n =
+    ap (λ (rs : List OnsetRun). length rs) c.as_slice-2.ensures.value in
     let fit : length (run_names prefix n) ≡ n =
     length-map-range_with_len (run_name prefix (length (decimal n))) 1 n in
     let names : map string_bytes c.front_of.result.now ≡ run_names prefix n =
     ap (map string_bytes) c.front_of.ensures
-    ∙ sym (take-map string_bytes (length c.as_slice.result.now) c.deref-2.result.now)
+    ∙ sym (take-map string_bytes (length c.as_slice-2.result.now) c.deref-2.result.now)
     ∙ ap (λ k. take k (map string_bytes c.deref-2.result.now)) count
     ∙ ap (λ (ns : List (List ℕ)). take n ns)
-    (ap (map string_bytes) c.deref-2.ensures.value ∙ c.in-Ok-plan_of.ensures.asks)
+    (ap (map string_bytes) c.deref-2.ensures.value ∙ (c.in-Ok-asked_names.ensures ∙ ap (λ (rs : List OnsetRun). asked_names c.args.prefix.now
+    (length rs)) c.as_slice.ensures.value))
     ∙ ap (λ k. take k (run_names prefix n ++ first_names prefix)) (sym fit)
     ∙ take-front (run_names prefix n) (first_names prefix) in
-    let done : SplitsListed m out err bytes name listing (run_names prefix n) text status =
-    subst (λ (a : Making). SplitsListed a out err bytes name listing (run_names prefix n) text
-    status) same (subst (λ (b : Option (List ℕ)). SplitsListed later out err b name listing
-    (run_names prefix n) text status) (c.in-Ok.ensures.same name)
-    (subst (λ (ns : List (List ℕ)). SplitsListed later out err
-    (g.I.Inputs.bytes c.listing_of.new.inputs name) name listing ns text status) names
-    (subst (λ (t : List ℕ). SplitsListed later out err
-    (g.I.Inputs.bytes c.listing_of.new.inputs name) name listing
-    (map string_bytes c.front_of.result.now) t status) c.as_slice-2.ensures.value
-    c.split_listed.ensures.split))) in
+    let done : SplitsListed m out err bytes name plan (run_names prefix n) status =
+    subst (λ (a : Making). SplitsListed a out err bytes name plan (run_names prefix n) status) same
+    (subst (λ (b : Option (List ℕ)). SplitsListed later out err b name plan (run_names prefix n)
+    status) (c.in-Ok.ensures.same name) (subst (λ (ns : List (List ℕ)). SplitsListed later out err
+    (g.I.Inputs.bytes c.plan_of.new.inputs name) name plan ns status) names
+    c.split_listed.ensures.split)) in
     inl (
-      listing,
+      plan,
       record {
         has = c.in-Ok.ensures.answer;
         dated = c.in_default-undated_run.ensures;
         free = subst (λ (ns : List (List ℕ)). All (IsFree (g.P.Outputs.there c.args.outputs.now))
-            ns) (ap (map string_bytes) c.deref.ensures.value ∙ c.in-Ok-plan_of.ensures.asks)
+            ns) (ap (map string_bytes) c.deref.ensures.value ∙ (c.in-Ok-asked_names.ensures ∙ ap (λ (rs : List OnsetRun). asked_names c.args.prefix.now
+    (length rs)) c.as_slice.ensures.value))
             c.in_default-taken_name.ensures.answer;
       },
-      splits m out err bytes name prefix status listing text c.in-Ok.ensures.answer
-          c.in-Ok-plan_of.ensures.lines done,
+      splits bytes plan c.args.is_by_onset c.in-Ok.ensures.answer m out err name prefix status done,
     )
 
 pub returns-clause-opened : goal.returns-clause-opened

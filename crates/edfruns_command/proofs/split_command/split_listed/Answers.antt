@@ -1,6 +1,6 @@
-use Rattle.std.proofs.Common.{◌≡◌, ◌∙◌, ℕ, List, inl, inr, refl, map, string_bytes, true, false}
+use Rattle.std.proofs.Common.{◌≡◌, ◌∙◌, ℕ, List, inl, inr, refl, subst, map, string_bytes, true, false}
 use Rattle.std.proofs.lemmas.List.{length-map}
-use Rattle.edf_program.specs.Output.{growth}
+use Rattle.edf_program.specs.Output.{Gets, GetsFront, growth}
 use Rattle.edf_program.proofs.Puts.{nothing-gets, grown, put-sent}
 use Rattle.edfruns_command.specs.Splitting.{making}
 use Rattle.edfruns_command.proofs.GivingUp.{made-of, made-all, named, stopped, untold}
@@ -10,7 +10,7 @@ pub give_up-requires-clause-named : goal.give_up-requires-clause-named
 give_up-requires-clause-named g c =
     let m = making g.P.Outputs c.args.outputs.now c.make_files.new.outputs in
     let names = map string_bytes c.args.names.now in
-    let has = made-of m (g.I.Inputs.bytes c.args.inputs.now c.args.file.now) c.args.listing.now
+    let has = made-of m (g.I.Inputs.bytes c.args.inputs.now c.args.file.now) c.args.plan.now
     names c.in-Err.stop c.in-Err.ensures.answer in
     named m c.count-first.result c.count-first.ensures names has.0 has.1
 
@@ -18,7 +18,7 @@ pub returns-in-Err-clause-split : goal.returns-in-Err-clause-split
 returns-in-Err-clause-split g c =
     let m = making g.P.Outputs c.args.outputs.now c.make_files.new.outputs in
     let names = map string_bytes c.args.names.now in
-    inr (inr (stopped m (g.I.Inputs.bytes c.args.inputs.now c.args.file.now) c.args.listing.now
+    inr (inr (stopped m (g.I.Inputs.bytes c.args.inputs.now c.args.file.now) c.args.plan.now
     names c.count-first.result c.count-first.ensures (g.P.Outputs.made c.give_up.new.outputs)
     (g.P.Outputs.failed c.give_up.new.outputs) c.give_up.ensures.failed
     (growth g.O.Output c.args.out.now c.args.out.now)
@@ -28,29 +28,36 @@ returns-in-Err-clause-split g c =
     c.give_up.ensures.removed))
 
 pub returns-then-send-clause-split : goal.returns-then-send-clause-split
-returns-then-send-clause-split g c = inl (
-  c.in_default.ensures.answer,
-  put-sent (g.O.Output.contents c.args.out.now) (g.O.Output.failures c.args.out.now)
-      (g.O.Output.contents c.send.new.out) (g.O.Output.failures c.send.new.out)
-      c.args.text.now true c.if-send.ensures,
-  nothing-gets (g.F.Output.contents c.args.err.now) (g.F.Output.failures c.args.err.now),
-  refl,
-)
+returns-then-send-clause-split g c =
+    let all = c.in-Ok.ensures.answer in
+    inl (
+      all.0,
+      λ spell is. subst (Gets (growth g.O.Output c.args.out.now c.send.new.out))
+          (c.as_slice.ensures.value ∙ all.1 spell is)
+          (put-sent (g.O.Output.contents c.args.out.now) (g.O.Output.failures c.args.out.now)
+          (g.O.Output.contents c.send.new.out) (g.O.Output.failures c.send.new.out)
+          c.as_slice.result.now true c.if-send.ensures),
+      nothing-gets (g.F.Output.contents c.args.err.now) (g.F.Output.failures c.args.err.now),
+      refl,
+    )
 
 pub returns-clause-split : goal.returns-clause-split
 returns-clause-split g c =
     let m = making g.P.Outputs c.args.outputs.now c.make_files.new.outputs in
     let names = map string_bytes c.args.names.now in
+    let all = c.in-Ok.ensures.answer in
     inr (inl (
-      put-sent (g.O.Output.contents c.args.out.now) (g.O.Output.failures c.args.out.now)
-          (g.O.Output.contents c.send.new.out) (g.O.Output.failures c.send.new.out)
-          c.args.text.now false c.if-send.ensures,
-      untold m (g.I.Inputs.bytes c.args.inputs.now c.args.file.now) c.args.listing.now names
+      untold m (g.I.Inputs.bytes c.args.inputs.now c.args.file.now) c.args.plan.now names
           c.count-first.result c.count-first.ensures (g.P.Outputs.made c.give_up-2.new.outputs)
           (g.P.Outputs.failed c.give_up-2.new.outputs) c.give_up-2.ensures.failed
           (growth g.O.Output c.args.out.now c.send.new.out)
           (growth g.F.Output c.args.err.now c.give_up-2.new.err) c.args.file.now
-          c.give_up-2.result c.in_default.ensures.answer
+          c.give_up-2.result all.0
+          (λ spell is. subst (GetsFront (growth g.O.Output c.args.out.now c.send.new.out))
+          (c.as_slice.ensures.value ∙ all.1 spell is)
+          (put-sent (g.O.Output.contents c.args.out.now) (g.O.Output.failures c.args.out.now)
+          (g.O.Output.contents c.send.new.out) (g.O.Output.failures c.send.new.out)
+          c.as_slice.result.now false c.if-send.ensures))
           (length-map c.args.names.now string_bytes ∙ c.requires.names)
-          c.give_up-2.ensures.removed,
+          c.give_up-2.ensures.removed
     ))

@@ -1,0 +1,126 @@
+-- Data records that are gathered, and the annotations that are assigned to them.
+use Rattle.std.proofs.Common.{◌≡◌, ℕ, suc, length, List, [], ◌∷◌, ◌++◌, map, refl, sym, ap, ◌∙◌, All, Option}
+use Rattle.std.proofs.Common.{inl, inr}
+use Rattle.std.proofs.lemmas.List.Elements.{All-nil, All-cons, All-head, All-tail}
+use Rattle.edf_field.specs.Number.{duration_of}
+use Rattle.edf_header.specs.Header.{Layout}
+use Rattle.edf_tal.specs.Block.{IsWithinLimits}
+use Rattle.edf_tal.specs.Tal.{Annotation}
+use Rattle.edf_fragment.specs.Fragment.{DataRecord}
+use Rattle.edf_runs.specs.ByOnset.{annotations_of, assigned, each_assigned, all_assigned, by_onset}
+use Rattle.edf_fragment.specs.Reading.{CountsFault}
+use Rattle.edf_fragment.specs.Whole.{ReadsFragment, IsFragmentFault}
+use Rattle.edf_fragment.specs.declared.fault.FragmentFault.{FragmentFault}
+use Rattle.edf_fragment.specs.declared.fault.FragmentFault.TheVariants.{Header, CutRecord, Tal}
+use Rattle.edf_fragment.specs.declared.fault.FragmentFault.TheVariants.{Trailing, Read, Failed}
+use Rattle.edf_fragment.specs.declared.fault.FragmentFault.TheVariants.{Memory as NoMemory}
+use Rattle.edf_runs.specs.OnsetRead.{without_samples, IsOnsetFault, CountsOnsetFault}
+use Rattle.edf_runs.specs.declared.onset_listing.OnsetFault.{OnsetFault}
+use Rattle.edf_runs.specs.declared.onset_listing.OnsetFault.TheVariants.{Fragment, TooMany, Memory}
+use Rattle.edf_runs.specs.Inside.Assigning.{start_alone}
+use Rattle.edf_runs.specs.Inside.Keeping.{IsGathered, IsKeptFault, fault_by_onset}
+use Rattle.edf_runs.specs.declared.listing_by_onset.Gathered.{Gathered}
+use Rattle.edf_runs.proofs.Tallies.{annotations-more}
+
+-- ---- annotations are assigned by starts alone
+
+one-alone : (all : List Annotation) (low : ℕ) (r : DataRecord) (rs : List DataRecord) →
+    assigned all low (start_alone r) (map start_alone rs) ≡ without_samples (assigned all low r rs)
+one-alone all low r [] = refl
+one-alone all low r (x ∷ xs) = refl
+
+each-alone : (all : List Annotation) (rs : List DataRecord) →
+    each_assigned all (map start_alone rs) ≡ map without_samples (each_assigned all rs)
+each-alone all [] = refl
+each-alone all (r ∷ rs) =
+    ap (λ x. x ∷ each_assigned all (map start_alone rs)) (one-alone all r.start r rs)
+    ∙ ap (λ l. without_samples (assigned all r.start r rs) ∷ l) (each-alone all rs)
+
+pub all-alone : (all : List Annotation) (rs : List DataRecord) →
+    all_assigned all (map start_alone rs) ≡ map without_samples (all_assigned all rs)
+all-alone all [] = refl
+all-alone all (r ∷ rs) =
+    ap (λ x. x ∷ each_assigned all (map start_alone rs)) (one-alone all 0 r rs)
+    ∙ ap (λ l. without_samples (assigned all 0 r rs) ∷ l) (each-alone all rs)
+
+pub by-onset-alone : (records : List DataRecord) (notes : List Annotation) →
+    notes ≡ annotations_of records →
+    all_assigned notes (map start_alone records) ≡ map without_samples (by_onset records)
+by-onset-alone records notes is =
+    ap (λ all. all_assigned all (map start_alone records)) is
+    ∙ all-alone (annotations_of records) records
+
+each-length : (all : List Annotation) (rs : List DataRecord) →
+    length (map without_samples (each_assigned all rs)) ≡ length rs
+each-length all [] = refl
+each-length all (r ∷ rs) = ap suc (each-length all rs)
+
+pub by-onset-length : (records : List DataRecord) →
+    length (map without_samples (by_onset records)) ≡ length records
+by-onset-length [] = refl
+by-onset-length (r ∷ rs) = ap suc (each-length (annotations_of (r ∷ rs)) rs)
+
+-- ---- one more is gathered
+
+starts-more : (records : List DataRecord) (r : DataRecord) →
+    map start_alone (records ++ r ∷ []) ≡ map start_alone records ++ start_alone r ∷ []
+starts-more [] r = refl
+starts-more (x ∷ xs) r = ap (λ l. start_alone x ∷ l) (starts-more xs r)
+
+pub gathered-more : (records : List DataRecord) (r : DataRecord) (old new : Gathered) →
+    IsGathered records old → new.slots.items ≡ old.slots.items ++ start_alone r ∷ [] →
+    new.notes.items ≡ old.notes.items ++ r.annotations → IsGathered (records ++ r ∷ []) new
+gathered-more records r old new is slots notes = record {
+  starts = slots ∙ ap (λ l. l ++ start_alone r ∷ []) is.starts
+      ∙ sym (starts-more records r);
+  all = notes ∙ ap (λ l. l ++ r.annotations) is.all ∙ sym (annotations-more records r);
+}
+
+-- ---- what is told
+
+pub full-within : (xs : List DataRecord) →
+    All (λ r. IsWithinLimits r.annotations) (map without_samples xs) →
+    All (λ r. IsWithinLimits r.annotations) xs
+full-within [] all = All-nil (λ r. IsWithinLimits r.annotations)
+full-within (x ∷ xs) all = All-cons (λ r. IsWithinLimits r.annotations) x xs
+    (All-head (λ r. IsWithinLimits r.annotations) (without_samples x) (map without_samples xs) all)
+    (full-within xs
+    (All-tail (λ r. IsWithinLimits r.annotations) (without_samples x) (map without_samples xs) all))
+
+module _ (left rest : Option (List ℕ)) where
+  -- a fault of the reading
+  pub read-told : (fault : FragmentFault) → IsFragmentFault left rest fault →
+      IsOnsetFault left rest (fault_by_onset fault)
+  read-told (Header fault) is = is
+  read-told (CutRecord nth) is = is
+  read-told (Tal nth fault) is = is
+  read-told Trailing is = is
+  read-told Read is = is
+  read-told NoMemory is = inl is
+  read-told Failed is = is
+
+  -- a fault after it
+  pub kept-told : (l : Layout) (records : List DataRecord) (fault : OnsetFault) →
+      ReadsFragment left rest l records →
+      IsKeptFault (duration_of l.key.duration) (map without_samples (by_onset records)) fault →
+      IsOnsetFault left rest fault
+  kept-told l records (Fragment fault) read is = absurd is
+  kept-told l records (TooMany number) read is =
+      record { layout = l; records = records; read = read; crowded = is }
+  kept-told l records Memory read is = inr (l, records, read)
+
+pub read-counts : (old new : ℕ) (fault : FragmentFault) → CountsFault old new fault →
+    CountsOnsetFault old new (fault_by_onset fault)
+read-counts old new (Header fault) counts = counts
+read-counts old new (CutRecord nth) counts = counts
+read-counts old new (Tal nth fault) counts = counts
+read-counts old new Trailing counts = counts
+read-counts old new Read counts = counts
+read-counts old new NoMemory counts = counts
+read-counts old new Failed counts = counts
+
+pub kept-counts : (d old : ℕ) (records : List DataRecord) (fault : OnsetFault) →
+    IsKeptFault d records fault → CountsOnsetFault old old fault
+kept-counts d old records (Fragment fault) is = absurd is
+kept-counts d old records (TooMany number) is = refl
+kept-counts d old records Memory is = refl

@@ -1,0 +1,109 @@
+-- What the writing of a run does whose data records go out with annotations that were kept of them.
+use Rattle.std.specs.Prelude.{◌≡◌, ◌≢◌, ℕ, ◌+◌, ◌≤◌, List, [], ◌∷◌, length, Option, Some}
+use Rattle.std.specs.Prelude.{Result, Err}
+use Rattle.std.specs.Io.KnownBytes.{Appends}
+use Rattle.edf_field.specs.Number.{duration_of}
+use Rattle.edf_header.specs.Header.{Layout, most_records}
+use Rattle.edf_tal.specs.declared.place.Place.{Place}
+use Rattle.edf_fragment.specs.Fragment.{DataRecord, AreDataRecords}
+use Rattle.edf_fragment.specs.declared.advance.Progress.{Progress}
+use Rattle.edf_fragment.specs.declared.advance.ReaderState.TheVariants.{Reading}
+use Rattle.edf_fragment.specs.declared.open_fragment.OpenFragment.{OpenFragment}
+use Rattle.edf_canonical.specs.File.{second_of, BlocksFit}
+use Rattle.edf_runs.specs.Runs.{StartFrom, IsListed}
+use Rattle.edf_runs.specs.File.{IsRunFile}
+use Rattle.edf_runs.specs.Read.{ReadsOn}
+use Rattle.edf_runs.specs.Written.{WritesRunFront, ReadsOneMoreAtMost, CannotBegin}
+use Rattle.edf_runs.specs.Counted.{AreCounted}
+use Rattle.edf_runs.specs.declared.run.Run.{Run}
+use Rattle.edf_runs.specs.declared.written.Written.{Written}
+use Rattle.edf_runs.specs.declared.fault.WriteFault.{WriteFault}
+use Rattle.edf_runs.specs.declared.fault.WriteFault.TheVariants.{Undated, Changed, Read, Memory}
+use Rattle.edf_runs.specs.declared.fault.WriteFault.TheVariants.{Write}
+
+-- the data record with the annotations of another
+abbrev pub with_annotations : DataRecord → DataRecord → DataRecord
+with_annotations kept r =
+    record { start = r.start; samples = r.samples; annotations = kept.annotations }
+
+-- data records with the annotations that were kept of them, one by one; those of which nothing was
+-- kept have their own
+abbrev pub annotated : List DataRecord → List DataRecord → List DataRecord
+annotated [] records = records
+annotated (k ∷ ks) [] = []
+annotated (k ∷ ks) (r ∷ rs) = with_annotations k r ∷ annotated ks rs
+
+-- those of which something was kept start when that says
+abbrev pub StartAlike : List DataRecord → List DataRecord → Type 0
+StartAlike [] records = Unit {0}
+StartAlike (k ∷ ks) [] = Unit {0}
+StartAlike (k ∷ ks) (r ∷ rs) = (k.start ≡ r.start) × StartAlike ks rs
+
+-- the run comes next: the input has data records, whose number the header allows, which start as
+-- those that were kept, and of which, with the annotations that were kept, just this was listed
+pub record ComesByOnset (l : Layout) (from : Progress) (left : Option (List ℕ)) (run : Run)
+    (kept : List DataRecord) : Type 0 where
+  pub going : from.state ≡ Reading
+  pub bytes : List ℕ
+  pub known : left ≡ Some bytes
+  pub records : List DataRecord
+  pub last : Place
+  pub rest : List ℕ
+  pub are_records : AreDataRecords l from.place bytes records last rest
+  pub within : from.given + length records ≤ most_records l.count
+  pub alike : StartAlike kept records
+  pub listed : IsListed (duration_of l.key.duration) (annotated kept records) run
+
+-- a call that reads the run again leaves the header, and finds no change where the run comes next
+pub record RereadsByOnset {A : Type 0} (old new : OpenFragment) (left : Option (List ℕ)) (run : Run)
+    (kept : List DataRecord) (result : Result A WriteFault) : Type 0 where
+  pub header : new.header ≡ old.header
+  pub unchanged : ComesByOnset old.header old.progress left run kept → result ≢ Err Changed
+
+-- as many data records as the run has were read, which start as those of the run do; with the
+-- annotations that were kept their file went out, the only one that they have, and this is its
+-- length, and what is counted of these annotations
+pub record IsWrittenByOnset (l : Layout) (from to : Progress)
+    (left rest before after : Option (List ℕ)) (run : Run) (kept : List DataRecord)
+    (written : Written) : Type 0 where
+  pub records : List DataRecord
+  pub read : ReadsOn l from to left rest records
+  pub count : length records ≡ run.records
+  pub listed : IsListed (duration_of l.key.duration) (annotated kept records) run
+  pub file : List ℕ
+  pub is_file : IsRunFile file l.key (annotated kept records)
+  pub only : (other : List ℕ) → IsRunFile other l.key (annotated kept records) → other ≡ file
+  pub wrote : Appends before after file
+  pub len_is : written.bytes ≡ length file
+  pub counted : AreCounted (duration_of l.key.duration) run (annotated kept records)
+      written.annotations written.outside
+
+-- the first data records of the run were read, and of its header and these, with the annotations
+-- that were kept, a front went out, or nothing; and no more was read than one data record that the
+-- run still lacked
+pub record StopsByOnset (l : Layout) (from to : Progress) (left rest before after : Option (List ℕ))
+    (run : Run) (kept : List DataRecord) : Type 0 where
+  pub records : List DataRecord
+  pub mid : Progress
+  pub middle : Option (List ℕ)
+  pub read : ReadsOn l from mid left middle records
+  pub starts : StartFrom (duration_of l.key.duration) run.first records
+  pub within : length records ≤ run.records
+  pub holds : BlocksFit (second_of run.first) run.block_samples (annotated kept records)
+  pub front : WritesRunFront l.key before after run (annotated kept records)
+  pub more : ReadsOneMoreAtMost l mid to middle rest (length records) run
+
+-- why a run was not written so, or not to its end
+abbrev pub IsNotWrittenByOnset : Layout → Progress → Progress → Option (List ℕ) →
+    Option (List ℕ) → Option (List ℕ) → Option (List ℕ) → Run → List DataRecord → WriteFault →
+    Type 0
+IsNotWrittenByOnset l from to left rest before after run kept Undated =
+    CannotBegin l from to left rest before after run
+IsNotWrittenByOnset l from to left rest before after run kept Changed =
+    StopsByOnset l from to left rest before after run kept
+IsNotWrittenByOnset l from to left rest before after run kept Read =
+    StopsByOnset l from to left rest before after run kept
+IsNotWrittenByOnset l from to left rest before after run kept Memory =
+    StopsByOnset l from to left rest before after run kept
+IsNotWrittenByOnset l from to left rest before after run kept Write =
+    StopsByOnset l from to left rest before after run kept

@@ -1,0 +1,92 @@
+-- The lines of files, one line more.
+use Rattle.std.proofs.Common.{◌≡◌, ℕ, suc, ◌+◌, ◌-◌, ◌<◌, List, [], ◌∷◌, ◌++◌, length, get_or, refl, sym, ap}
+use Rattle.std.proofs.Common.{◌∙◌, arith, append_assoc, append-nil, codes, decimal, Option}
+use Rattle.std.specs.Prelude.{slice_get}
+use Rattle.edf_time.specs.Decimal.{short}
+use Rattle.edf_fragment.specs.Fragment.{DataRecord}
+use Rattle.edf_runs.specs.ByOnset.{annotations_of}
+use Rattle.edf_runs.specs.Counted.{AreCounted}
+use Rattle.edf_runs.specs.AsRead.{runs_of}
+use Rattle.edf_runs.specs.declared.run.Run.{Run}
+use Rattle.edf_runs.specs.declared.onset_run.OnsetRun.{OnsetRun}
+use Rattle.edfruns_command.specs.Lines.{end_of, gap_text}
+use Rattle.edfruns_command.specs.Counting.{run_front, counts_text, counts_of, counted_line}
+use Rattle.edfruns_command.specs.Counting.{split_lines}
+use Rattle.edfruns_command.proofs.RunTexts.{four-parts}
+
+-- the front of the line of a run, whose parts are these
+pub front-of : (spell : ℕ → List ℕ) (d number : ℕ) (r : Run) (next : Option Run)
+    (a s t g front : List ℕ)
+    → a ≡ decimal number ++ (codes " records=" ++ (decimal r.records ++ codes " first=")) →
+    s ≡ spell r.first → t ≡ short (end_of d r - r.first) → g ≡ gap_text d r next →
+    front ≡ a ++ (s ++ (codes " seconds=" ++ (t ++ (g ++ [])))) →
+    front ≡ run_front spell d number r next
+front-of spell d number r next a s t g front ea es et eg is =
+    is
+    ∙ ap (λ (x : List ℕ). a ++ (s ++ (codes " seconds=" ++ (t ++ x)))) (append-nil g)
+    ∙ ap (λ (x : List ℕ). x ++ (s ++ (codes " seconds=" ++ (t ++ g)))) ea
+    ∙ four-parts (decimal number) (codes " records=") (decimal r.records) (codes " first=")
+    (s ++ (codes " seconds=" ++ (t ++ g)))
+    ∙ ap (λ (x : List ℕ). decimal number ++ (codes " records=" ++ (decimal r.records
+    ++ (codes " first=" ++ (x ++ (codes " seconds=" ++ (t ++ g))))))) es
+    ∙ ap (λ (x : List ℕ). decimal number ++ (codes " records=" ++ (decimal r.records
+    ++ (codes " first=" ++ (spell r.first ++ (codes " seconds=" ++ (x ++ g))))))) et
+    ∙ ap (λ (x : List ℕ). decimal number ++ (codes " records=" ++ (decimal r.records
+    ++ (codes " first=" ++ (spell r.first ++ (codes " seconds="
+    ++ (short (end_of d r - r.first) ++ x))))))) eg
+
+-- what is counted of data records
+pub counted-text : (d : ℕ) (r : Run) (records : List DataRecord) (annotations outside : ℕ) →
+    AreCounted d r records annotations outside →
+    counts_text annotations outside ≡ counts_of d r records
+counted-text d r records annotations outside are =
+    ap (λ n. counts_text n outside) are.all
+    ∙ ap (counts_text (length (annotations_of records))) are.out
+
+pub told-line : (spell : ℕ → List ℕ) (d number : ℕ) (run : OnsetRun) (runs : List OnsetRun)
+    (front : List ℕ) (records : List DataRecord) (annotations outside : ℕ) →
+    front ≡ run_front spell d number run.run (slice_get (runs_of runs) number) →
+    AreCounted d run.run records annotations outside →
+    front ++ counts_text annotations outside
+    ≡ counted_line spell d number run.run (slice_get (runs_of runs) number) records
+told-line spell d number run runs front records annotations outside is are =
+    ap (λ (t : List ℕ). t ++ counts_text annotations outside) is
+    ∙ ap (λ (t : List ℕ). run_front spell d number run.run (slice_get (runs_of runs) number) ++ t)
+    (counted-text d run.run records annotations outside are)
+
+-- the line of the file after these
+pub lines-more : (spell : ℕ → List ℕ) (d number : ℕ) (names : List (List ℕ)) (runs : List Run)
+    (files : List (List DataRecord)) (file : List DataRecord) (name : List ℕ) (run : Run) →
+    length files < length names → length files < length runs →
+    name ≡ get_or names (length files) name → run ≡ get_or runs (length files) run →
+    split_lines spell d number names runs (files ++ (file ∷ []))
+    ≡ split_lines spell d number names runs files ++ (name ++ (codes " "
+    ++ counted_line spell d (number + length files) run
+    (slice_get runs (length files + 1)) file))
+lines-more spell d number [] runs files file name run lt within is is_run =
+    absurd (omega (arith, lt))
+lines-more spell d number (n ∷ names) [] files file name run lt within is is_run =
+    absurd (omega (arith, within))
+lines-more spell d number (n ∷ names) (r ∷ runs) [] file name run lt within is is_run =
+    let here : number ≡ number + 0 = omega arith in
+    let line : ℕ → Run → List ℕ = λ k x. counted_line spell d k x (slice_get runs 0) file in
+    ap (λ (t : List ℕ). n ++ (codes " " ++ t)) (append-nil (line number r))
+    ∙ ap (λ (t : List ℕ). t ++ (codes " " ++ line number r)) (sym is)
+    ∙ ap (λ (x : Run). name ++ (codes " " ++ line number x)) (sym is_run)
+    ∙ ap (λ k. name ++ (codes " " ++ line k run)) here
+lines-more spell d number (n ∷ names) (r ∷ runs) (f ∷ files) file name run lt within is is_run =
+    let rest = split_lines spell d (number + 1) names runs files in
+    let first = counted_line spell d number r (slice_get runs 0) f in
+    let at : (number + 1) + length files ≡ number + length (f ∷ files) = omega arith in
+    let more : suc (length files + 1) ≡ length (f ∷ files) + 1 = omega arith in
+    let next : slice_get runs (length files + 1)
+    ≡ slice_get (r ∷ runs) (length (f ∷ files) + 1) = ap (slice_get (r ∷ runs)) more in
+    let last : ℕ → Option Run → List ℕ = λ k after. name ++ (codes " "
+    ++ counted_line spell d k run after file) in
+    let later = lines-more spell d (number + 1) names runs files file name run
+    (omega (arith, lt)) (omega (arith, within)) is is_run in
+    ap (λ (t : List ℕ). n ++ (codes " " ++ (first ++ t))) (later
+    ∙ ap (λ k. rest ++ last k (slice_get runs (length files + 1))) at
+    ∙ ap (λ (after : Option Run). rest ++ last (number + length (f ∷ files)) after) next)
+    ∙ sym (four-parts n (codes " ") first rest (last (number + length (f ∷ files))
+    (slice_get (r ∷ runs) (length (f ∷ files) + 1))))

@@ -1,0 +1,147 @@
+//! The lines of runs whose files were written.
+
+ghost use Rattle.std.specs.Prelude.{◌≡◌, ◌≤◌, ◌+◌, ◌++◌, ℕ, List, IfOk, codes, length};
+ghost use Rattle.std.specs.Prelude.{option_map, slice_get};
+ghost use Rattle.edf_field.specs.Number.{duration_of};
+ghost use Rattle.edf_program.specs.Output.{growth, IsWritten};
+ghost use Rattle.edf_runs.specs.AsRead.{runs_of};
+ghost use Rattle.edfruns_command.specs.Counting.{run_front, counts_text};
+ghost use Rattle.edfruns_command.specs.Lines.{IsSpelling};
+
+use crate::lines::gap_text;
+use crate::texts::{joined, spelled};
+use edf_field::MOST_DURATION;
+use edf_fragment::Output;
+use edf_program::{Status, tell_parts};
+use edf_runs::{OnsetListing, OnsetRun, Run, Written};
+use edf_time::write_seconds;
+use itoa::Buffer;
+use std::alloc::{AllocError, Global};
+
+/// The run at a place, from 0, if there is one.
+fn run_at(runs: &[OnsetRun], at: usize) -> Option<&Run>
+    ensures { option_map (λ run. run.now) result ≡ slice_get (runs_of runs.now) at }
+{
+    match runs.get(at) {
+        Some(run) => Some(run.run()),
+        None => None,
+    }
+}
+
+/// The line of a run up to its counts: its number, how many data records it has, the start of the
+/// first, its length in seconds, and the gap before the next run, if there is one.
+fn run_front(
+    alloc: Global,
+    duration: u64,
+    number: usize,
+    run: &Run,
+    next: Option<&Run>,
+) -> Result<Vec<u8>, AllocError>
+    requires { duration ≤ MOST_DURATION }
+    ensures { IfOk result (λ r. (spell : ℕ → List ℕ) → IsSpelling spell →
+        r.items ≡ run_front spell duration number run.now (option_map (λ run. run.now) next.entry)) }
+{
+    let (records, end) = (run.records(), run.last().nanos() + duration);
+    let counts = format!(in alloc; "{number} records={records} first=")?;
+    let first = spelled(alloc, run.first())?;
+    let seconds = write_seconds(alloc, end.saturating_sub(run.first().nanos()))?;
+    let gap = gap_text(alloc, end, next)?;
+    let parts = [
+        counts.as_bytes(),
+        first.as_slice(),
+        b" seconds=",
+        seconds.as_slice(),
+        gap.as_slice(),
+    ];
+    joined(alloc, &parts)
+}
+
+/// The same of the run of that number of a file, from 1.
+pub(crate) fn front_of_run(
+    alloc: Global,
+    plan: &OnsetListing,
+    number: u32,
+    run: &Run,
+) -> Result<Vec<u8>, AllocError>
+    ensures { IfOk result (λ r. (spell : ℕ → List ℕ) → IsSpelling spell → r.items
+        ≡ run_front spell (duration_of plan.now.identity.duration) number run.now
+        (slice_get (runs_of plan.now.runs.items) number)) }
+{
+    let duration = plan.identity.duration();
+    let next = run_at(&plan.runs, number as usize);
+    run_front(alloc, duration, number as usize, run, next)
+}
+
+/// How many annotations a file has, and how many of these have an onset outside of the run.
+fn counts_text(alloc: Global, written: &Written) -> Result<Vec<u8>, AllocError>
+    ensures { IfOk result (λ r. r.items ≡ counts_text written.now.annotations written.now.outside) }
+{
+    let (annotations, outside) = (written.annotations, written.outside);
+    Ok(format!(in alloc; " annotations={annotations} outside={outside}\n")?.into_bytes())
+}
+
+/// The line of a file that was written, after the file's name and a space. Its run is the one at
+/// this place, from 0.
+fn file_line(
+    alloc: Global,
+    duration: u64,
+    name: &str,
+    runs: &[OnsetRun],
+    at: usize,
+    run: &OnsetRun,
+    written: &Written,
+) -> Result<Vec<u8>, AllocError>
+    requires duration { duration ≤ MOST_DURATION }
+    requires within { at + 1 ≤ length runs.now }
+    ensures { IfOk result (λ r. (spell : ℕ → List ℕ) → IsSpelling spell →
+        r.items ≡ name.now ++ (codes " " ++ (run_front spell duration (at + 1) run.now.run
+        (slice_get (runs_of runs.now) (at + 1))
+        ++ counts_text written.now.annotations written.now.outside))) }
+{
+    let front = run_front(alloc, duration, at + 1, run.run(), run_at(runs, at + 1))?;
+    let counts = counts_text(alloc, written)?;
+    let parts = [name.as_bytes(), b" ", front.as_slice(), counts.as_slice()];
+    joined(alloc, &parts)
+}
+
+/// A text with that line behind it.
+pub(crate) fn with_line(
+    alloc: Global,
+    mut text: Vec<u8>,
+    duration: u64,
+    name: &str,
+    runs: &[OnsetRun],
+    at: usize,
+    run: &OnsetRun,
+    written: &Written,
+) -> Result<Vec<u8>, AllocError>
+    requires duration { duration ≤ MOST_DURATION }
+    requires within { at + 1 ≤ length runs.now }
+    ensures { IfOk result (λ r. (spell : ℕ → List ℕ) → IsSpelling spell → r.items ≡ text.items
+        ++ (name.now ++ (codes " " ++ (run_front spell duration (at + 1) run.now.run
+        (slice_get (runs_of runs.now) (at + 1))
+        ++ counts_text written.now.annotations written.now.outside)))) }
+{
+    let line = file_line(alloc, duration, name, runs, at, run, written)?;
+    text.extend_from_slice(line.as_slice())?;
+    Ok(text)
+}
+
+/// Prints the line of a run whose file went out, which begins with this front. Printing takes no
+/// memory.
+pub(crate) fn tell_counted<F: Output>(err: &mut F, front: &[u8], written: &Written) -> Status
+    ensures { IsWritten (growth F.Output err.old err.new)
+        (front.now ++ counts_text written.now.annotations written.now.outside) Status.Done result }
+{
+    let mut annotations = Buffer::new();
+    let mut outside = Buffer::new();
+    let parts = [
+        front,
+        b" annotations=",
+        annotations.format(written.annotations).as_bytes(),
+        b" outside=",
+        outside.format(written.outside).as_bytes(),
+        b"\n",
+    ];
+    tell_parts(err, &parts, Status::Done)
+}
