@@ -93,8 +93,9 @@ fn group_line(
     next: Option<&Run>,
 ) -> Result<Vec<u8>, AllocError>
     requires { duration ≤ MOST_DURATION }
-    ensures { IfOk result (λ r. (spell : ℕ → List ℕ) → IsSpelling spell → r.items
-        ≡ group_line spell most duration number group.now (option_map (λ run. run.now) next.entry)) }
+    ensures { IfOk result (λ r. (spell : ℕ → List ℕ) → IsSpelling spell →
+        r.items ≡ group_line spell most duration number group.now
+        (option_map (λ run. run.now) next.entry)) }
 {
     if group.is_empty() {
         return Ok(Vec::new(alloc));
