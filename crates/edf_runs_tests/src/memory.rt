@@ -106,13 +106,11 @@ fn short_until_whole(alloc: Global, command: &RunsCommand) -> Option<u32> {
 
 /// The command to split two gaps.
 fn split(alloc: Global, is_by_onset: bool) -> Option<RunsCommand> {
-    Some(
-        RunsCommand::Split {
-            file: String::from_str(alloc, "two.edf").ok()?,
-            prefix: String::from_str(alloc, "night").ok()?,
-            is_by_onset,
-        },
-    )
+    Some(RunsCommand::Split {
+        file: String::from_str(alloc, "two.edf").ok()?,
+        prefix: String::from_str(alloc, "night").ok()?,
+        is_by_onset,
+    })
 }
 
 /// The commands to list two gaps and to split it, as it is and by onset.

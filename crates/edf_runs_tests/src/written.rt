@@ -74,11 +74,7 @@ fn the_canonical_file_is_written(rt: HostRuntime) {
         ("canonical one.edf", canonical_one(alloc)),
         ("canonical two.edf", two_gaps(alloc)),
     ] {
-        assert_eq!(rt;
-            is_written(alloc, line, expected, ""),
-            Some(true),
-            "{line}"
-        );
+        assert_eq!(rt; is_written(alloc, line, expected, ""), Some(true), "{line}");
     }
 }
 

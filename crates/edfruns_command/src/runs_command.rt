@@ -115,7 +115,15 @@ pub fn run_runs<I: Inputs, P: Outputs, O: Output, F: Output>(
             file,
             number,
             is_by_onset,
-        } => write(alloc, file.as_str(), *number, *is_by_onset, inputs, out, err),
+        } => write(
+            alloc,
+            file.as_str(),
+            *number,
+            *is_by_onset,
+            inputs,
+            out,
+            err,
+        ),
         RunsCommand::Canonical { file } => canonical(alloc, file.as_str(), inputs, out, err),
         RunsCommand::Split {
             file,

@@ -77,13 +77,11 @@ pub(crate) fn read_split(
     }
     let file = String::from_str(alloc, file)?;
     let prefix = String::from_str(alloc, value_in(values, "PREFIX"))?;
-    Ok(
-        RunsCommand::Split {
-            file,
-            prefix,
-            is_by_onset: is_by_onset(values),
-        },
-    )
+    Ok(RunsCommand::Split {
+        file,
+        prefix,
+        is_by_onset: is_by_onset(values),
+    })
 }
 
 /// The names that no file may have: those of the runs, and the first ones of an earlier split.

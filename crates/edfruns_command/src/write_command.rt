@@ -81,13 +81,11 @@ pub(crate) fn read_write(
         return Err(refuse_value(alloc, write_words(alloc)?, NAME, BAD_NUMBER)?);
     };
     let file = String::from_str(alloc, file)?;
-    Ok(
-        RunsCommand::Write {
-            file,
-            number,
-            is_by_onset: is_by_onset(values),
-        },
-    )
+    Ok(RunsCommand::Write {
+        file,
+        number,
+        is_by_onset: is_by_onset(values),
+    })
 }
 
 /// Reads past runs of a file that was opened again.
@@ -143,11 +141,7 @@ fn write_again<I: Inputs, O: Output>(
         return Err(WriteFault::Memory);
     };
     let mut fragment = reopen_by_onset(alloc, &mut reader, plan)?;
-    skip_runs(
-        &mut fragment,
-        &mut reader,
-        runs_before(&plan.runs, number),
-    )?;
+    skip_runs(&mut fragment, &mut reader, runs_before(&plan.runs, number))?;
     match write_by_onset(alloc, &mut fragment, &mut reader, run, out) {
         Ok(written) => Ok(written),
         Err(fault) => Err(fault),

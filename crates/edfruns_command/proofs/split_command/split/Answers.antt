@@ -86,7 +86,7 @@ returns-in-Some-taken_name-clause-split g c =
         found = c.in-Some-taken_name.name.now;
         later = t.later;
         parts = sym (c.in-Ok-asked_names.ensures ∙ ap (λ (rs : List OnsetRun). asked_names c.args.prefix.now
-    (length rs)) c.as_slice.ensures.value)
+            (length rs)) c.as_slice.ensures.value)
             ∙ ap (map string_bytes) (sym c.deref.ensures.value) ∙ t.parts;
         free = t.free;
         taken = t.taken;
@@ -111,7 +111,7 @@ front_of-requires g c =
       ap (λ (ns : List _). length ns) c.deref-2.ensures.value,
       names-count c.args.prefix.now (length runs) (map string_bytes asked)
           (c.in-Ok-asked_names.ensures ∙ ap (λ (rs : List OnsetRun). asked_names c.args.prefix.now
-    (length rs)) c.as_slice.ensures.value),
+          (length rs)) c.as_slice.ensures.value),
       length-map asked string_bytes,
     )
 
@@ -126,7 +126,7 @@ split_listed-requires-clause-names g c =
       ap (λ (ns : List _). length ns) c.deref-2.ensures.value,
       names-count c.args.prefix.now (length runs) (map string_bytes asked)
           (c.in-Ok-asked_names.ensures ∙ ap (λ (rs : List OnsetRun). asked_names c.args.prefix.now
-    (length rs)) c.as_slice.ensures.value),
+          (length rs)) c.as_slice.ensures.value),
       length-map asked string_bytes,
     ))
     ∙ ap (λ (rs : List OnsetRun). length rs) c.as_slice-2.ensures.value
@@ -174,7 +174,7 @@ returns-clause-split g c =
         dated = c.in_default-undated_run.ensures;
         free = subst (λ (ns : List (List ℕ)). All (IsFree (g.P.Outputs.there c.args.outputs.now))
             ns) (ap (map string_bytes) c.deref.ensures.value ∙ (c.in-Ok-asked_names.ensures ∙ ap (λ (rs : List OnsetRun). asked_names c.args.prefix.now
-    (length rs)) c.as_slice.ensures.value))
+            (length rs)) c.as_slice.ensures.value))
             c.in_default-taken_name.ensures.answer;
       },
       splits bytes plan c.args.is_by_onset c.in-Ok.ensures.answer m out err name prefix status done,

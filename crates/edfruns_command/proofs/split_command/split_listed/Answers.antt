@@ -47,17 +47,17 @@ returns-clause-split g c =
     let names = map string_bytes c.args.names.now in
     let all = c.in-Ok.ensures.answer in
     inr (inl (
-      untold m (g.I.Inputs.bytes c.args.inputs.now c.args.file.now) c.args.plan.now names
-          c.count-first.result c.count-first.ensures (g.P.Outputs.made c.give_up-2.new.outputs)
-          (g.P.Outputs.failed c.give_up-2.new.outputs) c.give_up-2.ensures.failed
-          (growth g.O.Output c.args.out.now c.send.new.out)
-          (growth g.F.Output c.args.err.now c.give_up-2.new.err) c.args.file.now
-          c.give_up-2.result all.0
-          (λ spell is. subst (GetsFront (growth g.O.Output c.args.out.now c.send.new.out))
-          (c.as_slice.ensures.value ∙ all.1 spell is)
-          (put-sent (g.O.Output.contents c.args.out.now) (g.O.Output.failures c.args.out.now)
-          (g.O.Output.contents c.send.new.out) (g.O.Output.failures c.send.new.out)
-          c.as_slice.result.now false c.if-send.ensures))
-          (length-map c.args.names.now string_bytes ∙ c.requires.names)
-          c.give_up-2.ensures.removed
+    untold m (g.I.Inputs.bytes c.args.inputs.now c.args.file.now) c.args.plan.now names
+    c.count-first.result c.count-first.ensures (g.P.Outputs.made c.give_up-2.new.outputs)
+    (g.P.Outputs.failed c.give_up-2.new.outputs) c.give_up-2.ensures.failed
+    (growth g.O.Output c.args.out.now c.send.new.out)
+    (growth g.F.Output c.args.err.now c.give_up-2.new.err) c.args.file.now
+    c.give_up-2.result all.0
+    (λ spell is. subst (GetsFront (growth g.O.Output c.args.out.now c.send.new.out))
+    (c.as_slice.ensures.value ∙ all.1 spell is)
+    (put-sent (g.O.Output.contents c.args.out.now) (g.O.Output.failures c.args.out.now)
+    (g.O.Output.contents c.send.new.out) (g.O.Output.failures c.send.new.out)
+    c.as_slice.result.now false c.if-send.ensures))
+    (length-map c.args.names.now string_bytes ∙ c.requires.names)
+    c.give_up-2.ensures.removed
     ))
