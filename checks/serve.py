@@ -3,7 +3,7 @@
     python3 -m checks.serve [--program PATH] [--edfserve PATH] [--seed SEED] [COUNT]
 
 A client that waits for each answer, one that sends all at once, one that stops reading; names with
-spaces and beyond ASCII; lines that are none, of the greatest length and longer, cut by the end of
+spaces and beyond ASCII, and names that lead out of the folders of --from and --to; lines that are none, of the greatest length and longer, cut by the end of
 the input; a store that is refused; a full disk, and room again. Over a pipe, a named pipe, and by
 socat a socket, where it is installed. Then COUNT sessions (100 if left out) are killed at a random
 moment and begun again: what was answered is held, and in the end all of it is.
@@ -18,7 +18,7 @@ import time
 from pathlib import Path
 from subprocess import PIPE
 
-from checks.lib import arguments, faults, measure, model, named, night, printed, serving
+from checks.lib import arguments, faults, measure, model, named, night, printed, runs, serving
 from checks.lib.checks import Checks, Lost, compare, end
 from checks.lib.serving import NO_COMMAND, Client, exported, status
 
@@ -46,6 +46,11 @@ class Session:
 
     def list(self) -> str:
         return self.tell(self.held.lines(), 0)
+
+    def runs(self, place: int) -> str:
+        if place not in range(1, len(self.held.held) + 1):
+            return self.tell(printed.no_recording(place), 1)
+        return self.tell(runs.lines(runs.read_runs(self.held.export(place))), 0)
 
     def export(self, place: int, name: str) -> str:
         if place not in range(1, len(self.held.held) + 1):
@@ -75,16 +80,17 @@ def script(folder: Path) -> list:
     """Lines of each kind, each with its answer by the model."""
     names, told = laid(folder), Session(folder)
     asked = [(f"take {name}", told.take(name)) for name in names[:8]]
-    asked.append(("list", told.list()))
+    asked += [("list", told.list()), ("runs 1", told.runs(1))]
     asked += [(f"take {name}", told.take(name)) for name in (names[12], names[3], "cut.edf",
                                                              "missing.edf", "other.edf")]
-    asked += [("list", told.list()), ("export 1 Nacht ä.edf", told.export(1, "Nacht ä.edf")),
+    asked += [("list", told.list()), ("runs 1", told.runs(1)), ("runs 2", told.runs(2)),
+              ("runs 9", told.runs(9)), ("export 1 Nacht ä.edf", told.export(1, "Nacht ä.edf")),
               ("export 9 none.edf", told.export(9, "none.edf")),
               ("export 1 cut.edf", told.export(1, "cut.edf"))]
-    for line in ("lists", "take", "take ", "export 1", "export 0 x", "export x y", "runs 1", "",
-                 " list", "list ", "LIST", "\ttake part", "take\0"):
+    for line in ("lists", "take", "take ", "export 1", "export 0 x", "export x y", "runs", "runs 0",
+                 "runs 1 ", "run 1", "", " list", "list ", "LIST", "\ttake part", "take\0"):
         asked.append((line, told.none()))
-    asked.append(("list", told.list()))
+    asked += [("list", told.list()), ("runs 1", told.runs(1))]
     return asked
 
 
@@ -147,6 +153,37 @@ def over_a_socket(checks: Checks, given):
         server.wait()
         return ran
     return run
+
+
+def below_a_folder(checks: Checks, given) -> None:
+    """Names below --from and --to alone are opened and made."""
+    checks.begin("names outside of the folder")
+    (checks.folder / "in" / "deep").mkdir(parents=True)
+    (checks.folder / "out").mkdir()
+    data = named.files()["p5.edf"]
+    for name in ("p.edf", "in/p.edf", "in/deep/p.edf"):
+        checks.file(name, data)
+    (checks.folder / "in" / "link.edf").symlink_to("../p.edf")
+    (checks.folder / "in" / "away").symlink_to("..")
+    (checks.folder / "out" / "away").symlink_to("..")
+    client = Client(given.edfserve, checks.folder, "--from", "in", "--to", "out")
+    for name in ("../p.edf", "/etc/passwd", "deep/../../p.edf", "..", "away/p.edf", "link.edf",
+                 str(checks.folder / "in/p.edf")):
+        checks.same(f"take {name}", client.ask(f"take {name}"), serving.is_outside(name) + status(1))
+    for name, answer in (("p.edf", printed.NEW), ("deep/p.edf", printed.KNOWN),
+                         ("./p.edf", printed.KNOWN)):
+        checks.same(f"take {name}", client.ask(f"take {name}"),
+                    printed.line(name, answer) + status(0))
+    held = model.Store()
+    held.take(data)
+    for name in ("../x.edf", "away/x.edf", str(checks.folder / "x.edf")):
+        checks.same(f"export 1 {name}", client.ask(f"export 1 {name}"),
+                    serving.is_outside(name) + status(1))
+    checks.same("export 1 x.edf", client.ask("export 1 x.edf"),
+                exported("x.edf", held.export(1)) + status(0))
+    checks.same("the exported file", checks.content("out/x.edf"), held.export(1))
+    checks.same("nothing was made elsewhere", (checks.folder / "x.edf").exists(), False)
+    checks.same("the end", client.end()[0], 1)
 
 
 def stops_reading(checks: Checks, given) -> None:
@@ -291,6 +328,7 @@ def main() -> None:
         sends_all(checks, given, "a named pipe", over_a_named_pipe(checks, given))
         if shutil.which("socat"):
             sends_all(checks, given, "a socket", over_a_socket(checks, given))
+        below_a_folder(checks, given)
         stops_reading(checks, given)
         lengths(checks, given)
         refused_store(checks, given)

@@ -18,6 +18,10 @@ def is_there(name: str) -> str:
     return f"{name} is there\n"
 
 
+def is_outside(name: str) -> str:
+    return f"{name} is outside of the folder\n"
+
+
 class Client:
     """A session over a pipe, that waits for each answer."""
 

@@ -28,7 +28,7 @@ fn tell_refusal<F: Output>(err: &mut F, fault: &ExportFault) -> Status
 }
 
 /// Prints that no recording has the place. Printing takes no memory.
-fn tell_no_recording<F: Output>(err: &mut F, place: u32) -> Status
+pub fn tell_no_recording<F: Output>(err: &mut F, place: u32) -> Status
     ensures { IsWritten
         (growth F.Output err.old err.new) (no_recording_line place) Status.Refused result }
 {
@@ -74,7 +74,7 @@ fn at_place(recordings: &[Identity], place: u32) -> Option<&Identity>
 }
 
 /// Writes the canonical file of the recording at a place of the list, from 1.
-pub(crate) fn export_place<S: Alter, O: Output, F: Output>(
+pub fn export_place<S: Alter, O: Output, F: Output>(
     alloc: Global,
     place: u32,
     store: &mut Store<S>,

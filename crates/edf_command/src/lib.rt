@@ -5,6 +5,9 @@
 //! - [`store_path`], [`refuse_store`]: the store that a command names, and the line where it can't
 //!   be opened.
 //! - [`run`]: one command over its store and over what opens files ([`Inputs`]).
+//! - [`list`], [`export_place`]: the work of two commands, for a caller that has a store open;
+//!   [`refused_file_line`], [`tell_no_recording`]: the line of a file that is not taken, and of a
+//!   place that no recording has.
 //! - [`parse`], [`Order`], [`CommandFault`]: the words, read, and nothing else.
 //! - [`Status`]: how it went, and the number that the program ends with.
 //! - [`refusal_text`]: a refusal, as a line has it.
@@ -20,6 +23,9 @@ mod taking;
 
 pub use edf_program::{CommandFault, Inputs, Status};
 pub use edfstore_arguments::{Order, parse};
+pub use exporting::{export_place, tell_no_recording};
+pub use listing::list;
 pub use program::{read_command, refuse_store, store_path};
 pub use refusal::refusal_text;
 pub use running::run;
+pub use taking::refused_file_line;

@@ -116,7 +116,7 @@ fn tell_refusal<F: Output>(err: &mut F, fault: &StoreFault) -> Status
 }
 
 /// Writes a line for each recording that is held, in the order of their identities' bytes.
-pub(crate) fn list<S: Alter, O: Output, F: Output>(
+pub fn list<S: Alter, O: Output, F: Output>(
     alloc: Global,
     store: &mut Store<S>,
     out: &mut O,

@@ -38,7 +38,7 @@ fn open_all<I: Inputs>(
 }
 
 /// The line of a refused file.
-pub(crate) fn refused_file_line(
+pub fn refused_file_line(
     alloc: Global,
     name: &str,
     refusal: &Refusal,

@@ -1,2 +1,10 @@
-pub mod Opened
-pub mod Turns
+pub mod Sending
+pub mod Held
+pub mod Accepting
+pub mod Submitting
+pub mod Turning
+pub mod Below
+pub mod Again
+pub mod Telling
+pub mod Stepping
+pub mod Sessions

@@ -1,5 +1,11 @@
-pub mod Made
+pub mod Client
+pub mod Files
+pub mod Places
 pub mod Parted
+pub mod Taken
 pub mod Exported
+pub mod RunsListed
 pub mod Served
 pub mod Session
+pub mod Submissions
+pub mod Whole

@@ -1,56 +1,117 @@
--- What a line of a session does: what it writes, the status that it answers, and what it leaves in
--- the store. What a command writes and leaves is what `run` of `edf_command` says of it.
-use Rattle.std.specs.Prelude.{◌≡◌, ℕ, List, [], ◌∷◌, ◌++◌, Option, Some, None, codes, decimal}
-use Rattle.std.specs.Prelude.{if◌then◌else◌, nat_lt}
+-- What a line of a session does: what its command does to the store and to files, what is written
+-- of it, and what goes out.
+use Rattle.std.specs.Prelude.{◌≡◌, ◌⊎◌, ℕ, Bool, true, false, List, [], ◌∷◌, ◌++◌, Option, Some}
+use Rattle.std.specs.Prelude.{None, codes, option_map, cond}
 use Rattle.sqlite_trees.specs.declared.store.Store.{Ghosts}
-use Rattle.edf_store.specs.Held.{StoreModel}
-use Rattle.edfserve_arguments.specs.Line.{LineAsked}
-use Rattle.edfserve_arguments.specs.Line.LineAsked.{take, list, export}
-use Rattle.edf_command.specs.Taking.{IsTaken}
+use Rattle.edf_store.specs.Held.{StoreModel, Stays}
+use Rattle.edfserve_arguments.specs.Line.{LineAsked, IsRead}
+use Rattle.edfserve_arguments.specs.Line.LineAsked.{take, list, runs, export}
+use Rattle.edf_command.specs.Lines.{accepted_line}
 use Rattle.edf_command.specs.Listing.{AreRecordingsListed}
-use Rattle.edf_program.specs.Output.{Growth, Gets, IsWritten}
-use Rattle.edf_serve.specs.Exported.{IsExportedTo}
-use Rattle.edf_serve.specs.Made.{Made}
-use Rattle.edf_serve.specs.Parted.{until, from}
-use Rattle.edf_program.specs.Status.{exit_code}
+use Rattle.edf_program.specs.Output.{Growth, Gets, IsWritten, IsPut}
 use Rattle.edf_program.specs.declared.status.Status.{Status}
-use Rattle.edf_program.specs.declared.status.Status.TheVariants.{Usage}
-
--- the line that ends an answer
-abbrev pub status_line : Status → List ℕ
-status_line status = codes "status " ++ (decimal (exit_code status) ++ (10 ∷ []))
+use Rattle.edf_program.specs.declared.status.Status.TheVariants.{Done, Usage, Trouble}
+use Rattle.edf_serve.specs.Client.{status_line}
+use Rattle.edf_serve.specs.Exported.{IsExportedBelow}
+use Rattle.edf_serve.specs.Files.{Opened, Made}
+use Rattle.edf_serve.specs.Places.{Links}
+use Rattle.edf_serve.specs.RunsListed.{AreRunsListed}
+use Rattle.edf_serve.specs.Taken.{IsFileTaken, Submission}
+use Rattle.edf_serve.specs.declared.answering.Answered.{Answered}
+use Rattle.edf_serve.specs.declared.answering.Folders as given
+use Rattle.edf_serve.specs.declared.answering.Outcome.{Outcome}
+use Rattle.edf_serve.specs.declared.answering.Outcome.TheVariants as outcome
 
 abbrev pub no_command_line : List ℕ
 no_command_line = codes "no such command" ++ (10 ∷ [])
 
--- the worse of two statuses: that with the higher number
-abbrev pub worse : Status → Status → Status
-worse status other = if nat_lt (exit_code status) (exit_code other) then other else status
+-- the folders below which files are opened and made, where there are any
+pub record Folders : Type 0 where
+  pub from : Option (List ℕ)
+  pub to : Option (List ℕ)
 
--- the names of the files that a line submits
-abbrev pub files_of : Option LineAsked → List (List ℕ)
-files_of (Some (take name)) = name ∷ []
-files_of asked = []
+-- what a session does not change: the folders, what paths stand for, and where links are
+pub record Surroundings : Type 0 where
+  pub folders : Folders
+  pub bytes : List ℕ → Option (List ℕ)
+  pub links : Links
 
-module _ {S : Type 0} (g : Ghosts S) (old new : StoreModel S) (before after : Made)
-    (out err : Growth) where
-  -- the lines before the one of its status
-  abbrev pub IsAnswered : (List ℕ → Option (List ℕ)) → Option LineAsked → Status → Type 0
-  IsAnswered bytes None status = (new ≡ old) × (after ≡ before) × IsWritten out no_command_line Usage status
-      × Gets err []
-  IsAnswered bytes (Some (take name)) status = (after ≡ before)
-      × IsTaken g old new out err bytes (name ∷ []) status
-  IsAnswered bytes (Some list) status = (after ≡ before)
-      × AreRecordingsListed g old new out err status
-  IsAnswered bytes (Some (export place name)) status =
-      IsExportedTo g old new before after out place name status × Gets err []
+abbrev pub surroundings : Folders → (List ℕ → Option (List ℕ)) → Links → Surroundings
+surroundings folders bytes links = record { folders = folders; bytes = bytes; links = links }
 
--- the lines of its command, and then the one of its status, which is answered; trouble where that
--- line can't be written
-pub record IsServed {S : Type 0} (g : Ghosts S) (old new : StoreModel S) (before after : Made)
-    (out err : Growth) (bytes : List ℕ → Option (List ℕ)) (asked : Option LineAsked) (status : Status) : Type 0 where
-  pub contents : Option (List ℕ)
-  pub failed : ℕ
-  pub told : Status
-  pub answered : IsAnswered g old new before after (until out contents failed) err bytes asked told
-  pub ended : IsWritten (from out contents failed) (status_line told) told status
+-- the folders as they are given
+abbrev pub below : given.Folders → Folders
+below folders = record {
+  from = option_map (λ f. f.now) folders.from;
+  to = option_map (λ f. f.now) folders.to;
+}
+
+-- this is what was written to an empty text
+abbrev pub IsNewText : Growth → List ℕ → Type 0
+IsNewText w text = (w.before ≡ Some []) × (w.failed_before ≡ 0) × (w.after ≡ Some text)
+
+-- a command other than `take` ends with a status, and submits nothing
+abbrev pub EndsWith : (Status → Type 0) → Option Submission → Outcome → Type 0
+EndsWith P submission (outcome.Told status) = (submission ≡ None) × P status
+EndsWith P submission (outcome.Accepted name receipt) = ⊥
+
+module _ {S : Type 0} (g : Ghosts S) (old new : StoreModel S) (opened opened' : Opened)
+    (made made' : Made) (out why : Growth) where
+  -- what the command of a line does, before anything goes out
+  abbrev pub IsWorked : Surroundings → Option LineAsked → Option Submission → Outcome → Type 0
+  IsWorked s None submission outcome = (new ≡ old) × (opened' ≡ opened)
+      × (made' ≡ made) × Gets why []
+      × EndsWith (IsWritten out no_command_line Usage) submission outcome
+  IsWorked s (Some (take name)) submission outcome = (made' ≡ made) × Gets why []
+      × IsFileTaken g old new opened opened' out name submission s.links
+      s.folders.from s.bytes outcome
+  IsWorked s (Some list) submission outcome = (opened' ≡ opened) × (made' ≡ made)
+      × EndsWith (AreRecordingsListed g old new out why) submission outcome
+  IsWorked s (Some (runs place)) submission outcome = (opened' ≡ opened)
+      × (made' ≡ made) × Gets why []
+      × EndsWith (AreRunsListed g old new out place) submission outcome
+  IsWorked s (Some (export place name)) submission outcome = (opened' ≡ opened)
+      × Gets why [] × EndsWith (IsExportedBelow g old new made made' out name s.links
+      s.folders.to place) submission outcome
+
+module _ {S : Type 0} (g : Ghosts S) (mid new : StoreModel S) (out why : List ℕ) where
+  -- the text of the answer, the line of its status too: the store is as the command left it, and
+  -- where it takes no transaction after that, the status is trouble
+  abbrev pub IsAnswer : Outcome → List ℕ → Status → Type 0
+  IsAnswer (outcome.Accepted name receipt) text status = (new ≡ mid) × (status ≡ Done)
+      × (text ≡ accepted_line name.now receipt.new receipt.known ++ status_line Done)
+  IsAnswer (outcome.Told told) text status = Stays g mid new
+      × (text ≡ out ++ (why ++ status_line status)) × ((status ≡ told) ⊎ (status ≡ Trouble))
+
+  -- it went out, but for trouble
+  pub record IsToldOver (sent : Growth) (told : Status) (answered : Answered) : Type 0 where
+    pub stays : Stays g mid new
+    pub went : IsPut sent (out ++ (why ++ status_line answered.status)) answered.is_out
+    pub status : answered.status ≡ cond answered.is_left Trouble told
+
+-- the line was read, its command was done and it was answered; and this was submitted, and this
+-- text goes out
+pub record IsServedAs {S : Type 0} (g : Ghosts S) (old new : StoreModel S)
+    (opened opened' : Opened) (made made' : Made) (sent : Growth)
+    (s : Surroundings) (line : List ℕ) (answered : Answered)
+    (asked : Option LineAsked) (submission : Option Submission) (text : List ℕ) : Type 0 where
+  pub read : IsRead line asked
+  pub mid : StoreModel S
+  pub out : Growth
+  pub why : Growth
+  pub lines : List ℕ
+  pub last : List ℕ
+  pub outcome : Outcome
+  pub worked : IsWorked g old mid opened opened' made made' out why s asked submission outcome
+  pub out_is : IsNewText out lines
+  pub why_is : IsNewText why last
+  pub answer : IsAnswer g mid new lines last outcome text answered.status
+  pub went : IsPut sent text answered.is_out
+  pub left : answered.is_left ≡ true → answered.status ≡ Trouble
+
+abbrev pub IsServed : {S : Type 0} → Ghosts S → StoreModel S → StoreModel S → Opened → Opened →
+    Made → Made → Growth → Surroundings → List ℕ → Answered → Type 0
+IsServed g old new opened opened' made made' sent s line answered =
+    (asked : Option LineAsked) × (submission : Option Submission) × (text : List ℕ)
+    × IsServedAs g old new opened opened' made made' sent s line answered asked
+    submission text

@@ -1,109 +1,130 @@
 -- What the lines of a session do in turn: each is answered from what the line before left.
-use Rattle.std.specs.Prelude.{◌≡◌, ◌⊎◌, ℕ, List, [], ◌∷◌, ◌++◌, Option, Some, None, IfSome}
+use Rattle.std.specs.Prelude.{◌≡◌, ◌⊎◌, ℕ, Bool, true, false, List, [], ◌∷◌, ◌++◌, length, Option}
+use Rattle.std.specs.Prelude.{Some, None, IfSome, if◌then◌else◌, nat_lt, cond}
 use Rattle.sqlite_trees.specs.declared.store.Store.{Ghosts}
 use Rattle.edf_store.specs.Held.{StoreModel}
-use Rattle.edfserve_arguments.specs.Line.{LineAsked, IsRead}
-use Rattle.edf_command.specs.Taking.{HasOpened}
-use Rattle.edf_program.specs.Output.{Growth}
+use Rattle.edfserve_arguments.specs.Line.{LineAsked}
+use Rattle.edf_program.specs.Status.{exit_code}
 use Rattle.edf_program.specs.declared.status.Status.{Status}
 use Rattle.edf_program.specs.declared.status.Status.TheVariants.{Trouble}
-use Rattle.edf_serve.specs.Made.{Made}
-use Rattle.edf_serve.specs.Served.{IsServed, files_of, worse}
-use Rattle.edf_serve.specs.declared.session.Pause.{Pause}
-use Rattle.edf_serve.specs.declared.session.Pause.TheVariants.{Ended, Going}
+use Rattle.edf_serve.specs.Client.{got}
+use Rattle.edf_serve.specs.Files.{Opened, Made}
+use Rattle.edf_serve.specs.Places.{AddsBelow}
+use Rattle.edf_serve.specs.Served.{Surroundings, IsServedAs}
+use Rattle.edf_serve.specs.Taken.{Submission}
+use Rattle.edf_serve.specs.declared.answering.Answered.{Answered}
+use Rattle.edf_serve.specs.declared.session.End.{End}
+use Rattle.edf_serve.specs.declared.session.End.TheVariants.{Ended, Unread, Unwritten, Left, Full}
 
--- this line is the next of those that are given, where they are known
-abbrev pub GivesLine : Option (List (List ℕ)) → Option (List (List ℕ)) → List ℕ → Type 0
-GivesLine before after line = IfSome before (λ lines. after ≡ Some (lines ++ (line ∷ [])))
+-- the lines that are to come, where they are known
+abbrev pub Coming : Type 0
+Coming = Option (List (List ℕ))
 
--- what lines are answered over: the store, the files that were made, what the two writers hold and
--- how many of their writes failed, the names that were opened, and what names stand for
-pub record SessionState (S : Type 0) : Type 0 where
+-- this line came, and the others are left
+abbrev pub ComesNext : Coming → Coming → List ℕ → Type 0
+ComesNext before after line = IfSome before (λ lines. (rest : List (List ℕ))
+    × (lines ≡ line ∷ rest) × (after ≡ Some rest))
+
+-- there was none
+abbrev pub HasNoLine : Coming → Coming → Type 0
+HasNoLine before after = IfSome before (λ lines. lines ≡ []) × (after ≡ before)
+
+-- the worse of two statuses: that with the higher number
+abbrev pub worse : Status → Status → Status
+worse status other = if nat_lt (exit_code status) (exit_code other) then other else status
+
+-- a session between two lines: what is held, the lines that are to come, the paths that were opened
+-- and made, what the client got, and the worst status so far
+pub record Point (S : Type 0) : Type 0 where
   pub store : StoreModel S
+  pub coming : Coming
+  pub opened : Opened
   pub made : Made
-  pub out : Option (List ℕ)
-  pub out_failed : ℕ
-  pub err : Option (List ℕ)
-  pub err_failed : ℕ
-  pub opened : List (List ℕ)
-  pub bytes : List ℕ → Option (List ℕ)
-
--- a session between two lines: beside that the lines that were given, and the worst status so far
-pub record SessionPoint (S : Type 0) : Type 0 where
-  pub state : SessionState S
-  pub given : Option (List (List ℕ))
+  pub heard : Option (List ℕ)
+  pub failed : ℕ
   pub worst : Status
 
-abbrev pub session_point : {S : Type 0} → StoreModel S → Made → Option (List ℕ) → ℕ →
-    Option (List ℕ) → ℕ → List (List ℕ) → (List ℕ → Option (List ℕ)) →
-    Option (List (List ℕ)) → Status → SessionPoint S
-session_point store made out out_failed err err_failed opened bytes given worst = record {
-  state = record {
-    store = store;
-    made = made;
-    out = out;
-    out_failed = out_failed;
-    err = err;
-    err_failed = err_failed;
-    opened = opened;
-    bytes = bytes;
-  };
-  given = given;
+abbrev pub point_at : {S : Type 0} → StoreModel S → Coming → Opened → Made → Option (List ℕ) → ℕ →
+    Status → Point S
+point_at store coming opened made heard failed worst = record {
+  store = store;
+  coming = coming;
+  opened = opened;
+  made = made;
+  heard = heard;
+  failed = failed;
   worst = worst;
 }
 
-abbrev pub out_growth : {S : Type 0} → SessionState S → SessionState S → Growth
-out_growth old new = record {
-  before = old.out;
-  failed_before = old.out_failed;
-  after = new.out;
-  failed_after = new.out_failed;
-}
+-- a turn: where it began, the line, what it asks for, what was submitted for it, the text of its
+-- answer, and how it was answered
+pub record Turn (S : Type 0) : Type 0 where
+  pub point : Point S
+  pub line : List ℕ
+  pub asked : Option LineAsked
+  pub submission : Option Submission
+  pub text : List ℕ
+  pub answered : Answered
 
-abbrev pub err_growth : {S : Type 0} → SessionState S → SessionState S → Growth
-err_growth old new = record {
-  before = old.err;
-  failed_before = old.err_failed;
-  after = new.err;
-  failed_after = new.err_failed;
-}
+-- what a turn adds to the worst status: trouble where its answer did not go out
+abbrev pub told_status : Answered → Status
+told_status answered = cond answered.is_out answered.status Trouble
 
-module _ {S : Type 0} (g : Ghosts S) where
-  -- one line was given and answered
-  pub record IsTurn (a b : SessionPoint S) : Type 0 where
-    pub line : List ℕ
-    pub asked : Option LineAsked
-    pub status : Status
-    pub given : GivesLine a.given b.given line
-    pub read : IsRead line asked
-    pub served : IsServed g a.state.store b.state.store a.state.made b.state.made
-        (out_growth a.state b.state) (err_growth a.state b.state) a.state.bytes asked status
-    pub opened : HasOpened a.state.opened b.state.opened (files_of asked) status
-    pub cap : b.state.store.cap ≡ a.state.store.cap
-    pub same : (name : List ℕ) → b.state.bytes name ≡ a.state.bytes name
-    pub worst : b.worst ≡ worse a.worst status
+module _ {S : Type 0} (g : Ghosts S) (s : Surroundings) where
+  -- one line was read, its command was done, and it was answered
+  pub record IsTurn (a b : Point S) (t : Turn S) : Type 0 where
+    pub begins : t.point ≡ a
+    pub came : ComesNext a.coming b.coming t.line
+    pub served : IsServedAs g a.store b.store a.opened b.opened a.made b.made
+        (got a.heard a.failed b.heard b.failed) s t.line t.answered t.asked t.submission
+        t.text
+    pub cap : b.store.cap ≡ a.store.cap
+    pub worst : b.worst ≡ worse a.worst (told_status t.answered)
 
-  -- lines were, one after the other, between these points, of which the last stands first
-  abbrev pub AreTurns : SessionPoint S → List (SessionPoint S) → SessionPoint S → Type 0
+  -- lines were answered one after the other, the last first, and each answer went out
+  abbrev pub AreTurns : Point S → List (Turn S) → Point S → Type 0
   AreTurns a [] b = b ≡ a
-  AreTurns a (point ∷ before) b = AreTurns a before point × IsTurn point b
+  AreTurns a (t ∷ before) b = AreTurns a before t.point × IsTurn t.point b t
+      × (t.answered.is_out ≡ true) × (t.answered.is_left ≡ false)
 
-  abbrev pub AreServed : SessionPoint S → SessionPoint S → Type 0
-  AreServed a b = (points : List (SessionPoint S)) × AreTurns a points b
+  -- the input ended, or it could not be read, which is trouble
+  pub record EndsInput (a b : Point S) (end : End) : Type 0 where
+    pub store : b.store ≡ a.store
+    pub opened : b.opened ≡ a.opened
+    pub made : b.made ≡ a.made
+    pub heard : b.heard ≡ a.heard
+    pub failed : b.failed ≡ a.failed
+    pub why : ((end ≡ Ended) × HasNoLine a.coming b.coming × (b.worst ≡ a.worst))
+        ⊎ ((end ≡ Unread) × (b.worst ≡ Trouble))
 
-  -- no line was left, or none could be read, which is trouble
-  pub record EndsInput (a b : SessionPoint S) : Type 0 where
-    pub state : b.state ≡ a.state
-    pub given : b.given ≡ a.given
-    pub worst : (b.worst ≡ a.worst) ⊎ (b.worst ≡ Trouble)
+  -- after one more step the session goes on, or ends so
+  abbrev pub IsStep : Point S → Point S → Option End → Type 0
+  IsStep a b None = (t : Turn S) × IsTurn a b t × (t.answered.is_out ≡ true)
+      × (t.answered.is_left ≡ false)
+  IsStep a b (Some Unwritten) = (t : Turn S) × IsTurn a b t × (t.answered.is_out ≡ false)
+  IsStep a b (Some Left) = (t : Turn S) × IsTurn a b t × (t.answered.is_out ≡ true)
+      × (t.answered.is_left ≡ true)
+  IsStep a b (Some Full) = ⊥
+  IsStep a b (Some end) = EndsInput a b end
 
-  -- one more line was answered, or the input ended
-  abbrev pub IsStep : SessionPoint S → SessionPoint S → Option Pause → Type 0
-  IsStep a b (Some Ended) = EndsInput a b
-  IsStep a b (Some Going) = IsTurn a b
-  IsStep a b None = IsTurn a b
+  -- what comes after these turns of a session, and all of its turns
+  abbrev pub EndsSession : Point S → List (Turn S) → Point S → List (Turn S) → End → Type 0
+  EndsSession a turns b all Full = (b ≡ a) × (all ≡ turns) × (length turns ≡ 18446744073709551615)
+  EndsSession a turns b all Unwritten = (t : Turn S) × IsTurn a b t
+      × (t.answered.is_out ≡ false) × (all ≡ t ∷ turns)
+  EndsSession a turns b all Left = (t : Turn S) × IsTurn a b t × (t.answered.is_out ≡ true)
+      × (t.answered.is_left ≡ true) × (all ≡ t ∷ turns)
+  EndsSession a turns b all end = EndsInput a b end × (all ≡ turns)
 
-  -- all lines were answered in turn, and then the input ended where the session says so
-  abbrev pub IsSession : SessionPoint S → SessionPoint S → Pause → Type 0
-  IsSession a b Ended = (last : SessionPoint S) × AreServed a last × EndsInput last b
-  IsSession a b Going = AreServed a b
+  -- a whole session, and its turns, the last first. While the input gives a line, the line has its
+  -- turn, up to where an answer did not go out or the store was left
+  pub record IsSession (a b : Point S) (all : List (Turn S)) (end : End) : Type 0 where
+    pub last : Point S
+    pub turns : List (Turn S)
+    pub are_turns : AreTurns a turns last
+    pub ends : EndsSession last turns b all end
+
+  -- each path that it opens or makes is one below its folder, where there is one
+  abbrev pub StaysBelow : Point S → Point S → Type 0
+  StaysBelow a b = AddsBelow (λ path. path) s.folders.from a.opened b.opened
+      × AddsBelow (λ (made : List ℕ × Option (List ℕ)). made.0) s.folders.to a.made b.made

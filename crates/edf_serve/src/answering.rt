@@ -1,138 +1,269 @@
 //! One line, answered.
 
-ghost use Rattle.std.specs.Prelude.{◌≡◌, ◌∷◌, [], ℕ, List, Option, IfOk, option_map};
-ghost use Rattle.edfstore_arguments.specs.Arguments.{Asked, meaning};
-ghost use Rattle.edfserve_arguments.specs.Line.{LineAsked, IsRead, asked_by};
-ghost use Rattle.edf_command.specs.Listing.{AreRecordingsListed};
-ghost use Rattle.edf_command.specs.Taking.{HasOpened, IsTaken};
-ghost use Rattle.edf_program.specs.Output.{growth, IsWritten};
-ghost use Rattle.edf_serve.specs.Served.{IsAnswered, IsServed, files_of};
-ghost use Rattle.edf_serve.specs.Served.{status_line};
+ghost use Rattle.std.specs.Prelude.{◌≡◌, ◌⊎◌, ℕ, List, Option, IsTrue, true, option_map};
+ghost use Rattle.edfserve_arguments.specs.Line.{LineAsked, asked_by};
+ghost use Rattle.edf_command.specs.Lines.{refused_file_line};
+ghost use Rattle.edf_command.specs.Refusals.{IsSpelling};
+ghost use Rattle.edf_intake.specs.Refusal.{refusal_number};
+ghost use Rattle.edf_program.specs.Output.{growth, IsWritten, IsTold};
+ghost use Rattle.edf_program.specs.Status.{status_of_number};
+ghost use Rattle.edf_store.specs.Held.{Stays};
+ghost use Rattle.edf_serve.specs.Client.{IsIdle, got};
+ghost use Rattle.edf_serve.specs.Served.{IsWorked, IsToldOver, IsServed, below};
+ghost use Rattle.edf_serve.specs.Served.{surroundings};
+ghost use Rattle.edf_serve.specs.Taken.{Submission, IsPathTaken, IsFileTaken, outside_line};
 
+use crate::client::Client;
 use crate::exporting::export;
-use crate::new_files::NewFiles;
-use edf_command::{Order, run};
+use crate::files::{NewFiles, Sources};
+use crate::places::place_of;
+use crate::runs::list_runs;
+use crate::text::Text;
+use edf_command::{list, refused_file_line};
 use edf_fragment::Output;
-use edf_program::{Inputs, Status, tell_bytes, tell_memory, tell_parts};
+use edf_intake::{Receipt, Refusal, submit};
+use edf_program::{Status, status_of_number, tell, tell_bytes, tell_memory, tell_parts};
 use edf_store::Store;
 use edfserve_arguments::{LineCommand, parse_line};
-use itoa::Buffer;
 use sqlite::Alter;
-use std::alloc::{AllocError, Global};
+use std::alloc::Global;
 
-/// The command of `edfstore` that takes one file.
-fn take_order(alloc: Global, name: &str) -> Result<Order, AllocError>
-    ensures { IfOk result (λ order. meaning order ≡ Asked.take [] (name.now ∷ [])) }
-{
-    let mut files = Vec::new(alloc);
-    files.push(String::from_str(alloc, name)?)?;
-    Ok(Order::Take {
-        store: String::new(alloc),
-        files,
-    })
+/// The folders below which files are opened and made, where there are any.
+#[derive(Clone, Copy, Drop)]
+pub struct Folders<'f> {
+    /// That of the files of `take`.
+    pub from: Option<&'f str>,
+    /// That of the files of `export`.
+    pub to: Option<&'f str>,
 }
 
-/// Submits a file and writes its line.
-fn take<S: Alter, I: Inputs, O: Output, F: Output>(
-    alloc: Global,
-    name: &str,
-    store: &mut Store<S>,
-    inputs: &mut I,
-    out: &mut O,
-    err: &mut F,
-) -> Status
-    ensures taken { IsTaken S.Store store.old store.new (growth O.Output out.old out.new)
-        (growth F.Output err.old err.new) (I.bytes inputs.old) (name.now ∷ []) result }
-    ensures opened { HasOpened (I.opened inputs.old) (I.opened inputs.new) (name.now ∷ []) result }
-    ensures cap { store.new.cap ≡ store.old.cap }
-    ensures same { (other : List ℕ) → I.bytes inputs.new other ≡ I.bytes inputs.old other }
+/// What came of a line's command, before anything of it goes out.
+#[derive(Drop)]
+pub(crate) enum Outcome<'l> {
+    /// The file of that name was accepted.
+    Accepted {
+        /// The name.
+        name: &'l str,
+        /// What was accepted.
+        receipt: Receipt,
+    },
+    /// All else, whose lines are written.
+    Told {
+        /// How it went.
+        status: Status,
+    },
+}
+
+/// Prints that a name does not lead below the folder. Printing takes no memory.
+pub(crate) fn tell_outside<O: Output>(out: &mut O, name: &str) -> Status
+    ensures { IsWritten (growth O.Output out.old out.new) (outside_line name.now) Status.Refused
+        result }
 {
-    match take_order(alloc, name) {
-        Ok(order) => run(alloc, &order, store, inputs, out, err),
-        Err(_) => tell_memory(err, "take"),
+    let parts = [name.as_bytes(), b" is outside of the folder\n".as_slice()];
+    tell_parts(out, &parts, Status::Refused)
+}
+
+/// Writes the line of a refused file.
+fn tell_refusal<O: Output>(alloc: Global, name: &str, refusal: Refusal, out: &mut O) -> Status
+    ensures { (spell : ℕ → List ℕ) → IsSpelling spell → IsTold (growth O.Output out.old out.new)
+        (refused_file_line spell name.now refusal)
+        (status_of_number (refusal_number refusal)) result }
+{
+    let status = status_of_number(refusal.number());
+    let line = refused_file_line(alloc, name, &refusal);
+    tell(out, line, status)
+}
+
+/// Submits the file of a path, and writes its line where it is refused.
+fn submit_file<'l, S: Alter, I: Sources>(
+    alloc: Global,
+    name: &'l str,
+    path: &str,
+    store: &mut Store<S>,
+    sources: &mut I,
+    out: &mut Text,
+) -> Outcome<'l>
+    ensures taken { (submission : Option Submission) ×
+        IsPathTaken S.Store store.old store.new (I.opened sources.old) (I.opened sources.new)
+        (growth ⟦<Text as Output>⟧ out.old out.new) name.now submission path.now
+        (I.bytes sources.old) result }
+    ensures cap { store.new.cap ≡ store.old.cap }
+    ensures same { I.bytes sources.new ≡ I.bytes sources.old }
+    ensures links { I.links sources.new ≡ I.links sources.old }
+{
+    match sources.open(alloc, path) {
+        Ok(mut reader) => match submit(alloc, store, &mut reader) {
+            Ok(receipt) => Outcome::Accepted { name, receipt },
+            Err(refusal) => Outcome::Told {
+                status: tell_refusal(alloc, name, refusal, out),
+            },
+        },
+        Err(_) => Outcome::Told {
+            status: tell_memory(out, "take"),
+        },
     }
 }
 
-/// Writes a line for each recording.
-fn list<S: Alter, I: Inputs, O: Output, F: Output>(
+/// Submits the file of that name below the folder, where there is one, and writes its line where it
+/// is refused.
+fn take<'l, S: Alter, I: Sources>(
     alloc: Global,
+    name: &'l str,
+    folder: Option<&str>,
     store: &mut Store<S>,
-    inputs: &mut I,
-    out: &mut O,
-    err: &mut F,
-) -> Status
-    ensures listed { AreRecordingsListed S.Store store.old store.new
-        (growth O.Output out.old out.new) (growth F.Output err.old err.new) result }
-    ensures opened { HasOpened (I.opened inputs.old) (I.opened inputs.new) [] result }
+    sources: &mut I,
+    out: &mut Text,
+) -> Outcome<'l>
+    ensures taken { (submission : Option Submission) ×
+        IsFileTaken S.Store store.old store.new (I.opened sources.old) (I.opened sources.new)
+        (growth ⟦<Text as Output>⟧ out.old out.new) name.now submission
+        (I.links sources.old) (option_map (λ f. f.now) folder.entry) (I.bytes sources.old) result }
     ensures cap { store.new.cap ≡ store.old.cap }
-    ensures same { (other : List ℕ) → I.bytes inputs.new other ≡ I.bytes inputs.old other }
+    ensures same { I.bytes sources.new ≡ I.bytes sources.old }
+    ensures links { I.links sources.new ≡ I.links sources.old }
 {
-    let order = Order::List {
-        store: String::new(alloc),
-    };
-    run(alloc, &order, store, inputs, out, err)
+    match place_of(alloc, folder, name, sources) {
+        Ok(Some(path)) => submit_file(alloc, name, path.as_str(), store, sources, out),
+        Ok(None) => Outcome::Told {
+            status: tell_outside(out, name),
+        },
+        Err(_) => Outcome::Told {
+            status: tell_memory(out, "take"),
+        },
+    }
 }
 
-/// Writes the line that ends an answer. Printing takes no memory.
-fn tell_status<O: Output>(out: &mut O, status: Status) -> Status
-    ensures { IsWritten (growth O.Output out.old out.new) (status_line status) status result }
-{
-    let mut buffer = Buffer::new();
-    let digits = buffer.format(status.code());
-    let parts = [b"status ".as_slice(), digits.as_bytes(), b"\n"];
-    tell_parts(out, &parts, status)
-}
-
-/// Answers what a line asks for, without the line of its status.
-fn answer<S: Alter, I: Inputs, P: NewFiles, O: Output, F: Output>(
+/// Does what a line asks for, and writes its lines to `out`, and to `why` why there are no more of
+/// them.
+fn work<'l, S: Alter, I: Sources, P: NewFiles>(
     alloc: Global,
-    asked: Option<LineCommand<'_>>,
+    asked: Option<LineCommand<'l>>,
+    folders: Folders<'_>,
     store: &mut Store<S>,
-    inputs: &mut I,
+    sources: &mut I,
     files: &mut P,
-    out: &mut O,
-    err: &mut F,
-) -> Status
-    ensures answered { IsAnswered S.Store store.old store.new (P.made files.old)
-        (P.made files.new) (growth O.Output out.old out.new) (growth F.Output err.old err.new)
-        (I.bytes inputs.old) (option_map asked_by asked.entry) result }
-    ensures opened { HasOpened (I.opened inputs.old) (I.opened inputs.new)
-        (files_of (option_map asked_by asked.entry)) result }
+    out: &mut Text,
+    why: &mut Text,
+) -> Outcome<'l>
+    ensures worked { (submission : Option Submission) ×
+        IsWorked S.Store store.old store.new (I.opened sources.old) (I.opened sources.new)
+        (P.made files.old) (P.made files.new) (growth ⟦<Text as Output>⟧ out.old out.new)
+        (growth ⟦<Text as Output>⟧ why.old why.new) (surroundings (below folders.entry) (I.bytes sources.old) (I.links sources.old))
+        (option_map asked_by asked.entry) submission result }
     ensures cap { store.new.cap ≡ store.old.cap }
-    ensures same { (other : List ℕ) → I.bytes inputs.new other ≡ I.bytes inputs.old other }
+    ensures same { I.bytes sources.new ≡ I.bytes sources.old }
+    ensures links { I.links sources.new ≡ I.links sources.old }
 {
     match asked {
-        Some(LineCommand::Take { name }) => take(alloc, name, store, inputs, out, err),
-        Some(LineCommand::List) => list(alloc, store, inputs, out, err),
-        Some(LineCommand::Export { place, name }) => {
-            export(alloc, place, name, store, inputs, files, out)
+        Some(LineCommand::Take { name }) => take(alloc, name, folders.from, store, sources, out),
+        Some(LineCommand::List) => Outcome::Told {
+            status: list(alloc, store, out, why),
+        },
+        Some(LineCommand::Runs { place }) => Outcome::Told {
+            status: list_runs(alloc, place, store, out),
+        },
+        Some(LineCommand::Export { place, name }) => Outcome::Told {
+            status: export(alloc, place, name, folders.to, store, sources, files, out),
+        },
+        None => Outcome::Told {
+            status: tell_bytes(out, b"no such command\n", Status::Usage),
+        },
+    }
+}
+
+/// Whether the store takes a transaction. What is held stays.
+fn is_idle<S: Alter>(store: &mut Store<S>) -> bool
+    ensures stays { Stays S.Store store.old store.new }
+    ensures idle { result ≡ true → IsIdle S.Store store.new }
+{
+    match store.transaction() {
+        Ok(transaction) => match transaction.give_up() {
+            Ok(()) => true,
+            Err(_) => false,
+        },
+        Err(_) => false,
+    }
+}
+
+/// What came of a line, once it was answered.
+#[derive(Clone, Copy, Debug, PartialEq, Eq, Drop)]
+pub struct Answered {
+    /// How its command went.
+    pub status: Status,
+    /// Whether all of the answer went out.
+    pub is_out: bool,
+    /// Whether the store takes no transaction, since a call that it refused left it in one, or
+    /// closed it.
+    pub is_left: bool,
+}
+
+/// Tells what came of a command, where no file was accepted. The status is trouble where the store
+/// takes no transaction any more.
+fn tell_all<S: Alter, C: Client>(
+    store: &mut Store<S>,
+    client: &mut C,
+    out: &Text,
+    why: &Text,
+    told: Status,
+) -> Answered
+    ensures told { IsToldOver S.Store store.old store.new out.now.bytes.items why.now.bytes.items
+        (got (C.contents client.old) (C.failures client.old) (C.contents client.new)
+        (C.failures client.new)) told result }
+{
+    if is_idle(store) {
+        let is_out = client.answer(store, out.as_slice(), why.as_slice(), told);
+        Answered {
+            status: told,
+            is_out,
+            is_left: false,
         }
-        None => tell_bytes(out, b"no such command\n", Status::Usage),
+    } else {
+        let is_out = client.answer(store, out.as_slice(), why.as_slice(), Status::Trouble);
+        Answered {
+            status: Status::Trouble,
+            is_out,
+            is_left: true,
+        }
     }
 }
 
 /// Answers a line over the store: the lines of its command, and then `status N`, with N as
 /// `edfstore` would end.
 ///
-/// A line that is no command gets `no such command`, and its status is `Usage`. The answer is that
-/// status; trouble where its line can't be written.
-pub fn serve_line<S: Alter, I: Inputs, P: NewFiles, O: Output, F: Output>(
+/// A line that is no command gets `no such command`, and its status is `Usage`. The client is
+/// answered when the command is done, and what it is told is held. Where the store takes no
+/// transaction after the command, the status is trouble.
+pub fn serve_line<S: Alter, I: Sources, P: NewFiles, C: Client>(
     alloc: Global,
     line: &[u8],
+    folders: Folders<'_>,
     store: &mut Store<S>,
-    inputs: &mut I,
+    sources: &mut I,
     files: &mut P,
-    out: &mut O,
-    err: &mut F,
-) -> Status
-    ensures served { (asked : Option LineAsked) × IsRead line.now asked
-        × IsServed S.Store store.old store.new (P.made files.old) (P.made files.new)
-        (growth O.Output out.old out.new) (growth F.Output err.old err.new)
-        (I.bytes inputs.old) asked result
-        × HasOpened (I.opened inputs.old) (I.opened inputs.new) (files_of asked) result }
+    client: &mut C,
+) -> Answered
+    ensures served { IsServed S.Store store.old store.new (I.opened sources.old)
+        (I.opened sources.new) (P.made files.old) (P.made files.new)
+        (got (C.contents client.old) (C.failures client.old) (C.contents client.new)
+        (C.failures client.new)) (surroundings (below folders.entry) (I.bytes sources.old) (I.links sources.old)) line.now result }
     ensures cap { store.new.cap ≡ store.old.cap }
-    ensures same { (other : List ℕ) → I.bytes inputs.new other ≡ I.bytes inputs.old other }
+    ensures same { I.bytes sources.new ≡ I.bytes sources.old }
+    ensures links { I.links sources.new ≡ I.links sources.old }
 {
-    let status = answer(alloc, parse_line(line), store, inputs, files, out, err);
-    tell_status(out, status)
+    let mut out = Text::new(alloc);
+    let mut why = Text::new(alloc);
+    let asked = parse_line(line);
+    match work(
+        alloc, asked, folders, store, sources, files, &mut out, &mut why,
+    ) {
+        Outcome::Accepted { name, receipt } => {
+            let is_out = client.accept(store, name, &receipt);
+            Answered {
+                status: Status::Done,
+                is_out,
+                is_left: false,
+            }
+        }
+        Outcome::Told { status } => tell_all(store, client, &out, &why, status),
+    }
 }

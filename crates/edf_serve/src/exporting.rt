@@ -1,15 +1,17 @@
 //! `export PLACE NAME`: a recording as a new file.
 
-ghost use Rattle.std.specs.Prelude.{◌≡◌, ℕ, List, IfOk};
+ghost use Rattle.std.specs.Prelude.{◌≡◌, IfOk, option_map};
 ghost use Rattle.edf_program.specs.Output.{growth, IsWritten};
-ghost use Rattle.edf_serve.specs.Exported.{IsExportedTo, IsFileEnded, exported_line, there_line};
-ghost use Rattle.edf_serve.specs.Exported.{unwritten_line};
+ghost use Rattle.edf_serve.specs.Exported.{IsExportedBelow, IsExportedTo, IsFileEnded};
+ghost use Rattle.edf_serve.specs.Exported.{exported_line, there_line, unwritten_line};
 
-use crate::new_files::{Finished, NewFiles};
-use edf_command::{Order, run};
+use crate::answering::tell_outside;
+use crate::files::{Finished, NewFiles, Sources};
+use crate::places::place_of;
+use edf_command::export_place;
 use edf_export::ExportFault;
 use edf_fragment::Output;
-use edf_program::{Inputs, Status, tell, tell_parts, tell_refused};
+use edf_program::{Status, tell, tell_memory, tell_parts, tell_refused};
 use edf_store::Store;
 use sqlite::Alter;
 use std::alloc::{AllocError, Global};
@@ -39,18 +41,19 @@ fn exported_line(alloc: Global, name: &str, bytes: u64) -> Result<Vec<u8>, Alloc
     Ok(line.into_bytes())
 }
 
-/// Gives a whole file its name, and writes its line.
+/// Gives a whole file its path, and writes its line.
 fn finish<P: NewFiles, O: Output>(
     alloc: Global,
     name: &str,
+    path: &str,
     writer: P::Writer,
     files: &mut P,
     out: &mut O,
 ) -> Status
-    ensures { IsFileEnded (P.made files.old) (P.made files.new) name.now
+    ensures { IsFileEnded (P.made files.old) (P.made files.new) name.now path.now
         (P.Writer.contents writer) (growth O.Output out.old out.new) result }
 {
-    match files.finish(writer, name) {
+    match files.finish(writer, path) {
         Finished::Named { bytes } => tell(out, exported_line(alloc, name, bytes), Status::Done),
         Finished::IsThere => tell_there(out, name),
         Finished::Failed => tell_unwritten(out),
@@ -58,34 +61,52 @@ fn finish<P: NewFiles, O: Output>(
 }
 
 /// Writes the recording at a place of the list to a new file, and its line or why not to `out`.
-pub(crate) fn export<S: Alter, I: Inputs, P: NewFiles, O: Output>(
+fn export_to<S: Alter, P: NewFiles, O: Output>(
     alloc: Global,
     place: u32,
     name: &str,
+    path: &str,
     store: &mut Store<S>,
-    inputs: &mut I,
     files: &mut P,
     out: &mut O,
 ) -> Status
     ensures exported { IsExportedTo S.Store store.old store.new (P.made files.old)
-        (P.made files.new) (growth O.Output out.old out.new) place name.now result }
-    ensures opened { I.opened inputs.new ≡ I.opened inputs.old }
+        (P.made files.new) (growth O.Output out.old out.new) name.now place path.now result }
     ensures cap { store.new.cap ≡ store.old.cap }
-    ensures same { (other : List ℕ) → I.bytes inputs.new other ≡ I.bytes inputs.old other }
 {
-    let mut writer = match files.create(alloc, name) {
+    let mut writer = match files.create(alloc, path) {
         Ok(Some(writer)) => writer,
         Ok(None) => return tell_there(out, name),
         Err(_) => return tell_unwritten(out),
     };
-    let order = Order::Export {
-        store: String::new(alloc),
-        place,
-    };
-    let told = run(alloc, &order, store, inputs, &mut writer, out);
+    let told = export_place(alloc, place, store, &mut writer, out);
     if told == Status::Done {
-        return finish(alloc, name, writer, files, out);
+        return finish(alloc, name, path, writer, files, out);
     }
-    files.discard(writer, name);
+    files.discard(writer, path);
     told
+}
+
+/// Writes the recording at a place of the list to a new file of that name below the folder, where
+/// there is one, and its line or why not to `out`.
+pub(crate) fn export<S: Alter, I: Sources, P: NewFiles, O: Output>(
+    alloc: Global,
+    place: u32,
+    name: &str,
+    folder: Option<&str>,
+    store: &mut Store<S>,
+    sources: &I,
+    files: &mut P,
+    out: &mut O,
+) -> Status
+    ensures exported { IsExportedBelow S.Store store.old store.new (P.made files.old)
+        (P.made files.new) (growth O.Output out.old out.new) name.now
+        (I.links sources.now) (option_map (λ f. f.now) folder.entry) place result }
+    ensures cap { store.new.cap ≡ store.old.cap }
+{
+    match place_of(alloc, folder, name, sources) {
+        Ok(Some(path)) => export_to(alloc, place, name, path.as_str(), store, files, out),
+        Ok(None) => tell_outside(out, name),
+        Err(_) => tell_memory(out, "export"),
+    }
 }

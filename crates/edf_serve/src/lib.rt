@@ -1,15 +1,23 @@
-//! Commands over one open store, line by line: any store, any files, any writers.
+//! Commands over one open store, line by line: any store, any files, any client.
 //!
-//! - [`serve_line`]: one line, answered over the store.
-//! - [`serve`], [`Pause`]: line after line, as [`Lines`] gives them.
-//! - [`NewFiles`], [`Finished`]: what makes the files that `export` writes.
+//! - [`serve`], [`Lines`], [`End`]: line after line, and why a session ends.
+//! - [`serve_line`], [`Answered`], [`Folders`]: one line, answered over the store.
+//! - [`Client`], [`Console`], [`Flush`]: who is answered.
+//! - [`Sources`]: what opens the files that `take` names; [`NewFiles`], [`Finished`]: what makes
+//!   those that `export` writes.
 #![tactic(auto)]
 
 mod answering;
+mod client;
 mod exporting;
-mod new_files;
+mod files;
+pub mod laws;
+mod places;
+mod runs;
 mod session;
+mod text;
 
-pub use answering::serve_line;
-pub use new_files::{Finished, NewFiles};
-pub use session::{Lines, Pause, serve};
+pub use answering::{Answered, Folders, serve_line};
+pub use client::{Client, Console, Flush};
+pub use files::{Finished, NewFiles, Sources};
+pub use session::{End, Lines, serve};

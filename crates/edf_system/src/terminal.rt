@@ -52,6 +52,23 @@ impl<'rt> Terminal<'rt> {
         }
     }
 
+    /// Standard error as a journal keeps it, whether it is a terminal or not: it gets messages, and
+    /// no progress.
+    pub fn journal(rt: &'rt HostRuntime) -> Terminal<'rt> {
+        Terminal {
+            rt,
+            is_there: true,
+            unit: "file",
+            units: 0,
+            begun: Cell::new(0),
+            bytes: Cell::new(0),
+            size: Cell::new(None),
+            is_progress_shown: Cell::new(false),
+            is_unread_told: Cell::new(false),
+            explained: Cell::new(0),
+        }
+    }
+
     /// Whether a person reads what is printed.
     pub fn is_there(&self) -> bool {
         self.is_there

@@ -7,6 +7,7 @@
 //!   them ([`Outputs`], with [`MadeFiles`] for the list of them).
 //! - [`laws`]: runs have groups that share a line, and no others. The function does nothing: its
 //!   contract is a law.
+//! - [`runs_text`]: the lines of runs that were listed.
 #![tactic(auto)]
 
 mod arguments;
@@ -33,6 +34,7 @@ mod tolerance;
 mod write_command;
 
 pub use arguments::{parse, read_command};
+pub use lines::runs_text;
 pub use made_files::MadeFiles;
 pub use outputs::{Outputs, Stage};
 pub use runs_command::{RunsCommand, run_runs};

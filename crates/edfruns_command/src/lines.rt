@@ -79,7 +79,7 @@ fn label(alloc: Global, name: Option<&String>) -> Result<Vec<u8>, AllocError>
 }
 
 /// A line for each run, in time order, after the name of its file where there are names.
-pub(crate) fn runs_text(
+pub fn runs_text(
     alloc: Global,
     names: &[String],
     listing: &Listing,

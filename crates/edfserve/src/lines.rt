@@ -48,7 +48,7 @@ impl StandardLines {
 }
 
 impl Lines for StandardLines {
-    ghost given = { λ _. None };
+    ghost coming = { λ _. None };
 
     fn next(&mut self, line: &mut Vec<u8>) -> io::Result<bool> {
         line.clear();

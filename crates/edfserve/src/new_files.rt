@@ -1,28 +1,33 @@
 //! The files that `export` writes.
 
-ghost use Rattle.std.specs.Prelude.{None, map, string_bytes};
+ghost use Rattle.std.specs.Prelude.{None};
 
 use edf_serve::{Finished, NewFiles as ServedFiles};
-use edf_system::{NewFile, NewFiles};
+use edf_system::{NewFile, NewFiles, Terminal};
 use std::alloc::Global;
 use std::io::{self, ErrorKind};
 
-/// Makes the files of recordings.
+/// Makes the files of recordings, of which it keeps no list.
 #[derive(Drop)]
 pub(crate) struct PartFiles<'rt> {
-    alloc: Global,
+    rt: &'rt HostRuntime,
+    terminal: &'rt Terminal<'rt>,
+    /// What makes the file that is begun, if one is.
     files: NewFiles<'rt>,
-    /// The names of the whole files, in turn.
-    names: Vec<String>,
 }
 
 impl<'rt> PartFiles<'rt> {
-    pub(crate) fn new(alloc: Global, files: NewFiles<'rt>) -> PartFiles<'rt> {
+    pub(crate) fn new(rt: &'rt HostRuntime, terminal: &'rt Terminal<'rt>) -> PartFiles<'rt> {
         PartFiles {
-            alloc,
-            files,
-            names: Vec::new(alloc),
+            rt,
+            terminal,
+            files: NewFiles::new(rt, terminal),
         }
+    }
+
+    /// Keeps nothing of the file that was begun.
+    fn forget(&mut self) {
+        self.files = NewFiles::new(self.rt, self.terminal);
     }
 }
 
@@ -39,7 +44,7 @@ fn end<'rt>(files: &mut NewFiles<'rt>, writer: NewFile<'rt>) -> Finished {
 impl<'rt> ServedFiles for PartFiles<'rt> {
     type Writer = NewFile<'rt>;
 
-    ghost made = { λ files. map (λ name. (string_bytes name, None)) files.names.items };
+    ghost made = { λ _. None };
 
     fn create(&mut self, alloc: Global, name: &str) -> io::Result<Option<NewFile<'rt>>> {
         if self.files.is_there(name) {
@@ -48,27 +53,15 @@ impl<'rt> ServedFiles for PartFiles<'rt> {
         Ok(Some(self.files.create(alloc, name)?))
     }
 
-    fn finish(&mut self, writer: NewFile<'rt>, name: &str) -> Finished {
-        let kept = match String::from_str(self.alloc, name) {
-            Ok(owned) => self.names.push(owned).is_ok(),
-            Err(_) => false,
-        };
-        if !kept {
-            self.discard(writer, name);
-            return Finished::Failed;
-        }
+    fn finish(&mut self, writer: NewFile<'rt>, _name: &str) -> Finished {
         let finished = end(&mut self.files, writer);
-        match finished {
-            Finished::Named { .. } => finished,
-            Finished::IsThere | Finished::Failed => {
-                self.names.pop();
-                finished
-            }
-        }
+        self.forget();
+        finished
     }
 
     fn discard(&mut self, writer: NewFile<'rt>, name: &str) {
         drop(writer);
         let _ = self.files.remove(name);
+        self.forget();
     }
 }

@@ -6,7 +6,7 @@ use Rattle.std.specs.List.{list_all}
 use Rattle.std.proofs.lemmas.List.{append_cancel_left}
 use Rattle.edfstore_arguments.specs.Arguments.{is_place, place_of}
 use Rattle.edfserve_arguments.specs.Line.{LineAsked, AskFor}
-use Rattle.edfserve_arguments.specs.Line.LineAsked.{take, list, export}
+use Rattle.edfserve_arguments.specs.Line.LineAsked.{take, list, runs, export}
 
 and_left : (a b : Bool) → (a && b) ≡ true → a ≡ true
 and_left true b e = refl
@@ -30,6 +30,7 @@ pub no-export : (text : List ℕ) → ((place : ℕ) (name : List ℕ) → Parts
     (asked : LineAsked) → AskFor (codes "export " ++ text) asked → ⊥
 no-export text never (take name) a = other text (codes "take " ++ name) a.0 (λ e. omega (arith, e))
 no-export text never list a = other text (codes "list") a (λ e. omega (arith, e))
+no-export text never (runs place) a = other text (codes "runs " ++ a.0) a.1 (λ e. omega (arith, e))
 no-export text never (export place name) a = never place name (record {
   front = a.0;
   splits = append_cancel_left (codes "export ") text (a.0 ++ (32 ∷ name)) a.1;

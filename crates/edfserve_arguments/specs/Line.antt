@@ -1,4 +1,4 @@
--- What a line asks for: exactly these three forms, each with its values. The line stands without its
+-- What a line asks for: exactly these four forms, each with its values. The line stands without its
 -- line feed.
 use Rattle.std.specs.Prelude.{◌≡◌, ◌≢◌, ◌≤◌, ℕ, List, [], ◌∷◌, ◌++◌, length, Option, Some, None}
 use Rattle.std.specs.Prelude.{codes}
@@ -11,12 +11,15 @@ use Rattle.edfserve_arguments.specs.declared.line.LineCommand.TheVariants as par
 pub data LineAsked : Type 0 where
   take : List ℕ → LineAsked
   list : LineAsked
+  runs : ℕ → LineAsked
   export : ℕ → List ℕ → LineAsked
 
 -- the bytes ask for this; a name is all that is left of them, and is not empty
 abbrev pub AskFor : List ℕ → LineAsked → Type 0
 AskFor line (take name) = (line ≡ codes "take " ++ name) × (name ≢ [])
 AskFor line list = line ≡ codes "list"
+AskFor line (runs place) = (text : List ℕ) × (line ≡ codes "runs " ++ text)
+    × (place_of text ≡ Some place)
 AskFor line (export place name) = (text : List ℕ)
     × (line ≡ codes "export " ++ (text ++ (32 ∷ name))) × (place_of text ≡ Some place)
     × (name ≢ [])
@@ -39,4 +42,5 @@ IsRead line None = (asked : LineAsked) → IsLine line → AskFor line asked →
 abbrev pub asked_by : LineCommand → LineAsked
 asked_by (parsed.Take name) = take name.now
 asked_by parsed.List = list
+asked_by (parsed.Runs place) = runs place
 asked_by (parsed.Export place name) = export place name.now

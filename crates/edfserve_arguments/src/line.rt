@@ -18,6 +18,11 @@ pub enum LineCommand<'l> {
     },
     /// List the recordings.
     List,
+    /// List the runs of a recording.
+    Runs {
+        /// The recording's place in the list, from 1.
+        place: u32,
+    },
     /// Write a recording to a new file.
     Export {
         /// The recording's place in the list, from 1.
@@ -35,6 +40,14 @@ fn take_of(name: &str) -> Option<LineCommand<'_>>
         return None;
     }
     Some(LineCommand::Take { name })
+}
+
+/// What comes after `runs `.
+fn runs_of(text: &str) -> Option<LineCommand<'_>>
+    ensures { IsAsked (codes "runs " ++ text.now) (option_map asked_by result) }
+{
+    let place = read_place(text)?;
+    Some(LineCommand::Runs { place })
 }
 
 /// What comes after `export `.
@@ -55,10 +68,10 @@ fn export_of(text: &str) -> Option<LineCommand<'_>>
 
 /// What a line asks for, which stands here without its line feed.
 ///
-/// It is `take NAME`, `list` or `export PLACE NAME`, with one space between. NAME is the rest of the
-/// line, byte for byte, and is not empty; PLACE is as `edfstore export` has it. A line asks for one
-/// command at most. `None` for every other line, and for one that is longer than [`LONGEST_LINE`]
-/// or is not UTF-8.
+/// It is `take NAME`, `list`, `runs PLACE` or `export PLACE NAME`, with one space between. NAME is
+/// the rest of the line, byte for byte, and is not empty; PLACE is as `edfstore export` has it. A
+/// line asks for one command at most. `None` for every other line, and for one that is longer than
+/// [`LONGEST_LINE`] or is not UTF-8.
 pub fn parse_line(line: &[u8]) -> Option<LineCommand<'_>>
     ensures { IsRead line.now (option_map asked_by result) }
 {
@@ -73,6 +86,9 @@ pub fn parse_line(line: &[u8]) -> Option<LineCommand<'_>>
     }
     if let Some(name) = text.strip_prefix("take ") {
         return take_of(name);
+    }
+    if let Some(place) = text.strip_prefix("runs ") {
+        return runs_of(place);
     }
     export_of(text.strip_prefix("export ")?)
 }

@@ -1,8 +1,8 @@
 //! The words after the program's name, read by `clap`. Lines of help are broken where they stand,
 //! since nothing else breaks them.
 
-use clap::{Arg, Command};
-use edf_program::{CommandFault, VERSION, fault_by};
+use clap::{Arg, ArgMatches, Command};
+use edf_program::{CommandFault, VERSION, fault_by, refuse_value};
 use std::alloc::{AllocError, Global};
 
 /// What `edfserve` is.
@@ -15,14 +15,19 @@ const EDFSERVE_MORE: &str = "\
 Lines:
   take NAME          takes a file into the store, as 'edfstore take' does
   list               lists the recordings, as 'edfstore list' does
+  runs PLACE         lists the runs of a recording, as 'edfruns list' does
   export PLACE NAME  writes a recording to a new file
 
 NAME is the rest of the line; '-' is a file of that name. PLACE is the recording's
 place in the list. After the lines of an answer comes 'status N':
   0  done
-  1  a file was refused, no recording has that place, or NAME is there
+  1  a file was refused, no recording has that place, NAME is there, or it is outside
+     of the folder
   2  the line is no command
   3  trouble with a file, standard output, memory or the store
+
+With --from and --to a NAME leads below the folder: it is relative, no part of it is
+'..', and no part of it is a link.
 
 Example:
   printf 'take part1.edf\\nexport 1 night.edf\\n' | edfserve night.db
@@ -34,29 +39,74 @@ Example:
 The program ends at the end of its input with the worst status, or with 3 where
 the store can't be opened.";
 
-/// The program and its word.
+/// What `edfserve` is called, for its usage.
+const NAME: &str = "edfserve";
+
+/// Why an empty folder is refused.
+const NO_FOLDER: &str = "a FOLDER has a name; the present one is '.'";
+
+/// What the words ask for.
+#[derive(Drop)]
+pub struct ServeWords {
+    /// The path of the store.
+    pub store: String,
+    /// The folder of the files of `take`, where there is one.
+    pub from: Option<String>,
+    /// The folder of the files of `export`, where there is one.
+    pub to: Option<String>,
+}
+
+/// The program and its words.
 fn edfserve_words<'a>(alloc: Global) -> Result<Command<'a>, AllocError> {
     let store = Arg::new(alloc, "STORE")
         .help("The store's file, which is made where there is none")
         .required(true);
-    Command::new(alloc, "edfserve")
-        .bin_name("edfserve")?
+    let from = Arg::new(alloc, "from")
+        .long("from")
+        .value_name("FOLDER")
+        .help("Take files below this folder alone");
+    let to = Arg::new(alloc, "to")
+        .long("to")
+        .value_name("FOLDER")
+        .help("Write files below this folder alone");
+    Command::new(alloc, NAME)
+        .bin_name(NAME)?
         .version(VERSION)
         .about(EDFSERVE)
         .after_help(EDFSERVE_MORE)
         .no_binary_name(true)
+        .arg(from)?
+        .arg(to)?
         .arg(store)
 }
 
-/// The store that the words name.
+/// The folder of that name, where the words have it.
+fn folder_in(
+    alloc: Global,
+    values: &ArgMatches<'_>,
+    name: &str,
+) -> Result<Option<String>, CommandFault> {
+    match values.get_str(name) {
+        Some("") => Err(refuse_value(alloc, edfserve_words(alloc)?, NAME, NO_FOLDER)?),
+        Some(folder) => Ok(Some(String::from_str(alloc, folder)?)),
+        None => Ok(None),
+    }
+}
+
+/// What the words ask for.
 ///
 /// # Errors
-/// Help or the version, where they are asked for; `Usage` where the words are not one STORE;
-/// `Memory` where memory ran out.
-pub fn parse_words(alloc: Global, words: &[String]) -> Result<String, CommandFault> {
+/// Help or the version, where they are asked for; `Usage` where the words are not one STORE and
+/// perhaps the folders; `Memory` where memory ran out.
+pub fn parse_words(alloc: Global, words: &[String]) -> Result<ServeWords, CommandFault> {
     let mut command = edfserve_words(alloc)?;
-    match command.try_get_matches_from_mut(words) {
-        Ok(matches) => Ok(String::from_str(alloc, matches.get_str("STORE").unwrap_or(""))?),
-        Err(error) => Err(fault_by(alloc, &error)),
-    }
+    let values = match command.try_get_matches_from_mut(words) {
+        Ok(values) => values,
+        Err(error) => return Err(fault_by(alloc, &error)),
+    };
+    Ok(ServeWords {
+        store: String::from_str(alloc, values.get_str("STORE").unwrap_or(""))?,
+        from: folder_in(alloc, &values, "from")?,
+        to: folder_in(alloc, &values, "to")?,
+    })
 }

@@ -1,6 +1,6 @@
-use Rattle.edf_serve.proofs.Opened.{opens-none}
+use Rattle.std.proofs.Common.{refl, inr}
 use Rattle.edf_serve.proofs.exporting.export.Goals as goal
 
-pub returns-clause-opened : goal.returns-clause-opened
-returns-clause-opened g c = opens-none (g.I.Inputs.opened c.args.inputs.now)
-    (g.I.Inputs.opened c.run-told.new.inputs) c.run-told.result c.run-told.ensures.opened
+pub returns-in-Err-clause-exported : goal.returns-in-Err-clause-exported
+returns-in-Err-clause-exported g c =
+    inr (record { store = refl; made = refl; said = inr c.tell_memory.ensures })

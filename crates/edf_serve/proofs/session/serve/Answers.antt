@@ -1,15 +1,33 @@
-use Rattle.std.proofs.Common.{◌≡◌, Some, None, rules}
-use Rattle.edf_serve.proofs.Turns.{step-ends, step-goes-on}
+use Rattle.std.proofs.Common.{◌≡◌, ◌∙◌, Some, None, refl, rules, arith}
+use Rattle.edf_serve.proofs.Sessions.{step-ends, step-goes_on, is-full, none-yet, same-surroundings}
 use Rattle.edf_serve.proofs.session.serve.Goals as goal
+
+pub loop-init : goal.loop-init
+loop-init g c = record { so_far = none-yet g.S.Store _ _; same = refl; links = refl }
 
 pub returns-in-Some : goal.returns-in-Some
 returns-in-Some g c =
-    let e : c.serve_next-pause.result ≡ Some c.in-Some.pause = search rules in
-    step-ends g.S.Store _ _ _ c.serve_next-pause.result c.in-Some.pause e c.loop.invariant
-    c.serve_next-pause.ensures
+    let i = c.loop.invariant in
+    let e : c.serve_next-end.result ≡ Some c.in-Some.end = search rules in
+    record {
+      served = step-ends g.S.Store _ _ _ _ _ i.so_far _
+          (same-surroundings _ _ _ _ _ i.same i.links) c.serve_next-end.result c.in-Some.end e
+          c.serve_next-end.ensures.step;
+    }
 
 pub loop-preserved : goal.loop-preserved
 loop-preserved g c =
-    let e : c.serve_next-pause.result ≡ None = search rules in
-    step-goes-on g.S.Store _ _ _ c.serve_next-pause.result e c.loop.invariant
-    c.serve_next-pause.ensures
+    let i = c.loop.invariant in
+    let e : c.serve_next-end.result ≡ None = search rules in
+    record {
+      so_far = step-goes_on g.S.Store _ _ _ _ _ i.so_far _
+          (same-surroundings _ _ _ _ _ i.same i.links) c.serve_next-end.result e
+          c.serve_next-end.ensures.step;
+      same = c.serve_next-end.ensures.same ∙ i.same;
+      links = c.serve_next-end.ensures.links ∙ i.links;
+    }
+
+pub returns : goal.returns
+returns g c = record {
+  served = is-full g.S.Store _ _ _ _ c.loop.invariant.so_far (omega arith);
+}

@@ -1,15 +1,20 @@
-use Rattle.edf_serve.specs.Session.{AreServed, session_point}
+use Rattle.std.proofs.Common.{◌≡◌}
+use Rattle.edf_serve.specs.Served.{below, surroundings}
+use Rattle.edf_serve.specs.Session.{point_at}
+use Rattle.edf_serve.proofs.Sessions.{SoFar}
 use Rattle.edf_serve.proofs.session.serve.Given as goal
 
 abbrev pub invariant-loop : goal.invariant-loop
-invariant-loop g l = AreServed g.S.Store
-    (session_point l.initial.store (g.P.NewFiles.made l.initial.files)
-    (g.O.Output.contents l.initial.out) (g.O.Output.failures l.initial.out)
-    (g.F.Output.contents l.initial.err) (g.F.Output.failures l.initial.err)
-    (g.I.Inputs.opened l.initial.inputs) (g.I.Inputs.bytes l.initial.inputs)
-    (g.L.Lines.given l.initial.lines) l.initial.worst)
-    (session_point l.store (g.P.NewFiles.made l.files)
-    (g.O.Output.contents l.out) (g.O.Output.failures l.out)
-    (g.F.Output.contents l.err) (g.F.Output.failures l.err)
-    (g.I.Inputs.opened l.inputs) (g.I.Inputs.bytes l.inputs)
-    (g.L.Lines.given l.lines) l.worst)
+invariant-loop g l = record {
+  so_far : SoFar g.S.Store (surroundings (below l.folders)
+      (g.I.Sources.bytes l.initial.sources) (g.I.Sources.links l.initial.sources))
+      (point_at l.initial.store (g.L.Lines.coming l.initial.lines)
+      (g.I.Sources.opened l.initial.sources) (g.P.NewFiles.made l.initial.files)
+      (g.C.Client.contents l.initial.client) (g.C.Client.failures l.initial.client)
+      l.initial.worst)
+      (point_at l.store (g.L.Lines.coming l.lines) (g.I.Sources.opened l.sources)
+      (g.P.NewFiles.made l.files) (g.C.Client.contents l.client) (g.C.Client.failures l.client)
+      l.worst) l.counter;
+  same : g.I.Sources.bytes l.sources ≡ g.I.Sources.bytes l.initial.sources;
+  links : g.I.Sources.links l.sources ≡ g.I.Sources.links l.initial.sources;
+}

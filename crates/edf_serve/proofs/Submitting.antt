@@ -1,0 +1,108 @@
+-- What a session submits, turn after turn.
+use Rattle.std.proofs.Common.{◌≡◌, ℕ, ◌⊎◌, List, [], ◌∷◌, ◌++◌, map, Option, Some, None, Ok, Err}
+use Rattle.std.proofs.Common.{refl, sym, ap, subst, ◌∙◌, inl, inr, arith}
+use Rattle.std.proofs.lemmas.List.{append-nil}
+use Rattle.std.specs.List.{AllByRecursion}
+use Rattle.sqlite_trees.specs.declared.store.Store.{Ghosts}
+use Rattle.sqlite.specs.State.{HasCleanDisk}
+use Rattle.sqlite.proofs.StateLemmas.{survives_then}
+use Rattle.edf_fragment.specs.Call.{InputState}
+use Rattle.edf_store.specs.Held.{StoreModel, at, Stays}
+use Rattle.edf_store.specs.declared.fault.StoreFault.{StoreFault}
+use Rattle.edf_store.specs.declared.fault.StoreFault.TheVariants.{Memory, Store, Foreign, Failed}
+use Rattle.edf_store.proofs.Held.{others_committed_then}
+use Rattle.edf_intake.specs.Refusal.{Answer, Cause, OfForm, OfConflict, OfRead, OfMemory, OfStore}
+use Rattle.edf_intake.specs.Refusal.{cause}
+use Rattle.edf_intake.specs.Submitted.{IsRefusal, IsSubmitted}
+use Rattle.edf_intake.specs.Batch.{AreSubmitted, IsOwnCause, IsOwnRefusal}
+use Rattle.edf_intake.proofs.Batches.{next_submitted, answers_all}
+use Rattle.edf_intake.proofs.Turns.{map-next}
+use Rattle.edf_serve.specs.Taken.{Submission}
+use Rattle.edf_serve.specs.Submissions.{AreSubmittedInTurn, one_or_none}
+
+-- what was no refusal of a clean disk is none later
+own-one : {S : Type 0} (g : Ghosts S) (mid new : StoreModel S) →
+    (HasCleanDisk (at g new) → HasCleanDisk (at g mid)) → (answer : Answer) →
+    IsOwnRefusal g mid answer → IsOwnRefusal g new answer
+own-one g mid new was (Ok receipt) own = tt
+own-one g mid new was (Err refused) own = of (cause refused) own
+  where
+    by : (fault : StoreFault) → IsRefusal g (Unit {0}) mid fault → IsRefusal g (Unit {0}) new fault
+    by Memory own = own
+    by (Store (Some error)) own = tt
+    by (Store None) own = tt
+    by Foreign own = λ clean. own (was clean)
+    by Failed own = own
+
+    of : (c : Cause) → IsOwnCause g mid c → IsOwnCause g new c
+    of (OfForm fault) own = tt
+    of (OfConflict conflict) own = tt
+    of OfRead own = tt
+    of OfMemory own = tt
+    of (OfStore fault) own = by fault own
+
+own-later : {S : Type 0} (g : Ghosts S) (mid new : StoreModel S) →
+    (HasCleanDisk (at g new) → HasCleanDisk (at g mid)) → (answers : List Answer) →
+    AllByRecursion (IsOwnRefusal g mid) answers → AllByRecursion (IsOwnRefusal g new) answers
+own-later g mid new was [] all = tt
+own-later g mid new was (a ∷ rest) all =
+    (own-one g mid new was a all.0, own-later g mid new was rest all.1)
+
+abbrev froms : List Submission → List InputState
+froms all = map (λ (s : Submission). s.from) all
+
+abbrev tos : List Submission → List InputState
+tos all = map (λ (s : Submission). s.to) all
+
+abbrev answers : List Submission → List Answer
+answers all = map (λ (s : Submission). s.answer) all
+
+module _ {S : Type 0} (g : Ghosts S) (old mid new : StoreModel S) where
+  -- a call that changes nothing of what is held
+  later : (fs ts : List InputState) (rs : List Answer) → AreSubmitted g old mid fs ts rs →
+      Stays g mid new → AreSubmitted g old new fs ts rs
+  later fs ts rs all stays = record {
+    turns = all.turns;
+    froms_are = all.froms_are;
+    tos_are = all.tos_are;
+    answers_are = all.answers_are;
+    each = all.each;
+    refusals = own-later g mid new (λ clean. omega (arith, stays.crash.clean)) rs all.refusals;
+    replies_are = λ clean h held.
+        let was : HasCleanDisk (at g mid) = omega (arith, stays.crash.clean) in
+        all.replies_are was h held;
+    holdings = λ h held. stays.holdings _ (all.holdings h held);
+    others = others_committed_then (at g old) (at g mid) (at g new) all.others stays.others;
+    crash = survives_then (at g old) (at g mid) (at g new) _ _ _ (λ clean rows left. left)
+        (λ clean rows none. absurd none) all.crash stays.crash;
+  }
+
+  pub stays-in_turn : (all : List Submission) → AreSubmittedInTurn g old mid all →
+      Stays g mid new → AreSubmittedInTurn g old new all
+  stays-in_turn all before stays =
+      let it = later (froms all) (tos all) (answers all) before.submitted stays in
+      record {
+        submitted = it;
+        answered = answers_all g old new (froms all) (tos all) (answers all) it;
+      }
+
+  -- one more
+  pub more-in_turn : (all : List Submission) (s : Submission) → mid.cap ≡ old.cap →
+      AreSubmittedInTurn g old mid all → IsSubmitted g mid new s.from s.to s.answer →
+      AreSubmittedInTurn g old new (all ++ (s ∷ []))
+  more-in_turn all s capped before is =
+      let it = next_submitted g old mid new (froms all) (tos all) (answers all) capped
+      before.submitted s.from s.to s.answer is in
+      let all_is : AreSubmitted g old new (froms (all ++ (s ∷ []))) (tos (all ++ (s ∷ [])))
+      (answers (all ++ (s ∷ []))) =
+      subst (λ (l : List InputState). AreSubmitted g old new l (tos (all ++ (s ∷ [])))
+      (answers (all ++ (s ∷ [])))) (sym (map-next (λ (s : Submission). s.from) all s))
+      (subst (λ (l : List InputState). AreSubmitted g old new (froms all ++ (s.from ∷ [])) l
+      (answers (all ++ (s ∷ [])))) (sym (map-next (λ (s : Submission). s.to) all s))
+      (subst (λ (l : List Answer). AreSubmitted g old new (froms all ++ (s.from ∷ []))
+      (tos all ++ (s.to ∷ [])) l) (sym (map-next (λ (s : Submission). s.answer) all s)) it)) in
+      record {
+        submitted = all_is;
+        answered = answers_all g old new (froms (all ++ (s ∷ []))) (tos (all ++ (s ∷ [])))
+            (answers (all ++ (s ∷ []))) all_is;
+      }

@@ -1,0 +1,64 @@
+//! Standard output, flushed at the end of each answer.
+
+ghost use Rattle.std.specs.Prelude.{◌≡◌, None};
+ghost use Rattle.edf_fragment.specs.Failures.{one_more};
+
+use edf_fragment::Output;
+use edf_serve::Flush;
+use std::io::{self, Stdout, Write};
+
+/// Standard output, and how many writes to it failed, up to `u64::MAX`.
+#[derive(Drop)]
+pub(crate) struct StandardOutput {
+    stream: Stdout,
+    failures: u64,
+}
+
+/// The count after one more failure.
+fn one_failure_more(count: u64) -> u64
+    ensures { result ≡ one_more count }
+{
+    count.saturating_add(1)
+}
+
+impl StandardOutput {
+    pub(crate) fn new(rt: &HostRuntime) -> StandardOutput {
+        StandardOutput {
+            stream: rt.stdout(),
+            failures: 0,
+        }
+    }
+}
+
+impl Output for StandardOutput {
+    ghost contents = { λ _. None };
+
+    ghost failures = { λ output. output.failures };
+
+    fn write(&mut self, buf: &[u8]) -> io::Result<usize> {
+        match self.stream.write(buf) {
+            Ok(count) => {
+                if count == 0 && !buf.is_empty() {
+                    self.failures = one_failure_more(self.failures);
+                }
+                Ok(count)
+            }
+            Err(error) => {
+                self.failures = one_failure_more(self.failures);
+                Err(error)
+            }
+        }
+    }
+}
+
+impl Flush for StandardOutput {
+    fn flush(&mut self) -> io::Result<()> {
+        match self.stream.flush() {
+            Ok(()) => Ok(()),
+            Err(error) => {
+                self.failures = one_failure_more(self.failures);
+                Err(error)
+            }
+        }
+    }
+}
