@@ -1,6 +1,7 @@
--- A run over two files, as it is closed.
-use Rattle.std.proofs.Common.{◌≡◌, inl, inr, ℕ, List, [], ◌∷◌, map, Option, None, Ok, Err, IsTrue}
-use Rattle.std.proofs.Common.{sym, ap, subst, ◌∙◌, arith}
+-- A run over two files: what it answers, and what its files hold as they are let go.
+use Rattle.std.proofs.Common.{◌≡◌, ◌⊎◌, inl, inr, ℕ, List, Option, None, Some, IsTrue, refl, sym}
+use Rattle.std.proofs.Common.{ap, subst, arith}
+use Rattle.std.proofs.Math.Logic.{∥∥₁_map}
 use Rattle.sqlite_disk.specs.declared.Disk.{Ghosts}
 use Rattle.sqlite_disk.specs.declared.Files.{Files}
 use Rattle.sqlite_wal.specs.Recovery.{Image}
@@ -8,37 +9,41 @@ use Rattle.sqlite_wal.specs.Files.{outcomes}
 use Rattle.sqlite_wal.specs.Reads.{AreClean}
 use Rattle.sqlite_wal.proofs.LogLemmas.{SeenMayStay}
 use Rattle.sqlite_store.specs.declared.store.FileStore.{FileStore}
-use Rattle.sqlite.specs.Effect.{Database}
+use Rattle.sqlite.specs.Tree.{Trees}
+use Rattle.sqlite.specs.Schema.{Schema}
+use Rattle.sqlite.specs.Effect.{Database, IsDatabase}
 use Rattle.sqlite.specs.State.{State, HasCleanDisk}
 use Rattle.sqlite.specs.Held.{Held}
-use Rattle.sqlite.specs.Files.{IsOpened, Finds, image_of, over_files, file_state}
+use Rattle.sqlite.specs.Closing.{IsCopied}
+use Rattle.sqlite.specs.Files.{HoldsDatabase, IsOpened, Finds, image_of, over_files, file_state}
 use Rattle.sqlite.specs.Start.{FindsIn}
-use Rattle.edf_tables.specs.Made.{made_first, kept_first, KeepsTables, KeepsFile}
+use Rattle.edf_tables.specs.Schema.{HasBoth}
+use Rattle.edf_tables.specs.Others.{KeepsTrees}
+use Rattle.edf_tables.specs.Made.{made_first, kept_first, from_none, from_one, from_both, IsMadeOf}
+use Rattle.edf_tables.specs.Made.{left_first, left_both, left_second, AreOf, KeepsTables, KeepsFile}
 use Rattle.edf_tables.proofs.File.{tables_both}
+use Rattle.edf_audit.specs.File.{IsForeignFile}
 use Rattle.edf_holdings.specs.Holdings.{Holdings}
+use Rattle.edf_rows.specs.Rows.{AreKept}
+use Rattle.edf_store.specs.Fault.{HasCause, HasCauseOrIsForeign}
+use Rattle.edf_store.specs.Held.{at}
+use Rattle.edf_store.specs.declared.fault.StoreFault.{StoreFault}
+use Rattle.edf_store.specs.declared.fault.StoreFault.TheVariants.{Memory, Store, Foreign, Failed}
 use Rattle.edfstore_arguments.specs.Arguments.{Asked}
 use Rattle.edf_program.specs.Output.{Growth}
-use Rattle.edfstore_arguments.specs.Arguments.Asked.{take, list, export, convert}
-use Rattle.edf_command.specs.Taking.{IsTaken}
-use Rattle.edf_command.specs.Run.{files_of, IsDone, IsConverted}
-use Rattle.edf_store.specs.Held.{StoreModel, at, Holds}
-use Rattle.edf_holdings.specs.Reply.{after, replies}
-use Rattle.edf_intake.specs.Refusal.{Answer}
-use Rattle.edf_fragment.specs.Call.{InputState}
-use Rattle.edf_intake.specs.Submitted.{IsSubmitted}
-use Rattle.edf_intake.specs.Batch.{Turn, told_in, replies_in}
-use Rattle.edf_intake.proofs.Turns.{turn_of}
-use Rattle.std.proofs.lemmas.Simd.{map-map}
 use Rattle.edf_program.specs.declared.status.Status.{Status}
-use Rattle.edf_session.specs.Files.{Keeps, one_table, both_tables, FilesKeep}
-use Rattle.edf_session.specs.Steps.{LeadsTo, IsStep}
-use Rattle.edf_session.specs.Close.{LeadsIfNumbered, Closes, EndsOrRefuses}
+use Rattle.edf_session.specs.Files.{Keeps, one_table, both_tables, FilesKeep, KeepOne, AreReadAs}
+use Rattle.edf_session.specs.Steps.{LeadsAs}
+use Rattle.edf_session.specs.Close.{LeadsIfNumbered, IsClosedAs, Ran, IsRefused, RanOrRefused}
+use Rattle.edf_session.specs.Close.{EndsOrRefuses}
+use Rattle.edf_session.specs.Inside.{Runs, Refuses, LetsGo, LeavesEach}
 use Rattle.edf_session.specs.Across.{RunsAfter, RunsAfterAll}
-use Rattle.sqlite.specs.declared.error.Error.{Error}
 use Rattle.edf_session.proofs.Chains.{result}
-use Rattle.std.proofs.Math.Logic.{∥∥₁_map}
-use Rattle.edf_session.proofs.Keeping.{nothing_of, tables_keep, found_keeps}
-use Rattle.edf_session.proofs.LetGo.{leaves, closes, leads, ends_in}
+use Rattle.edf_session.proofs.Keeping.{nothing_of, tables_keep, found_keeps, own_keeps, kept_is_own}
+use Rattle.edf_session.proofs.Keeping.{keeps_once, read_as}
+use Rattle.edf_session.proofs.LetGo.{leaves, leads, ends_in, clean_last}
+
+-- ---- a store that was refused
 
 keeps_tables : (cap : ℕ) (old new : Database) (h : Holdings) → Keeps cap old h →
     KeepsTables old new → Keeps cap new h
@@ -58,161 +63,188 @@ file_kept cap old new h settled it file is_open = elim (file.committed is_open) 
       (subst (λ (d : Database). Keeps cap d h) (sym settled) it) made.1
 ]
 
+trees_of : (old new : Database) → new ≡ old → new.trees ≡ old.trees
+trees_of old new same = ap (λ (d : Database). d.trees) same
+
+as_of : (db : Database) (s : Schema) → db.schema ≡ s → IsDatabase db → AreOf s db.trees
+as_of db s is sound = subst (λ (t : Schema). AreOf t db.trees) is sound
+
+made_tables : (old new : Database) → KeepsTables old new → IsDatabase new →
+    (new.trees ≡ old.trees) ⊎ IsMadeOf old new.trees
+made_tables old new (inl same) sound = inl (trees_of old new same)
+made_tables old new (inr (inl (made_first none one empty))) sound =
+    inr (left_first none (as_of new _ one sound) empty)
+made_tables old new (inr (inl (kept_first one same))) sound = inl (trees_of old new same)
+made_tables old new (inr (inr (from_none none both first second))) sound =
+    inr (left_both none (as_of new _ both sound) first second)
+made_tables old new (inr (inr (from_one one both same second))) sound =
+    inr (left_second one (as_of new _ both sound) same second)
+made_tables old new (inr (inr (from_both both same))) sound = inl (trees_of old new same)
+
+file_made : (old new : State) → old.now ≡ old.committed → KeepsFile old new → IsTrue new.is_open →
+    IsDatabase new.committed → (new.committed.trees ≡ old.committed.trees)
+    ⊎ IsMadeOf old.committed new.committed.trees
+file_made old new settled file is_open sound = elim (file.committed is_open) [
+  | inl same ↦ inl (trees_of old.committed new.committed same)
+  | inr made ↦ made_tables old.committed new.committed (subst (λ (d : Database). KeepsTables d
+      new.committed) settled made.1) sound
+]
+
+caused : (fault : StoreFault) → HasCauseOrIsForeign fault → ¬ (fault ≡ Foreign) → HasCause fault
+caused Memory why never = tt
+caused (Store (Some error)) why never = tt
+caused (Store None) why never = absurd why
+caused Foreign why never = absurd (never refl)
+caused Failed why never = absurd why
+
 pub finds_in : {D : Type 0} {g : Ghosts D} (files : Files D) (c : Held (FileStore D g)) →
     Finds files c → FindsIn (image_of g files) (file_state c)
 finds_in files c f = record { holds = f.holds; reads = f.reads }
 
-module _ {D : Type 0} {g : Ghosts D} (cap : ℕ) (out err : Growth) (bytes : List ℕ → Option (List ℕ))
-    (asked : Asked) (status : Status) (start : Image) (first : Held (FileStore D g))
-    (failure : Option Error) (files : Files D)
-    (opens : HasCleanDisk (file_state first) → IsOpened first)
-    (finds : HasCleanDisk (file_state first) → FindsIn start (file_state first))
-    (it : Closes cap out err bytes asked status first failure files) (is : failure ≡ None)
-    (clean : AreClean g files.log files.db) where
-  pub closed_leads : SeenMayStay g → (image : Image) → outcomes g files.log files.db image →
-      LeadsTo cap bytes (files_of asked) start image
-  closed_leads stays image may = leads stays cap bytes asked start first it.last files opens finds
-      it.crash (closes stays it.last files (it.copied is clean)) image may
-
-  pub ended : EndsOrRefuses g cap out err bytes asked status start files
-  ended =
-      let copied = it.copied is clean in
-      let late = copied.was_clean in
-      let early : HasCleanDisk (file_state first) = omega (arith, it.crash.clean, late) in
-      let opened = opens early in
-      let sound = (it.live copied.was_open).1 in
-      let keeps = λ (h : Holdings) (keep : FilesKeep cap start h). found_keeps cap start
-      (file_state first) h keep (finds early) (opened.1 opened.0.is_open).1 in
-      elim it.ran [
-        | inl r ↦ inl (record {
-          old = r.old;
-          new = r.new;
-          cap_is = r.cap_is;
-          clean = subst (λ (e : Held (FileStore D g)). HasCleanDisk (file_state e)) (sym r.end_is)
-              late;
-          found = λ h keep. r.found h (subst (λ (d : Database). Keeps cap d h) (sym opened.0.clean)
-              (keeps h keep));
-          done = r.done;
-          kept = λ h held image may. ends_in cap it.last files h copied sound
-              (r.kept late copied.was_open h held) image may;
-        })
-        | inr r ↦ inr (record {
-          fault = r.fault;
-          said = r.said;
-          kept = λ h keep image may.
-              ends_in cap it.last files h copied sound (file_kept cap (file_state first)
-              (file_state it.last) h opened.0.clean (keeps h keep) (r.back.stays late)
-              copied.was_open) image may;
-        })
-      ]
-
--- ---- what a closed run submitted
-
-module _ {D : Type 0} (g : Ghosts D) (cap : ℕ) (out err : Growth) (bytes : List ℕ → Option (List ℕ))
-    (status : Status) (start image : Image) (old new : StoreModel (FileStore D g))
-    (cap_is : old.cap ≡ cap)
-    (found : (h : Holdings) → FilesKeep cap start h → Holds over_files old h)
-    (kept : (h : Holdings) → Holds over_files new h → FilesKeep cap image h)
-    (clean : HasCleanDisk (at over_files new)) where
-  one_turn : (name : List ℕ) (mid : StoreModel (FileStore D g)) (from to : InputState)
-      (answer : Answer) → from.left ≡ bytes name → IsSubmitted over_files old mid from to answer →
-      HasCleanDisk (at over_files mid) → ((h : Holdings) → Holds over_files mid h →
-      Holds over_files new h) → IsStep cap bytes (name ∷ []) start image
-  one_turn name mid from to answer opened s sure on =
-      let t = turn_of over_files old mid from to answer s in
-      let turn : Turn = record { from = from; to = to; answer = answer; told = t.0 } in
-      inl (
-        turn ∷ [],
-        record {
-          opened = ap (λ (o : Option (List ℕ)). o ∷ []) opened;
-          each = (t.1.is_turn, tt);
-          replies_are = λ h keep. subst (λ (n : ℕ). replies_in (turn ∷ [])
-              ≡ replies n h (told_in (turn ∷ []))) cap_is (t.1.replied sure h (found h keep));
-          keeps = λ h keep. kept (after cap h (told_in (turn ∷ [])))
-              (subst (λ (n : ℕ). Holds over_files new (after n h (told_in (turn ∷ [])))) cap_is
-              (on _ (t.1.holdings h (found h keep))));
-        },
-      )
-
-  same_step : (names : List (List ℕ)) → new ≡ old → IsStep cap bytes names start image
-  same_step names same = inr (λ h keep. kept h (subst
-      (λ (s : StoreModel (FileStore D g)). Holds over_files s h) (sym same) (found h keep)))
-
-  taken_step : (names : List (List ℕ)) → IsTaken over_files old new out err bytes names status →
-      IsStep cap bytes names start image
-  taken_step names (inr none) = same_step names none.0
-  taken_step names (inl t) =
-      let s = t.submitted in
-      inl (
-        s.turns,
-        record {
-          opened = sym (map-map (λ (f : InputState). f.left) (λ (u : Turn). u.from) s.turns)
-              ∙ ap (λ (l : List InputState). map (λ (f : InputState). f.left) l) s.froms_are
-              ∙ t.opened;
-          each = s.each;
-          replies_are = λ h keep. subst (λ (n : ℕ). replies_in s.turns
-              ≡ replies n h (told_in s.turns)) cap_is (s.replies_are clean h (found h keep));
-          keeps = λ h keep. kept (after cap h (told_in s.turns))
-              (subst (λ (n : ℕ). Holds over_files new (after n h (told_in s.turns))) cap_is
-              (s.holdings h (found h keep)));
-        },
-      )
-
-  converted_step : (name : List ℕ) → IsConverted over_files old new out err (bytes name) name status
-      → IsStep cap bytes (name ∷ []) start image
-  converted_step name (inl c) = let was : HasCleanDisk (at over_files c.mid) =
-      omega (arith, c.stays.crash.clean, clean) in one_turn name c.mid c.from c.to (Ok c.receipt)
-      c.opened c.submitted was c.stays.holdings
-  converted_step name (inr (inl r)) = one_turn name new r.from r.to (Err r.refusal) r.opened
-      r.submitted clean (λ h held. held)
-  converted_step name (inr (inr none)) = same_step (name ∷ []) none.0
-
-  done_step : (asked : Asked) → IsDone over_files old new out err bytes asked status →
-      IsStep cap bytes (files_of asked) start image
-  done_step (take store files) d = taken_step files d
-  done_step (list store) d = inr (λ h keep. kept h (d.stays.holdings h (found h keep)))
-  done_step (export store place) d = inr (λ h keep. kept h (d.stays.holdings h (found h keep)))
-  done_step (convert file) d = converted_step file d
-
-pub closed_step : {D : Type 0} (g : Ghosts D) (cap : ℕ) (out err : Growth)
-    (bytes : List ℕ → Option (List ℕ)) (asked : Asked) (status : Status) (start : Image)
-    (files : Files D) → EndsOrRefuses g cap out err bytes asked status start files →
-    (image : Image) → outcomes g files.log files.db image →
-    IsStep cap bytes (files_of asked) start image
-closed_step g cap out err bytes asked status start files (inl e) image may =
-    done_step g cap out err bytes status start image e.old e.new e.cap_is e.found
-    (λ h held. e.kept h held image may) e.clean asked e.done
-closed_step g cap out err bytes asked status start files (inr r) image may =
-    inr (λ h keep. r.kept h keep image may)
-
 -- ---- whatever became of the close
 
-pub if_numbered : {D : Type 0} {g : Ghosts D} (cap : ℕ) (out err : Growth)
-    (bytes : List ℕ → Option (List ℕ)) (asked : Asked) (status : Status) (start : Image)
-    (first : Held (FileStore D g)) (failure : Option Error) (files : Files D) →
-    (HasCleanDisk (file_state first) → IsOpened first) →
-    (HasCleanDisk (file_state first) → FindsIn start (file_state first)) →
-    Closes cap out err bytes asked status first failure files → SeenMayStay g →
-    LeadsIfNumbered g cap bytes (files_of asked) start files
-if_numbered cap out err bytes asked status start first failure files opens finds it stays = record {
-  store = it.closed.store;
-  store_is = it.closed.store_is;
-  leads = λ clean numbered image may.
-      leads stays cap bytes asked start first it.last files opens finds it.crash
-      (leaves it.last it.closed.store files (sym it.closed.store_is) it.closed.closed.quiet
-      (λ _. numbered)
-      it.closed.closed.sound clean) image may;
-}
+module _ {D : Type 0} {g : Ghosts D} (cap : ℕ) (out err : Growth) (bytes : List ℕ → Option (List ℕ))
+    (asked : Asked) (status : Status) (Unread : Type 0) (start : Image)
+    (first : Held (FileStore D g)) (files : Files D)
+    (opens : HasCleanDisk (file_state first) → IsOpened first)
+    (finds : HasCleanDisk (file_state first) → FindsIn start (file_state first))
+    (it : LetsGo cap out err bytes asked status Unread first files) where
+  late : AreClean g files.log files.db → HasCleanDisk (file_state it.last)
+  late clean = clean_last it.last files it.closed clean
+
+  early : AreClean g files.log files.db → HasCleanDisk (file_state first)
+  early clean = let now = late clean in omega (arith, it.crash.clean, now)
+
+  settled : AreClean g files.log files.db → (file_state first).now ≡ (file_state first).committed
+  settled clean = (opens (early clean)).0.clean
+
+  sound_first : AreClean g files.log files.db → IsDatabase (file_state first).committed
+  sound_first clean = let opened = opens (early clean) in (opened.1 opened.0.is_open).1
+
+  keeps_first : AreClean g files.log files.db → (h : Holdings) → FilesKeep cap start h →
+      Keeps cap (file_state first).committed h
+  keeps_first clean h keep = found_keeps cap start (file_state first) h keep (finds (early clean))
+      (sound_first clean)
+
+  pub keep_one : AreClean g files.log files.db → KeepOne cap start
+  keep_one clean h other one two = keeps_once cap (file_state first).committed h other
+      (keeps_first clean h one) (keeps_first clean other two)
+
+  read_first : AreClean g files.log files.db → AreReadAs start (file_state first).committed
+  read_first clean = read_as start (file_state first) (finds (early clean)) (sound_first clean)
+
+  ran_of : Runs over_files first it.last cap out err bytes asked status →
+      Ran g cap out err bytes asked status Unread start files
+  ran_of r = record {
+    db = (file_state first).committed;
+    old = r.old;
+    new = r.new;
+    cap_is = r.cap_is;
+    clean = λ clean. subst (λ (e : Held (FileStore D g)). HasCleanDisk (file_state e))
+        (sym r.end_is) (late clean);
+    read = read_first;
+    own = λ clean.
+        let was = r.was_clean (late clean) in
+        let kept = own_keeps cap (file_state first).now (at over_files r.old).committed
+        (r.opened.tables was) (subst (λ (n : ℕ). (h : Holdings)
+        × AreKept n (at over_files r.old).committed.trees h) r.cap_is (r.opened.holdings was))
+        (subst (λ (n : ℕ). ¬ IsForeignFile n (file_state first).now) r.cap_is
+        (r.opened.own was)) in
+        (kept.0, subst (λ (d : Database). Keeps cap d kept.0) (settled clean) kept.1);
+    found = λ clean h keep. r.found h (subst (λ (d : Database). Keeps cap d h)
+        (sym (settled clean)) (keeps_first clean h keep));
+    done = r.done;
+    let_go = subst (λ (e : Held (FileStore D g)). IsClosedAs e files) (sym r.end_is) it.closed;
+  }
+
+  refused_of : Refuses over_files first it.last cap out err status Unread →
+      IsRefused g cap out err bytes asked status Unread start files
+  refused_of r =
+      let foreign = λ (is : r.fault ≡ Foreign) (clean : AreClean g files.log files.db).
+      subst (IsForeignFile cap) (settled clean) (r.back.foreign is (late clean)) in
+      record {
+        db = (file_state first).committed;
+        fault = r.fault;
+        why = r.back.why;
+        said = r.said;
+        unread = r.unread;
+        read = read_first;
+        foreign = foreign;
+        none = λ is clean h keep. kept_is_own cap (file_state first).committed h
+            (keeps_first clean h keep) (foreign is clean);
+      }
+
+  pub ran_or_refused : RanOrRefused g cap out err bytes asked status Unread start files
+  ran_or_refused = elim it.ran [ inl r ↦ inl (ran_of r) | inr r ↦ inr (refused_of r) ]
+
+  -- each crash leaves what one from the connection could leave
+  pub each_leads : SeenMayStay g → LeavesEach it.last files → (image : Image) →
+      outcomes g files.log files.db image → LeadsAs cap out bytes asked status start image
+  each_leads stays each image may = leads stays cap out bytes asked status start first it.last
+      files opens finds it.crash each image may
+
+  pub if_numbered : SeenMayStay g → LeadsIfNumbered g cap out bytes asked status start files
+  if_numbered stays = record {
+    store = it.closed.store;
+    store_is = it.closed.store_is;
+    leads = λ clean numbered image may. each_leads stays
+        (leaves it.last it.closed.store files (sym it.closed.store_is) it.closed.closed.quiet
+        (λ _. numbered) it.closed.closed.sound clean) image may;
+  }
+
+  -- ---- where the last commit was copied
+
+  pub ended : AreClean g files.log files.db → IsCopied it.last files →
+      EndsOrRefuses g cap out err bytes asked status Unread start files
+  unfolding ran_of refused_of
+  ended clean copied =
+      let sound = (it.live copied.was_open).1 in
+      elim it.ran [
+        | inl r ↦ inl (record {
+          ran = ran_of r;
+          kept = λ h held image may. ends_in cap it.last files h copied sound
+              (r.kept (late clean) copied.was_open h held) image may;
+          others = λ both image may.
+              let was = subst (λ (d : Database). HasBoth d.schema) (sym (settled clean)) both in
+              let trees = (file_state it.last).committed.trees in
+              let same = subst (λ (d : Database). KeepsTrees d.schema d.trees trees)
+              (settled clean) (r.others (late clean) copied.was_open was) in
+              ∥∥₁_map (copied.left image may).both (λ holds.
+              let x : (rows : Trees) × HoldsDatabase image rows
+              × KeepsTrees (file_state first).committed.schema
+              (file_state first).committed.trees rows = (trees, holds, same) in x);
+        })
+        | inr r ↦ inr (record {
+          refused = refused_of r;
+          kept = λ h keep image may. (ends_in cap it.last files h copied sound (file_kept cap
+              (file_state first) (file_state it.last) h (settled clean) (keeps_first clean h keep)
+              (r.back.stays (late clean)) copied.was_open) image may).0;
+          as_was = λ image may.
+              let trees = (file_state it.last).committed.trees in
+              let made = file_made (file_state first) (file_state it.last) (settled clean)
+              (r.back.stays (late clean)) copied.was_open sound in
+              ∥∥₁_map (copied.left image may).both (λ holds.
+              let x : (rows : Trees) × HoldsDatabase image rows
+              × ((rows ≡ (file_state first).committed.trees)
+              ⊎ IsMadeOf (file_state first).committed rows) = (trees, holds, made) in x);
+        })
+      ]
 
 -- ---- one more run
 
 pub runs_on : {D : Type 0} (g : Ghosts D) (cap : ℕ) (out err : Growth)
-    (bytes : List ℕ → Option (List ℕ)) (asked : Asked) (status : Status) (start : Image)
-    (files : Files D) → EndsOrRefuses g cap out err bytes asked status start files →
-    RunsAfterAll g cap out err bytes asked status start files
-runs_on g cap out err bytes asked status start files end runs h first sound keep follow =
+    (bytes : List ℕ → Option (List ℕ)) (asked : Asked) (status : Status) (Unread : Type 0)
+    (start : Image) (files : Files D) →
+    RanOrRefused g cap out err bytes asked status Unread start files →
+    AreClean g files.log files.db →
+    RunsAfterAll g cap out err bytes asked status Unread start files
+runs_on g cap out err bytes asked status Unread start files end clean runs h first sound keep follow
+    =
     ∥∥₁_map (result cap runs h first start sound follow keep) (λ r.
-    let it : RunsAfter g cap out err bytes asked status start files runs h = record {
+    let it : RunsAfter g cap out err bytes asked status Unread start files runs h = record {
       left = r;
-      run = elim end [ inl e ↦ inl (e, e.found _ r.keeps) | inr f ↦ inr f ];
+      run = elim end [
+        | inl e ↦ inl (e, e.found clean _ r.keeps)
+        | inr f ↦ inr (f, caused f.fault f.why (λ is. f.none is clean _ r.keeps))
+      ];
     } in it)

@@ -1,42 +1,28 @@
 -- The first inputs of a list are those of the first names.
-use Rattle.std.proofs.Common.{◌≡◌, inl, inr, ℕ, List, [], ◌∷◌, ◌++◌, map, Option, Some, None, refl}
-use Rattle.std.proofs.Common.{sym, ap, subst, ◌∙◌, append_assoc}
-use Rattle.std.specs.List.{AllByRecursion, AllZip}
+use Rattle.std.proofs.Common.{◌≡◌, inl, inr, ℕ, List, [], ◌∷◌, ◌++◌, map, Option, refl, sym, ap}
+use Rattle.std.proofs.Common.{ap₂, subst, ◌∙◌, ◌⊎◌, append_assoc}
+use Rattle.std.proofs.lemmas.List.{map-append}
+use Rattle.std.specs.List.{AllByRecursion}
 use Rattle.sqlite.specs.Tree.{Trees}
-use Rattle.edf_fragment.specs.Told.{Told}
 use Rattle.edf_holdings.specs.Holdings.{Holdings}
-use Rattle.edf_holdings.specs.Reply.{Reply, after, after_one}
+use Rattle.edf_holdings.specs.Reply.{after, after_one}
 use Rattle.edf_holdings.proofs.Settled.{after-append}
 use Rattle.edf_rows.specs.Rows.{AreKept}
-use Rattle.edf_intake.specs.Refusal.{reply_told}
-use Rattle.edf_intake.specs.Input.{Hears}
-use Rattle.edf_intake.specs.Batch.{Turn, somes, told_in, GoesWith, IsTurn, AreUnended, AreLeftBy}
-use Rattle.edf_intake.proofs.Turns.{map-next, told-next}
-use Rattle.edf_session.specs.Front.{IsHeardOf, MayTell, IsAfterFront}
+use Rattle.edf_intake.specs.Refusal.{Answer}
+use Rattle.edf_intake.specs.Batch.{Turn, told_in, IsTurn, AreUnended, AreLeftBy}
+use Rattle.edf_intake.proofs.Turns.{map-next, all-next}
+use Rattle.edf_session.specs.Front.{IsAfterFront, answers_in}
 
-pub no_front : (cap : ℕ) (bytes : List ℕ → Option (List ℕ)) (names : List (List ℕ)) (h : Holdings) →
+abbrev pub no_front : (cap : ℕ) (bytes : List ℕ → Option (List ℕ)) (names : List (List ℕ)) (h : Holdings) →
     IsAfterFront cap bytes names h h
 no_front cap bytes names h = record {
-  front = [];
-  rest = names;
-  splits = refl;
-  heard = [];
-  each = tt;
+  tolds = [];
+  front = record {
+    turns = [];
+    first = record { front = []; rest = names; splits = refl; opened = refl; each = tt };
+    are = inl refl;
+  };
   is = refl;
-}
-
-heard_of : (t : Turn) (x : Told) (r : Option Reply) → GoesWith t (Some x) r → Hears t.from t.to x
-heard_of t x (Some answer) h = h.0
-heard_of t x None h = absurd h
-
-told_by : (t : Turn) (b : Option (List ℕ)) → t.from.left ≡ b → IsTurn t → (x : Told) →
-    t.told ≡ Some x → IsHeardOf b x
-told_by t b left turn x is = record {
-  from = t.from;
-  to = t.to;
-  left = left;
-  heard = heard_of t x (reply_told t.answer) (subst (λ (o : Option Told). GoesWith t o
-      (reply_told t.answer)) is turn);
 }
 
 lefts : List Turn → List (Option (List ℕ))
@@ -48,7 +34,8 @@ record Split (bytes : List ℕ → Option (List ℕ)) (names : List (List ℕ)) 
   front : List (List ℕ)
   rest : List (List ℕ)
   splits : names ≡ front ++ rest
-  each : AllZip (MayTell bytes) front (map (λ (t : Turn). t.told) before)
+  opened : lefts before ≡ map bytes front
+  each : AllByRecursion IsTurn before
   left : lefts behind ≡ map bytes rest
   turns : AllByRecursion IsTurn behind
 
@@ -60,6 +47,7 @@ split bytes names [] behind same all = record {
   front = [];
   rest = names;
   splits = refl;
+  opened = refl;
   each = tt;
   left = same;
   turns = all;
@@ -73,76 +61,110 @@ split bytes (n ∷ names) (t ∷ before) behind same all =
       front = n ∷ more.front;
       rest = more.rest;
       splits = ap (λ (l : List (List ℕ)). n ∷ l) more.splits;
-      each = (told_by t (bytes n) head all.0, more.each);
+      opened = ap₂ (λ (o : Option (List ℕ)) (l : List (Option (List ℕ))). o ∷ l) head more.opened;
+      each = (all.0, more.each);
       left = more.left;
       turns = more.turns;
     }
 
-zip_next : (bytes : List ℕ → Option (List ℕ)) (front : List (List ℕ)) (heard : List (Option Told))
-    (n : List ℕ) (told : Option Told) → AllZip (MayTell bytes) front heard → MayTell bytes n told →
-    AllZip (MayTell bytes) (front ++ n ∷ []) (heard ++ told ∷ [])
-zip_next bytes [] [] n told all one = (one, tt)
-zip_next bytes [] (o ∷ os) n told all one = absurd all
-zip_next bytes (m ∷ ms) [] n told all one = absurd all
-zip_next bytes (m ∷ ms) (o ∷ os) n told all one = (all.0, zip_next bytes ms os n told all.1 one)
+-- rows that stand for what the first of the inputs leave
+pub record Fronted (cap : ℕ) (bytes : List ℕ → Option (List ℕ)) (names : List (List ℕ))
+    (h : Holdings) (turns : List Turn) (rows : Trees) : Type 0 where
+  pub left : Holdings
+  pub front : IsAfterFront cap bytes names h left
+  pub kept : AreKept cap rows left
+  pub more : List Answer
+  pub answers : answers_in turns ≡ answers_in front.front.turns ++ more
 
 -- the next input told something too
 with_next : (cap : ℕ) (bytes : List ℕ → Option (List ℕ)) (names : List (List ℕ)) (h : Holdings)
     (before behind : List Turn) (rows : Trees) → (s : Split bytes names before behind) →
     (rest : List (List ℕ)) → s.rest ≡ rest → lefts behind ≡ map bytes rest →
     AreUnended cap (after cap h (told_in before)) behind rows →
-    (left : Holdings) × IsAfterFront cap bytes names h left × AreKept cap rows left
+    Fronted cap bytes names h (before ++ behind) rows
 unfolding lefts
 with_next cap bytes names h before [] rows s rest is same none = absurd none
 with_next cap bytes names h before (t ∷ ts) rows s [] is same u = absurd (cc)
 with_next cap bytes names h before (t ∷ ts) rows s (n ∷ rest) is same u =
     let told = u.1.0 in
     let head : t.from.left ≡ bytes n = cc in
-    let next : Turn = record { from = t.from; to = t.to; answer = t.answer; told = Some told } in
-    let one : MayTell bytes n (Some told) = λ x e. record {
-      from = t.from;
-      to = t.to;
-      left = head;
-      heard = let same : told ≡ x = cc in subst (Hears t.from t.to) same u.1.1;
-    } in
-    let all = subst (AllZip (MayTell bytes) (s.front ++ n ∷ []))
-    (sym (map-next (λ (x : Turn). x.told) before next))
-    (zip_next bytes s.front (map (λ (x : Turn). x.told) before) n (Some told) s.each one) in (
-      after_one cap (after cap h (told_in before)) told,
-      record {
-        front = s.front ++ n ∷ [];
-        rest = rest;
-        splits = s.splits ∙ ap (λ (l : List (List ℕ)). s.front ++ l) is
-            ∙ sym (append_assoc s.front (n ∷ []) rest);
-        heard = map (λ (x : Turn). x.told) (before ++ next ∷ []);
-        each = all;
-        is = sym (ap (after cap h) (told-next before next)
-            ∙ after-append cap h (told_in before) (somes (Some told ∷ [])));
-      },
-      u.1.2,
-    )
+    let opened : lefts (before ++ t ∷ []) ≡ map bytes (s.front ++ n ∷ []) =
+    map-next (λ (x : Turn). x.from.left) before t
+    ∙ ap₂ (λ (l : List (Option (List ℕ))) (o : Option (List ℕ)). l ++ o ∷ []) s.opened head
+    ∙ sym (map-next bytes s.front n) in
+    record {
+      left = after_one cap (after cap h (told_in before)) told;
+      front = record {
+        tolds = told_in before ++ told ∷ [];
+        front = record {
+          turns = before ++ t ∷ [];
+          first = record {
+            front = s.front ++ n ∷ [];
+            rest = rest;
+            splits = s.splits ∙ ap (λ (l : List (List ℕ)). s.front ++ l) is
+                ∙ sym (append_assoc s.front (n ∷ []) rest);
+            opened = opened;
+            each = all-next IsTurn before t s.each s.turns.0;
+          };
+          are = inr (record {
+            before = before;
+            last = t;
+            told = told;
+            splits = refl;
+            doubt = u.0;
+            heard = u.1.1;
+            are = refl;
+          });
+        };
+        is = sym (after-append cap h (told_in before) (told ∷ []));
+      };
+      kept = u.1.2;
+      more = answers_in ts;
+      answers = ap answers_in (sym (append_assoc before (t ∷ []) ts))
+          ∙ map-append (λ (x : Turn). x.answer) (before ++ t ∷ []) ts;
+    }
+
+from_split : (cap : ℕ) (bytes : List ℕ → Option (List ℕ)) (names : List (List ℕ)) (h : Holdings)
+    (before behind : List Turn) (rows : Trees) → lefts (before ++ behind) ≡ map bytes names →
+    AllByRecursion IsTurn (before ++ behind) →
+    AreKept cap rows (after cap h (told_in before))
+    ⊎ AreUnended cap (after cap h (told_in before)) behind rows →
+    Fronted cap bytes names h (before ++ behind) rows
+unfolding lefts
+from_split cap bytes names h before behind rows same all (inl kept) =
+    let s = split bytes names before behind same all in
+    record {
+      left = after cap h (told_in before);
+      front = record {
+        tolds = told_in before;
+        front = record {
+          turns = before;
+          first = record {
+            front = s.front;
+            rest = s.rest;
+            splits = s.splits;
+            opened = s.opened;
+            each = s.each;
+          };
+          are = inl refl;
+        };
+        is = refl;
+      };
+      kept = kept;
+      more = answers_in behind;
+      answers = map-append (λ (x : Turn). x.answer) before behind;
+    }
+from_split cap bytes names h before behind rows same all (inr unended) =
+    let s = split bytes names before behind same all in
+    with_next cap bytes names h before behind rows s s.rest refl s.left unended
 
 pub after_front : (cap : ℕ) (bytes : List ℕ → Option (List ℕ)) (names : List (List ℕ))
     (h : Holdings) (turns : List Turn) (rows : Trees) →
     map (λ (t : Turn). t.from.left) turns ≡ map bytes names → AllByRecursion IsTurn turns →
-    AreLeftBy cap h turns rows → (left : Holdings) × IsAfterFront cap bytes names h left
-    × AreKept cap rows left
+    AreLeftBy cap h turns rows → Fronted cap bytes names h turns rows
 unfolding lefts
 after_front cap bytes names h turns rows same all l =
-    let s = split bytes names l.first l.rest (subst (λ (ts : List Turn). lefts ts ≡ map bytes names)
-    l.splits same) (subst (AllByRecursion IsTurn) l.splits all) in
-    elim l.stand [
-      | inl kept ↦ (
-        after cap h (told_in l.first),
-        record {
-          front = s.front;
-          rest = s.rest;
-          splits = s.splits;
-          heard = map (λ (t : Turn). t.told) l.first;
-          each = s.each;
-          is = refl;
-        },
-        kept,
-      )
-      | inr unended ↦ with_next cap bytes names h l.first l.rest rows s s.rest refl s.left unended
-    ]
+    let first = subst (λ (ts : List Turn). lefts ts ≡ map bytes names) l.splits same in
+    let turned = subst (AllByRecursion IsTurn) l.splits all in
+    subst (λ (ts : List Turn). Fronted cap bytes names h ts rows) (sym l.splits)
+    (from_split cap bytes names h l.first l.rest rows first turned l.stand)

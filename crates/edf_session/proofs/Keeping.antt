@@ -1,6 +1,6 @@
 -- What a database holds is what the files hold, what the store that is opened over it holds, and
 -- what a crash leaves.
-use Rattle.std.proofs.Common.{◌≡◌, inl, inr, ℕ, [], sym, subst, ◌∙◌}
+use Rattle.std.proofs.Common.{◌≡◌, ◌≢◌, inl, inr, ℕ, List, [], ◌∷◌, refl, sym, subst, ◌∙◌}
 use Rattle.std.proofs.Math.Logic.{∥∥₁_elim}
 use Rattle.sqlite_trees.specs.declared.store.Store.{Ghosts}
 use Rattle.sqlite_trees.specs.Props.{Trees-set}
@@ -11,6 +11,7 @@ use Rattle.sqlite.specs.Effect.{Database, IsDatabase}
 use Rattle.sqlite.specs.State.{State}
 use Rattle.sqlite.specs.Held.{Held, state}
 use Rattle.sqlite.specs.Start.{FindsIn}
+use Rattle.sqlite.specs.Order.{Row}
 use Rattle.edf_schema.specs.Columns.{stored_recordings}
 use Rattle.edf_tables.specs.Schema.{no_schema, one_schema, both_schema, HasBoth}
 use Rattle.edf_tables.specs.Made.{HasTables, from_none, from_one, from_both, IsMadeOf, left_first}
@@ -18,10 +19,13 @@ use Rattle.edf_tables.specs.Made.{left_both, left_second}
 use Rattle.edf_tables.specs.Others.{KeepsTrees}
 use Rattle.edf_tables.proofs.Schemas.{none_not_one, none_not_both, one_not_both, made_both}
 use Rattle.edf_holdings.specs.Holdings.{Holdings, nothing_held}
+use Rattle.edf_audit.specs.File.{IsForeignFile, other_schema, foreign_rows, only_recordings}
 use Rattle.edf_rows.specs.Rows.{AreKept}
+use Rattle.edf_rows.proofs.Rows.{one-holdings, not-foreign}
 use Rattle.edf_store.specs.Held.{StoreModel, at, Holds}
 use Rattle.edf_store.specs.Open.{IsOpened}
 use Rattle.edf_session.specs.Files.{Keeps, no_table, one_table, both_tables, TreesKeep, FilesKeep}
+use Rattle.edf_session.specs.Files.{AreReadAs}
 use Rattle.edf_session.proofs.Schemas.{schema_once, unlisted, kept_schema}
 use Rattle.edf_session.proofs.Nothing.{nothing_found, nothing_kept}
 
@@ -45,6 +49,54 @@ kept_of : (cap : ℕ) (db : Database) (h : Holdings) → Keeps cap db h → HasB
 kept_of cap db h (no_table is none) now = absurd (none_not_both db.schema is now)
 kept_of cap db h (one_table is empty none) now = absurd (one_not_both db.schema is now)
 kept_of cap db h (both_tables both kept) now = kept
+
+no_rows : (rows : List Row) → ¬ (rows ≢ []) → rows ≡ []
+no_rows [] never = refl
+no_rows (r ∷ rs) never = absurd (never (λ e. absurd (cc)))
+
+-- a file of ours that isn't foreign keeps some holdings
+pub own_keeps : (cap : ℕ) (old new : Database) → HasTables old new →
+    ((h : Holdings) × AreKept cap new.trees h) → ¬ IsForeignFile cap old →
+    (h : Holdings) × Keeps cap old h
+own_keeps cap old new (from_none none both first second) kept own = (
+  nothing_held,
+  no_table none refl,
+)
+own_keeps cap old new (from_one one both same second) kept own = (
+  nothing_held,
+  one_table one (no_rows (stored_recordings old.trees) (λ some. own (only_recordings one some)))
+      refl,
+)
+own_keeps cap old new (from_both both same) kept own = (
+  kept.0,
+  both_tables both (subst (λ (d : Database). AreKept cap d.trees kept.0) same kept.1),
+)
+
+-- and one that keeps some is not foreign
+pub kept_is_own : (cap : ℕ) (db : Database) (h : Holdings) → Keeps cap db h →
+    ¬ IsForeignFile cap db
+kept_is_own cap db h (no_table none is) (other_schema other) = other (inl none)
+kept_is_own cap db h (no_table none is) (foreign_rows both rows) =
+    none_not_both db.schema none both
+kept_is_own cap db h (no_table none is) (only_recordings one some) =
+    none_not_one db.schema none one
+kept_is_own cap db h (one_table one empty is) (other_schema other) = other (inr (inl one))
+kept_is_own cap db h (one_table one empty is) (foreign_rows both rows) =
+    one_not_both db.schema one both
+kept_is_own cap db h (one_table one empty is) (only_recordings now some) = some empty
+kept_is_own cap db h (both_tables both kept) (other_schema other) = other (inr (inr both))
+kept_is_own cap db h (both_tables both kept) (foreign_rows now rows) =
+    not-foreign cap db.trees h kept rows
+kept_is_own cap db h (both_tables both kept) (only_recordings one some) =
+    one_not_both db.schema one both
+
+pub keeps_once : (cap : ℕ) (db : Database) (h other : Holdings) → Keeps cap db h →
+    Keeps cap db other → h ≡ other
+keeps_once cap db h other (no_table none is) two = is ∙ sym (nothing_of cap db other two none)
+keeps_once cap db h other (one_table one empty is) two = is ∙ sym (empty_of cap db other two one).1
+keeps_once cap db h other (both_tables both kept) two =
+    let again = kept_of cap db other two both in
+    one-holdings db.trees h other cap cap kept.stand kept.sound again.stand again.sound
 
 -- ---- of files that are opened
 
@@ -70,7 +122,22 @@ found_keeps cap image s h (inr (db, held, it)) found sound =
     trees_keep cap db h s.committed it sound (∥∥₁_elim held (Trees-set _ _)
     (λ holds. found.holds db holds))
 
+pub read_as : (image : Image) (s : State) → FindsIn image s → IsDatabase s.committed →
+    AreReadAs image s.committed
+read_as image s found sound = record {
+  is_database = sound;
+  found = found.reads;
+  only = found.holds;
+}
+
 -- ---- of a store that is opened
+
+-- both tables were there, and the file is as it was
+pub both_same : (old new : Database) → HasTables old new → HasBoth old.schema → new ≡ old
+both_same old new (from_none none made first second) both =
+    absurd (none_not_both old.schema none both)
+both_same old new (from_one one made same second) both = absurd (one_not_both old.schema one both)
+both_same old new (from_both was same) both = same
 
 pub tables_keep : (cap : ℕ) (old new : Database) (h : Holdings) → Keeps cap old h →
     HasTables old new → AreKept cap new.trees h

@@ -1,5 +1,5 @@
 -- What the files hold once a run has let them go.
-use Rattle.std.proofs.Common.{◌≡◌, inl, inr, ℕ, List, Option, IsTrue, refl, sym, subst, ◌∙◌, arith}
+use Rattle.std.proofs.Common.{◌≡◌, inl, inr, ℕ, List, [], Option, IsTrue, refl, sym, subst, ◌∙◌, arith}
 use Rattle.std.proofs.Math.Logic.{∥∥₁_map}
 use Rattle.sqlite_disk.specs.declared.Disk.{Ghosts}
 use Rattle.sqlite_disk.specs.declared.Files.{Files}
@@ -23,12 +23,14 @@ use Rattle.sqlite.specs.Start.{FindsIn}
 use Rattle.sqlite.proofs.Theorems.{opens_again}
 use Rattle.edf_holdings.specs.Holdings.{Holdings}
 use Rattle.edfstore_arguments.specs.Arguments.{Asked}
+use Rattle.edf_program.specs.Output.{Growth}
+use Rattle.edf_program.specs.declared.status.Status.{Status}
 use Rattle.edf_command.specs.Run.{files_of}
 use Rattle.edf_session.specs.Files.{Keeps, TreesKeep, FilesKeep}
-use Rattle.edf_session.specs.Front.{IsAfterFront}
-use Rattle.edf_session.specs.Run.{MayBeLeft}
-use Rattle.edf_session.specs.Steps.{LeadsTo}
-use Rattle.edf_session.specs.Close.{HoldsLeft, LeavesEach}
+use Rattle.edf_session.specs.Front.{IsAfterFront, answers_in, PrintsFirst}
+use Rattle.edf_session.specs.Steps.{LeadsAs}
+use Rattle.edf_session.specs.Close.{IsClosedAs}
+use Rattle.edf_session.specs.Inside.{MayBeLeft, HoldsLeft, LeavesEach}
 use Rattle.edf_session.proofs.Fronts.{no_front}
 use Rattle.edf_session.proofs.Keeping.{found_keeps}
 
@@ -68,6 +70,14 @@ module _ {D : Type 0} {g : Ghosts D} where
             } in r);
       }
 
+  -- where the disk is clean in the end, it was as the files were let go
+  pub clean_last : (c : Held (FileStore D g)) (files : Files D) → IsClosedAs c files →
+      AreClean g files.log files.db → HasCleanDisk (file_state c)
+  clean_last c files it clean =
+      let sure = subst (λ (p : D × D). AreClean g p.0 p.1) (sym it.store_is) clean in
+      let none : IsClean (view it.store) = no_doubt _ (clean_is it.store.pool ∙ sure) in
+      omega (arith, it.closed.quiet.clean, none)
+
   -- the files of a store that is closed
   pub closes : SeenMayStay g → (c : Held (FileStore D g)) (files : Files D) → IsCopied c files →
       LeavesEach c files
@@ -82,25 +92,28 @@ module _ {D : Type 0} {g : Ghosts D} where
         } in r);
   }
 
-  pub leads : SeenMayStay g → (cap : ℕ) (bytes : List ℕ → Option (List ℕ)) (asked : Asked)
-      (start : Image) (first last : Held (FileStore D g)) (files : Files D) →
-      (HasCleanDisk (file_state first) → IsOpened first) →
+  pub leads : SeenMayStay g → (cap : ℕ) (out : Growth) (bytes : List ℕ → Option (List ℕ))
+      (asked : Asked) (status : Status) (start : Image) (first last : Held (FileStore D g))
+      (files : Files D) → (HasCleanDisk (file_state first) → IsOpened first) →
       (HasCleanDisk (file_state first) → FindsIn start (file_state first)) →
-      Survives (file_state first) (file_state last) (MayBeLeft cap bytes asked
+      Survives (file_state first) (file_state last) (MayBeLeft cap out bytes asked status
       (file_state first).now) → LeavesEach last files → (image : Image) →
-      outcomes g files.log files.db image → LeadsTo cap bytes (files_of asked) start image
-  leads stays cap bytes asked start first last files opens finds s left image may h keep =
+      outcomes g files.log files.db image → LeadsAs cap out bytes asked status start image
+  leads stays cap out bytes asked status start first last files opens finds s left image may h keep
+      =
       let early : HasCleanDisk (file_state first) = omega (arith, s.clean, left.was_clean) in
       let opened = opens early in
       let sound = opened.1 opened.0.is_open in
       let keeps = found_keeps cap start (file_state first) h keep (finds early) sound.1 in
       let now = subst (λ (d : Database). Keeps cap d h) (sym opened.0.clean) keeps in
       ∥∥₁_map (left.each image may) (λ it.
-      let r : (z : Holdings) × IsAfterFront cap bytes (files_of asked) h z × FilesKeep cap image z =
+      let r : (z : Holdings) × (front : IsAfterFront cap bytes (files_of asked) h z)
+      × PrintsFirst out asked status (answers_in front.front.turns) × FilesKeep cap image z =
       elim (s.crash left.was_clean it.db it.may) [
         | inl early ↦ (
           h,
           no_front cap bytes (files_of asked) h,
+          inl refl,
           inr (
             it.db,
             ∣ it.holds ∣₁,
@@ -113,6 +126,7 @@ module _ {D : Type 0} {g : Ghosts D} where
             let inside = it.holds.2 in (
               rows.left,
               rows.front,
+              rows.printed,
               inr (
                 it.db,
                 ∣ it.holds ∣₁,
@@ -125,15 +139,14 @@ module _ {D : Type 0} {g : Ghosts D} where
             )
       ] in r)
 
-  -- what is held as the run ends is in the database file alone
+  -- what is held as the run ends is in the two files, and in the database file alone
   pub ends_in : (cap : ℕ) (last : Held (FileStore D g)) (files : Files D) (h : Holdings) →
       IsCopied last files → IsDatabase (file_state last).committed →
       Keeps cap (file_state last).committed h → (image : Image) →
-      outcomes g files.log files.db image → FilesKeep cap image h
+      outcomes g files.log files.db image →
+      FilesKeep cap image h × FilesKeep cap (record image { log = [] }) h
   ends_in cap last files h copied sound keeps image may =
-      inr (
-        (file_state last).committed.trees,
-        (copied.left image may).both,
-        same_keep cap
-            (file_state last).committed _ h refl sound keeps,
-      )
+      let trees = (file_state last).committed.trees in
+      let inside = same_keep cap (file_state last).committed trees h refl sound keeps in
+      let held = copied.left image may in
+      (inr (trees, held.both, inside), inr (trees, held.alone, inside))

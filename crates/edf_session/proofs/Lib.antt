@@ -7,3 +7,4 @@ pub mod Running
 pub mod LetGo
 pub mod Chains
 pub mod Ending
+pub mod Stepping

@@ -4,7 +4,9 @@ use Rattle.std.proofs.Common.{◌≡◌, inl, inr, ℕ, List, [], Option, Ok, Er
 use Rattle.sqlite_trees.specs.declared.store.Store.{Ghosts}
 use Rattle.sqlite.specs.State.{HasCleanDisk, IsLive, Survives}
 use Rattle.sqlite.specs.Held.{Held, state}
+use Rattle.sqlite.specs.Effect.{Database}
 use Rattle.edf_tables.specs.Schema.{HasBoth}
+use Rattle.edf_tables.specs.Others.{KeepsTrees}
 use Rattle.edf_tables.proofs.Commits.{survives_same}
 use Rattle.edf_tables.proofs.Others.{others_same}
 use Rattle.edf_tables.proofs.File.{tables_both}
@@ -21,8 +23,8 @@ use Rattle.edf_command.specs.Taking.{IsTaken, HasOpened}
 use Rattle.edf_command.specs.Run.{IsDone, IsConverted}
 use Rattle.edf_program.specs.declared.status.Status.{Status}
 use Rattle.edf_session.specs.Files.{Keeps, both_tables}
-use Rattle.edf_session.specs.Run.{Runs, MayBeLeft}
-use Rattle.edf_session.proofs.Keeping.{opened_holds}
+use Rattle.edf_session.specs.Inside.{Runs, MayBeLeft}
+use Rattle.edf_session.proofs.Keeping.{opened_holds, both_same}
 use Rattle.edf_session.proofs.Crashes.{run_crash}
 
 -- nothing was opened, and the answer is trouble
@@ -89,6 +91,7 @@ module _ {S : Type 0} (g : Ghosts S) (bytes : List ℕ → Option (List ℕ)) (o
           end_is = refl;
           cap_is = cap_is;
           opened = opened;
+          was_clean = was;
           found = λ h keeps. opened_holds g conn old opened h
               (subst (λ (n : ℕ). Keeps n (state g conn).now h) (sym cap_is) keeps);
           done = done;
@@ -97,13 +100,16 @@ module _ {S : Type 0} (g : Ghosts S) (bytes : List ℕ → Option (List ℕ)) (o
               (tables_both _ _ (opened.tables (was clean))))
               (subst (λ (n : ℕ). AreKept n (at g new).committed.trees h) (same_cap ∙ cap_is)
               (held clean is_open));
+          others = λ clean is_open both. subst (λ (d : Database). KeepsTrees d.schema d.trees
+              (at g new).committed.trees) (both_same (state g conn).now (at g old).committed
+              (opened.tables (was clean)) both) (others.others clean is_open).trees;
         })
 
     pub ran_crash : IsLive (at g old) → Survives (state g conn) (state g end)
-        (MayBeLeft cap bytes asked (state g conn).now)
+        (MayBeLeft cap out bytes asked status (state g conn).now)
     ran_crash live =
         subst (λ (e : Held S). Survives (state g conn) (state g e)
-        (MayBeLeft cap bytes asked (state g conn).now)) (sym end_is)
+        (MayBeLeft cap out bytes asked status (state g conn).now)) (sym end_is)
         (subst (λ (n : ℕ). Survives (state g conn) (at g new)
-        (MayBeLeft n bytes asked (state g conn).now)) cap_is
+        (MayBeLeft n out bytes asked status (state g conn).now)) cap_is
         (run_crash g bytes out err conn old new asked status opened live done))

@@ -4,7 +4,7 @@ use Rattle.sqlite_wal.specs.Recovery.{Image}
 use Rattle.sqlite.specs.Tree.{Trees}
 use Rattle.sqlite.specs.Schema.{Schema}
 use Rattle.sqlite.specs.Effect.{Database, IsDatabase}
-use Rattle.sqlite.specs.Files.{HoldsDatabase, IsNothing}
+use Rattle.sqlite.specs.Files.{HoldsDatabase, IsNothing, AreFoundIn}
 use Rattle.edf_schema.specs.Columns.{stored_recordings}
 use Rattle.edf_tables.specs.Schema.{no_schema, one_schema, HasBoth}
 use Rattle.edf_holdings.specs.Holdings.{Holdings, nothing_held}
@@ -29,3 +29,15 @@ pub record TreesKeep (cap : ℕ) (trees : Trees) (h : Holdings) : Type 0 where
 abbrev pub FilesKeep : ℕ → Image → Holdings → Type 0
 FilesKeep cap image h = (IsNothing image × (h ≡ nothing_held))
     ⊎ ((db : Trees) × ∥ HoldsDatabase image db ∥₁ × TreesKeep cap db h)
+
+-- the files are read as this database: what they recover to, and the one that they hold where they
+-- hold one; or there is none yet, and it is empty
+pub record AreReadAs (image : Image) (db : Database) : Type 0 where
+  pub is_database : IsDatabase db
+  pub found : AreFoundIn image db.trees
+  pub only : (held : Trees) → HoldsDatabase image held → db.trees ≡ held
+
+-- the files keep no two holdings
+abbrev pub KeepOne : ℕ → Image → Type 0
+KeepOne cap image = (h other : Holdings) → FilesKeep cap image h → FilesKeep cap image other →
+    h ≡ other

@@ -9,8 +9,9 @@ ghost use Rattle.edfstore_arguments.specs.Arguments.{meaning};
 ghost use Rattle.edf_program.specs.Output.{growth};
 ghost use Rattle.edf_command.specs.Run.{files_of};
 ghost use Rattle.edf_command.specs.Taking.{HasOpened};
+ghost use Rattle.edf_session.specs.Files.{KeepOne};
 ghost use Rattle.edf_session.specs.Steps.{IsStep};
-ghost use Rattle.edf_session.specs.Close.{LeadsIfNumbered, EndsOrRefuses, IsUnopened};
+ghost use Rattle.edf_session.specs.Close.{LeadsIfNumbered, RanOrRefused, EndsOrRefuses, IsUnopened};
 ghost use Rattle.edf_session.specs.Across.{RunsAfterAll};
 
 use crate::session::{Session, run_and_close};
@@ -42,20 +43,28 @@ pub fn run_files<D: Disk + Drop, I: Inputs, O: Output, F: Output, W: Watch>(
     requires cap_to { cap ≤ MOST_RECORDS }
     requires log { IsTrue (D.Disk.is_usable files.log) }
     requires db { IsTrue (D.Disk.is_usable files.db) }
+    ensures ran { IfOk result (λ s. RanOrRefused D.Disk cap (growth O.Output out.old out.new)
+        (growth F.Output err.old err.new) (I.bytes inputs.old) (meaning command.now) s.status
+        (inputs.new ≡ inputs.old) (image_of D.Disk files) s.files) }
     ensures ended { IfOk result (λ s. s.failure ≡ None → AreClean D.Disk s.files.log s.files.db →
         EndsOrRefuses D.Disk cap (growth O.Output out.old out.new)
         (growth F.Output err.old err.new) (I.bytes inputs.old) (meaning command.now) s.status
-        (image_of D.Disk files) s.files) }
+        (inputs.new ≡ inputs.old) (image_of D.Disk files) s.files) }
     ensures steps { IfOk result (λ s. s.failure ≡ None → AreClean D.Disk s.files.log s.files.db →
         (image : Image) → outcomes D.Disk s.files.log s.files.db image →
-        IsStep cap (I.bytes inputs.old) (files_of (meaning command.now)) (image_of D.Disk files)
-        image) }
-    ensures across { IfOk result (λ s. s.failure ≡ None → AreClean D.Disk s.files.log s.files.db →
+        IsStep cap (growth O.Output out.old out.new) (I.bytes inputs.old) (meaning command.now)
+        s.status (image_of D.Disk files) image) }
+    ensures across { IfOk result (λ s. AreClean D.Disk s.files.log s.files.db →
         RunsAfterAll D.Disk cap (growth O.Output out.old out.new)
         (growth F.Output err.old err.new) (I.bytes inputs.old) (meaning command.now) s.status
+        (inputs.new ≡ inputs.old) (image_of D.Disk files) s.files) }
+    ensures unclosed { IfOk result (λ s. LeadsIfNumbered D.Disk cap
+        (growth O.Output out.old out.new) (I.bytes inputs.old) (meaning command.now) s.status
         (image_of D.Disk files) s.files) }
-    ensures unclosed { IfOk result (λ s. LeadsIfNumbered D.Disk cap (I.bytes inputs.old)
-        (files_of (meaning command.now)) (image_of D.Disk files) s.files) }
+    ensures one { IfOk result (λ s. AreClean D.Disk s.files.log s.files.db →
+        KeepOne cap (image_of D.Disk files)) }
+    ensures now { IfOk result (λ s. outcomes D.Disk s.files.log s.files.db
+        (image_of D.Disk s.files)) }
     ensures opened { IfOk result (λ s. HasOpened
         (I.opened inputs.old) (I.opened inputs.new) (files_of (meaning command.now)) s.status) }
     ensures unopened { IfErr result (λ e. IsUnopened (growth O.Output out.old out.new)

@@ -4,13 +4,14 @@ ghost use Rattle.std.specs.Prelude.{◌≡◌, ◌≤◌, false, IsTrue, IfOk, I
 ghost use Rattle.sqlite_wal.specs.Files.{outcomes};
 ghost use Rattle.sqlite_wal.specs.Reads.{AreClean};
 ghost use Rattle.sqlite_wal.specs.Recovery.{Image};
-ghost use Rattle.sqlite.specs.State.{HasCleanDisk};
-ghost use Rattle.sqlite.specs.Start.{FindsIn};
-ghost use Rattle.sqlite.specs.Files.{file_state, image_of, IsOpened, IsCleanLeft, LeavesFiles};
+ghost use Rattle.sqlite.specs.Files.{file_state, image_of, IsCleanLeft, LeavesFiles};
 ghost use Rattle.edfstore_arguments.specs.Arguments.{meaning};
+ghost use Rattle.edf_program.specs.Output.{growth};
 ghost use Rattle.edf_command.specs.Run.{files_of};
-ghost use Rattle.edf_session.specs.Steps.{LeadsTo};
-ghost use Rattle.edf_session.specs.Close.{LeavesEach};
+ghost use Rattle.edf_command.specs.Taking.{HasOpened};
+ghost use Rattle.edf_session.specs.Steps.{LeadsAs};
+ghost use Rattle.edf_session.specs.Close.{IsClosedAs, RanOrRefused, IsUnopened};
+ghost use Rattle.edf_session.specs.Inside.{LeavesEach, Leaves};
 
 use crate::run::run_over;
 use crate::watch::{Watch, refuse};
@@ -24,7 +25,8 @@ use std::alloc::Global;
 
 /// Lets the files of a connection go. What is committed stays in the log.
 fn leave<D: Disk + Drop>(conn: Connection<FileStore<D>>) -> Files<D>
-    ensures { AreClean D.Disk result.log result.db → LeavesEach conn result }
+    ensures each { AreClean D.Disk result.log result.db → LeavesEach conn result }
+    ensures closed { IsClosedAs conn result }
 {
     conn.into_store().close()
 }
@@ -43,11 +45,11 @@ fn run_and_leave<D: Disk + Drop, I: Inputs, O: Output, F: Output, W: Watch>(
     requires cap_from { 1 ≤ cap }
     requires cap_to { cap ≤ MOST_RECORDS }
     requires autocommit { (file_state conn).in_transaction ≡ false }
-    ensures { AreClean D.Disk result.1.log result.1.db →
-        (start : Image) → (HasCleanDisk (file_state conn) → IsOpened conn) →
-        (HasCleanDisk (file_state conn) → FindsIn start (file_state conn)) →
-        (image : Image) → outcomes D.Disk result.1.log result.1.db image →
-        LeadsTo cap (I.bytes inputs.old) (files_of (meaning command.now)) start image }
+    ensures leaves { Leaves cap (growth O.Output out.old out.new)
+        (growth F.Output err.old err.new) (I.bytes inputs.old) (meaning command.now) result.0
+        (inputs.new ≡ inputs.old) conn result.1 }
+    ensures opened { HasOpened
+        (I.opened inputs.old) (I.opened inputs.new) (files_of (meaning command.now)) result.0 }
 {
     let (status, back) = run_over::<FileStore<D>, I, O, F, W>(
         alloc, conn, cap, command, inputs, out, err, watch,
@@ -57,8 +59,9 @@ fn run_and_leave<D: Disk + Drop, I: Inputs, O: Output, F: Output, W: Watch>(
 
 /// One run over two files, on any disk, which lets them go where it should close them.
 ///
-/// Whatever became of the run, the files that come back hold what some first files of the command
-/// leave of what they held; and so they do after a crash at any moment of it.
+/// It answers as a run that is closed (`ran`). Whatever became of it, the files that come back, and
+/// what a crash then leaves, hold what the first of its files leave of what they held, answered as
+/// is printed (`leads`).
 ///
 /// # Errors
 /// As those of [`run_files`](crate::run_files).
@@ -77,10 +80,18 @@ pub fn leave_files<D: Disk + Drop, I: Inputs, O: Output, F: Output, W: Watch>(
     requires cap_to { cap ≤ MOST_RECORDS }
     requires log { IsTrue (D.Disk.is_usable files.log) }
     requires db { IsTrue (D.Disk.is_usable files.db) }
+    ensures ran { IfOk result (λ s. RanOrRefused D.Disk cap (growth O.Output out.old out.new)
+        (growth F.Output err.old err.new) (I.bytes inputs.old) (meaning command.now) s.0
+        (inputs.new ≡ inputs.old) (image_of D.Disk files) s.1) }
     ensures leads { IfOk result (λ s. AreClean D.Disk s.1.log s.1.db →
         (image : Image) → outcomes D.Disk s.1.log s.1.db image →
-        LeadsTo cap (I.bytes inputs.old) (files_of (meaning command.now)) (image_of D.Disk files)
-        image) }
+        LeadsAs cap (growth O.Output out.old out.new) (I.bytes inputs.old) (meaning command.now)
+        s.0 (image_of D.Disk files) image) }
+    ensures opened { IfOk result (λ s. HasOpened
+        (I.opened inputs.old) (I.opened inputs.new) (files_of (meaning command.now)) s.0) }
+    ensures unopened { IfErr result (λ e. IsUnopened (growth O.Output out.old out.new)
+        (growth F.Output err.old err.new) e.0) }
+    ensures unread { IfErr result (λ _. inputs.new ≡ inputs.old) }
     ensures left { IfErr result (λ e. IsCleanLeft e.1 → LeavesFiles files e.1) }
 {
     match Connection::open_files_with(alloc, files, options, true) {

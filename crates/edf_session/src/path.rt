@@ -4,12 +4,14 @@ ghost use Rattle.std.specs.Prelude.{◌≡◌, ◌≤◌, None, IfOk, IfErr};
 ghost use Rattle.sqlite_wal.specs.Files.{outcomes, image_at};
 ghost use Rattle.sqlite_wal.specs.Reads.{AreClean};
 ghost use Rattle.sqlite_wal.specs.Recovery.{Image};
+ghost use Rattle.sqlite.specs.Files.{image_of};
 ghost use Rattle.edfstore_arguments.specs.Arguments.{meaning};
 ghost use Rattle.edf_program.specs.Output.{growth};
 ghost use Rattle.edf_command.specs.Run.{files_of};
 ghost use Rattle.edf_command.specs.Taking.{HasOpened};
+ghost use Rattle.edf_session.specs.Files.{KeepOne};
 ghost use Rattle.edf_session.specs.Steps.{IsStep};
-ghost use Rattle.edf_session.specs.Close.{LeadsIfNumbered, EndsOrRefuses, IsUnopened};
+ghost use Rattle.edf_session.specs.Close.{LeadsIfNumbered, RanOrRefused, EndsOrRefuses, IsUnopened};
 ghost use Rattle.edf_session.specs.Across.{RunsAfterAll};
 
 use crate::session::{Session, run_and_close};
@@ -22,15 +24,23 @@ use sqlite::{Connection, FileFrom, Start};
 use sqlite_disk::Disk;
 
 /// One run over the files at a path, which are made where there are none: they are opened, the
-/// command is run over their store, and they are closed. A new file's pages end in sums.
+/// command is run over their store, and they are closed. New files are asked for with page sums, of
+/// which no clause speaks.
 ///
 /// `start` stands for what the files hold at the start, whatever that is. Where the disk gives
-/// back what was written and the files were closed:
-/// - the store held what the files hold, the command was run over that, and the files then hold,
-///   also after a crash, what the store held in the end (`ended`);
-/// - all named files were submitted in turn, or nothing changed (`steps`);
-/// - after any runs, of which each began with what the one before left as it ended or crashed, it
-///   is what all of them submitted, in their order, of which the headline speaks (`across`).
+/// back what was written:
+/// - the files held no database, or one that some submissions leave, the store held just that, and
+///   the command was run over it; or the store was refused for a cause, or with E45, where no
+///   submissions leave what the files held (`ran`);
+/// - where they were closed the files then hold, also after a crash and without the log, what the
+///   store held in the end; or, where it was refused, the rows that they held (`ended`);
+/// - and all named files were submitted in turn, answered as is printed, or nothing changed
+///   (`steps`);
+/// - after any runs, of which each began with what the one before left as it ended or crashed, the
+///   store held what all of them submitted, in their order, of which the headline speaks
+///   (`across`);
+/// - the files kept one holdings at most (`one`), and what they are read as in the end is among
+///   what a crash may leave (`now`), so that the clauses above speak of it.
 ///
 /// # Errors
 /// The status, where the files were not opened; a line says why.
@@ -47,23 +57,31 @@ pub fn run_path<S: Start, I: Inputs, O: Output, F: Output, W: Watch>(
 ) -> Result<Session<FileFrom<S>>, Status>
     requires cap_from { 1 ≤ cap }
     requires cap_to { cap ≤ MOST_RECORDS }
+    ensures ran { IfOk result (λ s. RanOrRefused ⟦<FileFrom<S> as Disk>⟧ cap
+        (growth O.Output out.old out.new) (growth F.Output err.old err.new) (I.bytes inputs.old)
+        (meaning command.now) s.status (inputs.new ≡ inputs.old) (image_at S.Start) s.files) }
     ensures ended { IfOk result (λ s. s.failure ≡ None →
         AreClean ⟦<FileFrom<S> as Disk>⟧ s.files.log s.files.db →
         EndsOrRefuses ⟦<FileFrom<S> as Disk>⟧ cap (growth O.Output out.old out.new)
         (growth F.Output err.old err.new) (I.bytes inputs.old) (meaning command.now) s.status
-        (image_at S.Start) s.files) }
+        (inputs.new ≡ inputs.old) (image_at S.Start) s.files) }
     ensures steps { IfOk result (λ s. s.failure ≡ None →
         AreClean ⟦<FileFrom<S> as Disk>⟧ s.files.log s.files.db →
         (image : Image) → outcomes ⟦<FileFrom<S> as Disk>⟧ s.files.log s.files.db image →
-        IsStep cap (I.bytes inputs.old) (files_of (meaning command.now)) (image_at S.Start)
-        image) }
-    ensures across { IfOk result (λ s. s.failure ≡ None →
+        IsStep cap (growth O.Output out.old out.new) (I.bytes inputs.old) (meaning command.now)
+        s.status (image_at S.Start) image) }
+    ensures across { IfOk result (λ s.
         AreClean ⟦<FileFrom<S> as Disk>⟧ s.files.log s.files.db →
         RunsAfterAll ⟦<FileFrom<S> as Disk>⟧ cap (growth O.Output out.old out.new)
         (growth F.Output err.old err.new) (I.bytes inputs.old) (meaning command.now) s.status
-        (image_at S.Start) s.files) }
+        (inputs.new ≡ inputs.old) (image_at S.Start) s.files) }
     ensures unclosed { IfOk result (λ s. LeadsIfNumbered ⟦<FileFrom<S> as Disk>⟧ cap
-        (I.bytes inputs.old) (files_of (meaning command.now)) (image_at S.Start) s.files) }
+        (growth O.Output out.old out.new) (I.bytes inputs.old) (meaning command.now) s.status
+        (image_at S.Start) s.files) }
+    ensures one { IfOk result (λ s. AreClean ⟦<FileFrom<S> as Disk>⟧ s.files.log s.files.db →
+        KeepOne cap (image_at S.Start)) }
+    ensures now { IfOk result (λ s. outcomes ⟦<FileFrom<S> as Disk>⟧ s.files.log s.files.db
+        (image_of ⟦<FileFrom<S> as Disk>⟧ s.files)) }
     ensures opened { IfOk result (λ s. HasOpened
         (I.opened inputs.old) (I.opened inputs.new) (files_of (meaning command.now)) s.status) }
     ensures unopened { IfErr result (IsUnopened (growth O.Output out.old out.new)

@@ -7,7 +7,7 @@ ghost use Rattle.edfstore_arguments.specs.Arguments.{meaning};
 ghost use Rattle.edf_program.specs.Output.{growth};
 ghost use Rattle.edf_command.specs.Run.{files_of};
 ghost use Rattle.edf_command.specs.Taking.{HasOpened};
-ghost use Rattle.edf_session.specs.Run.{IsRun, MayBeLeft};
+ghost use Rattle.edf_session.specs.Inside.{IsRun, MayBeLeft};
 
 use crate::watch::{Watch, refuse};
 use edf_command::{Inputs, Order, Status, run};
@@ -35,11 +35,13 @@ pub(crate) fn run_over<S: Alter + Drop, I: Inputs, O: Output, F: Output, W: Watc
     requires cap_to { cap ≤ MOST_RECORDS }
     requires autocommit { (state S.Store conn).in_transaction ≡ false }
     ensures done { IsRun S.Store conn result.1 cap (growth O.Output out.old out.new)
-        (growth F.Output err.old err.new) (I.bytes inputs.old) (meaning command.now) result.0 }
+        (growth F.Output err.old err.new) (I.bytes inputs.old) (meaning command.now) result.0
+        (inputs.new ≡ inputs.old) }
     ensures opened { HasOpened
         (I.opened inputs.old) (I.opened inputs.new) (files_of (meaning command.now)) result.0 }
     ensures crash { Survives (state S.Store conn) (state S.Store result.1)
-        (MayBeLeft cap (I.bytes inputs.old) (meaning command.now) (state S.Store conn).now) }
+        (MayBeLeft cap (growth O.Output out.old out.new) (I.bytes inputs.old) (meaning command.now)
+        result.0 (state S.Store conn).now) }
     ensures live { IsLive (state S.Store result.1) }
 {
     let has_our_tables = is_ours(conn.schema());

@@ -8,7 +8,8 @@ use edf_command::{Status, refuse_store};
 use edf_fragment::Output;
 use edf_store::StoreFault;
 
-/// Who is told how the opening of a store went, as for a person at a terminal.
+/// Who is told how the opening of a store went, as for a person at a terminal. No contract says
+/// that it is told.
 pub trait Watch {
     /// The store is open, and the command is run next.
     fn opened(&mut self);

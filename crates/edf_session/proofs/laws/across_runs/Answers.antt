@@ -1,5 +1,5 @@
 use Rattle.std.proofs.Common.{refl, inl}
-use Rattle.edf_session.proofs.Chains.{result}
+use Rattle.edf_session.proofs.Chains.{result, unprinted}
 use Rattle.edf_session.proofs.laws.across_runs.Goals as goal
 
 pub returns-clause-law : goal.returns-clause-law
@@ -8,3 +8,7 @@ returns-clause-law c cap sessions h start end sound keep runs =
 
 pub returns-clause-first : goal.returns-clause-first
 returns-clause-first c cap start none = inl (none, refl)
+
+pub returns-clause-broken : goal.returns-clause-broken
+returns-clause-broken c cap out bytes asked status start end it =
+    unprinted cap out bytes asked status start end it

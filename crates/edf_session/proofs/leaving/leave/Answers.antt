@@ -1,6 +1,14 @@
+use Rattle.std.proofs.Common.{sym}
 use Rattle.edf_session.proofs.LetGo.{leaves}
 use Rattle.edf_session.proofs.leaving.leave.Goals as goal
 
-pub returns : goal.returns
-returns g c = leaves c.args.conn c.into_store.result c.close.result c.close.ensures
+pub returns-clause-each : goal.returns-clause-each
+returns-clause-each g c = leaves c.args.conn c.into_store.result c.close.result c.close.ensures
     c.into_store.ensures.quiet c.into_store.ensures.numbered c.into_store.ensures.sound
+
+pub returns-clause-closed : goal.returns-clause-closed
+returns-clause-closed g c = record {
+  store = c.into_store.result;
+  store_is = sym c.close.ensures;
+  closed = record { quiet = c.into_store.ensures.quiet; sound = c.into_store.ensures.sound };
+}

@@ -1,4 +1,4 @@
-use Rattle.std.proofs.Common.{inl, inr, arith}
+use Rattle.std.proofs.Common.{inl, inr, refl, arith}
 use Rattle.sqlite.specs.Held.{state}
 use Rattle.sqlite.specs.State.{HasCleanDisk}
 use Rattle.edf_store.specs.Held.{at}
@@ -35,7 +35,8 @@ returns-in-Ok-clause-crash g c =
 
 pub returns-in-Err-clause-crash : goal.returns-in-Err-clause-crash
 returns-in-Err-clause-crash g c =
-    refused_crash c.args.cap (g.I.Inputs.bytes c.args.inputs.now) (meaning c.args.command.now)
+    refused_crash c.args.cap (growth g.O.Output c.args.out.now c.args.out.now)
+    (g.I.Inputs.bytes c.args.inputs.now) (meaning c.args.command.now) c.refuse.result
     (state g.S.Store c.args.conn) (state g.S.Store c.in-Err.back)
     c.in-Err.ensures.given_back.crash
 
@@ -47,6 +48,7 @@ returns-in-Err-clause-done g c = inr (record {
     nothing-gets (g.O.Output.contents c.args.out.now) (g.O.Output.failures c.args.out.now),
     c.refuse.ensures,
   );
+  unread = refl;
 })
 
 pub returns-in-Err-clause-opened : goal.returns-in-Err-clause-opened
