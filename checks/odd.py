@@ -6,7 +6,8 @@ rows, as the program meets them.
 Each file is made by the system's SQLite or by hand, given to `list`, and must be answered with the
 number that stands beside it and left as it was, byte for byte. Beside the tables of a store that
 the released 1.1.1 made (data/released_1_1_1.db, the file Q) other tools may write as they please;
-what they may do to a store with page sums is tried too. Then `list` of stores of 250,000,
+what they may do to a store with page sums is tried too. Where rows are in the log alone and the
+store is refused, they stay there. Then `list` of stores of 250,000,
 500,000 and 1,000,000 rows: time and peak memory. It needs time.
 """
 import os
@@ -278,6 +279,30 @@ def with_sums(odd: Odd) -> None:
             goes_on(odd, f"{what}, with sums")
 
 
+def logged(odd: Odd) -> None:
+    """What is in the log alone, as a program that was killed leaves it, stays there where the store
+    is refused."""
+    log = odd.folder / "s.db-wal"
+    for what, tables, change, expected in (
+            ("a foreign row in the log", TABLES, FOREIGN[0], E45),
+            ("a row of another program in the log", ("CREATE TABLE t (x)",),
+             "INSERT INTO t VALUES (1)", E45),
+            ("a view in the log", TABLES, "CREATE VIEW v AS SELECT start FROM record", "")):
+        odd.clean()
+        writer = sqlite3.connect(odd.folder / "w.db", isolation_level=None)
+        for statement in ("PRAGMA journal_mode=wal", *tables, "PRAGMA wal_checkpoint(TRUNCATE)",
+                          change):
+            writer.execute(statement)
+        for end in ("", "-wal"):
+            shutil.copy(odd.folder / f"w.db{end}", odd.folder / f"s.db{end}")
+        writer.close()
+        before = bytes_of(log)
+        odd.check(what, expected)
+        if expected and not bytes_of(log).startswith(before):
+            odd.failed += 1
+            print(f"{what}: the log has lost some of it")
+
+
 def fill(store: Path, count: int) -> None:
     """A store of so many rows, a data record a second."""
     rows = ((1, second * 10**9, b"\1\0\2\0", b"+%d\x14\x14\0" % second)
@@ -316,7 +341,7 @@ def main() -> None:
     measure.need("/usr/bin/time", "sqlite3")
     with measure.scratch() as name:
         odd = Odd(given.program, Path(name))
-        for case in (no_stores, made, foreign, beside, with_sums, many_rows):
+        for case in (no_stores, made, foreign, beside, with_sums, logged, many_rows):
             case(odd)
     end(odd.done, odd.failed)
 

@@ -1,6 +1,7 @@
-//! Why a store was refused, in plain words for a person.
+//! How a store was opened, or why it was refused, in plain words for a person.
 
 use crate::disk::Refused;
+use edf_session::Watch;
 use edf_store::StoreFault;
 use edf_system::{FULL, Terminal, tell_system_error};
 use sqlite::{Error, ErrorCode};
@@ -80,5 +81,35 @@ pub fn tell_cause(rt: &HostRuntime, terminal: &Terminal<'_>, path: &str, refused
         StoreFault::Foreign if refused.has_our_tables => terminal.say(path, OTHER_ROWS),
         StoreFault::Foreign => terminal.say(path, OTHER_TABLES),
         _ => {}
+    }
+}
+
+/// Tells a person how the store of a path was opened.
+#[derive(Drop)]
+pub(crate) struct Teller<'t> {
+    pub(crate) rt: &'t HostRuntime,
+    pub(crate) terminal: &'t Terminal<'t>,
+    pub(crate) path: &'t str,
+    /// Whether there was no file.
+    pub(crate) is_new: bool,
+    /// Whether the store was refused, and that was told.
+    pub(crate) was_refused: bool,
+}
+
+impl Watch for Teller<'_> {
+    fn opened(&mut self) {
+        if self.is_new {
+            self.terminal
+                .say(self.path, "no such file; made a new, empty store");
+        }
+    }
+
+    fn refused(&mut self, fault: &StoreFault, has_our_tables: bool) {
+        self.was_refused = true;
+        let refused = Refused {
+            fault: *fault,
+            has_our_tables,
+        };
+        tell_cause(self.rt, self.terminal, self.path, &refused);
     }
 }

@@ -5,9 +5,10 @@ ghost use Rattle.sqlite.specs.Held.{state};
 
 use edf_header::MOST_RECORDS;
 use edf_schema::is_ours;
+use edf_session::Session;
 use edf_store::{Store, StoreFault};
 use sqlite::{Alter, Connection, Error, ErrorCode, Unknown};
-use sqlite_disk::Tally;
+use sqlite_disk::{Disk, Tally};
 use sqlite_std_file::File;
 use sqlite_store::FileStore;
 use sqlite_trees::memory::MemStore;
@@ -82,6 +83,11 @@ pub fn close_file(store: Store<FileStore<File>>) -> Option<Error> {
             failure.or(Some(error))
         }
     }
+}
+
+/// What failed of the disk in a run, or as its files were closed, if that is known.
+pub(crate) fn failure_of<D: Disk>(session: &Session<D>) -> Option<Error> {
+    disk_failure(session.files.tally()).or(session.failure)
 }
 
 /// An empty store.

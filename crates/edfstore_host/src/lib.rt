@@ -4,22 +4,25 @@
 //! - [`run_program`]: what the program does. What is read, written and answered is `edf_command`'s;
 //!   here the system is handed to it.
 //! - [`run_words`]: the same by words that the caller has.
-//! - [`open_file`], [`close_file`]: the store of a file; [`Refused`], [`tell_cause`]: why it was not
-//!   opened.
+//! - [`open_file`], [`close_file`]: the store of a file, for a program that keeps it open;
+//!   [`Refused`], [`tell_cause`]: why it was not opened.
 #![tactic(auto)]
 
 mod cause;
 mod disk;
 
 pub use cause::tell_cause;
-use cause::tell_error;
+use cause::{Teller, tell_error};
 pub use disk::{Refused, close_file, open_file};
-use disk::{is_missing, open_memory};
+use disk::{failure_of, is_missing, open_memory};
 use edf_command::{Order, Status, read_command, refuse_store, run, store_path};
 use edf_fragment::Counted;
+use edf_header::MOST_RECORDS;
+use edf_session::{Session, run_path};
 use edf_store::Store;
 use edf_system::{Files, Streams, Terminal, refuse_words, words};
-use sqlite::Alter;
+use sqlite::{Alter, Unknown};
+use sqlite_std_file::File;
 use std::process::ExitCode;
 
 /// The command that words ask for, or the status where there is none.
@@ -80,6 +83,16 @@ fn is_address(path: &str) -> bool {
     path.starts_with("file:")
 }
 
+/// Prints what failed of the disk in a run that is trouble, over a store that was opened.
+fn tell_failure(rt: &HostRuntime, terminal: &Terminal<'_>, path: &str, session: &Session<File>) {
+    if session.status == Status::Trouble
+        && terminal.is_there()
+        && let Some(failure) = failure_of(session)
+    {
+        tell_error(rt, terminal, path, failure);
+    }
+}
+
 /// Runs a command over the file of the store that it names. Where there is no such file, `take`
 /// makes it, and the others find an empty store and leave none. For a person it prints which of
 /// these it was, and why a store is refused.
@@ -96,25 +109,32 @@ fn run_on_file(
         terminal.say(path, "no such file");
         return run_in_memory(rt, command, inputs, streams);
     }
-    let mut store = match open_file(rt, path) {
-        Ok(store) => store,
-        Err(refused) => {
-            let status = refuse_store(&refused.fault, &mut streams.err);
-            tell_cause(rt, terminal, path, &refused);
-            return status;
-        }
+    let mut teller = Teller {
+        rt,
+        terminal,
+        path,
+        is_new,
+        was_refused: false,
     };
-    if is_new {
-        terminal.say(path, "no such file; made a new, empty store");
+    match run_path(
+        rt,
+        path,
+        Unknown,
+        MOST_RECORDS,
+        command,
+        inputs,
+        &mut streams.out,
+        &mut streams.err,
+        &mut teller,
+    ) {
+        Ok(session) => {
+            if !teller.was_refused {
+                tell_failure(rt, terminal, path, &session);
+            }
+            session.status
+        }
+        Err(status) => status,
     }
-    let status = run_over(rt, command, &mut store, inputs, streams);
-    if let Some(failure) = close_file(store)
-        && status == Status::Trouble
-        && terminal.is_there()
-    {
-        tell_error(rt, terminal, path, failure);
-    }
-    status
 }
 
 /// Runs a command over an empty store in memory.
