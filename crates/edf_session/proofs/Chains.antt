@@ -86,12 +86,14 @@ stepped cap bytes asked out status (closed turns) h start end it keep = ∣ reco
   sound = sound_turns turns it.each;
   keeps = it.keeps h keep;
 } ∣₁
-stepped cap bytes asked out status idle h start end it keep = ∣ record {
-  tolds = [];
-  may = refl;
-  sound = tt;
-  keeps = it.keeps h keep;
-} ∣₁
+stepped cap bytes asked out status idle h start end it keep =
+    ∥∥₁_map (it.keeps h keep) (λ kept.
+    let r : Stepped cap bytes asked idle h end = record {
+      tolds = [];
+      may = refl;
+      sound = tt;
+      keeps = kept;
+    } in r)
 stepped cap bytes asked out status broken h start end it keep =
     ∥∥₁_map (it h keep) (λ one.
     let front = one.1 in

@@ -1,6 +1,6 @@
 -- A run over two files: what it answers, and what its files hold as they are let go.
-use Rattle.std.proofs.Common.{◌≡◌, ◌⊎◌, inl, inr, ℕ, List, Option, None, Some, IsTrue, refl, sym}
-use Rattle.std.proofs.Common.{ap, subst, arith}
+use Rattle.std.proofs.Common.{◌≡◌, inl, inr, ℕ, List, Option, None, Some}
+use Rattle.std.proofs.Common.{refl, sym, subst, arith}
 use Rattle.std.proofs.Math.Logic.{∥∥₁_map}
 use Rattle.sqlite_disk.specs.declared.Disk.{Ghosts}
 use Rattle.sqlite_disk.specs.declared.Files.{Files}
@@ -10,18 +10,15 @@ use Rattle.sqlite_wal.specs.Reads.{AreClean}
 use Rattle.sqlite_wal.proofs.LogLemmas.{SeenMayStay}
 use Rattle.sqlite_store.specs.declared.store.FileStore.{FileStore}
 use Rattle.sqlite.specs.Tree.{Trees}
-use Rattle.sqlite.specs.Schema.{Schema}
 use Rattle.sqlite.specs.Effect.{Database, IsDatabase}
-use Rattle.sqlite.specs.State.{State, HasCleanDisk}
+use Rattle.sqlite.specs.State.{HasCleanDisk, Survives}
 use Rattle.sqlite.specs.Held.{Held}
 use Rattle.sqlite.specs.Closing.{IsCopied}
 use Rattle.sqlite.specs.Files.{HoldsDatabase, IsOpened, Finds, image_of, over_files, file_state}
 use Rattle.sqlite.specs.Start.{FindsIn}
+use Rattle.sqlite.specs.declared.error.Error.{Error}
 use Rattle.edf_tables.specs.Schema.{HasBoth}
 use Rattle.edf_tables.specs.Others.{KeepsTrees}
-use Rattle.edf_tables.specs.Made.{made_first, kept_first, from_none, from_one, from_both, IsMadeOf}
-use Rattle.edf_tables.specs.Made.{left_first, left_both, left_second, AreOf, KeepsTables, KeepsFile}
-use Rattle.edf_tables.proofs.File.{tables_both}
 use Rattle.edf_audit.specs.File.{IsForeignFile}
 use Rattle.edf_holdings.specs.Holdings.{Holdings}
 use Rattle.edf_rows.specs.Rows.{AreKept}
@@ -32,63 +29,20 @@ use Rattle.edf_store.specs.declared.fault.StoreFault.TheVariants.{Memory, Store,
 use Rattle.edfstore_arguments.specs.Arguments.{Asked}
 use Rattle.edf_program.specs.Output.{Growth}
 use Rattle.edf_program.specs.declared.status.Status.{Status}
-use Rattle.edf_session.specs.Files.{Keeps, one_table, both_tables, FilesKeep, KeepOne, AreReadAs}
+use Rattle.edf_session.specs.Files.{Keeps, FilesKeep, KeepOne, AreReadAs}
 use Rattle.edf_session.specs.Steps.{LeadsAs}
 use Rattle.edf_session.specs.Close.{LeadsIfNumbered, IsClosedAs, Ran, IsRefused, RanOrRefused}
-use Rattle.edf_session.specs.Close.{EndsOrRefuses}
-use Rattle.edf_session.specs.Inside.{Runs, Refuses, LetsGo, LeavesEach}
+use Rattle.edf_session.specs.Close.{Ends, Refused, EndsOrRefuses}
+use Rattle.edf_session.specs.Inside.{MayBeLeft, Runs, Refuses, LeavesEach, RunsOver}
+use Rattle.edf_session.specs.Inside.{ClosesOrLetsGo}
 use Rattle.edf_session.specs.Across.{RunsAfter, RunsAfterAll}
 use Rattle.edf_session.proofs.Chains.{result}
-use Rattle.edf_session.proofs.Keeping.{nothing_of, tables_keep, found_keeps, own_keeps, kept_is_own}
+use Rattle.edf_session.proofs.Crashes.{refused_crash}
+use Rattle.edf_session.proofs.Keeping.{found_keeps, own_keeps, kept_is_own}
 use Rattle.edf_session.proofs.Keeping.{keeps_once, read_as}
-use Rattle.edf_session.proofs.LetGo.{leaves, leads, ends_in, clean_last}
+use Rattle.edf_session.proofs.LetGo.{leaves, leads, ends_in, clean_last, as_it_was, still_keeps}
 
 -- ---- a store that was refused
-
-keeps_tables : (cap : ℕ) (old new : Database) (h : Holdings) → Keeps cap old h →
-    KeepsTables old new → Keeps cap new h
-keeps_tables cap old new h it (inl same) = subst (λ (d : Database). Keeps cap d h) (sym same) it
-keeps_tables cap old new h it (inr (inl (made_first none one empty))) =
-    one_table one empty (nothing_of cap old h it none)
-keeps_tables cap old new h it (inr (inl (kept_first one same))) =
-    subst (λ (d : Database). Keeps cap d h) (sym same) it
-keeps_tables cap old new h it (inr (inr tables)) = both_tables (tables_both old new tables)
-    (tables_keep cap old new h it tables)
-
-file_kept : (cap : ℕ) (old new : State) (h : Holdings) → old.now ≡ old.committed →
-    Keeps cap old.committed h → KeepsFile old new → IsTrue new.is_open → Keeps cap new.committed h
-file_kept cap old new h settled it file is_open = elim (file.committed is_open) [
-  | inl same ↦ subst (λ (d : Database). Keeps cap d h) (sym same) it
-  | inr made ↦ keeps_tables cap old.now new.committed h
-      (subst (λ (d : Database). Keeps cap d h) (sym settled) it) made.1
-]
-
-trees_of : (old new : Database) → new ≡ old → new.trees ≡ old.trees
-trees_of old new same = ap (λ (d : Database). d.trees) same
-
-as_of : (db : Database) (s : Schema) → db.schema ≡ s → IsDatabase db → AreOf s db.trees
-as_of db s is sound = subst (λ (t : Schema). AreOf t db.trees) is sound
-
-made_tables : (old new : Database) → KeepsTables old new → IsDatabase new →
-    (new.trees ≡ old.trees) ⊎ IsMadeOf old new.trees
-made_tables old new (inl same) sound = inl (trees_of old new same)
-made_tables old new (inr (inl (made_first none one empty))) sound =
-    inr (left_first none (as_of new _ one sound) empty)
-made_tables old new (inr (inl (kept_first one same))) sound = inl (trees_of old new same)
-made_tables old new (inr (inr (from_none none both first second))) sound =
-    inr (left_both none (as_of new _ both sound) first second)
-made_tables old new (inr (inr (from_one one both same second))) sound =
-    inr (left_second one (as_of new _ both sound) same second)
-made_tables old new (inr (inr (from_both both same))) sound = inl (trees_of old new same)
-
-file_made : (old new : State) → old.now ≡ old.committed → KeepsFile old new → IsTrue new.is_open →
-    IsDatabase new.committed → (new.committed.trees ≡ old.committed.trees)
-    ⊎ IsMadeOf old.committed new.committed.trees
-file_made old new settled file is_open sound = elim (file.committed is_open) [
-  | inl same ↦ inl (trees_of old.committed new.committed same)
-  | inr made ↦ made_tables old.committed new.committed (subst (λ (d : Database). KeepsTables d
-      new.committed) settled made.1) sound
-]
 
 caused : (fault : StoreFault) → HasCauseOrIsForeign fault → ¬ (fault ≡ Foreign) → HasCause fault
 caused Memory why never = tt
@@ -108,12 +62,20 @@ module _ {D : Type 0} {g : Ghosts D} (cap : ℕ) (out err : Growth) (bytes : Lis
     (first : Held (FileStore D g)) (files : Files D)
     (opens : HasCleanDisk (file_state first) → IsOpened first)
     (finds : HasCleanDisk (file_state first) → FindsIn start (file_state first))
-    (it : LetsGo cap out err bytes asked status Unread first files) where
+    (it : RunsOver cap out err bytes asked status Unread first files) where
+  crash : Survives (file_state first) (file_state it.last)
+      (MayBeLeft cap out bytes asked status (file_state first).now)
+  crash = elim it.ran [
+    | inl r ↦ r.crash
+    | inr r ↦ refused_crash cap out bytes asked status (file_state first) (file_state it.last)
+        r.back.crash
+  ]
+
   late : AreClean g files.log files.db → HasCleanDisk (file_state it.last)
   late clean = clean_last it.last files it.closed clean
 
   early : AreClean g files.log files.db → HasCleanDisk (file_state first)
-  early clean = let now = late clean in omega (arith, it.crash.clean, now)
+  early clean = let now = late clean in omega (arith, crash.clean, now)
 
   settled : AreClean g files.log files.db → (file_state first).now ≡ (file_state first).committed
   settled clean = (opens (early clean)).0.clean
@@ -181,7 +143,7 @@ module _ {D : Type 0} {g : Ghosts D} (cap : ℕ) (out err : Growth) (bytes : Lis
   pub each_leads : SeenMayStay g → LeavesEach it.last files → (image : Image) →
       outcomes g files.log files.db image → LeadsAs cap out bytes asked status start image
   each_leads stays each image may = leads stays cap out bytes asked status start first it.last
-      files opens finds it.crash each image may
+      files opens finds crash each image may
 
   pub if_numbered : SeenMayStay g → LeadsIfNumbered g cap out bytes asked status start files
   if_numbered stays = record {
@@ -192,43 +154,65 @@ module _ {D : Type 0} {g : Ghosts D} (cap : ℕ) (out err : Growth) (bytes : Lis
         (λ _. numbered) it.closed.closed.sound clean) image may;
   }
 
-  -- ---- where the last commit was copied
+  -- ---- where nothing failed
 
-  pub ended : AreClean g files.log files.db → IsCopied it.last files →
-      EndsOrRefuses g cap out err bytes asked status Unread start files
-  unfolding ran_of refused_of
-  ended clean copied =
-      let sound = (it.live copied.was_open).1 in
-      elim it.ran [
-        | inl r ↦ inl (record {
-          ran = ran_of r;
-          kept = λ h held image may. ends_in cap it.last files h copied sound
-              (r.kept (late clean) copied.was_open h held) image may;
-          others = λ both image may.
-              let was = subst (λ (d : Database). HasBoth d.schema) (sym (settled clean)) both in
-              let trees = (file_state it.last).committed.trees in
-              let same = subst (λ (d : Database). KeepsTrees d.schema d.trees trees)
-              (settled clean) (r.others (late clean) copied.was_open was) in
-              ∥∥₁_map (copied.left image may).both (λ holds.
-              let x : (rows : Trees) × HoldsDatabase image rows
-              × KeepsTrees (file_state first).committed.schema
-              (file_state first).committed.trees rows = (trees, holds, same) in x);
-        })
-        | inr r ↦ inr (record {
-          refused = refused_of r;
-          kept = λ h keep image may. (ends_in cap it.last files h copied sound (file_kept cap
-              (file_state first) (file_state it.last) h (settled clean) (keeps_first clean h keep)
-              (r.back.stays (late clean)) copied.was_open) image may).0;
-          as_was = λ image may.
-              let trees = (file_state it.last).committed.trees in
-              let made = file_made (file_state first) (file_state it.last) (settled clean)
-              (r.back.stays (late clean)) copied.was_open sound in
-              ∥∥₁_map (copied.left image may).both (λ holds.
-              let x : (rows : Trees) × HoldsDatabase image rows
-              × ((rows ≡ (file_state first).committed.trees)
-              ⊎ IsMadeOf (file_state first).committed rows) = (trees, holds, made) in x);
-        })
-      ]
+  copied_ends : Runs over_files first it.last cap out err bytes asked status →
+      AreClean g files.log files.db → IsCopied it.last files →
+      Ends g cap out err bytes asked status Unread start files
+  unfolding ran_of
+  copied_ends r clean copied = record {
+    ran = ran_of r;
+    kept = λ h held image may. ends_in cap it.last files h copied (r.live copied.was_open).1
+        (r.kept (late clean) copied.was_open h held) image may;
+    others = λ both image may.
+        let was = subst (λ (d : Database). HasBoth d.schema) (sym (settled clean)) both in
+        let trees = (file_state it.last).committed.trees in
+        let same = subst (λ (d : Database). KeepsTrees d.schema d.trees trees)
+        (settled clean) (r.others (late clean) copied.was_open was) in
+        ∥∥₁_map (copied.left image may).both (λ holds.
+        let x : (rows : Trees) × HoldsDatabase image rows
+        × KeepsTrees (file_state first).committed.schema
+        (file_state first).committed.trees rows = (trees, holds, same) in x);
+  }
+
+  left_refused : SeenMayStay g → Refuses over_files first it.last cap out err status Unread →
+      AreClean g files.log files.db → LeavesEach it.last files →
+      Refused g cap out err bytes asked status Unread start files
+  unfolding refused_of
+  left_refused stays r clean left =
+      let was = as_it_was stays first it.last files (opens (early clean)) r.back.crash left in
+      record {
+        refused = refused_of r;
+        kept = λ h keep image may. still_keeps cap (file_state first).committed image h
+            (sound_first clean) (keeps_first clean h keep) (was image may);
+        as_was = was;
+      }
+
+module _ {D : Type 0} {g : Ghosts D} {cap : ℕ} {out err : Growth}
+    {bytes : List ℕ → Option (List ℕ)} {asked : Asked} {status : Status} {Unread : Type 0}
+    {first : Held (FileStore D g)} {failure : Option Error} {files : Files D} where
+  pub over : ClosesOrLetsGo cap out err bytes asked status Unread first failure files →
+      RunsOver cap out err bytes asked status Unread first files
+  over (inl it) = record { last = it.last; ran = inl it.ran; closed = it.closed }
+  over (inr it) = record { last = it.last; ran = inr it.refused; closed = it.closed }
+
+-- what was committed is copied, or the files of a refused store are let go as they were
+pub ended : {D : Type 0} {g : Ghosts D} → SeenMayStay g → (cap : ℕ) (out err : Growth)
+    (bytes : List ℕ → Option (List ℕ)) (asked : Asked) (status : Status) (Unread : Type 0)
+    (start : Image) (first : Held (FileStore D g)) (failure : Option Error) (files : Files D) →
+    (HasCleanDisk (file_state first) → IsOpened first) →
+    (HasCleanDisk (file_state first) → FindsIn start (file_state first)) →
+    ClosesOrLetsGo cap out err bytes asked status Unread first failure files → failure ≡ None →
+    AreClean g files.log files.db →
+    EndsOrRefuses g cap out err bytes asked status Unread start files
+ended stays cap out err bytes asked status Unread start first failure files opens finds (inl it) is
+    clean = inl (copied_ends cap out err bytes asked status Unread start first files opens finds
+    (record { last = it.last; ran = inl it.ran; closed = it.closed }) it.ran clean
+    (it.copied is clean))
+ended stays cap out err bytes asked status Unread start first failure files opens finds (inr it) is
+    clean = inr (left_refused cap out err bytes asked status Unread start first files opens finds
+    (record { last = it.last; ran = inr it.refused; closed = it.closed }) stays it.refused clean
+    (it.left clean))
 
 -- ---- one more run
 

@@ -1,5 +1,6 @@
 -- What the files hold once a run has let them go.
-use Rattle.std.proofs.Common.{◌≡◌, inl, inr, ℕ, List, [], Option, IsTrue, refl, sym, subst, ◌∙◌, arith}
+use Rattle.std.proofs.Common.{◌≡◌, ◌⊎◌, inl, inr, ℕ, List, [], Option, IsTrue, refl, sym, subst}
+use Rattle.std.proofs.Common.{◌∙◌, arith}
 use Rattle.std.proofs.Math.Logic.{∥∥₁_map}
 use Rattle.sqlite_disk.specs.declared.Disk.{Ghosts}
 use Rattle.sqlite_disk.specs.declared.Files.{Files}
@@ -12,15 +13,16 @@ use Rattle.sqlite_trees.specs.View.{IsClean, IsQuiet}
 use Rattle.sqlite_trees.proofs.Doubt.{no_doubt}
 use Rattle.sqlite_store.specs.declared.store.FileStore.{FileStore}
 use Rattle.sqlite_store.specs.FileStore.{view, faults, recovers, is_shielded, files as store_files}
-use Rattle.sqlite_store.specs.Laws.{settled_at, stays_at}
+use Rattle.sqlite_store.specs.Laws.{settled_at}
 use Rattle.sqlite.specs.Tree.{Trees}
 use Rattle.sqlite.specs.Effect.{Database, IsDatabase}
 use Rattle.sqlite.specs.State.{HasCleanDisk, Survives}
 use Rattle.sqlite.specs.Held.{Held, AreDatabases}
 use Rattle.sqlite.specs.Closing.{IsCopied}
-use Rattle.sqlite.specs.Files.{IsOpened, file_state}
+use Rattle.sqlite.specs.Files.{HoldsDatabase, IsOpened, file_state}
 use Rattle.sqlite.specs.Start.{FindsIn}
 use Rattle.sqlite.proofs.Theorems.{opens_again}
+use Rattle.edf_tables.specs.Made.{IsMadeOf}
 use Rattle.edf_holdings.specs.Holdings.{Holdings}
 use Rattle.edfstore_arguments.specs.Arguments.{Asked}
 use Rattle.edf_program.specs.Output.{Growth}
@@ -32,7 +34,7 @@ use Rattle.edf_session.specs.Steps.{LeadsAs}
 use Rattle.edf_session.specs.Close.{IsClosedAs}
 use Rattle.edf_session.specs.Inside.{MayBeLeft, HoldsLeft, LeavesEach}
 use Rattle.edf_session.proofs.Fronts.{no_front}
-use Rattle.edf_session.proofs.Keeping.{found_keeps}
+use Rattle.edf_session.proofs.Keeping.{found_keeps, made_keeps}
 
 same_keep : (cap : ℕ) (db : Database) (trees : Trees) (h : Holdings) → trees ≡ db.trees →
     IsDatabase db → Keeps cap db h → TreesKeep cap trees h
@@ -46,6 +48,26 @@ same_keep cap db trees h same sound keeps =
       is_database = subst IsDatabase eq sound;
       keeps = subst (λ (d : Database). Keeps cap d h) eq keeps;
     }
+
+-- where the rows are as they were, or missing tables were made, the files keep what they kept
+pub still_keeps : (cap : ℕ) (db : Database) (image : Image) (h : Holdings) → IsDatabase db →
+    Keeps cap db h → ∥ ((rows : Trees) × HoldsDatabase image rows
+    × ((rows ≡ db.trees) ⊎ IsMadeOf db rows)) ∥₁ → ∥ FilesKeep cap image h ∥₁
+still_keeps cap db image h sound keeps as_was = ∥∥₁_map as_was (λ it.
+    let r : FilesKeep cap image h = inr (
+      it.0,
+      ∣ it.1 ∣₁,
+      elim it.2 [
+        | inl same ↦ same_keep cap db it.0 h same sound keeps
+        | inr made ↦
+            let inside = it.1.2 in
+            record {
+              schema = inside.schema;
+              is_database = inside.sound;
+              keeps = made_keeps cap db it.0 h keeps made inside.schema inside.sound;
+            }
+      ],
+    ) in r)
 
 module _ {D : Type 0} {g : Ghosts D} where
   -- the files of a store that is let go
@@ -77,20 +99,6 @@ module _ {D : Type 0} {g : Ghosts D} where
       let sure = subst (λ (p : D × D). AreClean g p.0 p.1) (sym it.store_is) clean in
       let none : IsClean (view it.store) = no_doubt _ (clean_is it.store.pool ∙ sure) in
       omega (arith, it.closed.quiet.clean, none)
-
-  -- the files of a store that is closed
-  pub closes : SeenMayStay g → (c : Held (FileStore D g)) (files : Files D) → IsCopied c files →
-      LeavesEach c files
-  closes stays c files copied = record {
-    was_clean = copied.was_clean;
-    each = λ image may. ∥∥₁_map (copied.left image may).both
-        (λ it. let r : HoldsLeft c image = record {
-          db = (file_state c).committed.trees;
-          may =
-              stays_at c.store stays copied.was_open;
-          holds = it;
-        } in r);
-  }
 
   pub leads : SeenMayStay g → (cap : ℕ) (out : Growth) (bytes : List ℕ → Option (List ℕ))
       (asked : Asked) (status : Status) (start : Image) (first last : Held (FileStore D g))
@@ -138,6 +146,25 @@ module _ {D : Type 0} {g : Ghosts D} where
               ),
             )
       ] in r)
+
+  -- the rows of a store that was refused are as they were, where missing tables may have been made
+  pub as_it_was : SeenMayStay g → (first last : Held (FileStore D g)) (files : Files D) →
+      IsOpened first → Survives (file_state first) (file_state last)
+      (IsMadeOf (file_state first).now) → LeavesEach last files → (image : Image) →
+      outcomes g files.log files.db image → ∥ ((rows : Trees) × HoldsDatabase image rows
+      × ((rows ≡ (file_state first).committed.trees)
+      ⊎ IsMadeOf (file_state first).committed rows)) ∥₁
+  as_it_was stays first last files opened s left image may = ∥∥₁_map (left.each image may) (λ it.
+      let r : (rows : Trees) × HoldsDatabase image rows
+      × ((rows ≡ (file_state first).committed.trees)
+      ⊎ IsMadeOf (file_state first).committed rows) = (
+        it.db,
+        it.holds,
+        elim (s.crash left.was_clean it.db it.may) [
+          | inl early ↦ inl (settled_at first.store stays it.db opened.0.is_open early)
+          | inr made ↦ inr (subst (λ (d : Database). IsMadeOf d it.db) opened.0.clean made)
+        ],
+      ) in r)
 
   -- what is held as the run ends is in the two files, and in the database file alone
   pub ends_in : (cap : ℕ) (last : Held (FileStore D g)) (files : Files D) (h : Holdings) →

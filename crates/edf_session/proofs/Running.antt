@@ -80,12 +80,19 @@ module _ {S : Type 0} (g : Ghosts S) (bytes : List ℕ → Option (List ℕ)) (o
   module _ (conn end : Held S) (cap : ℕ) (old new : StoreModel S) (asked : Asked) (status : Status)
       (opened : IsOpened g conn old) (cap_is : old.cap ≡ cap) (end_is : end ≡ new.connection)
       (done : IsDone g old new out err bytes asked status) where
+    ran_crash : IsLive (at g old) → Survives (state g conn) (at g new)
+        (MayBeLeft cap out bytes asked status (state g conn).now)
+    ran_crash live =
+        subst (λ (n : ℕ). Survives (state g conn) (at g new)
+        (MayBeLeft n out bytes asked status (state g conn).now)) cap_is
+        (run_crash g bytes out err conn old new asked status opened live done)
+
     pub ran : new.cap ≡ old.cap → (HasCleanDisk (at g new) → HasCleanDisk (at g old)) →
-        Runs g conn end cap out err bytes asked status
-    ran same_cap was =
+        IsLive (at g old) → IsLive (state g end) → Runs g conn end cap out err bytes asked status
+    ran same_cap was live last =
         let others = done_others old new asked status done in
-        subst (λ (e : Held S). Runs g conn e cap out err bytes asked status) (sym end_is)
-        (record {
+        subst (λ (e : Held S). IsLive (state g e) → Runs g conn e cap out err bytes asked status)
+        (sym end_is) (λ now. record {
           old = old;
           new = new;
           end_is = refl;
@@ -103,13 +110,6 @@ module _ {S : Type 0} (g : Ghosts S) (bytes : List ℕ → Option (List ℕ)) (o
           others = λ clean is_open both. subst (λ (d : Database). KeepsTrees d.schema d.trees
               (at g new).committed.trees) (both_same (state g conn).now (at g old).committed
               (opened.tables (was clean)) both) (others.others clean is_open).trees;
-        })
-
-    pub ran_crash : IsLive (at g old) → Survives (state g conn) (state g end)
-        (MayBeLeft cap out bytes asked status (state g conn).now)
-    ran_crash live =
-        subst (λ (e : Held S). Survives (state g conn) (state g e)
-        (MayBeLeft cap out bytes asked status (state g conn).now)) (sym end_is)
-        (subst (λ (n : ℕ). Survives (state g conn) (at g new)
-        (MayBeLeft n out bytes asked status (state g conn).now)) cap_is
-        (run_crash g bytes out err conn old new asked status opened live done))
+          crash = ran_crash live;
+          live = now;
+        }) last

@@ -64,7 +64,7 @@ module _ {D : Type 0} (g : Ghosts D) (cap : ℕ) (out err : Growth) (bytes : Lis
 
   stays_keep : ((h : Holdings) → Holds over_files old h → Holds over_files new h) →
       KeepsAll cap start image
-  stays_keep on h keep = kept h (on h (found h keep))
+  stays_keep on h keep = ∣ kept h (on h (found h keep)) ∣₁
 
   same_keep : new ≡ old → KeepsAll cap start image
   same_keep same = stays_keep (λ h held. subst

@@ -107,7 +107,7 @@ module _ {D : Type 0} (g : Ghosts D) (cap : ℕ) (out err : Growth)
   pub record Refused : Type 0 where
     pub refused : IsRefused
     pub kept : (h : Holdings) → FilesKeep cap start h →
-        (image : Image) → outcomes g files.log files.db image → FilesKeep cap image h
+        (image : Image) → outcomes g files.log files.db image → ∥ FilesKeep cap image h ∥₁
     pub as_was : (image : Image) → outcomes g files.log files.db image →
         ∥ ((rows : Trees) × HoldsDatabase image rows
         × ((rows ≡ refused.db.trees) ⊎ IsMadeOf refused.db rows)) ∥₁

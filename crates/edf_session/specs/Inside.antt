@@ -65,6 +65,9 @@ module _ {S : Type 0} (g : Ghosts S) (start end : Held S) (cap : ℕ) (out err :
       pub others : HasCleanDisk (state g end) → IsTrue (state g end).is_open →
           HasBoth (state g start).now.schema → KeepsTrees (state g start).now.schema
           (state g start).now.trees (state g end).committed.trees
+      pub crash : Survives (state g start) (state g end)
+          (MayBeLeft cap out bytes asked status (state g start).now)
+      pub live : IsLive (state g end)
 
   -- or the store was refused, a line says so, and no file was opened
   pub record Refuses (status : Status) (Unread : Type 0) : Type 0 where
@@ -72,6 +75,7 @@ module _ {S : Type 0} (g : Ghosts S) (start end : Held S) (cap : ℕ) (out err :
     pub back : IsGivenBack g start cap fault end
     pub said : Explains out err (store_refused_line fault) Trouble status
     pub unread : Unread
+    pub live : IsLive (state g end)
 
   abbrev pub IsRun : (List ℕ → Option (List ℕ)) → Asked → Status → Type 0 → Type 0
   IsRun bytes asked status Unread = Runs bytes asked status ⊎ Refuses status Unread
@@ -94,21 +98,33 @@ pub record LeavesEach {D : Type 0} {g : disk.Ghosts D} (c : Held (FileStore D g)
 module _ {D : Type 0} {g : disk.Ghosts D} (cap : ℕ) (out err : Growth)
     (bytes : List ℕ → Option (List ℕ)) (asked : Asked) (status : Status) (Unread : Type 0) where
   -- the run over the connection, whose store had these files
-  pub record LetsGo (first : Held (FileStore D g)) (files : Files D) : Type 0 where
+  pub record RunsOver (first : Held (FileStore D g)) (files : Files D) : Type 0 where
     pub last : Held (FileStore D g)
     pub ran : IsRun over_files first last cap out err bytes asked status Unread
-    pub crash : Survives (file_state first) (file_state last)
-        (MayBeLeft cap out bytes asked status (file_state first).now)
-    pub live : IsLive (file_state last)
     pub closed : IsClosedAs last files
-
-  -- the same, and what was committed is copied where no failure is told
-  pub record Closes (first : Held (FileStore D g)) (failure : Option Error) (files : Files D) :
-      Type 0 where
-    pub lets_go : LetsGo first files
-    pub copied : failure ≡ None → AreClean g files.log files.db → IsCopied lets_go.last files
 
   -- the same, and each crash leaves what one could leave
   pub record Leaves (first : Held (FileStore D g)) (files : Files D) : Type 0 where
-    pub lets_go : LetsGo first files
-    pub each : AreClean g files.log files.db → LeavesEach lets_go.last files
+    pub over : RunsOver first files
+    pub each : AreClean g files.log files.db → LeavesEach over.last files
+
+  -- the store was opened and the command was run; what was committed is copied where no failure is
+  -- told
+  pub record Closes (first : Held (FileStore D g)) (failure : Option Error) (files : Files D) :
+      Type 0 where
+    pub last : Held (FileStore D g)
+    pub ran : Runs over_files first last cap out err bytes asked status
+    pub copied : failure ≡ None → AreClean g files.log files.db → IsCopied last files
+    pub closed : IsClosedAs last files
+
+  -- or the store was refused, and its files were let go as they were
+  pub record LetsGo (first : Held (FileStore D g)) (failure : Option Error) (files : Files D) :
+      Type 0 where
+    pub last : Held (FileStore D g)
+    pub refused : Refuses over_files first last cap out err status Unread
+    pub nothing_failed : failure ≡ None
+    pub left : AreClean g files.log files.db → LeavesEach last files
+    pub closed : IsClosedAs last files
+
+  abbrev pub ClosesOrLetsGo : Held (FileStore D g) → Option Error → Files D → Type 0
+  ClosesOrLetsGo first failure files = Closes first failure files ⊎ LetsGo first failure files

@@ -14,7 +14,7 @@ use Rattle.edf_session.specs.Front.{IsAfterFront, answers_in, Prints, PrintsFirs
 
 -- the files hold what they held
 abbrev pub KeepsAll : ℕ → Image → Image → Type 0
-KeepsAll cap start end = (h : Holdings) → FilesKeep cap start h → FilesKeep cap end h
+KeepsAll cap start end = (h : Holdings) → FilesKeep cap start h → ∥ FilesKeep cap end h ∥₁
 
 -- a run that was broken off: the files hold what the first of its files leave
 abbrev pub LeadsTo : ℕ → (List ℕ → Option (List ℕ)) → List (List ℕ) → Image → Image → Type 0

@@ -10,10 +10,11 @@ ghost use Rattle.edf_program.specs.Output.{growth};
 ghost use Rattle.edf_command.specs.Run.{files_of};
 ghost use Rattle.edf_command.specs.Taking.{HasOpened};
 ghost use Rattle.edf_session.specs.Steps.{LeadsAs};
-ghost use Rattle.edf_session.specs.Close.{IsClosedAs, RanOrRefused, IsUnopened};
-ghost use Rattle.edf_session.specs.Inside.{LeavesEach, Leaves};
+ghost use Rattle.edf_session.specs.Close.{RanOrRefused, IsUnopened};
+ghost use Rattle.edf_session.specs.Inside.{Leaves};
 
 use crate::run::run_over;
+use crate::session::leave;
 use crate::watch::{Watch, refuse};
 use edf_command::{Inputs, Order, Status};
 use edf_fragment::Output;
@@ -22,14 +23,6 @@ use edf_store::StoreFault;
 use sqlite::{Connection, FileStore, Files, Leftover, Options};
 use sqlite_disk::Disk;
 use std::alloc::Global;
-
-/// Lets the files of a connection go. What is committed stays in the log.
-fn leave<D: Disk + Drop>(conn: Connection<FileStore<D>>) -> Files<D>
-    ensures each { AreClean D.Disk result.log result.db → LeavesEach conn result }
-    ensures closed { IsClosedAs conn result }
-{
-    conn.into_store().close()
-}
 
 /// A run that lets its files go where it should close them.
 fn run_and_leave<D: Disk + Drop, I: Inputs, O: Output, F: Output, W: Watch>(
@@ -51,10 +44,12 @@ fn run_and_leave<D: Disk + Drop, I: Inputs, O: Output, F: Output, W: Watch>(
     ensures opened { HasOpened
         (I.opened inputs.old) (I.opened inputs.new) (files_of (meaning command.now)) result.0 }
 {
-    let (status, back) = run_over::<FileStore<D>, I, O, F, W>(
+    match run_over::<FileStore<D>, I, O, F, W>(
         alloc, conn, cap, command, inputs, out, err, watch,
-    );
-    (status, leave(back))
+    ) {
+        Ok((status, back)) => (status, leave(back)),
+        Err((status, back)) => (status, leave(back)),
+    }
 }
 
 /// One run over two files, on any disk, which lets them go where it should close them.

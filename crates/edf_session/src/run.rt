@@ -1,13 +1,12 @@
 //! One run over a connection.
 
-ghost use Rattle.std.specs.Prelude.{◌≡◌, ◌≤◌, false};
+ghost use Rattle.std.specs.Prelude.{◌≡◌, ◌≤◌, false, IfOk, IfErr};
 ghost use Rattle.sqlite.specs.Held.{state};
-ghost use Rattle.sqlite.specs.State.{IsLive, Survives};
 ghost use Rattle.edfstore_arguments.specs.Arguments.{meaning};
 ghost use Rattle.edf_program.specs.Output.{growth};
 ghost use Rattle.edf_command.specs.Run.{files_of};
 ghost use Rattle.edf_command.specs.Taking.{HasOpened};
-ghost use Rattle.edf_session.specs.Inside.{IsRun, MayBeLeft};
+ghost use Rattle.edf_session.specs.Inside.{Runs, Refuses};
 
 use crate::watch::{Watch, refuse};
 use edf_command::{Inputs, Order, Status, run};
@@ -19,8 +18,11 @@ use edf_tables::obey;
 use sqlite::{Alter, Connection};
 use std::alloc::Global;
 
-/// Opens the store of a connection, runs a command over it, and gives the connection back. Where
-/// the store is refused, a line says so.
+/// Opens the store of a connection, runs a command over it, and gives the status and the connection
+/// back.
+///
+/// # Errors
+/// The same, where the store was refused; a line says so.
 pub(crate) fn run_over<S: Alter + Drop, I: Inputs, O: Output, F: Output, W: Watch>(
     alloc: Global,
     conn: Connection<S>,
@@ -30,19 +32,19 @@ pub(crate) fn run_over<S: Alter + Drop, I: Inputs, O: Output, F: Output, W: Watc
     out: &mut O,
     err: &mut F,
     watch: &mut W,
-) -> (Status, Connection<S>)
+) -> Result<(Status, Connection<S>), (Status, Connection<S>)>
     requires cap_from { 1 ≤ cap }
     requires cap_to { cap ≤ MOST_RECORDS }
     requires autocommit { (state S.Store conn).in_transaction ≡ false }
-    ensures done { IsRun S.Store conn result.1 cap (growth O.Output out.old out.new)
-        (growth F.Output err.old err.new) (I.bytes inputs.old) (meaning command.now) result.0
-        (inputs.new ≡ inputs.old) }
-    ensures opened { HasOpened
-        (I.opened inputs.old) (I.opened inputs.new) (files_of (meaning command.now)) result.0 }
-    ensures crash { Survives (state S.Store conn) (state S.Store result.1)
-        (MayBeLeft cap (growth O.Output out.old out.new) (I.bytes inputs.old) (meaning command.now)
-        result.0 (state S.Store conn).now) }
-    ensures live { IsLive (state S.Store result.1) }
+    ensures done { IfOk result (λ r. Runs S.Store conn r.1 cap (growth O.Output out.old out.new)
+        (growth F.Output err.old err.new) (I.bytes inputs.old) (meaning command.now) r.0) }
+    ensures refused { IfErr result (λ r. Refuses S.Store conn r.1 cap
+        (growth O.Output out.old out.new) (growth F.Output err.old err.new) r.0
+        (inputs.new ≡ inputs.old)) }
+    ensures opened { IfOk result (λ r. HasOpened
+        (I.opened inputs.old) (I.opened inputs.new) (files_of (meaning command.now)) r.0) }
+    ensures unopened { IfErr result (λ r. HasOpened
+        (I.opened inputs.old) (I.opened inputs.new) (files_of (meaning command.now)) r.0) }
 {
     let has_our_tables = is_ours(conn.schema());
     match Store::open_or_return(alloc, conn, cap) {
@@ -51,11 +53,11 @@ pub(crate) fn run_over<S: Alter + Drop, I: Inputs, O: Output, F: Output, W: Watc
             let status = run(alloc, command, &mut store, inputs, out, err);
             let back = store.into_connection();
             obey(&back);
-            (status, back)
+            Ok((status, back))
         }
         Err((fault, back)) => {
             obey(&back);
-            (refuse(&fault, has_our_tables, err, watch), back)
+            Err((refuse(&fault, has_our_tables, err, watch), back))
         }
     }
 }

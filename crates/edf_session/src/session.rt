@@ -9,7 +9,7 @@ ghost use Rattle.edf_program.specs.Output.{growth};
 ghost use Rattle.edf_command.specs.Run.{files_of};
 ghost use Rattle.edf_command.specs.Taking.{HasOpened};
 ghost use Rattle.edf_session.specs.Close.{IsClosedAs};
-ghost use Rattle.edf_session.specs.Inside.{Closes};
+ghost use Rattle.edf_session.specs.Inside.{LeavesEach, ClosesOrLetsGo};
 
 use crate::run::run_over;
 use crate::watch::Watch;
@@ -25,7 +25,8 @@ use std::alloc::Global;
 pub struct Session<D: Disk> {
     pub status: Status,
     /// Why what is held could not be copied into the database file as the run ended, if it could
-    /// not. A crash then leaves nothing that one before the close could not leave.
+    /// not. A crash then leaves nothing that one before the close could not leave. Nothing is copied
+    /// where the store was refused.
     pub failure: Option<Error>,
     pub files: Files<D>,
 }
@@ -43,7 +44,16 @@ fn close<D: Disk + Drop>(conn: Connection<FileStore<D>>) -> (Option<Error>, File
     }
 }
 
-/// A run that copies what it commits into the database file as it ends.
+/// Lets the files of a connection go as they are. What is committed stays in the log.
+pub(crate) fn leave<D: Disk + Drop>(conn: Connection<FileStore<D>>) -> Files<D>
+    ensures each { AreClean D.Disk result.log result.db → LeavesEach conn result }
+    ensures closed { IsClosedAs conn result }
+{
+    conn.into_store().close()
+}
+
+/// A run that copies what it commits into the database file as it ends. The files of a store that
+/// is refused are let go as they are: another program's file is not written.
 pub(crate) fn run_and_close<D: Disk + Drop, I: Inputs, O: Output, F: Output, W: Watch>(
     alloc: Global,
     conn: Connection<FileStore<D>>,
@@ -57,19 +67,27 @@ pub(crate) fn run_and_close<D: Disk + Drop, I: Inputs, O: Output, F: Output, W: 
     requires cap_from { 1 ≤ cap }
     requires cap_to { cap ≤ MOST_RECORDS }
     requires autocommit { (file_state conn).in_transaction ≡ false }
-    ensures closes { Closes cap (growth O.Output out.old out.new)
+    ensures closes { ClosesOrLetsGo cap (growth O.Output out.old out.new)
         (growth F.Output err.old err.new) (I.bytes inputs.old) (meaning command.now) result.status
         (inputs.new ≡ inputs.old) conn result.failure result.files }
     ensures opened { HasOpened
         (I.opened inputs.old) (I.opened inputs.new) (files_of (meaning command.now)) result.status }
 {
-    let (status, back) = run_over::<FileStore<D>, I, O, F, W>(
+    match run_over::<FileStore<D>, I, O, F, W>(
         alloc, conn, cap, command, inputs, out, err, watch,
-    );
-    let (failure, files) = close(back);
-    Session {
-        status,
-        failure,
-        files,
+    ) {
+        Ok((status, back)) => {
+            let (failure, files) = close(back);
+            Session {
+                status,
+                failure,
+                files,
+            }
+        }
+        Err((status, back)) => Session {
+            status,
+            failure: None,
+            files: leave(back),
+        },
     }
 }

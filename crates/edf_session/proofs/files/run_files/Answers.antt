@@ -2,8 +2,8 @@ use Rattle.edfstore_arguments.specs.Arguments.{meaning}
 use Rattle.edf_program.proofs.Puts.{nothing-gets}
 use Rattle.edf_program.specs.Output.{growth}
 use Rattle.sqlite.specs.Files.{image_of}
-use Rattle.edf_session.proofs.Ending.{keep_one, ran_or_refused, ended, runs_on, if_numbered}
-use Rattle.edf_session.proofs.Ending.{finds_in}
+use Rattle.edf_session.proofs.Ending.{over, keep_one, ran_or_refused, ended, runs_on}
+use Rattle.edf_session.proofs.Ending.{if_numbered, finds_in}
 use Rattle.edf_session.proofs.Stepping.{closed_step}
 use Rattle.edf_session.proofs.files.run_files.Goals as goal
 
@@ -13,16 +13,16 @@ returns-in-Ok-clause-ran g c = ran_or_refused c.args.cap (growth g.O.Output c.ar
     (meaning c.args.command.now) c.run_and_close.result.status _ (image_of g.D.Disk c.args.files)
     c.in-Ok.conn c.run_and_close.result.files c.in-Ok.ensures.opened
     (λ early. finds_in c.args.files c.in-Ok.conn (c.in-Ok.ensures.found early))
-    c.run_and_close.ensures.closes.lets_go
+    (over c.run_and_close.ensures.closes)
 
 pub returns-in-Ok-clause-ended : goal.returns-in-Ok-clause-ended
-returns-in-Ok-clause-ended g c is clean = ended c.args.cap (growth g.O.Output c.args.out.now c.run_and_close.new.out)
+returns-in-Ok-clause-ended g c is clean = ended g.met.D.Disk.seen_may_stay c.args.cap (growth g.O.Output c.args.out.now c.run_and_close.new.out)
     (growth g.F.Output c.args.err.now c.run_and_close.new.err) (g.I.Inputs.bytes c.args.inputs.now)
     (meaning c.args.command.now) c.run_and_close.result.status _ (image_of g.D.Disk c.args.files)
-    c.in-Ok.conn c.run_and_close.result.files c.in-Ok.ensures.opened
+    c.in-Ok.conn c.run_and_close.result.failure
+    c.run_and_close.result.files c.in-Ok.ensures.opened
     (λ early. finds_in c.args.files c.in-Ok.conn (c.in-Ok.ensures.found early))
-    c.run_and_close.ensures.closes.lets_go clean
-    (c.run_and_close.ensures.closes.copied is clean)
+    c.run_and_close.ensures.closes is clean
 
 pub returns-in-Ok-clause-steps : goal.returns-in-Ok-clause-steps
 returns-in-Ok-clause-steps g c is clean image may = closed_step g.D.Disk c.args.cap (growth g.O.Output c.args.out.now c.run_and_close.new.out)
@@ -42,7 +42,7 @@ returns-in-Ok-clause-unclosed g c = if_numbered c.args.cap (growth g.O.Output c.
     (meaning c.args.command.now) c.run_and_close.result.status _ (image_of g.D.Disk c.args.files)
     c.in-Ok.conn c.run_and_close.result.files c.in-Ok.ensures.opened
     (λ early. finds_in c.args.files c.in-Ok.conn (c.in-Ok.ensures.found early))
-    c.run_and_close.ensures.closes.lets_go
+    (over c.run_and_close.ensures.closes)
     g.met.D.Disk.seen_may_stay
 
 pub returns-in-Ok-clause-one : goal.returns-in-Ok-clause-one
@@ -51,7 +51,7 @@ returns-in-Ok-clause-one g c clean = keep_one c.args.cap (growth g.O.Output c.ar
     (meaning c.args.command.now) c.run_and_close.result.status _ (image_of g.D.Disk c.args.files)
     c.in-Ok.conn c.run_and_close.result.files c.in-Ok.ensures.opened
     (λ early. finds_in c.args.files c.in-Ok.conn (c.in-Ok.ensures.found early))
-    c.run_and_close.ensures.closes.lets_go clean
+    (over c.run_and_close.ensures.closes) clean
 
 pub returns-in-Ok-clause-now : goal.returns-in-Ok-clause-now
 returns-in-Ok-clause-now g c = (g.met.D.Disk.seen_may_stay c.run_and_close.result.files.log, g.met.D.Disk.seen_may_stay c.run_and_close.result.files.db)

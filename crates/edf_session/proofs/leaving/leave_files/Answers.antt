@@ -11,7 +11,7 @@ returns-in-Ok-clause-ran g c = ran_or_refused c.args.cap (growth g.O.Output c.ar
     (meaning c.args.command.now) c.run_and_leave.result.0 _ (image_of g.D.Disk c.args.files)
     c.in-Ok.conn c.run_and_leave.result.1 c.in-Ok.ensures.opened
     (λ early. finds_in c.args.files c.in-Ok.conn (c.in-Ok.ensures.found early))
-    c.run_and_leave.ensures.leaves.lets_go
+    c.run_and_leave.ensures.leaves.over
 
 pub returns-in-Ok-clause-leads : goal.returns-in-Ok-clause-leads
 returns-in-Ok-clause-leads g c clean image may = each_leads c.args.cap (growth g.O.Output c.args.out.now c.run_and_leave.new.out)
@@ -19,7 +19,7 @@ returns-in-Ok-clause-leads g c clean image may = each_leads c.args.cap (growth g
     (meaning c.args.command.now) c.run_and_leave.result.0 _ (image_of g.D.Disk c.args.files)
     c.in-Ok.conn c.run_and_leave.result.1 c.in-Ok.ensures.opened
     (λ early. finds_in c.args.files c.in-Ok.conn (c.in-Ok.ensures.found early))
-    c.run_and_leave.ensures.leaves.lets_go
+    c.run_and_leave.ensures.leaves.over
     g.met.D.Disk.seen_may_stay (c.run_and_leave.ensures.leaves.each clean) image may
 
 pub returns-in-Err-clause-unopened : goal.returns-in-Err-clause-unopened

@@ -1,13 +1,22 @@
+use Rattle.std.proofs.Common.{inl, inr}
 use Rattle.edf_session.proofs.leaving.run_and_leave.Goals as goal
 
-pub returns-clause-leaves : goal.returns-clause-leaves
-returns-clause-leaves g c = record {
-  lets_go = record {
-    last = c.run_over-status.result.1;
-    ran = c.run_over-status.ensures.done;
-    crash = c.run_over-status.ensures.crash;
-    live = c.run_over-status.ensures.live;
+pub returns-in-Ok-clause-leaves : goal.returns-in-Ok-clause-leaves
+returns-in-Ok-clause-leaves g c = record {
+  over = record {
+    last = c.in-Ok.back;
+    ran = inl c.in-Ok.ensures.done;
     closed = c.leave.ensures.closed;
   };
   each = c.leave.ensures.each;
+}
+
+pub returns-in-Err-clause-leaves : goal.returns-in-Err-clause-leaves
+returns-in-Err-clause-leaves g c = record {
+  over = record {
+    last = c.in-Err.back;
+    ran = inr c.in-Err.ensures.refused;
+    closed = c.leave-in-Err.ensures.closed;
+  };
+  each = c.leave-in-Err.ensures.each;
 }

@@ -1,12 +1,11 @@
-use Rattle.std.proofs.Common.{inl, inr, refl, arith}
-use Rattle.sqlite.specs.Held.{state}
+use Rattle.std.proofs.Common.{refl, arith}
 use Rattle.sqlite.specs.State.{HasCleanDisk}
 use Rattle.edf_store.specs.Held.{at}
 use Rattle.edfstore_arguments.specs.Arguments.{meaning}
 use Rattle.edf_program.specs.Output.{growth}
-use Rattle.edf_session.proofs.Crashes.{refused_crash, done_left}
+use Rattle.edf_session.proofs.Crashes.{done_left}
 use Rattle.edf_program.proofs.Puts.{nothing-gets}
-use Rattle.edf_session.proofs.Running.{ran, ran_crash, none_opened, is_trouble}
+use Rattle.edf_session.proofs.Running.{ran, none_opened, is_trouble}
 use Rattle.edf_session.proofs.run.run_over.Goals as goal
 
 pub returns-in-Ok-clause-done : goal.returns-in-Ok-clause-done
@@ -17,31 +16,16 @@ returns-in-Ok-clause-done g c =
     let asked = meaning c.args.command.now in
     let left = done_left g.S.Store bytes out err c.in-Ok.store c.run-status.new.store asked
     c.run-status.result c.run-status.ensures.done in
-    inl (ran g.S.Store bytes out err c.args.conn c.into_connection-back.result c.args.cap
+    ran g.S.Store bytes out err c.args.conn c.into_connection-back.result c.args.cap
     c.in-Ok.store c.run-status.new.store asked c.run-status.result c.in-Ok.ensures.opened
     c.in-Ok.ensures.cap
     c.into_connection-back.ensures c.run-status.ensures.done c.run-status.ensures.cap
     (λ (clean : HasCleanDisk (at g.S.Store c.run-status.new.store)). let was : HasCleanDisk
-    (at g.S.Store c.in-Ok.store) = omega (arith, left.clean, clean) in was))
+    (at g.S.Store c.in-Ok.store) = omega (arith, left.clean, clean) in was)
+    c.in-Ok.ensures.live c.obey.ensures
 
-pub returns-in-Ok-clause-crash : goal.returns-in-Ok-clause-crash
-returns-in-Ok-clause-crash g c =
-    ran_crash g.S.Store (g.I.Inputs.bytes c.args.inputs.now)
-    (growth g.O.Output c.args.out.now c.run-status.new.out)
-    (growth g.F.Output c.args.err.now c.run-status.new.err) c.args.conn
-    c.into_connection-back.result c.args.cap c.in-Ok.store c.run-status.new.store
-    (meaning c.args.command.now) c.run-status.result c.in-Ok.ensures.opened c.in-Ok.ensures.cap
-    c.into_connection-back.ensures c.run-status.ensures.done c.in-Ok.ensures.live
-
-pub returns-in-Err-clause-crash : goal.returns-in-Err-clause-crash
-returns-in-Err-clause-crash g c =
-    refused_crash c.args.cap (growth g.O.Output c.args.out.now c.args.out.now)
-    (g.I.Inputs.bytes c.args.inputs.now) (meaning c.args.command.now) c.refuse.result
-    (state g.S.Store c.args.conn) (state g.S.Store c.in-Err.back)
-    c.in-Err.ensures.given_back.crash
-
-pub returns-in-Err-clause-done : goal.returns-in-Err-clause-done
-returns-in-Err-clause-done g c = inr (record {
+pub returns-in-Err-clause-refused : goal.returns-in-Err-clause-refused
+returns-in-Err-clause-refused g c = record {
   fault = c.in-Err.fault;
   back = c.in-Err.ensures.given_back;
   said = (
@@ -49,8 +33,9 @@ returns-in-Err-clause-done g c = inr (record {
     c.refuse.ensures,
   );
   unread = refl;
-})
+  live = c.obey-in-Err.ensures;
+}
 
-pub returns-in-Err-clause-opened : goal.returns-in-Err-clause-opened
-returns-in-Err-clause-opened g c = none_opened (g.I.Inputs.opened c.args.inputs.now) _
+pub returns-in-Err-clause-unopened : goal.returns-in-Err-clause-unopened
+returns-in-Err-clause-unopened g c = none_opened (g.I.Inputs.opened c.args.inputs.now) _
     c.refuse.result (is_trouble _ _ c.refuse.result c.refuse.ensures)

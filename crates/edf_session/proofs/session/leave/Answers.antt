@@ -1,6 +1,6 @@
 use Rattle.std.proofs.Common.{sym}
 use Rattle.edf_session.proofs.LetGo.{leaves}
-use Rattle.edf_session.proofs.leaving.leave.Goals as goal
+use Rattle.edf_session.proofs.session.leave.Goals as goal
 
 pub returns-clause-each : goal.returns-clause-each
 returns-clause-each g c = leaves c.args.conn c.into_store.result c.close.result c.close.ensures
