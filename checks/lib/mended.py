@@ -21,9 +21,11 @@ def signals_of(data: bytes) -> list:
             for nth, label in enumerate(labels)]
 
 
-def samples(data: bytes) -> list:
-    """The ordinary samples of each whole data record, signal by signal."""
-    signals = signals_of(data)
+def samples(data: bytes, made: bytes) -> list:
+    """The ordinary samples of each whole data record, signal by signal. The header is read as it
+    was mended: a label or a number of samples may have been none before."""
+    count = number(bytes(byte for byte in data[252:256] if chr(byte).isdigit()))
+    signals = signals_of(made)[:count]
     at, width = 256 + 256 * len(signals), sum(size for _, size in signals)
     found = []
     while width and at + width <= len(data):
@@ -77,7 +79,7 @@ class Mender:
         refused = spells(made)
         if refused:
             raise Lost(f"what was made is refused: {refused}")
-        if samples(made) != samples(data)[:len(samples(made))]:
+        if samples(made, made) != samples(data, made)[:len(samples(made, made))]:
             raise Lost("other samples")
         if bool(ran.out) != (made != data):
             raise Lost(f"the ledger is {ran.out!r}, and what was made "

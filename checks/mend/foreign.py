@@ -81,7 +81,7 @@ def edflib_samples(dump: Path, path: Path, folder: Path) -> bytes:
 def as_integers(data: bytes) -> bytes:
     """The ordinary samples of a file, signal by signal, as EDFlib has them."""
     widths = [size for is_ordinary, size in mended.signals_of(data) if is_ordinary]
-    records, at, found = mended.samples(data), 0, []
+    records, at, found = mended.samples(data, data), 0, []
     for size in widths:
         column = b"".join(record[at:at + size] for record in records)
         found.append(numpy.frombuffer(column, "<i2").astype("<i4").tobytes())
