@@ -46,7 +46,7 @@ fn annotations_are_in_the_run_of_their_onset(rt: HostRuntime) {
     let alloc = rt.alloc();
     for (bytes, number, file, expected) in [
         (strays(alloc), 1, first_by_onset(alloc), (868, 5, 3)),
-        (strays(alloc), 2, second_by_onset(alloc), (856, 4, 2)),
+        (strays(alloc), 2, second_by_onset(alloc), (840, 4, 2)),
     ] {
         let (bytes_len, annotations, outside) = expected;
         let expected = Written {

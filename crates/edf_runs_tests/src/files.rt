@@ -171,15 +171,12 @@ pub(crate) fn second_by_onset(alloc: Global) -> Result<Vec<u8>, AllocError> {
         .recording("Startdate 03-MAR-2002 N1 T3 REC5")
         .start("03.03.02", "00.00.00")
         .count("2")
-        .annotations_samples("20");
+        .annotations_samples("16");
     let records: &[(u8, &[u8])] = &[
-        (3, b"+0.5\x14\x14\0+0.5\x14Moved\x14\0"),
-        (
-            4,
-            b"+1.5\x14\x14\0+1.25\x14Later\x14\0+2.5\x14Past\x14\0+89\x14Far\x14\0",
-        ),
+        (3, b"+0.5\x14\x14\0+1.25\x14Later\x14\0+0.5\x14Moved\x14\0"),
+        (4, b"+1.5\x14\x14\0+2.5\x14Past\x14\0+89\x14Far\x14\0"),
     ];
-    file_of(alloc, &header, records, 40)
+    file_of(alloc, &header, records, 32)
 }
 
 /// Two data records without a gap, each of which has so many annotations, all with the onset of the

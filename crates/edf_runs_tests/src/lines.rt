@@ -129,7 +129,7 @@ const STORIES: &[(&str, &str)] = &[
         "write - 1",
         "err: error: FILE is read twice, which standard input can't be: \
         write it to a file first\n\n\
-        Usage: edfruns write <FILE> <N>\n\n\
+        Usage: edfruns write [OPTIONS] <FILE> <N>\n\n\
         For more information, try '--help'.\nstatus 2\n",
     ),
     (
@@ -143,7 +143,7 @@ const STORIES: &[(&str, &str)] = &[
         "split - night",
         "err: error: FILE is read twice, which standard input can't be: \
         write it to a file first\n\n\
-        Usage: edfruns split <FILE> <PREFIX>\n\n\
+        Usage: edfruns split [OPTIONS] <FILE> <PREFIX>\n\n\
         For more information, try '--help'.\nstatus 2\n",
     ),
 ];
