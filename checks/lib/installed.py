@@ -1,8 +1,7 @@
 """The commands of the examples' READMEs that need more than the package, on a Debian that has it.
 
 That Debian lies in a folder and does not boot, so `systemctl` only enables here, and what a unit
-says is begun and ended by this module. Its sshd speaks over a pipe. `night/run` and `site/run`,
-which take minutes, are left to `checks/run --long`, where they run outside of the package.
+says is begun and ended by this module. Its sshd speaks over a pipe.
 """
 import os
 import signal
@@ -185,11 +184,24 @@ def written(checks: Checks, machine: Machine) -> None:
                 (b"edflib.edf accepted new=8 known=0\n", b"", 0))
 
 
+def from_end_to_end(checks: Checks, machine: Machine) -> None:
+    """The two examples that take minutes; they need what `site` and `written` installed."""
+    checks.begin("examples/night/run and examples/site/run")
+    there = machine.run("apt-get", "install", "--no-install-recommends", "python3")
+    checks.same("python3", there.status, 0)
+    for name, told in (("night", b"960 of 960 records have the start, the samples and the "
+                        b"annotations of the card's"),
+                       ("site", b"20 recorders: 20 exports are their cards")):
+        ran = machine.run(f"{SHARED}/examples/{name}/run")
+        checks.same(f"{name}/run", (ran.status, ran.out.splitlines()[-1:]), (0, [told]))
+
+
 def tried(checks: Checks, root: Path) -> None:
     machine = Machine(root)
     if not is_ready(machine):
-        print("the commands of examples/receiving and examples/site were NOT run: no packages here")
+        print("the commands of the examples were NOT run: no packages here")
         return
     receiving(checks, machine)
     site(checks, machine)
     written(checks, machine)
+    from_end_to_end(checks, machine)
