@@ -44,9 +44,7 @@ fn run_and_leave<D: Disk + Drop, I: Inputs, O: Output, F: Output, W: Watch>(
     ensures opened { HasOpened
         (I.opened inputs.old) (I.opened inputs.new) (files_of (meaning command.now)) result.0 }
 {
-    match run_over::<FileStore<D>, I, O, F, W>(
-        alloc, conn, cap, command, inputs, out, err, watch,
-    ) {
+    match run_over::<FileStore<D>, I, O, F, W>(alloc, conn, cap, command, inputs, out, err, watch) {
         Ok((status, back)) => (status, leave(back)),
         Err((status, back)) => (status, leave(back)),
     }

@@ -73,9 +73,7 @@ pub(crate) fn run_and_close<D: Disk + Drop, I: Inputs, O: Output, F: Output, W: 
     ensures opened { HasOpened
         (I.opened inputs.old) (I.opened inputs.new) (files_of (meaning command.now)) result.status }
 {
-    match run_over::<FileStore<D>, I, O, F, W>(
-        alloc, conn, cap, command, inputs, out, err, watch,
-    ) {
+    match run_over::<FileStore<D>, I, O, F, W>(alloc, conn, cap, command, inputs, out, err, watch) {
         Ok((status, back)) => {
             let (failure, files) = close(back);
             Session {

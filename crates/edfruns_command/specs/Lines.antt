@@ -44,7 +44,6 @@ run_lines spell d label number [] = []
 run_lines spell d label number (r ∷ rs) = label number
     ++ (run_line spell d number r (slice_get rs 0) ++ run_lines spell d label (number + 1) rs)
 
-
 -- ---- why something is not done
 
 -- `FILE refused T`: why a file is not read

@@ -79,11 +79,7 @@ fn label(alloc: Global, name: Option<&String>) -> Result<Vec<u8>, AllocError>
 }
 
 /// A line for each run, in time order, after the name of its file where there are names.
-pub fn runs_text(
-    alloc: Global,
-    names: &[String],
-    listing: &Listing,
-) -> Result<Vec<u8>, AllocError>
+pub fn runs_text(alloc: Global, names: &[String], listing: &Listing) -> Result<Vec<u8>, AllocError>
     ensures { IfOk result (λ r. (spell : ℕ → List ℕ) → IsSpelling spell → r.items ≡ run_lines spell
         (duration_of listing.now.identity.duration) (label_in (map string_bytes names.now)) 1
         listing.now.runs.items) }

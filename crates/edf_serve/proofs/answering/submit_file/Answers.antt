@@ -19,8 +19,12 @@ returns-in-Ok-submit-clause-taken g c =
         given = c.in-Ok.ensures.reader;
         submitted = c.in-Ok-submit.ensures.submitted;
         ended = c.in-Ok-submit.ensures.ended;
-        said = (refl, refl, nothing-gets (Some c.args.out.now.bytes.items)
-            c.args.out.now.failures);
+        said = (
+          refl,
+          refl,
+          nothing-gets (Some c.args.out.now.bytes.items)
+              c.args.out.now.failures,
+        );
       }),
     )
 
