@@ -293,8 +293,8 @@ def logged(odd: Odd) -> None:
         for statement in ("PRAGMA journal_mode=wal", *tables, "PRAGMA wal_checkpoint(TRUNCATE)",
                           change):
             writer.execute(statement)
-        for end in ("", "-wal"):
-            shutil.copy(odd.folder / f"w.db{end}", odd.folder / f"s.db{end}")
+        for suffix in ("", "-wal"):
+            shutil.copy(odd.folder / f"w.db{suffix}", odd.folder / f"s.db{suffix}")
         writer.close()
         before = bytes_of(log)
         odd.check(what, expected)

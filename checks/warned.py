@@ -14,7 +14,7 @@ from collections import Counter
 from datetime import datetime, timedelta
 from pathlib import Path
 
-from checks.lib import arguments, edf, faults, measure, model, printed, runs
+from checks.lib import arguments, edf, faults, measure, printed, runs
 from checks.lib.checks import Checks
 from checks.lib.edf import Header, Signal, keeping
 from checks.lib.printed import accepted, refused
