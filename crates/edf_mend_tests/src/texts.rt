@@ -21,8 +21,10 @@ struct Case {
 fn mended_blocks() -> [Case; 6] {
     [
         Case {
-            before: b"\x10\x00\x20\x01+0\x14\x14\0+0.5\x14M\xfcller\x14\0\0\0\0\0\0\0\0\0\0\0\0\0\0\0",
-            after: b"\x10\x00\x20\x01+0\x14\x14\0+0.5\x14M\xc3\xbcller\x14\0\0\0\0\0\0\0\0\0\0\0\0\0\0",
+            before: b"\x10\x00\x20\x01+0\x14\x14\0+0.5\x14M\xfcller\x14\
+                \0\0\0\0\0\0\0\0\0\0\0\0\0\0\0",
+            after: b"\x10\x00\x20\x01+0\x14\x14\0+0.5\x14M\xc3\xbcller\x14\
+                \0\0\0\0\0\0\0\0\0\0\0\0\0\0",
             lines: "texts record=1 at=14 old=\"M\\xfcller\" new=\"M\\xc3\\xbcller\"\n\
             texts record=1 at=22 old_zeros=1 new=\"\"\n",
         },
@@ -40,19 +42,23 @@ fn mended_blocks() -> [Case; 6] {
         },
         Case {
             before: b"\x10\x00\x20\x01+0\x14\x14\0                           ",
-            after: b"\x10\x00\x20\x01+0\x14\x14\0\0\0\0\0\0\0\0\0\0\0\0\0\0\0\0\0\0\0\0\0\0\0\0\0\0\0\0",
+            after: b"\x10\x00\x20\x01+0\x14\x14\
+                \0\0\0\0\0\0\0\0\0\0\0\0\0\0\0\0\0\0\0\0\0\0\0\0\0\0\0\0",
             lines: "texts record=1 at=9 old=\"                           \" new_zeros=27\n",
         },
         Case {
             before: b"\x10\x00\x20\x01+0\x14\x14\0+0.9999999999\x14\xb0C\x14\0@@@@@@@@@",
-            after: b"\x10\x00\x20\x01+0\x14\x14\0+1\x14\xc2\xb0C\x14\0\0\0\0\0\0\0\0\0\0\0\0\0\0\0\0\0\0\0\0",
+            after: b"\x10\x00\x20\x01+0\x14\x14\0+1\x14\xc2\xb0C\x14\
+                \0\0\0\0\0\0\0\0\0\0\0\0\0\0\0\0\0\0\0\0",
             lines: "texts record=1 at=10 old=\"0.9999999999\" new=\"1\"\n\
             texts record=1 at=23 old=\"\\xb0C\" new=\"\\xc2\\xb0C\"\n\
             texts record=1 at=27 old=\"@@@@@@@@@\" new_zeros=19\n",
         },
         Case {
-            before: b"\x10\x00\x20\x01+0\x14\x14\0+0.5\x14a\x14b\xe9\x14\0\0\0\0\0\0\0\0\0\0\0\0\0\0\0\0\0",
-            after: b"\x10\x00\x20\x01+0\x14\x14\0+0.5\x14a\x14b\xc3\xa9\x14\0\0\0\0\0\0\0\0\0\0\0\0\0\0\0\0",
+            before: b"\x10\x00\x20\x01+0\x14\x14\0+0.5\x14a\x14b\xe9\x14\
+                \0\0\0\0\0\0\0\0\0\0\0\0\0\0\0\0\0",
+            after: b"\x10\x00\x20\x01+0\x14\x14\0+0.5\x14a\x14b\xc3\xa9\x14\
+                \0\0\0\0\0\0\0\0\0\0\0\0\0\0\0\0",
             lines: "texts record=1 at=16 old=\"b\\xe9\" new=\"b\\xc3\\xa9\"\n\
             texts record=1 at=20 old_zeros=1 new=\"\"\n",
         },
