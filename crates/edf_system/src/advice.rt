@@ -39,7 +39,7 @@ fn on_signals(number: u8) -> Option<&'static str> {
         ),
         16 => Some(
             "it has no annotations signal, or nothing else, or that signal's limits are not those \
-            of EDF+: edfmend mends limits",
+            of EDF+: edfmend mends limits, and gives EDF+C the signal",
         ),
         17 => Some("this signal's physical limits are no numbers, or equal: edfmend mends them"),
         18 => Some("this signal's digital limits don't rise: edfmend swaps them"),
@@ -53,17 +53,23 @@ fn on_signals(number: u8) -> Option<&'static str> {
 fn on_records(number: u8) -> Option<&'static str> {
     match number {
         21 => Some("it ends within a data record, so it was cut: send it again"),
-        22 => Some("annotations of this data record are not spelled as EDF+ has it, from there on"),
-        23 => Some("an annotation of this data record is no UTF-8: its producer is to write that"),
+        22 => Some(
+            "annotations of this data record are not spelled as EDF+ has it, from there on: \
+            edfmend mends times finer than a nanosecond, and what fills a block",
+        ),
+        23 => Some("an annotation of this data record is no UTF-8: edfmend makes it that"),
         24 => Some("this data record doesn't tell its start: its producer is to write it"),
         25 => Some("its first data record starts in another second than its header tells"),
         26 => Some("a time of this data record is not from 1985 to 2184: look at the clock"),
         27 => Some(
             "this data record starts before the one before it ends: a clock was set back, or \
-            starts are rounded",
+            starts are rounded, which edfmend mends in EDF+C",
         ),
         28 => Some("this data record has too many annotations: its producer is to spread them"),
-        29 => Some("bytes follow its last data record: files were joined, or its count is wrong"),
+        29 => Some(
+            "bytes follow its last data record: files were joined, or its count is wrong, which \
+            edfmend mends",
+        ),
         _ => None,
     }
 }
