@@ -153,8 +153,11 @@ def sleep_lines(runs: list, scored: list, lights: list) -> list:
         time = sum(to - start for start, to in beds)
         slept = sum(recorded(runs, max(start, first), min(end, to)) for first, to in beds
                     for start, end, height in spans if height and height > 12)
-        sleep += (f"; sleep efficiency {events.share(slept, time)} of the {clock(time)} min"
-                  " from lights off to lights on")
+        missing = time - sum(recorded(runs, first, to) for first, to in beds)
+        between = f"of the {clock(time)} min from lights off to lights on"
+        sleep += (f"; no sleep efficiency: {clock(missing)} {between} are missing"
+                  if missing >= events.MINUTE
+                  else f"; sleep efficiency {events.share(slept, time)} {between}")
     return [f"Minutes: {stages}", sleep]
 
 

@@ -49,7 +49,7 @@ pub(crate) fn list_columns(
         shown: Vec::new(alloc),
         open: None,
         lengths: Lengths::None,
-        slept: Slept::none(&beds),
+        slept: Slept::none(recording, &beds),
         beds,
     };
     stages.show(&mut columns)?;

@@ -28,7 +28,7 @@
 //! Each other text has a lane: the eight most frequent, and one for all others. 4,096 texts are
 //! told apart, of 1,024 bytes at most; annotations of other texts are others. `Lights off` and
 //! `Lights on` are lines instead, the first 64 of them; the efficiency is that of the sleep in the
-//! times from each lights off to the next lights on.
+//! times from each lights off to the next lights on, where less than a minute of them is missing.
 //!
 //! Every call returns, for any arguments, and a picture is whole; what it shows is tested.
 #![tactic(auto)]

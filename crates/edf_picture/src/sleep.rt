@@ -1,6 +1,7 @@
 use crate::extent::Extent;
 use crate::hypnogram::Hypnogram;
 use crate::numbers::{percent, tenths};
+use crate::recording::Recording;
 use crate::stages::Stage;
 use crate::times::MINUTE;
 use std::alloc::{AllocError, Global};
@@ -15,16 +16,19 @@ pub(crate) struct Slept {
     three: u64,
     /// How long lights were off.
     bed: u64,
+    /// How much of that was not recorded.
+    missing: u64,
     /// How much sleep was recorded while they were.
     pub(crate) in_bed: u64,
 }
 
 impl Slept {
     /// No stage, where lights were off in these times.
-    pub(crate) fn none(beds: &[Extent]) -> Slept {
-        let mut bed = 0u64;
+    pub(crate) fn none(recording: &Recording<'_>, beds: &[Extent]) -> Slept {
+        let (mut bed, mut recorded) = (0u64, 0u64);
         for one in beds {
             bed = bed.saturating_add(one.length());
+            recorded = recorded.saturating_add(recording.recorded_within(*one));
         }
         Slept {
             wake: 0,
@@ -33,6 +37,7 @@ impl Slept {
             two: 0,
             three: 0,
             bed,
+            missing: bed.saturating_sub(recorded),
             in_bed: 0,
         }
     }
@@ -76,14 +81,22 @@ impl Slept {
     }
 
     /// `Total sleep time 397.5 min; sleep efficiency 86.4 % of the 460.0 min from lights off to
-    /// lights on`.
+    /// lights on`. Where a minute or more of these is missing there is no efficiency: it would be
+    /// too low by as much as was slept then.
     pub(crate) fn sleep_line(self, alloc: Global) -> Result<String, AllocError> {
         let sleep = minutes(alloc, self.sleep())?;
         if self.bed == 0 {
             return format!(in alloc; "Total sleep time {sleep} min");
         }
-        let efficiency = percent(alloc, self.in_bed, self.bed)?;
         let time = minutes(alloc, self.bed)?;
+        if self.missing >= MINUTE {
+            let missing = minutes(alloc, self.missing)?;
+            return format!(in alloc;
+                "Total sleep time {sleep} min; no sleep efficiency: {missing} of the {time} min \
+                    from lights off to lights on are missing"
+            );
+        }
+        let efficiency = percent(alloc, self.in_bed, self.bed)?;
         format!(in alloc;
             "Total sleep time {sleep} min; sleep efficiency {efficiency} of the {time} min \
                 from lights off to lights on"
