@@ -161,8 +161,9 @@ NO_PLAIN_FILE = "not a plain file, but a directory, a device or a linked file"
 NO_DATABASE = "not a database, or none that can be read here"
 NO_PATH = "a path that begins with 'file:' is written './file:'"
 DAMAGED = ("the file is damaged, or it has page sums and sqlite3 wrote or copied it "
-           "(ANALYZE, VACUUM, .backup); if so, 'sqlite3 OLD.db .dump | sqlite3 NEW.db' makes a "
-           "store that opens, without sums")
+           "(ANALYZE, VACUUM, .backup), or it was copied without its -wal, so copy both; if "
+           "sqlite3 did, 'sqlite3 OLD.db .dump | sqlite3 NEW.db' makes a store that opens, without "
+           "sums")
 NOT_PERMITTED = "no permission to read and write it, or files beside it"
 BUSY = "another program has it open; run this again when that has ended"
 OTHER_TABLES = ("its tables are not a store's, or have an index or a trigger; it was left as it is")
@@ -183,19 +184,20 @@ OTHER_LETTERS = ("a byte of its header is no printable ASCII, as in a name with 
 IS_BDF = ("a BDF file, whose samples have 24 bits: edfstore and edfruns take EDF+ alone, so export "
           "it as EDF+")
 NO_SEX = ("the second subfield of its patient field is no sex (F, M or X): edfmend makes it that "
-          "of EDF+")
+          "of EDF+, where it has room")
 NO_BIRTHDATE = ("the third subfield of its patient field is no birthdate (dd-MMM-yyyy, in "
-                "capitals, or X): edfmend makes it that of EDF+")
+                "capitals, or X): edfmend makes it that of EDF+, where it has room")
 FEW_OF_PATIENT = ("its patient field has fewer than the four subfields code, sex, birthdate and "
-                  "name: edfmend makes it that of EDF+")
+                  "name: edfmend makes it that of EDF+, where it has room")
 NO_STARTDATE = ("its recording field does not begin with Startdate and a space: edfmend makes it "
-                "that of EDF+")
+                "that of EDF+, where it has room")
 NO_DATE = ("after Startdate its recording field has no date (dd-MMM-yyyy, in capitals) and no X: "
-           "edfmend makes it that of EDF+")
+           "edfmend makes it that of EDF+, where it has room")
 FEW_OF_RECORDING = ("its recording field has fewer than the three subfields investigation, "
-                    "technician and equipment after its date: edfmend makes it that of EDF+")
+                    "technician and equipment after its date: edfmend makes it that of EDF+, "
+                    "where it has room")
 STORED_OTHERWISE = ("other samples or annotations are stored for this start, and stay: keep the "
-                    "file, and tell a person")
+                    "file; a card that EDFlib wrote beside its pieces goes into a new store")
 LEFT_OUT = ("readers may leave out annotations that lie outside of the run; with --by-onset only "
             "those do whose onsets lie in no run")
 NOT_WHOLE = "mend the cause and run it again: what standard output got is not whole"

@@ -9,10 +9,19 @@ fn on_header(number: u8) -> Option<&'static str> {
             spells them in ASCII",
         ),
         3 => Some("its first bytes are not those of EDF: it has another format, or is damaged"),
-        4 => Some("its patient field is not that of EDF+: edfmend makes it so"),
-        5 => Some("its recording field is not that of EDF+: edfmend makes it so"),
-        6 => Some("its startdate is no day: look at the recorder's clock"),
-        7 => Some("its starttime is no second of a day: look at the recorder's clock"),
+        4 => Some("its patient field is not that of EDF+: edfmend makes it so, where it has room"),
+        5 => Some(
+            "its recording field is not that of EDF+: edfmend makes it so, where it has \
+            room",
+        ),
+        6 => Some(
+            "its startdate is no day as dd.mm.yy: look at its spelling, and at the \
+            recorder's clock",
+        ),
+        7 => Some(
+            "its starttime is no second as hh.mm.ss: look at its spelling, and at the \
+            recorder's clock",
+        ),
         8 => Some(
             "its startdate and the one in its recording field differ: one was edited, so find out \
             which is right",
@@ -21,9 +30,15 @@ fn on_header(number: u8) -> Option<&'static str> {
             "plain EDF has no annotations signal and no start for each data record: edfstore and \
             edfruns take EDF+ alone; edfmend makes EDF+ of it",
         ),
-        10 => Some("its number of data records is no number: edfmend counts them"),
-        11 => Some("its data records have no duration above 0: it is no recording of signals"),
-        12 => Some("its number of signals is not from 2 to 640: files of annotations alone have 1"),
+        10 => Some("its number of data records is no number above 0: edfmend counts them"),
+        11 => Some(
+            "its duration of data records is no decimal above 0: 0 is of no signals, 1,0 is \
+            1.0",
+        ),
+        12 => Some(
+            "its number of signals is not from 2 to 640: one of annotations alone is no \
+            recording, and to one without them edfmend adds them",
+        ),
         13 => Some("its header was edited or is damaged: have its producer write it again"),
         _ => None,
     }
@@ -41,8 +56,14 @@ fn on_signals(number: u8) -> Option<&'static str> {
             "it has no annotations signal, or nothing else, or that signal's limits are not those \
             of EDF+: edfmend mends limits, and gives EDF+C the signal",
         ),
-        17 => Some("this signal's physical limits are no numbers, or equal: edfmend mends them"),
-        18 => Some("this signal's digital limits don't rise: edfmend swaps them"),
+        17 => Some(
+            "this signal's physical limits are no numbers, or equal: edfmend mends them, where \
+            eight bytes have the number",
+        ),
+        18 => Some(
+            "this signal's digital limits are no numbers of 16 bits, or don't rise: edfmend swaps \
+            those that fall",
+        ),
         19 => Some("this signal has no samples: its producer is to leave it out"),
         20 => Some("its data records are too long: its producer is to write shorter ones"),
         _ => None,
@@ -82,8 +103,8 @@ fn on_others(number: u8) -> Option<&'static str> {
             file, and tell a person",
         ),
         31 => Some(
-            "other samples or annotations are stored for this start, and stay: keep the file, and \
-            tell a person",
+            "other samples or annotations are stored for this start, and stay: keep the file; a \
+            card that EDFlib wrote beside its pieces goes into a new store",
         ),
         32 => Some("its recording is full: begin another store"),
         41 => Some("run it again with more memory: what standard output got may not be whole"),

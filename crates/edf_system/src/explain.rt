@@ -49,7 +49,8 @@ const LEFT_OUT: &str = "readers may leave out annotations that lie outside of th
 /// The number under which that is noted as told, which is that of no refusal.
 const TOLD_OUTSIDE: u8 = 0;
 
-/// The file that a line tells of, or else standard output, where annotations lie outside of its run.
+/// The file that a line tells of, or else standard output, where annotations lie outside of its
+/// run.
 fn outside_in(line: &[u8]) -> Option<&str> {
     let text = str::from_utf8(line).ok()?;
     let (of_run, outside) = text.rsplit_once(OUTSIDE)?;

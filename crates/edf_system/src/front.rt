@@ -11,26 +11,41 @@ const FRONT: usize = 168;
 /// The first bytes of a BDF file.
 const BDF: [u8; 8] = *b"\xffBIOSEMI";
 
+/// The first bytes of an EDF file, of a ZIP file and of an SQLite file.
+const EDF: [u8; 8] = *b"0       ";
+
+const ZIP: [u8; 4] = *b"PK\x03\x04";
+
+const SQLITE: [u8; 15] = *b"SQLite format 3";
+
 const IS_BDF: &str = "a BDF file, whose samples have 24 bits: edfstore and edfruns take EDF+ \
     alone, so export it as EDF+";
 
+const IS_ZIP: &str = "a ZIP file: unpack it";
+
+const IS_SQLITE: &str = "an SQLite file: if it is a store, 'edfstore export' writes its recordings";
+
+const IS_NO_EDF: &str = "its first bytes are not those of EDF: it has another format, or is \
+    damaged";
+
 const FEW_OF_PATIENT: &str = "its patient field has fewer than the four subfields code, sex, \
-    birthdate and name: edfmend makes it that of EDF+";
+    birthdate and name: edfmend makes it that of EDF+, where it has room";
 
 const NO_SEX: &str = "the second subfield of its patient field is no sex (F, M or X): edfmend \
-    makes it that of EDF+";
+    makes it that of EDF+, where it has room";
 
 const NO_BIRTHDATE: &str = "the third subfield of its patient field is no birthdate (dd-MMM-yyyy, \
-    in capitals, or X): edfmend makes it that of EDF+";
+    in capitals, or X): edfmend makes it that of EDF+, where it has room";
 
 const NO_STARTDATE: &str = "its recording field does not begin with Startdate and a space: edfmend \
-    makes it that of EDF+";
+    makes it that of EDF+, where it has room";
 
 const NO_DATE: &str = "after Startdate its recording field has no date (dd-MMM-yyyy, in capitals) \
-    and no X: edfmend makes it that of EDF+";
+    and no X: edfmend makes it that of EDF+, where it has room";
 
 const FEW_OF_RECORDING: &str = "its recording field has fewer than the three subfields \
-    investigation, technician and equipment after its date: edfmend makes it that of EDF+";
+    investigation, technician and equipment after its date: edfmend makes it that of EDF+, where \
+    it has room";
 
 /// The front of a plain file.
 fn front_of(rt: &HostRuntime, name: &str) -> Option<[u8; FRONT]> {
@@ -42,6 +57,21 @@ fn front_of(rt: &HostRuntime, name: &str) -> Option<[u8; FRONT]> {
     let mut file = File::open(rt, name).ok()?;
     file.read_exact(&mut front).ok()?;
     Some(front)
+}
+
+/// What a file is whose first bytes are not those of EDF.
+fn on_format(front: &[u8]) -> Option<&'static str> {
+    if front.starts_with(&EDF) {
+        None
+    } else if front.starts_with(&BDF) {
+        Some(IS_BDF)
+    } else if front.starts_with(&ZIP) {
+        Some(IS_ZIP)
+    } else if front.starts_with(&SQLITE) {
+        Some(IS_SQLITE)
+    } else {
+        Some(IS_NO_EDF)
+    }
 }
 
 /// Why a field is no patient identification, where it is none.
@@ -82,12 +112,12 @@ fn on_recording(field: &[u8]) -> &'static str {
 /// What the front of a refused file tells of its refusal, by that one's number, where it tells more
 /// than the number.
 pub(crate) fn told_by_front(rt: &HostRuntime, name: &str, number: u8) -> Option<&'static str> {
-    if !matches!(number, 2 | 4 | 5) {
+    if !matches!(number, 2 | 3 | 4 | 5) {
         return None;
     }
     let front = front_of(rt, name)?;
     match number {
-        2 if front.starts_with(&BDF) => Some(IS_BDF),
+        2 | 3 => on_format(&front),
         4 => on_patient(&front[8..88]),
         5 => Some(on_recording(&front[88..168])),
         _ => None,

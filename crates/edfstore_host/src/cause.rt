@@ -16,8 +16,8 @@ const OTHER_ROWS: &str = "its rows are such as no submissions leave; put it asid
 
 /// A page sum goes wrong in two ways, and which of them it was can't be seen.
 const DAMAGED: &str = "the file is damaged, or it has page sums and sqlite3 wrote or copied it \
-    (ANALYZE, VACUUM, .backup); if so, 'sqlite3 OLD.db .dump | sqlite3 NEW.db' makes a store that \
-    opens, without sums";
+    (ANALYZE, VACUUM, .backup), or it was copied without its -wal, so copy both; if sqlite3 did, \
+    'sqlite3 OLD.db .dump | sqlite3 NEW.db' makes a store that opens, without sums";
 
 /// Prints why the store could not be opened. SQLite's port gives no cause, so the path is opened
 /// again to get one.
