@@ -1,5 +1,5 @@
 -- A run over two files: what it answers, and what its files hold as they are let go.
-use Rattle.std.proofs.Common.{◌≡◌, inl, inr, ℕ, List, Option, None, Some}
+use Rattle.std.proofs.Common.{◌≡◌, ◌↔◌, inl, inr, ℕ, List, Option, None, Some, IsTrue}
 use Rattle.std.proofs.Common.{refl, sym, subst, arith}
 use Rattle.std.proofs.Math.Logic.{∥∥₁_map}
 use Rattle.sqlite_disk.specs.declared.Disk.{Ghosts}
@@ -17,7 +17,7 @@ use Rattle.sqlite.specs.Closing.{IsCopied}
 use Rattle.sqlite.specs.Files.{HoldsDatabase, IsOpened, Finds, image_of, over_files, file_state}
 use Rattle.sqlite.specs.Start.{FindsIn}
 use Rattle.sqlite.specs.declared.error.Error.{Error}
-use Rattle.edf_tables.specs.Schema.{HasBoth}
+use Rattle.edf_tables.specs.Schema.{HasBoth, AreOurs}
 use Rattle.edf_tables.specs.Others.{KeepsTrees}
 use Rattle.edf_audit.specs.File.{IsForeignFile}
 use Rattle.edf_holdings.specs.Holdings.{Holdings}
@@ -30,8 +30,9 @@ use Rattle.edfstore_arguments.specs.Arguments.{Asked}
 use Rattle.edf_program.specs.Output.{Growth}
 use Rattle.edf_program.specs.declared.status.Status.{Status}
 use Rattle.edf_session.specs.Files.{Keeps, FilesKeep, KeepOne, AreReadAs}
+use Rattle.edf_session.specs.Watch.{Notice}
 use Rattle.edf_session.specs.Steps.{LeadsAs}
-use Rattle.edf_session.specs.Close.{LeadsIfNumbered, IsClosedAs, Ran, IsRefused, RanOrRefused}
+use Rattle.edf_session.specs.Close.{IsClosedAs, Ran, IsRefused, RanOrRefused}
 use Rattle.edf_session.specs.Close.{Ends, Refused, EndsOrRefuses}
 use Rattle.edf_session.specs.Inside.{MayBeLeft, Runs, Refuses, LeavesEach, RunsOver}
 use Rattle.edf_session.specs.Inside.{ClosesOrLetsGo}
@@ -40,7 +41,7 @@ use Rattle.edf_session.proofs.Chains.{result}
 use Rattle.edf_session.proofs.Crashes.{refused_crash}
 use Rattle.edf_session.proofs.Keeping.{found_keeps, own_keeps, kept_is_own}
 use Rattle.edf_session.proofs.Keeping.{keeps_once, read_as}
-use Rattle.edf_session.proofs.LetGo.{leaves, leads, ends_in, clean_last, as_it_was, still_keeps}
+use Rattle.edf_session.proofs.LetGo.{leads, ends_in, clean_last, as_it_was, still_keeps}
 
 -- ---- a store that was refused
 
@@ -58,11 +59,11 @@ finds_in files c f = record { holds = f.holds; reads = f.reads }
 -- ---- whatever became of the close
 
 module _ {D : Type 0} {g : Ghosts D} (cap : ℕ) (out err : Growth) (bytes : List ℕ → Option (List ℕ))
-    (asked : Asked) (status : Status) (Unread : Type 0) (start : Image)
-    (first : Held (FileStore D g)) (files : Files D)
+    (asked : Asked) (status : Status) (Unread : Type 0) (Noticed : Notice → Type 0)
+    (start : Image) (first : Held (FileStore D g)) (files : Files D)
     (opens : HasCleanDisk (file_state first) → IsOpened first)
     (finds : HasCleanDisk (file_state first) → FindsIn start (file_state first))
-    (it : RunsOver cap out err bytes asked status Unread first files) where
+    (it : RunsOver cap out err bytes asked status Unread Noticed first files) where
   crash : Survives (file_state first) (file_state it.last)
       (MayBeLeft cap out bytes asked status (file_state first).now)
   crash = elim it.ran [
@@ -95,8 +96,8 @@ module _ {D : Type 0} {g : Ghosts D} (cap : ℕ) (out err : Growth) (bytes : Lis
   read_first : AreClean g files.log files.db → AreReadAs start (file_state first).committed
   read_first clean = read_as start (file_state first) (finds (early clean)) (sound_first clean)
 
-  ran_of : Runs over_files first it.last cap out err bytes asked status →
-      Ran g cap out err bytes asked status Unread start files
+  ran_of : Runs over_files first it.last cap out err bytes asked status Noticed →
+      Ran g cap out err bytes asked status Unread Noticed start files
   ran_of r = record {
     db = (file_state first).committed;
     old = r.old;
@@ -116,11 +117,12 @@ module _ {D : Type 0} {g : Ghosts D} (cap : ℕ) (out err : Growth) (bytes : Lis
     found = λ clean h keep. r.found h (subst (λ (d : Database). Keeps cap d h)
         (sym (settled clean)) (keeps_first clean h keep));
     done = r.done;
+    noticed = r.noticed;
     let_go = subst (λ (e : Held (FileStore D g)). IsClosedAs e files) (sym r.end_is) it.closed;
   }
 
-  refused_of : Refuses over_files first it.last cap out err status Unread →
-      IsRefused g cap out err bytes asked status Unread start files
+  refused_of : Refuses over_files first it.last cap out err status Unread Noticed →
+      IsRefused g cap out err bytes asked status Unread Noticed start files
   refused_of r =
       let foreign = λ (is : r.fault ≡ Foreign) (clean : AreClean g files.log files.db).
       subst (IsForeignFile cap) (settled clean) (r.back.foreign is (late clean)) in
@@ -130,13 +132,17 @@ module _ {D : Type 0} {g : Ghosts D} (cap : ℕ) (out err : Growth) (bytes : Lis
         why = r.back.why;
         said = r.said;
         unread = r.unread;
+        ours = r.ours;
+        noticed = r.noticed;
+        ours_is = λ clean. subst (λ (d : Database). IsTrue r.ours ↔ AreOurs d.schema)
+            (settled clean) r.ours_is;
         read = read_first;
         foreign = foreign;
         none = λ is clean h keep. kept_is_own cap (file_state first).committed h
             (keeps_first clean h keep) (foreign is clean);
       }
 
-  pub ran_or_refused : RanOrRefused g cap out err bytes asked status Unread start files
+  pub ran_or_refused : RanOrRefused g cap out err bytes asked status Unread Noticed start files
   ran_or_refused = elim it.ran [ inl r ↦ inl (ran_of r) | inr r ↦ inr (refused_of r) ]
 
   -- each crash leaves what one from the connection could leave
@@ -145,20 +151,11 @@ module _ {D : Type 0} {g : Ghosts D} (cap : ℕ) (out err : Growth) (bytes : Lis
   each_leads stays each image may = leads stays cap out bytes asked status start first it.last
       files opens finds crash each image may
 
-  pub if_numbered : SeenMayStay g → LeadsIfNumbered g cap out bytes asked status start files
-  if_numbered stays = record {
-    store = it.closed.store;
-    store_is = it.closed.store_is;
-    leads = λ clean numbered image may. each_leads stays
-        (leaves it.last it.closed.store files (sym it.closed.store_is) it.closed.closed.quiet
-        (λ _. numbered) it.closed.closed.sound clean) image may;
-  }
-
   -- ---- where nothing failed
 
-  copied_ends : Runs over_files first it.last cap out err bytes asked status →
+  copied_ends : Runs over_files first it.last cap out err bytes asked status Noticed →
       AreClean g files.log files.db → IsCopied it.last files →
-      Ends g cap out err bytes asked status Unread start files
+      Ends g cap out err bytes asked status Unread Noticed start files
   unfolding ran_of
   copied_ends r clean copied = record {
     ran = ran_of r;
@@ -175,9 +172,10 @@ module _ {D : Type 0} {g : Ghosts D} (cap : ℕ) (out err : Growth) (bytes : Lis
         (file_state first).committed.trees rows = (trees, holds, same) in x);
   }
 
-  left_refused : SeenMayStay g → Refuses over_files first it.last cap out err status Unread →
+  left_refused : SeenMayStay g →
+      Refuses over_files first it.last cap out err status Unread Noticed →
       AreClean g files.log files.db → LeavesEach it.last files →
-      Refused g cap out err bytes asked status Unread start files
+      Refused g cap out err bytes asked status Unread Noticed start files
   unfolding refused_of
   left_refused stays r clean left =
       let was = as_it_was stays first it.last files (opens (early clean)) r.back.crash left in
@@ -190,42 +188,44 @@ module _ {D : Type 0} {g : Ghosts D} (cap : ℕ) (out err : Growth) (bytes : Lis
 
 module _ {D : Type 0} {g : Ghosts D} {cap : ℕ} {out err : Growth}
     {bytes : List ℕ → Option (List ℕ)} {asked : Asked} {status : Status} {Unread : Type 0}
-    {first : Held (FileStore D g)} {failure : Option Error} {files : Files D} where
-  pub over : ClosesOrLetsGo cap out err bytes asked status Unread first failure files →
-      RunsOver cap out err bytes asked status Unread first files
+    {Noticed : Notice → Type 0} {first : Held (FileStore D g)} {failure : Option Error}
+    {files : Files D} where
+  pub over : ClosesOrLetsGo cap out err bytes asked status Unread Noticed first failure files →
+      RunsOver cap out err bytes asked status Unread Noticed first files
   over (inl it) = record { last = it.last; ran = inl it.ran; closed = it.closed }
   over (inr it) = record { last = it.last; ran = inr it.refused; closed = it.closed }
 
 -- what was committed is copied, or the files of a refused store are let go as they were
 pub ended : {D : Type 0} {g : Ghosts D} → SeenMayStay g → (cap : ℕ) (out err : Growth)
     (bytes : List ℕ → Option (List ℕ)) (asked : Asked) (status : Status) (Unread : Type 0)
-    (start : Image) (first : Held (FileStore D g)) (failure : Option Error) (files : Files D) →
+    (Noticed : Notice → Type 0) (start : Image) (first : Held (FileStore D g))
+    (failure : Option Error) (files : Files D) →
     (HasCleanDisk (file_state first) → IsOpened first) →
     (HasCleanDisk (file_state first) → FindsIn start (file_state first)) →
-    ClosesOrLetsGo cap out err bytes asked status Unread first failure files → failure ≡ None →
-    AreClean g files.log files.db →
-    EndsOrRefuses g cap out err bytes asked status Unread start files
-ended stays cap out err bytes asked status Unread start first failure files opens finds (inl it) is
-    clean = inl (copied_ends cap out err bytes asked status Unread start first files opens finds
-    (record { last = it.last; ran = inl it.ran; closed = it.closed }) it.ran clean
+    ClosesOrLetsGo cap out err bytes asked status Unread Noticed first failure files →
+    failure ≡ None → AreClean g files.log files.db →
+    EndsOrRefuses g cap out err bytes asked status Unread Noticed start files
+ended stays cap out err bytes asked status Unread Noticed start first failure files opens finds
+    (inl it) is clean = inl (copied_ends cap out err bytes asked status Unread Noticed start first
+    files opens finds (record { last = it.last; ran = inl it.ran; closed = it.closed }) it.ran clean
     (it.copied is clean))
-ended stays cap out err bytes asked status Unread start first failure files opens finds (inr it) is
-    clean = inr (left_refused cap out err bytes asked status Unread start first files opens finds
-    (record { last = it.last; ran = inr it.refused; closed = it.closed }) stays it.refused clean
-    (it.left clean))
+ended stays cap out err bytes asked status Unread Noticed start first failure files opens finds
+    (inr it) is clean = inr (left_refused cap out err bytes asked status Unread Noticed start first
+    files opens finds (record { last = it.last; ran = inr it.refused; closed = it.closed }) stays
+    it.refused clean (it.left clean))
 
 -- ---- one more run
 
 pub runs_on : {D : Type 0} (g : Ghosts D) (cap : ℕ) (out err : Growth)
     (bytes : List ℕ → Option (List ℕ)) (asked : Asked) (status : Status) (Unread : Type 0)
-    (start : Image) (files : Files D) →
-    RanOrRefused g cap out err bytes asked status Unread start files →
+    (Noticed : Notice → Type 0) (start : Image) (files : Files D) →
+    RanOrRefused g cap out err bytes asked status Unread Noticed start files →
     AreClean g files.log files.db →
-    RunsAfterAll g cap out err bytes asked status Unread start files
-runs_on g cap out err bytes asked status Unread start files end clean runs h first sound keep follow
-    =
+    RunsAfterAll g cap out err bytes asked status Unread Noticed start files
+runs_on g cap out err bytes asked status Unread Noticed start files end clean runs h first sound
+    keep follow =
     ∥∥₁_map (result cap runs h first start sound follow keep) (λ r.
-    let it : RunsAfter g cap out err bytes asked status Unread start files runs h = record {
+    let it : RunsAfter g cap out err bytes asked status Unread Noticed start files runs h = record {
       left = r;
       run = elim end [
         | inl e ↦ inl (e, e.found clean _ r.keeps)

@@ -13,8 +13,8 @@ use Rattle.edf_intake.specs.Batch.{Turn, told_in, IsTurn, AreUnended, AreLeftBy}
 use Rattle.edf_intake.proofs.Turns.{map-next, all-next}
 use Rattle.edf_session.specs.Front.{IsAfterFront, answers_in}
 
-abbrev pub no_front : (cap : ℕ) (bytes : List ℕ → Option (List ℕ)) (names : List (List ℕ)) (h : Holdings) →
-    IsAfterFront cap bytes names h h
+abbrev pub no_front : (cap : ℕ) (bytes : List ℕ → Option (List ℕ)) (names : List (List ℕ))
+    (h : Holdings) → IsAfterFront cap bytes names h h
 no_front cap bytes names h = record {
   tolds = [];
   front = record {

@@ -1,6 +1,7 @@
 -- What a database holds is what the files hold, what the store that is opened over it holds, and
 -- what a crash leaves.
-use Rattle.std.proofs.Common.{◌≡◌, ◌≢◌, inl, inr, ℕ, List, [], ◌∷◌, refl, sym, subst, ◌∙◌}
+use Rattle.std.proofs.Common.{◌≡◌, ◌≢◌, ◌≤◌, inl, inr, ℕ, List, [], ◌∷◌, refl, sym, subst}
+use Rattle.std.proofs.Common.{◌∙◌, arith}
 use Rattle.std.proofs.Math.Logic.{∥∥₁_elim}
 use Rattle.sqlite_trees.specs.declared.store.Store.{Ghosts}
 use Rattle.sqlite_trees.specs.Props.{Trees-set}
@@ -178,3 +179,43 @@ pub left_keeps : (cap : ℕ) (old : Database) (rows : Trees) (left : Holdings) �
 left_keeps cap old rows left both sound keeps kept schema now =
     both_tables (subst HasBoth (sym (kept_schema old.schema schema old.trees rows sound keeps now))
     both) kept
+
+-- ---- under a greater cap
+
+wider_kept : (cap more : ℕ) → cap ≤ more → (trees : Trees) (h : Holdings) → AreKept cap trees h →
+    AreKept more trees h
+wider_kept cap more wide trees h kept =
+    let s = kept.sound in
+    record {
+      stand = kept.stand;
+      sound = record {
+        rising = s.rising;
+        no_clash = s.no_clash;
+        few = λ k. let few = s.few k in omega (arith, few, wide);
+        records = s.records;
+        begins = s.begins;
+        keys = s.keys;
+        finite = s.finite;
+      };
+      each = kept.each;
+    }
+
+wider_keeps : (cap more : ℕ) → cap ≤ more → (db : Database) (h : Holdings) → Keeps cap db h →
+    Keeps more db h
+wider_keeps cap more wide db h (no_table none is) = no_table none is
+wider_keeps cap more wide db h (one_table one empty is) = one_table one empty is
+wider_keeps cap more wide db h (both_tables both kept) =
+    both_tables both (wider_kept cap more wide db.trees h kept)
+
+pub wider : (cap more : ℕ) → cap ≤ more → (image : Image) (h : Holdings) →
+    FilesKeep cap image h → FilesKeep more image h
+wider cap more wide image h (inl none) = inl none
+wider cap more wide image h (inr (trees, held, it)) = inr (
+  trees,
+  held,
+  record {
+    schema = it.schema;
+    is_database = it.is_database;
+    keeps = wider_keeps cap more wide _ h it.keeps;
+  },
+)

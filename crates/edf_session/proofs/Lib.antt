@@ -8,3 +8,4 @@ pub mod LetGo
 pub mod Chains
 pub mod Ending
 pub mod Stepping
+pub mod Idle

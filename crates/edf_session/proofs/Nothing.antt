@@ -22,7 +22,7 @@ use Rattle.sqlite_pool.proofs.ProbeLemmas.{first_byte}
 use Rattle.sqlite_pool.specs.Stored.{used_size}
 use Rattle.sqlite.specs.Order.{Row}
 use Rattle.sqlite.specs.Tree.{Trees}
-use Rattle.sqlite.specs.Files.{IsNothing, IsEmpty, AreFoundIn}
+use Rattle.sqlite.specs.Files.{HoldsDatabase, IsNothing, IsEmpty, AreFoundIn}
 use Rattle.edf_schema.specs.Columns.{stored_recordings, stored_id, stored_identity, stored_records}
 use Rattle.edf_header.specs.Key.{Key}
 use Rattle.edf_holdings.specs.Holdings.{nothing_held}
@@ -93,6 +93,17 @@ never_blank size image pages found sound other some (inr blank) =
         | inr rest ↦ rest.1
             (magic ∙ sym (first_byte other some))
       ]
+    ]
+
+-- one that is there is found
+pub nothing_holds : (image : Image) (db : Trees) → IsNothing image → HoldsDatabase image db → ⊥
+nothing_holds image db nothing held =
+    let it = held.2 in
+    let never = never_blank held.0 image it.pages it.found it.ours.file.sound in
+    elim nothing [
+      | inl plain ↦ never (used_size 4096 false) (omega arith) plain
+      | inr summed ↦ never
+          (used_size 4096 true) (omega arith) summed
     ]
 
 pub nothing_found : (image : Image) (db : Trees) → IsNothing image → AreFoundIn image db →

@@ -23,6 +23,7 @@ use Rattle.edf_command.specs.Taking.{IsTaken, HasOpened}
 use Rattle.edf_command.specs.Run.{IsDone, IsConverted}
 use Rattle.edf_program.specs.declared.status.Status.{Status}
 use Rattle.edf_session.specs.Files.{Keeps, both_tables}
+use Rattle.edf_session.specs.Watch.{Notice, was_opened}
 use Rattle.edf_session.specs.Inside.{Runs, MayBeLeft}
 use Rattle.edf_session.proofs.Keeping.{opened_holds, both_same}
 use Rattle.edf_session.proofs.Crashes.{run_crash}
@@ -87,12 +88,13 @@ module _ {S : Type 0} (g : Ghosts S) (bytes : List ℕ → Option (List ℕ)) (o
         (MayBeLeft n out bytes asked status (state g conn).now)) cap_is
         (run_crash g bytes out err conn old new asked status opened live done)
 
-    pub ran : new.cap ≡ old.cap → (HasCleanDisk (at g new) → HasCleanDisk (at g old)) →
-        IsLive (at g old) → IsLive (state g end) → Runs g conn end cap out err bytes asked status
-    ran same_cap was live last =
+    pub ran : (Noticed : Notice → Type 0) → Noticed (was_opened out.before) → new.cap ≡ old.cap →
+        (HasCleanDisk (at g new) → HasCleanDisk (at g old)) → IsLive (at g old) →
+        IsLive (state g end) → Runs g conn end cap out err bytes asked status Noticed
+    ran Noticed noticed same_cap was live last =
         let others = done_others old new asked status done in
-        subst (λ (e : Held S). IsLive (state g e) → Runs g conn e cap out err bytes asked status)
-        (sym end_is) (λ now. record {
+        subst (λ (e : Held S). IsLive (state g e) →
+        Runs g conn e cap out err bytes asked status Noticed) (sym end_is) (λ now. record {
           old = old;
           new = new;
           end_is = refl;
@@ -102,6 +104,7 @@ module _ {S : Type 0} (g : Ghosts S) (bytes : List ℕ → Option (List ℕ)) (o
           found = λ h keeps. opened_holds g conn old opened h
               (subst (λ (n : ℕ). Keeps n (state g conn).now h) (sym cap_is) keeps);
           done = done;
+          noticed = noticed;
           kept = λ clean is_open h held. both_tables
               (subst HasBoth (sym (others.others clean is_open).schema)
               (tables_both _ _ (opened.tables (was clean))))

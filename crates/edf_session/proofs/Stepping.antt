@@ -29,7 +29,7 @@ use Rattle.edf_session.specs.Front.{Prints, PrintsNone}
 use Rattle.edf_session.specs.Steps.{IsStep, KeepsAll}
 use Rattle.edf_session.specs.Close.{EndsOrRefuses}
 
-none_printed : (out : Growth) (asked : Asked) → Gets out [] → PrintsNone out asked
+pub none_printed : (out : Growth) (asked : Asked) → Gets out [] → PrintsNone out asked
 none_printed out (take store files) none = none
 none_printed out (list store) none = tt
 none_printed out (export store place) none = tt
@@ -119,14 +119,14 @@ module _ {D : Type 0} (g : Ghosts D) (cap : ℕ) (out err : Growth) (bytes : Lis
 
 pub closed_step : {D : Type 0} (g : Ghosts D) (cap : ℕ) (out err : Growth)
     (bytes : List ℕ → Option (List ℕ)) (asked : Asked) (status : Status) (Unread : Type 0)
-    (start : Image) (files : Files D) →
-    EndsOrRefuses g cap out err bytes asked status Unread start files →
+    (Noticed : Notice → Type 0) (start : Image) (files : Files D) →
+    EndsOrRefuses g cap out err bytes asked status Unread Noticed start files →
     AreClean g files.log files.db → (image : Image) → outcomes g files.log files.db image →
     IsStep cap out bytes asked status start image
-closed_step g cap out err bytes asked status Unread start files (inl e) clean image may =
+closed_step g cap out err bytes asked status Unread Noticed start files (inl e) clean image may =
     done_step g cap out err bytes status start image e.ran.old e.ran.new e.ran.cap_is
     (e.ran.found clean) (λ h held. (e.kept h held image may).0) (e.ran.clean clean) asked e.ran.done
-closed_step g cap out err bytes asked status Unread start files (inr r) clean image may =
+closed_step g cap out err bytes asked status Unread Noticed start files (inr r) clean image may =
     inr (record {
       printed = none_printed out asked r.refused.said.0;
       keeps = λ h keep. r.kept h keep image may;

@@ -16,6 +16,7 @@ use Rattle.edfstore_arguments.specs.Arguments.{Asked}
 use Rattle.edf_command.specs.Run.{files_of}
 use Rattle.edf_program.specs.Output.{Growth}
 use Rattle.edf_program.specs.declared.status.Status.{Status}
+use Rattle.edf_session.specs.Watch.{Notice}
 use Rattle.edf_session.specs.Files.{FilesKeep}
 use Rattle.edf_session.specs.Front.{FrontTold}
 use Rattle.edf_session.specs.Steps.{LeadsTo, EndsWith, EndsIdle}
@@ -81,14 +82,15 @@ pub record LeaveAfterAll (cap : ℕ) (runs : List PastRun) (h : Holdings) (end :
 
 module _ {D : Type 0} (g : Ghosts D) (cap : ℕ) (out err : Growth)
     (bytes : List ℕ → Option (List ℕ)) (asked : Asked) (status : Status) (Unread : Type 0)
-    (start : Image) (files : Files D) where
+    (Noticed : Notice → Type 0) (start : Image) (files : Files D) where
   -- the store that was opened holds what all of them submitted, of which the headline speaks, and
   -- the command was run over that; or the store was refused for a cause, so never with E45
   pub record RunsAfter (runs : List PastRun) (h : Holdings) : Type 0 where
     pub left : LeaveAfterAll cap runs h start
-    pub run : ((r : Ran g cap out err bytes asked status Unread start files)
+    pub run : ((r : Ran g cap out err bytes asked status Unread Noticed start files)
         × Holds over_files r.old (after cap h left.tolds))
-        ⊎ ((r : IsRefused g cap out err bytes asked status Unread start files) × HasCause r.fault)
+        ⊎ ((r : IsRefused g cap out err bytes asked status Unread Noticed start files)
+        × HasCause r.fault)
 
   -- whatever runs led to what the files held as this one began
   abbrev pub RunsAfterAll : Type 0

@@ -1,18 +1,18 @@
 -- What a run answers, and what the two files hold once it has let them go.
-use Rattle.std.specs.Prelude.{◌≡◌, ◌⊎◌, ℕ, List, [], Option, IsTrue}
+use Rattle.std.specs.Prelude.{◌≡◌, ◌⊎◌, ◌↔◌, ℕ, Bool, false, List, [], Option, IsTrue}
 use Rattle.sqlite_disk.specs.declared.Disk.{Ghosts}
 use Rattle.sqlite_disk.specs.declared.Files.{Files}
 use Rattle.sqlite_wal.specs.Recovery.{Image}
 use Rattle.sqlite_wal.specs.Files.{outcomes}
 use Rattle.sqlite_wal.specs.Reads.{AreClean}
 use Rattle.sqlite_store.specs.declared.store.FileStore.{FileStore}
-use Rattle.sqlite_store.specs.FileStore.{view, files as store_files}
+use Rattle.sqlite_store.specs.FileStore.{files as store_files}
 use Rattle.sqlite.specs.Tree.{Trees}
 use Rattle.sqlite.specs.Effect.{Database}
 use Rattle.sqlite.specs.Held.{Held}
 use Rattle.sqlite.specs.State.{HasCleanDisk}
 use Rattle.sqlite.specs.Files.{HoldsDatabase, over_files, IsClosed}
-use Rattle.edf_tables.specs.Schema.{HasBoth}
+use Rattle.edf_tables.specs.Schema.{HasBoth, AreOurs}
 use Rattle.edf_tables.specs.Made.{IsMadeOf}
 use Rattle.edf_tables.specs.Others.{KeepsTrees}
 use Rattle.edf_audit.specs.File.{IsForeignFile}
@@ -27,26 +27,16 @@ use Rattle.edf_program.specs.declared.status.Status.{Status}
 use Rattle.edf_program.specs.declared.status.Status.TheVariants.{Trouble}
 use Rattle.edf_command.specs.Lines.{store_refused_line}
 use Rattle.edf_command.specs.Run.{IsDone}
+use Rattle.edf_session.specs.Watch.{Notice, was_opened, was_refused}
 use Rattle.edf_session.specs.Files.{Keeps, FilesKeep, AreReadAs}
-use Rattle.edf_session.specs.Steps.{LeadsAs}
 
--- the files are those of a store that is let go. Where its trees are numbered as the list of its
--- tables has them, as an open store's are, each crash from here on leaves what the first files of
--- the command leave, answered as is printed
-pub record LeadsIfNumbered {D : Type 0} (g : Ghosts D) (cap : ℕ) (out : Growth)
-    (bytes : List ℕ → Option (List ℕ)) (asked : Asked) (status : Status) (start : Image)
-    (files : Files D) : Type 0 where
-  pub store : FileStore D g
-  pub store_is : store_files store ≡ (files.log, files.db)
-  pub leads : AreClean g files.log files.db → IsTrue (view store).is_numbered →
-      (image : Image) → outcomes g files.log files.db image →
-      LeadsAs cap out bytes asked status start image
-
--- the files were not opened, and a line says why
-pub record IsUnopened (out err : Growth) (status : Status) : Type 0 where
-  pub fault : StoreFault
-  pub cause : HasCause fault
-  pub said : Explains out err (store_refused_line fault) Trouble status
+-- the files were not opened, a line says why, and that was told
+pub record IsUnopened (out err : Growth) (status : Status) (Noticed : Notice → Type 0) : Type 0
+  where
+    pub fault : StoreFault
+    pub cause : HasCause fault
+    pub said : Explains out err (store_refused_line fault) Trouble status
+    pub noticed : Noticed (was_refused fault false)
 
 -- the files are those of the connection's store, which was closed, or could not be: a crash leaves
 -- nothing that it could not leave before
@@ -58,7 +48,7 @@ pub record IsClosedAs {D : Type 0} {g : Ghosts D} (last : Held (FileStore D g)) 
 
 module _ {D : Type 0} (g : Ghosts D) (cap : ℕ) (out err : Growth)
     (bytes : List ℕ → Option (List ℕ)) (asked : Asked) (status : Status) (Unread : Type 0)
-    (start : Image) (files : Files D) where
+    (Noticed : Notice → Type 0) (start : Image) (files : Files D) where
   -- whatever became of the close: the store was opened, and the command was run over it. Where the
   -- disk gave back what was written, it holds what the files held, and they held rows that some
   -- submissions leave, or none
@@ -73,6 +63,7 @@ module _ {D : Type 0} (g : Ghosts D) (cap : ℕ) (out err : Growth)
     pub found : AreClean g files.log files.db → (h : Holdings) → FilesKeep cap start h →
         Holds over_files old h
     pub done : IsDone over_files old new out err bytes asked status
+    pub noticed : Noticed (was_opened out.before)
     pub let_go : IsClosedAs new.connection files
 
   -- or the store was refused, a line says so, and no file was opened. The fault has a cause; or it
@@ -83,6 +74,9 @@ module _ {D : Type 0} (g : Ghosts D) (cap : ℕ) (out err : Growth)
     pub why : HasCauseOrIsForeign fault
     pub said : Explains out err (store_refused_line fault) Trouble status
     pub unread : Unread
+    pub ours : Bool
+    pub noticed : Noticed (was_refused fault ours)
+    pub ours_is : AreClean g files.log files.db → (IsTrue ours ↔ AreOurs db.schema)
     pub read : AreClean g files.log files.db → AreReadAs start db
     pub foreign : fault ≡ Foreign → AreClean g files.log files.db → IsForeignFile cap db
     pub none : fault ≡ Foreign → AreClean g files.log files.db → (h : Holdings) →

@@ -9,9 +9,11 @@ ghost use Rattle.edfstore_arguments.specs.Arguments.{meaning};
 ghost use Rattle.edf_program.specs.Output.{growth};
 ghost use Rattle.edf_command.specs.Run.{files_of};
 ghost use Rattle.edf_command.specs.Taking.{HasOpened};
+ghost use Rattle.edf_session.specs.Watch.{IsNoticed};
 ghost use Rattle.edf_session.specs.Files.{KeepOne};
 ghost use Rattle.edf_session.specs.Steps.{IsStep};
-ghost use Rattle.edf_session.specs.Close.{LeadsIfNumbered, RanOrRefused, EndsOrRefuses, IsUnopened};
+ghost use Rattle.edf_session.specs.Close.{RanOrRefused, EndsOrRefuses, IsUnopened};
+ghost use Rattle.edf_session.specs.Unopened.{AreSettled, IsLeftIdle};
 ghost use Rattle.edf_session.specs.Across.{RunsAfterAll};
 
 use crate::session::{Session, run_and_close};
@@ -45,11 +47,13 @@ pub fn run_files<D: Disk + Drop, I: Inputs, O: Output, F: Output, W: Watch>(
     requires db { IsTrue (D.Disk.is_usable files.db) }
     ensures ran { IfOk result (λ s. RanOrRefused D.Disk cap (growth O.Output out.old out.new)
         (growth F.Output err.old err.new) (I.bytes inputs.old) (meaning command.now) s.status
-        (inputs.new ≡ inputs.old) (image_of D.Disk files) s.files) }
+        (inputs.new ≡ inputs.old) (IsNoticed (W.noticed watch.old) (W.noticed watch.new))
+        (image_of D.Disk files) s.files) }
     ensures ended { IfOk result (λ s. s.failure ≡ None → AreClean D.Disk s.files.log s.files.db →
         EndsOrRefuses D.Disk cap (growth O.Output out.old out.new)
         (growth F.Output err.old err.new) (I.bytes inputs.old) (meaning command.now) s.status
-        (inputs.new ≡ inputs.old) (image_of D.Disk files) s.files) }
+        (inputs.new ≡ inputs.old) (IsNoticed (W.noticed watch.old) (W.noticed watch.new))
+        (image_of D.Disk files) s.files) }
     ensures steps { IfOk result (λ s. s.failure ≡ None → AreClean D.Disk s.files.log s.files.db →
         (image : Image) → outcomes D.Disk s.files.log s.files.db image →
         IsStep cap (growth O.Output out.old out.new) (I.bytes inputs.old) (meaning command.now)
@@ -57,9 +61,7 @@ pub fn run_files<D: Disk + Drop, I: Inputs, O: Output, F: Output, W: Watch>(
     ensures across { IfOk result (λ s. AreClean D.Disk s.files.log s.files.db →
         RunsAfterAll D.Disk cap (growth O.Output out.old out.new)
         (growth F.Output err.old err.new) (I.bytes inputs.old) (meaning command.now) s.status
-        (inputs.new ≡ inputs.old) (image_of D.Disk files) s.files) }
-    ensures unclosed { IfOk result (λ s. LeadsIfNumbered D.Disk cap
-        (growth O.Output out.old out.new) (I.bytes inputs.old) (meaning command.now) s.status
+        (inputs.new ≡ inputs.old) (IsNoticed (W.noticed watch.old) (W.noticed watch.new))
         (image_of D.Disk files) s.files) }
     ensures one { IfOk result (λ s. AreClean D.Disk s.files.log s.files.db →
         KeepOne cap (image_of D.Disk files)) }
@@ -68,9 +70,13 @@ pub fn run_files<D: Disk + Drop, I: Inputs, O: Output, F: Output, W: Watch>(
     ensures opened { IfOk result (λ s. HasOpened
         (I.opened inputs.old) (I.opened inputs.new) (files_of (meaning command.now)) s.status) }
     ensures unopened { IfErr result (λ e. IsUnopened (growth O.Output out.old out.new)
-        (growth F.Output err.old err.new) e.0) }
+        (growth F.Output err.old err.new) e.0
+        (IsNoticed (W.noticed watch.old) (W.noticed watch.new))) }
     ensures unread { IfErr result (λ _. inputs.new ≡ inputs.old) }
     ensures left { IfErr result (λ e. IsCleanLeft e.1 → LeavesFiles files e.1) }
+    ensures idle { IfErr result (λ e. AreSettled D.Disk files → IsLeftIdle cap
+        (growth O.Output out.old out.new) (I.bytes inputs.old) (meaning command.now) e.0
+        (image_of D.Disk files) e.1) }
 {
     match Connection::open_files_with(alloc, files, options, true) {
         Ok(conn) => Ok(run_and_close::<D, I, O, F, W>(

@@ -9,8 +9,10 @@ ghost use Rattle.edfstore_arguments.specs.Arguments.{meaning};
 ghost use Rattle.edf_program.specs.Output.{growth};
 ghost use Rattle.edf_command.specs.Run.{files_of};
 ghost use Rattle.edf_command.specs.Taking.{HasOpened};
+ghost use Rattle.edf_session.specs.Watch.{IsNoticed};
 ghost use Rattle.edf_session.specs.Steps.{LeadsAs};
 ghost use Rattle.edf_session.specs.Close.{RanOrRefused, IsUnopened};
+ghost use Rattle.edf_session.specs.Unopened.{AreSettled, IsLeftIdle};
 ghost use Rattle.edf_session.specs.Inside.{Leaves};
 
 use crate::run::run_over;
@@ -40,7 +42,8 @@ fn run_and_leave<D: Disk + Drop, I: Inputs, O: Output, F: Output, W: Watch>(
     requires autocommit { (file_state conn).in_transaction ≡ false }
     ensures leaves { Leaves cap (growth O.Output out.old out.new)
         (growth F.Output err.old err.new) (I.bytes inputs.old) (meaning command.now) result.0
-        (inputs.new ≡ inputs.old) conn result.1 }
+        (inputs.new ≡ inputs.old) (IsNoticed (W.noticed watch.old) (W.noticed watch.new)) conn
+        result.1 }
     ensures opened { HasOpened
         (I.opened inputs.old) (I.opened inputs.new) (files_of (meaning command.now)) result.0 }
 {
@@ -75,7 +78,8 @@ pub fn leave_files<D: Disk + Drop, I: Inputs, O: Output, F: Output, W: Watch>(
     requires db { IsTrue (D.Disk.is_usable files.db) }
     ensures ran { IfOk result (λ s. RanOrRefused D.Disk cap (growth O.Output out.old out.new)
         (growth F.Output err.old err.new) (I.bytes inputs.old) (meaning command.now) s.0
-        (inputs.new ≡ inputs.old) (image_of D.Disk files) s.1) }
+        (inputs.new ≡ inputs.old) (IsNoticed (W.noticed watch.old) (W.noticed watch.new))
+        (image_of D.Disk files) s.1) }
     ensures leads { IfOk result (λ s. AreClean D.Disk s.1.log s.1.db →
         (image : Image) → outcomes D.Disk s.1.log s.1.db image →
         LeadsAs cap (growth O.Output out.old out.new) (I.bytes inputs.old) (meaning command.now)
@@ -83,9 +87,13 @@ pub fn leave_files<D: Disk + Drop, I: Inputs, O: Output, F: Output, W: Watch>(
     ensures opened { IfOk result (λ s. HasOpened
         (I.opened inputs.old) (I.opened inputs.new) (files_of (meaning command.now)) s.0) }
     ensures unopened { IfErr result (λ e. IsUnopened (growth O.Output out.old out.new)
-        (growth F.Output err.old err.new) e.0) }
+        (growth F.Output err.old err.new) e.0
+        (IsNoticed (W.noticed watch.old) (W.noticed watch.new))) }
     ensures unread { IfErr result (λ _. inputs.new ≡ inputs.old) }
     ensures left { IfErr result (λ e. IsCleanLeft e.1 → LeavesFiles files e.1) }
+    ensures idle { IfErr result (λ e. AreSettled D.Disk files → IsLeftIdle cap
+        (growth O.Output out.old out.new) (I.bytes inputs.old) (meaning command.now) e.0
+        (image_of D.Disk files) e.1) }
 {
     match Connection::open_files_with(alloc, files, options, true) {
         Ok(conn) => Ok(run_and_leave::<D, I, O, F, W>(

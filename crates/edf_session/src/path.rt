@@ -1,31 +1,35 @@
-//! One run over the files at a path.
+//! One run over the files of the store that a command names.
 
-ghost use Rattle.std.specs.Prelude.{◌≡◌, ◌≤◌, None, IfOk, IfErr};
+ghost use Rattle.std.specs.Prelude.{◌≡◌, ◌≤◌, None, IfOk, IfErr, IfSome, IsSome};
 ghost use Rattle.sqlite_wal.specs.Files.{outcomes, image_at};
 ghost use Rattle.sqlite_wal.specs.Reads.{AreClean};
 ghost use Rattle.sqlite_wal.specs.Recovery.{Image};
 ghost use Rattle.sqlite.specs.Files.{image_of};
 ghost use Rattle.edfstore_arguments.specs.Arguments.{meaning};
 ghost use Rattle.edf_program.specs.Output.{growth};
+ghost use Rattle.edf_command.specs.Command.{store_path};
 ghost use Rattle.edf_command.specs.Run.{files_of};
 ghost use Rattle.edf_command.specs.Taking.{HasOpened};
+ghost use Rattle.edf_session.specs.Watch.{IsNoticed};
 ghost use Rattle.edf_session.specs.Files.{KeepOne};
 ghost use Rattle.edf_session.specs.Steps.{IsStep};
-ghost use Rattle.edf_session.specs.Close.{LeadsIfNumbered, RanOrRefused, EndsOrRefuses, IsUnopened};
+ghost use Rattle.edf_session.specs.Close.{RanOrRefused, EndsOrRefuses, IsUnopened};
+ghost use Rattle.edf_session.specs.Unopened.{IsLeftIdle, IsNeverRead};
 ghost use Rattle.edf_session.specs.Across.{RunsAfterAll};
 
 use crate::session::{Session, run_and_close};
 use crate::watch::{Watch, refuse};
-use edf_command::{Inputs, Order, Status};
+use edf_command::{Inputs, Order, Status, store_path};
 use edf_fragment::Output;
 use edf_header::MOST_RECORDS;
 use edf_store::StoreFault;
-use sqlite::{Connection, FileFrom, Start};
+use sqlite::{Connection, FileFrom, Leftover, Start};
 use sqlite_disk::Disk;
 
-/// One run over the files at a path, which are made where there are none: they are opened, the
-/// command is run over their store, and they are closed. New files are asked for with page sums, of
-/// which no clause speaks.
+/// One run over the files of the store that the command names, which are made where there are none:
+/// they are opened, the command is run over their store, and they are closed. New files are asked
+/// for with page sums, of which no clause speaks. `convert`, and a command over a store in memory,
+/// have no files and are not run here (`stored`).
 ///
 /// `start` stands for what the files hold at the start, whatever that is. Where the disk gives
 /// back what was written:
@@ -43,10 +47,13 @@ use sqlite_disk::Disk;
 ///   what a crash may leave (`now`), so that the clauses above speak of it.
 ///
 /// # Errors
-/// The status, where the files were not opened; a line says why.
+/// The status, where the files were not opened: a line says why, and `watch` is told (`unopened`).
+/// With it comes what is left of them. It keeps what the files kept where they were only read, or
+/// held no database yet (`idle`), so that such a run is one of those that `across` speaks of. None
+/// is left where the files were not read at all: memory ran out, a file can't be opened, or another
+/// program has it (`unreached`).
 pub fn run_path<S: Start, I: Inputs, O: Output, F: Output, W: Watch>(
     rt: &HostRuntime,
-    path: &str,
     start: S,
     cap: u32,
     command: &Order,
@@ -54,17 +61,20 @@ pub fn run_path<S: Start, I: Inputs, O: Output, F: Output, W: Watch>(
     out: &mut O,
     err: &mut F,
     watch: &mut W,
-) -> Result<Session<FileFrom<S>>, Status>
+) -> Result<Session<FileFrom<S>>, (Status, Option<Leftover<FileFrom<S>>>)>
+    requires stored { IsSome (store_path (meaning command.now)) }
     requires cap_from { 1 ≤ cap }
     requires cap_to { cap ≤ MOST_RECORDS }
     ensures ran { IfOk result (λ s. RanOrRefused ⟦<FileFrom<S> as Disk>⟧ cap
         (growth O.Output out.old out.new) (growth F.Output err.old err.new) (I.bytes inputs.old)
-        (meaning command.now) s.status (inputs.new ≡ inputs.old) (image_at S.Start) s.files) }
+        (meaning command.now) s.status (inputs.new ≡ inputs.old)
+        (IsNoticed (W.noticed watch.old) (W.noticed watch.new)) (image_at S.Start) s.files) }
     ensures ended { IfOk result (λ s. s.failure ≡ None →
         AreClean ⟦<FileFrom<S> as Disk>⟧ s.files.log s.files.db →
         EndsOrRefuses ⟦<FileFrom<S> as Disk>⟧ cap (growth O.Output out.old out.new)
         (growth F.Output err.old err.new) (I.bytes inputs.old) (meaning command.now) s.status
-        (inputs.new ≡ inputs.old) (image_at S.Start) s.files) }
+        (inputs.new ≡ inputs.old) (IsNoticed (W.noticed watch.old) (W.noticed watch.new))
+        (image_at S.Start) s.files) }
     ensures steps { IfOk result (λ s. s.failure ≡ None →
         AreClean ⟦<FileFrom<S> as Disk>⟧ s.files.log s.files.db →
         (image : Image) → outcomes ⟦<FileFrom<S> as Disk>⟧ s.files.log s.files.db image →
@@ -74,9 +84,7 @@ pub fn run_path<S: Start, I: Inputs, O: Output, F: Output, W: Watch>(
         AreClean ⟦<FileFrom<S> as Disk>⟧ s.files.log s.files.db →
         RunsAfterAll ⟦<FileFrom<S> as Disk>⟧ cap (growth O.Output out.old out.new)
         (growth F.Output err.old err.new) (I.bytes inputs.old) (meaning command.now) s.status
-        (inputs.new ≡ inputs.old) (image_at S.Start) s.files) }
-    ensures unclosed { IfOk result (λ s. LeadsIfNumbered ⟦<FileFrom<S> as Disk>⟧ cap
-        (growth O.Output out.old out.new) (I.bytes inputs.old) (meaning command.now) s.status
+        (inputs.new ≡ inputs.old) (IsNoticed (W.noticed watch.old) (W.noticed watch.new))
         (image_at S.Start) s.files) }
     ensures one { IfOk result (λ s. AreClean ⟦<FileFrom<S> as Disk>⟧ s.files.log s.files.db →
         KeepOne cap (image_at S.Start)) }
@@ -84,11 +92,17 @@ pub fn run_path<S: Start, I: Inputs, O: Output, F: Output, W: Watch>(
         (image_of ⟦<FileFrom<S> as Disk>⟧ s.files)) }
     ensures opened { IfOk result (λ s. HasOpened
         (I.opened inputs.old) (I.opened inputs.new) (files_of (meaning command.now)) s.status) }
-    ensures unopened { IfErr result (IsUnopened (growth O.Output out.old out.new)
-        (growth F.Output err.old err.new)) }
+    ensures unopened { IfErr result (λ e. IsUnopened (growth O.Output out.old out.new)
+        (growth F.Output err.old err.new) e.0
+        (IsNoticed (W.noticed watch.old) (W.noticed watch.new))) }
     ensures unread { IfErr result (λ _. inputs.new ≡ inputs.old) }
+    ensures unreached { IfErr result (λ e. e.1 ≡ None → IsNeverRead
+        (IsNoticed (W.noticed watch.old) (W.noticed watch.new))) }
+    ensures idle { IfErr result (λ e. IfSome e.1 (IsLeftIdle cap
+        (growth O.Output out.old out.new) (I.bytes inputs.old) (meaning command.now) e.0
+        (image_at S.Start))) }
 {
-    match Connection::open_from(rt, path, true, start) {
+    match Connection::open_from(rt, store_path(command).unwrap(), true, start) {
         Ok(conn) => Ok(run_and_close::<FileFrom<S>, I, O, F, W>(
             rt.alloc(),
             conn,
@@ -99,6 +113,6 @@ pub fn run_path<S: Start, I: Inputs, O: Output, F: Output, W: Watch>(
             err,
             watch,
         )),
-        Err((error, _)) => Err(refuse(&StoreFault::from(error), false, err, watch)),
+        Err((error, left)) => Err((refuse(&StoreFault::from(error), false, err, watch), left)),
     }
 }

@@ -6,6 +6,7 @@ ghost use Rattle.edfstore_arguments.specs.Arguments.{meaning};
 ghost use Rattle.edf_program.specs.Output.{growth};
 ghost use Rattle.edf_command.specs.Run.{files_of};
 ghost use Rattle.edf_command.specs.Taking.{HasOpened};
+ghost use Rattle.edf_session.specs.Watch.{IsNoticed};
 ghost use Rattle.edf_session.specs.Inside.{Runs, Refuses};
 
 use crate::watch::{Watch, refuse};
@@ -37,10 +38,11 @@ pub(crate) fn run_over<S: Alter + Drop, I: Inputs, O: Output, F: Output, W: Watc
     requires cap_to { cap ≤ MOST_RECORDS }
     requires autocommit { (state S.Store conn).in_transaction ≡ false }
     ensures done { IfOk result (λ r. Runs S.Store conn r.1 cap (growth O.Output out.old out.new)
-        (growth F.Output err.old err.new) (I.bytes inputs.old) (meaning command.now) r.0) }
+        (growth F.Output err.old err.new) (I.bytes inputs.old) (meaning command.now) r.0
+        (IsNoticed (W.noticed watch.old) (W.noticed watch.new))) }
     ensures refused { IfErr result (λ r. Refuses S.Store conn r.1 cap
         (growth O.Output out.old out.new) (growth F.Output err.old err.new) r.0
-        (inputs.new ≡ inputs.old)) }
+        (inputs.new ≡ inputs.old) (IsNoticed (W.noticed watch.old) (W.noticed watch.new))) }
     ensures opened { IfOk result (λ r. HasOpened
         (I.opened inputs.old) (I.opened inputs.new) (files_of (meaning command.now)) r.0) }
     ensures unopened { IfErr result (λ r. HasOpened
@@ -49,7 +51,7 @@ pub(crate) fn run_over<S: Alter + Drop, I: Inputs, O: Output, F: Output, W: Watc
     let has_our_tables = is_ours(conn.schema());
     match Store::open_or_return(alloc, conn, cap) {
         Ok(mut store) => {
-            watch.opened();
+            watch.opened(out);
             let status = run(alloc, command, &mut store, inputs, out, err);
             let back = store.into_connection();
             obey(&back);

@@ -8,6 +8,7 @@ ghost use Rattle.edfstore_arguments.specs.Arguments.{meaning};
 ghost use Rattle.edf_program.specs.Output.{growth};
 ghost use Rattle.edf_command.specs.Run.{files_of};
 ghost use Rattle.edf_command.specs.Taking.{HasOpened};
+ghost use Rattle.edf_session.specs.Watch.{IsNoticed};
 ghost use Rattle.edf_session.specs.Close.{IsClosedAs};
 ghost use Rattle.edf_session.specs.Inside.{LeavesEach, ClosesOrLetsGo};
 
@@ -25,8 +26,8 @@ use std::alloc::Global;
 pub struct Session<D: Disk> {
     pub status: Status,
     /// Why what is held could not be copied into the database file as the run ended, if it could
-    /// not. A crash then leaves nothing that one before the close could not leave. Nothing is copied
-    /// where the store was refused.
+    /// not. A crash then leaves nothing that one before the close could not leave. Nothing is
+    /// copied where the store was refused.
     pub failure: Option<Error>,
     pub files: Files<D>,
 }
@@ -69,7 +70,8 @@ pub(crate) fn run_and_close<D: Disk + Drop, I: Inputs, O: Output, F: Output, W: 
     requires autocommit { (file_state conn).in_transaction ≡ false }
     ensures closes { ClosesOrLetsGo cap (growth O.Output out.old out.new)
         (growth F.Output err.old err.new) (I.bytes inputs.old) (meaning command.now) result.status
-        (inputs.new ≡ inputs.old) conn result.failure result.files }
+        (inputs.new ≡ inputs.old) (IsNoticed (W.noticed watch.old) (W.noticed watch.new)) conn
+        result.failure result.files }
     ensures opened { HasOpened
         (I.opened inputs.old) (I.opened inputs.new) (files_of (meaning command.now)) result.status }
 {

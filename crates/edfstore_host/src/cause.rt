@@ -1,6 +1,9 @@
 //! How a store was opened, or why it was refused, in plain words for a person.
 
+ghost use Rattle.std.specs.Prelude.{None};
+
 use crate::disk::Refused;
+use edf_fragment::Output;
 use edf_session::Watch;
 use edf_store::StoreFault;
 use edf_system::{FULL, Terminal, tell_system_error};
@@ -97,7 +100,9 @@ pub(crate) struct Teller<'t> {
 }
 
 impl Watch for Teller<'_> {
-    fn opened(&mut self) {
+    ghost noticed = { λ _. None };
+
+    fn opened<O: Output>(&mut self, _out: &O) {
         if self.is_new {
             self.terminal
                 .say(self.path, "no such file; made a new, empty store");

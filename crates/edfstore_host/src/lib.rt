@@ -8,6 +8,10 @@
 //!   [`Refused`], [`tell_cause`]: why it was not opened.
 #![tactic(auto)]
 
+ghost use Rattle.std.specs.Prelude.{◌≡◌, Some};
+ghost use Rattle.edfstore_arguments.specs.Arguments.{meaning};
+ghost use Rattle.edf_command.specs.Command.{store_path};
+
 mod cause;
 mod disk;
 
@@ -103,7 +107,9 @@ fn run_on_file(
     command: &Order,
     inputs: &mut Files<'_>,
     streams: &mut Streams<'_>,
-) -> Status {
+) -> Status
+    requires named { store_path (meaning command.now) ≡ Some path.now }
+{
     let is_new = is_missing(rt, path) && !is_address(path);
     if is_new && !makes_store(command) {
         terminal.say(path, "no such file");
@@ -118,7 +124,6 @@ fn run_on_file(
     };
     match run_path(
         rt,
-        path,
         Unknown,
         MOST_RECORDS,
         command,
@@ -133,7 +138,7 @@ fn run_on_file(
             }
             session.status
         }
-        Err(status) => status,
+        Err((status, _)) => status,
     }
 }
 

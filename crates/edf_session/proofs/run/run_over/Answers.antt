@@ -1,4 +1,6 @@
-use Rattle.std.proofs.Common.{refl, arith}
+use Rattle.std.proofs.Common.{◌↔◌, IsTrue, refl, subst, arith}
+use Rattle.sqlite.specs.Schema.{Schema}
+use Rattle.edf_tables.specs.Schema.{AreOurs}
 use Rattle.sqlite.specs.State.{HasCleanDisk}
 use Rattle.edf_store.specs.Held.{at}
 use Rattle.edfstore_arguments.specs.Arguments.{meaning}
@@ -19,7 +21,8 @@ returns-in-Ok-clause-done g c =
     ran g.S.Store bytes out err c.args.conn c.into_connection-back.result c.args.cap
     c.in-Ok.store c.run-status.new.store asked c.run-status.result c.in-Ok.ensures.opened
     c.in-Ok.ensures.cap
-    c.into_connection-back.ensures c.run-status.ensures.done c.run-status.ensures.cap
+    c.into_connection-back.ensures c.run-status.ensures.done _ c.opened.ensures
+    c.run-status.ensures.cap
     (λ (clean : HasCleanDisk (at g.S.Store c.run-status.new.store)). let was : HasCleanDisk
     (at g.S.Store c.in-Ok.store) = omega (arith, left.clean, clean) in was)
     c.in-Ok.ensures.live c.obey.ensures
@@ -30,12 +33,16 @@ returns-in-Err-clause-refused g c = record {
   back = c.in-Err.ensures.given_back;
   said = (
     nothing-gets (g.O.Output.contents c.args.out.now) (g.O.Output.failures c.args.out.now),
-    c.refuse.ensures,
+    c.refuse.ensures.said,
   );
   unread = refl;
+  ours = c.is_ours-has_our_tables.result;
+  noticed = c.refuse.ensures.noticed;
+  ours_is = subst (λ (s : Schema). IsTrue c.is_ours-has_our_tables.result ↔ AreOurs s)
+      c.schema.ensures.value c.is_ours-has_our_tables.ensures;
   live = c.obey-in-Err.ensures;
 }
 
 pub returns-in-Err-clause-unopened : goal.returns-in-Err-clause-unopened
 returns-in-Err-clause-unopened g c = none_opened (g.I.Inputs.opened c.args.inputs.now) _
-    c.refuse.result (is_trouble _ _ c.refuse.result c.refuse.ensures)
+    c.refuse.result (is_trouble _ _ c.refuse.result c.refuse.ensures.said)
