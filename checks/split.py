@@ -276,7 +276,7 @@ def trouble(programs: Programs) -> None:
                out="".join(f"a.edf {line}\n" for line in 2 * listed),
                err=printed.line("none.edf", printed.UNREAD), status=3)
     for names in ("a.edf", "a.edf none.edf"):       # the second is not read
-        checks.shell(f"edfruns list {names} > /dev/full", status=3)
+        checks.shell(f"edfruns list {names} > /dev/full", err=printed.UNWRITTEN_OUTPUT, status=3)
     for words in ("write a.edf 1", "canonical a.edf", "split a.edf part"):
         checks.shell(f"edfruns {words} > /dev/full", err=printed.UNWRITTEN_OUTPUT, status=3)
     checks.shell("edfruns split a.edf none/part",

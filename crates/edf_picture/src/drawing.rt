@@ -9,6 +9,7 @@ use crate::joining::Joined;
 use crate::kinds::Kinds;
 use crate::legend::{Legend, Shown};
 use crate::lights::Lights;
+use crate::metadata::with_metadata;
 use crate::overview::Overview;
 use crate::pixels::{LEFT, Pixels};
 use crate::recording::Recording;
@@ -78,7 +79,8 @@ impl Sketch {
         self.events.add(from)
     }
 
-    /// The picture, as one SVG.
+    /// The picture, as one SVG, which has these lines of text as its metadata. Of the lines, bytes
+    /// that are neither printable ASCII nor the end of a line are left out.
     ///
     /// # Errors
     /// Where memory runs out.
@@ -87,8 +89,9 @@ impl Sketch {
         alloc: Global,
         title: &Title<'_>,
         recorded: &Recorded<'_>,
+        lines: &[u8],
     ) -> Result<String, AllocError>
-        ensures { IfOk result (λ picture. IsPicture (string_bytes picture)) }
+        ensures { IfOk result (λ picture. IsPicture lines.now (string_bytes picture)) }
     {
         let duration = recorded.duration;
         let joined = Joined::of(alloc, recorded.stretches, duration, recorded.tolerance)?;
@@ -111,8 +114,7 @@ impl Sketch {
         write!(svg, "<g transform='translate(0 {top})'>\n")?;
         svg.push_str(drawn.svg.as_str())?;
         svg.push_str("</g>\n")?;
-        svg.push_str("</svg>\n")?;
-        Ok(svg)
+        with_metadata(alloc, svg.as_str(), lines)
     }
 
     fn counts(&self, recording: &Recording<'_>) -> Counts {

@@ -92,11 +92,11 @@ impl Heading {
         lines.saturating_mul(20).saturating_add(100)
     }
 
-    /// Writes what stands before anything that is drawn.
+    /// Writes what stands before anything that is drawn, from the attributes of the SVG on.
     pub(crate) fn write_start(&self, svg: &mut String, height: u64) -> Result<(), AllocError> {
         let (name, time) = (self.name.as_str(), self.time.as_str());
         let (summary, annotations) = (self.summary.as_str(), self.annotations.as_str());
-        svg.push_str("<svg xmlns='http://www.w3.org/2000/svg' role='img' ")?;
+        svg.push_str("xmlns='http://www.w3.org/2000/svg' role='img' ")?;
         svg.push_str("aria-labelledby='edf-title edf-desc' ")?;
         write!(
             svg,

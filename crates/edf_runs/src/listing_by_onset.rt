@@ -7,7 +7,8 @@ ghost use Rattle.edf_fragment.specs.Reading.{CountsAnswer, at_first};
 ghost use Rattle.edf_fragment.specs.Whole.{FailsAfterRecords};
 ghost use Rattle.edf_fragment.specs.Inside.Steps.{ReadsRecords};
 ghost use Rattle.edf_runs.specs.ByOnset.{by_onset};
-ghost use Rattle.edf_runs.specs.OnsetRead.{ReadsByOnset, IsOnsetFault, CountsOnset, without_samples};
+ghost use Rattle.edf_runs.specs.OnsetRead.{ReadsByOnset, IsOnsetFault, CountsOnset};
+ghost use Rattle.edf_runs.specs.OnsetRead.{without_samples};
 ghost use Rattle.edf_runs.specs.Inside.Spaced.{Spaced};
 ghost use Rattle.edf_runs.specs.Inside.Keeping.{AreKeptWithin, IsKeptFault, IsGathered};
 
@@ -49,7 +50,8 @@ fn gather_one(
     data_record: &Record,
 ) -> Result<(), AllocError>
     ensures { OnOk result ((records : List DataRecord) →
-        IsGathered records gathered.old → IsGathered (records ++ data_record.now ∷ []) gathered.new) }
+        IsGathered records gathered.old →
+        IsGathered (records ++ data_record.now ∷ []) gathered.new) }
 {
     let notes = Vec::new(alloc);
     gathered.slots.push(Slot {

@@ -330,8 +330,8 @@ pub fn write_run<R: Input, W: Output>(
 
 /// Reads the data records of a run again, which come next in its file, and writes the run's file
 /// with the annotations that they have by their onsets: its EDF+C file, as [`write_counted`] does.
-/// The annotations are those of the first reading. What the second reading has of annotations doesn't
-/// matter, and a change of them is not told.
+/// The annotations are those of the first reading. What the second reading has of annotations
+/// doesn't matter, and a change of them is not told.
 ///
 /// One data record is in memory at a time beside those annotations and a buffer of 64 KiB. The
 /// writer is not flushed.

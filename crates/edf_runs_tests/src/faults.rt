@@ -221,10 +221,14 @@ fn list_with_room(alloc: Global, room: usize) -> Option<String> {
 #[test]
 fn a_list_ends_at_the_line_that_cannot_be_written(rt: HostRuntime) {
     for (room, expected) in [
-        (5usize, "one.estatus 3\n"),
+        (
+            5usize,
+            "one.eerr: standard output refused E43 Write\nstatus 3\n",
+        ),
         (
             60,
-            "one.edf 1 records=2 first=2002-03-02T23:59:50 seconds=2\ntentstatus 3\n",
+            "one.edf 1 records=2 first=2002-03-02T23:59:50 seconds=2\ntent\
+            err: standard output refused E43 Write\nstatus 3\n",
         ),
         (
             200,

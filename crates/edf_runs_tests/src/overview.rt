@@ -173,7 +173,7 @@ fn viewed(
         signals,
         tolerance,
     };
-    Sketch::new(alloc).draw(alloc, &title, &recorded)
+    Sketch::new(alloc).draw(alloc, &title, &recorded, &[])
 }
 
 /// A tolerance, and what the heading says of two gaps, of half a second and of ten seconds.

@@ -40,7 +40,7 @@ pub(crate) fn drawn(
         signals: &[],
         tolerance: 0,
     };
-    sketch.draw(alloc, &title, &recorded)
+    sketch.draw(alloc, &title, &recorded, b"1 & <2>\n")
 }
 
 #[test]
@@ -67,6 +67,7 @@ fn a_night_is_drawn(rt: HostRuntime) -> Result<(), Fail> {
         "<title>14,400 records, 1985-01-01 22:00:00 to 1985-01-02 02:00:00</title>",
         ">45 s</text>",
         ">N1</text>",
+        "<metadata>1 &amp; &lt;2&gt;\n</metadata>\n</svg>\n",
     ] {
         assert!(rt; svg.contains(part), "{part}");
     }

@@ -24,6 +24,7 @@ use Rattle.edf_command.specs.Taking.{IsTaken}
 use Rattle.edf_command.specs.Run.{IsDone, IsConverted}
 use Rattle.edf_program.specs.Output.{Growth, Gets}
 use Rattle.edf_program.specs.declared.status.Status.{Status}
+use Rattle.edf_session.specs.Watch.{Notice}
 use Rattle.edf_session.specs.Files.{FilesKeep}
 use Rattle.edf_session.specs.Front.{Prints, PrintsNone}
 use Rattle.edf_session.specs.Steps.{IsStep, KeepsAll}

@@ -3,15 +3,19 @@ use Rattle.std.proofs.Common.{◌≡◌, ℕ, zero, suc, ◌+◌, ◌-◌, ◌�
 use Rattle.std.proofs.Common.{drop, map, refl, sym, ap, ◌∙◌, subst, arith, length-append}
 use Rattle.std.proofs.Common.{◌⊎◌, inl, inr, Option}
 use Rattle.std.proofs.lemmas.List.{length-map, take_all}
+use Rattle.edf_header.specs.Key.{Key}
 use Rattle.edf_program.specs.Output.{Growth, Gets, GetsFront}
 use Rattle.edf_program.specs.declared.status.Status.{Status}
+use Rattle.edf_runs.specs.KeptByOnset.{annotated_runs}
+use Rattle.edf_runs.specs.declared.onset_run.OnsetRun.{OnsetRun}
 use Rattle.edf_runs.specs.declared.onset_listing.OnsetListing.{OnsetListing}
 use Rattle.edfruns_command.specs.Lines.{IsSpelling, reread_line, unwritten_line}
 use Rattle.edfruns_command.specs.Lines.{standard_output}
 use Rattle.edfruns_command.specs.Made.{MadeFile, RemovesMade, names_of}
-use Rattle.edfruns_command.specs.Splitting.{Making, LacksOutput, LacksReading, lines_of}
+use Rattle.edfruns_command.proofs.Finished.{first-all, finished-still, same-names}
+use Rattle.edfruns_command.specs.Splitting.{Making, WereFirst, LacksOutput, LacksReading, lines_of}
 use Rattle.edfruns_command.specs.InsideMaking.{HasMade, RereadsAll, StopsMaking}
-use Rattle.edfruns_command.specs.InsideSplit.{RemovesFrom, CutsLines, stop_line}
+use Rattle.edfruns_command.specs.InsideSplit.{as_begun, RemovesFrom, CutsLines, stop_line}
 use Rattle.edfruns_command.specs.declared.stop.Stop.{Stop}
 use Rattle.edfruns_command.specs.declared.stop.Stop.TheVariants as stop
 
@@ -29,7 +33,8 @@ take-again (suc n) [] = refl
 take-again (suc n) (x ∷ xs) = ap (λ (l : List _). x ∷ l) (take-again n xs)
 
 module _ (m : Making) (first : ℕ) (is : first ≡ length m.before) (names : List (List ℕ))
-    (count : ℕ) (has : HasMade m (take count names)) where
+    (count : ℕ) (k : Key) (runs : List OnsetRun) (whole : ℕ)
+    (has : HasMade m (take count names) k runs whole) where
   all : length m.after ≡ length m.before + length has.files
   all = ap (λ (fs : List MadeFile). length fs) has.made ∙ length-append m.before has.files
 
@@ -59,16 +64,29 @@ module _ (m : Making) (first : ℕ) (is : first ≡ length m.before) (names : Li
       ap (λ (fs : List MadeFile). names_of fs) dropped ∙ has.named
       ∙ sym (take-again count names) ∙ ap (λ n. take n names) (sym count_is)
 
+  same : (files : List MadeFile) → map as_begun files ≡ map as_begun (drop first m.after) →
+      map as_begun files ≡ map as_begun has.files
+  same files is = is ∙ ap (map as_begun) dropped
+
   pub removes : (after : List MadeFile) (err : Growth) (text : List ℕ) (status : Status) →
       RemovesFrom first m.after after err text status →
-      RemovesMade m.before after err names count text status
-  removes after err text status from = record {
-    files = from.files;
-    made = from.made ∙ ap (λ (fs : List MadeFile). fs ++ from.files) taken;
-    named = from.named ∙ ap (λ (fs : List MadeFile). names_of fs) dropped ∙ has.named;
-    over = from.over;
-    said = from.said;
-  }
+      (removed : RemovesMade m.before after err names count text status)
+      × WereFirst m.known k runs whole removed.files
+  removes after err text status from = (
+    record {
+      files = from.files;
+      made = from.made ∙ ap (λ (fs : List MadeFile). fs ++ from.files) taken;
+      named = same-names has.files from.files (same from.files from.same) ∙ has.named;
+      over = from.over;
+      said = from.said;
+    },
+    record {
+      runs = has.first.runs;
+      are_listed = has.first.are_listed;
+      finished = finished-still m.known k (annotated_runs has.first.runs (take whole runs))
+          has.files from.files (same from.files from.same) has.first.finished;
+    },
+  )
 
 -- ---- what was made, by why it was not all
 
@@ -85,16 +103,22 @@ ended m after failed = record {
 
 module _ (m : Making) (bytes : Option (List ℕ)) (plan : OnsetListing) (names : List (List ℕ)) where
   pub made-of : (why : Stop) → StopsMaking m bytes plan names why →
-      (count : ℕ) × HasMade m (take count names)
-  made-of (stop.Reading why) half = (half.count, half.made)
-  made-of (stop.Output output) lacks = (lacks.3.count, lacks.3.made)
+      (count : ℕ) × (k : Key) × (whole : ℕ)
+      × HasMade m (take count names) k plan.runs.items whole
+  made-of (stop.Reading why) half = (half.count, plan.identity, half.finished, half.made)
+  made-of (stop.Output output) (l, start, again, lacks) =
+      (lacks.count, l.key, lacks.comes.nth, lacks.made)
 
-  pub made-all : RereadsAll m bytes plan names → length names ≡ length plan.runs.items →
-      HasMade m (take (length plan.runs.items) names)
+  pub made-all : (all : RereadsAll m bytes plan names) → length names ≡ length plan.runs.items →
+      HasMade m (take (length plan.runs.items) names) all.again.layout.key plan.runs.items
+      (length plan.runs.items)
   made-all all fit = record {
     files = all.files;
     made = all.made;
     named = all.named ∙ sym (take_all (length plan.runs.items) names (omega (arith, fit)));
+    first = first-all m.known all.again.layout.key plan.runs.items (length plan.runs.items)
+        (take_all (length plan.runs.items) plan.runs.items (omega arith)) all.again.parts all.files
+        all.again.listed all.held;
   }
 
   module _ (first : ℕ) (is : first ≡ length m.before) (after : List MadeFile) (failed : ℕ)
@@ -103,28 +127,35 @@ module _ (m : Making) (bytes : Option (List ℕ)) (plan : OnsetListing) (names :
         RemovesFrom first m.after after err (stop_line name why) status →
         LacksOutput (ended m after failed) bytes plan names out err status
         ⊎ LacksReading (ended m after failed) bytes plan names out err name status
-    stopped (stop.Reading why) half none from = inr (record {
-      why = why;
-      is_why = half.is_why;
-      count = half.count;
-      stops = half.stops;
-      unfailed = same ∙ half.unfailed;
-      unsaid = none;
-      removes = removes m first is names half.count half.made after err (reread_line name why)
-          status from;
-    })
-    stopped (stop.Output output) (l, start, again, lacks) none from = inl (record {
-      layout = l;
-      start = start;
-      again = again;
-      count = lacks.count;
-      output = output.now;
-      comes = lacks.comes;
-      failed = same ∙ lacks.failed;
-      unsaid = none;
-      removes = removes m first is names lacks.count lacks.made after err
-          (unwritten_line output.now) status from;
-    })
+    stopped (stop.Reading why) half none from =
+        let gone = removes m first is names half.count plan.identity plan.runs.items half.finished
+        half.made after err (reread_line name why) status from in
+        inr (record {
+          why = why;
+          is_why = half.is_why;
+          count = half.count;
+          stops = half.stops;
+          unfailed = same ∙ half.unfailed;
+          unsaid = none;
+          removes = gone.0;
+          finished = half.finished;
+          made = gone.1;
+        })
+    stopped (stop.Output output) (l, start, again, lacks) none from =
+        let gone = removes m first is names lacks.count l.key plan.runs.items lacks.comes.nth
+        lacks.made after err (unwritten_line output.now) status from in
+        inl (record {
+          layout = l;
+          start = start;
+          again = again;
+          count = lacks.count;
+          output = output.now;
+          comes = lacks.comes;
+          failed = same ∙ lacks.failed;
+          unsaid = none;
+          removes = gone.0;
+          made = gone.1;
+        })
 
     pub untold : (all : RereadsAll m bytes plan names) →
         ((spell : ℕ → List ℕ) → IsSpelling spell →
@@ -132,10 +163,14 @@ module _ (m : Making) (bytes : Option (List ℕ)) (plan : OnsetListing) (names :
         length names ≡ length plan.runs.items →
         RemovesFrom first m.after after err (unwritten_line standard_output) status →
         CutsLines (ended m after failed) out err bytes plan names status
-    untold all said fit from = record {
-      again = all.again;
-      said = said;
-      unfailed = same ∙ all.unfailed;
-      removes = removes m first is names (length plan.runs.items) (made-all all fit) after err
-          (unwritten_line standard_output) status from;
-    }
+    untold all said fit from =
+        let n = length plan.runs.items in
+        let gone = removes m first is names n all.again.layout.key plan.runs.items n
+        (made-all all fit) after err (unwritten_line standard_output) status from in
+        record {
+          again = all.again;
+          said = said;
+          unfailed = same ∙ all.unfailed;
+          removes = gone.0;
+          made = gone.1;
+        }

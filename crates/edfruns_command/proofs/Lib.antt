@@ -14,3 +14,4 @@ mod Removals
 mod GivingUp
 mod Splits
 mod MadeLists
+mod Finished

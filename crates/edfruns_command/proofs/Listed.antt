@@ -1,15 +1,16 @@
 -- One file more is listed, or its lines are cut.
-use Rattle.std.proofs.Common.{◌≡◌, ◌⊎◌, ℕ, List, [], ◌∷◌, ◌++◌, Bool, inl, inr, refl, sym, ap}
+use Rattle.std.proofs.Common.{◌≡◌, ◌≢◌, ◌⊎◌, ℕ, List, [], ◌∷◌, ◌++◌, Bool, inl, inr, refl, sym, ap}
 use Rattle.std.proofs.Common.{◌∙◌, subst, arith, replicate, zero, suc, append-nil, append_assoc}
 use Rattle.std.proofs.Common.{◌+◌, ◌<◌, ◌≤◌, length, take, drop, get_or, map, max}
 use Rattle.std.proofs.Common.{take-append-drop}
 use Rattle.std.proofs.lemmas.List.{map-append, take_more, drop_more}
-use Rattle.std.specs.Prelude.{Option, Some, None, MatchOption}
-use Rattle.edf_program.specs.Output.{Growth, Gets, GetsFront}
+use Rattle.std.specs.Prelude.{Option, Result, Ok, Err, MatchResult}
+use Rattle.edf_program.specs.Output.{Growth, Gets, GetsFront, IsWritten}
 use Rattle.edf_program.specs.Status.{exit_code}
 use Rattle.edf_program.specs.declared.status.Status.{Status}
 use Rattle.edf_program.specs.declared.status.Status.TheVariants.{Done, Refused, Usage, Trouble}
 use Rattle.edfruns_command.specs.Inside.{OpensUpTo}
+use Rattle.edfruns_command.specs.Lines.{standard_output, unwritten_line}
 use Rattle.edfruns_command.specs.Listed.{AreListed, IsFileListed, CutsLines, TellsRuns}
 use Rattle.edfruns_command.specs.Listed.{Held, between, file_label, worse, OpensSome, OpensEach}
 
@@ -77,22 +78,23 @@ both_done a b is =
 
 -- they were sent, or a front of them
 pub sent : (out err : Growth) (bytes : Option (List ℕ)) (label : List ℕ) (most : Option ℕ)
-    (name text : List ℕ) (result : Option Status) →
-    TellsRuns bytes label most (λ lines. text ≡ lines) → Gets err [] →
-    MatchOption result (GetsFront out text) (λ status. Gets out text × (status ≡ Done)) →
-    MatchOption result (CutsLines out err bytes label most)
-    (IsFileListed out err bytes label most name)
-sent out err bytes label most name text None tells silent front = (
+    (name text : List ℕ) (result : Result Status Status) →
+    TellsRuns bytes label most (λ lines. text ≡ lines) →
+    MatchResult result (λ status. Gets out text × Gets err [] × (status ≡ Done))
+    (λ status. GetsFront out text × IsWritten err (unwritten_line standard_output) Trouble status) →
+    MatchResult result (IsFileListed out err bytes label most name)
+    (CutsLines out err bytes label most)
+sent out err bytes label most name text (Err status) tells cut = (
   record {
     listing = tells.listing;
     has = tells.has;
     groups = tells.groups;
     seen = tells.seen;
-    told = λ spell is. subst (GetsFront out) (tells.told spell is) front;
+    told = λ spell is. subst (GetsFront out) (tells.told spell is) cut.0;
   },
-  silent,
+  cut.1,
 )
-sent out err bytes label most name text (Some status) tells silent got = inl (
+sent out err bytes label most name text (Ok status) tells got = inl (
   record {
     listing = tells.listing;
     has = tells.has;
@@ -100,8 +102,8 @@ sent out err bytes label most name text (Some status) tells silent got = inl (
     seen = tells.seen;
     told = λ spell is. subst (Gets out) (tells.told spell is) got.0;
   },
-  silent,
   got.1,
+  got.2,
 )
 
 -- ---- the files
@@ -187,11 +189,11 @@ module _ (before mid after names : List (List ℕ)) (name : List ℕ) (status : 
   }
 
   pub each_cut : (later all : List (List ℕ)) → all ≡ names ++ (name ∷ later) →
-      OpensEach before after all Trouble
-  each_cut later all is = record {
+      (cut : Status) → cut ≢ Done → OpensEach before after all cut
+  each_cut later all is cut undone = record {
     some = subst (OpensSome before after) (append_assoc names (name ∷ []) later ∙ sym is)
         (opens_no_more before after (names ++ (name ∷ [])) later opens_more);
-    all = λ done. absurd (let e : ◌≡◌ {A = Status} Trouble Done = done in cc);
+    all = λ done. absurd (undone done);
   }
 
 -- ---- one name more

@@ -40,6 +40,7 @@ use Rattle.std.specs.Io.KnownBytes.{Appends}
 use Rattle.edfruns_command.specs.Made.{failed_with}
 use Rattle.edfruns_command.proofs.Rereading.{both, one-more, reads-then}
 use Rattle.edfruns_command.proofs.CountedLines.{counted-text, lines-more}
+use Rattle.edfruns_command.proofs.Finished.{all-finished, half-more}
 use Rattle.edfruns_command.proofs.Walking.{mapped}
 
 -- from the state before one to the state after another
@@ -121,19 +122,32 @@ module _ (a b : Making) (known : b.known ≡ a.known) (before : b.before ≡ a.a
       made ∙ ap (λ (fs : List MadeFile). fs ++ (file ∷ [])) (before ∙ so_far.made)
       ∙ append_assoc a.before so_far.files (file ∷ [])
 
-  has-more : (file : MadeFile) → b.after ≡ b.before ++ (file ∷ []) → file.name ≡ name →
-      HasMade (then a b) (take (i + 1) names)
-  has-more file made its = record {
-    files = so_far.files ++ (file ∷ []);
-    made = more-made file made;
-    named = names-more so_far.files file names i name named is_name its so_far.named;
+  -- one file more was begun
+  has-more : b.after ≡ b.before ++ (begun name ∷ []) →
+      HasMade (then a b) (take (i + 1) names) l.key runs i
+  has-more made = record {
+    files = so_far.files ++ (begun name ∷ []);
+    made = more-made (begun name) made;
+    named = names-more so_far.files (begun name) names i name named is_name refl so_far.named;
+    first = record {
+      runs = so_far.parts;
+      are_listed = so_far.listed;
+      finished = half-more a.known l.key (annotated_runs so_far.parts (take i runs)) so_far.files
+          (begun name) so_far.held (refl, refl);
+    };
   }
 
-  has-same : b.after ≡ b.before → HasMade (then a b) (take i names)
+  has-same : b.after ≡ b.before → HasMade (then a b) (take i names) l.key runs i
   has-same made = record {
     files = so_far.files;
     made = made ∙ before ∙ so_far.made;
     named = so_far.named;
+    first = record {
+      runs = so_far.parts;
+      are_listed = so_far.listed;
+      finished = all-finished a.known l.key (annotated_runs so_far.parts (take i runs))
+          so_far.files so_far.held;
+    };
   }
 
   at-run : IsAtRun l mid left middle runs i run
@@ -227,34 +241,47 @@ module _ (a b : Making) (known : b.known ≡ a.known) (before : b.before ≡ a.a
   -- there was no memory for its line
   pub stops-telling : (written : Written) → MakesFile b name l mid to middle rest run written →
       HalfMakesEach (then a b) names l left rest runs fault.Memory
-  stops-telling written one = record {
-    is_why = tt;
-    nth = i;
-    stops = record {
-      run = run;
-      from = mid;
-      left = middle;
-      at_run = at-run;
-      to = to;
-      blank = None;
-      half = None;
-      unwritten = record {
-        records = one.records;
-        mid = to;
-        middle = rest;
-        read = one.read;
-        starts = starts-annotated (duration_of l.key.duration) run.run.first (kept_of run)
-            one.records one.listed.starts;
-        within = omega (arith, one.listed.count, annotated-length (kept_of run) one.records);
-        holds = one.listed.holds;
-        front = inl tt;
-        more = inl (refl, refl);
-      };
-      unchanged = λ next. memory-unchanged;
-    };
-    made = has-more one.file one.made one.named;
-    unfailed = one.unfailed ∙ failed ∙ so_far.unfailed;
-  }
+  stops-telling written one =
+      let more = makes-more written one in
+      record {
+        is_why = tt;
+        nth = i;
+        stops = record {
+          run = run;
+          from = mid;
+          left = middle;
+          at_run = at-run;
+          to = to;
+          blank = None;
+          half = None;
+          unwritten = record {
+            records = one.records;
+            mid = to;
+            middle = rest;
+            read = one.read;
+            starts = starts-annotated (duration_of l.key.duration) run.run.first (kept_of run)
+                one.records one.listed.starts;
+            within = omega (arith, one.listed.count, annotated-length (kept_of run) one.records);
+            holds = one.listed.holds;
+            front = inl tt;
+            more = inl (refl, refl);
+          };
+          unchanged = λ next. memory-unchanged;
+        };
+        finished = i + 1;
+        made = record {
+          files = more.files;
+          made = more.made;
+          named = more.named;
+          first = record {
+            runs = more.parts;
+            are_listed = more.listed;
+            finished = all-finished a.known l.key (annotated_runs more.parts (take (i + 1) runs))
+                more.files more.held;
+          };
+        };
+        unfailed = one.unfailed ∙ failed ∙ so_far.unfailed;
+      }
 
   -- the run was not read to its end
   pub stops-reading : (why : WriteFault) → HalfMakes b name l mid to middle rest run why →
@@ -273,7 +300,8 @@ module _ (a b : Making) (known : b.known ≡ a.known) (before : b.before ≡ a.a
       unwritten = half.unwritten;
       unchanged = half.unchanged;
     };
-    made = has-more (begun name) half.made refl;
+    finished = i;
+    made = has-more half.made;
     unfailed = half.unfailed ∙ failed ∙ so_far.unfailed;
   }
 
@@ -292,6 +320,7 @@ module _ (a b : Making) (known : b.known ≡ a.known) (before : b.before ≡ a.a
   -- its file could not be made, written or ended
   pub stops-writing : (output : List ℕ) → slice_get names i ≡ Some name → LacksFile b name output →
       LacksOneOf (then a b) names l left runs output
+  unfolding comes
   stops-writing output got lacks =
       let failed_more = lacks.failed ∙ ap one_more (failed ∙ so_far.unfailed) in
       elim lacks.made [
@@ -304,7 +333,7 @@ module _ (a b : Making) (known : b.known ≡ a.known) (before : b.before ≡ a.a
         | inr begins ↦ record {
           count = i + 1;
           comes = comes (i + 1) output lacks.is_output (inr refl) got;
-          made = has-more (begun name) begins refl;
+          made = has-more begins;
           failed = failed_more;
         }
       ]

@@ -12,8 +12,8 @@ use Rattle.std.specs.Io.KnownBytes.{Appends}
 use Rattle.edf_program.specs.Output.{Growth, Gets, GetsFront, IsPut, IsWritten}
 use Rattle.edf_program.specs.declared.status.Status.TheVariants.{Trouble}
 use Rattle.edf_program.proofs.Puts.{grown, gets-after, front-after}
-use Rattle.edfruns_command.specs.Made.{MadeFile, begun, IsOver, left_text, names_of}
-use Rattle.edfruns_command.specs.InsideSplit.{IsPutAfter, RemovesOne, RemovesFrom}
+use Rattle.edfruns_command.specs.Made.{MadeFile, begun, IsOver, left_text}
+use Rattle.edfruns_command.specs.InsideSplit.{as_begun, IsPutAfter, RemovesOne, RemovesFrom}
 
 -- ---- what is said
 
@@ -48,7 +48,7 @@ pub record RemovedSoFar (base made now : List MadeFile) (k : ℕ) (w : Growth) (
     (told : Bool) : Type 0 where
   pub files : List MadeFile
   pub left : now ≡ base ++ (files ++ drop k made)
-  pub named : names_of files ≡ names_of (take k made)
+  pub same : map as_begun files ≡ map as_begun (take k made)
   pub over : All (λ (file : MadeFile). IsOver file.stage) files
   pub said : IsPut w (line ++ flat_map left_text files) told
 
@@ -66,9 +66,9 @@ module _ (base made now : List MadeFile) (k : ℕ) (lt : k < length made) (w : G
   pub next-place : length (base ++ so.files) ≡ length base + k
   next-place =
       let files : length so.files ≡ length (take k made) =
-      sym (length-map so.files (λ (f : MadeFile). f.name))
-      ∙ ap (λ (ns : List (List ℕ)). length ns) so.named
-      ∙ length-map (take k made) (λ (f : MadeFile). f.name) in
+      sym (length-map so.files as_begun)
+      ∙ ap (λ (fs : List MadeFile). length fs) so.same
+      ∙ length-map (take k made) as_begun in
       omega (arith, length-append base so.files, files, length-take-le k made (omega (arith, lt)))
 
 module _ (a : Option (List ℕ)) (old : ℕ) (b : Option (List ℕ)) (mid : ℕ) (c : Option (List ℕ))
@@ -84,11 +84,11 @@ module _ (a : Option (List ℕ)) (old : ℕ) (b : Option (List ℕ)) (mid : ℕ)
         ∙ append_assoc base so.files (one.over ∷ drop (k + 1) made)
         ∙ ap (λ (fs : List MadeFile). base ++ fs)
         (sym (append_assoc so.files (one.over ∷ []) (drop (k + 1) made)));
-    named = map-append (λ (f : MadeFile). f.name) so.files (one.over ∷ [])
-        ∙ ap (λ (ns : List (List ℕ)). ns ++ (one.over.name ∷ [])) so.named
-        ∙ ap (λ (n : List ℕ). names_of (take k made) ++ (n ∷ [])) one.named
-        ∙ sym (map-append (λ (f : MadeFile). f.name) (take k made) (nth made k ∷ []))
-        ∙ ap (λ (fs : List MadeFile). names_of fs) (sym (take_more made k (begun []) lt));
+    same = map-append as_begun so.files (one.over ∷ [])
+        ∙ ap (λ (fs : List MadeFile). fs ++ (as_begun one.over ∷ [])) so.same
+        ∙ ap (λ (f : MadeFile). map as_begun (take k made) ++ (f ∷ [])) one.same
+        ∙ sym (map-append as_begun (take k made) (nth made k ∷ []))
+        ∙ ap (map as_begun) (sym (take_more made k (begun []) lt));
     over = All-push (λ (f : MadeFile). IsOver f.stage) so.files one.over so.over one.is_over;
     said = subst (λ (t : List ℕ). IsPut (grown a old c new) t then)
         (flat_map_more left_text line so.files one.over)
@@ -111,7 +111,7 @@ removes-all first k old new w line told most so = record {
   made = so.left ∙ ap (λ (fs : List MadeFile). take first old ++ (so.files ++ fs))
       (drop_all k (drop first old) most)
       ∙ ap (λ (fs : List MadeFile). take first old ++ fs) (append-nil so.files);
-  named = so.named ∙ ap (λ (fs : List MadeFile). names_of fs) (take_all k (drop first old) most);
+  same = so.same ∙ ap (map as_begun) (take_all k (drop first old) most);
   over = so.over;
   said = put-written w (line ++ flat_map left_text so.files) told so.said;
 }
@@ -122,7 +122,7 @@ pub removes-none : (first : ℕ) (old : List MadeFile) (w : Growth) (line : List
 removes-none first old w line told put = record {
   files = [];
   left = sym (take-append-drop first old);
-  named = refl;
+  same = refl;
   over = All-nil (λ (f : MadeFile). IsOver f.stage);
   said = subst (λ (t : List ℕ). IsPut w t told) (sym (append-nil line)) put;
 }

@@ -26,7 +26,8 @@ use Rattle.edf_runs.specs.declared.fault.WriteFault.{WriteFault}
 use Rattle.edf_runs.specs.declared.fault.WriteFault.TheVariants as fault
 use Rattle.edfruns_command.specs.Writing.{ReadsAgain}
 use Rattle.edfruns_command.specs.Rereading.{IsOfReading, IsNoEnd, StopsRereading}
-use Rattle.edfruns_command.specs.Splitting.{Making}
+use Rattle.edfruns_command.specs.Splitting.{Making, WereFirst}
+use Rattle.edfruns_command.proofs.Finished.{first-all}
 use Rattle.edfruns_command.specs.InsideMaking.{Ends, StopsAtEnd, MakesEach, MakesFirst, HasMade}
 use Rattle.edfruns_command.specs.InsideMaking.{HalfRereads, HalfMakesEach, StopsEach, StopsMaking}
 use Rattle.edfruns_command.specs.InsideMaking.{RereadsAll, RereadsWith, AreLinesOf}
@@ -36,11 +37,13 @@ use Rattle.edfruns_command.proofs.MakingFiles.{skips-made}
 
 -- ---- nothing was made
 
-made-none : (m : Making) (names : List (List ℕ)) → m.after ≡ m.before → HasMade m (take 0 names)
-made-none m names none = record {
+made-none : (m : Making) (names : List (List ℕ)) (k : Key) (runs : List OnsetRun) →
+    m.after ≡ m.before → HasMade m (take 0 names) k runs 0
+made-none m names k runs none = record {
   files = [];
   made = none ∙ sym (append-nil m.before);
   named = refl;
+  first = record { runs = []; are_listed = tt; finished = tt };
 }
 
 module _ (m : Making) (bytes : Option (List ℕ)) (plan : OnsetListing) (names : List (List ℕ))
@@ -50,7 +53,8 @@ module _ (m : Making) (bytes : Option (List ℕ)) (plan : OnsetListing) (names :
     is_why = tt;
     count = 0;
     stops = inl (refl, inl refl);
-    made = made-none m names made;
+    finished = 0;
+    made = made-none m names plan.identity plan.runs.items made;
     unfailed = failed;
   }
 
@@ -68,7 +72,8 @@ module _ (m : Making) (bytes : Option (List ℕ)) (plan : OnsetListing) (names :
     is_why = of-reading rest plan.identity why not;
     count = 0;
     stops = inl (refl, inr (rest, not));
-    made = made-none m names made;
+    finished = 0;
+    made = made-none m names plan.identity plan.runs.items made;
     unfailed = failed;
   }
 
@@ -83,7 +88,9 @@ module _ (m : Making) (bytes : Option (List ℕ)) (plan : OnsetListing) (names :
     is_why = half.is_why;
     count = half.nth + 1;
     stops = inr (l, start, rest, again, inl (half.nth, refl, half.stops));
-    made = half.made;
+    finished = half.finished;
+    made = subst (λ (k : Key). HasMade m (take (half.nth + 1) names) k plan.runs.items half.finished)
+        again.same half.made;
     unfailed = half.unfailed;
   }
 
@@ -131,11 +138,16 @@ module _ (m : Making) (bytes : Option (List ℕ)) (plan : OnsetListing) (names :
           },
         ),
       );
+      finished = length plan.runs.items;
       made = record {
         files = makes.files;
         made = makes.made;
         named = makes.named
             ∙ sym (take_all (length plan.runs.items) names (omega (arith, fit)));
+        first = subst (λ (k : Key). WereFirst m.known k plan.runs.items (length plan.runs.items)
+            makes.files) again.same (first-all m.known l.key plan.runs.items
+            (length plan.runs.items) (take_all (length plan.runs.items) plan.runs.items
+            (omega arith)) makes.parts makes.files makes.listed makes.held);
       };
       unfailed = makes.unfailed;
     }

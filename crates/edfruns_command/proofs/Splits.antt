@@ -63,6 +63,7 @@ module _ (bytes : Option (List ℕ)) (plan : OnsetListing) (by_onset : Bool)
     said = cut.said;
     unfailed = cut.unfailed;
     removes = cut.removes;
+    made = cut.made;
   }))
   splits m out err name prefix status (inr (inr stops)) = inr (inr stops)
 

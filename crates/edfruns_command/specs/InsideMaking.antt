@@ -4,6 +4,7 @@ use Rattle.std.specs.Prelude.{Result, Ok, length, take}
 use Rattle.std.specs.List.{flat_map, AllZip}
 use Rattle.edf_field.specs.Number.{duration_of}
 use Rattle.edf_header.specs.Header.{Layout}
+use Rattle.edf_header.specs.Key.{Key}
 use Rattle.edf_fragment.specs.Failures.{one_more}
 use Rattle.edf_fragment.specs.Fragment.{DataRecord}
 use Rattle.edf_fragment.specs.Reading.{IsAnswer, at_first}
@@ -25,7 +26,7 @@ use Rattle.edfruns_command.specs.Made.{MadeFile, begun, names_of}
 use Rattle.edfruns_command.specs.Writing.{ReadsAgain}
 use Rattle.edfruns_command.specs.Rereading.{IsOfReading, IsNoEnd, StopsAmong, StopsRereading}
 use Rattle.edfruns_command.specs.Rereading.{ComesToOutput}
-use Rattle.edfruns_command.specs.Splitting.{Making, HoldsRun, IsKeptRun, lines_of}
+use Rattle.edfruns_command.specs.Splitting.{Making, HoldsRun, WereFirst, IsKeptRun, lines_of}
 use Rattle.edfruns_command.specs.Lines.{IsSpelling}
 use Rattle.edfruns_command.specs.Counting.{split_lines}
 use Rattle.edfruns_command.specs.declared.stop.Stop.{Stop}
@@ -90,11 +91,13 @@ StopsFile m name l from to left rest run (stop.Output output) = LacksFile m name
 
 -- ---- all files
 
--- files of these names were made
-pub record HasMade (m : Making) (names : List (List ℕ)) : Type 0 where
+-- files of these names were made, and of so many of the first runs they were finished
+pub record HasMade (m : Making) (names : List (List ℕ)) (k : Key) (runs : List OnsetRun)
+    (count : ℕ) : Type 0 where
   pub files : List MadeFile
   pub made : m.after ≡ m.before ++ files
   pub named : names_of files ≡ names
+  pub first : WereFirst m.known k runs count files
 
 -- of each of the runs one of these names was made, and their data records were read
 pub record MakesEach (m : Making) (names : List (List ℕ)) (l : Layout) (to : Progress)
@@ -128,14 +131,15 @@ pub record HalfMakesEach (m : Making) (names : List (List ℕ)) (l : Layout)
   pub is_why : IsOfReading why
   pub nth : ℕ
   pub stops : StopsAmong l left rest runs nth why
-  pub made : HasMade m (take (nth + 1) names)
+  pub finished : ℕ
+  pub made : HasMade m (take (nth + 1) names) l.key runs finished
   pub unfailed : m.failed_after ≡ m.failed_before
 
 pub record LacksOneOf (m : Making) (names : List (List ℕ)) (l : Layout) (left : Option (List ℕ))
     (runs : List OnsetRun) (output : List ℕ) : Type 0 where
   pub count : ℕ
   pub comes : ComesToOutput l left runs names count output
-  pub made : HasMade m (take count names)
+  pub made : HasMade m (take count names) l.key runs comes.nth
   pub failed : m.failed_after ≡ one_more m.failed_before
 
 abbrev pub StopsEach : Making → List (List ℕ) → Layout → Option (List ℕ) → Option (List ℕ) →
@@ -180,7 +184,8 @@ pub record HalfRereads (m : Making) (bytes : Option (List ℕ)) (plan : OnsetLis
   pub is_why : IsOfReading why
   pub count : ℕ
   pub stops : StopsRereading bytes plan count why
-  pub made : HasMade m (take count names)
+  pub finished : ℕ
+  pub made : HasMade m (take count names) plan.identity plan.runs.items finished
   pub unfailed : m.failed_after ≡ m.failed_before
 
 abbrev pub StopsMaking : Making → Option (List ℕ) → OnsetListing → List (List ℕ) → Stop → Type 0

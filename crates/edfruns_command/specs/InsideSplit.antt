@@ -1,6 +1,6 @@
 -- What other private functions of `split` do.
 use Rattle.std.specs.Prelude.{◌≡◌, ◌⊎◌, ℕ, ◌+◌, List, [], ◌∷◌, ◌++◌, Bool, false, All, Option}
-use Rattle.std.specs.Prelude.{length, take, drop}
+use Rattle.std.specs.Prelude.{length, map, take, drop}
 use Rattle.std.specs.List.{flat_map}
 use Rattle.std.specs.Bool.{MatchBool}
 use Rattle.edf_header.specs.Key.{MayStart}
@@ -12,8 +12,9 @@ use Rattle.edf_runs.specs.declared.onset_listing.OnsetListing.{OnsetListing}
 use Rattle.edfruns_command.specs.Lines.{IsSpelling, reread_line, unwritten_line}
 use Rattle.edfruns_command.specs.Lines.{standard_output}
 use Rattle.edfruns_command.specs.Made.{MadeFile, IsFree, MayBeThere, IsOver, RemovesMade}
-use Rattle.edfruns_command.specs.Made.{left_text, names_of}
-use Rattle.edfruns_command.specs.Splitting.{Making, LacksOutput, LacksReading, lines_of}
+use Rattle.edfruns_command.specs.Made.{left_text, made_file}
+use Rattle.edfruns_command.specs.declared.outputs.Stage.TheVariants.{Begun}
+use Rattle.edfruns_command.specs.Splitting.{Making, WereFirst, LacksOutput, LacksReading, lines_of}
 use Rattle.edfruns_command.specs.InsideMaking.{RereadsParts, RereadsAll}
 use Rattle.edfruns_command.specs.declared.stop.Stop.{Stop}
 use Rattle.edfruns_command.specs.declared.stop.Stop.TheVariants as stop
@@ -51,12 +52,16 @@ abbrev pub IsPutAfter : Growth → List ℕ → Bool → Bool → Type 0
 IsPutAfter w text before after =
     MatchBool before (IsPut w text after) (Gets w [] × (after ≡ false))
 
+-- a file as it was before its removal, but for how far it was
+abbrev pub as_begun : MadeFile → MadeFile
+as_begun file = made_file file.name Begun file.whole file.bytes
+
 -- the removal of one file was tried, and a line says where it is left
 pub record RemovesOne (old new : List MadeFile) (w : Growth) (front later : List MadeFile)
     (file : MadeFile) (before after : Bool) : Type 0 where
   pub over : MadeFile
   pub is_over : IsOver over.stage
-  pub named : over.name ≡ file.name
+  pub same : as_begun over ≡ as_begun file
   pub made : new ≡ front ++ (over ∷ later)
   pub said : IsPutAfter w (left_text over) before after
 
@@ -65,7 +70,7 @@ pub record RemovesFrom (first : ℕ) (old new : List MadeFile) (err : Growth) (t
     (status : Status) : Type 0 where
   pub files : List MadeFile
   pub made : new ≡ take first old ++ files
-  pub named : names_of files ≡ names_of (drop first old)
+  pub same : map as_begun files ≡ map as_begun (drop first old)
   pub over : All (λ (file : MadeFile). IsOver file.stage) files
   pub said : IsWritten err (text ++ flat_map left_text files) Trouble status
 
@@ -80,6 +85,8 @@ pub record CutsLines (m : Making) (out err : Growth) (bytes : Option (List ℕ))
   pub unfailed : m.failed_after ≡ m.failed_before
   pub removes : RemovesMade m.before m.after err names (length plan.runs.items)
       (unwritten_line standard_output) status
+  pub made : WereFirst m.known again.layout.key plan.runs.items (length plan.runs.items)
+      removes.files
 
 abbrev pub SplitsListed : Making → Growth → Growth → Option (List ℕ) → List ℕ → OnsetListing →
     List (List ℕ) → Status → Type 0

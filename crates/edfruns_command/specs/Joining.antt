@@ -79,3 +79,7 @@ group_lines spell most d label number [] = []
 group_lines spell most d label number (group ∷ groups) = label
     ++ (group_line spell most d number group (next_run groups)
     ++ group_lines spell most d label (number + 1) groups)
+
+-- where no tolerance is given: a line for each run
+abbrev pub each_line : (ℕ → List ℕ) → ℕ → List Run → List ℕ
+each_line spell d runs = group_lines spell None d [] 1 (map (λ r. r ∷ []) runs)

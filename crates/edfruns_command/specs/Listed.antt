@@ -2,14 +2,14 @@
 use Rattle.std.specs.Prelude.{◌≡◌, ◌⊎◌, ℕ, List, [], ◌∷◌, ◌++◌, Bool, true, false, Option}
 use Rattle.std.specs.Prelude.{nat_lt, length, codes, if◌then◌else◌}
 use Rattle.edf_field.specs.Number.{duration_of}
-use Rattle.edf_program.specs.Output.{Growth, Gets, GetsFront}
+use Rattle.edf_program.specs.Output.{Growth, Gets, GetsFront, IsWritten}
 use Rattle.edf_program.specs.Status.{exit_code}
 use Rattle.edf_program.specs.declared.status.Status.{Status}
 use Rattle.edf_program.specs.declared.status.Status.TheVariants.{Done, Trouble}
 use Rattle.edf_runs.specs.declared.run.Run.{Run}
 use Rattle.edf_runs.specs.declared.run_list.Listing.{Listing}
 use Rattle.edfruns_command.specs.Joining.{AreSeen, group_lines}
-use Rattle.edfruns_command.specs.Lines.{IsSpelling}
+use Rattle.edfruns_command.specs.Lines.{IsSpelling, standard_output, unwritten_line}
 use Rattle.edfruns_command.specs.Listing.{HasRuns, RefusesFile, LacksMemory}
 
 -- ---- one file
@@ -38,9 +38,10 @@ module _ (out err : Growth) (bytes : Option (List ℕ)) (label : List ℕ) (most
   abbrev pub ListsRuns : Status → Type 0
   ListsRuns status = TellsRuns bytes label most (Gets out) × Gets err [] × (status ≡ Done)
 
-  -- a front of them did, and then a write failed
-  abbrev pub CutsLines : Type 0
-  CutsLines = TellsRuns bytes label most (GetsFront out) × Gets err []
+  -- a front of them did, then a write failed, and a line says so
+  abbrev pub CutsLines : Status → Type 0
+  CutsLines status = TellsRuns bytes label most (GetsFront out)
+      × IsWritten err (unwritten_line standard_output) Trouble status
 
   -- they went out whole, or the file was refused, or there was no memory for them
   abbrev pub IsFileListed : List ℕ → Status → Type 0
@@ -95,8 +96,7 @@ module _ (bytes : List ℕ → Option (List ℕ)) (several : Bool) (most : Optio
     pub earlier : Status
     pub listed : AreListed out mid err mid_err front earlier
     pub cut : CutsLines (between mid out') (between mid_err err') (bytes name)
-        (file_label several name) most
-    pub trouble : status ≡ Trouble
+        (file_label several name) most status
 
 abbrev pub IsListOut : (List ℕ → Option (List ℕ)) → Growth → Growth → Option ℕ → List (List ℕ) →
     Status → Type 0

@@ -9,27 +9,33 @@ use Rattle.edfruns_command.specs.Lines.{left_line}
 use Rattle.edfruns_command.specs.declared.outputs.Stage.{Stage}
 use Rattle.edfruns_command.specs.declared.outputs.Stage.TheVariants.{Begun, Finished, Removed, Kept}
 
--- a file that was made: under which name, how far it is, and what its writer held when it was
--- finished, where that is known
+-- a file that was made: under which name, how far it is, whether it was finished, and what its
+-- writer held then, where that is known
 pub record MadeFile : Type 0 where
   pub name : List ℕ
   pub stage : Stage
+  pub whole : Bool
   pub bytes : Option (List ℕ)
 
-abbrev pub made_file : List ℕ → Stage → Option (List ℕ) → MadeFile
-made_file name stage bytes = record { name = name; stage = stage; bytes = bytes }
+abbrev pub made_file : List ℕ → Stage → Bool → Option (List ℕ) → MadeFile
+made_file name stage whole bytes =
+    record { name = name; stage = stage; whole = whole; bytes = bytes }
 
 abbrev pub begun : List ℕ → MadeFile
-begun name = made_file name Begun None
+begun name = made_file name Begun false None
 
 abbrev pub finished : List ℕ → Option (List ℕ) → MadeFile
-finished name bytes = made_file name Finished bytes
+finished name bytes = made_file name Finished true bytes
 
 abbrev pub removed : MadeFile → MadeFile
-removed file = made_file file.name Removed file.bytes
+removed file = made_file file.name Removed file.whole file.bytes
 
 abbrev pub kept : MadeFile → MadeFile
-kept file = made_file file.name Kept file.bytes
+kept file = made_file file.name Kept file.whole file.bytes
+
+-- it was left half written
+abbrev pub IsHalf : MadeFile → Type 0
+IsHalf file = (file.whole ≡ false) × (file.bytes ≡ None)
 
 -- nothing of this name is known to be there
 abbrev pub IsFree : (List ℕ → Option Bool) → List ℕ → Type 0

@@ -14,8 +14,9 @@ run_name prefix width number = prefix ++ (codes "-" ++ (padded width number ++ c
 abbrev pub run_names : List ℕ → ℕ → List (List ℕ)
 run_names prefix count = map (run_name prefix (length (decimal count))) (range_with_len 1 count)
 
--- of a number one, with 1 digit, 2 digits and so on up to 8, as many as the greatest count of data
--- records has: the first names that an earlier split with this prefix can have given
+-- the first run with 1 digit, 2 digits and so on up to 8, as many as the greatest count of data
+-- records has: by its first file an earlier split with this prefix is found, and where that file
+-- is gone, by none of its others
 abbrev pub first_names : List ℕ → List (List ℕ)
 first_names prefix = map (λ width. run_name prefix width 1) (range_with_len 1 8)
 

@@ -1,5 +1,5 @@
 -- What a command does: what it writes, the status that it answers, and which files it opens.
-use Rattle.std.specs.Prelude.{ℕ, Bool, List, Option, map, string_bytes}
+use Rattle.std.specs.Prelude.{ℕ, Bool, List, Option, length, map, string_bytes}
 use Rattle.edf_program.specs.Output.{Growth}
 use Rattle.edf_program.specs.declared.status.Status.{Status}
 use Rattle.edfruns_command.specs.Listed.{IsListOut, OpensEach}
@@ -44,6 +44,14 @@ IsDone bytes made out err (picture file) status = IsPictured out err (bytes file
 abbrev pub HasMade : Making → Asked → Type 0
 HasMade made (split file prefix by_onset) = Unit {0}
 HasMade made asked = MakesNothing made
+
+-- how often a file is read, where all is done
+abbrev pub readings_of : Asked → ℕ
+readings_of (list files tolerance) = length files
+readings_of (write file number by_onset) = 2
+readings_of (canonical file) = 2
+readings_of (split file prefix by_onset) = 2
+readings_of (picture file) = 1
 
 -- `list` reads each of its files once, `picture` its file once, and `write`, `canonical` and
 -- `split` theirs twice, where they are done

@@ -1,6 +1,6 @@
 -- What `split` does: the files that it makes, what it writes, and the status that it answers.
 use Rattle.std.specs.Prelude.{◌≡◌, ◌⊎◌, ℕ, ◌+◌, List, [], ◌∷◌, ◌++◌, Bool, true, All, Option, Some}
-use Rattle.std.specs.Prelude.{length}
+use Rattle.std.specs.Prelude.{length, take}
 use Rattle.std.specs.List.{AllZip}
 use Rattle.edf_field.specs.Number.{duration_of}
 use Rattle.edf_header.specs.Key.{Key, MayStart}
@@ -24,7 +24,8 @@ use Rattle.edfruns_command.specs.Naming.{run_names, asked_names}
 use Rattle.edfruns_command.specs.Lines.{IsSpelling, there_line, undated_line, reread_line}
 use Rattle.edfruns_command.specs.Lines.{unwritten_line, standard_output}
 use Rattle.edfruns_command.specs.Counting.{split_lines}
-use Rattle.edfruns_command.specs.Made.{MadeFile, IsFree, MayBeThere, RemovesMade, names_of}
+use Rattle.edfruns_command.specs.Made.{MadeFile, IsHalf, IsFree, MayBeThere, RemovesMade}
+use Rattle.edfruns_command.specs.Made.{names_of}
 use Rattle.edfruns_command.specs.Planning.{HasPlan, LacksPlan}
 use Rattle.edfruns_command.specs.Writing.{ReadsAgain}
 use Rattle.edfruns_command.specs.Rereading.{IsOfReading, StopsRereading, ComesToOutput}
@@ -54,19 +55,44 @@ making g old new = record {
 abbrev pub MakesNothing : Making → Type 0
 MakesNothing m = (m.after ≡ m.before) × (m.failed_after ≡ m.failed_before)
 
--- a file of the run is there under its name, with just these bytes where what is made is known
+-- a file of the run was finished, with just these bytes where what is made is known
+pub record HasFinished (known : Bool) (k : Key) (run : List DataRecord) (whole : Bool)
+    (bytes : Option (List ℕ)) : Type 0 where
+  pub is_whole : whole ≡ true
+  pub file : List ℕ
+  pub is_file : IsRunFile file k run
+  pub held : known ≡ true → bytes ≡ Some file
+
+abbrev pub WasFinished : Bool → Key → List DataRecord → MadeFile → Type 0
+WasFinished known k run made = HasFinished known k run made.whole made.bytes
+
+-- and it is there under its name
 pub record HoldsRun (known : Bool) (k : Key) (run : List DataRecord) (made : MadeFile) : Type 0
   where
     pub finished : made.stage ≡ Finished
-    pub file : List ℕ
-    pub is_file : IsRunFile file k run
-    pub bytes : known ≡ true → made.bytes ≡ Some file
+    pub was : WasFinished known k run made
 
 -- ---- what was made of a file, whose files of runs are to have these names
 
 -- of these data records, with the annotations that were kept of them, just this was listed
 abbrev pub IsKeptRun : ℕ → List DataRecord → OnsetRun → Type 0
 IsKeptRun d records run = IsListed d (annotated (kept_of run) records) run.run
+
+-- of each of these runs, in turn, a file was finished, and one more at most was left half written
+abbrev pub WereFinished : Bool → Key → List (List DataRecord) → List MadeFile → Type 0
+WereFinished known k [] [] = Unit {0}
+WereFinished known k [] (made ∷ []) = IsHalf made
+WereFinished known k [] (made ∷ next ∷ files) = ⊥
+WereFinished known k (run ∷ runs) [] = ⊥
+WereFinished known k (run ∷ runs) (made ∷ files) =
+    WasFinished known k run made × WereFinished known k runs files
+
+-- so it was with the first runs of those that were listed, so many
+pub record WereFirst (known : Bool) (k : Key) (listed : List OnsetRun) (count : ℕ)
+    (files : List MadeFile) : Type 0 where
+  pub runs : List (List DataRecord)
+  pub are_listed : AllZip (IsKeptRun (duration_of k.duration)) runs (take count listed)
+  pub finished : WereFinished known k (annotated_runs runs (take count listed)) files
 
 -- the file was read a second time to its end; these are its runs, and of each just this was listed
 pub record RereadsRuns (bytes : Option (List ℕ)) (plan : OnsetListing) : Type 0 where
@@ -105,8 +131,11 @@ module _ (m : Making) (bytes : Option (List ℕ)) (plan : OnsetListing) (names :
     pub unfailed : m.failed_after ≡ m.failed_before
     pub removes : RemovesMade m.before m.after err names (length plan.runs.items)
         (unwritten_line standard_output) status
+    pub made : WereFirst m.known again.layout.key plan.runs.items (length plan.runs.items)
+        removes.files
 
-  -- one could not be made, written or ended; so what was made was removed
+  -- one could not be made, written or ended, and those before it were finished; so what was made
+  -- was removed
   pub record LacksOutput (out err : Growth) (status : Status) : Type 0 where
     pub layout : Layout
     pub start : Option (List ℕ)
@@ -117,6 +146,7 @@ module _ (m : Making) (bytes : Option (List ℕ)) (plan : OnsetListing) (names :
     pub failed : m.failed_after ≡ one_more m.failed_before
     pub unsaid : Gets out []
     pub removes : RemovesMade m.before m.after err names count (unwritten_line output) status
+    pub made : WereFirst m.known layout.key plan.runs.items comes.nth removes.files
 
   -- it could not be read again, or memory ran out; so what was made was removed
   pub record LacksReading (out err : Growth) (name : List ℕ) (status : Status) : Type 0 where
@@ -127,6 +157,8 @@ module _ (m : Making) (bytes : Option (List ℕ)) (plan : OnsetListing) (names :
     pub unfailed : m.failed_after ≡ m.failed_before
     pub unsaid : Gets out []
     pub removes : RemovesMade m.before m.after err names count (reread_line name why) status
+    pub finished : ℕ
+    pub made : WereFirst m.known plan.identity plan.runs.items finished removes.files
 
 module _ (m : Making) (out err : Growth) (bytes : Option (List ℕ)) (name prefix : List ℕ)
     (by_onset : Bool) (status : Status) where
@@ -153,10 +185,12 @@ module _ (m : Making) (out err : Growth) (bytes : Option (List ℕ)) (name prefi
       ⊎ (LacksOutput m bytes plan names out err status
       ⊎ LacksReading m bytes plan names out err name status)
 
-  -- there is something of one of the names that are asked for, and of none before it
+  -- each run has a start that a header can name, and there is something of one of the names that
+  -- are asked for, and of none before it
   pub record FindsName : Type 0 where
     pub plan : OnsetListing
     pub has : HasPlan by_onset bytes plan
+    pub dated : All (λ (run : OnsetRun). MayStart plan.identity run.run.first) plan.runs.items
     pub front : List (List ℕ)
     pub found : List ℕ
     pub later : List (List ℕ)
@@ -165,7 +199,7 @@ module _ (m : Making) (out err : Growth) (bytes : Option (List ℕ)) (name prefi
     pub taken : MayBeThere m.there found
     pub said : Explains out err (there_line found) Refused status
 
-  -- no header can name when a run starts, and that is the first such
+  -- no header can name when a run starts, and that is the first such, whatever is there
   pub record LacksDate : Type 0 where
     pub plan : OnsetListing
     pub has : HasPlan by_onset bytes plan

@@ -38,8 +38,8 @@ fn run_front(
     next: Option<&Run>,
 ) -> Result<Vec<u8>, AllocError>
     requires { duration ≤ MOST_DURATION }
-    ensures { IfOk result (λ r. (spell : ℕ → List ℕ) → IsSpelling spell →
-        r.items ≡ run_front spell duration number run.now (option_map (λ run. run.now) next.entry)) }
+    ensures { IfOk result (λ r. (spell : ℕ → List ℕ) → IsSpelling spell → r.items
+        ≡ run_front spell duration number run.now (option_map (λ run. run.now) next.entry)) }
 {
     let (records, end) = (run.records(), run.last().nanos() + duration);
     let counts = format!(in alloc; "{number} records={records} first=")?;

@@ -5,7 +5,7 @@ ghost use Rattle.std.specs.Prelude.{option_map};
 ghost use Rattle.edf_field.specs.Number.{duration_of};
 ghost use Rattle.edfruns_command.specs.Inside.{IsFrontGroup};
 ghost use Rattle.edfruns_command.specs.Joining.{AreSeen, end_text, group_line, group_lines};
-ghost use Rattle.edfruns_command.specs.Joining.{records_of};
+ghost use Rattle.edfruns_command.specs.Joining.{each_line, records_of};
 ghost use Rattle.edfruns_command.specs.Lines.{IsSpelling, end_of};
 
 use crate::lines::{gap_text, run_at};
@@ -147,4 +147,12 @@ pub(crate) fn list_text(
         rest = later;
     }
     Ok(text)
+}
+
+/// The lines of a file's runs without a label, a line for each run.
+pub(crate) fn each_text(alloc: Global, listing: &Listing) -> Result<Vec<u8>, AllocError>
+    ensures { IfOk result (λ r. (spell : ℕ → List ℕ) → IsSpelling spell → r.items
+        ≡ each_line spell (duration_of listing.now.identity.duration) listing.now.runs.items) }
+{
+    list_text(alloc, &[], None, listing)
 }

@@ -1,20 +1,20 @@
 //! `list`: a line for each run, or for those that are joined.
 
-ghost use Rattle.std.specs.Prelude.{◌≡◌, ◌⊎◌, ◌++◌, ◌∷◌, [], ℕ, List, Some, IfOk, MatchResult};
-ghost use Rattle.std.specs.Prelude.{MatchOption, map, replicate, string_bytes};
+ghost use Rattle.std.specs.Prelude.{◌≡◌, ◌⊎◌, ◌++◌, ◌∷◌, [], ℕ, List, Ok, IfOk, MatchResult};
+ghost use Rattle.std.specs.Prelude.{map, replicate, string_bytes};
 ghost use Rattle.edf_field.specs.Number.{duration_of};
-ghost use Rattle.edf_program.specs.Output.{growth, Gets, GetsFront};
+ghost use Rattle.edf_program.specs.Output.{growth, Gets, GetsFront, IsWritten};
 ghost use Rattle.edf_runs.specs.declared.run.Run.{Run};
 ghost use Rattle.edfruns_command.specs.Inside.{OpensUpTo};
 ghost use Rattle.edfruns_command.specs.Joining.{AreSeen, group_lines};
-ghost use Rattle.edfruns_command.specs.Lines.{IsSpelling};
+ghost use Rattle.edfruns_command.specs.Lines.{IsSpelling, standard_output, unwritten_line};
 ghost use Rattle.edfruns_command.specs.Listed.{CutsLines, IsFileListed, IsListOut, OpensEach};
 ghost use Rattle.edfruns_command.specs.Listed.{are_several, file_label, worse};
 ghost use Rattle.edfruns_command.specs.Listing.{HasRuns, HasFault};
 
 use crate::arguments::required_value;
 use crate::joining::list_text;
-use crate::refusal::refuse;
+use crate::refusal::{STANDARD_OUTPUT, refuse, tell_unwritten};
 use crate::runs_command::RunsCommand;
 use crate::texts::joined;
 use crate::tolerance::{read_tolerance, tolerance_option};
@@ -142,19 +142,27 @@ fn text_of(
     list_text(alloc, label.as_slice(), tolerance, listing)
 }
 
-/// Writes lines; `None` where they could not be written whole.
-fn send_lines<O: Output>(out: &mut O, text: &[u8]) -> Option<Status>
-    ensures { let w = growth O.Output out.old out.new in MatchOption result
-        (GetsFront w text.now) (λ status. Gets w text.now × (status ≡ Status.Done)) }
+/// Writes lines.
+///
+/// # Errors
+/// Where they could not be written whole: the status, once a line says so.
+fn send_lines<O: Output, F: Output>(text: &[u8], out: &mut O, err: &mut F) -> Result<Status, Status>
+    ensures { let o = growth O.Output out.old out.new in
+        let e = growth F.Output err.old err.new in MatchResult result
+        (λ status. Gets o text.now × Gets e [] × (status ≡ Status.Done))
+        (λ status. GetsFront o text.now
+        × IsWritten e (unwritten_line standard_output) Status.Trouble status) }
 {
     if send(out, text) {
-        Some(Status::Done)
-    } else {
-        None
+        return Ok(Status::Done);
     }
+    Err(tell_unwritten(err, STANDARD_OUTPUT, Status::Trouble))
 }
 
-/// Writes the lines of a file; `None` where they could not be written whole.
+/// Writes the lines of a file.
+///
+/// # Errors
+/// Where they could not be written whole: the status, once a line says so.
 fn list_file<I: Inputs, O: Output, F: Output>(
     alloc: Global,
     file: &str,
@@ -163,25 +171,25 @@ fn list_file<I: Inputs, O: Output, F: Output>(
     inputs: &mut I,
     out: &mut O,
     err: &mut F,
-) -> Option<Status>
+) -> Result<Status, Status>
     ensures listed { let o = growth O.Output out.old out.new in
         let e = growth F.Output err.old err.new in
         let bytes = I.bytes inputs.old file.now in
         let label = file_label several file.now in
-        MatchOption result (CutsLines o e bytes label tolerance)
-        (IsFileListed o e bytes label tolerance file.now) }
+        MatchResult result (IsFileListed o e bytes label tolerance file.now)
+        (CutsLines o e bytes label tolerance) }
     ensures opened { OpensUpTo (I.opened inputs.old) (I.opened inputs.new) file.now 1 }
-    ensures done { result ≡ Some Status.Done →
+    ensures done { result ≡ Ok Status.Done →
         I.opened inputs.new ≡ I.opened inputs.old ++ (file.now ∷ []) }
     ensures same { (name : List ℕ) → I.bytes inputs.new name ≡ I.bytes inputs.old name }
 {
     let listing = match listing_of(alloc, file, inputs) {
         Ok(listing) => listing,
-        Err(fault) => return Some(refuse(alloc, file, fault, err)),
+        Err(fault) => return Ok(refuse(alloc, file, fault, err)),
     };
     match text_of(alloc, file, several, tolerance, &listing) {
-        Ok(text) => send_lines(out, text.as_slice()),
-        Err(_) => Some(tell_memory(err, file)),
+        Ok(text) => send_lines(text.as_slice(), out, err),
+        Err(_) => Ok(tell_memory(err, file)),
     }
 }
 
@@ -197,7 +205,7 @@ fn worse(status: Status, other: Status) -> Status
 }
 
 /// Writes the lines of each file in the order of the words, also after one that is refused. It ends
-/// where lines could not be written whole.
+/// where lines could not be written whole, and says so.
 pub(crate) fn list<I: Inputs, O: Output, F: Output>(
     alloc: Global,
     files: &[String],
@@ -216,8 +224,8 @@ pub(crate) fn list<I: Inputs, O: Output, F: Output>(
     let mut status = Status::Done;
     for file in files {
         match list_file(alloc, file.as_str(), several, tolerance, inputs, out, err) {
-            Some(one) => status = worse(status, one),
-            None => return Status::Trouble,
+            Ok(one) => status = worse(status, one),
+            Err(cut) => return cut,
         }
     }
     status

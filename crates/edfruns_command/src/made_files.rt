@@ -1,6 +1,7 @@
 //! The list of the files that were made, for what makes them.
 
 ghost use Rattle.std.specs.Prelude.{◌≡◌, ◌++◌, ◌∷◌, [], ℕ, List, MatchResult, length, option_map};
+ghost use Rattle.std.specs.Prelude.{option_and_then, slice_get};
 ghost use Rattle.std.specs.Bool.{MatchBool};
 ghost use Rattle.edfruns_command.specs.Made.{MadeFile, begun, finished, removed, kept};
 
@@ -8,24 +9,27 @@ use crate::outputs::Stage;
 use std::alloc::{AllocError, Global};
 use std::marker::Model;
 
-/// A file that was made, and its bytes, where these are known.
+/// A file that was made, whether it was finished, and its bytes then, where these are known.
 #[derive(Drop)]
 struct MadeEntry {
     name: String,
     stage: Stage,
+    is_whole: bool,
     bytes: Option<Vec<u8>>,
 }
 
 impl MadeEntry {
-    ghost use Rattle.std.specs.Prelude.{◌≡◌};
+    ghost use Rattle.std.specs.Prelude.{◌≡◌, true};
 
     /// The file has all its bytes.
     fn fill(&mut self, bytes: Option<Vec<u8>>)
         ensures name { self.new.name ≡ self.old.name }
         ensures stage { self.new.stage ≡ Stage.Finished }
+        ensures whole { self.new.is_whole ≡ true }
         ensures bytes { self.new.bytes ≡ bytes }
     {
         self.stage = Stage::Finished;
+        self.is_whole = true;
         self.bytes = bytes;
     }
 }
@@ -50,7 +54,7 @@ impl Model for MadeFiles {
     ghost Value = { List MadeFile };
 
     ghost view = { λ files. map (λ entry. made_file (string_bytes entry.name) entry.stage
-        (option_map (λ bytes. bytes.items) entry.bytes)) files.entries.items };
+        entry.is_whole (option_map (λ bytes. bytes.items) entry.bytes)) files.entries.items };
 }
 
 impl MadeFiles {
@@ -83,6 +87,7 @@ impl MadeFiles {
         self.entries.push(MadeEntry {
             name,
             stage: Stage::Begun,
+            is_whole: false,
             bytes: None,
         })?;
         Ok(())
@@ -109,7 +114,10 @@ impl MadeFiles {
     }
 
     /// The name of the file at a place, from 0, if there is one.
-    pub fn name(&self, place: usize) -> Option<&str> {
+    pub fn name(&self, place: usize) -> Option<&str>
+        ensures { option_map (λ name. name.now) result
+            ≡ option_map (λ (file : MadeFile). file.name) (slice_get self.now place) }
+    {
         match self.entries.get(place) {
             Some(entry) => Some(entry.name.as_str()),
             None => None,
@@ -117,7 +125,10 @@ impl MadeFiles {
     }
 
     /// How far the file at a place is, if there is one.
-    pub fn stage(&self, place: usize) -> Option<Stage> {
+    pub fn stage(&self, place: usize) -> Option<Stage>
+        ensures { result
+            ≡ option_map (λ (file : MadeFile). file.stage) (slice_get self.now place) }
+    {
         match self.entries.get(place) {
             Some(entry) => Some(entry.stage),
             None => None,
@@ -125,12 +136,16 @@ impl MadeFiles {
     }
 
     /// The bytes of the file at a place, where it is finished and they are known.
-    pub fn bytes(&self, place: usize) -> Option<&[u8]> {
+    pub fn bytes(&self, place: usize) -> Option<&[u8]>
+        ensures { option_map (λ bytes. bytes.now) result
+            ≡ option_and_then (λ (file : MadeFile). file.bytes) (slice_get self.now place) }
+    {
         match self.entries.get(place) {
             Some(
                 MadeEntry {
                     name: _,
                     stage: _,
+                    is_whole: _,
                     bytes: Some(bytes),
                 },
             ) => Some(bytes.as_slice()),

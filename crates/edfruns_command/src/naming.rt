@@ -50,7 +50,7 @@ pub(crate) fn run_names(
 const MOST_DIGITS: usize = 8;
 
 /// Adds the names of the files of the first run with 1, 2 and up to 8 digits: one of them is there
-/// where an earlier split had this prefix.
+/// where an earlier split had this prefix and its first file was not moved away.
 pub(crate) fn push_first_names(
     alloc: Global,
     prefix: &str,

@@ -2,6 +2,7 @@
 
 ghost use Rattle.std.specs.Prelude.{◌≡◌, ◌⊎◌, ◌++◌, ◌∷◌, [], ◌≤◌, ◌<◌, ℕ, List, IfOk, OnOk};
 ghost use Rattle.std.specs.Prelude.{MatchResult, length, replicate, string_bytes};
+ghost use Rattle.edf_field.specs.Number.{duration_of};
 ghost use Rattle.edf_header.specs.declared.limits.TheConstants.{MOST_RECORDS};
 ghost use Rattle.edf_fragment.specs.Fragment.{DataRecord};
 ghost use Rattle.edf_fragment.specs.Reading.{at_first};
@@ -12,10 +13,13 @@ ghost use Rattle.edf_program.specs.Output.{growth};
 ghost use Rattle.edf_runs.specs.Read.{ReadsRuns};
 ghost use Rattle.edf_runs.specs.Runs.{AreListed};
 ghost use Rattle.edfruns_command.specs.Inside.{OpensUpTo};
+ghost use Rattle.edfruns_command.specs.Joining.{each_line};
+ghost use Rattle.edfruns_command.specs.Lines.{IsSpelling};
 ghost use Rattle.edfruns_command.specs.Listing.{HasRuns, HasFault, OpensAgain};
 ghost use Rattle.edfruns_command.specs.Picturing.{IsPictured, SendsPicture};
 
 use crate::arguments::{file_value, value_in};
+use crate::joining::each_text;
 use crate::refusal::{refuse, refuse_run};
 use crate::runs_command::RunsCommand;
 use crate::signals::signals_in;
@@ -172,9 +176,11 @@ fn stretches_of(alloc: Global, runs: &[Run]) -> Result<Vec<Stretch>, AllocError>
     Ok(stretches)
 }
 
-/// The picture of what was seen.
+/// The picture of what was seen, with the lines of the runs as text.
 fn draw(alloc: Global, seen: &SeenFile, tolerance: u64) -> Result<String, AllocError>
-    ensures { IfOk result (λ picture. IsPicture (string_bytes picture)) }
+    ensures { let listing = seen.now.listing in IfOk result (λ picture. (spell : ℕ → List ℕ) →
+        IsSpelling spell → IsPicture (each_line spell (duration_of listing.identity.duration)
+        listing.runs.items) (string_bytes picture)) }
 {
     let identity = &seen.listing.identity;
     let title = Title {
@@ -190,7 +196,8 @@ fn draw(alloc: Global, seen: &SeenFile, tolerance: u64) -> Result<String, AllocE
         signals: &signals,
         tolerance,
     };
-    seen.sketch.draw(alloc, &title, &recorded)
+    let lines = each_text(alloc, &seen.listing)?;
+    seen.sketch.draw(alloc, &title, &recorded, lines.as_slice())
 }
 
 /// What a picture shows of a file, which is read once.

@@ -111,7 +111,7 @@ fn tell_reread<F: Output>(err: &mut F, file: &str, fault: WriteFault, status: St
 }
 
 /// Prints that an output can't be written. Printing takes no memory.
-fn tell_unwritten<F: Output>(err: &mut F, output: &str, status: Status) -> Status
+pub(crate) fn tell_unwritten<F: Output>(err: &mut F, output: &str, status: Status) -> Status
     ensures { IsWritten (growth F.Output err.old err.new) (unwritten_line output.now) status
         result }
 {

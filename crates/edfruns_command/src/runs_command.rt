@@ -58,8 +58,13 @@ pub enum RunsCommand {
 }
 
 impl RunsCommand {
+    ghost use Rattle.std.specs.Prelude.{◌≡◌};
+    ghost use Rattle.edfruns_command.specs.Run.{meaning, readings_of};
+
     /// How often it reads a file, if nothing is wrong.
-    pub fn readings(&self) -> usize {
+    pub fn readings(&self) -> usize
+        ensures { result ≡ readings_of (meaning self.now) }
+    {
         match self {
             RunsCommand::List {
                 files,
@@ -87,11 +92,11 @@ impl RunsCommand {
 /// Runs a command.
 ///
 /// Lists, files and pictures go to `out`, and why something is not done, and the line of a file of
-/// `Write`, to `err`. The list of a file goes out whole, or a front of it where a write failed, or
-/// nothing where memory ran out. `Split` leaves all its files where it is done, and else none but
-/// those that it names as not removed; the lines of files that were removed may have gone out, where
-/// writing them failed. The clauses say what `List`, `Write`, `Canonical` and `Split` do, and of
-/// `Picture` all but what the picture shows.
+/// `Write`, to `err`. The list of a file goes out whole, or a front of it where a write failed,
+/// which a line tells, or nothing where memory ran out. `Split` leaves all its files where it is
+/// done, and else none but those that it names as not removed; the lines of files that were removed
+/// may have gone out, where writing them failed. The clauses say what `List`, `Write`, `Canonical`
+/// and `Split` do, and of `Picture` all but what the picture shows.
 pub fn run_runs<I: Inputs, P: Outputs, O: Output, F: Output>(
     alloc: Global,
     command: &RunsCommand,

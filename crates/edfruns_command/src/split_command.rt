@@ -84,7 +84,8 @@ pub(crate) fn read_split(
     })
 }
 
-/// The names that no file may have: those of the runs, and the first ones of an earlier split.
+/// The names that no file may have: those of the runs, and those of the first file of an earlier
+/// split, with 1 to 8 digits. Of an earlier split whose first file is gone nothing is asked.
 fn asked_names(alloc: Global, prefix: &str, count: usize) -> Result<Vec<String>, AllocError>
     ensures { IfOk result (λ r. map string_bytes r.items ≡ asked_names prefix.now count) }
 {
@@ -166,7 +167,8 @@ fn split_listed<I: Inputs, P: Outputs, O: Output, F: Output>(
     give_up(file, stop, names, first, outputs, err)
 }
 
-/// Writes each run of a file to an EDF+C file of its own. No file that is there is written over.
+/// Writes each run of a file to an EDF+C file of its own. No file that is there is written over. A
+/// run whose start no header can name is told before a name that is taken.
 pub(crate) fn split<I: Inputs, P: Outputs, O: Output, F: Output>(
     alloc: Global,
     file: &str,

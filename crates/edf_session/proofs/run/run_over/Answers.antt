@@ -5,6 +5,7 @@ use Rattle.sqlite.specs.State.{HasCleanDisk}
 use Rattle.edf_store.specs.Held.{at}
 use Rattle.edfstore_arguments.specs.Arguments.{meaning}
 use Rattle.edf_program.specs.Output.{growth}
+use Rattle.edf_session.specs.Watch.{Notice, IsNoticed}
 use Rattle.edf_session.proofs.Crashes.{done_left}
 use Rattle.edf_program.proofs.Puts.{nothing-gets}
 use Rattle.edf_session.proofs.Running.{ran, none_opened, is_trouble}
@@ -16,12 +17,14 @@ returns-in-Ok-clause-done g c =
     let out = growth g.O.Output c.args.out.now c.run-status.new.out in
     let err = growth g.F.Output c.args.err.now c.run-status.new.err in
     let asked = meaning c.args.command.now in
+    let noticed : Notice → Type 0 = IsNoticed (g.W.Watch.noticed c.args.watch.now)
+    (g.W.Watch.noticed c.opened.new.self) in
     let left = done_left g.S.Store bytes out err c.in-Ok.store c.run-status.new.store asked
     c.run-status.result c.run-status.ensures.done in
     ran g.S.Store bytes out err c.args.conn c.into_connection-back.result c.args.cap
     c.in-Ok.store c.run-status.new.store asked c.run-status.result c.in-Ok.ensures.opened
     c.in-Ok.ensures.cap
-    c.into_connection-back.ensures c.run-status.ensures.done _ c.opened.ensures
+    c.into_connection-back.ensures c.run-status.ensures.done noticed c.opened.ensures
     c.run-status.ensures.cap
     (λ (clean : HasCleanDisk (at g.S.Store c.run-status.new.store)). let was : HasCleanDisk
     (at g.S.Store c.in-Ok.store) = omega (arith, left.clean, clean) in was)

@@ -1,10 +1,11 @@
 use Rattle.std.proofs.Common.{◌∙◌, ◌+◌, ◌++◌, ◌∷◌, [], ℕ, List, Bool, inr, refl, sym, ap, subst, append-nil}
 use Rattle.std.proofs.Common.{map, take, drop, string_bytes, Global}
-use Rattle.std.specs.Prelude.{Option, Some}
+use Rattle.std.specs.Prelude.{Option, Ok}
 use Rattle.edf_program.specs.Output.{growth}
 use Rattle.edf_program.specs.declared.status.Status.{Status}
-use Rattle.edf_program.specs.declared.status.Status.TheVariants.{Trouble}
 use Rattle.edfruns_command.specs.Inside.{OpensUpTo}
+use Rattle.edfruns_command.specs.Lines.{standard_output, unwritten_line}
+use Rattle.edfruns_command.proofs.Answered.{trouble-undone}
 use Rattle.edfruns_command.specs.Listed.{AreListed, StopsListing, IsFileListed, CutsLines, OpensEach}
 use Rattle.edfruns_command.specs.Listed.{held_before, held_after, file_label}
 use Rattle.edfruns_command.proofs.Listed.{listed_more, each_more, each_cut, names_more, names_around}
@@ -27,7 +28,7 @@ loop-file-preserved g c =
     let text = string_bytes {Z = Global} in
     let name = text c.file-item.result in
     let names = map text (take i files) in
-    let one = c.in-Some.one in
+    let one = c.in-Ok.one in
     let out = growth g.O.Output c.args.out.now c.list_file.new.out in
     let err = growth g.F.Output c.args.err.now c.list_file.new.err in
     let mid_out = growth g.O.Output c.loop-file.out c.list_file.new.out in
@@ -38,11 +39,11 @@ loop-file-preserved g c =
     let more = names_more text files i c.file-item.result c.loop-file-test.true c.file-item.is in
     let told = subst (λ (b : Option (List ℕ)). IsFileListed mid_out mid_err b
     (file_label several c.as_str.result.now) most c.as_str.result.now one)
-    (c.loop-file.invariant.same c.as_str.result.now) c.in-Some.ensures.listed in
+    (c.loop-file.invariant.same c.as_str.result.now) c.in-Ok.ensures.listed in
     let listed = subst (λ (n : List ℕ). IsFileListed mid_out mid_err (bytes n)
     (file_label several n) most n one) c.as_str.ensures.value told in
     let opened = subst (λ (n : List ℕ). OpensUpTo mid after n 1) c.as_str.ensures.value
-    c.in-Some.ensures.opened in
+    c.in-Ok.ensures.opened in
     record {
       listed = subst (λ (l : List (List ℕ)). AreListed bytes several most (held_before out)
           (held_after out) (held_before err) (held_after err) l c.worse-status.result) (sym more)
@@ -57,13 +58,13 @@ loop-file-preserved g c =
           (sym c.worse-status.ensures)
           (each_more before mid after names name c.loop-file.status
           c.loop-file.invariant.opened opened one
-          (λ done. c.in-Some.ensures.done (ap (λ (s : Status). Some s) done)
+          (λ done. c.in-Ok.ensures.done (ap (λ (s : Status). Ok s) done)
           ∙ ap (λ (n : List ℕ). mid ++ (n ∷ [])) c.as_str.ensures.value)));
-      same = λ other. c.in-Some.ensures.same other ∙ c.loop-file.invariant.same other;
+      same = λ other. c.in-Ok.ensures.same other ∙ c.loop-file.invariant.same other;
     }
 
-pub returns-in-None-clause-listed : goal.returns-in-None-clause-listed
-returns-in-None-clause-listed g c =
+pub returns-in-Err-clause-listed : goal.returns-in-Err-clause-listed
+returns-in-Err-clause-listed g c =
     let bytes = g.I.Inputs.bytes c.args.inputs.now in
     let several = c.are_several-several.result in
     let most = c.args.tolerance in
@@ -74,11 +75,12 @@ returns-in-None-clause-listed g c =
     let err = growth g.F.Output c.args.err.now c.list_file.new.err in
     let mid_out = growth g.O.Output c.loop-file.out c.list_file.new.out in
     let mid_err = growth g.F.Output c.loop-file.err c.list_file.new.err in
+    let ended = c.in-Err.cut in
     let told = subst (λ (b : Option (List ℕ)). CutsLines mid_out mid_err b
-    (file_label several c.as_str.result.now) most)
-    (c.loop-file.invariant.same c.as_str.result.now) c.in-None.ensures.listed in
+    (file_label several c.as_str.result.now) most ended)
+    (c.loop-file.invariant.same c.as_str.result.now) c.in-Err.ensures.listed in
     inr (subst (λ (s : Bool). StopsListing bytes s most (held_before out) (held_after out)
-    (held_before err) (held_after err) (map text files) Trouble) c.are_several-several.ensures
+    (held_before err) (held_after err) (map text files) ended) c.are_several-several.ensures
     (record {
       front = map text (take i files);
       name = text c.file-item.result;
@@ -88,13 +90,12 @@ returns-in-None-clause-listed g c =
       mid_err = held_before mid_err;
       earlier = c.loop-file.status;
       listed = c.loop-file.invariant.listed;
-      cut = subst (λ (n : List ℕ). CutsLines mid_out mid_err (bytes n) (file_label several n) most)
-          c.as_str.ensures.value told;
-      trouble = refl;
+      cut = subst (λ (n : List ℕ). CutsLines mid_out mid_err (bytes n) (file_label several n) most
+          ended) c.as_str.ensures.value told;
     }))
 
-pub returns-in-None-clause-opened : goal.returns-in-None-clause-opened
-returns-in-None-clause-opened g c =
+pub returns-in-Err-clause-opened : goal.returns-in-Err-clause-opened
+returns-in-Err-clause-opened g c =
     let files = c.args.files.now in
     let i = c.loop-file.file-index in
     let text = string_bytes {Z = Global} in
@@ -103,5 +104,7 @@ returns-in-None-clause-opened g c =
     each_cut (g.I.Inputs.opened c.args.inputs.now) mid after (map text (take i files))
     (text c.file-item.result) c.loop-file.status c.loop-file.invariant.opened
     (subst (λ (n : List ℕ). OpensUpTo mid after n 1) c.as_str.ensures.value
-    c.in-None.ensures.opened) (map text (drop (i + 1) files)) (map text files)
-    (names_around text files i c.file-item.result c.loop-file-test.true c.file-item.is)
+    c.in-Err.ensures.opened) (map text (drop (i + 1) files)) (map text files)
+    (names_around text files i c.file-item.result c.loop-file-test.true c.file-item.is) c.in-Err.cut
+    (trouble-undone (growth g.F.Output c.loop-file.err c.list_file.new.err)
+    (unwritten_line standard_output) c.in-Err.cut c.in-Err.ensures.listed.1)

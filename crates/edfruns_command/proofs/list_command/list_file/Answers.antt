@@ -18,7 +18,7 @@ returns-in-Err-clause-listed g c =
 pub returns-in-Ok-text_of-clause-listed : goal.returns-in-Ok-text_of-clause-listed
 returns-in-Ok-text_of-clause-listed g c =
     sent (growth g.O.Output c.args.out.now c.send_lines.new.out)
-    (growth g.F.Output c.args.err.now c.args.err.now)
+    (growth g.F.Output c.args.err.now c.send_lines.new.err)
     (g.I.Inputs.bytes c.args.inputs.now c.args.file.now)
     (file_label c.args.several c.args.file.now) c.args.tolerance c.args.file.now
     c.as_slice.result.now c.send_lines.result
@@ -29,7 +29,6 @@ returns-in-Ok-text_of-clause-listed g c =
       seen = c.in-Ok-text_of.ensures.1;
       told = λ spell is. c.as_slice.ensures.value ∙ c.in-Ok-text_of.ensures.2 spell is;
     })
-    (nothing-gets (g.F.Output.contents c.args.err.now) (g.F.Output.failures c.args.err.now))
     c.send_lines.ensures
 
 pub returns-clause-listed : goal.returns-clause-listed

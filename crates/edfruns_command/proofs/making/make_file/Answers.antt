@@ -22,9 +22,12 @@ returns-then-finish-clause-answer g c =
       named = refl;
       held = record {
         finished = refl;
-        file = w.file;
-        is_file = w.is_file;
-        bytes = λ known. filled before after w.file (c.in-Ok.ensures.empty known) w.wrote;
+        was = record {
+          is_whole = refl;
+          file = w.file;
+          is_file = w.is_file;
+          held = λ known. filled before after w.file (c.in-Ok.ensures.empty known) w.wrote;
+        };
       };
       unfailed = c.if-finish.ensures.failed ∙ c.in-Ok.ensures.failed;
     }

@@ -12,9 +12,15 @@ use Rattle.edfruns_command.specs.Writing.{ReadsAgain}
 use Rattle.edfruns_command.specs.Splitting.{making}
 use Rattle.edfruns_command.specs.InsideMaking.{MakesFirst, StopsEach, Ends, StopsAtEnd}
 use Rattle.edfruns_command.proofs.Answered.{opened-once}
-use Rattle.edfruns_command.proofs.Rereads.{not-reopened, stops-making, stops-after, all-made}
-use Rattle.edfruns_command.proofs.Rereads.{rereads-with}
+use Rattle.edfruns_command.proofs.Rereads.{not-opened, not-reopened, stops-making, stops-after}
+use Rattle.edfruns_command.proofs.Rereads.{all-made, rereads-with}
 use Rattle.edfruns_command.proofs.making.make_files.Goals as goal
+
+pub returns-in_default-clause-answer : goal.returns-in_default-clause-answer
+returns-in_default-clause-answer g c =
+    not-opened (making g.P.Outputs c.args.outputs.now c.args.outputs.now)
+    (g.I.Inputs.bytes c.args.inputs.now c.args.file.now) c.args.plan.now
+    (map string_bytes c.args.names.now) refl refl
 
 pub returns-in-Err-clause-answer : goal.returns-in-Err-clause-answer
 returns-in-Err-clause-answer g c =

@@ -82,6 +82,7 @@ returns-in-Some-taken_name-clause-split g c =
       inl (record {
         plan = c.in-Ok.plan;
         has = c.in-Ok.ensures.answer;
+        dated = c.in_default-undated_run.ensures;
         front = t.front;
         found = c.in-Some-taken_name.name.now;
         later = t.later;

@@ -12,7 +12,8 @@ give_up-requires-clause-named g c =
     let names = map string_bytes c.args.names.now in
     let has = made-of m (g.I.Inputs.bytes c.args.inputs.now c.args.file.now) c.args.plan.now
     names c.in-Err.stop c.in-Err.ensures.answer in
-    named m c.count-first.result c.count-first.ensures names has.0 has.1
+    named m c.count-first.result c.count-first.ensures names has.0 has.1 c.args.plan.now.runs.items
+    has.2 has.3
 
 pub returns-in-Err-clause-split : goal.returns-in-Err-clause-split
 returns-in-Err-clause-split g c =

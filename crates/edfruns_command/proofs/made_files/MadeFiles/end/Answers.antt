@@ -11,25 +11,25 @@ use Rattle.edfruns_command.proofs.made_files.MadeFiles.end.Goals as goal
 
 ends : (is_gone : Bool) (stage : Stage) (front later now : List MadeFile) (old new file : MadeFile)
     → MatchBool is_gone (stage ≡ Removed) (stage ≡ Kept) → old ≡ file →
-    new ≡ made_file old.name stage old.bytes → now ≡ front ++ (new ∷ later) →
+    new ≡ made_file old.name stage old.whole old.bytes → now ≡ front ++ (new ∷ later) →
     MatchBool is_gone (now ≡ front ++ (removed file ∷ later)) (now ≡ front ++ (kept file ∷ later))
 ends true stage front later now old new file s was is so =
     so ∙ ap (λ (f : MadeFile). front ++ (f ∷ later)) (is
-    ∙ ap (λ (t : Stage). made_file old.name t old.bytes) s
+    ∙ ap (λ (t : Stage). made_file old.name t old.whole old.bytes) s
     ∙ ap (λ (f : MadeFile). removed f) was)
 ends false stage front later now old new file s was is so =
     so ∙ ap (λ (f : MadeFile). front ++ (f ∷ later)) (is
-    ∙ ap (λ (t : Stage). made_file old.name t old.bytes) s
+    ∙ ap (λ (t : Stage). made_file old.name t old.whole old.bytes) s
     ∙ ap (λ (f : MadeFile). kept f) was)
 
 pub returns-then-place-len : goal.returns-then-place-len
 returns-then-place-len c front later file now at =
     let f : MadeEntry → MadeFile = λ entry. made_file (string_bytes entry.name) entry.stage
-    (option_map (λ bytes. bytes.items) entry.bytes) in
+    entry.is_whole (option_map (λ bytes. bytes.items) entry.bytes) in
     let entries = c.self.inside.entries.items in
     let e = c.index_mut.result.now in
     let stage = c.stage_after-stage.result in
-    let e' : MadeEntry = record { name = e.name; stage = stage; bytes = e.bytes } in
+    let e' : MadeEntry = record { name = e.name; stage = stage; is_whole = e.is_whole; bytes = e.bytes } in
     let here : map f entries ≡ front ++ (file ∷ later) = c.self.view_is ∙ now in
     let lt : c.args.place < length entries = omega (arith, c.if-place-len.true, c.len.ensures, c.self.inside.entries.ok.0) in
     ends c.args.is_gone stage front later _ (f e) (f e') file c.stage_after-stage.ensures

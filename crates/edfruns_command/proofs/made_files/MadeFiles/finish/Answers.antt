@@ -1,5 +1,5 @@
 use Rattle.std.proofs.Common.{◌≡◌, ◌<◌, ◌-◌, ◌++◌, ◌∷◌, [], ℕ, List, ap, sym, ◌∙◌, arith, length}
-use Rattle.std.proofs.Common.{map, string_bytes, length-append, Option}
+use Rattle.std.proofs.Common.{map, string_bytes, length-append, Option, true}
 use Rattle.std.specs.Prelude.{option_map}
 use Rattle.std.proofs.lemmas.List.{length-map}
 use Rattle.edfruns_command.specs.Made.{MadeFile, made_file, begun, finished}
@@ -12,7 +12,7 @@ use Rattle.edfruns_command.proofs.made_files.MadeFiles.finish.Goals as goal
 pub returns-then-count-gt0 : goal.returns-then-count-gt0
 returns-then-count-gt0 c files name now =
     let f : MadeEntry → MadeFile = λ entry. made_file (string_bytes entry.name) entry.stage
-    (option_map (λ bytes. bytes.items) entry.bytes) in
+    entry.is_whole (option_map (λ bytes. bytes.items) entry.bytes) in
     let entries = c.self.inside.entries.items in
     let k = c.len-count.result - 1 in
     let e = c.index_mut.result.now in
@@ -36,11 +36,15 @@ returns-then-count-gt0 c files name now =
     let before : string_bytes e.name ≡ name = ap (λ (x : MadeFile). x.name)
     (was f entries k files [] (begun name) here at e lt c.index_mut.ensures.value) in
     let its : f e' ≡ finished name (option_map (λ bytes. bytes.items) c.args.bytes) =
-    ap (λ n. made_file (string_bytes n) e'.stage (option_map (λ bytes. bytes.items) e'.bytes))
-    c.fill.ensures.name
-    ∙ ap (λ (n : List ℕ). made_file n e'.stage (option_map (λ bytes. bytes.items) e'.bytes)) before
-    ∙ ap (λ (t : Stage). made_file name t (option_map (λ bytes. bytes.items) e'.bytes))
-    c.fill.ensures.stage
-    ∙ ap (λ b. made_file name Finished (option_map (λ bytes. bytes.items) b)) c.fill.ensures.bytes in
+    ap (λ n. made_file (string_bytes n) e'.stage e'.is_whole
+    (option_map (λ bytes. bytes.items) e'.bytes)) c.fill.ensures.name
+    ∙ ap (λ (n : List ℕ). made_file n e'.stage e'.is_whole
+    (option_map (λ bytes. bytes.items) e'.bytes)) before
+    ∙ ap (λ (t : Stage). made_file name t e'.is_whole
+    (option_map (λ bytes. bytes.items) e'.bytes)) c.fill.ensures.stage
+    ∙ ap (λ w. made_file name Finished w (option_map (λ bytes. bytes.items) e'.bytes))
+    c.fill.ensures.whole
+    ∙ ap (λ b. made_file name Finished true (option_map (λ bytes. bytes.items) b))
+    c.fill.ensures.bytes in
     replaced f entries k files [] (begun name) here at e'
     ∙ ap (λ (x : MadeFile). files ++ (x ∷ [])) its
