@@ -3,10 +3,12 @@
     python3 -m checks.serve [--program PATH] [--edfserve PATH] [--seed SEED] [COUNT]
 
 A client that waits for each answer, one that sends all at once, one that stops reading; names with
-spaces and beyond ASCII, and names that lead out of the folders of --from and --to; lines that are none, of the greatest length and longer, cut by the end of
-the input; a store that is refused; a full disk, and room again. Over a pipe, a named pipe, and by
-socat a socket, where it is installed. Then COUNT sessions (100 if left out) are killed at a random
-moment and begun again: what was answered is held, and in the end all of it is.
+spaces and beyond ASCII, and names that lead out of the folders of --from and --to; lines that are
+none, of the greatest length and longer, cut by the end of the input; a store that is refused; a
+full disk, and room again; files without a patient's code and name, of which a warning comes where
+they begin more than 24 hours apart. Over a pipe, a named pipe, and by socat a socket, where it is
+installed. Then COUNT sessions (100 if left out) are killed at a random moment and begun again: what
+was answered is held, and in the end all of it is.
 """
 import os
 import random
@@ -15,16 +17,19 @@ import signal
 import subprocess
 import tempfile
 import time
+from datetime import datetime, timedelta
 from pathlib import Path
 from subprocess import PIPE
 
-from checks.lib import arguments, faults, measure, model, named, night, printed, runs, serving
+from checks.lib import arguments, edf, faults, measure, model, named, night, printed, runs, serving
 from checks.lib.checks import Checks, Lost, compare, end
 from checks.lib.serving import NO_COMMAND, Client, exported, status
 
 MOST_LINE = 65_536
 MOST_GROWTH = 8_000_000     # bytes of memory that a client may cost which does not read
 SMALL = night.Night(records=480, samples=(64, 32), fragments=24)
+NOBODY, SOMEBODY = "X F X X", "P7 F 02-MAY-1951 X"
+EVENING, DAY, SECOND = datetime(2002, 3, 2, 22), timedelta(days=1), timedelta(seconds=1)
 
 
 class Session:
@@ -273,6 +278,84 @@ def full_disk(checks: Checks, given) -> None:
         measure.ran("umount", "-l", disk)
 
 
+def dated(clock: datetime, patient: str = NOBODY, onsets=("0", "1")) -> bytes:
+    """A file of a data record of a second for each onset."""
+    day = clock.strftime("%d-%b-%Y").upper()
+    head = edf.Header((edf.Signal(), edf.annotations_signal(8)), clock.strftime("%d.%m.%y"),
+                      clock.strftime("%H.%M.%S"), patient, f"Startdate {day} N1 T3 REC5",
+                      count=str(len(onsets)))
+    rng = random.Random(repr((clock, onsets)))
+    return edf.fragment(head, [(rng.randbytes(4), edf.keeping(f"+{onset}")) for onset in onsets])
+
+
+def files_far_apart() -> list:
+    """Files in the order in which they are taken, and the numbers of those that are warned of."""
+    first, next_day = dated(EVENING), dated(EVENING + DAY + 2 * SECOND)
+    gapped = dated(EVENING, onsets=("0", "1", "2", "3", "50000", "50001", "80000.5"))
+    after_it = EVENING + 80_000 * SECOND + DAY
+    return [
+        ("the first file of a recording", [first], []),
+        ("a file a second more than 24 hours later", [first, next_day], [2]),
+        ("exactly 24 hours later", [first, dated(EVENING + DAY + SECOND)], []),
+        ("a second more than 24 hours earlier", [next_day, first], [2]),
+        ("exactly 24 hours earlier", [dated(EVENING + DAY + SECOND), first], []),
+        ("half a second more than 24 hours later",
+         [first, dated(EVENING + DAY + SECOND, onsets=("0.5", "2"))], [2]),
+        ("half a second more than 24 hours earlier",
+         [dated(EVENING + DAY + SECOND, onsets=("0.5", "2")), first], [2]),
+        ("a patient with a code",
+         [dated(EVENING, SOMEBODY), dated(EVENING + 9 * DAY, SOMEBODY)], []),
+        ("a patient with a name",
+         [dated(EVENING, "X F X Smith"), dated(EVENING + 9 * DAY, "X F X Smith")], []),
+        ("a patient with a code, whose name is X",
+         [dated(EVENING, "XX F X X"), dated(EVENING + 9 * DAY, "XX F X X")], []),
+        ("a birthdate and more beside no code and no name",
+         [dated(EVENING, "X F 02-MAY-1951 X ward"),
+          dated(EVENING + 9 * DAY, "X F 02-MAY-1951 X ward")], [2]),
+        ("a file that is held already", [first, next_day, next_day, first], [2]),
+        ("a file between two others", [first, dated(EVENING + 9 * DAY), dated(EVENING + 4 * DAY)],
+         [2, 3]),
+        ("a file beside the later of two",
+         [first, dated(EVENING + 9 * DAY), dated(EVENING + 9 * DAY + 2 * SECOND)], [2]),
+        ("a file beside the earlier of two",
+         [first, dated(EVENING + 9 * DAY), dated(EVENING + 2 * SECOND)], [2]),
+        ("after a file with gaps", [gapped, dated(after_it, onsets=("0.5",))], []),
+        ("later after a file with gaps", [gapped, dated(after_it + SECOND)], [2]),
+        ("a file with gaps, 24 hours earlier", [dated(after_it, onsets=("0.5",)), gapped], []),
+        ("a file with gaps, more than 24 hours earlier", [dated(after_it + SECOND), gapped], [2]),
+        ("the first day that a header can name",
+         [dated(datetime(1985, 1, 1)), dated(datetime(2002, 1, 1)), dated(datetime(1985, 1, 1, 9))],
+         [2]),
+        ("the first day, after others", [dated(EVENING), dated(datetime(1985, 1, 1))], [2]),
+    ]
+
+
+def people(checks: Checks, given) -> None:
+    """Files of different people that may have become one recording."""
+    for what, files, warned in files_far_apart():
+        checks.begin(what)
+        client, held = Client(given.edfserve, checks.folder), model.Store()
+        for number, data in enumerate(files, 1):
+            name = f"{number}.edf"
+            checks.file(name, data)
+            checks.same(name, client.ask(f"take {name}"),
+                        printed.line(name, held.take(data)) + status(0))
+        lines = "".join(serving.warned(f"{number}.edf") for number in warned)
+        checks.same("the end, and the warnings", client.end(), (0, "", lines))
+    checks.begin("a warning, and the answers after it")
+    folder = checks.folder
+    for number, data in enumerate((dated(EVENING), dated(EVENING + 9 * DAY)), 1):
+        checks.file(f"{number}.edf", data)
+    told = Session(folder)
+    asked = [(f"take {number}.edf", told.take(f"{number}.edf")) for number in (1, 2, 1)]
+    asked += [("list", told.list()), ("runs 1", told.runs(1)),
+              ("export 1 all.edf", told.export(1, "all.edf"))]
+    client = Client(given.edfserve, folder)
+    for line, answer in asked:
+        checks.same(line, client.ask(line), answer)
+    checks.same("the end", client.end(), (0, "", serving.warned("2.edf")))
+
+
 def killed_once(program: Path, folder: Path, names: list, rng: random.Random) -> int:
     """Begins a session over these files and kills it; how many were answered."""
     child = subprocess.Popen([program, "s.db"], cwd=folder, stdin=PIPE, stdout=PIPE)
@@ -332,6 +415,7 @@ def main() -> None:
         stops_reading(checks, given)
         lengths(checks, given)
         refused_store(checks, given)
+        people(checks, given)
         full_disk(checks, given)
         try:
             count = kills(given)

@@ -22,6 +22,11 @@ def is_outside(name: str) -> str:
     return f"{name} is outside of the folder\n"
 
 
+def warned(name: str) -> str:
+    """The line on standard error."""
+    return f"{name} warned: files of different people may have become one recording\n"
+
+
 class Client:
     """A session over a pipe, that waits for each answer."""
 

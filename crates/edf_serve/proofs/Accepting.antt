@@ -1,5 +1,6 @@
 -- What is known where a file was accepted.
-use Rattle.std.proofs.Common.{◌≡◌, ◌⊎◌, ℕ, List, Option, Some, None, Ok, Err, refl, sym, subst, inl, inr}
+use Rattle.std.proofs.Common.{◌≡◌, ℕ, List, Option, Some, None, Ok, Err, refl, sym, subst, inl}
+use Rattle.std.proofs.Common.{inr}
 use Rattle.sqlite_trees.specs.declared.store.Store.{Ghosts}
 use Rattle.edf_store.specs.Held.{StoreModel}
 use Rattle.edf_intake.specs.Refusal.{Answer}
@@ -11,7 +12,7 @@ use Rattle.edf_program.specs.Output.{Growth}
 use Rattle.edf_serve.specs.Client.{IsTaken, IsIdle}
 use Rattle.edf_serve.specs.Files.{Opened, Made}
 use Rattle.edf_serve.specs.Served.{Surroundings, IsWorked}
-use Rattle.edf_serve.specs.Taken.{Submission, SubmitsFile, IsAnswerSaid}
+use Rattle.edf_serve.specs.Taken.{Submission, IsAnswerSaid}
 use Rattle.edf_serve.specs.declared.answering.Outcome.{Outcome}
 use Rattle.edf_serve.specs.declared.answering.Outcome.TheVariants as outcome
 
@@ -24,11 +25,12 @@ pub record MayBeTold {S : Type 0} (g : Ghosts S) (store : StoreModel S) (receipt
 module _ {S : Type 0} (g : Ghosts S) (old new : StoreModel S) (opened opened' : Opened)
     (made made' : Made) (out why : Growth) (s : Surroundings) where
   by-answer : (it : Submission) (answer : Answer) → it.answer ≡ answer → (name : List ℕ)
-      (submission : Option Submission) (given : _) (receipt : Receipt) →
+      (submission : Option Submission) (given : _) (receipt : Receipt)
+      (start : _) →
       IsSubmitted g old new it.from it.to answer → IsEnded g new answer →
       IsAnswerSaid g old new opened opened' out name submission answer
-      (outcome.Accepted given receipt) → MayBeTold g new receipt
-  by-answer it (Ok r) is name submission given receipt submitted ended said = record {
+      (outcome.Accepted given receipt start) → MayBeTold g new receipt
+  by-answer it (Ok r) is name submission given receipt start submitted ended said = record {
     idle = λ clean. elim (ended clean) [ inl n ↦ absurd n | inr i ↦ i ];
     taken = subst (IsTaken g new) (sym said.1) (record {
       old = old;
@@ -37,17 +39,19 @@ module _ {S : Type 0} (g : Ghosts S) (old new : StoreModel S) (opened opened' : 
       submitted = submitted;
     });
   }
-  by-answer it (Err refusal) is name submission given receipt submitted ended said = absurd said
+  by-answer it (Err refusal) is name submission given receipt start submitted ended said =
+      absurd said
 
   by-work : (asked : Option LineAsked) (submission : Option Submission) (given : _)
-      (receipt : Receipt) →
+      (receipt : Receipt) (start : _) →
       IsWorked g old new opened opened' made made' out why s asked submission
-      (outcome.Accepted given receipt) → MayBeTold g new receipt
-  by-work None submission given receipt w = absurd w.4
-  by-work (Some (take name)) submission given receipt w = elim w.2 [
+      (outcome.Accepted given receipt start) → MayBeTold g new receipt
+  by-work None submission given receipt start w = absurd w.4
+  by-work (Some (take name)) submission given receipt start w = elim w.2 [
     | inl t ↦ elim t.2 [
       | inl f ↦
-          by-answer f.it f.it.answer refl name submission given receipt f.submitted f.ended f.said
+          by-answer f.it f.it.answer refl name submission given receipt start f.submitted f.ended
+          f.said
       | inr n ↦ absurd n.said
     ]
     | inr n ↦ elim n [
@@ -55,15 +59,15 @@ module _ {S : Type 0} (g : Ghosts S) (old new : StoreModel S) (opened opened' : 
       | inr m ↦ absurd m.said
     ]
   ]
-  by-work (Some list) submission given receipt w = absurd w.2
-  by-work (Some (runs place)) submission given receipt w = absurd w.3
-  by-work (Some (export place name)) submission given receipt w = absurd w.2
+  by-work (Some list) submission given receipt start w = absurd w.2
+  by-work (Some (runs place)) submission given receipt start w = absurd w.3
+  by-work (Some (export place name)) submission given receipt start w = absurd w.2
 
   pub may-be_told : (asked : Option LineAsked) (submission : Option Submission) (o : Outcome)
-      (given : _) (receipt : Receipt) → o ≡ outcome.Accepted given receipt →
+      (given : _) (receipt : Receipt) (start : _) → o ≡ outcome.Accepted given receipt start →
       IsWorked g old new opened opened' made made' out why s asked submission o →
       MayBeTold g new receipt
-  may-be_told asked submission o given receipt e w =
-      by-work asked submission given receipt
+  may-be_told asked submission o given receipt start e w =
+      by-work asked submission given receipt start
       (subst (λ (p : Outcome). IsWorked g old new opened opened' made made' out why s asked
       submission p) e w)

@@ -1,15 +1,14 @@
 -- A session that is broken off and begun again.
-use Rattle.std.proofs.Common.{◌≡◌, ℕ, List, [], ◌∷◌, ◌++◌, map, sym, ap, subst, ◌∙◌}
+use Rattle.std.proofs.Common.{ℕ, List, [], ◌∷◌, ◌++◌, ap, subst, ◌∙◌}
 use Rattle.std.specs.List.{AllZip}
 use Rattle.sqlite_trees.specs.declared.store.Store.{Ghosts}
 use Rattle.edf_fragment.specs.Call.{InputState}
 use Rattle.edf_fragment.specs.Told.{Told}
-use Rattle.edf_holdings.specs.Holdings.{Holdings}
 use Rattle.edf_holdings.specs.Laws.{AreSoundTold}
 use Rattle.edf_holdings.specs.Reply.{after}
 use Rattle.edf_holdings.proofs.Once.{from_the_front}
 use Rattle.edf_holdings.proofs.ToldSound.{told_is_sound}
-use Rattle.edf_store.specs.Held.{StoreModel, Holds}
+use Rattle.edf_store.specs.Held.{Holds}
 use Rattle.edf_intake.specs.Batch.{WillTell}
 use Rattle.edf_serve.specs.Submissions.{BrokenOffEndsAlike}
 

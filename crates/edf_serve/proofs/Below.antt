@@ -1,6 +1,6 @@
 -- What a session opens and makes is below its folders.
-use Rattle.std.proofs.Common.{◌≡◌, ℕ, ◌⊎◌, List, [], ◌∷◌, ◌++◌, Option, Some, None, refl, sym, ap}
-use Rattle.std.proofs.Common.{subst, ◌∙◌, inl, inr, append_assoc, IfSome}
+use Rattle.std.proofs.Common.{◌≡◌, ℕ, List, [], ◌∷◌, ◌++◌, Option, Some, None, refl, sym, ap}
+use Rattle.std.proofs.Common.{subst, ◌∙◌, inl, inr, append_assoc}
 use Rattle.std.proofs.lemmas.List.{append-nil}
 use Rattle.std.specs.List.{AllByRecursion}
 use Rattle.sqlite_trees.specs.declared.store.Store.{Ghosts}
@@ -9,7 +9,7 @@ use Rattle.edfserve_arguments.specs.Line.{LineAsked}
 use Rattle.edfserve_arguments.specs.Line.LineAsked.{take, list, runs, export}
 use Rattle.edf_program.specs.Output.{Growth}
 use Rattle.edf_program.specs.declared.status.Status.{Status}
-use Rattle.edf_serve.specs.Exported.{IsExportedBelow, IsFileEnded}
+use Rattle.edf_serve.specs.Exported.{IsExportedBelow}
 use Rattle.edf_serve.specs.Files.{Opened, Made, Adds, IsFinished}
 use Rattle.edf_serve.specs.Places.{Links, IsPlace, IsBelowFolder, AddsBelow}
 use Rattle.edf_serve.specs.Served.{Surroundings, IsWorked}
@@ -117,7 +117,7 @@ module _ {S : Type 0} (g : Ghosts S) (old new : StoreModel S) (opened opened' : 
     same-opened w.0,
     export-below g old new made made' out name s.links s.folders.to place status w.2.1,
   )
-  worked-below (Some (export place name)) submission (outcome.Accepted n receipt) w = absurd w.2
+  worked-below (Some (export place name)) submission (outcome.Accepted n receipt b) w = absurd w.2
 
 module _ {S : Type 0} (g : Ghosts S) (s : Surroundings) where
   pub turn-below : (a b : Point S) (t : Turn S) → IsTurn g s a b t → StaysBelow g s a b

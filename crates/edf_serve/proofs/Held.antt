@@ -1,10 +1,9 @@
 -- What an accepted file's receipt tells is held.
-use Rattle.std.proofs.Common.{◌≡◌, ◌+◌, ℕ, List, [], ◌∷◌, length, get_or, refl, sym, subst, inr, All}
-use Rattle.std.proofs.Common.{Contains, arith}
+use Rattle.std.proofs.Common.{◌≡◌, ◌+◌, [], ◌∷◌, length, get_or, refl, sym, subst, inr, All}
+use Rattle.std.proofs.Common.{Contains}
 use Rattle.std.proofs.lemmas.List.Elements.{All-contains_itself}
 use Rattle.sqlite_trees.specs.declared.store.Store.{Ghosts}
 use Rattle.sqlite.specs.State.{HasCleanDisk}
-use Rattle.edf_fragment.specs.Fragment.{DataRecord}
 use Rattle.edf_fragment.specs.Told.{Fragment}
 use Rattle.edf_fragment.specs.Call.{InputState}
 use Rattle.edf_fragment.proofs.Sound.{spelled-key, spelled-sound, spelled-begins}

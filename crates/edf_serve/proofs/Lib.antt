@@ -7,4 +7,5 @@ pub mod Below
 pub mod Again
 pub mod Telling
 pub mod Stepping
+pub mod Pauses
 pub mod Sessions

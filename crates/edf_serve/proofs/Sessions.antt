@@ -1,12 +1,12 @@
 -- The turns of a session, one after another, and its end.
-use Rattle.std.proofs.Common.{◌≡◌, ℕ, ◌+◌, List, [], ◌∷◌, ◌++◌, length, Option, Some, None, refl, sym}
-use Rattle.std.proofs.Common.{ap, subst, ◌∙◌, arith, true, false}
+use Rattle.std.proofs.Common.{◌≡◌, ℕ, ◌+◌, List, [], ◌∷◌, length, Option, Some, None, refl, sym}
+use Rattle.std.proofs.Common.{ap, subst, ◌∙◌, arith}
 use Rattle.sqlite_trees.specs.declared.store.Store.{Ghosts}
 use Rattle.edf_store.specs.Held.{StoreModel}
 use Rattle.edf_export.proofs.Walks.{stays_same}
 use Rattle.edf_intake.proofs.Batches.{none_submitted, answers_all}
 use Rattle.edf_serve.specs.Served.{Folders, Surroundings, surroundings}
-use Rattle.edf_serve.specs.Session.{Point, Turn, IsTurn, AreTurns, IsStep, EndsSession, IsSession}
+use Rattle.edf_serve.specs.Session.{Point, Turn, IsTurn, AreTurns, IsStep}
 use Rattle.edf_serve.specs.Files.{Opened, Made}
 use Rattle.edf_serve.specs.Places.{Links, AddsBelow}
 use Rattle.edf_serve.specs.Session.{EndsInput, StaysBelow}
@@ -54,8 +54,8 @@ module _ {S : Type 0} (g : Ghosts S) (s : Surroundings) (a b c : Point S) (count
 
   same-store : (end : End) → EndsInput g s b c end →
       AreSubmittedInTurn g a.store c.store (submissions so.turns)
-  same-store end e = subst (λ (t : StoreModel S). AreSubmittedInTurn g a.store t (submissions so.turns))
-      (sym e.store) so.submitted
+  same-store end e = subst (λ (t : StoreModel S).
+      AreSubmittedInTurn g a.store t (submissions so.turns)) (sym e.store) so.submitted
 
   same-below : (end : End) → EndsInput g s b c end → StaysBelow g s a c
   same-below end e = (

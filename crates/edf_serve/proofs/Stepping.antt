@@ -1,13 +1,12 @@
 -- One step of a session.
-use Rattle.std.proofs.Common.{◌≡◌, ℕ, List, Option, Some, None, true, false, refl, inl, inr}
+use Rattle.std.proofs.Common.{◌≡◌, ℕ, List, Some, None, true, false, refl}
 use Rattle.sqlite_trees.specs.declared.store.Store.{Ghosts}
-use Rattle.edf_program.specs.declared.status.Status.TheVariants.{Trouble}
 use Rattle.edf_serve.specs.Client.{got}
 use Rattle.edf_serve.specs.Served.{Surroundings, IsServed}
-use Rattle.edf_serve.specs.Session.{Point, Turn, IsTurn, IsStep, EndsInput, ComesNext, HasNoLine}
+use Rattle.edf_serve.specs.Session.{Point, Turn, IsTurn, IsStep, ComesNext}
 use Rattle.edf_serve.specs.Session.{worse, told_status}
 use Rattle.edf_serve.specs.declared.answering.Answered.{Answered}
-use Rattle.edf_serve.specs.declared.session.End.TheVariants.{Ended, Unread, Unwritten, Left}
+use Rattle.edf_serve.specs.declared.session.End.TheVariants.{Unwritten, Left}
 
 module _ {S : Type 0} (g : Ghosts S) (s : Surroundings) (a b : Point S) (line : List ℕ)
     (answered : Answered) (came : ComesNext a.coming b.coming line)

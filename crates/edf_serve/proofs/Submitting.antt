@@ -1,7 +1,6 @@
 -- What a session submits, turn after turn.
-use Rattle.std.proofs.Common.{◌≡◌, ℕ, ◌⊎◌, List, [], ◌∷◌, ◌++◌, map, Option, Some, None, Ok, Err}
-use Rattle.std.proofs.Common.{refl, sym, ap, subst, ◌∙◌, inl, inr, arith}
-use Rattle.std.proofs.lemmas.List.{append-nil}
+use Rattle.std.proofs.Common.{◌≡◌, List, [], ◌∷◌, ◌++◌, map, Some, None, Ok, Err}
+use Rattle.std.proofs.Common.{sym, subst, arith}
 use Rattle.std.specs.List.{AllByRecursion}
 use Rattle.sqlite_trees.specs.declared.store.Store.{Ghosts}
 use Rattle.sqlite.specs.State.{HasCleanDisk}
@@ -18,7 +17,7 @@ use Rattle.edf_intake.specs.Batch.{AreSubmitted, IsOwnCause, IsOwnRefusal}
 use Rattle.edf_intake.proofs.Batches.{next_submitted, answers_all}
 use Rattle.edf_intake.proofs.Turns.{map-next}
 use Rattle.edf_serve.specs.Taken.{Submission}
-use Rattle.edf_serve.specs.Submissions.{AreSubmittedInTurn, one_or_none}
+use Rattle.edf_serve.specs.Submissions.{AreSubmittedInTurn}
 
 -- what was no refusal of a clean disk is none later
 own-one : {S : Type 0} (g : Ghosts S) (mid new : StoreModel S) →

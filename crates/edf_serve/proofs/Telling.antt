@@ -1,5 +1,5 @@
 -- How the status of an answer comes of that of a command.
-use Rattle.std.proofs.Common.{◌≡◌, ◌⊎◌, Bool, true, false, sym, inl, inr}
+use Rattle.std.proofs.Common.{◌≡◌, ◌⊎◌, Bool, true, false, inl, inr}
 use Rattle.std.specs.Prelude.{cond}
 use Rattle.std.proofs.lemmas.Bool.{false≢true}
 use Rattle.edf_program.specs.declared.status.Status.{Status}

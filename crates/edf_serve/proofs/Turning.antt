@@ -1,6 +1,6 @@
 -- One turn of a session: what it submits.
-use Rattle.std.proofs.Common.{◌≡◌, ℕ, ◌⊎◌, List, [], ◌∷◌, ◌++◌, Option, Some, None, refl, sym, ap}
-use Rattle.std.proofs.Common.{subst, ◌∙◌, inl, inr}
+use Rattle.std.proofs.Common.{◌≡◌, ℕ, List, ◌++◌, Option, Some, None, sym}
+use Rattle.std.proofs.Common.{subst, inl, inr}
 use Rattle.std.proofs.lemmas.List.{append-nil}
 use Rattle.sqlite_trees.specs.declared.store.Store.{Ghosts}
 use Rattle.edf_store.specs.Held.{StoreModel, Stays}
@@ -8,12 +8,12 @@ use Rattle.edfserve_arguments.specs.Line.{LineAsked}
 use Rattle.edfserve_arguments.specs.Line.LineAsked.{take, list, runs, export}
 use Rattle.edf_program.specs.Output.{Growth}
 use Rattle.edf_program.specs.declared.status.Status.{Status}
-use Rattle.edf_serve.specs.Exported.{IsExportedBelow, IsExportedTo, MakesFile, BeginsNoFile}
+use Rattle.edf_serve.specs.Exported.{IsExportedBelow}
 use Rattle.edf_serve.specs.Files.{Opened, Made}
 use Rattle.edf_serve.specs.Places.{Links}
-use Rattle.edf_serve.specs.Served.{Surroundings, IsWorked, IsAnswer, IsServedAs, EndsWith}
+use Rattle.edf_serve.specs.Served.{Surroundings, IsWorked, IsAnswer, IsServedAs}
 use Rattle.edf_serve.specs.Submissions.{AreSubmittedInTurn, one_or_none}
-use Rattle.edf_serve.specs.Taken.{Submission, SubmitsFile, SubmitsNothing, IsFileTaken}
+use Rattle.edf_serve.specs.Taken.{Submission, IsFileTaken}
 use Rattle.edf_serve.specs.declared.answering.Answered.{Answered}
 use Rattle.edf_serve.specs.declared.answering.Outcome.{Outcome}
 use Rattle.edf_serve.specs.declared.answering.Outcome.TheVariants as outcome
@@ -73,22 +73,22 @@ module _ {S : Type 0} (g : Ghosts S) (first old new : StoreModel S) (all : List 
       AreSubmittedInTurn g first new (all ++ one_or_none submission)
   worked-in_turn o o' m m' out why s None submission (outcome.Told t) c w =
       none-same submission w.4.0 w.0
-  worked-in_turn o o' m m' out why s None submission (outcome.Accepted n r) c w =
+  worked-in_turn o o' m m' out why s None submission (outcome.Accepted n r b) c w =
       absurd w.4
   worked-in_turn o o' m m' out why s (Some (take name)) submission done c w =
       taken-in_turn o o' out name submission s.links s.folders.from s.bytes done c w.2
   worked-in_turn o o' m m' out why s (Some list) submission (outcome.Told t) c w =
       none-stays submission w.2.0 w.2.1.stays
-  worked-in_turn o o' m m' out why s (Some list) submission (outcome.Accepted n r) c w =
+  worked-in_turn o o' m m' out why s (Some list) submission (outcome.Accepted n r b) c w =
       absurd w.2
   worked-in_turn o o' m m' out why s (Some (runs place)) submission (outcome.Told t) c w =
       none-stays submission w.3.0 w.3.1.stays
-  worked-in_turn o o' m m' out why s (Some (runs place)) submission (outcome.Accepted n r) c w =
+  worked-in_turn o o' m m' out why s (Some (runs place)) submission (outcome.Accepted n r b) c w =
       absurd w.3
   worked-in_turn o o' m m' out why s (Some (export place name)) submission (outcome.Told t) c w =
       export-in_turn m m' out name s.links s.folders.to place submission t w.2.0 w.2.1
-  worked-in_turn o o' m m' out why s (Some (export place name)) submission (outcome.Accepted n r) c w =
-      absurd w.2
+  worked-in_turn o o' m m' out why s (Some (export place name)) submission
+      (outcome.Accepted n r b) c w = absurd w.2
 
 -- the whole turn, once it was answered
 pub served-in_turn : {S : Type 0} (g : Ghosts S) (first old new : StoreModel S)
@@ -108,8 +108,12 @@ served-in_turn {S} g first old new opened opened' made made' sent s line answere
 
     go : (o : Outcome) → IsAnswer g is.mid new is.lines is.last o text answered.status →
         AreSubmittedInTurn g first new (all ++ one_or_none submission)
-    go (outcome.Accepted name receipt) a =
-        subst (λ (t : StoreModel S). AreSubmittedInTurn g first t (all ++ one_or_none submission))
-        (sym a.0) so
+    go (outcome.Accepted name receipt start) a = elim a.0 [
+      | inl same ↦
+          subst (λ (t : StoreModel S). AreSubmittedInTurn g first t (all ++ one_or_none submission))
+          (sym same) so
+      | inr asked ↦
+          stays-in_turn g first is.mid new (all ++ one_or_none submission) so asked.1
+    ]
     go (outcome.Told told) a =
         stays-in_turn g first is.mid new (all ++ one_or_none submission) so a.0

@@ -1,4 +1,5 @@
 pub mod Client
+pub mod Apart
 pub mod Files
 pub mod Places
 pub mod Parted

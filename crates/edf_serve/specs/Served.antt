@@ -1,6 +1,6 @@
 -- What a line of a session does: what its command does to the store and to files, what is written
 -- of it, and what goes out.
-use Rattle.std.specs.Prelude.{◌≡◌, ◌⊎◌, ℕ, Bool, true, false, List, [], ◌∷◌, ◌++◌, Option, Some}
+use Rattle.std.specs.Prelude.{◌≡◌, ◌⊎◌, ℕ, true, false, List, [], ◌∷◌, ◌++◌, Option, Some}
 use Rattle.std.specs.Prelude.{None, codes, option_map, cond}
 use Rattle.sqlite_trees.specs.declared.store.Store.{Ghosts}
 use Rattle.edf_store.specs.Held.{StoreModel, Stays}
@@ -11,7 +11,8 @@ use Rattle.edf_command.specs.Listing.{AreRecordingsListed}
 use Rattle.edf_program.specs.Output.{Growth, Gets, IsWritten, IsPut}
 use Rattle.edf_program.specs.declared.status.Status.{Status}
 use Rattle.edf_program.specs.declared.status.Status.TheVariants.{Done, Usage, Trouble}
-use Rattle.edf_serve.specs.Client.{status_line}
+use Rattle.edf_serve.specs.Apart.{IsAskedFor, IsUntold}
+use Rattle.edf_serve.specs.Client.{IsIdle, status_line}
 use Rattle.edf_serve.specs.Exported.{IsExportedBelow}
 use Rattle.edf_serve.specs.Files.{Opened, Made}
 use Rattle.edf_serve.specs.Places.{Links}
@@ -53,7 +54,7 @@ IsNewText w text = (w.before ≡ Some []) × (w.failed_before ≡ 0) × (w.after
 -- a command other than `take` ends with a status, and submits nothing
 abbrev pub EndsWith : (Status → Type 0) → Option Submission → Outcome → Type 0
 EndsWith P submission (outcome.Told status) = (submission ≡ None) × P status
-EndsWith P submission (outcome.Accepted name receipt) = ⊥
+EndsWith P submission (outcome.Accepted name receipt start) = ⊥
 
 module _ {S : Type 0} (g : Ghosts S) (old new : StoreModel S) (opened opened' : Opened)
     (made made' : Made) (out why : Growth) where
@@ -75,10 +76,12 @@ module _ {S : Type 0} (g : Ghosts S) (old new : StoreModel S) (opened opened' : 
       s.folders.to place) submission outcome
 
 module _ {S : Type 0} (g : Ghosts S) (mid new : StoreModel S) (out why : List ℕ) where
-  -- the text of the answer, the line of its status too: the store is as the command left it, and
-  -- where it takes no transaction after that, the status is trouble
+  -- the text of the answer, the line of its status too: the store is as the command left it, but
+  -- for a question after an accepted file, which leaves what is held; and where the store takes no
+  -- transaction after a command, the status is trouble
   abbrev pub IsAnswer : Outcome → List ℕ → Status → Type 0
-  IsAnswer (outcome.Accepted name receipt) text status = (new ≡ mid) × (status ≡ Done)
+  IsAnswer (outcome.Accepted name receipt start) text status = IsAskedFor g mid new receipt
+      × (status ≡ Done)
       × (text ≡ accepted_line name.now receipt.new receipt.known ++ status_line Done)
   IsAnswer (outcome.Told told) text status = Stays g mid new
       × (text ≡ out ++ (why ++ status_line status)) × ((status ≡ told) ⊎ (status ≡ Trouble))
@@ -88,9 +91,16 @@ module _ {S : Type 0} (g : Ghosts S) (mid new : StoreModel S) (out why : List �
     pub stays : Stays g mid new
     pub went : IsPut sent (out ++ (why ++ status_line answered.status)) answered.is_out
     pub status : answered.status ≡ cond answered.is_left Trouble told
+    pub idle : answered.is_left ≡ false → IsIdle g new
+
+-- The store takes no transaction any more: that was trouble; or a file had been accepted, and its
+-- patient has neither code nor name, so that the store was asked more.
+abbrev pub IsLeftBy : Outcome → Status → Type 0
+IsLeftBy (outcome.Accepted name receipt start) status = IsUntold receipt.identity
+IsLeftBy (outcome.Told told) status = status ≡ Trouble
 
 -- the line was read, its command was done and it was answered; and this was submitted, and this
--- text goes out
+-- text goes out. Where the store is not told to be left, it takes a transaction
 pub record IsServedAs {S : Type 0} (g : Ghosts S) (old new : StoreModel S)
     (opened opened' : Opened) (made made' : Made) (sent : Growth)
     (s : Surroundings) (line : List ℕ) (answered : Answered)
@@ -107,7 +117,8 @@ pub record IsServedAs {S : Type 0} (g : Ghosts S) (old new : StoreModel S)
   pub why_is : IsNewText why last
   pub answer : IsAnswer g mid new lines last outcome text answered.status
   pub went : IsPut sent text answered.is_out
-  pub left : answered.is_left ≡ true → answered.status ≡ Trouble
+  pub left : answered.is_left ≡ true → IsLeftBy outcome answered.status
+  pub idle : answered.is_left ≡ false → IsIdle g new
 
 abbrev pub IsServed : {S : Type 0} → Ghosts S → StoreModel S → StoreModel S → Opened → Opened →
     Made → Made → Growth → Surroundings → List ℕ → Answered → Type 0

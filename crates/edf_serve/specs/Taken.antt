@@ -29,14 +29,14 @@ outside_line name = name ++ (codes " is outside of the folder" ++ (10 ∷ []))
 -- a line was written, and that is all
 abbrev pub IsSaid : Growth → List ℕ → Status → Outcome → Type 0
 IsSaid out line wanted (outcome.Told status) = IsWritten out line wanted status
-IsSaid out line wanted (outcome.Accepted name receipt) = ⊥
+IsSaid out line wanted (outcome.Accepted name receipt start) = ⊥
 
 module _ {S : Type 0} (g : Ghosts S) (old new : StoreModel S) (before after : Opened) (out : Growth)
     (name : List ℕ) (submission : Option Submission) where
   -- the answer: accepted, and nothing is written yet; or the line of a refusal
   abbrev pub IsAnswerSaid : Answer → Outcome → Type 0
-  IsAnswerSaid (Ok receipt) (outcome.Accepted given told) = (given.now ≡ name) × (told ≡ receipt)
-      × Gets out []
+  IsAnswerSaid (Ok receipt) (outcome.Accepted given told start) = (given.now ≡ name)
+      × (told ≡ receipt) × Gets out []
   IsAnswerSaid (Err refusal) (outcome.Told status) = (spell : ℕ → List ℕ) → IsSpelling spell →
       IsTold out (refused_file_line spell name refusal) (status_of_number (refusal_number refusal))
       status

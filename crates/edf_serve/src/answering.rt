@@ -13,9 +13,11 @@ ghost use Rattle.edf_serve.specs.Served.{IsWorked, IsToldOver, IsServed, below};
 ghost use Rattle.edf_serve.specs.Served.{surroundings};
 ghost use Rattle.edf_serve.specs.Taken.{Submission, IsPathTaken, IsFileTaken, outside_line};
 
+use crate::apart::warn_if_apart;
 use crate::client::Client;
 use crate::exporting::export;
 use crate::files::{NewFiles, Sources};
+use crate::fronted::Fronted;
 use crate::places::place_of;
 use crate::runs::list_runs;
 use crate::text::Text;
@@ -24,6 +26,7 @@ use edf_fragment::Output;
 use edf_intake::{Receipt, Refusal, submit};
 use edf_program::{Status, status_of_number, tell, tell_bytes, tell_memory, tell_parts};
 use edf_store::Store;
+use edf_time::Instant;
 use edfserve_arguments::{LineCommand, parse_line};
 use sqlite::Alter;
 use std::alloc::Global;
@@ -46,6 +49,8 @@ pub(crate) enum Outcome<'l> {
         name: &'l str,
         /// What was accepted.
         receipt: Receipt,
+        /// The start that its header names, to the second, where memory sufficed for it.
+        start: Option<Instant>,
     },
     /// All else, whose lines are written.
     Told {
@@ -92,12 +97,19 @@ fn submit_file<'l, S: Alter, I: Sources>(
     ensures links { I.links sources.new ≡ I.links sources.old }
 {
     match sources.open(alloc, path) {
-        Ok(mut reader) => match submit(alloc, store, &mut reader) {
-            Ok(receipt) => Outcome::Accepted { name, receipt },
-            Err(refusal) => Outcome::Told {
-                status: tell_refusal(alloc, name, refusal, out),
-            },
-        },
+        Ok(reader) => {
+            let mut fronted = Fronted::new(alloc, reader);
+            match submit(alloc, store, &mut fronted) {
+                Ok(receipt) => Outcome::Accepted {
+                    name,
+                    receipt,
+                    start: fronted.start(),
+                },
+                Err(refusal) => Outcome::Told {
+                    status: tell_refusal(alloc, name, refusal, out),
+                },
+            }
+        }
         Err(_) => Outcome::Told {
             status: tell_memory(out, "take"),
         },
@@ -148,7 +160,8 @@ fn work<'l, S: Alter, I: Sources, P: NewFiles>(
     ensures worked { (submission : Option Submission) ×
         IsWorked S.Store store.old store.new (I.opened sources.old) (I.opened sources.new)
         (P.made files.old) (P.made files.new) (growth ⟦<Text as Output>⟧ out.old out.new)
-        (growth ⟦<Text as Output>⟧ why.old why.new) (surroundings (below folders.entry) (I.bytes sources.old) (I.links sources.old))
+        (growth ⟦<Text as Output>⟧ why.old why.new)
+        (surroundings (below folders.entry) (I.bytes sources.old) (I.links sources.old))
         (option_map asked_by asked.entry) submission result }
     ensures cap { store.new.cap ≡ store.old.cap }
     ensures same { I.bytes sources.new ≡ I.bytes sources.old }
@@ -172,7 +185,7 @@ fn work<'l, S: Alter, I: Sources, P: NewFiles>(
 }
 
 /// Whether the store takes a transaction. What is held stays.
-fn is_idle<S: Alter>(store: &mut Store<S>) -> bool
+pub(crate) fn is_idle<S: Alter>(store: &mut Store<S>) -> bool
     ensures stays { Stays S.Store store.old store.new }
     ensures idle { result ≡ true → IsIdle S.Store store.new }
 {
@@ -233,6 +246,9 @@ fn tell_all<S: Alter, C: Client>(
 /// A line that is no command gets `no such command`, and its status is `Usage`. The client is
 /// answered when the command is done, and what it is told is held. Where the store takes no
 /// transaction after the command, the status is trouble.
+///
+/// After the answer to an accepted file whose patient has neither code nor name, the store is asked
+/// whether the client is to be warned. Where it takes no transaction after that, the answer stands.
 pub fn serve_line<S: Alter, I: Sources, P: NewFiles, C: Client>(
     alloc: Global,
     line: &[u8],
@@ -245,7 +261,9 @@ pub fn serve_line<S: Alter, I: Sources, P: NewFiles, C: Client>(
     ensures served { IsServed S.Store store.old store.new (I.opened sources.old)
         (I.opened sources.new) (P.made files.old) (P.made files.new)
         (got (C.contents client.old) (C.failures client.old) (C.contents client.new)
-        (C.failures client.new)) (surroundings (below folders.entry) (I.bytes sources.old) (I.links sources.old)) line.now result }
+        (C.failures client.new))
+        (surroundings (below folders.entry) (I.bytes sources.old) (I.links sources.old)) line.now
+        result }
     ensures cap { store.new.cap ≡ store.old.cap }
     ensures same { I.bytes sources.new ≡ I.bytes sources.old }
     ensures links { I.links sources.new ≡ I.links sources.old }
@@ -256,12 +274,17 @@ pub fn serve_line<S: Alter, I: Sources, P: NewFiles, C: Client>(
     match work(
         alloc, asked, folders, store, sources, files, &mut out, &mut why,
     ) {
-        Outcome::Accepted { name, receipt } => {
+        Outcome::Accepted {
+            name,
+            receipt,
+            start,
+        } => {
             let is_out = client.accept(store, name, &receipt);
+            let is_left = warn_if_apart(alloc, store, client, name, &receipt, start);
             Answered {
                 status: Status::Done,
                 is_out,
-                is_left: false,
+                is_left,
             }
         }
         Outcome::Told { status } => tell_all(store, client, &out, &why, status),

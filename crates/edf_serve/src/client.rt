@@ -6,6 +6,8 @@ ghost use Rattle.edf_fragment.specs.Failures.{one_more};
 ghost use Rattle.edf_command.specs.Lines.{accepted_line};
 ghost use Rattle.edf_program.specs.Output.{IsPut, growth};
 ghost use Rattle.edf_program.specs.declared.status.Status.TheVariants.{Done};
+ghost use Rattle.edf_program.specs.Output.{IsWritten};
+ghost use Rattle.edf_serve.specs.Apart.{IsApart, warned_line};
 ghost use Rattle.edf_serve.specs.Client.{IsTaken, IsIdle, IsIdleAfter, got, status_line};
 
 use edf_fragment::Output;
@@ -48,6 +50,16 @@ pub trait Client {
         requires { IsIdleAfter S.Store store.now status }
         ensures { IsPut (got (contents self.old) (failures self.old) (contents self.new)
             (failures self.new)) (lines.now ++ (why.now ++ status_line status)) result };
+
+    /// Warns that files of different people may have become one recording: the accepted file of
+    /// this name is of a patient without code and name, and its data records begin more than 24
+    /// hours from those that its recording held. No transaction of the store is open. What was
+    /// answered is as it was.
+    fn warn<S: Alter>(&mut self, store: &Store<S>, name: &str, receipt: &Receipt)
+        requires idle { IsIdle S.Store store.now }
+        requires apart { IsApart S.Store store.now receipt.now }
+        ensures contents { contents self.new ≡ contents self.old }
+        ensures failures { failures self.new ≡ failures self.old };
 }
 
 /// A writer that may keep what it got back until it is flushed.
@@ -63,19 +75,34 @@ pub trait Flush: Output {
         ensures done { OnOk result (Self.failures self.new ≡ Self.failures self.old) };
 }
 
-/// A client that reads what a writer gets, which is flushed at the end of each answer.
+/// A client that reads what a writer gets, which is flushed at the end of each answer. Another
+/// writer gets the warnings.
 #[derive(Drop)]
-pub struct Console<W> {
+pub struct Console<W, E> {
     pub(crate) out: W,
+    pub(crate) warnings: E,
 }
 
-impl<W: Flush> Console<W> {
-    /// A client that reads what this writer gets.
-    pub fn new(out: W) -> Console<W>
-        ensures { result.out ≡ out }
+impl<W: Flush, E: Output> Console<W, E> {
+    /// A client that reads what the first writer gets, and whose warnings the second gets.
+    pub fn new(out: W, warnings: E) -> Console<W, E>
+        ensures out { result.out ≡ out }
+        ensures warnings { result.warnings ≡ warnings }
     {
-        Console { out }
+        Console { out, warnings }
     }
+}
+
+/// Writes a warning. It takes no memory.
+fn tell_warning<E: Output>(out: &mut E, name: &str) -> Status
+    ensures { IsWritten (growth E.Output out.old out.new) (warned_line name.now) Status.Done
+        result }
+{
+    let parts = [
+        name.as_bytes(),
+        b" warned: files of different people may have become one recording\n".as_slice(),
+    ];
+    tell_parts(out, &parts, Status::Done)
 }
 
 /// Writes the parts of an answer and flushes them. `false` where that failed.
@@ -92,7 +119,7 @@ fn send<W: Flush>(out: &mut W, parts: &[&[u8]]) -> bool
     }
 }
 
-impl<W: Flush> Client for Console<W> {
+impl<W: Flush, E: Output> Client for Console<W, E> {
     ghost contents = { λ client. W.Output.contents client.out };
 
     ghost failures = { λ client. W.Output.failures client.out };
@@ -129,5 +156,9 @@ impl<W: Flush> Client for Console<W> {
         let digits = buffer.format(status.code());
         let parts = [lines, why, b"status ".as_slice(), digits.as_bytes(), b"\n"];
         send(&mut self.out, &parts)
+    }
+
+    fn warn<S: Alter>(&mut self, _store: &Store<S>, name: &str, _receipt: &Receipt) {
+        let _ = tell_warning(&mut self.warnings, name);
     }
 }

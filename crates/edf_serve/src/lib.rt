@@ -8,14 +8,17 @@
 #![tactic(auto)]
 
 mod answering;
+mod apart;
 mod client;
 mod exporting;
 mod files;
+mod fronted;
 pub mod laws;
 mod places;
 mod runs;
 mod session;
 mod text;
+mod untold;
 
 pub use answering::{Answered, Folders, serve_line};
 pub use client::{Client, Console, Flush};

@@ -20,6 +20,7 @@ use new_files::PartFiles;
 use output::StandardOutput;
 use sources::SystemFiles;
 use sqlite::Alter;
+use std::io::Stderr;
 use std::process::ExitCode;
 
 /// What is said where a store is opened again.
@@ -32,7 +33,7 @@ struct Session<'rt> {
     lines: StandardLines,
     sources: SystemFiles<'rt>,
     files: PartFiles<'rt>,
-    client: Console<StandardOutput>,
+    client: Console<StandardOutput, Counted<Stderr>>,
     worst: Status,
 }
 
@@ -95,7 +96,7 @@ fn run_session(rt: &HostRuntime, words: &ServeWords) -> Status {
         lines,
         sources: SystemFiles::new(rt, &terminal),
         files: PartFiles::new(rt, &terminal),
-        client: Console::new(StandardOutput::new(rt)),
+        client: Console::new(StandardOutput::new(rt), Counted::new(rt.stderr())),
         worst: Status::Done,
     };
     serve_path(rt, words.store.as_str(), &mut session)

@@ -1,14 +1,24 @@
-use Rattle.std.proofs.Common.{◌≡◌, ◌++◌, Some, option_map, ap, refl, sym, subst}
-use Rattle.std.proofs.lemmas.Bool.{false≢true}
+use Rattle.std.proofs.Common.{◌≡◌, ◌++◌, ℕ, Bool, List, Option, Some, option_map, ap, refl, sym}
+use Rattle.std.proofs.Common.{subst}
 use Rattle.edfserve_arguments.specs.Line.{asked_by}
 use Rattle.edf_command.specs.Lines.{accepted_line}
+use Rattle.edf_program.specs.Output.{IsPut}
 use Rattle.edf_program.specs.declared.status.Status.TheVariants.{Done}
 use Rattle.edf_serve.specs.Client.{got, status_line}
-use Rattle.edf_serve.specs.Served.{IsAnswer, below, surroundings}
+use Rattle.edf_serve.specs.Served.{IsAnswer, IsLeftBy, below, surroundings}
 use Rattle.edf_serve.specs.declared.answering.Outcome.{Outcome}
 use Rattle.edf_serve.proofs.Accepting.{may-be_told}
 use Rattle.edf_serve.proofs.Telling.{told-or-trouble, left-trouble}
 use Rattle.edf_serve.proofs.answering.serve_line.Goals as goal
+
+-- what a client got is as it was
+same_got : (before : Option (List ℕ)) (failed : ℕ) (after after' : Option (List ℕ))
+    (failures failures' : ℕ) (text : List ℕ) (is_out : Bool) → after' ≡ after →
+    failures' ≡ failures → IsPut (got before failed after failures) text is_out →
+    IsPut (got before failed after' failures') text is_out
+same_got before failed after after' failures failures' text is_out e f put =
+    subst (λ (o : Option (List ℕ)). IsPut (got before failed o failures') text is_out) (sym e)
+    (subst (λ (n : ℕ). IsPut (got before failed after n) text is_out) (sym f) put)
 
 pub accept-is_out-requires : goal.accept-is_out-requires
 accept-is_out-requires g c =
@@ -22,7 +32,24 @@ accept-is_out-requires g c =
     (g.P.NewFiles.made c.args.files.now) (g.P.NewFiles.made c.work.new.files) out why
     (surroundings (below c.args.folders) (g.I.Sources.bytes c.args.sources.now)
     (g.I.Sources.links c.args.sources.now)) (option_map asked_by c.parse_line-asked.result) w.0
-    c.work.result c.in-Accepted.name c.in-Accepted.receipt c.in-Accepted.is w.1 in
+    c.work.result c.in-Accepted.name c.in-Accepted.receipt c.in-Accepted.start c.in-Accepted.is
+    w.1 in
+    record { idle = m.idle; taken = m.taken }
+
+pub warn_if_apart-is_left-requires : goal.warn_if_apart-is_left-requires
+warn_if_apart-is_left-requires g c =
+    let w = c.work.ensures.worked in
+    let out = got (Some c.new-out.result.bytes.items) c.new-out.result.failures
+    (Some c.work.new.out.bytes.items) c.work.new.out.failures in
+    let why = got (Some c.new-why.result.bytes.items) c.new-why.result.failures
+    (Some c.work.new.why.bytes.items) c.work.new.why.failures in
+    let m = may-be_told g.S.Store c.args.store.now c.work.new.store
+    (g.I.Sources.opened c.args.sources.now) (g.I.Sources.opened c.work.new.sources)
+    (g.P.NewFiles.made c.args.files.now) (g.P.NewFiles.made c.work.new.files) out why
+    (surroundings (below c.args.folders) (g.I.Sources.bytes c.args.sources.now)
+    (g.I.Sources.links c.args.sources.now)) (option_map asked_by c.parse_line-asked.result) w.0
+    c.work.result c.in-Accepted.name c.in-Accepted.receipt c.in-Accepted.start c.in-Accepted.is
+    w.1 in
     record { idle = m.idle; taken = m.taken }
 
 pub returns-in-Accepted-clause-served : goal.returns-in-Accepted-clause-served
@@ -46,11 +73,17 @@ returns-in-Accepted-clause-served g c =
         worked = w.1;
         out_is = (ap Some c.new-out.ensures.empty, c.new-out.ensures.counted, refl);
         why_is = (ap Some c.new-why.ensures.empty, c.new-why.ensures.counted, refl);
-        answer = subst (λ (o : Outcome). IsAnswer g.S.Store c.work.new.store c.work.new.store
-            c.work.new.out.bytes.items c.work.new.why.bytes.items o text Done)
-            (sym c.in-Accepted.is) (refl, refl, refl);
-        went = c.accept-is_out.ensures;
-        left = λ is. absurd (false≢true is);
+        answer = subst (λ (o : Outcome). IsAnswer g.S.Store c.work.new.store
+            c.warn_if_apart-is_left.new.store c.work.new.out.bytes.items
+            c.work.new.why.bytes.items o text Done)
+            (sym c.in-Accepted.is) (c.warn_if_apart-is_left.ensures.asked, refl, refl);
+        went = same_got (g.C.Client.contents c.args.client.now)
+            (g.C.Client.failures c.args.client.now) _ _ _ _ text _
+            c.warn_if_apart-is_left.ensures.contents c.warn_if_apart-is_left.ensures.failures
+            c.accept-is_out.ensures;
+        left = λ is. subst (λ (o : Outcome). IsLeftBy o Done) (sym c.in-Accepted.is)
+            (c.warn_if_apart-is_left.ensures.left is);
+        idle = c.warn_if_apart-is_left.ensures.idle;
       },
     )
 
@@ -85,6 +118,8 @@ returns-clause-served g c =
               told-or-trouble answered.is_left c.in-Told.status answered.status t.status,
             );
         went = t.went;
-        left = left-trouble answered.is_left c.in-Told.status answered.status t.status;
+        left = λ is. subst (λ (o : Outcome). IsLeftBy o answered.status) (sym c.in-Told.is)
+            (left-trouble answered.is_left c.in-Told.status answered.status t.status is);
+        idle = t.idle;
       },
     )

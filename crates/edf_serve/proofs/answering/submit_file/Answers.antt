@@ -1,4 +1,4 @@
-use Rattle.std.proofs.Common.{Some, Ok, Err, refl, inl}
+use Rattle.std.proofs.Common.{◌∙◌, Some, Ok, Err, refl, ap, inl}
 use Rattle.edf_fragment.specs.Call.{input_state}
 use Rattle.edf_program.proofs.Puts.{nothing-gets}
 use Rattle.edf_serve.specs.Taken.{Submission}
@@ -7,8 +7,8 @@ use Rattle.edf_serve.proofs.answering.submit_file.Goals as goal
 pub returns-in-Ok-submit-clause-taken : goal.returns-in-Ok-submit-clause-taken
 returns-in-Ok-submit-clause-taken g c =
     let it : Submission = record {
-      from = input_state g.I.Reader.Input c.in-Ok.reader;
-      to = input_state g.I.Reader.Input c.submit.new.input;
+      from = input_state g.I.Reader.Input c.new-fronted.result.input;
+      to = input_state g.I.Reader.Input c.submit.new.input.input;
       answer = Ok c.in-Ok-submit.receipt;
     } in (
       Some it,
@@ -16,7 +16,7 @@ returns-in-Ok-submit-clause-taken g c =
         opened = c.in-Ok.ensures.opened;
         it = it;
         is_it = refl;
-        given = c.in-Ok.ensures.reader;
+        given = ap g.I.Reader.Input.remaining c.new-fronted.ensures ∙ c.in-Ok.ensures.reader;
         submitted = c.in-Ok-submit.ensures.submitted;
         ended = c.in-Ok-submit.ensures.ended;
         said = (
@@ -31,8 +31,8 @@ returns-in-Ok-submit-clause-taken g c =
 pub returns-in-Ok-clause-taken : goal.returns-in-Ok-clause-taken
 returns-in-Ok-clause-taken g c =
     let it : Submission = record {
-      from = input_state g.I.Reader.Input c.in-Ok.reader;
-      to = input_state g.I.Reader.Input c.submit.new.input;
+      from = input_state g.I.Reader.Input c.new-fronted.result.input;
+      to = input_state g.I.Reader.Input c.submit.new.input.input;
       answer = Err c.in-Err-submit.refusal;
     } in (
       Some it,
@@ -40,7 +40,7 @@ returns-in-Ok-clause-taken g c =
         opened = c.in-Ok.ensures.opened;
         it = it;
         is_it = refl;
-        given = c.in-Ok.ensures.reader;
+        given = ap g.I.Reader.Input.remaining c.new-fronted.ensures ∙ c.in-Ok.ensures.reader;
         submitted = c.in-Err-submit.ensures.submitted;
         ended = c.in-Err-submit.ensures.ended;
         said = c.tell_refusal.ensures;

@@ -1,4 +1,4 @@
-use Rattle.std.proofs.Common.{◌∙◌, sym, ap, inl, inr}
+use Rattle.std.proofs.Common.{sym, inl, inr}
 use Rattle.edf_store.proofs.Readiness.{stays_then}
 use Rattle.edf_export.proofs.Walks.{clean_before}
 use Rattle.edf_serve.proofs.runs.list_runs.Goals as goal
