@@ -4,7 +4,8 @@
 
 The writers are BioSig's `save2gdf`, the biosig package of Octave, libxdffileio, EDFlib, and the
 converter of ASCII in EDFbrowser, which is driven in a window, as Debian has them; each that is not
-here is left out, and a line says so. A mended file is accepted by
+here is left out, and a line says so. One file is spelled here, as a recorder writes it that rounds
+the starts of its data records to milliseconds. A mended file is accepted by
 the plain model and by `edfstore`. MNE reads the same samples of both files, and EDFlib, which
 refuses most of the first, reads of the second what stands in the first. Debian's own Python
 (/usr/bin/python3) has MNE.
@@ -17,6 +18,7 @@ from pathlib import Path
 
 from checks.lib import arguments, measure, mended
 from checks.lib.checks import Checks
+from checks.lib.edf import Header, Signal, annotations_signal, fragment, keeping
 from checks.mend.by_edfbrowser import TOOLS, by_edfbrowser
 
 try:
@@ -52,6 +54,17 @@ def by_edflib(folder: Path) -> Path:
     return Path(shutil.copy(EDFLIB_FILE, folder))
 
 
+def by_recorder(folder: Path) -> Path:
+    """EDF+C at 256 Hz or close to it, in data records of a third of a second."""
+    signals = (Signal(samples="85"), annotations_signal(16))
+    header = Header(signals, count="60", duration="0.333333", reserved="EDF+C")
+    records = [(bytes((nth * 7 + at) % 256 if at % 2 == 0 else at % 3 for at in range(170)),
+                keeping(f"+{nth / 3:.3f}")) for nth in range(60)]
+    made = folder / "recorder.edf"
+    made.write_bytes(fragment(header, records))
+    return made
+
+
 def has_library(name: str) -> bool:
     return subprocess.run(["ld", f"-l{name}", "-o", "/dev/null", "--unresolved-symbols=ignore-all"],
                           capture_output=True, check=False).returncode == 0
@@ -61,6 +74,7 @@ WRITERS = (("BioSig", by_biosig, lambda: bool(shutil.which("save2gdf"))),
            ("Octave", by_octave, lambda: bool(shutil.which("octave-cli"))),
            ("libxdffileio", by_xdffileio, lambda: has_library("xdffileio")),
            ("EDFlib", by_edflib, lambda: True),
+           ("a recorder that rounds", by_recorder, lambda: True),
            ("EDFbrowser", by_edfbrowser, lambda: all(map(shutil.which, TOOLS))))
 
 

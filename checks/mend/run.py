@@ -3,8 +3,9 @@
     python3 -m checks.mend.run [--edfmend PATH] [--program PATH]
 
 Each mended file is accepted by the plain model and by `edfstore`, has the samples that were there,
-and is mended to itself, with an empty ledger. The ledger names the rule. A good file is copied; a
-file that is there is not written over; where a code is wanted, and none is given, nothing is made.
+and is mended to itself, with an empty ledger. The ledger names the rule. Some mended files are spelled
+by hand, byte for byte. A good file is copied; a file that is there is not written over; where a
+code is wanted, and none is given, or where what is there could only be guessed, nothing is made.
 """
 import itertools
 import tempfile
@@ -78,8 +79,85 @@ OTHERS = (
      lambda data: data[:-12] + b" " * 12, ()),
     ("a duration finer than a nanosecond", "texts",
      in_block(1, b"+1.5", b"+1.5\x150.33333333333"), ()),
+    ("a start rounded down", "clock", in_block(1, b"+1\x14", b"+0.9\x14"), ()),
+    ("a start rounded up", "clock", lambda data: in_block(2, b"+2\x14", b"+1.9\x14")(
+        in_block(1, b"+1\x14", b"+1.05\x14")(data)), ()),
     ("a recording with a small month", "recording",
      at_field(by_hand.RECORDING, "Startdate 02-mar-2002 N1 T3 REC5"), ()),
+)
+
+
+def identified(patient: str, recording: str, startdate: str = "24.12.26", data: bytes = GOOD):
+    """A file with other identifications."""
+    return by_hand.field(by_hand.field(by_hand.field(data, by_hand.PATIENT, patient),
+                                       by_hand.RECORDING, recording),
+                         by_hand.STARTDATE, startdate)
+
+
+def counted(count: int, *more) -> bytes:
+    """PLAIN as it is mended, with so many data records; `more` are the samples of those behind its
+    own."""
+    header = Header((*SIGNALS, annotations_signal(16)), count=str(count), reserved="EDF+C",
+                    recording="Startdate 02-MAR-2002 N1 T3 REC5 mended")
+    samples = [of for of, _ in RECORDS] + list(more)
+    return fragment(header, [(of, keeping(f"+{nth}")) for nth, of in enumerate(samples)])
+
+
+LONG = "Huber_" + "a" * 52               # 58 bytes, so that the patient field has 78
+# A name, a file, the words, and the mended file
+BY_HAND = (
+    ("a birthdate of another form",
+     identified("P-4711 F 03.03.1961 Huber_Anna", "Startdate 24-DEC-2026 N1 T3 REC5"), (),
+     identified("P-4711 F X Huber_Anna 03.03.1961", "Startdate 24-DEC-2026 N1 T3 REC5 mended")),
+    ("a sex of another form, and one subfield more",
+     identified("P-4711 w 03-mar-1961 Huber_Anna Ward_3", "Startdate 24-DEC-2026 N1 T3 REC5"), (),
+     identified("P-4711 X 03-MAR-1961 Huber_Anna Ward_3 w",
+                "Startdate 24-DEC-2026 N1 T3 REC5 mended")),
+    ("neither can be read, after the code that is given",
+     identified("P-4711 w 03.03.1961 Huber_Anna", "Startdate 24-DEC-2026 N1 T3 REC5"),
+     ("--patient", "P-4711"),
+     identified("P-4711 X X Huber_Anna w 03.03.1961", "Startdate 24-DEC-2026 N1 T3 REC5 mended")),
+    ("neither can be read, after X",
+     identified("X w 03.03.1961 Huber_Anna", "Startdate 24-DEC-2026 N1 T3 REC5"), CODE,
+     identified("S-0118 X X Huber_Anna w 03.03.1961", "Startdate 24-DEC-2026 N1 T3 REC5 mended")),
+    ("a name of four words",
+     identified("Haagse Harry de Vries", "Startdate 24-DEC-2026 N1 T3 REC5"), CODE,
+     identified("S-0118 X X Haagse Harry de Vries", "Startdate 24-DEC-2026 N1 T3 REC5 mended")),
+    ("a patient field that gets full",
+     identified(f"P-4711 F 03.03.1961 {LONG}", "Startdate 24-DEC-2026 N1 T3 REC5"), (),
+     identified(f"P-4711 F X {LONG} 03.03.1961", "Startdate 24-DEC-2026 N1 T3 REC5 mended")),
+    ("a month in German",
+     identified("P7 F 02-MAY-1951 X", "Startdate 24-DEZ-2026 PSG-1 T7 Nox"), (),
+     identified("P7 F 02-MAY-1951 X", "Startdate 24-DEC-2026 PSG-1 T7 Nox mended")),
+    ("a month in German and small letters, and one subfield more",
+     identified("P7 F 02-MAY-1951 X", "Startdate 24-dez-2026 PSG-1 T7 Nox Room_2"), (),
+     identified("P7 F 02-MAY-1951 X", "Startdate 24-DEC-2026 PSG-1 T7 Nox Room_2 mended")),
+    ("a byte after zeros", PLAIN + bytes(11) + b"\x07", (),
+     counted(5, bytes(6), bytes(5) + b"\x07")),
+    ("zeros that are less than a data record", PLAIN + bytes(5), (), counted(3)),
+    ("zeros before the count", by_hand.field(PLAIN + bytes(12), by_hand.COUNT, "5"), (),
+     counted(5, bytes(6), bytes(6))),
+)
+ALMOST = by_hand.column(GOOD, by_hand.LABEL, 3, "EDF annotations")
+# A name, a file, and what is printed where it could only be guessed
+GUESSES = (
+    ("a patient field with no room",
+     identified(f"P-4711 F 03.03.1961 {LONG}a", "Startdate 24-DEC-2026 N1 T3 REC5"),
+     "refused E4 Patient"),
+    ("a name of four words, and no code", by_hand.field(GOOD, by_hand.PATIENT,
+                                                        "Haagse Harry de Vries"),
+     "names no code of a patient: give one by --patient CODE"),
+    ("another day", identified("P7 F 02-MAY-1951 X", "Startdate 25-dec-2026 PSG-1 T7 Nox"),
+     "refused E8 DatesDiffer"),
+    ("a label in small letters", ALMOST, "refused E16 Annotations"),
+    ("a label without a space", by_hand.column(GOOD, by_hand.LABEL, 3, "EDFAnnotations"),
+     "refused E16 Annotations"),
+    ("a label in small letters, of plain EDF", by_hand.field(ALMOST, by_hand.RESERVED, ""),
+     "refused E16 Annotations"),
+    ("zeros after plain EDF", PLAIN.ljust(4096, b"\0"), "refused E29 Trailing"),
+    ("zeros after EDF+C", GOOD.ljust(4096, b"\0"), "refused E29 Trailing"),
+    ("zeros after EDF+C without annotations", without_annotations(GOOD).ljust(4096, b"\0"),
+     "refused E29 Trailing"),
 )
 
 
@@ -127,6 +205,43 @@ def several(checks: Checks, mender: mended.Mender) -> list:
     return made
 
 
+def with_starts(checks: Checks, mender: mended.Mender) -> list:
+    """Starts that were rounded, behind all other faults; and starts that can't be told anew."""
+    checks.begin("starts")
+    rounded = in_block(1, b"+1\x14", b"+0.9\x14")(GOOD)
+    data = rounded
+    for _, _, spoil in FAULTS:
+        data = spoil(data)
+    rules = {rule for _, rule, _ in FAULTS} | {"clock"}
+    made = mend(checks, mender, "all faults and starts", data, ("--as", ",".join(sorted(rules))),
+                rules)
+    for what, spoiled in (
+            ("half a sample", in_block(1, b"+1\x14", b"+0.75\x14")(GOOD)),
+            ("a gap behind", in_block(2, b"+2\x14", b"+2.5\x14")(rounded)),
+            ("EDF+D", by_hand.field(rounded, by_hand.RESERVED, "EDF+D"))):
+        ran = mender.mend(spoiled)
+        checks.same(f"{what}: refused", (ran.status, mender.left()), (1, []))
+    return [made]
+
+
+def by_bytes(checks: Checks, mender: mended.Mender) -> list:
+    """Files whose mended form is spelled by hand; the mended files."""
+    checks.begin("mended by hand")
+    made = []
+    for what, data, words, expected in BY_HAND:
+        made.append(mend(checks, mender, what, data, words, ["mended"]))
+        checks.same(f"{what}: the bytes are those by hand", made[-1] == expected, True)
+    return made
+
+
+def guesses(checks: Checks, mender: mended.Mender) -> None:
+    checks.begin("what could only be guessed")
+    for what, data, why in GUESSES:
+        ran = mender.mend(data)
+        checks.same(what, (ran.outcome(), mender.left()),
+                    ((b"", f"in.edf {why}\n".encode(), 1), []))
+
+
 def untouched(checks: Checks, mender: mended.Mender) -> None:
     checks.begin("what is left as it was")
     for name, data in (("good", GOOD), *by_hand.FILES.items()):
@@ -172,7 +287,9 @@ def main() -> None:
         checks = Checks(given.edfmend, Path(name) / "none", "edfmend")
         checks.folder.mkdir()
         mender = mended.Mender(given.edfmend, folder)
-        made = each_rule(checks, mender) + several(checks, mender)
+        made = each_rule(checks, mender) + by_bytes(checks, mender) + several(checks, mender)
+        made += with_starts(checks, mender)
+        guesses(checks, mender)
         untouched(checks, mender)
         taken(checks, given.program, Path(name), [data for data in made if data])
     checks.end()

@@ -5,9 +5,10 @@ use Rattle.std.specs.Io.KnownBytes.{Consumes, Appends, IsAtEnd}
 use Rattle.std.proofs.KnownBytes.{Consumes-trans, Appends-trans, Consumes-nil, Appends-nil}
 use Rattle.edf_header.specs.Header.{Layout}
 use Rattle.edf_fragment.specs.declared.advance.Progress.{Progress}
+use Rattle.edf_fragment.specs.declared.fault.FragmentFault.{FragmentFault}
 use Rattle.edf_canonical.specs.Output.{Buffered}
 use Rattle.edf_mend.specs.Answers.{GoesOn}
-use Rattle.edf_mend.specs.Rewritten.{RecordEdits}
+use Rattle.edf_mend.specs.declared.rewriting.Telling.{Telling}
 use Rattle.edf_mend.specs.Mended.{joined}
 use Rattle.edf_mend.specs.Inside.Steps.{CarriedSoFar}
 
@@ -55,9 +56,10 @@ read-whole left rest taken bytes is read end =
 
 -- the data records so far
 pub carried-on : (l : Layout) (p : Progress) (left rest : Option (List ℕ)) (a b : Buffered)
-    (size added count : ℕ) (told : List RecordEdits) →
-    CarriedSoFar l p left rest a b size added count told → GoesOn left rest a.contents b.contents
-carried-on l p left rest a b size added count told so = record {
+    (size added count : ℕ) (clock : Option FragmentFault) (told : Telling) →
+    CarriedSoFar l p left rest a b size added count clock told →
+    GoesOn left rest a.contents b.contents
+carried-on l p left rest a b size added count clock told so = record {
   taken = joined so.olds;
   written = so.put.front;
   read = so.read;
@@ -66,10 +68,10 @@ carried-on l p left rest a b size added count told so = record {
 
 -- and some bytes after them
 pub carried-reads : (l : Layout) (p : Progress) (left mid rest : Option (List ℕ)) (a b : Buffered)
-    (size added count : ℕ) (told : List RecordEdits) →
-    CarriedSoFar l p left mid a b size added count told → (taken : List ℕ) →
+    (size added count : ℕ) (clock : Option FragmentFault) (told : Telling) →
+    CarriedSoFar l p left mid a b size added count clock told → (taken : List ℕ) →
     Consumes mid rest taken → GoesOn left rest a.contents b.contents
-carried-reads l p left mid rest a b size added count told so taken read =
+carried-reads l p left mid rest a b size added count clock told so taken read =
     further-then left mid rest a.contents b.contents b.contents
-    (carried-on l p left mid a b size added count told so)
+    (carried-on l p left mid a b size added count clock told so)
     (reads-on mid rest b.contents taken read)

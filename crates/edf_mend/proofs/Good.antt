@@ -17,6 +17,7 @@ use Rattle.edf_tal.specs.declared.place.Place.{Place}
 use Rattle.edf_tal.specs.declared.place.Place.TheVariants.{First}
 use Rattle.edf_fragment.specs.Fragment.{DataRecord, IsDataRecord, AreDataRecords, Spells}
 use Rattle.edf_fragment.specs.declared.advance.Progress.{Progress}
+use Rattle.edf_fragment.specs.declared.fault.FragmentFault.{FragmentFault}
 use Rattle.edf_fragment.specs.declared.open_fragment.OpenFragment.{OpenFragment}
 use Rattle.edf_fragment.proofs.Fronts.{same_front}
 use Rattle.edf_fragment.proofs.HeaderParts.{field_front}
@@ -26,7 +27,10 @@ use Rattle.edf_fragment.proofs.Runs.{AreDataRecords-more}
 use Rattle.edf_canonical.specs.Output.{Buffered}
 use Rattle.edf_mend.specs.Answers.{Copies}
 use Rattle.edf_mend.specs.Edits.{RuleEdits, AreMendedBy}
-use Rattle.edf_mend.specs.Rewritten.{RecordEdits}
+use Rattle.edf_mend.specs.Rewritten.{RecordEdits, AreRewritten}
+use Rattle.edf_mend.specs.Retimed.{AreRetimed}
+use Rattle.edf_mend.specs.Texts.{IsRespelled}
+use Rattle.edf_mend.specs.declared.rewriting.Telling.{Telling}
 use Rattle.edf_mend.specs.Mended.{joined, Mends, TellsNone}
 use Rattle.edf_mend.specs.declared.drafting.Draft.{Draft}
 use Rattle.edf_mend.specs.declared.ledger.Ledger.{Ledger}
@@ -53,7 +57,7 @@ names-signals all rest header is =
       few = is.fixed.signals_to;
     }
 
-header-length : (all rest : List ℕ) (header : HeaderRecord) → IsHeader all header rest →
+pub header-length : (all rest : List ℕ) (header : HeaderRecord) → IsHeader all header rest →
     length all ≡ 256 + 256 * header.fixed.signal_count + length rest
 header-length all rest header is = omega (
   arith,
@@ -153,15 +157,21 @@ not-more l p q bytes rest rs ss i all some = elim (cases_lt (length rs) (length 
     )
     none-left l p q rest rs ss (r ∷ others) i more all are = no-record l p q r others rest i are
 
-module _ (l : Layout) (p : Progress) where
+module _ (l : Layout) (p : Progress) (clock : Option FragmentFault) (told : Telling) where
   leaves : (all : List ℕ) (mid : Option (List ℕ)) (a b : Buffered) (size count : ℕ)
       (rs : List DataRecord) (last : Place) → IsLayout l → AreDataRecords l First all rs last []
       → least_records l.count ≤ length rs → length rs ≤ most_records l.count
-      → length rs ≤ MOST_RECORDS → CarriedSoFar l p (Some all) mid a b size 0 count []
-      → LeavesRecords l p mid
-  leaves all None a b size count rs last i are least most few so = absurd so.read
-  leaves all (Some rest) a b size count rs last i are least most few so =
-      let kept : so.news ≡ so.olds = so.carries.rewritten
+      → length rs ≤ MOST_RECORDS → told.texts.items ≡ [] → told.retimed.items ≡ []
+      → CarriedSoFar l p (Some all) mid a b size 0 count clock told → LeavesRecords l p mid
+  leaves all None a b size count rs last i are least most few untold unmoved so = absurd so.read
+  leaves all (Some rest) a b size count rs last i are least most few untold unmoved so =
+      let spelled = so.carries.spelled_records in
+      let timed : so.news ≡ spelled = (subst (λ (x : List RecordEdits). AreRetimed l 0 spelled x
+      told.shift so.news) unmoved so.carries.retimed).0 in
+      let rewritten : spelled ≡ so.carries.carried_records =
+      subst (λ (x : List RecordEdits). AreRewritten (IsRespelled l) 0 so.carries.carried_records x
+      spelled) untold so.carries.rewritten in
+      let kept : so.news ≡ so.olds = timed ∙ rewritten
       ∙ AllZip-map (λ (x : List ℕ). x) so.olds so.carries.carried_records so.carries.carried
       ∙ map-id so.olds in
       let parts : all ≡ joined so.news ++ rest = so.read
@@ -186,19 +196,18 @@ module _ (l : Layout) (p : Progress) where
       }
 
   -- where nothing is added
-  pub leaves-records : (left mid : Option (List ℕ)) (a b : Buffered) (size added count : ℕ)
-      (told : List RecordEdits) → added ≡ 0 → told ≡ [] → HoldsRecords l left →
-      CarriedSoFar l p left mid a b size added count told → LeavesRecords l p mid
-  leaves-records left mid a b size added count told none untold holds so =
-      let known = subst (λ (x : Option (List ℕ)). CarriedSoFar l p x mid a b size added count told)
-      holds.left_is so in
-      let still = subst (λ (x : List RecordEdits). CarriedSoFar l p (Some holds.bytes) mid a b size
-      added count x) untold known in
-      let plain = subst (λ (n : ℕ). CarriedSoFar l p (Some holds.bytes) mid a b size n count [])
-      none still in
+  pub leaves-records : (left mid : Option (List ℕ)) (a b : Buffered) (size added count : ℕ) →
+      added ≡ 0 → told.texts.items ≡ [] → told.retimed.items ≡ [] → HoldsRecords l left →
+      CarriedSoFar l p left mid a b size added count clock told → LeavesRecords l p mid
+  leaves-records left mid a b size added count none untold unmoved holds so =
+      let known = subst (λ (x : Option (List ℕ)). CarriedSoFar l p x mid a b size added count clock
+      told) holds.left_is so in
+      let plain = subst (λ (n : ℕ). CarriedSoFar l p (Some holds.bytes) mid a b size n count clock
+      told) none known in
       leaves holds.bytes mid a b size count holds.records holds.last holds.layout
-      holds.are_records holds.least holds.most holds.few plain
+      holds.are_records holds.least holds.most holds.few untold unmoved plain
 
+module _ (l : Layout) (p : Progress) where
   -- the next bytes are the next of them
   fits : (bytes back buf : List ℕ) (others : List DataRecord) (last : Place) → IsLayout l →
       AreDataRecords l p.place bytes others last [] → p.given + length others ≤ most_records l.count

@@ -1,6 +1,7 @@
 pub mod Outside
 pub mod Edited
 pub mod Telling
+pub mod InStep
 pub mod Carrying
 pub mod Parts
 pub mod OneToOne

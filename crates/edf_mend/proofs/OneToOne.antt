@@ -10,6 +10,7 @@ use Rattle.edf_mend.specs.Edits.{Edit, RuleEdits, AreEdited, AreMendedBy}
 use Rattle.edf_mend.specs.Carried.{IsCarried}
 use Rattle.edf_mend.specs.Rewritten.{RecordEdits, AreRewritten}
 use Rattle.edf_mend.specs.Texts.{IsRespelled}
+use Rattle.edf_mend.specs.Retimed.{AreRetimed}
 use Rattle.edf_mend.specs.Mended.{joined, IsMended, TellsNone}
 use Rattle.edf_mend.specs.declared.ledger.Ledger.{Ledger}
 
@@ -68,11 +69,13 @@ unchanged before after given ledger m none =
     m.mended_header in
     let kept = subst (λ (n : ℕ). AllZip (IsCarried l n) m.old_records m.carried_records) none.added
     m.carried in
-    let as_carried : m.new_records ≡ m.carried_records =
+    let spelled : m.spelled_records ≡ m.carried_records =
     subst (λ (x : List RecordEdits). AreRewritten (IsRespelled l) 0 m.carried_records x
-    m.new_records) none.texts
-    m.texts in
-    let records : m.new_records ≡ m.old_records = as_carried
+    m.spelled_records) none.texts m.texts in
+    let timed : m.new_records ≡ m.spelled_records =
+    (subst (λ (x : List RecordEdits). AreRetimed l 0 m.spelled_records x ledger.shift
+    m.new_records) none.retimed m.retimed).0 in
+    let records : m.new_records ≡ m.old_records = timed ∙ spelled
     ∙ AllZip-map (λ (x : List ℕ). x) m.old_records m.carried_records kept ∙ map-id m.old_records in
     let left : m.left_out ≡ [] = nothing m.left_out (omega (arith, m.left_out_is, none.left_out)) in
     m.after_is ∙ ap (λ (x : List ℕ). x ++ joined m.new_records) header

@@ -1,2 +1,3 @@
+pub mod Timed
 pub mod Steps
 pub mod Faults

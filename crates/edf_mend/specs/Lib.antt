@@ -1,8 +1,16 @@
+pub mod Names
 pub mod Edits
 pub mod Patient
 pub mod Clock
 pub mod Carried
+pub mod Mark
+pub mod Signals
+pub mod Rules
+pub mod Kept
+pub mod Says
+pub mod Asked
 pub mod Rewritten
+pub mod Retimed
 pub mod Texts
 pub mod Mended
 pub mod Counts

@@ -9,8 +9,8 @@ pub record RecordEdits : Type 0 where
   pub nth : ℕ
   pub edits : List Edit
 
--- a data record became another by these edits: it has as many bytes, and the samples of its ordinary
--- signals are as they were
+-- a data record became another by these edits: it has as many bytes, and the samples of its
+-- ordinary signals are as they were
 pub record IsRewritten (l : Layout) (edits : List Edit) (old new : List ℕ) : Type 0 where
   pub edited : AreEdited 0 old edits new
   pub some : edits ≢ []
@@ -28,7 +28,8 @@ AreRewritten Is from before (told ∷ more) after =
     × (told.nth ≡ from + length gap) × Is told.edits old new
     × AreRewritten Is (told.nth + 1) back more later
 
--- a data record is as it was, and nothing is told; or it was rewritten in this way, and that is told
+-- a data record is as it was, and nothing is told; or it was rewritten in this way, and that is
+-- told
 abbrev pub IsTold : (List Edit → List ℕ → List ℕ → Type 0) → ℕ → List ℕ → List RecordEdits →
     List RecordEdits → List ℕ → Type 0
 IsTold Is nth old before after new =

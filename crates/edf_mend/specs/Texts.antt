@@ -26,7 +26,8 @@ pub record IsRounded (old new : List ℕ) : Type 0 where
   pub old_is : old ≡ whole ++ 46 ∷ (nine ++ finer)
   pub len : length nine ≡ 9
   pub value : IsSeconds (whole ++ 46 ∷ nine) nanos
-  pub new_is : ((IsHalf finer × (new ≡ short (nanos + 1))) ⊎ ((¬ IsHalf finer) × (new ≡ short nanos)))
+  pub new_is : ((IsHalf finer × (new ≡ short (nanos + 1)))
+      ⊎ ((¬ IsHalf finer) × (new ≡ short nanos)))
 
 -- zeros, in place of bytes that end no text
 pub record IsFilled (old new : List ℕ) : Type 0 where

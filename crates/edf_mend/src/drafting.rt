@@ -1,16 +1,18 @@
 //! The header of the mended file, and the steps that lead to it.
 
 ghost use Rattle.std.specs.Prelude.{◌≡◌, ◌++◌, ◌∷◌, [], ℕ, List, None, Ok, option_map, All, OnOk};
-ghost use Rattle.std.specs.Prelude.{IfOk, IfErr, MatchResult, Option, false};
+ghost use Rattle.std.specs.Prelude.{IfOk, IfErr, MatchResult, Option, false, ◌≢◌};
 ghost use Rattle.edf_mend.specs.Edits.{AreEdited, AreMendedBy};
 ghost use Rattle.edf_mend.specs.Answers.{IsTrouble, AsksCode};
 ghost use Rattle.edf_mend.specs.Patient.{IsHonest};
+ghost use Rattle.edf_mend.specs.Retimed.{IsContinuous};
 ghost use Rattle.edf_mend.specs.Inside.Steps.{IsDrafted};
 ghost use Rattle.edf_mend.specs.Inside.Faults.{IsQuiet};
 
 use crate::annotations::mend_annotations;
 use crate::ascii::mend_ascii;
 use crate::change::{Change, Cut, changes_between};
+use crate::clock::is_continuous;
 use crate::code::is_honest;
 use crate::count::mend_count;
 use crate::digital::mend_digital;
@@ -27,6 +29,7 @@ use crate::rule::Rule;
 use crate::surveying::Survey;
 use edf_fragment::FragmentFault;
 use edf_header::HeaderFault;
+use edf_tal::TalFault;
 use std::alloc::{AllocError, Global};
 
 /// The rules for headers, in the order in which they are applied.
@@ -88,6 +91,21 @@ fn header_changes(alloc: Global, old: &[u8], new: &[u8]) -> Result<Vec<Change>, 
     changes_between(alloc, old, new, cuts.as_slice())
 }
 
+/// Refuses a file whose version is not that of EDF, by the first fault that it has as it is. What is
+/// no EDF is asked for no code.
+fn check_version(header: &[u8], survey: &Survey) -> Result<(), MendFault>
+    ensures asked { (given : Option (List ℕ)) → IfErr result (AsksCode given) }
+    ensures quiet { IfErr result IsQuiet }
+{
+    if header.len() >= 8 && &header[..8] == b"0       ".as_slice() {
+        return Ok(());
+    }
+    match survey.fault {
+        Some(fault) => Err(MendFault::Refused(fault)),
+        None => Ok(()),
+    }
+}
+
 /// Applies a rule to a header. It tells how many bytes are added to each data record.
 fn apply_rule(
     alloc: Global,
@@ -102,14 +120,17 @@ fn apply_rule(
 {
     match rule {
         Rule::Ascii => mend_ascii(alloc, header.as_mut_slice())?,
-        Rule::Patient => mend_patient(alloc, header.as_mut_slice(), patient)?,
+        Rule::Patient => {
+            check_version(header.as_slice(), survey)?;
+            mend_patient(alloc, header.as_mut_slice(), patient)?
+        }
         Rule::Recording => mend_recording(alloc, header.as_mut_slice())?,
         Rule::Physical => mend_physical(alloc, header.as_mut_slice())?,
         Rule::Digital => mend_digital(alloc, header.as_mut_slice())?,
         Rule::Annotations => return Ok(mend_annotations(alloc, header)?),
         Rule::Plain => return Ok(added.max(mend_plain(alloc, header)?)),
-        Rule::Count => mend_count(alloc, header.as_mut_slice(), added, survey.bytes)?,
-        Rule::Texts => {}
+        Rule::Count => mend_count(alloc, header.as_mut_slice(), added, survey)?,
+        Rule::Texts | Rule::Clock => {}
         Rule::Mended => mark_mended(alloc, header.as_mut_slice())?,
     }
     Ok(added)
@@ -135,6 +156,37 @@ fn is_wanted(rule: Rule, only: &[Rule], steps: &[Step], survey: &Survey) -> bool
         return !steps.is_empty() || is_in_records(survey);
     }
     is_asked(rule, only)
+}
+
+/// Whether the first reading found that a data record starts before the one before it ends.
+fn is_overlap(survey: &Survey) -> bool {
+    matches!(
+        survey.fault,
+        Some(FragmentFault::Tal {
+            fault: TalFault::Order,
+            ..
+        })
+    )
+}
+
+/// Whether starts are told anew, and the fault that is refused where they can't be: in a file that
+/// says that it has no gaps, where the first reading found an overlap, or the rule was named.
+fn clock_wanted(
+    before: &[u8],
+    after: &[u8],
+    only: &[Rule],
+    survey: &Survey,
+) -> Option<FragmentFault>
+    ensures { result ≢ None → IsContinuous before.now × IsContinuous after.now }
+{
+    if !is_asked(Rule::Clock, only) || (only.is_empty() && !is_overlap(survey)) {
+        return None;
+    }
+    if is_continuous(before) && is_continuous(after) {
+        survey.fault
+    } else {
+        None
+    }
 }
 
 /// Takes the step of a rule. One that changes nothing is not told.
@@ -181,7 +233,9 @@ pub(crate) fn draft_header(
         (IsDrafted old.now (option_map (λ code. code.now) patient.entry)) }
     ensures kept { survey.now.fault ≡ None → MatchResult result
         (λ draft. (draft.steps.items ≡ []) × (draft.added ≡ 0)
-        × (draft.rewriting.texts ≡ false)) IsTrouble }
+        × (draft.rewriting.texts ≡ false) × (draft.rewriting.clock ≡ None)) IsTrouble }
+    ensures continuous { IfOk result (λ draft. draft.rewriting.clock ≢ None →
+        IsContinuous old.now × IsContinuous draft.header.items) }
     ensures asked { IfErr result (AsksCode (option_map (λ code. code.now) patient.entry)) }
     ensures quiet { IfErr result IsQuiet }
 {
@@ -189,7 +243,10 @@ pub(crate) fn draft_header(
         header: Vec::from_slice(alloc, old)?,
         steps: Vec::new(alloc),
         added: 0,
-        rewriting: Rewriting { texts: false },
+        rewriting: Rewriting {
+            texts: false,
+            clock: None,
+        },
     };
     if survey.fault.is_none() {
         return Ok(draft);
@@ -200,5 +257,6 @@ pub(crate) fn draft_header(
             take_step(alloc, &mut draft, *rule, survey, patient)?;
         }
     }
+    draft.rewriting.clock = clock_wanted(old, draft.header.as_slice(), only, survey);
     Ok(draft)
 }

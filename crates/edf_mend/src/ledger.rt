@@ -55,6 +55,10 @@ pub struct Ledger {
     pub added: usize,
     /// The changes of annotations blocks, data record by data record.
     pub texts: Vec<RecordChanges>,
+    /// The changes of starts, data record by data record.
+    pub retimed: Vec<RecordChanges>,
+    /// By how many nanoseconds a start was moved at most.
+    pub shift: u64,
     /// How many data records there are, before and after.
     pub records: u32,
     /// How many bytes after the last whole data record were left out.

@@ -1,6 +1,6 @@
 //! The rule `plain`: the mark of EDF+, and an annotations signal.
 
-use crate::fields::{FIXED, SIGNAL_FIELDS, is_labelled, part, set};
+use crate::fields::{FIXED, SIGNAL_FIELDS, part, set, signal_part};
 use crate::header::signals_named;
 use edf_header::MOST_SIGNALS;
 use std::alloc::{AllocError, Global};
@@ -30,9 +30,23 @@ fn is_marked(header: &[u8]) -> bool {
     mark == b"EDF+C".as_slice() || mark == b"EDF+D".as_slice()
 }
 
-/// Whether one of the signals is an annotations signal.
+/// Whether a label is that of annotations signals, but for the case of letters or for spaces.
+fn names_annotations(label: &[u8]) -> bool {
+    let mut left = b"EDFANNOTATIONS".as_slice();
+    for b in label {
+        if *b != b' ' {
+            match left {
+                [first, rest @ ..] if *first == b.to_ascii_uppercase() => left = rest,
+                _ => return false,
+            }
+        }
+    }
+    left.is_empty()
+}
+
+/// Whether one of the signals is an annotations signal, or has almost its label.
 fn has_annotations(header: &[u8], n: usize) -> bool {
-    (0..n).any(|signal| is_labelled(header, n, signal))
+    (0..n).any(|signal| names_annotations(signal_part(header, n, signal, (0, 16))))
 }
 
 /// Appends a text and fills it with spaces.
@@ -74,8 +88,9 @@ fn with_signal(alloc: Global, header: &[u8], n: usize) -> Result<Vec<u8>, AllocE
     Ok(made)
 }
 
-/// Gives a header an annotations signal as the last one where it has none. It tells how many bytes
-/// are added to each data record.
+/// Gives a header an annotations signal as the last one where it has none, and no signal whose label
+/// is that of one but for the case of letters or for spaces: the samples of such a signal are
+/// annotations. It tells how many bytes are added to each data record.
 pub(crate) fn add_signal(alloc: Global, header: &mut Vec<u8>) -> Result<usize, AllocError> {
     let n = signals_named(header.as_slice());
     if n == 0 || n >= MOST_SIGNALS || has_annotations(header.as_slice(), n) {

@@ -7,6 +7,7 @@ ghost use Rattle.edf_mend.specs.Inside.Faults.{IsQuiet};
 
 use crate::fault::MendFault;
 use crate::fields::{count_subfields, in_capitals, part, push_subfield, push_subfields, set};
+use crate::saying::says_mended;
 use edf_field::{next_subfield, read_recording};
 use edf_fragment::FragmentFault;
 use edf_header::HeaderFault;
@@ -58,9 +59,12 @@ fn date_of(alloc: Global, startdate: &[u8]) -> Result<Option<Vec<u8>>, AllocErro
     Ok(Some(date))
 }
 
-/// The date of a field that begins with `Startdate` and a date or `X` in any letters, and what
-/// follows.
-fn own_date<'a>(alloc: Global, old: &'a [u8]) -> Result<Option<(Vec<u8>, &'a [u8])>, AllocError> {
+/// The second subfield of a field that begins with `Startdate` in any letters, in capitals, and
+/// what follows it.
+fn after_startdate<'a>(
+    alloc: Global,
+    old: &'a [u8],
+) -> Result<Option<(Vec<u8>, &'a [u8])>, AllocError> {
     let Some((word, rest)) = next_subfield(old) else {
         return Ok(None);
     };
@@ -68,12 +72,28 @@ fn own_date<'a>(alloc: Global, old: &'a [u8]) -> Result<Option<(Vec<u8>, &'a [u8
         return Ok(None);
     };
     let word = in_capitals(alloc, word)?;
-    let date = in_capitals(alloc, date)?;
-    let is_date = date.as_slice() == b"X".as_slice() || id_date(date.as_slice()).is_some();
-    if word.as_slice() != b"STARTDATE".as_slice() || !is_date {
+    if word.as_slice() != b"STARTDATE".as_slice() {
         return Ok(None);
     }
-    Ok(Some((date, codes)))
+    Ok(Some((in_capitals(alloc, date)?, codes)))
+}
+
+/// What follows the second subfield of a field that begins with `Startdate`, and that subfield in
+/// capitals, where it is a date or `X`. Nothing where it is neither, and fewer than three follow.
+fn kept_codes<'a>(
+    alloc: Global,
+    old: &'a [u8],
+) -> Result<Option<(&'a [u8], Option<Vec<u8>>)>, AllocError> {
+    let Some((date, codes)) = after_startdate(alloc, old)? else {
+        return Ok(None);
+    };
+    if date.as_slice() == b"X".as_slice() || id_date(date.as_slice()).is_some() {
+        return Ok(Some((codes, Some(date))));
+    }
+    if count_subfields(codes, 3) < 3 {
+        return Ok(None);
+    }
+    Ok(Some((codes, None)))
 }
 
 /// A recording field by its date, its codes and what else the old one had.
@@ -98,11 +118,38 @@ fn recording_text(
     Ok(text)
 }
 
+/// A recording field with the date of the startdate field; nothing where that is none.
+fn dated(
+    alloc: Global,
+    startdate: &[u8],
+    codes: &[u8],
+    own: bool,
+) -> Result<Option<Vec<u8>>, AllocError> {
+    let Some(date) = date_of(alloc, startdate)? else {
+        return Ok(None);
+    };
+    Ok(Some(recording_text(alloc, date.as_slice(), codes, own)?))
+}
+
+/// The field that a recording field becomes, by the startdate field; nothing where that is wanted,
+/// and is no date.
+fn mended_text(alloc: Global, old: &[u8], startdate: &[u8]) -> Result<Option<Vec<u8>>, AllocError> {
+    let Some((codes, own)) = kept_codes(alloc, old)? else {
+        return dated(alloc, startdate, old, false);
+    };
+    match own {
+        Some(date) => Ok(Some(recording_text(alloc, date.as_slice(), codes, true)?)),
+        None => dated(alloc, startdate, codes, true),
+    }
+}
+
 /// Mends the recording field, bytes 88 to 167, where it is no recording identification.
 ///
-/// A field that begins with `Startdate` and a date keeps both, in the letters of EDF+; to any other
-/// the date of the startdate field is added. Codes that it lacks are `X`. What else was there comes
-/// after, as far as the field goes.
+/// A field that begins with `Startdate` and a date keeps both, in the letters of EDF+. One of five
+/// subfields or more that begins with `Startdate` keeps its codes; its second subfield, which is no
+/// date, becomes the date of the startdate field, and is in the ledger alone, since the codes of a
+/// night's files are to be the same. To any other that date is added. Codes that it lacks are `X`.
+/// What else was there comes after, as far as the field goes.
 pub(crate) fn mend_recording(alloc: Global, header: &mut [u8]) -> Result<(), MendFault>
     ensures asked { IfErr result (RefusesFor ⊤) }
     ensures quiet { IfErr result IsQuiet }
@@ -111,29 +158,12 @@ pub(crate) fn mend_recording(alloc: Global, header: &mut [u8]) -> Result<(), Men
     if old.len() != 80 || read_recording(old).is_some() {
         return Ok(());
     }
-    let text = match own_date(alloc, old)? {
-        Some((date, codes)) => recording_text(alloc, date.as_slice(), codes, true)?,
-        None => match date_of(alloc, part(header, 168, 8))? {
-            Some(date) => recording_text(alloc, date.as_slice(), old, false)?,
-            None => return Ok(()),
-        },
+    let startdate = part(header, 168, 8);
+    let Some(text) = mended_text(alloc, old, startdate)? else {
+        return Ok(());
     };
     set(header, 88, 80, text.as_slice());
     Ok(())
-}
-
-/// Whether the last subfield of a text is `mended`.
-fn says_mended(field: &[u8]) -> bool {
-    let mut left = field;
-    let mut last = &field[..0];
-    for _ in 0..80 {
-        let Some((subfield, rest)) = next_subfield(left) else {
-            return last == b"mended".as_slice();
-        };
-        last = subfield;
-        left = rest;
-    }
-    false
 }
 
 /// Adds `mended` as the last subfield of the recording field. Subfields after the fifth that leave

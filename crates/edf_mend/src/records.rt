@@ -1,7 +1,7 @@
 //! Data records, carried over one after another.
 
 ghost use Rattle.std.specs.Prelude.{◌≡◌, ◌≢◌, ℕ, ◌+◌, ◌*◌, ◌<◌, ◌≤◌, ◌++◌, ◌∷◌, [], List, Ok, ⊤};
-ghost use Rattle.std.specs.Prelude.{length, IfOk, IfErr, IfSome, IsTrue, MatchResult, false};
+ghost use Rattle.std.specs.Prelude.{length, IfOk, IfErr, IfSome, IsTrue, MatchResult, None, false};
 ghost use Rattle.edf_field.specs.Number.{duration_of};
 ghost use Rattle.std.specs.Io.KnownBytes.{Appends};
 ghost use Rattle.edf_fragment.specs.Fragment.{DataRecord};
@@ -13,11 +13,13 @@ ghost use Rattle.edf_mend.specs.Counts.{CountsCalls};
 ghost use Rattle.edf_mend.specs.Answers.{RefusesFor, IsTrouble, GoesOn};
 ghost use Rattle.edf_mend.specs.Inside.Steps.{IsAccepted, CarriesOne, CarriedAll, IsFitting};
 ghost use Rattle.edf_mend.specs.Inside.Steps.{IsUnfit, HoldsRecords};
+ghost use Rattle.edf_mend.specs.Inside.Timed.{IsUntold};
 ghost use Rattle.edf_mend.specs.Inside.Faults.{IsQuiet, CountsWrites};
 
 use crate::accepting::{accept_end, accept_record};
 use crate::fault::MendFault;
-use crate::rewriting::RecordChanges;
+use crate::retiming::{keep_step, mend_clock, start_after};
+use crate::rewriting::Telling;
 use crate::texts::mend_texts;
 use edf_canonical::{Buffer, put};
 use edf_fragment::{Filled, FragmentFault, Input, OpenFragment, Output, Record, fill};
@@ -40,6 +42,8 @@ pub(crate) struct Shape {
 pub(crate) struct Rewriting {
     /// Whether the rule `texts` does.
     pub(crate) texts: bool,
+    /// Where the rule `clock` does, the fault that the file has.
+    pub(crate) clock: Option<FragmentFault>,
 }
 
 /// Whether a data record has one annotations block, its last `added` bytes.
@@ -75,8 +79,7 @@ fn start_in_turn(header: &Header, nth: u32) -> Option<Instant>
     ensures { IfSome result
         (λ start. start ≡ header.now.start + nth * duration_of header.now.key.duration) }
 {
-    let passed = u64::from(nth).checked_mul(header.identity().duration())?;
-    Instant::at(header.start().nanos().checked_add(passed)?)
+    start_after(header, header.start(), nth)
 }
 
 /// The refusal of a data record, counted from 0, which does not start where the one before ends.
@@ -168,7 +171,7 @@ fn carry_record<W: Output>(
     nth: u32,
     added: usize,
     rewriting: Rewriting,
-    texts: &mut Vec<RecordChanges>,
+    telling: &mut Telling,
 ) -> Result<(), MendFault>
     requires going { fragment.old.progress.state ≡ Reading }
     requires fitting { IsFitting fragment.old.header
@@ -176,19 +179,39 @@ fn carry_record<W: Output>(
     ensures header { fragment.new.header ≡ fragment.old.header }
     ensures carried { IfOk result (λ _. CarriesOne fragment.old.header fragment.old.progress
         fragment.new.progress (buffered W.Output out.old held.old.bytes.items)
-        (buffered W.Output out.new held.new.bytes.items) nth added texts.old.items texts.new.items
-        old.now) }
-    ensures untold { rewriting.texts ≡ false → texts.new.items ≡ texts.old.items }
-    ensures refused { added ≡ 0 → rewriting.texts ≡ false → IfErr result
+        (buffered W.Output out.new held.new.bytes.items) nth added rewriting.clock
+        telling.old telling.new old.now) }
+    ensures untold { rewriting.texts ≡ false →
+        telling.new.texts.items ≡ telling.old.texts.items }
+    ensures unmoved { rewriting.clock ≡ None →
+        (telling.new.retimed.items ≡ telling.old.retimed.items)
+        × (telling.new.shift ≡ telling.old.shift) }
+    ensures refused { added ≡ 0 → rewriting.texts ≡ false → rewriting.clock ≡ None → IfErr result
         (RefusesFor (IsUnfit fragment.old.header fragment.old.progress old.now)) }
     ensures asked { IfErr result (RefusesFor ⊤) }
     ensures grown { (written : List ℕ) × Appends (W.contents out.old) (W.contents out.new) written }
     ensures counted { CountsWrites (W.failures out.old) (W.failures out.new) result }
 {
     let mid = with_block(alloc, fragment.header(), old, nth, added)?;
-    let new = mend_texts(alloc, fragment.header(), rewriting.texts, mid, nth, texts)?;
+    let spelled = mend_texts(
+        alloc,
+        fragment.header(),
+        rewriting.texts,
+        mid,
+        nth,
+        &mut telling.texts,
+    )?;
+    let new = mend_clock(
+        alloc,
+        fragment.header(),
+        rewriting.clock,
+        spelled,
+        nth,
+        telling,
+    )?;
     let accepted = accept_record(fragment, new.as_slice())?;
     find_in_turn(fragment.header(), &accepted, nth, added)?;
+    keep_step(fragment.header(), &accepted, rewriting.clock, nth, telling)?;
     put(out, held, new.as_slice())?;
     Ok(())
 }
@@ -204,19 +227,21 @@ pub(crate) fn carry_records<R: Input, W: Output>(
     old: &mut [u8],
     shape: Shape,
     rewriting: Rewriting,
-    texts: &mut Vec<RecordChanges>,
+    telling: &mut Telling,
 ) -> Result<(u32, usize), MendFault>
     requires room { length old.old ≡ shape.size }
     requires first { fragment.old.progress ≡ at_first }
     requires fitting { IsFitting fragment.old.header shape }
-    requires untold { texts.old.items ≡ [] }
+    requires untold { IsUntold telling.old }
     ensures carried { IfOk result (λ told. CarriedAll fragment.old.header
         (R.remaining input.old) (R.remaining input.new)
         (buffered W.Output out.old held.old.bytes.items)
         (buffered W.Output out.new held.new.bytes.items) shape.size shape.added told.0 told.1
-        texts.new.items) }
-    ensures untold { rewriting.texts ≡ false → texts.new.items ≡ [] }
-    ensures welcome { shape.added ≡ 0 → rewriting.texts ≡ false →
+        rewriting.clock telling.new) }
+    ensures untold { rewriting.texts ≡ false → telling.new.texts.items ≡ [] }
+    ensures unmoved { rewriting.clock ≡ None →
+        (telling.new.retimed.items ≡ []) × (telling.new.shift ≡ 0) }
+    ensures welcome { shape.added ≡ 0 → rewriting.texts ≡ false → rewriting.clock ≡ None →
         HoldsRecords fragment.old.header (R.remaining input.old) →
         MatchResult result (λ told. told.1 ≡ 0) IsTrouble }
     ensures asked { IfErr result (RefusesFor ⊤) }
@@ -237,7 +262,7 @@ pub(crate) fn carry_records<R: Input, W: Output>(
                     nth,
                     shape.added,
                     rewriting,
-                    texts,
+                    telling,
                 )?;
             }
             Filled::Cut { at } => {

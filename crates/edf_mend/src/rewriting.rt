@@ -5,12 +5,14 @@ ghost use Rattle.edf_fragment.specs.Fragment.{ordinary_bytes};
 ghost use Rattle.edf_mend.specs.Answers.{RefusesFor};
 ghost use Rattle.edf_mend.specs.Rewritten.{IsRewritten};
 ghost use Rattle.edf_mend.specs.Inside.Faults.{IsQuiet};
+ghost use Rattle.edf_mend.specs.Inside.Timed.{IsUntold};
 
 use crate::change::{Change, Cut, changes_between};
 use crate::fault::MendFault;
 use edf_fragment::FragmentFault;
 use edf_header::Header;
 use edf_tal::TalFault;
+use edf_time::Instant;
 use std::alloc::{AllocError, Global};
 use std::marker::Model;
 
@@ -51,6 +53,31 @@ impl RecordChanges {
         ensures { result.now ≡ self.now.edits }
     {
         self.changes.as_slice()
+    }
+}
+
+/// What is told of data records so far.
+#[derive(Drop)]
+pub(crate) struct Telling {
+    /// The changes of texts, times and fill.
+    pub(crate) texts: Vec<RecordChanges>,
+    /// The changes of starts.
+    pub(crate) retimed: Vec<RecordChanges>,
+    /// By how many nanoseconds a start was moved at most.
+    pub(crate) shift: u64,
+    /// When the first data record starts, where starts are told anew.
+    pub(crate) first: Option<Instant>,
+}
+
+/// Nothing is told as yet.
+pub(crate) fn nothing_told(alloc: Global) -> Telling
+    ensures { IsUntold result }
+{
+    Telling {
+        texts: Vec::new(alloc),
+        retimed: Vec::new(alloc),
+        shift: 0,
+        first: None,
     }
 }
 
@@ -96,7 +123,8 @@ pub(crate) fn replace(made: &mut Made, old: usize, new: &[u8]) -> Result<(), All
 
 /// Whether two data records have the same bytes outside of the annotations blocks.
 fn has_same_samples(header: &Header, old: &[u8], new: &[u8]) -> bool
-    ensures { IsTrue result → ordinary_bytes header.now new.now ≡ ordinary_bytes header.now old.now }
+    ensures { IsTrue result →
+        ordinary_bytes header.now new.now ≡ ordinary_bytes header.now old.now }
 {
     let len = old.len();
     if new.len() != len {

@@ -18,16 +18,24 @@ pub enum Rule {
     Plain,
     /// The number of data records becomes that of the whole ones that are there.
     Count,
-    /// Annotations blocks: texts of Latin-1 become UTF-8, times finer than a nanosecond are rounded,
-    /// and what fills a block becomes zeros.
+    /// Annotations blocks: texts of Latin-1 become UTF-8, times finer than a nanosecond are
+    /// rounded, and what fills a block becomes zeros.
     Texts,
+    /// Data records of EDF+C whose starts were rounded so that they overlap: each starts so many
+    /// durations after the first.
+    Clock,
     /// The recording field says that the file was mended.
     Mended,
 }
 
 impl Rule {
+    ghost use Rattle.std.specs.Prelude.{◌≡◌};
+    ghost use Rattle.edf_mend.specs.Names.{rule_name};
+
     /// Its name, as it is asked for and told.
-    pub fn name(self) -> &'static str {
+    pub fn name(self) -> &'static str
+        ensures { result.now ≡ rule_name self }
+    {
         match self {
             Rule::Ascii => "ascii",
             Rule::Patient => "patient",
@@ -38,6 +46,7 @@ impl Rule {
             Rule::Plain => "plain",
             Rule::Count => "count",
             Rule::Texts => "texts",
+            Rule::Clock => "clock",
             Rule::Mended => "mended",
         }
     }

@@ -22,17 +22,34 @@ pub struct Survey {
     pub fault: Option<FragmentFault>,
     /// How many bytes the file has.
     pub bytes: u64,
+    /// How many it has without the zeros at its end.
+    pub filled: u64,
+}
+
+/// How many bytes there are without the zeros at the end.
+fn filled_len(bytes: &[u8]) -> usize {
+    for at in (0..bytes.len()).rev() {
+        if bytes[at] != 0 {
+            return at + 1;
+        }
+    }
+    0
 }
 
 /// An input whose bytes are counted.
 struct Tallied<R> {
     input: R,
     bytes: u64,
+    filled: u64,
 }
 
 impl<R: Drop> Drop for Tallied<R> {
     fn drop(self) {
-        let Tallied { input: _, bytes: _ } = self;
+        let Tallied {
+            input: _,
+            bytes: _,
+            filled: _,
+        } = self;
     }
 }
 
@@ -44,6 +61,10 @@ impl<R: Input> Input for Tallied<R> {
     fn read(&mut self, buf: &mut [u8]) -> io::Result<usize> {
         match self.input.read(buf) {
             Ok(n) => {
+                let len = filled_len(&buf[..n]);
+                if len != 0 {
+                    self.filled = self.bytes.saturating_add(len as u64);
+                }
                 self.bytes = self.bytes.saturating_add(n as u64);
                 Ok(n)
             }
@@ -106,7 +127,11 @@ pub fn survey_file<R: Input + Drop>(alloc: Global, input: R) -> Result<Survey, M
     ensures surveyed { IfOk result (λ survey. SurveysAs (R.remaining input) survey.fault) }
     ensures trouble { IfErr result IsTrouble }
 {
-    let mut tallied = Tallied { input, bytes: 0 };
+    let mut tallied = Tallied {
+        input,
+        bytes: 0,
+        filled: 0,
+    };
     let fault = match read_all(alloc, &mut tallied) {
         Ok(()) => None,
         Err(FragmentFault::Read) => return Err(MendFault::Read),
@@ -119,5 +144,6 @@ pub fn survey_file<R: Input + Drop>(alloc: Global, input: R) -> Result<Survey, M
     Ok(Survey {
         fault,
         bytes: tallied.bytes,
+        filled: tallied.filled,
     })
 }

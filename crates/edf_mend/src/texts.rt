@@ -2,7 +2,8 @@
 //! lists).
 
 ghost use Rattle.std.specs.Prelude.{◌≡◌, ◌++◌, ◌∷◌, ◌↔◌, ⊤, false, length, IfOk, IfErr, IfSome};
-ghost use Rattle.std.specs.Prelude.{MatchResult, IsTrue, IsUtf8, encode_utf8_all, string_bytes, All};
+ghost use Rattle.std.specs.Prelude.{MatchResult, IsTrue, IsUtf8, encode_utf8_all, string_bytes};
+ghost use Rattle.std.specs.Prelude.{All};
 ghost use Rattle.edf_mend.specs.Answers.{RefusesFor};
 ghost use Rattle.edf_mend.specs.Rewritten.{IsTold};
 ghost use Rattle.edf_mend.specs.Texts.{IsHalf, IsRounded, IsFilled, IsTextEdit, IsRespelled};
@@ -321,7 +322,8 @@ pub(crate) fn mend_texts(
     told: &mut Vec<RecordChanges>,
 ) -> Result<Vec<u8>, MendFault>
     ensures told { IfOk result
-        (λ new. IsTold (IsRespelled header.now) nth old.items told.old.items told.new.items new.items) }
+        (λ new. IsTold (IsRespelled header.now) nth old.items told.old.items told.new.items
+        new.items) }
     ensures kept { is_wanted ≡ false →
         MatchResult result (λ new. new.items ≡ old.items) (λ _. ⊥) }
     ensures untold { is_wanted ≡ false → told.new.items ≡ told.old.items }

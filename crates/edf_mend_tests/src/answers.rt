@@ -77,3 +77,38 @@ fn where_no_file_is_made_it_is_told_why(rt: HostRuntime) {
         assert!(rt; outcome.made.is_none(), "{line}");
     }
 }
+
+/// Files that are no EDF, and the fault that each is refused for.
+const NO_EDF: [(&str, &str); 2] = [
+    ("PK\x03\x04", "E2 Unprintable offset=2"),
+    ("Dear reader, ", "E3 Version"),
+];
+
+/// A front and spaces after it, as long as a header with one signal.
+fn padded(alloc: Global, front: &str) -> Option<Vec<u8>> {
+    let mut bytes = Vec::from_slice(alloc, front.as_bytes()).ok()?;
+    for _ in front.len()..512 {
+        bytes.push(b' ').ok()?;
+    }
+    Some(bytes)
+}
+
+#[test]
+fn what_is_no_edf_is_refused_and_asked_for_no_code(rt: HostRuntime) {
+    for (front, fault) in &NO_EDF {
+        let Some(bytes) = padded(rt.alloc(), *front) else {
+            assert!(rt; false, "{front}: out of memory");
+            continue;
+        };
+        let Some(outcome) = outcome_of(rt.alloc(), &bytes, "in.edf out.edf") else {
+            assert!(rt; false, "{front}: out of memory");
+            continue;
+        };
+        let Ok(expected) = format!(in rt.alloc(); "err: in.edf refused {fault}\nstatus 1\n") else {
+            assert!(rt; false, "{front}: out of memory");
+            continue;
+        };
+        assert!(rt; outcome.text == expected, "{front}");
+        assert!(rt; outcome.made.is_none(), "{front}");
+    }
+}

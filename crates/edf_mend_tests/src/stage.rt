@@ -1,14 +1,15 @@
 //! The command, run over one file, in place of a disk.
 
-ghost use Rattle.std.specs.Prelude.{None, map, string_bytes};
+ghost use Rattle.std.specs.Prelude.{◌≡◌, None, false, map, string_bytes};
+ghost use Rattle.edf_fragment.specs.Failures.{one_more};
 
-use edf_fragment::Counted;
+use edf_fragment::{Counted, Output};
 use edf_program::Inputs;
 use edf_sample::{Sink, Source};
-use edfmend_command::{Maker, read_command, run_mend};
+use edfmend_command::{MadeFiles, Maker, read_command, run_mend};
 use std::alloc::{AllocError, Global};
 use std::cell::RefCell;
-use std::io::{self, Write};
+use std::io;
 use std::rc::Rc;
 
 /// One file, whatever the name.
@@ -32,23 +33,46 @@ impl<'a> Inputs for Held<'a> {
     }
 }
 
+/// The count after one more failure.
+fn one_failure_more(count: u64) -> u64
+    ensures { result ≡ one_more count }
+{
+    count.saturating_add(1)
+}
+
 /// A writer into bytes that others read.
 #[derive(Drop)]
 struct Page {
     bytes: Rc<RefCell<Vec<u8>>>,
+    failures: u64,
 }
 
-impl Write for Page {
-    fn write(&mut self, buf: &[u8]) -> io::Result<usize> {
+impl Page {
+    /// Adds bytes.
+    fn add(&mut self, buf: &[u8]) -> io::Result<()>
+        ensures { self.new.failures ≡ self.old.failures }
+    {
         let Ok(mut bytes) = self.bytes.try_borrow_mut() else {
             return Err(io::Error::from(io::ErrorKind::Other));
         };
         bytes.extend_from_slice(buf)?;
-        Ok(buf.len())
-    }
-
-    fn flush(&mut self) -> io::Result<()> {
         Ok(())
+    }
+}
+
+impl Output for Page {
+    ghost contents = { λ _. None };
+
+    ghost failures = { λ page. page.failures };
+
+    fn write(&mut self, buf: &[u8]) -> io::Result<usize> {
+        match self.add(buf) {
+            Ok(()) => Ok(buf.len()),
+            Err(error) => {
+                self.failures = one_failure_more(self.failures);
+                Err(error)
+            }
+        }
     }
 }
 
@@ -56,32 +80,54 @@ impl Write for Page {
 #[derive(Drop)]
 struct Desk {
     bytes: Rc<RefCell<Vec<u8>>>,
+    made: MadeFiles,
+    failed: u64,
     is_named: bool,
     is_removed: bool,
 }
 
 impl Maker for Desk {
-    type Writer = Counted<Page>;
+    type Writer = Page;
+
+    ghost known = { λ _. false };
+
+    ghost there = { λ _ _. None };
+
+    ghost made = { λ desk. desk.made };
+
+    ghost failed = { λ desk. desk.failed };
 
     fn is_there(&mut self, name: &str) -> bool {
         name == "there.edf"
     }
 
-    fn create(&mut self, _alloc: Global, _name: &str) -> io::Result<Counted<Page>> {
-        Ok(Counted::new(Page {
-            bytes: self.bytes.clone()?,
-        }))
+    fn create(&mut self, alloc: Global, name: &str) -> io::Result<Page> {
+        let Ok(bytes) = self.bytes.clone() else {
+            self.failed = one_failure_more(self.failed);
+            return Err(io::Error::from(io::ErrorKind::Other));
+        };
+        if name == "unmade.edf" || self.made.begin(alloc, name).is_err() {
+            self.failed = one_failure_more(self.failed);
+            return Err(io::Error::from(io::ErrorKind::Other));
+        }
+        Ok(Page { bytes, failures: 0 })
     }
 
-    fn finish(&mut self, writer: Counted<Page>) -> bool {
+    fn finish(&mut self, writer: Page) -> bool {
         drop(writer);
+        self.made.finish(None);
         self.is_named = true;
         true
     }
 
-    fn remove(&mut self, _name: &str) -> bool {
-        self.is_removed = true;
-        true
+    fn abandon(&mut self, writer: Page) {
+        self.failed = self.failed.saturating_add(writer.failures);
+    }
+
+    fn remove(&mut self, name: &str) -> bool {
+        self.is_removed = name != "stays.edf";
+        self.made.end(self.is_removed);
+        self.is_removed
     }
 }
 
@@ -132,6 +178,8 @@ pub(crate) fn outcome_of(alloc: Global, bytes: &[u8], line: &str) -> Option<Outc
     };
     let mut desk = Desk {
         bytes: Rc::new(alloc, RefCell::new(Vec::new(alloc))).ok()?,
+        made: MadeFiles::new(alloc),
+        failed: 0,
         is_named: false,
         is_removed: false,
     };

@@ -52,7 +52,7 @@ impl Program for Edfmend {
         let terminal = Terminal::new(rt, "reading", READINGS);
         let mut streams = Streams::new(rt, &terminal);
         let mut inputs = Files::new(rt, &terminal);
-        let mut maker = MendedFiles::new(NewFiles::new(rt, &terminal));
+        let mut maker = MendedFiles::new(rt.alloc(), NewFiles::new(rt, &terminal));
         let status = run_over(rt, command, &mut inputs, &mut maker, &mut streams);
         terminal.wipe_progress();
         status

@@ -29,6 +29,8 @@ Rules, in the order in which they are applied:
   count        the number of data records becomes that of the whole ones
   texts        annotations of Latin-1 become UTF-8, times are rounded to the nanosecond,
                and what fills an annotations block becomes zeros
+  clock        starts of EDF+C that were rounded, so that data records overlap by less
+               than half a sample, become so many durations after the first
 
 A line is printed for each change. A file that needs none is copied as it is.
 IN is never written, and no file that is there is written over.
@@ -111,6 +113,7 @@ fn rule_named(name: &str) -> Option<Rule> {
         "plain" => Some(Rule::Plain),
         "count" => Some(Rule::Count),
         "texts" => Some(Rule::Texts),
+        "clock" => Some(Rule::Clock),
         _ => None,
     }
 }

@@ -1,159 +1,342 @@
 //! The lines of a ledger.
 
-use edf_canonical::{Buffer, flush, put};
+ghost use Rattle.std.specs.Prelude.{◌≡◌, ◌++◌, ◌+◌, ◌==◌, ◌<◌, not, ◌&&◌, length, IfOk, OnOk};
+ghost use Rattle.std.specs.List.{flat_map, list_any, list_all};
+ghost use Rattle.edf_program.specs.Output.{growth, IsTold};
+ghost use Rattle.edfmend_command.specs.Ledger.{hex_digit, quoted_byte, quoted, unfilled, is_new};
+ghost use Rattle.edfmend_command.specs.Ledger.{change_line, changed_line, added_line, signal_line};
+ghost use Rattle.edfmend_command.specs.Ledger.{step_lines, bytes_text, record_line, record_lines};
+ghost use Rattle.edfmend_command.specs.Ledger.{clock_text, clock_line, left_out_line, ledger_lines};
 use edf_fragment::Output;
 use edf_mend::{Change, Ledger, RecordChanges, Rule, Step};
+use edf_program::{Status, joined, tell};
+use edf_time::write_seconds;
 use std::alloc::{AllocError, Global};
 
-/// The digits of numbers to the base 16.
-const HEX: [u8; 16] = *b"0123456789abcdef";
-
-/// Adds a byte of a text in quotes: one that is not printable as `\x` and two digits.
-fn push_byte(text: &mut Vec<u8>, b: u8) -> Result<(), AllocError> {
-    match b {
-        b'"' | b'\\' => {
-            text.push(b'\\')?;
-            text.push(b)?;
-        }
-        32..=126 => text.push(b)?,
-        _ => {
-            text.extend_from_slice(b"\\x")?;
-            text.push(HEX[(b / 16) as usize])?;
-            text.push(HEX[(b % 16) as usize])?;
-        }
-    }
-    Ok(())
+/// A digit to the base 16.
+fn hex_digit(n: u8) -> u8
+    requires { n < 16 }
+    ensures { result ≡ hex_digit n }
+{
+    if n <= 9 { 48 + n } else { 87 + n }
 }
 
-/// Adds a label and the text of a field in quotes, without the spaces that fill it.
-fn push_quoted(text: &mut Vec<u8>, label: &str, field: &[u8]) -> Result<(), AllocError> {
-    text.extend_from_slice(label.as_bytes())?;
-    text.push(b'"')?;
-    for b in field.trim_ascii_end() {
-        push_byte(text, *b)?;
+/// Adds a byte of a text in quotes: one that is not printable as `\x` and two digits.
+fn push_byte(text: &mut Vec<u8>, b: u8) -> Result<(), AllocError>
+    ensures { OnOk result (text.new.items ≡ text.old.items ++ quoted_byte b) }
+{
+    if b == b'"' || b == b'\\' {
+        text.extend_from_slice(&[b'\\', b])
+    } else if 32 <= b && b <= 126 {
+        text.extend_from_slice(&[b])
+    } else {
+        text.extend_from_slice(&[b'\\', b'x', hex_digit(b / 16), hex_digit(b % 16)])
     }
-    text.push(b'"')?;
-    Ok(())
+}
+
+/// Bytes in quotes.
+fn quoted(alloc: Global, bytes: &[u8]) -> Result<Vec<u8>, AllocError>
+    ensures { IfOk result (λ r. r.items ≡ quoted bytes.now) }
+{
+    let mut text = Vec::new(alloc);
+    for b in bytes {
+        push_byte(&mut text, *b)?;
+    }
+    joined(alloc, &[b"\"", text.as_slice(), b"\""])
+}
+
+/// A field without the spaces at its end.
+fn unfilled(field: &[u8]) -> &[u8]
+    ensures { result.now ≡ unfilled field.now }
+{
+    let mut end = field.len();
+    while end > 0 && field[end - 1] == b' ' {
+        end -= 1;
+    }
+    &field[..end]
 }
 
 /// The line of a change: its rule, its offset in the header, and what was and is there.
-fn change_line(alloc: Global, rule: Rule, change: &Change) -> Result<Vec<u8>, AllocError> {
+fn change_line(alloc: Global, rule: Rule, change: &Change) -> Result<Vec<u8>, AllocError>
+    ensures { IfOk result (λ r. r.items ≡ change_line rule change.now) }
+{
     let (name, at) = (rule.name(), change.at());
-    let front = format!(in alloc; "{name} at={at}")?;
-    let mut text = Vec::from_slice(alloc, front.as_bytes())?;
-    push_quoted(&mut text, " old=", change.old())?;
-    push_quoted(&mut text, " new=", change.new())?;
-    text.push(b'\n')?;
-    Ok(text)
+    let front = format!(in alloc; "{name} at={at} old=")?;
+    let old = quoted(alloc, unfilled(change.old()))?;
+    let new = quoted(alloc, unfilled(change.new()))?;
+    let parts = [
+        front.as_bytes(),
+        old.as_slice(),
+        b" new=",
+        new.as_slice(),
+        b"\n",
+    ];
+    joined(alloc, &parts)
 }
 
-/// Adds a label and bytes in quotes; zeros alone by their number.
-fn push_bytes(
-    alloc: Global,
-    text: &mut Vec<u8>,
-    label: &str,
-    bytes: &[u8],
-) -> Result<(), AllocError> {
-    if !bytes.is_empty() && bytes.iter().all(|b| *b == 0) {
-        let count = bytes.len();
-        let zeros = format!(in alloc; " {label}_zeros={count}")?;
-        return text.extend_from_slice(zeros.as_bytes());
-    }
-    let front = format!(in alloc; " {label}=\"")?;
-    text.extend_from_slice(front.as_bytes())?;
-    for b in bytes {
-        push_byte(text, *b)?;
-    }
-    text.push(b'"')?;
-    Ok(())
+/// Whether a field is new, which only those of a new annotations signal are.
+fn is_new(change: &Change) -> bool
+    ensures { result ≡ is_new change.now }
+{
+    change.old().len() == 0
 }
 
-/// The line of a change in a data record, which counts from 1: its offset in it, and what was and
-/// is there.
-fn record_line(
-    alloc: Global,
-    rule: Rule,
-    nth: u32,
-    change: &Change,
-) -> Result<Vec<u8>, AllocError> {
-    let (name, record, at) = (rule.name(), nth.saturating_add(1), change.at());
-    let front = format!(in alloc; "{name} record={record} at={at}")?;
-    let mut text = Vec::from_slice(alloc, front.as_bytes())?;
-    push_bytes(alloc, &mut text, "old", change.old())?;
-    push_bytes(alloc, &mut text, "new", change.new())?;
-    text.push(b'\n')?;
-    Ok(text)
-}
-
-/// Puts the lines of changes in data records. Whether all were put.
-fn put_records<O: Output>(
-    alloc: Global,
-    rule: Rule,
-    records: &[RecordChanges],
-    out: &mut O,
-    held: &mut Buffer,
-) -> bool {
-    for record in records {
-        for change in record.changes() {
-            let line = record_line(alloc, rule, record.nth(), change);
-            if !put_line(out, held, line) {
-                return false;
-            }
+/// Whether a step added fields.
+fn adds_signal(changes: &[Change]) -> bool
+    ensures { result ≡ list_any is_new changes.now }
+{
+    for change in changes {
+        if is_new(change) {
+            return true;
         }
     }
-    true
+    false
 }
 
 /// The line of a new annotations signal: how many data records got a block.
-fn added_line(alloc: Global, rule: Rule, ledger: &Ledger) -> Result<Vec<u8>, AllocError> {
-    let (name, records, bytes) = (rule.name(), ledger.records, ledger.added);
+fn added_line(alloc: Global, rule: Rule, records: u32, bytes: usize) -> Result<Vec<u8>, AllocError>
+    ensures { IfOk result (λ r. r.items ≡ added_line rule records bytes) }
+{
+    let name = rule.name();
     let line = format!(in alloc; "{name} records={records} block={bytes}\n")?;
-    Vec::from_slice(alloc, line.as_bytes())
+    Ok(line.into_bytes())
 }
 
-/// Whether a step added fields, which only those of a new annotations signal are.
-fn adds_signal(step: &Step) -> bool {
-    step.changes().iter().any(|change| change.old().is_empty())
-}
-
-/// The line of bytes that were left out.
-fn left_out_line(alloc: Global, bytes: usize) -> Result<Vec<u8>, AllocError> {
-    let line = format!(in alloc; "count left_out={bytes}\n")?;
-    Vec::from_slice(alloc, line.as_bytes())
-}
-
-/// Puts a line. Whether it was put.
-fn put_line<O: Output>(out: &mut O, held: &mut Buffer, line: Result<Vec<u8>, AllocError>) -> bool {
-    match line {
-        Ok(line) => put(out, held, line.as_slice()).is_ok(),
-        Err(_) => false,
+/// Adds that line, where a step added fields.
+fn push_signal(
+    alloc: Global,
+    text: &mut Vec<u8>,
+    records: u32,
+    bytes: usize,
+    step: &Step,
+) -> Result<(), AllocError>
+    ensures { OnOk result
+        (text.new.items ≡ text.old.items ++ signal_line records bytes step.now) }
+{
+    if !adds_signal(step.changes()) {
+        return Ok(());
     }
+    let line = added_line(alloc, step.rule(), records, bytes)?;
+    text.extend_from_slice(line.as_slice())
 }
 
-/// Writes a line for each change that a ledger tells; the header of a new annotations signal, which
-/// is always the same, is in the line of the rule that added it. Whether all were written. After one
-/// that is not written whole none is written.
-pub(crate) fn put_ledger<O: Output>(alloc: Global, ledger: &Ledger, out: &mut O) -> bool {
-    let mut held = Buffer::new(alloc);
-    for step in &ledger.steps {
-        let line = added_line(alloc, step.rule(), ledger);
-        if adds_signal(step) && !put_line(out, &mut held, line) {
+/// Adds the line of a change, where its field is not new.
+fn push_change(
+    alloc: Global,
+    text: &mut Vec<u8>,
+    rule: Rule,
+    change: &Change,
+) -> Result<(), AllocError>
+    ensures { OnOk result (text.new.items ≡ text.old.items ++ changed_line rule change.now) }
+{
+    if is_new(change) {
+        return Ok(());
+    }
+    let line = change_line(alloc, rule, change)?;
+    text.extend_from_slice(line.as_slice())
+}
+
+/// The lines of changes of the header.
+fn changes_text(alloc: Global, rule: Rule, changes: &[Change]) -> Result<Vec<u8>, AllocError>
+    ensures { IfOk result (λ r. r.items ≡ flat_map (changed_line rule) changes.now) }
+{
+    let mut text = Vec::new(alloc);
+    for change in changes {
+        push_change(alloc, &mut text, rule, change)?;
+    }
+    Ok(text)
+}
+
+/// Adds the lines of a step. The header of a new annotations signal, which is always the same, is
+/// in the line of the rule that added it.
+fn push_step(
+    alloc: Global,
+    text: &mut Vec<u8>,
+    records: u32,
+    bytes: usize,
+    step: &Step,
+) -> Result<(), AllocError>
+    ensures { OnOk result
+        (text.new.items ≡ text.old.items ++ step_lines records bytes step.now) }
+{
+    push_signal(alloc, text, records, bytes, step)?;
+    let lines = changes_text(alloc, step.rule(), step.changes())?;
+    text.extend_from_slice(lines.as_slice())
+}
+
+/// The lines of steps.
+fn steps_text(
+    alloc: Global,
+    records: u32,
+    bytes: usize,
+    steps: &[Step],
+) -> Result<Vec<u8>, AllocError>
+    ensures { IfOk result (λ r. r.items ≡ flat_map (step_lines records bytes) steps.now) }
+{
+    let mut text = Vec::new(alloc);
+    for step in steps {
+        push_step(alloc, &mut text, records, bytes, step)?;
+    }
+    Ok(text)
+}
+
+/// Whether there are bytes, and all are zeros.
+fn are_zeros(bytes: &[u8]) -> bool
+    ensures { result ≡ (not (length bytes.now == 0) && list_all (λ b. b == 0) bytes.now) }
+{
+    for b in bytes {
+        if *b != 0 {
             return false;
         }
-        for change in step.changes() {
-            let line = change_line(alloc, step.rule(), change);
-            if !change.old().is_empty() && !put_line(out, &mut held, line) {
-                return false;
-            }
-        }
     }
-    let texts = ledger.texts.as_slice();
-    if !put_records(alloc, Rule::Texts, texts, out, &mut held) {
-        return false;
+    bytes.len() != 0
+}
+
+/// Bytes after a name, in quotes; zeros alone by their number.
+fn bytes_text(alloc: Global, name: &str, bytes: &[u8]) -> Result<Vec<u8>, AllocError>
+    ensures { IfOk result (λ r. r.items ≡ bytes_text name.now bytes.now) }
+{
+    if are_zeros(bytes) {
+        let count = bytes.len();
+        let zeros = format!(in alloc; " {name}_zeros={count}")?;
+        return Ok(zeros.into_bytes());
     }
-    let left_out = ledger.left_out;
-    if left_out != 0 && !put_line(out, &mut held, left_out_line(alloc, left_out)) {
-        return false;
+    let text = quoted(alloc, bytes)?;
+    joined(alloc, &[b" ", name.as_bytes(), b"=", text.as_slice()])
+}
+
+/// The number of a data record, from 1.
+fn number_of(nth: u32) -> u64
+    ensures { result ≡ nth + 1 }
+{
+    u64::from(nth) + 1
+}
+
+/// The line of a change in a data record, which is counted from 0 here and from 1 there: its offset
+/// in it, and what was and is there.
+fn record_line(alloc: Global, rule: Rule, nth: u32, change: &Change) -> Result<Vec<u8>, AllocError>
+    ensures { IfOk result (λ r. r.items ≡ record_line rule nth change.now) }
+{
+    let (name, record, at) = (rule.name(), number_of(nth), change.at());
+    let front = format!(in alloc; "{name} record={record} at={at}")?;
+    let old = bytes_text(alloc, "old", change.old())?;
+    let new = bytes_text(alloc, "new", change.new())?;
+    joined(
+        alloc,
+        &[front.as_bytes(), old.as_slice(), new.as_slice(), b"\n"],
+    )
+}
+
+/// Adds the line of a change in a data record.
+fn push_record_line(
+    alloc: Global,
+    text: &mut Vec<u8>,
+    rule: Rule,
+    nth: u32,
+    change: &Change,
+) -> Result<(), AllocError>
+    ensures { OnOk result (text.new.items ≡ text.old.items ++ record_line rule nth change.now) }
+{
+    let line = record_line(alloc, rule, nth, change)?;
+    text.extend_from_slice(line.as_slice())
+}
+
+/// The lines of changes in a data record.
+fn record_text(
+    alloc: Global,
+    rule: Rule,
+    nth: u32,
+    changes: &[Change],
+) -> Result<Vec<u8>, AllocError>
+    ensures { IfOk result (λ r. r.items ≡ flat_map (record_line rule nth) changes.now) }
+{
+    let mut text = Vec::new(alloc);
+    for change in changes {
+        push_record_line(alloc, &mut text, rule, nth, change)?;
     }
-    flush(out, &mut held).is_ok()
+    Ok(text)
+}
+
+/// Adds the lines of a data record.
+fn push_record(
+    alloc: Global,
+    text: &mut Vec<u8>,
+    rule: Rule,
+    told: &RecordChanges,
+) -> Result<(), AllocError>
+    ensures { OnOk result (text.new.items ≡ text.old.items ++ record_lines rule told.now) }
+{
+    let lines = record_text(alloc, rule, told.nth(), told.changes())?;
+    text.extend_from_slice(lines.as_slice())
+}
+
+/// The lines of data records.
+fn records_text(alloc: Global, rule: Rule, records: &[RecordChanges]) -> Result<Vec<u8>, AllocError>
+    ensures { IfOk result (λ r. r.items ≡ flat_map (record_lines rule) records.now) }
+{
+    let mut text = Vec::new(alloc);
+    for told in records {
+        push_record(alloc, &mut text, rule, told)?;
+    }
+    Ok(text)
+}
+
+/// The line of data records that were moved.
+fn clock_text(alloc: Global, records: usize, shift: u64) -> Result<Vec<u8>, AllocError>
+    ensures { IfOk result (λ r. r.items ≡ clock_text records shift) }
+{
+    let front = format!(in alloc; "clock records={records} shift=")?;
+    let seconds = write_seconds(alloc, shift)?;
+    joined(alloc, &[front.as_bytes(), seconds.as_slice(), b"\n"])
+}
+
+/// That line, where any were.
+fn clock_line(
+    alloc: Global,
+    moved: &[RecordChanges],
+    shift: u64,
+) -> Result<Vec<u8>, AllocError>
+    ensures { IfOk result (λ r. r.items ≡ clock_line (length moved.now) shift) }
+{
+    if moved.len() == 0 {
+        return Ok(Vec::new(alloc));
+    }
+    clock_text(alloc, moved.len(), shift)
+}
+
+/// The line of bytes that were left out, where any were.
+fn left_out_line(alloc: Global, bytes: usize) -> Result<Vec<u8>, AllocError>
+    ensures { IfOk result (λ r. r.items ≡ left_out_line bytes) }
+{
+    if bytes == 0 {
+        return Ok(Vec::new(alloc));
+    }
+    let line = format!(in alloc; "count left_out={bytes}\n")?;
+    Ok(line.into_bytes())
+}
+
+/// A line for each change that a ledger tells.
+fn ledger_text(alloc: Global, ledger: &Ledger) -> Result<Vec<u8>, AllocError>
+    ensures { IfOk result (λ r. r.items ≡ ledger_lines ledger.now) }
+{
+    let steps = steps_text(alloc, ledger.records, ledger.added, ledger.steps.as_slice())?;
+    let texts = records_text(alloc, Rule::Texts, ledger.texts.as_slice())?;
+    let clock = clock_line(alloc, ledger.retimed.as_slice(), ledger.shift)?;
+    let left_out = left_out_line(alloc, ledger.left_out)?;
+    let parts = [
+        steps.as_slice(),
+        texts.as_slice(),
+        clock.as_slice(),
+        left_out.as_slice(),
+    ];
+    joined(alloc, &parts)
+}
+
+/// Writes a line for each change that a ledger tells. All lines are in memory before the first is
+/// written.
+pub(crate) fn tell_ledger<O: Output>(alloc: Global, ledger: &Ledger, out: &mut O) -> Status
+    ensures { IsTold (growth O.Output out.old out.new) (ledger_lines ledger.now) Status.Done
+        result }
+{
+    tell(out, ledger_text(alloc, ledger), Status::Done)
 }

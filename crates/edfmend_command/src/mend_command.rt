@@ -1,11 +1,23 @@
 //! The command: a file is read twice, and the mended one is made.
 
-use crate::lines::put_ledger;
+ghost use Rattle.std.specs.Prelude.{◌≡◌, ◌≢◌, ◌⊎◌, ◌++◌, ℕ, List, IfOk, IfErr, MatchResult};
+ghost use Rattle.std.specs.Prelude.{option_map, replicate, string_bytes};
+ghost use Rattle.edf_program.specs.Output.{growth};
+ghost use Rattle.edf_mend.specs.Answers.{IsTrouble};
+ghost use Rattle.edf_mend.specs.Mended.{SurveysAs};
+ghost use Rattle.edfmend_command.specs.Inside.{MendsAs, StopsMending, WritesFile, StopsWriting};
+ghost use Rattle.edfmend_command.specs.Inside.{MakesFile, StopsMaking, OpensUpTo};
+ghost use Rattle.edfmend_command.specs.Making.{making};
+ghost use Rattle.edfmend_command.specs.Run.{IsMendedFile, IsNotMended, CountsWrite, left_name};
+ghost use Rattle.edfmend_command.specs.Run.{TellsChanges, LacksChanges, FindsName, MakesMended};
+ghost use Rattle.edfmend_command.specs.Run.{LacksMended, IsMendDone, OpensTwice, meaning};
+
+use crate::lines::tell_ledger;
 use crate::maker::Maker;
-use crate::refusal::refuse;
-use edf_fragment::{Counted, Output};
+use crate::refusal::{refuse, tell_there};
+use edf_fragment::{Counted, Input, Output};
 use edf_mend::{Ledger, MendFault, Rule, Survey, mend, survey_file};
-use edf_program::{Inputs, Status, tell_parts};
+use edf_program::{Inputs, Status};
 use std::alloc::Global;
 use std::io;
 
@@ -22,119 +34,250 @@ pub struct MendCommand {
     pub rules: Vec<Rule>,
 }
 
+/// Why no file was made, and whether a part of it is left, which could not be removed.
+#[derive(Clone, Copy, Drop)]
+struct Stop {
+    fault: MendFault,
+    is_left: bool,
+}
+
+/// The code that was given, if one was.
+fn given_code(command: &MendCommand) -> Option<&[u8]>
+    ensures { option_map (λ code. code.now) result ≡ option_map string_bytes command.now.patient }
+{
+    match &command.patient {
+        Some(code) => Some(code.as_bytes()),
+        None => None,
+    }
+}
+
+/// What a first reading finds, which writes nothing.
+fn survey<R: Input + Drop>(alloc: Global, reader: R) -> Result<Survey, MendFault>
+    ensures surveyed { IfOk result (λ survey. SurveysAs (R.remaining reader) survey.fault) }
+    ensures trouble { IfErr result (λ fault. IsTrouble fault × (fault ≢ MendFault.Write)) }
+{
+    match survey_file(alloc, reader) {
+        Ok(survey) => Ok(survey),
+        Err(MendFault::Read) => Err(MendFault::Read),
+        Err(_) => Err(MendFault::Memory),
+    }
+}
+
 /// The first reading.
-fn survey_of<I: Inputs>(
-    alloc: Global,
-    command: &MendCommand,
-    inputs: &mut I,
-) -> Result<Survey, MendFault> {
-    match inputs.open(alloc, command.input.as_str()) {
-        Ok(reader) => survey_file(alloc, reader),
+fn survey_of<I: Inputs>(alloc: Global, file: &str, inputs: &mut I) -> Result<Survey, MendFault>
+    ensures surveyed { IfOk result
+        (λ survey. SurveysAs (I.bytes inputs.old file.now) survey.fault) }
+    ensures trouble { IfErr result (λ fault. IsTrouble fault × (fault ≢ MendFault.Write)) }
+    ensures opened { MatchResult result
+        (λ _. I.opened inputs.new ≡ I.opened inputs.old ++ replicate 1 file.now)
+        (λ _. OpensUpTo (I.opened inputs.old) (I.opened inputs.new) file.now 1) }
+    ensures same { (name : List ℕ) → I.bytes inputs.new name ≡ I.bytes inputs.old name }
+{
+    match inputs.open(alloc, file) {
+        Ok(reader) => survey(alloc, reader),
         Err(_) => Err(MendFault::Memory),
     }
 }
 
 /// The second reading, in which the mended file is written.
-fn mend_into<I: Inputs, W: Output>(
+fn mend_again<I: Inputs, W: Output>(
     alloc: Global,
-    command: &MendCommand,
+    file: &str,
+    patient: Option<&[u8]>,
+    rules: &[Rule],
     survey: &Survey,
     inputs: &mut I,
     out: &mut W,
-) -> Result<Ledger, MendFault> {
-    let Ok(mut reader) = inputs.open(alloc, command.input.as_str()) else {
-        return Err(MendFault::Memory);
-    };
-    let rules = command.rules.as_slice();
-    match &command.patient {
-        Some(code) => mend(
-            alloc,
-            &mut reader,
-            out,
-            survey,
-            rules,
-            Some(code.as_bytes()),
-        ),
-        None => mend(alloc, &mut reader, out, survey, rules, None),
+) -> Result<Ledger, MendFault>
+    ensures answer { MatchResult result
+        (MendsAs (I.bytes inputs.old file.now) (option_map (λ code. code.now) patient.entry)
+        survey.now.fault (W.contents out.old) (W.contents out.new))
+        (StopsMending (I.bytes inputs.old file.now) (option_map (λ code. code.now) patient.entry)
+        survey.now.fault) }
+    ensures counted { MatchResult result
+        (λ _. W.failures out.new ≡ W.failures out.old)
+        (CountsWrite (W.failures out.old) (W.failures out.new)) }
+    ensures opened { MatchResult result
+        (λ _. I.opened inputs.new ≡ I.opened inputs.old ++ replicate 1 file.now)
+        (λ _. OpensUpTo (I.opened inputs.old) (I.opened inputs.new) file.now 1) }
+{
+    match inputs.open(alloc, file) {
+        Ok(mut reader) => mend(alloc, &mut reader, out, survey, rules, patient),
+        Err(_) => Err(MendFault::Memory),
     }
 }
 
 /// Both readings, with nothing written.
 fn mend_nowhere<I: Inputs>(
     alloc: Global,
-    command: &MendCommand,
+    file: &str,
+    patient: Option<&[u8]>,
+    rules: &[Rule],
     inputs: &mut I,
-) -> Result<Ledger, MendFault> {
-    let survey = survey_of(alloc, command, inputs)?;
+) -> Result<Ledger, MendFault>
+    ensures answer { MatchResult result
+        (λ ledger. (new : List ℕ) × IsMendedFile (I.bytes inputs.old file.now)
+        (option_map (λ code. code.now) patient.entry) ledger new)
+        (IsNotMended (I.bytes inputs.old file.now)
+        (option_map (λ code. code.now) patient.entry)) }
+    ensures opened { MatchResult result
+        (λ _. I.opened inputs.new ≡ I.opened inputs.old ++ replicate 2 file.now)
+        (λ _. OpensUpTo (I.opened inputs.old) (I.opened inputs.new) file.now 2) }
+{
+    let survey = survey_of(alloc, file, inputs)?;
     let mut nowhere = Counted::new(io::sink());
-    mend_into(alloc, command, &survey, inputs, &mut nowhere)
+    mend_again(alloc, file, patient, rules, &survey, inputs, &mut nowhere)
 }
 
-/// Both readings, with the mended file written and named. `is_made` tells whether a part of it was
-/// made, which is there after an error.
-fn make_file<I: Inputs, M: Maker>(
-    alloc: Global,
-    command: &MendCommand,
-    name: &str,
-    inputs: &mut I,
-    maker: &mut M,
-    is_made: &mut bool,
-) -> Result<Ledger, MendFault> {
-    let survey = survey_of(alloc, command, inputs)?;
-    let Ok(mut writer) = maker.create(alloc, name) else {
-        return Err(MendFault::Write);
-    };
-    *is_made = true;
-    let ledger = mend_into(alloc, command, &survey, inputs, &mut writer)?;
-    if !maker.finish(writer) {
-        return Err(MendFault::Write);
-    }
-    *is_made = false;
-    Ok(ledger)
-}
-
-/// Prints the ledger, or why there is none.
-fn tell_answer<O: Output, F: Output>(
+/// Tells the changes of a file, or why there are none.
+fn tell_changes<I: Inputs, O: Output, F: Output>(
     alloc: Global,
     file: &str,
-    answer: Result<Ledger, MendFault>,
+    patient: Option<&[u8]>,
+    rules: &[Rule],
+    inputs: &mut I,
     out: &mut O,
     err: &mut F,
-) -> Status {
-    match answer {
-        Ok(ledger) if put_ledger(alloc, &ledger, out) => Status::Done,
-        Ok(_) => Status::Trouble,
-        Err(fault) => refuse(alloc, file, fault, err),
+) -> Status
+    ensures told { let given = option_map (λ code. code.now) patient.entry in
+        TellsChanges (growth O.Output out.old out.new) (growth F.Output err.old err.new)
+        (I.bytes inputs.old file.now) given file.now result
+        ⊎ LacksChanges (growth O.Output out.old out.new) (growth F.Output err.old err.new)
+        (I.bytes inputs.old file.now) given file.now result }
+    ensures opened { OpensTwice (I.opened inputs.old) (I.opened inputs.new) file.now result }
+{
+    match mend_nowhere(alloc, file, patient, rules, inputs) {
+        Ok(ledger) => tell_ledger(alloc, &ledger, out),
+        Err(fault) => refuse(alloc, file, fault, None, err),
     }
 }
 
-/// Makes the mended file. Where anything fails before it has its name, nothing is left.
+/// Writes the mended file to one that was just begun, and names it.
+fn write_file<I: Inputs, M: Maker>(
+    alloc: Global,
+    file: &str,
+    patient: Option<&[u8]>,
+    rules: &[Rule],
+    survey: &Survey,
+    inputs: &mut I,
+    maker: &mut M,
+    mut writer: M::Writer,
+) -> Result<Ledger, MendFault>
+    requires { M.Writer.failures writer ≡ 0 }
+    ensures answer { MatchResult result
+        (WritesFile (I.bytes inputs.old file.now) (option_map (λ code. code.now) patient.entry)
+        survey.now.fault (M.made maker.old) (M.made maker.new) (M.failed maker.old)
+        (M.failed maker.new) (M.Writer.contents writer))
+        (StopsWriting (I.bytes inputs.old file.now) (option_map (λ code. code.now) patient.entry)
+        survey.now.fault (M.made maker.old) (M.made maker.new) (M.failed maker.old)
+        (M.failed maker.new)) }
+    ensures opened { MatchResult result
+        (λ _. I.opened inputs.new ≡ I.opened inputs.old ++ replicate 1 file.now)
+        (λ _. OpensUpTo (I.opened inputs.old) (I.opened inputs.new) file.now 1) }
+{
+    match mend_again(alloc, file, patient, rules, survey, inputs, &mut writer) {
+        Ok(ledger) => {
+            if maker.finish(writer) {
+                Ok(ledger)
+            } else {
+                Err(MendFault::Write)
+            }
+        }
+        Err(fault) => {
+            maker.abandon(writer);
+            Err(fault)
+        }
+    }
+}
+
+/// Makes the mended file. After an error no part of it is left, if it could be removed.
+fn make_file<I: Inputs, M: Maker>(
+    alloc: Global,
+    file: &str,
+    patient: Option<&[u8]>,
+    rules: &[Rule],
+    survey: &Survey,
+    name: &str,
+    inputs: &mut I,
+    maker: &mut M,
+) -> Result<Ledger, Stop>
+    ensures answer { MatchResult result
+        (MakesFile (I.bytes inputs.old file.now) (option_map (λ code. code.now) patient.entry)
+        survey.now.fault (making M.Maker maker.old maker.new) name.now)
+        (StopsMaking (I.bytes inputs.old file.now) (option_map (λ code. code.now) patient.entry)
+        survey.now.fault (making M.Maker maker.old maker.new) name.now) }
+    ensures opened { MatchResult result
+        (λ _. I.opened inputs.new ≡ I.opened inputs.old ++ replicate 1 file.now)
+        (λ _. OpensUpTo (I.opened inputs.old) (I.opened inputs.new) file.now 1) }
+{
+    let Ok(writer) = maker.create(alloc, name) else {
+        return Err(Stop {
+            fault: MendFault::Write,
+            is_left: false,
+        });
+    };
+    match write_file(alloc, file, patient, rules, survey, inputs, maker, writer) {
+        Ok(ledger) => Ok(ledger),
+        Err(fault) => {
+            let is_gone = maker.remove(name);
+            Err(Stop {
+                fault,
+                is_left: !is_gone,
+            })
+        }
+    }
+}
+
+/// The name of a file of which a part is left.
+fn left_name(name: &str, is_left: bool) -> Option<&str>
+    ensures { option_map (λ name. name.now) result ≡ left_name name.now is_left }
+{
+    if is_left { Some(name) } else { None }
+}
+
+/// Makes the mended file, and tells its changes. Where anything fails before it has its name,
+/// nothing is left.
 fn mend_to<I: Inputs, M: Maker, O: Output, F: Output>(
     alloc: Global,
-    command: &MendCommand,
+    file: &str,
+    patient: Option<&[u8]>,
+    rules: &[Rule],
     name: &str,
     inputs: &mut I,
     maker: &mut M,
     out: &mut O,
     err: &mut F,
-) -> Status {
-    let file = command.input.as_str();
+) -> Status
+    ensures done { let given = option_map (λ code. code.now) patient.entry in
+        let m = making M.Maker maker.old maker.new in
+        FindsName (growth O.Output out.old out.new) (growth F.Output err.old err.new)
+        (I.bytes inputs.old file.now) given file.now result m name.now
+        ⊎ (MakesMended (growth O.Output out.old out.new) (growth F.Output err.old err.new)
+        (I.bytes inputs.old file.now) given file.now result m name.now
+        ⊎ LacksMended (growth O.Output out.old out.new) (growth F.Output err.old err.new)
+        (I.bytes inputs.old file.now) given file.now result m name.now) }
+    ensures opened { OpensTwice (I.opened inputs.old) (I.opened inputs.new) file.now result }
+{
     if maker.is_there(name) {
-        let parts = [name.as_bytes(), b" is there already; nothing was written\n"];
-        return tell_parts(err, &parts, Status::Refused);
+        return tell_there(err, name);
     }
-    let mut is_made = false;
-    let answer = make_file(alloc, command, name, inputs, maker, &mut is_made);
-    let status = tell_answer(alloc, file, answer, out, err);
-    if is_made && !maker.remove(name) {
-        let parts = [name.as_bytes(), b".part could not be removed\n"];
-        return tell_parts(err, &parts, Status::Trouble);
+    let survey = match survey_of(alloc, file, inputs) {
+        Ok(survey) => survey,
+        Err(fault) => return refuse(alloc, file, fault, None, err),
+    };
+    match make_file(alloc, file, patient, rules, &survey, name, inputs, maker) {
+        Ok(ledger) => tell_ledger(alloc, &ledger, out),
+        Err(stop) => refuse(alloc, file, stop.fault, left_name(name, stop.is_left), err),
     }
-    status
 }
 
-/// Mends a file: the new one is made, or only its changes are told. The ledger goes to `out`, a
-/// line a change, once the file has its name; why it is not done goes to `err`.
+/// Mends a file: the new one is made, or only its changes are told. IN is read twice, and is never
+/// written.
+///
+/// The new file has its name once it is whole; where there is something of that name, nothing is
+/// made. Then the ledger goes to `out`, a line a change. Where that can't be written whole the
+/// answer is `Trouble`, the new file stays, and no more is told. Why it is not made goes to `err`;
+/// then no part of it is left, or one more line names the part that could not be removed.
 pub fn run_mend<I: Inputs, M: Maker, O: Output, F: Output>(
     alloc: Global,
     command: &MendCommand,
@@ -142,12 +285,21 @@ pub fn run_mend<I: Inputs, M: Maker, O: Output, F: Output>(
     maker: &mut M,
     out: &mut O,
     err: &mut F,
-) -> Status {
+) -> Status
+    ensures done { IsMendDone (making M.Maker maker.old maker.new)
+        (growth O.Output out.old out.new) (growth F.Output err.old err.new)
+        (I.bytes inputs.old (string_bytes command.now.input)) (meaning command.now) result }
+    ensures opened { OpensTwice (I.opened inputs.old) (I.opened inputs.new)
+        (string_bytes command.now.input) result }
+{
+    let file = command.input.as_str();
+    let patient = given_code(command);
+    let rules = command.rules.as_slice();
     match &command.output {
-        Some(name) => mend_to(alloc, command, name.as_str(), inputs, maker, out, err),
-        None => {
-            let answer = mend_nowhere(alloc, command, inputs);
-            tell_answer(alloc, command.input.as_str(), answer, out, err)
+        Some(name) => {
+            let name = name.as_str();
+            mend_to(alloc, file, patient, rules, name, inputs, maker, out, err)
         }
+        None => tell_changes(alloc, file, patient, rules, inputs, out, err),
     }
 }

@@ -1,50 +1,89 @@
 //! The lines why a file is not mended.
 
+ghost use Rattle.std.specs.Prelude.{◌≡◌, ◌++◌, IfOk, option_map};
+ghost use Rattle.edf_program.specs.Output.{growth, IsWritten};
+ghost use Rattle.edfmend_command.specs.Lines.{form_text, why_text, there_line, kept_line};
+ghost use Rattle.edfmend_command.specs.Lines.{kept_status};
+ghost use Rattle.edfmend_command.specs.Run.{SaysWhy};
+
 use edf_fragment::{FragmentFault, Output};
 use edf_mend::MendFault;
-use edf_program::{
-    Status, fragment_fault_text, status_of_number, tell_memory, tell_parts, tell_refused,
-};
-use std::alloc::Global;
+use edf_program::{Status, fragment_fault_text, joined, status_of_number, tell_parts};
+use std::alloc::{AllocError, Global};
 
-/// Prints the first fault that a file still has.
-fn refuse_fragment<F: Output>(
-    alloc: Global,
-    file: &str,
-    fault: FragmentFault,
+/// Why there is no memory for more.
+const MEMORY: &[u8; 20] = b" refused E41 Memory\n";
+
+/// Prints that there is something of the name that the new file was to get.
+pub(crate) fn tell_there<F: Output>(err: &mut F, name: &str) -> Status
+    ensures { IsWritten (growth F.Output err.old err.new) (there_line name.now) Status.Refused
+        result }
+{
+    let parts = [name.as_bytes(), b" is there already; nothing was written\n"];
+    tell_parts(err, &parts, Status::Refused)
+}
+
+/// Prints a line about a file, and one about the part of the new file that could not be removed, if
+/// there is one, which is trouble.
+fn tell_why<F: Output>(
     err: &mut F,
-) -> Status {
-    let status = status_of_number(fault.number());
-    match fragment_fault_text(alloc, &fault) {
-        Ok(text) => {
-            let parts = [file.as_bytes(), b" refused ", text.as_bytes(), b"\n"];
-            tell_parts(err, &parts, status)
+    file: &str,
+    why: &[u8],
+    kept: Option<&str>,
+    status: Status,
+) -> Status
+    ensures { let left = option_map (λ name. name.now) kept.entry in
+        IsWritten (growth F.Output err.old err.new) (file.now ++ (why.now ++ kept_line left))
+        (kept_status left status) result }
+{
+    match kept {
+        Some(name) => {
+            let parts = [
+                file.as_bytes(),
+                why,
+                name.as_bytes(),
+                b".part could not be removed\n",
+            ];
+            tell_parts(err, &parts, Status::Trouble)
         }
-        Err(_) => tell_memory(err, file),
+        None => tell_parts(err, &[file.as_bytes(), why], status),
     }
 }
 
-/// Prints why a file is not mended.
+/// The first fault that a file still has, as the line has it.
+fn form_text(alloc: Global, fault: &FragmentFault) -> Result<Vec<u8>, AllocError>
+    ensures { IfOk result (λ r. r.items ≡ form_text fault.now) }
+{
+    let text = fragment_fault_text(alloc, fault)?;
+    joined(alloc, &[b" refused ", text.as_bytes(), b"\n"])
+}
+
+/// Prints why a file is not mended, and which part of the new file is left, if one could not be
+/// removed.
 pub(crate) fn refuse<F: Output>(
     alloc: Global,
     file: &str,
     fault: MendFault,
+    kept: Option<&str>,
     err: &mut F,
-) -> Status {
+) -> Status
+    ensures { SaysWhy (growth F.Output err.old err.new) file.now fault
+        (option_map (λ name. name.now) kept.entry) result }
+{
     match fault {
-        MendFault::Refused(fault) => refuse_fragment(alloc, file, fault, err),
+        MendFault::Refused(met) => match form_text(alloc, &met) {
+            Ok(text) => {
+                let status = status_of_number(met.number());
+                tell_why(err, file, text.as_slice(), kept, status)
+            }
+            Err(_) => tell_why(err, file, MEMORY, kept, Status::Trouble),
+        },
         MendFault::Code => {
-            let parts = [
-                file.as_bytes(),
-                b" names no code of a patient: give one by --patient CODE\n",
-            ];
-            tell_parts(err, &parts, Status::Refused)
+            let code = b" names no code of a patient: give one by --patient CODE\n";
+            tell_why(err, file, code, kept, Status::Refused)
         }
-        MendFault::Read => {
-            let read = FragmentFault::Read;
-            tell_refused(err, file, read.number(), read.name(), Status::Trouble)
-        }
-        MendFault::Write => tell_refused(err, file, 43, "Write", Status::Trouble),
-        MendFault::Memory => tell_memory(err, file),
+        MendFault::Read => tell_why(err, file, b" refused E40 Read\n", kept, Status::Trouble),
+        MendFault::Memory => tell_why(err, file, MEMORY, kept, Status::Trouble),
+        MendFault::Write => tell_why(err, file, b" refused E43 Write\n", kept, Status::Trouble),
     }
 }

@@ -15,12 +15,16 @@ use Rattle.edf_fragment.specs.Reading.{at_first}
 use Rattle.edf_fragment.specs.declared.advance.Progress.{Progress}
 use Rattle.edf_fragment.specs.declared.advance.ReaderState.TheVariants.{Reading}
 use Rattle.edf_fragment.specs.declared.open_fragment.OpenFragment.{OpenFragment}
+use Rattle.edf_fragment.specs.declared.fault.FragmentFault.{FragmentFault}
 use Rattle.edf_canonical.specs.Output.{Buffered, Writes}
 use Rattle.edf_mend.specs.Carried.{IsCarried}
-use Rattle.edf_mend.specs.Rewritten.{RecordEdits, AreRewritten, IsTold}
+use Rattle.edf_mend.specs.Rewritten.{AreRewritten, IsTold}
 use Rattle.edf_mend.specs.Texts.{IsRespelled}
 use Rattle.edf_mend.specs.Mended.{joined, FollowInTurn}
+use Rattle.edf_mend.specs.Retimed.{AreRetimed}
+use Rattle.edf_mend.specs.Inside.Timed.{IsMoved, KeepsStep, IsInStep}
 use Rattle.edf_mend.specs.declared.records.Shape.{Shape}
+use Rattle.edf_mend.specs.declared.rewriting.Telling.{Telling}
 use Rattle.edf_mend.specs.declared.drafting.Draft.{Draft}
 use Rattle.edf_mend.specs.Edits.{RuleEdits, AreMendedBy}
 use Rattle.edf_mend.specs.declared.rule.Rule.TheVariants.{Count}
@@ -64,35 +68,41 @@ pub record HoldsRecords (l : Layout) (left : Option (List ℕ)) : Type 0 where
   pub most : length records ≤ most_records l.count
   pub few : length records ≤ MOST_RECORDS
 
--- these data records were read and carried over as these bytes, and those that are told rewritten
-pub record CarriesRecords (l : Layout) (size added : ℕ) (olds news : List (List ℕ))
-    (texts : List RecordEdits) (records : List DataRecord) (last : Place) : Type 0 where
-  pub carried_records : List (List ℕ)
-  pub are_records : AreDataRecords l First (joined news) records last []
-  pub in_turn : 0 < added → FollowInTurn l records
-  pub carried : AllZip (IsCarried l added) olds carried_records
-  pub rewritten : AreRewritten (IsRespelled l) 0 carried_records texts news
-  pub sizes : All (λ r. length r ≡ size) olds
-  pub counted : length olds ≡ length records
+-- these data records were read and carried over as these bytes, and those that are told rewritten;
+-- where starts are told anew, they are without gaps
+pub record CarriesRecords (l : Layout) (size added : ℕ) (clock : Option FragmentFault)
+    (olds news : List (List ℕ)) (told : Telling) (records : List DataRecord) (last : Place) : Type 0
+  where
+    pub carried_records : List (List ℕ)
+    pub spelled_records : List (List ℕ)
+    pub are_records : AreDataRecords l First (joined news) records last []
+    pub in_turn : 0 < added → FollowInTurn l records
+    pub in_step : clock ≢ None → IsInStep l told.first records
+    pub carried : AllZip (IsCarried l added) olds carried_records
+    pub rewritten : AreRewritten (IsRespelled l) 0 carried_records told.texts.items spelled_records
+    pub retimed : AreRetimed l 0 spelled_records told.retimed.items told.shift news
+    pub sizes : All (λ r. length r ≡ size) olds
+    pub counted : length olds ≡ length records
 
 -- these data records were read, carried over, accepted and put
 pub record CarriedSoFar (l : Layout) (p : Progress) (left rest : Option (List ℕ))
-    (before after : Buffered) (size added count : ℕ) (texts : List RecordEdits) : Type 0 where
+    (before after : Buffered) (size added count : ℕ) (clock : Option FragmentFault)
+    (told : Telling) : Type 0 where
   pub olds : List (List ℕ)
   pub news : List (List ℕ)
   pub records : List DataRecord
   pub read : Consumes left rest (joined olds)
   pub put : Writes before after (joined news) after.held
-  pub carries : CarriesRecords l size added olds news texts records p.place
+  pub carries : CarriesRecords l size added clock olds news told records p.place
   pub given : p.given ≡ length records
   pub within : p.given ≤ most_records l.count
   pub state : p.state ≡ Reading
   pub counted : count ≡ length records
 
--- all that an input has were read and carried over as these bytes, no more must come, and a piece of
--- less than one is left
+-- all that an input has were read and carried over as these bytes, no more must come, and a piece
+-- of less than one is left
 pub record CarriesAll (l : Layout) (left rest : Option (List ℕ)) (size added count left_out : ℕ)
-    (texts : List RecordEdits) (bytes : List ℕ) : Type 0 where
+    (clock : Option FragmentFault) (told : Telling) (bytes : List ℕ) : Type 0 where
   pub olds : List (List ℕ)
   pub news : List (List ℕ)
   pub records : List DataRecord
@@ -100,7 +110,7 @@ pub record CarriesAll (l : Layout) (left rest : Option (List ℕ)) (size added c
   pub piece : List ℕ
   pub read : Consumes left rest (joined olds ++ piece)
   pub end : IsAtEnd rest
-  pub carries : CarriesRecords l size added olds news texts records last
+  pub carries : CarriesRecords l size added clock olds news told records last
   pub bytes_are : bytes ≡ joined news
   pub least : least_records l.count ≤ length records
   pub most : length records ≤ most_records l.count
@@ -110,16 +120,16 @@ pub record CarriesAll (l : Layout) (left rest : Option (List ℕ)) (size added c
 
 -- and were put
 pub record CarriedAll (l : Layout) (left rest : Option (List ℕ)) (before after : Buffered)
-    (size added count left_out : ℕ) (texts : List RecordEdits) : Type 0 where
+    (size added count left_out : ℕ) (clock : Option FragmentFault) (told : Telling) : Type 0 where
   pub bytes : List ℕ
-  pub all : CarriesAll l left rest size added count left_out texts bytes
+  pub all : CarriesAll l left rest size added count left_out clock told bytes
   pub put : Writes before after bytes after.held
 
 -- and were written after a header
 pub record IsSent (l : Layout) (left rest before after : Option (List ℕ)) (header : List ℕ)
-    (size added count left_out : ℕ) (texts : List RecordEdits) : Type 0 where
+    (size added count left_out : ℕ) (clock : Option FragmentFault) (told : Telling) : Type 0 where
   pub bytes : List ℕ
-  pub all : CarriesAll l left rest size added count left_out texts bytes
+  pub all : CarriesAll l left rest size added count left_out clock told bytes
   pub wrote : Appends before after (header ++ bytes)
 
 -- the data records of this layout have the shape: so many bytes before, and those that are added;
@@ -131,15 +141,18 @@ pub record IsFitting (l : Layout) (shape : Shape) : Type 0 where
 -- a data record was carried over, accepted and put; where it got a block, it starts so many
 -- durations after the header's start, and has no annotations
 pub record CarriesOne (l : Layout) (from to : Progress) (before after : Buffered) (nth added : ℕ)
-    (told tells : List RecordEdits) (old : List ℕ) : Type 0 where
+    (clock : Option FragmentFault) (told tells : Telling) (old : List ℕ) : Type 0 where
   pub mid : List ℕ
+  pub spelled : List ℕ
   pub new : List ℕ
   pub r : DataRecord
   pub carried : IsCarried l added old mid
-  pub rewritten : IsTold (IsRespelled l) nth mid told tells new
+  pub rewritten : IsTold (IsRespelled l) nth mid told.texts.items tells.texts.items spelled
+  pub moved : IsMoved l nth spelled told tells new
   pub accepted : IsAccepted l from to new r
   pub in_turn : 0 < added → (r.start ≡ l.start + nth * duration_of l.key.duration)
       × (r.annotations ≡ [])
+  pub in_step : clock ≢ None → KeepsStep l nth told.first tells.first r.start
   pub put : Writes before after new after.held
 
 -- the steps lead from the header before to that of the draft, and make no code up

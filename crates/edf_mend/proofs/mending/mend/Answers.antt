@@ -1,13 +1,21 @@
 use Rattle.std.proofs.Common.{rules, ◌≡◌, ◌<◌, ◌∙◌, ℕ, List, [], refl, sym, subst, arith, option_map}
+use Rattle.std.proofs.Common.{◌≤◌, ◌+◌, ◌*◌, ◌≢◌, None, length, ap}
 use Rattle.std.proofs.lemmas.Result.{err_from_is_err_and}
 use Rattle.edf_mend.specs.Clock.{KeepsClock}
+use Rattle.edf_mend.specs.Edits.{RuleEdits}
+use Rattle.edf_mend.specs.Kept.{KeepsHeader}
+use Rattle.edf_mend.specs.Retimed.{IsContinuous}
+use Rattle.edf_mend.specs.Says.{SaysMended}
 use Rattle.edf_mend.specs.Patient.{KeepsPatient}
 use Rattle.edf_mend.specs.Counts.{CountsFault}
 use Rattle.edf_mend.specs.Inside.Steps.{IsDrafted, IsOpened, IsSent, IsFitting, EndsInHeader}
+use Rattle.edf_field.specs.Number.{IsNumber}
+use Rattle.edf_header.specs.Fields.{signals_field, recording_field}
 use Rattle.edf_header.specs.Header.{IsHeader}
 use Rattle.edf_mend.proofs.Accepted.{refuses-then, refuses-some, asks-none, NoHeader}
 use Rattle.edf_mend.proofs.Further.{further-then, reads-on}
 use Rattle.edf_mend.proofs.Good.{not-in-header, good-header, good-opened, drafted-none, copies}
+use Rattle.edf_mend.proofs.Good.{names-signals, header-length}
 use Rattle.edf_mend.proofs.Parts.{mends}
 use Rattle.edf_mend.proofs.mending.mend.Goals as goal
 
@@ -42,6 +50,21 @@ returns-in_err-records-clause-counted g c =
     rw (p.1, p.2) (subst (λ (n : ℕ). CountsFault n last before after c.in_err-records.field-0.0)
     c.in_ok-old.ensures.counted.0 c.in_err-records.ensures.counted)
 
+pub returns-clause-unchanged : goal.returns-clause-unchanged
+returns-clause-unchanged g c none =
+    let kept = c.in_ok-draft.ensures.kept none in
+    record {
+      header = kept.0;
+      added = kept.1;
+      texts = c.send.ensures.untold kept.2;
+      retimed = (c.send.ensures.unmoved kept.3).0;
+      shift = (c.send.ensures.unmoved kept.3).1;
+      left_out = search rules;
+    }
+
+pub returns-clause-only : goal.returns-clause-only
+returns-clause-only g c some = c.counts_records.ensures.asked (search rules) some
+
 pub returns-clause-mended : goal.returns-clause-mended
 returns-clause-mended g c =
     let given = option_map (λ code. code.now) c.args.patient in
@@ -61,17 +84,32 @@ returns-clause-mended g c =
     let clock : KeepsClock old new = subst (λ (x : List ℕ). KeepsClock x new) before_is
     (subst (λ (x : List ℕ). KeepsClock before x) after_is
     (c.keeps_identity.ensures.clock (search rules))) in
+    let first_is : c.as_slice.result.now ≡ old = search rules in
+    let continuous : draft.rewriting.clock ≢ None → IsContinuous old × IsContinuous new =
+    subst (λ (x : List ℕ). draft.rewriting.clock ≢ None → IsContinuous x × IsContinuous new)
+    first_is c.in_ok-draft.ensures.continuous in
+    let steps_is : c.as_slice-5.result.now ≡ draft.steps.items = search rules in
+    let kept : KeepsHeader draft.added draft.steps.items old new =
+    subst (λ (x : List RuleEdits). KeepsHeader draft.added x old new) steps_is
+    (subst (λ (x : List ℕ). KeepsHeader draft.added c.as_slice-5.result.now x new) before_is
+    (subst (λ (x : List ℕ). KeepsHeader draft.added c.as_slice-5.result.now before x) after_is
+    (c.keeps_identity.ensures.kept (search rules)))) in
+    let last_is : c.as_slice-7.result.now ≡ new = search rules in
     let counts = c.counts_records.ensures.counts (search rules) in
     let fits : IsFitting o.header c.in_ok-shape.shape = search rules in
     let added : c.in_ok-shape.shape.added ≡ draft.added = search rules in
     let sent : IsSent o.header (g.R.Input.remaining c.read_header.new.input)
     (g.R.Input.remaining c.send.new.input) (g.W.Output.contents c.args.out.now)
     (g.W.Output.contents c.send.new.out) new c.in_ok-shape.shape.size c.in_ok-shape.shape.added
-    c.in_ok-records.records c.in_ok-records.left_out c.send.new.texts.items = search rules in
+    c.in_ok-records.records c.in_ok-records.left_out draft.rewriting.clock c.send.new.telling =
+    search rules in
     mends (g.R.Input.remaining c.args.input.now) (g.R.Input.remaining c.read_header.new.input)
     (g.R.Input.remaining c.send.new.input) (g.W.Output.contents c.args.out.now)
-    (g.W.Output.contents c.send.new.out) given _ old new draft o c.in_ok-shape.shape refl
-    c.in_ok-old.ensures.read drafted opened clock patient fits added counts sent refl refl
+    (g.W.Output.contents c.send.new.out) given _ old new draft o c.in_ok-shape.shape
+    draft.rewriting.clock c.send.new.telling refl c.in_ok-old.ensures.read drafted opened clock
+    patient kept fits added counts sent (λ off. (c.send.ensures.unmoved off).0) continuous refl refl
+    refl refl refl (λ told. subst (λ (x : List ℕ). SaysMended (recording_field x)) last_is
+    (c.may_end.ensures.says (search rules) (λ none. told (returns-clause-unchanged g c none))))
 
 pub returns-clause-copied : goal.returns-clause-copied
 returns-clause-copied g c none =
@@ -83,6 +121,8 @@ returns-clause-copied g c none =
       header = kept.0;
       added = kept.1;
       texts = c.send.ensures.untold kept.2;
+      retimed = (c.send.ensures.unmoved kept.3).0;
+      shift = (c.send.ensures.unmoved kept.3).1;
       left_out = search rules;
     })
 
@@ -140,7 +180,8 @@ returns-in_err-records-clause-welcome g c bytes key records none left_is spells 
     c.in_ok-fragment.fragment good
     (subst (λ (x : List ℕ). IsOpened x c.in_ok-fragment.fragment) same opened) in
     rw (p.1, p.2) (c.in_err-records.ensures.welcome (c.in_ok-shape.ensures.added
-    ∙ (c.in_ok-draft.ensures.kept none).1) (c.in_ok-draft.ensures.kept none).2 holds)
+    ∙ (c.in_ok-draft.ensures.kept none).1) (c.in_ok-draft.ensures.kept none).2
+    (c.in_ok-draft.ensures.kept none).3 holds)
 
 pub returns-in_err-records-clause-further : goal.returns-in_err-records-clause-further
 returns-in_err-records-clause-further g c =
@@ -163,13 +204,18 @@ returns-then-not-counts_records-clause-further g c =
     reads-on (g.R.Input.remaining c.args.input.now) (g.R.Input.remaining c.read_header.new.input)
     (g.W.Output.contents c.args.out.now) c.in_ok-old.old.items c.in_ok-old.ensures.read
 
+pub returns-in_err-fragment-clause-further : goal.returns-in_err-fragment-clause-further
+returns-in_err-fragment-clause-further g c =
+    reads-on (g.R.Input.remaining c.args.input.now) (g.R.Input.remaining c.read_header.new.input)
+    (g.W.Output.contents c.args.out.now) c.in_ok-old.old.items c.in_ok-old.ensures.read
+
 pub returns-in_err-shape-clause-further : goal.returns-in_err-shape-clause-further
 returns-in_err-shape-clause-further g c =
     reads-on (g.R.Input.remaining c.args.input.now) (g.R.Input.remaining c.read_header.new.input)
     (g.W.Output.contents c.args.out.now) c.in_ok-old.old.items c.in_ok-old.ensures.read
 
-pub returns-then-not-may_leave-clause-further : goal.returns-then-not-may_leave-clause-further
-returns-then-not-may_leave-clause-further g c =
+pub returns-then-not-may_end-clause-further : goal.returns-then-not-may_end-clause-further
+returns-then-not-may_end-clause-further g c =
     further-then (g.R.Input.remaining c.args.input.now)
     (g.R.Input.remaining c.read_header.new.input) (g.R.Input.remaining c.send.new.input)
     (g.W.Output.contents c.args.out.now) (g.W.Output.contents c.args.out.now)
@@ -186,16 +232,6 @@ returns-clause-further g c =
     (g.R.Input.remaining c.read_header.new.input) (g.W.Output.contents c.args.out.now)
     c.in_ok-old.old.items c.in_ok-old.ensures.read) c.in_ok-records.ensures.further
 
-pub returns-clause-unchanged : goal.returns-clause-unchanged
-returns-clause-unchanged g c none =
-    let kept = c.in_ok-draft.ensures.kept none in
-    record {
-      header = kept.0;
-      added = kept.1;
-      texts = c.send.ensures.untold kept.2;
-      left_out = search rules;
-    }
-
 pub returns-in_err-shape-clause-asked : goal.returns-in_err-shape-clause-asked
 returns-in_err-shape-clause-asked g c =
     let p = err_from_is_err_and c.from_residual-in_err-shape.result
@@ -211,8 +247,8 @@ returns-in_err-records-clause-asked g c =
     rw (p.1, p.2) (asks-none (option_map (λ code. code.now) c.args.patient)
     c.in_err-records.field-0.0 c.in_err-records.ensures.asked)
 
-pub returns-then-not-may_leave-clause-welcome : goal.returns-then-not-may_leave-clause-welcome
-returns-then-not-may_leave-clause-welcome g c bytes key records none left_is spells =
+pub returns-then-not-may_end-clause-welcome : goal.returns-then-not-may_end-clause-welcome
+returns-then-not-may_end-clause-welcome g c bytes key records none left_is spells =
     let given = option_map (λ code. code.now) c.args.patient in
     let old = c.in_ok-old.old.items in
     let draft = c.in_ok-draft.draft in
@@ -226,6 +262,39 @@ returns-then-not-may_leave-clause-welcome g c bytes key records none left_is spe
     c.in_ok-fragment.fragment good
     (subst (λ (x : List ℕ). IsOpened x c.in_ok-fragment.fragment) same opened) in
     let all = c.in_ok-records.ensures.welcome (c.in_ok-shape.ensures.added
-    ∙ (c.in_ok-draft.ensures.kept none).1) (c.in_ok-draft.ensures.kept none).2 holds in
-    let may = c.may_leave.ensures.same all in
+    ∙ (c.in_ok-draft.ensures.kept none).1) (c.in_ok-draft.ensures.kept none).2
+    (c.in_ok-draft.ensures.kept none).3 holds in
+    let may = c.may_end.ensures.same none all in
+    search (rules, may)
+
+pub returns-then-not-keeps_identity-clause-welcome :
+    goal.returns-then-not-keeps_identity-clause-welcome
+returns-then-not-keeps_identity-clause-welcome g c bytes key records none left_is spells =
+    let given = option_map (λ code. code.now) c.args.patient in
+    let old = c.in_ok-old.old.items in
+    let draft = c.in_ok-draft.draft in
+    let kept = c.in_ok-draft.ensures.kept none in
+    let drafted : IsDrafted old given draft = search rules in
+    let same = drafted-none old given draft drafted kept.0 in
+    let good = good-header (g.R.Input.remaining c.args.input.now)
+    (g.R.Input.remaining c.read_header.new.input) bytes key records old left_is spells
+    c.in_ok-old.ensures.read c.in_ok-old.ensures.long c.in_ok-old.ensures.whole in
+    let n = good.header.fixed.signal_count in
+    let names = names-signals old [] good.header good.is_header in
+    let before = c.as_slice-3.result.now in
+    let before_is : before ≡ old = search rules in
+    let after_is : c.as_slice-4.result.now ≡ draft.header.items = search rules in
+    let long : 256 ≤ length before = subst (λ (x : List ℕ). 256 ≤ length x) (sym before_is)
+    c.in_ok-old.ensures.long in
+    let named : IsNumber (signals_field before) n =
+    subst (λ (x : List ℕ). IsNumber (signals_field x) n) (sym before_is) names.named in
+    let len : length before ≡ 256 + 256 * n =
+    omega (
+      arith,
+      header-length old [] good.header good.is_header,
+      ap (λ (x : List ℕ). length x) before_is,
+    ) in
+    let steps_is : c.as_slice-5.result.now ≡ draft.steps.items = search rules in
+    let may = c.keeps_identity.ensures.same n long named len (after_is ∙ same ∙ sym before_is)
+    kept.1 (steps_is ∙ kept.0) in
     search (rules, may)

@@ -1,4 +1,4 @@
-use Rattle.std.proofs.Common.{◌≡◌, [], false, length}
+use Rattle.std.proofs.Common.{◌≡◌, [], false, None, length}
 use Rattle.edf_canonical.specs.Output.{buffered}
 use Rattle.edf_mend.specs.Inside.Steps.{CarriedSoFar}
 use Rattle.edf_mend.proofs.records.carry_records.Given as goal
@@ -11,8 +11,9 @@ invariant-loop-nth g l = record {
       (g.R.Input.remaining l.initial.input) (g.R.Input.remaining l.input)
       (buffered g.W.Output l.initial.out l.initial.held.bytes.items)
       (buffered g.W.Output l.out l.held.bytes.items) l.shape.size l.shape.added l.nth
-      l.texts.items;
-  untold : l.rewriting.texts ≡ false → l.texts.items ≡ [];
+      l.rewriting.clock l.telling;
+  untold : l.rewriting.texts ≡ false → l.telling.texts.items ≡ [];
+  unmoved : l.rewriting.clock ≡ None → (l.telling.retimed.items ≡ []) × (l.telling.shift ≡ 0);
   reads : g.R.Input.failures l.input ≡ g.R.Input.failures l.initial.input;
   writes : g.W.Output.failures l.out ≡ g.W.Output.failures l.initial.out;
 }

@@ -1,0 +1,4 @@
+mod MadeLists
+mod Mending
+mod Opened
+mod Told

@@ -1,0 +1,209 @@
+-- A second reading, and the file that is made in it.
+use Rattle.std.proofs.Common.{◌≡◌, ◌≢◌, ℕ, List, [], ◌∷◌, ◌++◌, Bool}
+use Rattle.std.proofs.Common.{true, false, Option, Some, None, refl, sym, ap, ◌∙◌, subst, inl, inr}
+use Rattle.std.specs.Prelude.{Result, Ok, Err, IfOk, IfErr, MatchResult, IfSome}
+use Rattle.std.specs.Io.KnownBytes.{Appends}
+use Rattle.std.proofs.KnownBytes.{Consumes-whole}
+use Rattle.edf_header.specs.Key.{Key}
+use Rattle.edf_fragment.specs.Failures.{one_more}
+use Rattle.edf_fragment.specs.Fragment.{DataRecord, Spells}
+use Rattle.edf_fragment.specs.declared.fault.FragmentFault.{FragmentFault}
+use Rattle.edf_mend.specs.Answers.{AsksCode, IsTrouble}
+use Rattle.edf_mend.specs.Counts.{CountsCalls}
+use Rattle.edf_mend.specs.Mended.{Mends, TellsNone, SurveysAs}
+use Rattle.edf_mend.specs.declared.fault.MendFault.{MendFault}
+use Rattle.edf_mend.specs.declared.fault.MendFault.TheVariants.{Refused, Code, Read, Write, Memory}
+use Rattle.edf_mend.specs.declared.ledger.Ledger.{Ledger}
+use Rattle.edf_mend.proofs.OneToOne.{unchanged}
+use Rattle.edf_mend.proofs.Surveyed.{no-fault}
+use Rattle.edfmend_command.specs.Made.{MadeFile, made_file, finished, failed_with}
+use Rattle.edfmend_command.specs.Making.{Making}
+use Rattle.edfmend_command.specs.Run.{IsFragmentFile, IsMendedFile, IsNotMended, CountsWrite}
+use Rattle.edfmend_command.specs.Run.{LeavesPart}
+use Rattle.edfmend_command.specs.Inside.{MendsAs, StopsMending, MakesFile, StopsMaking}
+use Rattle.edfmend_command.specs.declared.maker.Stage.TheVariants.{Removed, Kept}
+use Rattle.edfmend_command.specs.declared.mend_command.Stop.{Stop}
+
+-- ---- a second reading
+
+module _ (bytes given : Option (List ℕ)) (fault : Option FragmentFault)
+    (left rest before after : Option (List ℕ)) (is : left ≡ bytes) where
+  mends-as : (ledger : Ledger) → Mends left rest before after given ledger →
+      (fault ≡ None → TellsNone ledger) → MendsAs bytes given fault before after ledger
+  mends-as ledger m none = record {
+    old = m.old;
+    new = m.new;
+    old_is = subst (λ (b : Option (List ℕ)). IfSome b (λ known. known ≡ m.old)) is
+        (Consumes-whole left rest m.old (λ known. known ≡ m.old) m.read m.end refl);
+    wrote = m.wrote;
+    mended = m.mended;
+    kept = λ e. (unchanged m.old m.new given ledger m.mended (none e), none e);
+  }
+
+  pub answered : (result : Result Ledger MendFault) →
+      IfOk result (λ ledger. Mends left rest before after given ledger) →
+      (fault ≡ None → IfOk result TellsNone) →
+      ((known : List ℕ) (key : Key) (records : List DataRecord) → fault ≡ None →
+      left ≡ Some known → Spells known key records → IfErr result IsTrouble) →
+      IfErr result (AsksCode given) →
+      MatchResult result (MendsAs bytes given fault before after) (StopsMending bytes given fault)
+  answered (Ok ledger) mends none welcome asked = mends-as ledger mends none
+  answered (Err why) mends none welcome asked = record {
+    asked = asked;
+    welcome = λ e file. welcome file.0 file.1 file.2 e (is ∙ file.3) file.4;
+  }
+
+pub counted-writes : (reads reads' writes writes' : ℕ) (result : Result Ledger MendFault) →
+    CountsCalls reads reads' writes writes' result →
+    MatchResult result (λ _. writes' ≡ writes) (CountsWrite writes writes')
+counted-writes reads reads' writes writes' (Ok ledger) counts = counts.1
+counted-writes reads reads' writes writes' (Err (Refused fault)) counts = counts.1
+counted-writes reads reads' writes writes' (Err Code) counts = counts.1
+counted-writes reads reads' writes writes' (Err Read) counts = counts.1
+counted-writes reads reads' writes writes' (Err Write) counts = counts.1
+counted-writes reads reads' writes writes' (Err Memory) counts = counts.1
+
+-- no failed write is the reason
+pub not-write : (failed failed' : ℕ) (why : MendFault) → why ≢ Write → failed' ≡ failed →
+    CountsWrite failed failed' why
+not-write failed failed' (Refused fault) not same = same
+not-write failed failed' Code not same = same
+not-write failed failed' Read not same = same
+not-write failed failed' Memory not same = same
+not-write failed failed' Write not same = absurd (not refl)
+
+-- the writer of a file that is left half written, none of whose writes had failed, was taken back
+pub abandoned : (failed failed' start end : ℕ) (why : MendFault) → start ≡ 0 →
+    CountsWrite start end why → failed' ≡ failed_with failed end → CountsWrite failed failed' why
+abandoned failed failed' start end (Refused fault) none counts is =
+    is ∙ ap (failed_with failed) (counts ∙ none)
+abandoned failed failed' start end Code none counts is =
+    is ∙ ap (failed_with failed) (counts ∙ none)
+abandoned failed failed' start end Read none counts is =
+    is ∙ ap (failed_with failed) (counts ∙ none)
+abandoned failed failed' start end Memory none counts is =
+    is ∙ ap (failed_with failed) (counts ∙ none)
+abandoned failed failed' start end Write none counts is =
+    is ∙ ap (failed_with failed) (counts ∙ ap one_more none)
+
+-- an empty file, of which all is known, holds what was written to it
+held-by : (bytes : List ℕ) (after : Option (List ℕ)) → Appends (Some []) after bytes →
+    after ≡ Some bytes
+held-by bytes None wrote = absurd wrote
+held-by bytes (Some now) wrote = ap (λ (l : List ℕ). Some l) wrote
+
+pub filled : (before after : Option (List ℕ)) (bytes : List ℕ) → before ≡ Some [] →
+    Appends before after bytes → after ≡ Some bytes
+filled before after bytes empty wrote =
+    held-by bytes after (subst (λ (b : Option (List ℕ)). Appends b after bytes) empty wrote)
+
+-- ---- both readings
+
+welcome-file : (bytes : Option (List ℕ)) (fault : Option FragmentFault) → SurveysAs bytes fault →
+    IsFragmentFile bytes → fault ≡ None
+welcome-file bytes fault surveyed file = no-fault file.0 file.1 file.2 fault file.4
+    (subst (λ (b : Option (List ℕ)). SurveysAs b fault) file.3 surveyed)
+
+module _ (bytes given : Option (List ℕ)) (fault : Option FragmentFault)
+    (surveyed : SurveysAs bytes fault) where
+  pub is-mended : (before after : Option (List ℕ)) (ledger : Ledger) →
+      (m : MendsAs bytes given fault before after ledger) →
+      IsMendedFile bytes given ledger m.new
+  is-mended before after ledger m = record {
+    fault = fault;
+    surveyed = surveyed;
+    old = m.old;
+    old_is = m.old_is;
+    mended = m.mended;
+    kept = m.kept;
+    welcome = welcome-file bytes fault surveyed;
+  }
+
+  pub is-not-mended : (why : MendFault) → StopsMending bytes given fault why →
+      IsNotMended bytes given why
+  is-not-mended why stops = record {
+    asked = stops.asked;
+    welcome = λ file. stops.welcome (welcome-file bytes fault surveyed file) file;
+  }
+
+-- where the first reading failed
+pub first-failed : (bytes given : Option (List ℕ)) (why : MendFault) → IsTrouble why →
+    IsNotMended bytes given why
+first-failed bytes given (Refused fault) trouble = absurd trouble
+first-failed bytes given Code trouble = absurd trouble
+first-failed bytes given Read trouble = record { asked = λ e. cc; welcome = λ file. tt }
+first-failed bytes given Write trouble = record { asked = λ e. cc; welcome = λ file. tt }
+first-failed bytes given Memory trouble = record { asked = λ e. cc; welcome = λ file. tt }
+
+pub stops-by : (bytes given : Option (List ℕ)) (fault : Option FragmentFault) (why : MendFault) →
+    IsTrouble why → StopsMending bytes given fault why
+stops-by bytes given fault why trouble =
+    let not = first-failed bytes given why trouble in
+    record { asked = not.asked; welcome = λ e file. not.welcome file }
+
+module _ (bytes given : Option (List ℕ)) (fault : Option FragmentFault)
+    (left before after : Option (List ℕ)) (same : left ≡ bytes) (surveyed : SurveysAs bytes fault) where
+  pub both-read : (result : Result Ledger MendFault) →
+      MatchResult result (MendsAs left given fault before after)
+      (StopsMending left given fault) →
+      MatchResult result (λ ledger. (new : List ℕ) × IsMendedFile bytes given ledger new)
+      (IsNotMended bytes given)
+  both-read (Ok ledger) answer =
+      let m = subst (λ (b : Option (List ℕ)). MendsAs b given fault before after ledger) same
+      answer in
+      (m.new, is-mended bytes given fault surveyed before after ledger m)
+  both-read (Err why) answer = is-not-mended bytes given fault surveyed why
+      (subst (λ (b : Option (List ℕ)). StopsMending b given fault why) same answer)
+
+-- ---- after it was asked whether there is something of a name
+
+pub free-of : (there : Option Bool) (answer : Bool) → IfSome there (λ is_there. answer ≡ is_there) →
+    answer ≡ false → IfSome there (λ is_there. is_there ≡ false)
+free-of None answer is no_file = tt
+free-of (Some is_there) answer is no_file = sym is ∙ no_file
+
+abbrev pub made-by : Bool → (List ℕ → Option Bool) → List MadeFile → ℕ → List MadeFile → ℕ → Making
+made-by known there before failed after failed' = record {
+  known = known;
+  there = there;
+  before = before;
+  failed_before = failed;
+  after = after;
+  failed_after = failed';
+}
+
+module _ (known known' : Bool) (there there' : List ℕ → Option Bool)
+    (before before' after : List MadeFile) (failed failed' end : ℕ) (k : known' ≡ known)
+    (b : before' ≡ before) (f : failed' ≡ failed) (name : List ℕ) where
+  leaves-part : (is_left : Bool) →
+      LeavesPart (made-by known' there' before' failed' after end) name is_left →
+      LeavesPart (made-by known there before failed after end) name is_left
+  leaves-part is_left (inl none) = inl (none.0 ∙ b, none.1)
+  leaves-part true (inr left) =
+      inr (left ∙ ap (λ (l : List MadeFile). l ++ (made_file name Kept None ∷ [])) b)
+  leaves-part false (inr left) =
+      inr (left ∙ ap (λ (l : List MadeFile). l ++ (made_file name Removed None ∷ [])) b)
+
+  module _ (bytes left given : Option (List ℕ)) (fault : Option FragmentFault)
+      (same : left ≡ bytes) where
+    pub asked-makes : (ledger : Ledger) →
+        MakesFile left given fault (made-by known' there' before' failed' after end) name ledger →
+        MakesFile bytes given fault (made-by known there before failed after end) name ledger
+    asked-makes ledger x = record {
+      start = x.start;
+      empty = λ e. x.empty (k ∙ e);
+      held = x.held;
+      mends = subst (λ (l : Option (List ℕ)). MendsAs l given fault x.start x.held ledger) same
+          x.mends;
+      made = x.made ∙ ap (λ (l : List MadeFile). l ++ (finished name x.held ∷ [])) b;
+      unfailed = x.unfailed ∙ f;
+    }
+
+    pub asked-stops : (stop : Stop) →
+        StopsMaking left given fault (made-by known' there' before' failed' after end) name stop →
+        StopsMaking bytes given fault (made-by known there before failed after end) name stop
+    asked-stops stop x = record {
+      stops = subst (λ (l : Option (List ℕ)). StopsMending l given fault stop.fault) same x.stops;
+      leaves = leaves-part stop.is_left x.leaves;
+      counted = subst (λ (n : ℕ). CountsWrite n end stop.fault) f x.counted;
+    }

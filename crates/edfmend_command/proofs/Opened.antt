@@ -1,0 +1,108 @@
+-- How often a name was opened.
+use Rattle.std.proofs.Common.{◌≡◌, ◌≢◌, ℕ, List, [], ◌∷◌, ◌++◌, refl, sym, ap, ◌∙◌, arith}
+use Rattle.std.proofs.Common.{replicate, append_assoc, append-nil, inl, inr}
+use Rattle.std.specs.Prelude.{Result, Ok, Err, MatchResult}
+use Rattle.edf_program.specs.Output.{Growth, IsWritten}
+use Rattle.edf_program.specs.declared.status.Status.{Status}
+use Rattle.edf_program.specs.declared.status.Status.TheVariants.{Done, Refused, Trouble}
+use Rattle.std.proofs.Common.{Bool, true, false, suc, Option, Some, None}
+use Rattle.std.specs.Prelude.{if◌then◌else◌}
+use Rattle.edf_fragment.specs.Fault.{fragment_fault_number}
+use Rattle.edf_program.specs.Status.{is_trouble}
+use Rattle.edf_mend.specs.declared.fault.MendFault.{MendFault}
+use Rattle.edf_mend.specs.declared.fault.MendFault.TheVariants as fault
+use Rattle.edfmend_command.specs.Lines.{why_text, why_status, kept_line, kept_status}
+use Rattle.edfmend_command.specs.Run.{OpensTwice, SaysWhy}
+use Rattle.edfmend_command.specs.Inside.{OpensUpTo}
+
+pub opened-either : {T E : Type 0} (r : Result T E) (before after : List (List ℕ))
+    (name : List ℕ) → after ≡ before ++ (name ∷ []) →
+    MatchResult r (λ _. after ≡ before ++ replicate 1 name)
+    (λ _. OpensUpTo before after name 1)
+opened-either (Ok x) before after name is = is
+opened-either (Err e) before after name is =
+    record { times = 1; few = omega arith; opened = is }
+
+pub opened-none : (before after : List (List ℕ)) (name : List ℕ) → after ≡ before →
+    OpensUpTo before after name 1
+opened-none before after name is = record {
+  times = 0;
+  few = omega arith;
+  opened = is ∙ sym (append-nil before);
+}
+
+pub up-to-two : (before after : List (List ℕ)) (name : List ℕ) → OpensUpTo before after name 1 →
+    OpensUpTo before after name 2
+up-to-two before after name up =
+    record { times = up.times; few = omega (arith, up.few); opened = up.opened }
+
+pub then-up : (before mid after : List (List ℕ)) (name : List ℕ) → mid ≡ before ++ (name ∷ []) →
+    OpensUpTo mid after name 1 → OpensUpTo before after name 2
+then-up before mid after name first later = record {
+  times = suc later.times;
+  few = omega (arith, later.few);
+  opened = later.opened ∙ ap (λ (l : List (List ℕ)). l ++ replicate later.times name) first
+      ∙ append_assoc before (name ∷ []) (replicate later.times name);
+}
+
+pub then-either : {T E : Type 0} (r : Result T E) (before mid after : List (List ℕ))
+    (name : List ℕ) → mid ≡ before ++ (name ∷ []) →
+    MatchResult r (λ _. after ≡ mid ++ replicate 1 name) (λ _. OpensUpTo mid after name 1) →
+    MatchResult r (λ _. after ≡ before ++ replicate 2 name)
+    (λ _. OpensUpTo before after name 2)
+then-either (Ok x) before mid after name first later =
+    later ∙ ap (λ (l : List (List ℕ)). l ++ (name ∷ [])) first
+    ∙ append_assoc before (name ∷ []) (name ∷ [])
+then-either (Err e) before mid after name first later = then-up before mid after name first later
+
+pub twice : (before after : List (List ℕ)) (name : List ℕ) (status : Status) →
+    after ≡ before ++ replicate 2 name → OpensTwice before after name status
+twice before after name status is =
+    record { times = 2; few = omega arith; opened = is; all = λ done. refl }
+
+pub fewer : (before after : List (List ℕ)) (name : List ℕ) (status : Status) →
+    OpensUpTo before after name 2 → status ≢ Done → OpensTwice before after name status
+fewer before after name status up undone = record {
+  times = up.times;
+  few = up.few;
+  opened = up.opened;
+  all = λ done. absurd (undone done);
+}
+
+-- ---- a refusal is no success
+
+pub undone : (w : Growth) (bytes : List ℕ) (wanted status : Status) → wanted ≢ Done →
+    IsWritten w bytes wanted status → status ≢ Done
+undone w bytes wanted status not (inl whole) done = not (sym whole.1 ∙ done)
+undone w bytes wanted status not (inr front) done = let a = front.1 in cc
+
+either-undone : (b : Bool) → (if b then Trouble else Refused) ≢ Done
+either-undone true done = cc
+either-undone false done = cc
+
+why-undone : (why : MendFault) → why_status why ≢ Done
+why-undone (fault.Refused met) = either-undone (is_trouble (fragment_fault_number met))
+why-undone fault.Code = λ done. cc
+why-undone fault.Read = λ done. cc
+why-undone fault.Write = λ done. cc
+why-undone fault.Memory = λ done. cc
+
+kept-undone : (kept : Option (List ℕ)) (status : Status) → status ≢ Done →
+    kept_status kept status ≢ Done
+kept-undone None status not = not
+kept-undone (Some name) status not = λ done. cc
+
+pub says-undone : (err : Growth) (name : List ℕ) (why : MendFault) (kept : Option (List ℕ))
+    (status : Status) → SaysWhy err name why kept status → status ≢ Done
+says-undone err name why kept status (inl said) = undone err
+    (name ++ (why_text why ++ kept_line kept)) (kept_status kept (why_status why)) status
+    (kept-undone kept (why_status why) (why-undone why)) said
+says-undone err name why kept status (inr said) = undone err
+    (name ++ (why_text fault.Memory ++ kept_line kept)) Trouble status (λ done. cc) said
+
+pub then-twice : (before mid after : List (List ℕ)) (name : List ℕ) (status : Status) →
+    mid ≡ before ++ (name ∷ []) → after ≡ mid ++ (name ∷ []) →
+    OpensTwice before after name status
+then-twice before mid after name status first later = twice before after name status
+    (later ∙ ap (λ (l : List (List ℕ)). l ++ (name ∷ [])) first
+    ∙ append_assoc before (name ∷ []) (name ∷ []))

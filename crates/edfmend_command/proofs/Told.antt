@@ -1,0 +1,92 @@
+-- Lines of their parts, and what is told of a command.
+use Rattle.std.proofs.Common.{◌≡◌, ℕ, ◌+◌, List, [], ◌∷◌, ◌++◌, ap, sym, ◌∙◌, append_assoc, codes}
+use Rattle.std.proofs.Common.{decimal, Option, Some, None, refl, subst, inl, inr}
+use Rattle.std.specs.Prelude.{option_map}
+use Rattle.edf_mend.specs.declared.fault.MendFault.{MendFault}
+use Rattle.edf_mend.specs.declared.fault.MendFault.TheVariants.{Memory}
+use Rattle.edf_program.specs.Output.{Growth, IsWritten}
+use Rattle.edf_program.specs.declared.status.Status.{Status}
+use Rattle.edf_program.specs.declared.status.Status.TheVariants.{Trouble}
+use Rattle.edfmend_command.specs.Lines.{why_text, why_status, kept_line, kept_status}
+use Rattle.edfmend_command.specs.Run.{SaysWhy}
+use Rattle.edf_mend.specs.Edits.{Edit}
+use Rattle.edf_mend.specs.declared.rule.Rule.{Rule}
+use Rattle.edfmend_command.specs.Ledger.{quoted, unfilled, change_line, bytes_text, record_line}
+use Rattle.edfmend_command.specs.Ledger.{clock_text}
+use Rattle.edf_time.specs.Decimal.{short}
+use Rattle.edf_mend.specs.Names.{rule_name}
+
+four : (a b c d x : List ℕ) → (a ++ (b ++ (c ++ d))) ++ x ≡ a ++ (b ++ (c ++ (d ++ x)))
+four a b c d x = append_assoc a (b ++ (c ++ d)) x
+    ∙ ap (λ (t : List ℕ). a ++ t) (append_assoc b (c ++ d) x
+    ∙ ap (λ (t : List ℕ). b ++ t) (append_assoc c d x))
+
+five : (a b c d e x : List ℕ) →
+    (a ++ (b ++ (c ++ (d ++ e)))) ++ x ≡ a ++ (b ++ (c ++ (d ++ (e ++ x))))
+five a b c d e x = append_assoc a (b ++ (c ++ (d ++ e))) x
+    ∙ ap (λ (t : List ℕ). a ++ t) (four b c d e x)
+
+module _ (rule : Rule) (e : Edit) (front old new line : List ℕ) where
+  pub change-line : front ≡ rule_name rule ++ (codes " at=" ++ (decimal e.at ++ codes " old=")) →
+      old ≡ quoted (unfilled e.old) → new ≡ quoted (unfilled e.new) →
+      line ≡ front ++ (old ++ (codes " new=" ++ (new ++ (10 ∷ [])))) → line ≡ change_line rule e
+  change-line f o n is =
+      is ∙ ap (λ (t : List ℕ). t ++ (old ++ (codes " new=" ++ (new ++ (10 ∷ []))))) f
+      ∙ four (rule_name rule) (codes " at=") (decimal e.at) (codes " old=")
+      (old ++ (codes " new=" ++ (new ++ (10 ∷ []))))
+      ∙ ap (λ (t : List ℕ). rule_name rule ++ (codes " at=" ++ (decimal e.at ++ (codes " old="
+      ++ (t ++ (codes " new=" ++ (new ++ (10 ∷ [])))))))) o
+      ∙ ap (λ (t : List ℕ). rule_name rule ++ (codes " at=" ++ (decimal e.at ++ (codes " old="
+      ++ (quoted (unfilled e.old) ++ (codes " new=" ++ (t ++ (10 ∷ [])))))))) n
+
+  pub record-line : (nth : ℕ) → front ≡ rule_name rule ++ (codes " record=" ++ (decimal (nth + 1)
+      ++ (codes " at=" ++ decimal e.at))) →
+      old ≡ bytes_text (codes "old") e.old → new ≡ bytes_text (codes "new") e.new →
+      line ≡ front ++ (old ++ (new ++ (10 ∷ []))) → line ≡ record_line rule nth e
+  record-line nth f o n is =
+      is ∙ ap (λ (t : List ℕ). t ++ (old ++ (new ++ (10 ∷ [])))) f
+      ∙ five (rule_name rule) (codes " record=") (decimal (nth + 1)) (codes " at=") (decimal e.at)
+      (old ++ (new ++ (10 ∷ [])))
+      ∙ ap (λ (t : List ℕ). rule_name rule ++ (codes " record=" ++ (decimal (nth + 1)
+      ++ (codes " at=" ++ (decimal e.at ++ (t ++ (new ++ (10 ∷ [])))))))) o
+      ∙ ap (λ (t : List ℕ). rule_name rule ++ (codes " record=" ++ (decimal (nth + 1)
+      ++ (codes " at=" ++ (decimal e.at ++ (bytes_text (codes "old") e.old
+      ++ (t ++ (10 ∷ [])))))))) n
+
+pub clock-text : (records shift : ℕ) (front seconds line : List ℕ) →
+    front ≡ codes "clock records=" ++ (decimal records ++ codes " shift=") →
+    seconds ≡ short shift → line ≡ front ++ (seconds ++ (10 ∷ [])) →
+    line ≡ clock_text records shift
+clock-text records shift front seconds line f s is =
+    is ∙ ap (λ (t : List ℕ). t ++ (seconds ++ (10 ∷ []))) f
+    ∙ append_assoc (codes "clock records=") (decimal records ++ codes " shift=")
+    (seconds ++ (10 ∷ []))
+    ∙ ap (λ (t : List ℕ). codes "clock records=" ++ t)
+    (append_assoc (decimal records) (codes " shift=") (seconds ++ (10 ∷ [])))
+    ∙ ap (λ (t : List ℕ). codes "clock records=" ++ (decimal records
+    ++ (codes " shift=" ++ (t ++ (10 ∷ []))))) s
+
+-- ---- a part that is left
+
+pub mapped-some : {X : Type 0} (kept : Option X) (x : X) (f : X → List ℕ) → kept ≡ Some x →
+    option_map f kept ≡ Some (f x)
+mapped-some kept x f is = ap (option_map f) is
+
+kept-trouble : (kept : Option (List ℕ)) → kept_status kept Trouble ≡ Trouble
+kept-trouble None = refl
+kept-trouble (Some name) = refl
+
+pub says-memory : (err : Growth) (name : List ℕ) (why : MendFault) (kept : Option (List ℕ))
+    (status : Status) →
+    IsWritten err (name ++ (why_text Memory ++ kept_line kept)) (kept_status kept Trouble) status →
+    SaysWhy err name why kept status
+says-memory err name why kept status said =
+    inr (subst (λ (s : Status). IsWritten err (name ++ (why_text Memory ++ kept_line kept)) s
+    status) (kept-trouble kept) said)
+
+pub says : (err : Growth) (name : List ℕ) (why is : MendFault) (kept : Option (List ℕ))
+    (status : Status) → why ≡ is →
+    IsWritten err (name ++ (why_text is ++ kept_line kept)) (kept_status kept (why_status is))
+    status → SaysWhy err name why kept status
+says err name why is kept status same said =
+    subst (λ (w : MendFault). SaysWhy err name w kept status) (sym same) (inl said)

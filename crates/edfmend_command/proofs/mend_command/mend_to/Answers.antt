@@ -1,0 +1,88 @@
+use Rattle.std.proofs.Common.{ℕ, List, Option, subst, inl, inr}
+use Rattle.std.specs.Prelude.{option_map}
+use Rattle.edf_program.specs.Output.{growth}
+use Rattle.edf_program.proofs.Puts.{nothing-gets}
+use Rattle.edfmend_command.specs.Run.{SaysWhy}
+use Rattle.edfmend_command.proofs.Mending.{is-mended, is-not-mended, filled, free-of}
+use Rattle.edfmend_command.proofs.Mending.{asked-makes, asked-stops}
+use Rattle.edfmend_command.proofs.Opened.{fewer, then-up, then-twice, says-undone}
+use Rattle.edfmend_command.proofs.mend_command.mend_to.Goals as goal
+
+pub returns-in-Ok-make_file-clause-done : goal.returns-in-Ok-make_file-clause-done
+returns-in-Ok-make_file-clause-done g c =
+    let given = option_map (λ code. code.now) c.args.patient in
+    let bytes = g.I.Inputs.bytes c.args.inputs.now c.args.file.now in
+    let fault = c.in-Ok.survey.fault in
+    let old = c.args.maker.now in
+    let mid = c.is_there.new.self in
+    let new = c.make_file.new.maker in
+    let makes = asked-makes (g.M.Maker.known old) (g.M.Maker.known mid) (g.M.Maker.there old)
+    (g.M.Maker.there mid) (g.M.Maker.made old) (g.M.Maker.made mid) (g.M.Maker.made new)
+    (g.M.Maker.failed old) (g.M.Maker.failed mid) (g.M.Maker.failed new)
+    c.is_there.ensures.known c.is_there.ensures.made c.is_there.ensures.failed c.args.name.now bytes
+    (g.I.Inputs.bytes c.survey_of.new.inputs c.args.file.now) given fault
+    (c.in-Ok.ensures.same c.args.file.now) c.in-Ok-make_file.ledger
+    c.in-Ok-make_file.ensures.answer in
+    inr (inl (record {
+      new = makes.mends.new;
+      ledger = c.in-Ok-make_file.ledger;
+      is_mended = is-mended bytes given fault c.in-Ok.ensures.surveyed makes.start makes.held
+          c.in-Ok-make_file.ledger makes.mends;
+      free = free-of (g.M.Maker.there old c.args.name.now) c.is_there.result
+          c.is_there.ensures.answer c.if-is_there.false;
+      held = makes.held;
+      made = makes.made;
+      holds = λ known. filled makes.start makes.held makes.mends.new (makes.empty known)
+          makes.mends.wrote;
+      unfailed = makes.unfailed;
+      told = c.tell_ledger.ensures;
+      silent = nothing-gets (g.F.Output.contents c.args.err.now)
+          (g.F.Output.failures c.args.err.now);
+    }))
+
+pub returns-in-Ok-make_file-clause-opened : goal.returns-in-Ok-make_file-clause-opened
+returns-in-Ok-make_file-clause-opened g c =
+    then-twice (g.I.Inputs.opened c.args.inputs.now) (g.I.Inputs.opened c.survey_of.new.inputs)
+    (g.I.Inputs.opened c.make_file.new.inputs) c.args.file.now c.tell_ledger.result
+    c.in-Ok.ensures.opened c.in-Ok-make_file.ensures.opened
+
+pub returns-in-Err-make_file-clause-done : goal.returns-in-Err-make_file-clause-done
+returns-in-Err-make_file-clause-done g c =
+    let given = option_map (λ code. code.now) c.args.patient in
+    let bytes = g.I.Inputs.bytes c.args.inputs.now c.args.file.now in
+    let fault = c.in-Ok.survey.fault in
+    let old = c.args.maker.now in
+    let mid = c.is_there.new.self in
+    let new = c.make_file.new.maker in
+    let stop = c.in-Err-make_file.stop in
+    let stops = asked-stops (g.M.Maker.known old) (g.M.Maker.known mid) (g.M.Maker.there old)
+    (g.M.Maker.there mid) (g.M.Maker.made old) (g.M.Maker.made mid) (g.M.Maker.made new)
+    (g.M.Maker.failed old) (g.M.Maker.failed mid) (g.M.Maker.failed new)
+    c.is_there.ensures.known c.is_there.ensures.made c.is_there.ensures.failed c.args.name.now bytes
+    (g.I.Inputs.bytes c.survey_of.new.inputs c.args.file.now) given fault
+    (c.in-Ok.ensures.same c.args.file.now) stop c.in-Err-make_file.ensures.answer in
+    inr (inr (record {
+      why = stop.fault;
+      is_why = is-not-mended bytes given fault c.in-Ok.ensures.surveyed stop.fault stops.stops;
+      free = free-of (g.M.Maker.there old c.args.name.now) c.is_there.result
+          c.is_there.ensures.answer c.if-is_there.false;
+      is_left = stop.is_left;
+      leaves = stops.leaves;
+      counted = stops.counted;
+      unsaid = nothing-gets (g.O.Output.contents c.args.out.now)
+          (g.O.Output.failures c.args.out.now);
+      said = subst (λ (k : Option (List ℕ)). SaysWhy
+          (growth g.F.Output c.args.err.now c.refuse-in-Err-make_file.new.err) c.args.file.now
+          stop.fault k c.refuse-in-Err-make_file.result) c.left_name.ensures c.refuse-in-Err-make_file.ensures;
+    }))
+
+pub returns-in-Err-make_file-clause-opened : goal.returns-in-Err-make_file-clause-opened
+returns-in-Err-make_file-clause-opened g c =
+    fewer (g.I.Inputs.opened c.args.inputs.now) (g.I.Inputs.opened c.make_file.new.inputs)
+    c.args.file.now c.refuse-in-Err-make_file.result
+    (then-up (g.I.Inputs.opened c.args.inputs.now) (g.I.Inputs.opened c.survey_of.new.inputs)
+    (g.I.Inputs.opened c.make_file.new.inputs) c.args.file.now c.in-Ok.ensures.opened
+    c.in-Err-make_file.ensures.opened)
+    (says-undone (growth g.F.Output c.args.err.now c.refuse-in-Err-make_file.new.err)
+    c.args.file.now c.in-Err-make_file.stop.fault (option_map (λ name. name.now) c.left_name.result)
+    c.refuse-in-Err-make_file.result c.refuse-in-Err-make_file.ensures)

@@ -1,0 +1,12 @@
+use Rattle.std.proofs.Common.{◌++◌, ℕ, List, ap, subst, codes}
+use Rattle.edf_program.specs.Output.{growth, IsWritten}
+use Rattle.edf_program.specs.declared.status.Status.TheVariants.{Refused}
+use Rattle.edfmend_command.proofs.refusal.tell_there.Goals as goal
+
+pub returns : goal.returns
+returns g c =
+    let IsTold : List ℕ → Type 0 = λ bytes.
+    IsWritten (growth g.F.Output c.args.err.now c.tell_parts.new.out) bytes Refused
+    c.tell_parts.result in
+    subst IsTold (ap (λ (t : List ℕ). t ++ codes " is there already; nothing was written\n")
+    c.as_bytes.ensures.value) c.tell_parts.ensures

@@ -1,0 +1,6 @@
+pub mod Made
+pub mod Making
+pub mod Lines
+pub mod Ledger
+pub mod Run
+pub mod Inside
