@@ -3,7 +3,6 @@ use Rattle.std.proofs.Common.{◌≡◌, ℕ, ◌+◌, ◌*◌, ◌≤◌, ◌<�
 use Rattle.std.proofs.Common.{suc}
 use Rattle.std.proofs.Math.Nat.{suc-mul}
 use Rattle.std.proofs.Common.{◌∙◌, subst, arith, append-nil, length-append, Option, rules}
-use Rattle.std.proofs.Common.{◌≢◌, None}
 use Rattle.std.specs.Io.KnownBytes.{Consumes, IsAtEnd}
 use Rattle.std.proofs.KnownBytes.{Consumes-nil, Consumes-trans, Appends-nil}
 use Rattle.std.proofs.lemmas.Grind.{flat_map-append}

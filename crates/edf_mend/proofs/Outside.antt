@@ -1,5 +1,5 @@
 -- Bytes outside of blocks, compared one block after another.
-use Rattle.std.proofs.Common.{◌≡◌, ℕ, ◌+◌, ◌-◌, ◌<◌, List, [], ◌∷◌, ◌++◌, length, take, drop, sym, ap, ◌∙◌}
+use Rattle.std.proofs.Common.{◌≡◌, ℕ, ◌+◌, ◌-◌, ◌<◌, List, ◌∷◌, ◌++◌, length, drop, sym, ap, ◌∙◌}
 use Rattle.std.proofs.Common.{subst, slice_index_or}
 use Rattle.std.proofs.lemmas.List.{drop_more}
 use Rattle.edf_header.specs.declared.header.Block.{Block}

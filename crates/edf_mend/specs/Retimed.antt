@@ -1,5 +1,5 @@
 -- What the rule `clock` changes: data records that start at another time.
-use Rattle.std.specs.Prelude.{◌≡◌, ℕ, ◌+◌, ◌-◌, ◌*◌, ◌<◌, ◌⊎◌, max, All, List, [], ◌∷◌, ◌++◌}
+use Rattle.std.specs.Prelude.{◌≡◌, ℕ, ◌+◌, ◌-◌, ◌*◌, ◌<◌, max, All, List, [], ◌∷◌, ◌++◌}
 use Rattle.std.specs.Prelude.{length, take, codes}
 use Rattle.edf_field.specs.Number.{duration_of}
 use Rattle.edf_header.specs.Fields.{reserved_field}

@@ -1,5 +1,5 @@
 -- Which fields of a header a rule may change.
-use Rattle.std.specs.Prelude.{◌≡◌, ◌⊎◌, ℕ, ◌+◌, ◌*◌, ◌≤◌, List, [], length, All}
+use Rattle.std.specs.Prelude.{◌≡◌, ◌⊎◌, ℕ, ◌+◌, ◌*◌, ◌≤◌, [], length, All}
 use Rattle.edf_field.specs.Text.{IsPrintable}
 use Rattle.edf_mend.specs.Edits.{Edit, RuleEdits}
 use Rattle.edf_mend.specs.declared.rule.Rule.{Rule}

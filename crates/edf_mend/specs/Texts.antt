@@ -1,5 +1,5 @@
 -- What the rule `texts` changes in annotations blocks.
-use Rattle.std.specs.Prelude.{◌≡◌, ◌≢◌, ◌⊎◌, ℕ, ◌+◌, ◌≤◌, ◌<◌, List, [], ◌∷◌, ◌++◌, length, All}
+use Rattle.std.specs.Prelude.{◌≡◌, ◌≢◌, ◌⊎◌, ℕ, ◌+◌, ◌≤◌, List, [], ◌∷◌, ◌++◌, length, All}
 use Rattle.std.specs.Prelude.{IsUtf8, encode_utf8_all}
 use Rattle.edf_header.specs.Header.{Layout}
 use Rattle.edf_time.specs.Decimal.{IsSeconds, short}

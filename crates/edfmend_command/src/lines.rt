@@ -7,6 +7,7 @@ ghost use Rattle.edfmend_command.specs.Ledger.{hex_digit, quoted_byte, quoted, u
 ghost use Rattle.edfmend_command.specs.Ledger.{change_line, changed_line, added_line, signal_line};
 ghost use Rattle.edfmend_command.specs.Ledger.{step_lines, bytes_text, record_line, record_lines};
 ghost use Rattle.edfmend_command.specs.Ledger.{clock_text, clock_line, left_out_line, ledger_lines};
+
 use edf_fragment::Output;
 use edf_mend::{Change, Ledger, RecordChanges, Rule, Step};
 use edf_program::{Status, joined, tell};
@@ -291,11 +292,7 @@ fn clock_text(alloc: Global, records: usize, shift: u64) -> Result<Vec<u8>, Allo
 }
 
 /// That line, where any were.
-fn clock_line(
-    alloc: Global,
-    moved: &[RecordChanges],
-    shift: u64,
-) -> Result<Vec<u8>, AllocError>
+fn clock_line(alloc: Global, moved: &[RecordChanges], shift: u64) -> Result<Vec<u8>, AllocError>
     ensures { IfOk result (λ r. r.items ≡ clock_line (length moved.now) shift) }
 {
     if moved.len() == 0 {

@@ -1,11 +1,11 @@
-use Rattle.std.proofs.Common.{rules, ◌≡◌, ◌≤◌, ◌<◌, length, take, subst, ◌∙◌, arith, refl, sym, List, []}
+use Rattle.std.proofs.Common.{rules, ◌≡◌, ◌≤◌, ◌<◌, length, take, subst, ◌∙◌, arith, refl}
 use Rattle.std.proofs.Common.{length-take-le}
 use Rattle.std.proofs.lemmas.Result.{err_from_is_err_and}
 use Rattle.std.specs.Io.KnownBytes.{Consumes}
 use Rattle.edf_header.specs.Header.{Layout, least_records}
 use Rattle.edf_canonical.specs.Output.{buffered}
 use Rattle.edf_mend.specs.Answers.{RefusesFor}
-use Rattle.edf_mend.specs.Inside.Steps.{CarriesOne, CarriedSoFar, IsUnfit}
+use Rattle.edf_mend.specs.Inside.Steps.{CarriesOne, IsUnfit}
 use Rattle.edf_mend.proofs.Accepted.{refuses-then}
 use Rattle.edf_mend.proofs.Carrying.{none-carried, one-carried, all-carried}
 use Rattle.edf_mend.proofs.Further.{carried-reads, further-then, writes-on}

@@ -1,4 +1,4 @@
-use Rattle.std.proofs.Common.{rules, ◌≡◌, ℕ, List, [], ◌∷◌, drop, sym, ap, subst, ◌∙◌, arith}
+use Rattle.std.proofs.Common.{rules, ◌≡◌, ℕ, List, [], drop, sym, ap, subst, ◌∙◌, arith}
 use Rattle.std.proofs.Common.{slice_index_or, slice_range, ◌-◌, ◌≤◌, length, refl, take}
 use Rattle.std.proofs.lemmas.List.{drop_all, take_all, length-drop}
 use Rattle.edf_header.specs.declared.header.Block.{Block}

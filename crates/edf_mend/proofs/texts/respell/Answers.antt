@@ -1,6 +1,5 @@
-use Rattle.std.proofs.Common.{rules, ◌≡◌, ◌≢◌, ◌++◌, ◌∷◌, [], List, All, inr}
-use Rattle.edf_mend.specs.Edits.{Edit}
-use Rattle.edf_mend.specs.Rewritten.{IsRewritten, RecordEdits}
+use Rattle.std.proofs.Common.{rules, ◌≡◌, ◌≢◌, ◌++◌, ◌∷◌, [], All, inr}
+use Rattle.edf_mend.specs.Rewritten.{IsRewritten}
 use Rattle.edf_mend.specs.Texts.{IsTextEdit, IsRespelled}
 use Rattle.edf_mend.proofs.texts.respell.Goals as goal
 
