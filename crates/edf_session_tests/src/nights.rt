@@ -9,11 +9,11 @@ use std::alloc::Global;
 /// store is refused, since its log can't be read, its files are let go, or it is closed. Of twenty
 /// runs no two have the same end and the same loss.
 ///
-/// Runs 0, 5, 10 and 15 begin with no files, or with those of a closed run. Each calls the log 26 to
-/// 29 times until its store is open, and 44 to 52 times until it is closed. The run after each calls
-/// the database file 10 times until its store is open and 17 until it is closed, if it is run 1; 16
-/// and 20 times in runs 6 and 11; 20 and 24 times in run 16, before which run 15 had made each of
-/// its calls of the database file.
+/// Runs 0, 5, 10 and 15 begin with no files, or with those of a closed run. Such a run calls the
+/// log 26 to 29 times until its store is open, and 44 to 52 times if it is then closed. Of the next
+/// runs, run 1 calls the database file 10 times until its store is open, and 17 times if it is then
+/// closed; runs 6 and 11 do so 16 and 20 times; run 16 does so 20 and 24 times, as run 15 stops
+/// after its last call of the database file.
 fn end_of(number: u64) -> End {
     let turn = number / 5;
     let mut end = CLOSES;
