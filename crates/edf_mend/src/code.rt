@@ -75,7 +75,7 @@ pub(crate) fn is_honest(rule: Rule, given: Option<&[u8]>, changes: &[Change]) ->
 }
 
 /// Whether a text has a byte that is not printable.
-fn has_unprintable(text: &[u8]) -> bool
+pub(crate) fn has_unprintable(text: &[u8]) -> bool
     ensures { IsTrue result → All IsPrintable text.now → ⊥ }
 {
     for b in text {

@@ -91,8 +91,8 @@ fn header_changes(alloc: Global, old: &[u8], new: &[u8]) -> Result<Vec<Change>, 
     changes_between(alloc, old, new, cuts.as_slice())
 }
 
-/// Refuses a file whose version is not that of EDF, by the first fault that it has as it is. What is
-/// no EDF is asked for no code.
+/// Refuses a file whose version is not that of EDF, by the first fault that it has as it is. What
+/// is no EDF is asked for no code.
 fn check_version(header: &[u8], survey: &Survey) -> Result<(), MendFault>
     ensures asked { (given : Option (List ℕ)) → IfErr result (AsksCode given) }
     ensures quiet { IfErr result IsQuiet }

@@ -153,8 +153,8 @@ fn says_so(header: &[u8]) -> bool
     header.len() >= 168 && says_mended(&header[88..168])
 }
 
-/// Whether a file may end so: nothing is left out of one without a fault, and any other says that it
-/// was mended.
+/// Whether a file may end so: nothing is left out of one without a fault, and any other says that
+/// it was mended.
 fn may_end(survey: &Survey, header: &[u8], left_out: usize) -> bool
     ensures none { IsTrue result → survey.now.fault ≡ None → left_out ≡ 0 }
     ensures says { IsTrue result → (survey.now.fault ≡ None → ⊥) →

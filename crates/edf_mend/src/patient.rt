@@ -207,10 +207,10 @@ fn lengthened(alloc: Global, old: &[u8], given: Option<&[u8]>) -> Result<Vec<u8>
 
 /// Mends the patient field, bytes 8 to 87, where it is no patient identification.
 ///
-/// A sex in any spelling becomes its letter, and a birthdate gets capitals, or is `X`. In a field of
-/// four subfields or more each stays in its place, and what became `X` comes last; where that does
-/// not fit, the field stays as it is. Of any other what follows code, sex and birthdate comes after
-/// them, as far as the field goes. Where no code can be read, it is the one that was given.
+/// A sex in any spelling becomes its letter, and a birthdate gets capitals, or is `X`. In a field
+/// of four subfields or more each stays in its place, and what became `X` comes last; where that
+/// does not fit, the field stays as it is. Of any other what follows code, sex and birthdate comes
+/// after them, as far as the field goes. Where no code can be read, it is the one that was given.
 pub(crate) fn mend_patient(
     alloc: Global,
     header: &mut [u8],

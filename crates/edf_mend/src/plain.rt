@@ -88,8 +88,8 @@ fn with_signal(alloc: Global, header: &[u8], n: usize) -> Result<Vec<u8>, AllocE
     Ok(made)
 }
 
-/// Gives a header an annotations signal as the last one where it has none, and no signal whose label
-/// is that of one but for the case of letters or for spaces: the samples of such a signal are
+/// Gives a header an annotations signal as the last one where it has none, and no signal whose
+/// label is that of one but for the case of letters or for spaces: the samples of such a signal are
 /// annotations. It tells how many bytes are added to each data record.
 pub(crate) fn add_signal(alloc: Global, header: &mut Vec<u8>) -> Result<usize, AllocError> {
     let n = signals_named(header.as_slice());

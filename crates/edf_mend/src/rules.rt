@@ -2,27 +2,15 @@
 
 ghost use Rattle.std.specs.Prelude.{◌≡◌, ◌⊎◌, ◌≤◌, ◌+◌, ◌*◌, [], length, All, IsTrue};
 ghost use Rattle.edf_field.specs.Number.{whole_value};
-ghost use Rattle.edf_field.specs.Text.{IsPrintable};
 ghost use Rattle.edf_header.specs.Fields.{signals_field};
 ghost use Rattle.edf_mend.specs.Rules.{IsField, IsInColumns, AddsSignal, IsTransliterated};
 ghost use Rattle.edf_mend.specs.Rules.{MayChange, IsOfRule};
 
 use crate::change::Change;
+use crate::code::has_unprintable;
 use crate::ledger::Step;
 use crate::rule::Rule;
 use edf_field::read_whole;
-
-/// Whether a text has a byte that is not printable.
-fn has_unprintable(text: &[u8]) -> bool
-    ensures { IsTrue result → All IsPrintable text.now → ⊥ }
-{
-    for b in text {
-        if *b < 32 || *b > 126 {
-            return true;
-        }
-    }
-    false
-}
 
 /// Whether a change is one of the whole field that is there.
 fn is_field(change: &Change, at: usize, width: usize) -> bool

@@ -126,7 +126,8 @@ fn keeps_label_of(before: &[u8], n: usize, after: &[u8], m: usize, i: usize) -> 
 
 /// Whether signal `i` keeps its number of samples in a data record.
 fn keeps_samples_of(before: &[u8], n: usize, after: &[u8], m: usize, i: usize) -> bool
-    ensures { IsTrue result → digits (cell after.now m i 216 8) ≡ digits (cell before.now n i 216 8) }
+    ensures { IsTrue result →
+        digits (cell after.now m i 216 8) ≡ digits (cell before.now n i 216 8) }
 {
     match (cell(before, n, i, 216, 8), cell(after, m, i, 216, 8)) {
         (Some(old), Some(new)) => keeps_digits(old, new),

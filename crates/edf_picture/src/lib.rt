@@ -30,8 +30,8 @@
 //! `Lights on` are lines instead, the first 64 of them; the efficiency is that of the sleep in the
 //! times from each lights off to the next lights on, where less than a minute of them is missing.
 //!
-//! Every call returns, for any arguments, and a picture is whole and has the lines that it was given
-//! as its metadata; what it shows is tested.
+//! Every call returns, for any arguments, and a picture is whole and has the lines that it was
+//! given as its metadata; what it shows is tested.
 #![tactic(auto)]
 
 mod bars;
