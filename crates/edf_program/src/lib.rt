@@ -1,4 +1,4 @@
-//! What both programs share that needs no operating system: how a command ends, the readers that it
+//! What the programs share that needs no operating system: how a command ends, the readers that it
 //! is given, its lines, the texts of refusals, and why words ask for nothing. It has no store and
 //! opens no file.
 //!
@@ -12,7 +12,7 @@
 //!   line has it; [`tell_refused`], [`tell_memory`]: a line why something is refused.
 //! - [`CommandFault`]: why words ask for nothing; [`fault_by`], [`refuse_value`]: by what `clap`
 //!   says, or where it takes any text for a value; [`tell_fault`]: what is written then.
-//! - [`VERSION`]: of both programs.
+//! - [`VERSION`]: of all the programs.
 #![tactic(auto)]
 
 mod inputs;

@@ -1,4 +1,4 @@
-//! What both programs share of their words: the version, and why words ask for nothing.
+//! What the programs share of their words: the version, and why words ask for nothing.
 
 ghost use Rattle.std.specs.Prelude.{◌≡◌, false, true, IfOk};
 ghost use Rattle.clap.specs.Words.{kind_of};
