@@ -11,7 +11,7 @@ use Rattle.edf_fragment.specs.Fault.{fragment_fault_number}
 use Rattle.edf_program.specs.Status.{is_trouble}
 use Rattle.edf_mend.specs.declared.fault.MendFault.{MendFault}
 use Rattle.edf_mend.specs.declared.fault.MendFault.TheVariants as fault
-use Rattle.edfmend_command.specs.Lines.{why_text, why_status, kept_line, kept_status}
+use Rattle.edfmend_command.specs.Lines.{at_fault, why_text, why_status, kept_line, kept_status}
 use Rattle.edfmend_command.specs.Run.{OpensTwice, SaysWhy}
 use Rattle.edfmend_command.specs.Inside.{OpensUpTo}
 
@@ -92,13 +92,14 @@ kept-undone : (kept : Option (List ℕ)) (status : Status) → status ≢ Done �
 kept-undone None status not = not
 kept-undone (Some name) status not = λ done. cc
 
-pub says-undone : (err : Growth) (name : List ℕ) (why : MendFault) (kept : Option (List ℕ))
-    (status : Status) → SaysWhy err name why kept status → status ≢ Done
-says-undone err name why kept status (inl said) = undone err
-    (name ++ (why_text why ++ kept_line kept)) (kept_status kept (why_status why)) status
+pub says-undone : (err : Growth) (old_name new_name : List ℕ) (why : MendFault)
+    (kept : Option (List ℕ)) (status : Status) →
+    SaysWhy err old_name new_name why kept status → status ≢ Done
+says-undone err old_name new_name why kept status (inl said) = undone err
+    (at_fault old_name new_name why ++ (why_text why ++ kept_line kept)) (kept_status kept (why_status why)) status
     (kept-undone kept (why_status why) (why-undone why)) said
-says-undone err name why kept status (inr said) = undone err
-    (name ++ (why_text fault.Memory ++ kept_line kept)) Trouble status (λ done. cc) said
+says-undone err old_name new_name why kept status (inr said) = undone err
+    (old_name ++ (why_text fault.Memory ++ kept_line kept)) Trouble status (λ done. cc) said
 
 pub then-twice : (before mid after : List (List ℕ)) (name : List ℕ) (status : Status) →
     mid ≡ before ++ (name ∷ []) → after ≡ mid ++ (name ∷ []) →

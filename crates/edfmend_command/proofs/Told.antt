@@ -7,7 +7,8 @@ use Rattle.edf_mend.specs.declared.fault.MendFault.TheVariants.{Memory}
 use Rattle.edf_program.specs.Output.{Growth, IsWritten}
 use Rattle.edf_program.specs.declared.status.Status.{Status}
 use Rattle.edf_program.specs.declared.status.Status.TheVariants.{Trouble}
-use Rattle.edfmend_command.specs.Lines.{why_text, why_status, kept_line, kept_status}
+use Rattle.edfmend_command.specs.Lines.{at_fault, why_text, why_status, kept_line}
+use Rattle.edfmend_command.specs.Lines.{kept_status}
 use Rattle.edfmend_command.specs.Run.{SaysWhy}
 use Rattle.edf_mend.specs.Edits.{Edit}
 use Rattle.edf_mend.specs.declared.rule.Rule.{Rule}
@@ -76,17 +77,17 @@ kept-trouble : (kept : Option (List ℕ)) → kept_status kept Trouble ≡ Troub
 kept-trouble None = refl
 kept-trouble (Some name) = refl
 
-pub says-memory : (err : Growth) (name : List ℕ) (why : MendFault) (kept : Option (List ℕ))
-    (status : Status) →
-    IsWritten err (name ++ (why_text Memory ++ kept_line kept)) (kept_status kept Trouble) status →
-    SaysWhy err name why kept status
-says-memory err name why kept status said =
-    inr (subst (λ (s : Status). IsWritten err (name ++ (why_text Memory ++ kept_line kept)) s
+pub says-memory : (err : Growth) (old_name new_name : List ℕ) (why : MendFault)
+    (kept : Option (List ℕ)) (status : Status) →
+    IsWritten err (old_name ++ (why_text Memory ++ kept_line kept)) (kept_status kept Trouble)
+    status → SaysWhy err old_name new_name why kept status
+says-memory err old_name new_name why kept status said =
+    inr (subst (λ (s : Status). IsWritten err (old_name ++ (why_text Memory ++ kept_line kept)) s
     status) (kept-trouble kept) said)
 
-pub says : (err : Growth) (name : List ℕ) (why is : MendFault) (kept : Option (List ℕ))
-    (status : Status) → why ≡ is →
-    IsWritten err (name ++ (why_text is ++ kept_line kept)) (kept_status kept (why_status is))
-    status → SaysWhy err name why kept status
-says err name why is kept status same said =
-    subst (λ (w : MendFault). SaysWhy err name w kept status) (sym same) (inl said)
+pub says : (err : Growth) (old_name new_name : List ℕ) (why is : MendFault)
+    (kept : Option (List ℕ)) (status : Status) → why ≡ is →
+    IsWritten err (at_fault old_name new_name is ++ (why_text is ++ kept_line kept))
+    (kept_status kept (why_status is)) status → SaysWhy err old_name new_name why kept status
+says err old_name new_name why is kept status same said =
+    subst (λ (w : MendFault). SaysWhy err old_name new_name w kept status) (sym same) (inl said)

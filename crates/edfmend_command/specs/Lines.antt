@@ -9,6 +9,11 @@ use Rattle.edf_program.specs.Text.{fragment_fault_text}
 use Rattle.edf_program.specs.declared.status.Status.{Status}
 use Rattle.edf_program.specs.declared.status.Status.TheVariants.{Refused, Trouble}
 
+-- the file that a line is about: the new one where it can't be written, else the one to mend
+abbrev pub at_fault : List ℕ → List ℕ → MendFault → List ℕ
+at_fault old_name new_name fault.Write = new_name
+at_fault old_name new_name why = old_name
+
 -- the first fault that a file still has
 abbrev pub form_text : FragmentFault → List ℕ
 form_text met = codes " refused " ++ (fragment_fault_text met ++ (10 ∷ []))

@@ -18,7 +18,8 @@ use Rattle.edf_program.specs.declared.status.Status.{Status}
 use Rattle.edf_program.specs.declared.status.Status.TheVariants.{Done, Refused, Trouble}
 use Rattle.edfmend_command.specs.Made.{IsFree, MayBeThere, made_file, finished}
 use Rattle.edfmend_command.specs.Making.{Making, MakesNothing}
-use Rattle.edfmend_command.specs.Lines.{why_text, why_status, there_line, kept_line, kept_status}
+use Rattle.edfmend_command.specs.Lines.{at_fault, why_text, why_status, there_line, kept_line}
+use Rattle.edfmend_command.specs.Lines.{kept_status}
 use Rattle.edfmend_command.specs.Ledger.{ledger_lines}
 use Rattle.edfmend_command.specs.declared.maker.Stage.TheVariants.{Removed, Kept}
 use Rattle.edfmend_command.specs.declared.mend_command.MendCommand.{MendCommand}
@@ -65,11 +66,11 @@ pub record IsNotMended (bytes given : Option (List ℕ)) (why : MendFault) : Typ
 
 -- a line says why a file is not mended, or that memory ran out for that; and one more names the
 -- part that could not be removed, if one could not be
-abbrev pub SaysWhy : Growth → List ℕ → MendFault → Option (List ℕ) → Status → Type 0
-SaysWhy err name why kept status =
-    IsWritten err (name ++ (why_text why ++ kept_line kept)) (kept_status kept (why_status why))
-    status
-    ⊎ IsWritten err (name ++ (why_text fault.Memory ++ kept_line kept)) Trouble status
+abbrev pub SaysWhy : Growth → List ℕ → List ℕ → MendFault → Option (List ℕ) → Status → Type 0
+SaysWhy err old_name new_name why kept status =
+    IsWritten err (at_fault old_name new_name why ++ (why_text why ++ kept_line kept))
+    (kept_status kept (why_status why)) status
+    ⊎ IsWritten err (old_name ++ (why_text fault.Memory ++ kept_line kept)) Trouble status
 
 -- ---- what becomes of the new file
 
@@ -107,7 +108,7 @@ module _ (out err : Growth) (bytes given : Option (List ℕ)) (file : List ℕ) 
     pub why : MendFault
     pub is_why : IsNotMended bytes given why
     pub unsaid : Gets out []
-    pub said : SaysWhy err file why None status
+    pub said : SaysWhy err file file why None status
 
   -- ---- the new file is to get a name
 
@@ -141,7 +142,7 @@ module _ (out err : Growth) (bytes given : Option (List ℕ)) (file : List ℕ) 
       pub leaves : LeavesPart m name is_left
       pub counted : CountsWrite m.failed_before m.failed_after why
       pub unsaid : Gets out []
-      pub said : SaysWhy err file why (left_name name is_left) status
+      pub said : SaysWhy err file name why (left_name name is_left) status
 
 abbrev pub IsDoneTo : Making → Growth → Growth → Option (List ℕ) → Asked → Option (List ℕ) →
     Status → Type 0

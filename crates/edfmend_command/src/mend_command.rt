@@ -148,7 +148,7 @@ fn tell_changes<I: Inputs, O: Output, F: Output>(
 {
     match mend_nowhere(alloc, file, patient, rules, inputs) {
         Ok(ledger) => tell_ledger(alloc, &ledger, out),
-        Err(fault) => refuse(alloc, file, fault, None, err),
+        Err(fault) => refuse(alloc, file, file, fault, None, err),
     }
 }
 
@@ -263,11 +263,14 @@ fn mend_to<I: Inputs, M: Maker, O: Output, F: Output>(
     }
     let survey = match survey_of(alloc, file, inputs) {
         Ok(survey) => survey,
-        Err(fault) => return refuse(alloc, file, fault, None, err),
+        Err(fault) => return refuse(alloc, file, name, fault, None, err),
     };
     match make_file(alloc, file, patient, rules, &survey, name, inputs, maker) {
         Ok(ledger) => tell_ledger(alloc, &ledger, out),
-        Err(stop) => refuse(alloc, file, stop.fault, left_name(name, stop.is_left), err),
+        Err(stop) => {
+            let left = left_name(name, stop.is_left);
+            refuse(alloc, file, name, stop.fault, left, err)
+        }
     }
 }
 

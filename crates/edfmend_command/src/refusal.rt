@@ -58,32 +58,33 @@ fn form_text(alloc: Global, fault: &FragmentFault) -> Result<Vec<u8>, AllocError
     joined(alloc, &[b" refused ", text.as_bytes(), b"\n"])
 }
 
-/// Prints why a file is not mended, and which part of the new file is left, if one could not be
-/// removed.
+/// Prints why a file is not mended, or can't be written, and which part of the new file is left, if
+/// one could not be removed.
 pub(crate) fn refuse<F: Output>(
     alloc: Global,
-    file: &str,
+    old_name: &str,
+    new_name: &str,
     fault: MendFault,
     kept: Option<&str>,
     err: &mut F,
 ) -> Status
-    ensures { SaysWhy (growth F.Output err.old err.new) file.now fault
+    ensures { SaysWhy (growth F.Output err.old err.new) old_name.now new_name.now fault
         (option_map (λ name. name.now) kept.entry) result }
 {
     match fault {
         MendFault::Refused(met) => match form_text(alloc, &met) {
             Ok(text) => {
                 let status = status_of_number(met.number());
-                tell_why(err, file, text.as_slice(), kept, status)
+                tell_why(err, old_name, text.as_slice(), kept, status)
             }
-            Err(_) => tell_why(err, file, MEMORY, kept, Status::Trouble),
+            Err(_) => tell_why(err, old_name, MEMORY, kept, Status::Trouble),
         },
         MendFault::Code => {
             let code = b" names no code of a patient: give one by --patient CODE\n";
-            tell_why(err, file, code, kept, Status::Refused)
+            tell_why(err, old_name, code, kept, Status::Refused)
         }
-        MendFault::Read => tell_why(err, file, b" refused E40 Read\n", kept, Status::Trouble),
-        MendFault::Memory => tell_why(err, file, MEMORY, kept, Status::Trouble),
-        MendFault::Write => tell_why(err, file, b" refused E43 Write\n", kept, Status::Trouble),
+        MendFault::Read => tell_why(err, old_name, b" refused E40 Read\n", kept, Status::Trouble),
+        MendFault::Memory => tell_why(err, old_name, MEMORY, kept, Status::Trouble),
+        MendFault::Write => tell_why(err, new_name, b" refused E43 Write\n", kept, Status::Trouble),
     }
 }

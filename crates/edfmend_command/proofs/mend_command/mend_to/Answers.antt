@@ -73,7 +73,7 @@ returns-in-Err-make_file-clause-done g c =
           (g.O.Output.failures c.args.out.now);
       said = subst (λ (k : Option (List ℕ)). SaysWhy
           (growth g.F.Output c.args.err.now c.refuse-in-Err-make_file.new.err) c.args.file.now
-          stop.fault k c.refuse-in-Err-make_file.result) c.left_name.ensures c.refuse-in-Err-make_file.ensures;
+          c.args.name.now stop.fault k c.refuse-in-Err-make_file.result) c.left_name.ensures c.refuse-in-Err-make_file.ensures;
     }))
 
 pub returns-in-Err-make_file-clause-opened : goal.returns-in-Err-make_file-clause-opened
@@ -84,5 +84,6 @@ returns-in-Err-make_file-clause-opened g c =
     (g.I.Inputs.opened c.make_file.new.inputs) c.args.file.now c.in-Ok.ensures.opened
     c.in-Err-make_file.ensures.opened)
     (says-undone (growth g.F.Output c.args.err.now c.refuse-in-Err-make_file.new.err)
-    c.args.file.now c.in-Err-make_file.stop.fault (option_map (λ name. name.now) c.left_name.result)
+    c.args.file.now c.args.name.now c.in-Err-make_file.stop.fault
+    (option_map (λ name. name.now) c.left_name.result)
     c.refuse-in-Err-make_file.result c.refuse-in-Err-make_file.ensures)

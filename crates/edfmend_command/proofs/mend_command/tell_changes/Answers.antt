@@ -29,4 +29,5 @@ returns-in-Err-clause-opened g c =
     fewer (g.I.Inputs.opened c.args.inputs.now) (g.I.Inputs.opened c.mend_nowhere.new.inputs)
     c.args.file.now c.refuse.result c.in-Err.ensures.opened
     (says-undone (growth g.F.Output c.args.err.now c.refuse.new.err) c.args.file.now
+    c.args.file.now
     c.in-Err.fault None c.refuse.result c.refuse.ensures)
