@@ -169,7 +169,6 @@ BUSY = "another program has it open; run this again when that has ended"
 OTHER_TABLES = ("its tables are not a store's, or have an index or a trigger; it was left as it is")
 OTHER_ROWS = "its rows are such as no submissions leave; put it aside, as it is"
 FULL = "the disk is full"
-TAKEN = "no file is written over another: give another name, or move that file away"
 THERE = "it is there already: a program is writing it, or was stopped then; if so, remove it"
 A_PIPE = ("a pipe can't be read a second time, unless it is written again: write it to a file "
           "first")

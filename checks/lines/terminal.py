@@ -184,9 +184,6 @@ def files_of_runs(checks: Checks) -> None:
     on_terminal(checks, "split a.edf part", runs.split_lines("part", made), first + WIPED + second
                 + WIPED)
     checks.same("the files", checks.names(), sorted(["a.edf", *runs.split_names("part", made)]))
-    checks.begin("a file of that name is there")
-    on_terminal(checks, "split a.edf part", status=1, err=printed.is_there("part-1.edf")
-                + cause("part-1.edf", printed.TAKEN))
     checks.begin("a part is there")
     checks.file("a.edf", R9)
     checks.file("part-2.edf.part", b"mine")

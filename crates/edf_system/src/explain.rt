@@ -1,5 +1,5 @@
-//! A sentence of what to do below each line of a refusal, of a name that is taken, and of
-//! annotations that lie outside of their run, for a person.
+//! A sentence of what to do below each line of a refusal, and below one of annotations that lie
+//! outside of their run, for a person.
 
 use crate::advice::advice;
 use crate::front::told_by_front;
@@ -64,24 +64,11 @@ fn outside_in(line: &[u8]) -> Option<&str> {
     }
 }
 
-/// What comes after the name of a new file, where it is taken.
-const TAKEN: &str = " is there already; nothing was written";
-
-/// What to do then.
-const RENAME: &str = "no file is written over another: give another name, or move that file away";
-
-/// The name that a line tells to be taken.
-fn taken_in(line: &[u8]) -> Option<&str> {
-    str::from_utf8(line).ok()?.strip_suffix(TAKEN)
-}
-
-/// Prints what to do, where a line tells a refusal, a name that is taken, or annotations outside of
-/// their run. The last is printed once.
+/// Prints what to do, where a line tells a refusal, or annotations outside of their run. The latter
+/// is printed once.
 pub(crate) fn explain_line(rt: &HostRuntime, terminal: &Terminal<'_>, line: &[u8]) {
     if let Some((name, number)) = refusal_in(line) {
         explain_refusal(rt, terminal, name, number);
-    } else if let Some(name) = taken_in(line) {
-        terminal.say(name, RENAME);
     } else if let Some(name) = outside_in(line)
         && terminal.is_first(TOLD_OUTSIDE)
     {
