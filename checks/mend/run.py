@@ -11,7 +11,7 @@ import itertools
 import tempfile
 from pathlib import Path
 
-from checks.lib import arguments, by_hand, measure, mended, printed
+from checks.lib import arguments, by_hand, faults, measure, mended, printed
 from checks.lib.checks import Checks, Lost
 from checks.lib.edf import Header, Signal, annotations_signal, fragment, keeping, tal
 
@@ -104,6 +104,10 @@ def counted(count: int, *more) -> bytes:
 
 
 LONG = "Huber_" + "a" * 52               # 58 bytes, so that the patient field has 78
+# A recording field of 73 bytes, behind which is just room for the mark
+FULL = f"Startdate 24-DEC-2026 N1 T3 REC5 {'a' * 20} {'b' * 19}"
+# A code and a sex of letters that ASCII does not have
+CYRILLIC = "Иван F 02-MAY-1951 Müller".encode()
 # A name, a file, the words, and the mended file
 BY_HAND = (
     ("a birthdate of another form",
@@ -132,6 +136,14 @@ BY_HAND = (
     ("a month in German and small letters, and one subfield more",
      identified("P7 F 02-MAY-1951 X", "Startdate 24-dez-2026 PSG-1 T7 Nox Room_2"), (),
      identified("P7 F 02-MAY-1951 X", "Startdate 24-DEC-2026 PSG-1 T7 Nox Room_2 mended")),
+    ("a recording field with just room for the mark",
+     identified("P7 F 02-may-1951 X", FULL), (), identified("P7 F 02-MAY-1951 X", f"{FULL} mended")),
+    ("a code of letters that ASCII does not have", identified(CYRILLIC, FULL), CODE,
+     identified("S-0118 F 02-MAY-1951 Mueller", f"{FULL} mended")),
+    ("a code with one such letter", identified("Ж-7 F X X".encode(), FULL), CODE,
+     identified("S-0118 F X X", f"{FULL} mended")),
+    ("a code that ASCII can spell", identified("Bär-7 F X X".encode(), FULL), CODE,
+     identified("Baer-7 F X X", f"{FULL} mended")),
     ("a byte after zeros", PLAIN + bytes(11) + b"\x07", (),
      counted(5, bytes(6), bytes(5) + b"\x07")),
     ("zeros that are less than a data record", PLAIN + bytes(5), (), counted(3)),
@@ -146,6 +158,12 @@ GUESSES = (
      "refused E4 Patient"),
     ("a name of four words, and no code", by_hand.field(GOOD, by_hand.PATIENT,
                                                         "Haagse Harry de Vries"),
+     "names no code of a patient: give one by --patient CODE"),
+    ("a recording field without room for the mark",
+     identified("P7 F 02-may-1951 X", f"{FULL}b"), "refused E5 Recording"),
+    ("a full recording field", identified("P7 F 02-may-1951 X", f"{FULL} bed-A"),
+     "refused E5 Recording"),
+    ("a code of letters that ASCII does not have, and none given", identified(CYRILLIC, FULL),
      "names no code of a patient: give one by --patient CODE"),
     ("another day", identified("P7 F 02-MAY-1951 X", "Startdate 25-dec-2026 PSG-1 T7 Nox"),
      "refused E8 DatesDiffer"),
@@ -260,6 +278,9 @@ def untouched(checks: Checks, mender: mended.Mender) -> None:
     checks.same("a file that is there", (ran.status, mender.made.read_bytes(), mender.left()),
                 (1, b"mine", ["out.edf"]))
     mender.made.unlink()
+    ran = measure.ran(mender.program, "in.edf", "none/out.edf", *CODE, folder=mender.folder)
+    checks.same("a folder that is not there", ran.outcome(),
+                (b"", printed.fault("none/out.edf", faults.write()).encode(), 3))
     dry = measure.ran(mender.program, "in.edf", "--dry-run", *CODE, folder=mender.folder)
     wet = mender.mend(named, *CODE)
     checks.same("--dry-run: the same ledger", dry.outcome(), wet.outcome())

@@ -119,7 +119,7 @@ fn apply_rule(
     ensures quiet { IfErr result IsQuiet }
 {
     match rule {
-        Rule::Ascii => mend_ascii(alloc, header.as_mut_slice())?,
+        Rule::Ascii => mend_ascii(alloc, header.as_mut_slice(), patient)?,
         Rule::Patient => {
             check_version(header.as_slice(), survey)?;
             mend_patient(alloc, header.as_mut_slice(), patient)?

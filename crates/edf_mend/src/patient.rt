@@ -201,7 +201,7 @@ fn lengthened(alloc: Global, old: &[u8], given: Option<&[u8]>) -> Result<Vec<u8>
     if next_subfield(rest).is_none() {
         push_subfield(&mut text, b"X".as_slice(), 80)?;
     }
-    push_subfields(&mut text, rest, 81)?;
+    push_subfields(&mut text, rest, 80)?;
     Ok(text)
 }
 

@@ -14,6 +14,15 @@ use edf_header::HeaderFault;
 use edf_time::id_date;
 use std::alloc::{AllocError, Global};
 
+/// How many bytes the recording field has.
+const WIDTH: usize = 80;
+
+/// What a mended file's recording field ends with.
+const MARK: &[u8] = b" mended";
+
+/// More than any field has: nothing is dropped.
+const WIDEST: usize = 400;
+
 /// The letters of a month, by its two digits.
 fn month_letters(first: u8, second: u8) -> Option<&'static [u8]> {
     match (first, second) {
@@ -107,13 +116,13 @@ fn recording_text(
     push_subfield(&mut text, date, 80)?;
     let there = if own { count_subfields(codes, 3) } else { 0 };
     if own {
-        push_subfields(&mut text, codes, 81)?;
+        push_subfields(&mut text, codes, WIDEST)?;
     }
     for _ in there..3 {
         push_subfield(&mut text, b"X".as_slice(), 80)?;
     }
     if !own {
-        push_subfields(&mut text, codes, 74)?;
+        push_subfields(&mut text, codes, WIDTH - MARK.len())?;
     }
     Ok(text)
 }
@@ -166,25 +175,23 @@ pub(crate) fn mend_recording(alloc: Global, header: &mut [u8]) -> Result<(), Men
     Ok(())
 }
 
-/// Adds `mended` as the last subfield of the recording field. Subfields after the fifth that leave
-/// no room for it are dropped.
+/// Adds `mended` as the last subfield of the recording field.
 ///
 /// # Errors
-/// `Recording` where the first five leave none.
+/// `Recording` where the field has no room for it behind all that it has.
 pub(crate) fn mark_mended(alloc: Global, header: &mut [u8]) -> Result<(), MendFault>
     ensures asked { IfErr result (RefusesFor ⊤) }
     ensures quiet { IfErr result IsQuiet }
 {
-    let old = part(header, 88, 80);
+    let old = part(header, 88, WIDTH);
     if says_mended(old) {
         return Ok(());
     }
-    let mut text = Vec::new(alloc);
-    push_subfields(&mut text, old, 74)?;
-    if count_subfields(text.as_slice(), 5) < 5 {
+    let mut text = Vec::from_slice(alloc, old.trim_ascii_end())?;
+    text.extend_from_slice(MARK)?;
+    if text.len() > WIDTH {
         return Err(MendFault::Refused(FragmentFault::Header(HeaderFault::Recording)));
     }
-    push_subfield(&mut text, b"mended".as_slice(), 81)?;
-    set(header, 88, 80, text.as_slice());
+    set(header, 88, WIDTH, text.as_slice());
     Ok(())
 }

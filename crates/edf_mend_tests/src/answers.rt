@@ -28,7 +28,7 @@ fn a_fragment_is_copied_and_nothing_is_told(rt: HostRuntime) {
 }
 
 /// What is printed where no file is made, by the header and the words.
-fn stories() -> [(Header<'static>, &'static str, &'static str); 7] {
+fn stories() -> [(Header<'static>, &'static str, &'static str); 9] {
     [
         (q(), "in.edf --dry-run", "status 0\n"),
         (
@@ -57,6 +57,17 @@ fn stories() -> [(Header<'static>, &'static str, &'static str); 7] {
             q().start("02.13.02", "23.59.50"),
             "in.edf out.edf",
             "err: in.edf refused E6 Startdate\nstatus 1\n",
+        ),
+        (
+            q().patient("Haagse Harry"),
+            "in.edf stays.edf",
+            "err: in.edf names no code of a patient: give one by --patient CODE\n\
+            stays.edf.part could not be removed\nstatus 3\n",
+        ),
+        (
+            q().physical(".5", "510"),
+            "in.edf unmade.edf",
+            "err: unmade.edf refused E43 Write\nstatus 3\n",
         ),
         (
             q(),

@@ -87,7 +87,7 @@ fn subfields_of_a_patient_stay_in_their_places(rt: HostRuntime) {
 }
 
 /// A recording field of a file of 24 December 2026, and what it becomes before the mark.
-const RECORDINGS: [(&str, &str); 5] = [
+const RECORDINGS: [(&str, &str); 6] = [
     (
         "Startdate 24-DEZ-2026 PSG-1 T7 Nox",
         "Startdate 24-DEC-2026 PSG-1 T7 Nox",
@@ -95,6 +95,10 @@ const RECORDINGS: [(&str, &str); 5] = [
     (
         "Startdate 24-dec-2026 PSG-1 T7 Nox",
         "Startdate 24-DEC-2026 PSG-1 T7 Nox",
+    ),
+    (
+        "Startdate 24-DEZ-2026 PSG-1 T7 Nox A23456789B23456789C23456789D23456789ab",
+        "Startdate 24-DEC-2026 PSG-1 T7 Nox A23456789B23456789C23456789D23456789ab",
     ),
     (
         "startdate 24.12.26 PSG-1 T7 Nox Room_2",
@@ -133,7 +137,7 @@ fn codes_of_a_recording_stay_in_their_places(rt: HostRuntime) {
 }
 
 /// Fields that are not mended, and what is printed of the file.
-fn refused_fields() -> [(Header<'static>, &'static str); 4] {
+fn refused_fields() -> [(Header<'static>, &'static str); 6] {
     [
         (
             q().patient("Haagse Harry de Vries"),
@@ -150,6 +154,18 @@ fn refused_fields() -> [(Header<'static>, &'static str); 4] {
             q().start("24.12.26", "23.59.50")
                 .recording("Startdate 25-dec-2026 PSG-1 T7 Nox"),
             "in.edf refused E8 DatesDiffer",
+        ),
+        (
+            q().start("24.12.26", "23.59.50").recording(
+                "Startdate 24-DEZ-2026 PSG-1 T7 Nox A23456789B23456789C23456789D23456789abc",
+            ),
+            "in.edf refused E5 Recording",
+        ),
+        (
+            q().start("24.12.26", "23.59.50").recording(
+                "Startdate 24-DEZ-2026 PSG-1 T7 Nox A23456789B23456789C23456789 bed-window-A_15",
+            ),
+            "in.edf refused E5 Recording",
         ),
         (
             q().start("24.13.26", "23.59.50")

@@ -1,7 +1,7 @@
 -- A second reading, and the file that is made in it.
 use Rattle.std.proofs.Common.{◌≡◌, ◌≢◌, ℕ, List, [], ◌∷◌, ◌++◌, Bool}
 use Rattle.std.proofs.Common.{true, false, Option, Some, None, refl, sym, ap, ◌∙◌, subst, inl, inr}
-use Rattle.std.specs.Prelude.{Result, Ok, Err, IfOk, IfErr, MatchResult, IfSome}
+use Rattle.std.specs.Prelude.{Result, Ok, Err, IfOk, IfErr, MatchResult, IfSome, All}
 use Rattle.std.specs.Io.KnownBytes.{Appends}
 use Rattle.std.proofs.KnownBytes.{Consumes-whole}
 use Rattle.edf_header.specs.Key.{Key}
@@ -9,11 +9,13 @@ use Rattle.edf_fragment.specs.Failures.{one_more}
 use Rattle.edf_fragment.specs.Fragment.{DataRecord, Spells}
 use Rattle.edf_fragment.specs.declared.fault.FragmentFault.{FragmentFault}
 use Rattle.edf_mend.specs.Answers.{AsksCode, IsTrouble}
+use Rattle.edf_mend.specs.Asked.{IsAsked}
 use Rattle.edf_mend.specs.Counts.{CountsCalls}
 use Rattle.edf_mend.specs.Mended.{Mends, TellsNone, SurveysAs}
 use Rattle.edf_mend.specs.declared.fault.MendFault.{MendFault}
 use Rattle.edf_mend.specs.declared.fault.MendFault.TheVariants.{Refused, Code, Read, Write, Memory}
 use Rattle.edf_mend.specs.declared.ledger.Ledger.{Ledger}
+use Rattle.edf_mend.specs.declared.rule.Rule.{Rule}
 use Rattle.edf_mend.proofs.OneToOne.{unchanged}
 use Rattle.edf_mend.proofs.Surveyed.{no-fault}
 use Rattle.edfmend_command.specs.Made.{MadeFile, made_file, finished, failed_with}
@@ -26,11 +28,13 @@ use Rattle.edfmend_command.specs.declared.mend_command.Stop.{Stop}
 
 -- ---- a second reading
 
-module _ (bytes given : Option (List ℕ)) (fault : Option FragmentFault)
+module _ (bytes given : Option (List ℕ)) (rules : List Rule) (fault : Option FragmentFault)
     (left rest before after : Option (List ℕ)) (is : left ≡ bytes) where
   mends-as : (ledger : Ledger) → Mends left rest before after given ledger →
-      (fault ≡ None → TellsNone ledger) → MendsAs bytes given fault before after ledger
-  mends-as ledger m none = record {
+      (fault ≡ None → TellsNone ledger) →
+      (rules ≢ [] → All (IsAsked rules) ledger.steps.items) →
+      MendsAs bytes given rules fault before after ledger
+  mends-as ledger m none only = record {
     old = m.old;
     new = m.new;
     old_is = subst (λ (b : Option (List ℕ)). IfSome b (λ known. known ≡ m.old)) is
@@ -38,17 +42,21 @@ module _ (bytes given : Option (List ℕ)) (fault : Option FragmentFault)
     wrote = m.wrote;
     mended = m.mended;
     kept = λ e. (unchanged m.old m.new given ledger m.mended (none e), none e);
+    only = only;
+    says = m.says;
   }
 
   pub answered : (result : Result Ledger MendFault) →
       IfOk result (λ ledger. Mends left rest before after given ledger) →
       (fault ≡ None → IfOk result TellsNone) →
+      IfOk result (λ ledger. rules ≢ [] → All (IsAsked rules) ledger.steps.items) →
       ((known : List ℕ) (key : Key) (records : List DataRecord) → fault ≡ None →
       left ≡ Some known → Spells known key records → IfErr result IsTrouble) →
       IfErr result (AsksCode given) →
-      MatchResult result (MendsAs bytes given fault before after) (StopsMending bytes given fault)
-  answered (Ok ledger) mends none welcome asked = mends-as ledger mends none
-  answered (Err why) mends none welcome asked = record {
+      MatchResult result (MendsAs bytes given rules fault before after)
+      (StopsMending bytes given rules fault)
+  answered (Ok ledger) mends none only welcome asked = mends-as ledger mends none only
+  answered (Err why) mends none only welcome asked = record {
     asked = asked;
     welcome = λ e file. welcome file.0 file.1 file.2 e (is ∙ file.3) file.4;
   }
@@ -104,11 +112,11 @@ welcome-file : (bytes : Option (List ℕ)) (fault : Option FragmentFault) → Su
 welcome-file bytes fault surveyed file = no-fault file.0 file.1 file.2 fault file.4
     (subst (λ (b : Option (List ℕ)). SurveysAs b fault) file.3 surveyed)
 
-module _ (bytes given : Option (List ℕ)) (fault : Option FragmentFault)
+module _ (bytes given : Option (List ℕ)) (rules : List Rule) (fault : Option FragmentFault)
     (surveyed : SurveysAs bytes fault) where
   pub is-mended : (before after : Option (List ℕ)) (ledger : Ledger) →
-      (m : MendsAs bytes given fault before after ledger) →
-      IsMendedFile bytes given ledger m.new
+      (m : MendsAs bytes given rules fault before after ledger) →
+      IsMendedFile bytes given rules ledger m.new
   is-mended before after ledger m = record {
     fault = fault;
     surveyed = surveyed;
@@ -117,9 +125,11 @@ module _ (bytes given : Option (List ℕ)) (fault : Option FragmentFault)
     mended = m.mended;
     kept = m.kept;
     welcome = welcome-file bytes fault surveyed;
+    only = m.only;
+    says = m.says;
   }
 
-  pub is-not-mended : (why : MendFault) → StopsMending bytes given fault why →
+  pub is-not-mended : (why : MendFault) → StopsMending bytes given rules fault why →
       IsNotMended bytes given why
   is-not-mended why stops = record {
     asked = stops.asked;
@@ -135,25 +145,25 @@ first-failed bytes given Read trouble = record { asked = λ e. cc; welcome = λ 
 first-failed bytes given Write trouble = record { asked = λ e. cc; welcome = λ file. tt }
 first-failed bytes given Memory trouble = record { asked = λ e. cc; welcome = λ file. tt }
 
-pub stops-by : (bytes given : Option (List ℕ)) (fault : Option FragmentFault) (why : MendFault) →
-    IsTrouble why → StopsMending bytes given fault why
-stops-by bytes given fault why trouble =
+pub stops-by : (bytes given : Option (List ℕ)) (rules : List Rule)
+    (fault : Option FragmentFault) (why : MendFault) → IsTrouble why → StopsMending bytes given rules fault why
+stops-by bytes given rules fault why trouble =
     let not = first-failed bytes given why trouble in
     record { asked = not.asked; welcome = λ e file. not.welcome file }
 
-module _ (bytes given : Option (List ℕ)) (fault : Option FragmentFault)
+module _ (bytes given : Option (List ℕ)) (rules : List Rule) (fault : Option FragmentFault)
     (left before after : Option (List ℕ)) (same : left ≡ bytes) (surveyed : SurveysAs bytes fault) where
   pub both-read : (result : Result Ledger MendFault) →
-      MatchResult result (MendsAs left given fault before after)
-      (StopsMending left given fault) →
-      MatchResult result (λ ledger. (new : List ℕ) × IsMendedFile bytes given ledger new)
+      MatchResult result (MendsAs left given rules fault before after)
+      (StopsMending left given rules fault) →
+      MatchResult result (λ ledger. (new : List ℕ) × IsMendedFile bytes given rules ledger new)
       (IsNotMended bytes given)
   both-read (Ok ledger) answer =
-      let m = subst (λ (b : Option (List ℕ)). MendsAs b given fault before after ledger) same
+      let m = subst (λ (b : Option (List ℕ)). MendsAs b given rules fault before after ledger) same
       answer in
       (m.new, is-mended bytes given fault surveyed before after ledger m)
   both-read (Err why) answer = is-not-mended bytes given fault surveyed why
-      (subst (λ (b : Option (List ℕ)). StopsMending b given fault why) same answer)
+      (subst (λ (b : Option (List ℕ)). StopsMending b given rules fault why) same answer)
 
 -- ---- after it was asked whether there is something of a name
 
@@ -184,26 +194,29 @@ module _ (known known' : Bool) (there there' : List ℕ → Option Bool)
   leaves-part false (inr left) =
       inr (left ∙ ap (λ (l : List MadeFile). l ++ (made_file name Removed None ∷ [])) b)
 
-  module _ (bytes left given : Option (List ℕ)) (fault : Option FragmentFault)
+  module _ (bytes left given : Option (List ℕ)) (rules : List Rule) (fault : Option FragmentFault)
       (same : left ≡ bytes) where
     pub asked-makes : (ledger : Ledger) →
-        MakesFile left given fault (made-by known' there' before' failed' after end) name ledger →
-        MakesFile bytes given fault (made-by known there before failed after end) name ledger
+        MakesFile left given rules fault (made-by known' there' before' failed' after end) name
+        ledger →
+        MakesFile bytes given rules fault (made-by known there before failed after end) name ledger
     asked-makes ledger x = record {
       start = x.start;
       empty = λ e. x.empty (k ∙ e);
       held = x.held;
-      mends = subst (λ (l : Option (List ℕ)). MendsAs l given fault x.start x.held ledger) same
-          x.mends;
+      mends = subst (λ (l : Option (List ℕ)).
+          MendsAs l given rules fault x.start x.held ledger) same x.mends;
       made = x.made ∙ ap (λ (l : List MadeFile). l ++ (finished name x.held ∷ [])) b;
       unfailed = x.unfailed ∙ f;
     }
 
     pub asked-stops : (stop : Stop) →
-        StopsMaking left given fault (made-by known' there' before' failed' after end) name stop →
-        StopsMaking bytes given fault (made-by known there before failed after end) name stop
+        StopsMaking left given rules fault (made-by known' there' before' failed' after end) name
+        stop →
+        StopsMaking bytes given rules fault (made-by known there before failed after end) name stop
     asked-stops stop x = record {
-      stops = subst (λ (l : Option (List ℕ)). StopsMending l given fault stop.fault) same x.stops;
+      stops = subst (λ (l : Option (List ℕ)). StopsMending l given rules fault stop.fault) same
+          x.stops;
       leaves = leaves-part stop.is_left x.leaves;
       counted = subst (λ (n : ℕ). CountsWrite n end stop.fault) f x.counted;
     }

@@ -1,12 +1,16 @@
 -- What private functions do.
-use Rattle.std.specs.Prelude.{◌≡◌, ℕ, ◌≤◌, List, [], ◌∷◌, ◌++◌, Option, Some, None, IfSome}
-use Rattle.std.specs.Prelude.{replicate, true}
+use Rattle.std.specs.Prelude.{◌≡◌, ◌≢◌, ℕ, ◌≤◌, List, [], ◌∷◌, ◌++◌, Option, Some, None, IfSome}
+use Rattle.std.specs.Prelude.{All, replicate, true}
 use Rattle.std.specs.Io.KnownBytes.{Appends}
 use Rattle.edf_fragment.specs.declared.fault.FragmentFault.{FragmentFault}
+use Rattle.edf_header.specs.Fields.{recording_field}
 use Rattle.edf_mend.specs.Answers.{AsksCode, IsTrouble}
+use Rattle.edf_mend.specs.Asked.{IsAsked}
 use Rattle.edf_mend.specs.Mended.{IsMended, TellsNone}
+use Rattle.edf_mend.specs.Says.{SaysMended}
 use Rattle.edf_mend.specs.declared.fault.MendFault.{MendFault}
 use Rattle.edf_mend.specs.declared.ledger.Ledger.{Ledger}
+use Rattle.edf_mend.specs.declared.rule.Rule.{Rule}
 use Rattle.edfmend_command.specs.Made.{MadeFile, begun, finished}
 use Rattle.edfmend_command.specs.Making.{Making}
 use Rattle.edfmend_command.specs.Run.{IsFragmentFile, CountsWrite, LeavesPart}
@@ -18,7 +22,7 @@ pub record OpensUpTo (before after : List (List ℕ)) (name : List ℕ) (most : 
   pub few : times ≤ most
   pub opened : after ≡ before ++ replicate times name
 
-module _ (bytes given : Option (List ℕ)) (fault : Option FragmentFault) where
+module _ (bytes given : Option (List ℕ)) (rules : List Rule) (fault : Option FragmentFault) where
   -- in a second reading, after a first that found this, the mended file was written
   pub record MendsAs (before after : Option (List ℕ)) (ledger : Ledger) : Type 0 where
     pub old : List ℕ
@@ -27,6 +31,8 @@ module _ (bytes given : Option (List ℕ)) (fault : Option FragmentFault) where
     pub wrote : Appends before after new
     pub mended : IsMended old given ledger new
     pub kept : fault ≡ None → (new ≡ old) × TellsNone ledger
+    pub only : rules ≢ [] → All (IsAsked rules) ledger.steps.items
+    pub says : ¬ TellsNone ledger → SaysMended (recording_field mended.new_header)
 
   -- it was not
   pub record StopsMending (why : MendFault) : Type 0 where

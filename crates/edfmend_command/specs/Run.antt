@@ -1,14 +1,17 @@
 -- What the command does: what it makes and writes, the status that it answers, and which file it
 -- opens.
-use Rattle.std.specs.Prelude.{◌≡◌, ◌⊎◌, ℕ, ◌≤◌, List, [], ◌∷◌, ◌++◌, Option, Some, None, IfSome}
-use Rattle.std.specs.Prelude.{option_map, string_bytes, replicate, Bool, true, false}
+use Rattle.std.specs.Prelude.{◌≡◌, ◌≢◌, ◌⊎◌, ℕ, ◌≤◌, List, [], ◌∷◌, ◌++◌, Option, Some, None}
+use Rattle.std.specs.Prelude.{IfSome, All, option_map, string_bytes, replicate, Bool, true, false}
 use Rattle.std.specs.Bool.{MatchBool}
+use Rattle.edf_header.specs.Fields.{recording_field}
 use Rattle.edf_header.specs.Key.{Key}
 use Rattle.edf_fragment.specs.Failures.{one_more}
 use Rattle.edf_fragment.specs.Fragment.{DataRecord, Spells}
 use Rattle.edf_fragment.specs.declared.fault.FragmentFault.{FragmentFault}
 use Rattle.edf_mend.specs.Answers.{AsksCode, IsTrouble}
+use Rattle.edf_mend.specs.Asked.{IsAsked}
 use Rattle.edf_mend.specs.Mended.{IsMended, SurveysAs, TellsNone}
+use Rattle.edf_mend.specs.Says.{SaysMended}
 use Rattle.edf_mend.specs.declared.fault.MendFault.{MendFault}
 use Rattle.edf_mend.specs.declared.fault.MendFault.TheVariants as fault
 use Rattle.edf_mend.specs.declared.ledger.Ledger.{Ledger}
@@ -46,9 +49,10 @@ IsFragmentFile bytes = (known : List ℕ) × (key : Key) × (records : List Data
     × (bytes ≡ Some known) × Spells known key records
 
 -- `new` is the file of these bytes, mended, and this is its ledger; a fragment stays as it is, and
--- nothing is told of it
-pub record IsMendedFile (bytes given : Option (List ℕ)) (ledger : Ledger) (new : List ℕ) : Type 0
-  where
+-- nothing is told of it; any other says that it was mended, and where rules were named, its header
+-- was changed by these alone
+pub record IsMendedFile (bytes given : Option (List ℕ)) (rules : List Rule) (ledger : Ledger)
+    (new : List ℕ) : Type 0 where
     pub fault : Option FragmentFault
     pub surveyed : SurveysAs bytes fault
     pub old : List ℕ
@@ -56,6 +60,8 @@ pub record IsMendedFile (bytes given : Option (List ℕ)) (ledger : Ledger) (new
     pub mended : IsMended old given ledger new
     pub kept : fault ≡ None → (new ≡ old) × TellsNone ledger
     pub welcome : IsFragmentFile bytes → fault ≡ None
+    pub only : rules ≢ [] → All (IsAsked rules) ledger.steps.items
+    pub says : ¬ TellsNone ledger → SaysMended (recording_field mended.new_header)
 
 -- why there is none: a code is asked for only where none was given, and a fragment is not refused
 pub record IsNotMended (bytes given : Option (List ℕ)) (why : MendFault) : Type 0 where
@@ -92,14 +98,15 @@ abbrev pub left_name : List ℕ → Bool → Option (List ℕ)
 left_name name true = Some name
 left_name name false = None
 
-module _ (out err : Growth) (bytes given : Option (List ℕ)) (file : List ℕ) (status : Status) where
+module _ (out err : Growth) (bytes given : Option (List ℕ)) (rules : List Rule) (file : List ℕ)
+    (status : Status) where
   -- ---- the changes are only told
 
   -- these are the changes of the file; all are told, or that is trouble, and no more is told
   pub record TellsChanges : Type 0 where
     pub new : List ℕ
     pub ledger : Ledger
-    pub is_mended : IsMendedFile bytes given ledger new
+    pub is_mended : IsMendedFile bytes given rules ledger new
     pub told : IsTold out (ledger_lines ledger) Done status
     pub silent : Gets err []
 
@@ -124,7 +131,7 @@ module _ (out err : Growth) (bytes given : Option (List ℕ)) (file : List ℕ) 
     pub record MakesMended : Type 0 where
       pub new : List ℕ
       pub ledger : Ledger
-      pub is_mended : IsMendedFile bytes given ledger new
+      pub is_mended : IsMendedFile bytes given rules ledger new
       pub free : IsFree m.there name
       pub held : Option (List ℕ)
       pub made : m.after ≡ m.before ++ (finished name held ∷ [])
@@ -147,12 +154,12 @@ module _ (out err : Growth) (bytes given : Option (List ℕ)) (file : List ℕ) 
 abbrev pub IsDoneTo : Making → Growth → Growth → Option (List ℕ) → Asked → Option (List ℕ) →
     Status → Type 0
 IsDoneTo m out err bytes asked None status = MakesNothing m
-    × (TellsChanges out err bytes asked.patient asked.input status
-    ⊎ LacksChanges out err bytes asked.patient asked.input status)
+    × (TellsChanges out err bytes asked.patient asked.rules asked.input status
+    ⊎ LacksChanges out err bytes asked.patient asked.rules asked.input status)
 IsDoneTo m out err bytes asked (Some name) status =
-    FindsName out err bytes asked.patient asked.input status m name
-    ⊎ (MakesMended out err bytes asked.patient asked.input status m name
-    ⊎ LacksMended out err bytes asked.patient asked.input status m name)
+    FindsName out err bytes asked.patient asked.rules asked.input status m name
+    ⊎ (MakesMended out err bytes asked.patient asked.rules asked.input status m name
+    ⊎ LacksMended out err bytes asked.patient asked.rules asked.input status m name)
 
 -- by what makes files, the two writers, and the bytes that the file's name stands for
 abbrev pub IsMendDone : Making → Growth → Growth → Option (List ℕ) → Asked → Status → Type 0

@@ -91,9 +91,9 @@ fn mend_again<I: Inputs, W: Output>(
 ) -> Result<Ledger, MendFault>
     ensures answer { MatchResult result
         (MendsAs (I.bytes inputs.old file.now) (option_map (λ code. code.now) patient.entry)
-        survey.now.fault (W.contents out.old) (W.contents out.new))
+        rules.now survey.now.fault (W.contents out.old) (W.contents out.new))
         (StopsMending (I.bytes inputs.old file.now) (option_map (λ code. code.now) patient.entry)
-        survey.now.fault) }
+        rules.now survey.now.fault) }
     ensures counted { MatchResult result
         (λ _. W.failures out.new ≡ W.failures out.old)
         (CountsWrite (W.failures out.old) (W.failures out.new)) }
@@ -117,7 +117,7 @@ fn mend_nowhere<I: Inputs>(
 ) -> Result<Ledger, MendFault>
     ensures answer { MatchResult result
         (λ ledger. (new : List ℕ) × IsMendedFile (I.bytes inputs.old file.now)
-        (option_map (λ code. code.now) patient.entry) ledger new)
+        (option_map (λ code. code.now) patient.entry) rules.now ledger new)
         (IsNotMended (I.bytes inputs.old file.now)
         (option_map (λ code. code.now) patient.entry)) }
     ensures opened { MatchResult result
@@ -141,9 +141,9 @@ fn tell_changes<I: Inputs, O: Output, F: Output>(
 ) -> Status
     ensures told { let given = option_map (λ code. code.now) patient.entry in
         TellsChanges (growth O.Output out.old out.new) (growth F.Output err.old err.new)
-        (I.bytes inputs.old file.now) given file.now result
+        (I.bytes inputs.old file.now) given rules.now file.now result
         ⊎ LacksChanges (growth O.Output out.old out.new) (growth F.Output err.old err.new)
-        (I.bytes inputs.old file.now) given file.now result }
+        (I.bytes inputs.old file.now) given rules.now file.now result }
     ensures opened { OpensTwice (I.opened inputs.old) (I.opened inputs.new) file.now result }
 {
     match mend_nowhere(alloc, file, patient, rules, inputs) {
@@ -166,10 +166,10 @@ fn write_file<I: Inputs, M: Maker>(
     requires { M.Writer.failures writer ≡ 0 }
     ensures answer { MatchResult result
         (WritesFile (I.bytes inputs.old file.now) (option_map (λ code. code.now) patient.entry)
-        survey.now.fault (M.made maker.old) (M.made maker.new) (M.failed maker.old)
+        rules.now survey.now.fault (M.made maker.old) (M.made maker.new) (M.failed maker.old)
         (M.failed maker.new) (M.Writer.contents writer))
         (StopsWriting (I.bytes inputs.old file.now) (option_map (λ code. code.now) patient.entry)
-        survey.now.fault (M.made maker.old) (M.made maker.new) (M.failed maker.old)
+        rules.now survey.now.fault (M.made maker.old) (M.made maker.new) (M.failed maker.old)
         (M.failed maker.new)) }
     ensures opened { MatchResult result
         (λ _. I.opened inputs.new ≡ I.opened inputs.old ++ replicate 1 file.now)
@@ -203,9 +203,9 @@ fn make_file<I: Inputs, M: Maker>(
 ) -> Result<Ledger, Stop>
     ensures answer { MatchResult result
         (MakesFile (I.bytes inputs.old file.now) (option_map (λ code. code.now) patient.entry)
-        survey.now.fault (making M.Maker maker.old maker.new) name.now)
+        rules.now survey.now.fault (making M.Maker maker.old maker.new) name.now)
         (StopsMaking (I.bytes inputs.old file.now) (option_map (λ code. code.now) patient.entry)
-        survey.now.fault (making M.Maker maker.old maker.new) name.now) }
+        rules.now survey.now.fault (making M.Maker maker.old maker.new) name.now) }
     ensures opened { MatchResult result
         (λ _. I.opened inputs.new ≡ I.opened inputs.old ++ replicate 1 file.now)
         (λ _. OpensUpTo (I.opened inputs.old) (I.opened inputs.new) file.now 1) }
@@ -251,11 +251,11 @@ fn mend_to<I: Inputs, M: Maker, O: Output, F: Output>(
     ensures done { let given = option_map (λ code. code.now) patient.entry in
         let m = making M.Maker maker.old maker.new in
         FindsName (growth O.Output out.old out.new) (growth F.Output err.old err.new)
-        (I.bytes inputs.old file.now) given file.now result m name.now
+        (I.bytes inputs.old file.now) given rules.now file.now result m name.now
         ⊎ (MakesMended (growth O.Output out.old out.new) (growth F.Output err.old err.new)
-        (I.bytes inputs.old file.now) given file.now result m name.now
+        (I.bytes inputs.old file.now) given rules.now file.now result m name.now
         ⊎ LacksMended (growth O.Output out.old out.new) (growth F.Output err.old err.new)
-        (I.bytes inputs.old file.now) given file.now result m name.now) }
+        (I.bytes inputs.old file.now) given rules.now file.now result m name.now) }
     ensures opened { OpensTwice (I.opened inputs.old) (I.opened inputs.new) file.now result }
 {
     if maker.is_there(name) {

@@ -6,7 +6,7 @@ use Rattle.edfmend_command.proofs.mend_command.mend_nowhere.Goals as goal
 pub returns-clause-answer : goal.returns-clause-answer
 returns-clause-answer g c =
     both-read (g.I.Inputs.bytes c.args.inputs.now c.args.file.now)
-    (option_map (λ code. code.now) c.args.patient) c.in_ok-survey.survey.fault
+    (option_map (λ code. code.now) c.args.patient) c.args.rules.now c.in_ok-survey.survey.fault
     (g.I.Inputs.bytes c.survey_of.new.inputs c.args.file.now) _ _
     (c.in_ok-survey.ensures.same c.args.file.now) c.in_ok-survey.ensures.surveyed
     c.mend_again.result c.mend_again.ensures.answer

@@ -20,13 +20,13 @@ returns-in-Ok-make_file-clause-done g c =
     (g.M.Maker.there mid) (g.M.Maker.made old) (g.M.Maker.made mid) (g.M.Maker.made new)
     (g.M.Maker.failed old) (g.M.Maker.failed mid) (g.M.Maker.failed new)
     c.is_there.ensures.known c.is_there.ensures.made c.is_there.ensures.failed c.args.name.now bytes
-    (g.I.Inputs.bytes c.survey_of.new.inputs c.args.file.now) given fault
+    (g.I.Inputs.bytes c.survey_of.new.inputs c.args.file.now) given c.args.rules.now fault
     (c.in-Ok.ensures.same c.args.file.now) c.in-Ok-make_file.ledger
     c.in-Ok-make_file.ensures.answer in
     inr (inl (record {
       new = makes.mends.new;
       ledger = c.in-Ok-make_file.ledger;
-      is_mended = is-mended bytes given fault c.in-Ok.ensures.surveyed makes.start makes.held
+      is_mended = is-mended bytes given c.args.rules.now fault c.in-Ok.ensures.surveyed makes.start makes.held
           c.in-Ok-make_file.ledger makes.mends;
       free = free-of (g.M.Maker.there old c.args.name.now) c.is_there.result
           c.is_there.ensures.answer c.if-is_there.false;
@@ -59,11 +59,11 @@ returns-in-Err-make_file-clause-done g c =
     (g.M.Maker.there mid) (g.M.Maker.made old) (g.M.Maker.made mid) (g.M.Maker.made new)
     (g.M.Maker.failed old) (g.M.Maker.failed mid) (g.M.Maker.failed new)
     c.is_there.ensures.known c.is_there.ensures.made c.is_there.ensures.failed c.args.name.now bytes
-    (g.I.Inputs.bytes c.survey_of.new.inputs c.args.file.now) given fault
+    (g.I.Inputs.bytes c.survey_of.new.inputs c.args.file.now) given c.args.rules.now fault
     (c.in-Ok.ensures.same c.args.file.now) stop c.in-Err-make_file.ensures.answer in
     inr (inr (record {
       why = stop.fault;
-      is_why = is-not-mended bytes given fault c.in-Ok.ensures.surveyed stop.fault stops.stops;
+      is_why = is-not-mended bytes given c.args.rules.now fault c.in-Ok.ensures.surveyed stop.fault stops.stops;
       free = free-of (g.M.Maker.there old c.args.name.now) c.is_there.result
           c.is_there.ensures.answer c.if-is_there.false;
       is_left = stop.is_left;
