@@ -259,8 +259,10 @@ def in_sentences(checks: Checks, bare: Bare) -> None:
                 b"front.edf accepted new=59 known=0\n")
     checks.same("edfmend --dry-run", run("edfmend --dry-run in.edf")[2], 0)
     checks.same("edfmend", run("edfmend in.edf out.edf")[2], 0)
-    checks.same("edfstore take :memory: *.edf", run("edfstore take :memory: out.edf part7.edf"),
-                (b"out.edf accepted new=160 known=0\npart7.edf accepted new=160 known=0\n", b"", 0))
+    listed = run("edfruns list *.edf > runs; cat runs")
+    checks.same("edfruns list *.edf", (listed[0].count(b"\n") > 2, listed[1].splitlines(), listed[2]),
+                (True, [b"cut.edf refused E21 CutRecord record=60",
+                        b"in.edf refused E9 NotPlus"], 0))
 
 
 def on_a_bare_debian(checks: Checks, package: Path, folder: Path, given) -> None:
