@@ -3,12 +3,13 @@
     checks/run [--program PATH] [--edfruns PATH] [--edfserve PATH] [--edfmend PATH] [--long]
                [--jobs N] [--only NAME]... [--control]
 
-The programs are those that the scripts of bin run, where none is named. Each check is a
-module of this folder with a count of its own; --long takes those of docs/RELIABILITY.md, and the
-checks of the release as well. A line says what was tried, how often, and in how many seconds; the
-output of a check that fails follows it. A check that needs what is not here is left out, and the
-line says what that is. --only runs the check of that name alone, as `kill.run`. The last line has
-how many passed and failed; the status is 0 where none failed and one at least passed.
+A program that no option names is the one that its script in bin runs, which proves and builds it
+where it is stale. Each check is a module of this folder with a count of its own; --long takes those
+of docs/RELIABILITY.md, and the checks of the release as well. A line says what was tried, how
+often, and in how many seconds; the output of a check that fails follows it. A check that needs what
+is not here is left out, and the line says what that is. --only runs the check of that name alone,
+as `kill.run`, and looks for no program but those that it takes. The last line has how many passed
+and failed; the status is 0 where none failed and one at least passed.
 
 A check passes only where its module ends with status 0 and its last line is `N tried, 0 failed`, N
 not 0. --control gives each of them programs that write a 2 for each 1, into the files of `edfruns
@@ -247,6 +248,12 @@ def chosen(names: list, is_long: bool, is_control: bool) -> tuple:
     return [check for check in asked if not missing[check]], out
 
 
+def taken(named: list) -> list:
+    """The programs that these checks take."""
+    options = {option for check in named for option in check.programs}
+    return [name for name in arguments.PROGRAMS if arguments.OPTIONS[name] in options]
+
+
 def words() -> arguments.Parser:
     parser = arguments.Parser(__doc__, arguments.PROGRAMS, prog="checks/run")
     parser.add_argument("--long", action="store_true", help="the counts of docs/RELIABILITY.md")
@@ -258,9 +265,9 @@ def words() -> arguments.Parser:
 
 
 def main() -> None:
-    given = words().read()
+    given = words().parse_args()        # which programs are wanted, the checks tell
     named, out = chosen(given.only, given.long, given.control)
-    programs = {option: getattr(given, option) for option in arguments.OPTIONS.values()}
+    programs = arguments.found(given, taken(named) if given.only else arguments.PROGRAMS)
     print(*programs.values(), f"{measure.machine()}\n", sep="\n", flush=True)
     begun = time.perf_counter()
     with measure.scratch() as folder:

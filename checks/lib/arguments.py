@@ -22,13 +22,19 @@ def path(word: str) -> Path:
 
 
 def chosen(name: str) -> Path:
-    """The program that bin/edfstore or bin/edfruns runs."""
+    """The program that the script bin/NAME runs, which proves and builds it where it is stale."""
     script = '. "$0/bin/common.sh" && chosen_program "$1"'
     ran = subprocess.run(["bash", "-c", script, TOP, name], stdout=subprocess.PIPE, text=True,
                          check=False)
     if ran.returncode:
         sys.exit(f"bin/{name} has no program to run")
     return Path(ran.stdout.strip())
+
+
+def found(given: argparse.Namespace, names) -> dict:
+    """Each of these programs by its option: the one that the words name, else the one that its
+    script runs."""
+    return {OPTIONS[name]: getattr(given, OPTIONS[name]) or chosen(name) for name in names}
 
 
 class Parser(argparse.ArgumentParser):
@@ -50,7 +56,5 @@ class Parser(argparse.ArgumentParser):
     def read(self) -> argparse.Namespace:
         """The words, with a program where none was named."""
         given = self.parse_args()
-        for name in self.programs:
-            if not getattr(given, OPTIONS[name]):
-                setattr(given, OPTIONS[name], chosen(name))
+        vars(given).update(found(given, self.programs))
         return given
