@@ -131,7 +131,7 @@ def lanes(events: list, end: int, recorded: int) -> list:
         chosen = [event for event in events if event.name in names]
         milliseconds = recorded // 1_000_000
         rate = (len(chosen) * 36_000_000 + milliseconds // 2) // milliseconds
-        found.append((label, f"{len(chosen)}, {rate // 10:,}.{rate % 10} an hour",
+        found.append((label, f"{len(chosen)}, {rate // 10:,}.{rate % 10} per recorded hour",
                       bars(chosen, end)))
     return found
 

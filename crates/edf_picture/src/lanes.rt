@@ -160,7 +160,7 @@ impl Lane {
     }
 }
 
-/// `212, 26.5 an hour`: how many, and how many in an hour that was recorded.
+/// `212, 26.5 per recorded hour`: how many, and how many in an hour that was recorded.
 fn rate_text(alloc: Global, count: u64, recording: &Recording<'_>) -> Result<String, AllocError> {
     let number = thousands(alloc, count)?;
     let recorded = recording.recorded() / MILLISECOND;
@@ -170,7 +170,7 @@ fn rate_text(alloc: Global, count: u64, recording: &Recording<'_>) -> Result<Str
     match rounded.checked_div(recorded) {
         Some(rate) => {
             let rate = tenths(alloc, rate)?;
-            format!(in alloc; "{number}, {rate} an hour")
+            format!(in alloc; "{number}, {rate} per recorded hour")
         }
         None => Ok(number),
     }

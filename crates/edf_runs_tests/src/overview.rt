@@ -26,16 +26,16 @@ const CASES: &[Case] = &[
         ],
         &[
             "y='13'>Apnea</text>",
-            "y='13'>3, 1.3 an hour</text><path class='x' d='M122 23h2M212 23h1M975 23h1'/>",
+            "y='13'>3, 1.3 per recorded hour</text><path class='x' d='M122 23h2M212 23h1M975 23h1'/>",
             "y='45'>Schl\u{e4}ft \u{2013} &lt;rechts&gt;</text>",
-            "y='45'>1, 0.4 an hour</text><path class='x' d='M117 55h1'/>",
+            "y='45'>1, 0.4 per recorded hour</text><path class='x' d='M117 55h1'/>",
             "annotation, as long as it lasts",
         ],
     ),
     (
         &[(100, 20, "Apnea"), (110, 30, "Apnea"), (9_000, 10, "Apnea")],
         &[
-            ">3, 1.3 an hour</text><path class='x' d='M122 23h4'/>",
+            ">3, 1.3 per recorded hour</text><path class='x' d='M122 23h4'/>",
             "1 outside the recording's time, not drawn",
         ],
     ),
@@ -51,9 +51,9 @@ const CASES: &[Case] = &[
         &[(8_640, 0, "The end"), (0, 0, "")],
         &[
             ">(no text)</text>",
-            ">1, 0.4 an hour</text><path class='x' d='M112 23h1'/>",
+            ">1, 0.4 per recorded hour</text><path class='x' d='M112 23h1'/>",
             ">The end</text>",
-            ">1, 0.4 an hour</text><path class='x' d='M975 55h1'/>",
+            ">1, 0.4 per recorded hour</text><path class='x' d='M975 55h1'/>",
         ],
     ),
     (
@@ -131,12 +131,12 @@ fn add_texts(alloc: Global, sketch: &mut Sketch, count: u64) -> Result<(), Fail>
 
 /// How many texts there are, and what the lane of the others says.
 const TEXTS: &[(u64, &str, &str)] = &[
-    (9, "others, of 1 text", "2, 0.8 an hour"),
-    (20, "others, of 12 texts", "24, 10.0 an hour"),
+    (9, "others, of 1 text", "2, 0.8 per recorded hour"),
+    (20, "others, of 12 texts", "24, 10.0 per recorded hour"),
     (
         4_097,
         "others, of more than 4,088 texts",
-        "4,101, 1,708.8 an hour",
+        "4,101, 1,708.8 per recorded hour",
     ),
 ];
 
