@@ -209,9 +209,9 @@ NO_DATE = "after Startdate its recording field has no date (dd-MMM-yyyy, in capi
 FEW_OF_RECORDING = ("its recording field has fewer than the three subfields investigation, "
                     "technician and equipment after its date")
 BY_EDFMEND = "edfmend makes it that of EDF+, where it has room"
-NO_ROOM = "it has no room for what EDF+ wants there: shorten it in a copy"
-NO_ROOM_OR_DATE = ("it has no room for what EDF+ wants there and the word mended, or the startdate "
-                   "is no date: correct it in a copy")
+NO_ROOM = "the field has no room for what EDF+ wants there, so shorten it in a copy"
+NO_ROOM_OR_DATE = ("the field has no room for what EDF+ wants there and the word mended, or the "
+                   "startdate is no date, so correct that in a copy")
 
 
 def of_field(wrong: str, to_do: str = BY_EDFMEND) -> str:
@@ -220,8 +220,8 @@ def of_field(wrong: str, to_do: str = BY_EDFMEND) -> str:
 
 
 # Why edfmend mended nothing
-BY_NAMED = ("the rules that --as names do not mend it: name others too, or leave --as out; where "
-            "clock is named, a start may be too far from its place")
+BY_NAMED = ("the rules that --as names do not mend it, so name others too, or leave --as out; "
+            "where clock is named, a start may be too far from its place")
 KEPT_TIMES = ("a byte of its startdate, starttime or duration is no printable ASCII, and edfmend "
               "leaves these as they are: correct it in a copy")
 NO_MARK = ("its recording field has no room for the word mended at its end: shorten it to 73 "

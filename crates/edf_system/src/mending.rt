@@ -13,8 +13,8 @@ pub enum Mending {
 }
 
 /// What is said where rules were named, of a refusal that a rule may be for.
-const BY_NAMED: &str = "the rules that --as names do not mend it: name others too, or leave --as \
-    out; where clock is named, a start may be too far from its place";
+const BY_NAMED: &str = "the rules that --as names do not mend it, so name others too, or leave \
+    --as out; where clock is named, a start may be too far from its place";
 
 /// What is said where nothing more is known.
 const NO_RULE: &str = "edfmend has no rule for this: see man edfmend";
@@ -120,9 +120,11 @@ pub(crate) fn on_field(mending: Mending, number: u8) -> &'static str {
         Mending::Nothing => "edfmend makes it that of EDF+, where it has room",
         Mending::ByNamed => BY_NAMED,
         Mending::ByAll if number == 5 => {
-            "it has no room for what EDF+ wants there and the word mended, or the startdate is no \
-            date: correct it in a copy"
+            "the field has no room for what EDF+ wants there and the word mended, or the startdate \
+            is no date, so correct that in a copy"
         }
-        Mending::ByAll => "it has no room for what EDF+ wants there: shorten it in a copy",
+        Mending::ByAll => {
+            "the field has no room for what EDF+ wants there, so shorten it in a copy"
+        }
     }
 }
