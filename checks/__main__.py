@@ -94,7 +94,7 @@ CHECKS = (
     Check("split", "lines and files of edfruns", (EDFSTORE, EDFRUNS)),
     Check("lines.shell", "lines that a person may type", needs=("sqlite3",)),
     Check("lines.run", "exact lines, files and statuses"),
-    Check("lines.terminal", "what is printed on a terminal alone", (EDFSTORE, EDFRUNS),
+    Check("lines.terminal", "what is printed on a terminal alone", (EDFSTORE, EDFRUNS, EDFMEND),
           needs=("sqlite3",)),
     Check("rot", "changes of a store's files", counts=(100, 1_000)),
     Check("warned", "answers that the documents warn of", counts=(100, 1_000)),

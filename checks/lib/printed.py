@@ -157,7 +157,7 @@ FILE_ON_PATH = "a directory of its path is a file"
 NO_FILE = "no such file or directory"
 DIRECTORY = "a directory"
 UNREADABLE = "no permission to read it"
-NO_PLAIN_FILE = "not a plain file, but a directory, a device or a linked file"
+NO_PLAIN_FILE = "not a plain file, but a directory, a device or a file with a second hard link"
 NO_DATABASE = "not a database, or none that can be read here"
 NO_PATH = "a path that begins with 'file:' is written './file:'"
 DAMAGED = ("the file is damaged, or it has page sums and sqlite3 wrote or copied it "
@@ -169,6 +169,7 @@ BUSY = "another program has it open; run this again when that has ended"
 OTHER_TABLES = ("its tables are not a store's, or have an index or a trigger; it was left as it is")
 OTHER_ROWS = "its rows are such as no submissions leave; put it aside, as it is"
 FULL = "the disk is full"
+TAKEN = "no file is written over another: give another name, or move that file away"
 THERE = "it is there already: a program is writing it, or was stopped then; if so, remove it"
 A_PIPE = ("a pipe can't be read a second time, unless it is written again: write it to a file "
           "first")
@@ -178,29 +179,76 @@ CHANGED = "it changed between the two readings: run this again once no program w
 TOO_SHORT = "it has fewer than 256 bytes: it was cut, or is no EDF file; send it again"
 PLAIN = ("plain EDF has no annotations signal and no start for each data record: edfstore and "
          "edfruns take EDF+ alone; edfmend makes EDF+ of it")
-CUT = "it ends within a data record, so it was cut: send it again"
+CUT = ("it was cut, or its count is too high: send it again, or edfmend makes its count what is "
+       "there, where a data record is whole")
+NO_TIME = ("its starttime is no second as hh.mm.ss: look at its spelling, and at the recorder's "
+           "clock")
 OTHER_LETTERS = ("a byte of its header is no printable ASCII, as in a name with other letters: "
                  "edfmend spells them in ASCII")
 IS_BDF = ("a BDF file, whose samples have 24 bits: edfstore and edfruns take EDF+ alone, so export "
           "it as EDF+")
-NO_SEX = ("the second subfield of its patient field is no sex (F, M or X): edfmend makes it that "
-          "of EDF+, where it has room")
-NO_BIRTHDATE = ("the third subfield of its patient field is no birthdate (dd-MMM-yyyy, in "
-                "capitals, or X): edfmend makes it that of EDF+, where it has room")
-FEW_OF_PATIENT = ("its patient field has fewer than the four subfields code, sex, birthdate and "
-                  "name: edfmend makes it that of EDF+, where it has room")
-NO_STARTDATE = ("its recording field does not begin with Startdate and a space: edfmend makes it "
-                "that of EDF+, where it has room")
-NO_DATE = ("after Startdate its recording field has no date (dd-MMM-yyyy, in capitals) and no X: "
-           "edfmend makes it that of EDF+, where it has room")
-FEW_OF_RECORDING = ("its recording field has fewer than the three subfields investigation, "
-                    "technician and equipment after its date: edfmend makes it that of EDF+, "
-                    "where it has room")
+OVERLAPS = ("it overlaps what is stored, which stays, as where a clock was set back: keep the "
+            "file; a store of its own takes it")
 STORED_OTHERWISE = ("other samples or annotations are stored for this start, and stay: keep the "
-                    "file; a card that EDFlib wrote beside its pieces goes into a new store")
+                    "file; where a clock was set back, or EDFlib wrote a card beside its pieces, a "
+                    "store of its own takes it")
 LEFT_OUT = ("readers may leave out annotations that lie outside of the run; with --by-onset only "
             "those do whose onsets lie in no run")
-NOT_WHOLE = "mend the cause and run it again: what standard output got is not whole"
+NOT_WHOLE = "remove the cause and run it again: what standard output got is not whole"
+NOTHING_LEFT = "remove the cause and run it again: nothing of it is left that could be removed"
+
+# What is wrong with a field, and what is said behind that: by the programs that mend nothing, and
+# by edfmend of E4 and of E5
+NO_SEX = "the second subfield of its patient field is no sex (F, M or X)"
+NO_BIRTHDATE = ("the third subfield of its patient field is no birthdate (dd-MMM-yyyy, in "
+                "capitals, or X)")
+FEW_OF_PATIENT = ("its patient field has fewer than the four subfields code, sex, birthdate and "
+                  "name")
+NO_STARTDATE = "its recording field does not begin with Startdate and a space"
+NO_DATE = "after Startdate its recording field has no date (dd-MMM-yyyy, in capitals) and no X"
+FEW_OF_RECORDING = ("its recording field has fewer than the three subfields investigation, "
+                    "technician and equipment after its date")
+BY_EDFMEND = "edfmend makes it that of EDF+, where it has room"
+NO_ROOM = "the field has no room for what EDF+ wants there, so shorten it in a copy"
+NO_ROOM_OR_DATE = ("the field has no room for what EDF+ wants there and the word mended, or the "
+                   "startdate is no date, so correct that in a copy")
+
+
+def of_field(wrong: str, to_do: str = BY_EDFMEND) -> str:
+    """What is said of a field: what is wrong, and what to do."""
+    return f"{wrong}: {to_do}"
+
+
+# Why edfmend mended nothing
+BY_NAMED = ("the rules that --as names do not mend it, so name others too, or leave --as out; "
+            "where clock is named, a start may be too far from its place")
+KEPT_TIMES = ("a byte of its startdate, starttime or duration is no printable ASCII, and edfmend "
+              "leaves these as they are: correct it in a copy")
+NO_MARK = ("its recording field has no room for the word mended at its end: shorten it to 73 "
+           "characters in a copy")
+NONE_COUNTED = ("its number of data records is no number above 0, and by its header no whole one "
+                "is there: send it again")
+NONE_ADDED = ("its number of signals is not from 2 to 640: annotations alone are no recording, and "
+              "edfmend adds a signal of them only to plain EDF and EDF+C")
+NO_LABEL = ("it has no annotations signal, or nothing else: where a label is EDF Annotations but "
+            "for case or spaces, correct it in a copy; EDF+D without one does not say when its "
+            "data records start")
+NO_PHYSICAL = ("this signal's physical limits are no numbers that eight bytes have exactly, or are "
+               "equal and its digital ones are no better: correct them in a copy")
+NO_DIGITAL = ("this signal's digital limits are no numbers of 16 bits, or are equal: correct them "
+              "in a copy")
+NONE_WHOLE = "no data record of it is whole: send it again"
+NOT_SPELLED = ("annotations of this data record are spelled as no rule mends, or have no room for "
+               "it: have its producer write them as EDF+ has it")
+NO_ROOM_FOR_TEXT = ("an annotation of this data record is no UTF-8, and its block has no room for "
+                    "its letters in UTF-8: shorten it in a copy")
+NAME_THE_RULES = ("the rule clock is for EDF+C, and runs by itself only where this is the first "
+                  "fault: name the rules, as by --as ascii,clock; starts that are half a sample or "
+                  "more from their places are not mended")
+ZEROS = ("only zeros follow the counted data records, as many as one has, or more: cut them off in "
+         "a copy")
+NO_FAULT = "it has no fault: there is nothing to mend"
+COPIED = "it has no fault, and was copied as it is"
 
 
 def cause(path, text: str) -> str:

@@ -1,7 +1,7 @@
 """What the programs print for a person, where standard error is a terminal: causes, what to do
 after a refusal, new stores and how far a reading is.
 
-    python3 -m checks.lines.terminal [--program PATH] [--edfruns PATH]
+    python3 -m checks.lines.terminal [--program PATH] [--edfruns PATH] [--edfmend PATH]
 
 Standard error is a terminal here and standard output is none. It needs sqlite3 (the command).
 """
@@ -12,10 +12,13 @@ import tty
 from dataclasses import replace
 from pathlib import Path
 
-from checks.lib import arguments, edf, faults, measure, printed, runs
-from checks.lib.by_hand import PATIENT, RECORDING, RESERVED, VERSION, field
+from checks.lib import arguments, by_hand, edf, faults, measure, printed, runs
+from checks.lib.by_hand import (COUNT, PATIENT, RECORDING, RESERVED, STARTDATE, STARTTIME, VERSION,
+                                column, field)
 from checks.lib.checks import Checks
-from checks.lib.printed import FOREIGN, KNOWN, NEW, NO_STORE, UNREAD, UNWRITTEN, WIPED, cause, step
+from checks.lib.printed import (FOREIGN, KNOWN, NEW, NO_STORE, UNREAD, UNWRITTEN, WIPED, cause,
+                                of_field, step)
+from checks.mend.run import ALMOST, FULL, GOOD, LONG, PLAIN, identified, in_block
 
 Q, R9 = (edf.small_files()[name] for name in ("Q", "R9"))
 
@@ -82,9 +85,10 @@ def how_far(checks: Checks) -> None:
 def causes(checks: Checks) -> None:
     begun(checks, "why a store is refused")
     (checks.folder / "folder").mkdir()
+    checks.shell("cp s.db one.db; ln one.db two.db")
     for path, why in (("a.edf/s.db", printed.FILE_ON_PATH), ("folder", printed.NO_PLAIN_FILE),
-                      ("/dev/full", printed.NO_PLAIN_FILE), ("a.edf", printed.NO_DATABASE),
-                      ("file:s.db", printed.NO_PATH)):
+                      ("/dev/full", printed.NO_PLAIN_FILE), ("two.db", printed.NO_PLAIN_FILE),
+                      ("a.edf", printed.NO_DATABASE), ("file:s.db", printed.NO_PATH)):
         on_terminal(checks, f"list {path}", err=NO_STORE + cause(path, why), status=3)
     checks.shell("sqlite3 other.db 'CREATE TABLE night (a)'")
     on_terminal(checks, "list other.db", err=FOREIGN + cause("other.db", printed.OTHER_TABLES),
@@ -141,15 +145,18 @@ REFUSED = (
     ("bdf", field(Q, VERSION, b"\xffBIOSEMI"), faults.unprintable(0), printed.IS_BDF),
     ("letters", field(Q, PATIENT, "P7 F 02-MAY-1951 J\xfcrg"), faults.unprintable(26),
      printed.OTHER_LETTERS),
-    ("sex", field(Q, PATIENT, "P7 W 02-MAY-1951 X"), faults.patient(), printed.NO_SEX),
-    ("birthdate", field(Q, PATIENT, "P7 F 02-May-1951 X"), faults.patient(), printed.NO_BIRTHDATE),
-    ("name", field(Q, PATIENT, "P7 F 02-MAY-1951"), faults.patient(), printed.FEW_OF_PATIENT),
-    ("code", field(Q, PATIENT, ""), faults.patient(), printed.FEW_OF_PATIENT),
-    ("startdate", field(Q, RECORDING, "N1 T3 REC5"), faults.recording(), printed.NO_STARTDATE),
+    ("sex", field(Q, PATIENT, "P7 W 02-MAY-1951 X"), faults.patient(), of_field(printed.NO_SEX)),
+    ("birthdate", field(Q, PATIENT, "P7 F 02-May-1951 X"), faults.patient(),
+     of_field(printed.NO_BIRTHDATE)),
+    ("name", field(Q, PATIENT, "P7 F 02-MAY-1951"), faults.patient(),
+     of_field(printed.FEW_OF_PATIENT)),
+    ("code", field(Q, PATIENT, ""), faults.patient(), of_field(printed.FEW_OF_PATIENT)),
+    ("startdate", field(Q, RECORDING, "N1 T3 REC5"), faults.recording(),
+     of_field(printed.NO_STARTDATE)),
     ("month", field(Q, RECORDING, "Startdate 02-Mar-2002 N1 T3 REC5"), faults.recording(),
-     printed.NO_DATE),
+     of_field(printed.NO_DATE)),
     ("equipment", field(Q, RECORDING, "Startdate X N1 T3"), faults.recording(),
-     printed.FEW_OF_RECORDING),
+     of_field(printed.FEW_OF_RECORDING)),
 )
 
 
@@ -162,14 +169,15 @@ def what_to_do(checks: Checks) -> None:
         checks.run("convert", name, err=printed.fault(name, fault), status=1)
     checks.file("plain2", field(Q, RESERVED, ""))
     checks.file("other.edf", Q.replace(b"\x01\x00\xff\xff", b"\x02\x00\xff\xff"))
-    differs = faults.differs("2002-03-02T23:59:50")
+    checks.file("half.edf", by_hand.HALF)
     files = (("plain", faults.not_plus()), ("sex", faults.patient()), ("plain2", faults.not_plus()),
-             ("other.edf", differs))
-    on_terminal(checks, "take s.db plain sex plain2 other.edf",
-                "".join(printed.fault(*one) for one in files),
-                step(1, 4, 0, 1) + "".join(WIPED + step(nth, 4, 0, 1) for nth in (2, 3, 4)) + WIPED
-                + cause("plain", printed.PLAIN) + cause("sex", printed.NO_SEX)
-                + cause("other.edf", printed.STORED_OTHERWISE), status=1)
+             ("other.edf", by_hand.DIFFERS), ("half.edf", by_hand.OVERLAPS))
+    steps = [step(nth, len(files), 0, 1) for nth in range(1, len(files) + 1)]
+    on_terminal(checks, f"take s.db {' '.join(name for name, _ in files)}",
+                "".join(printed.fault(*one) for one in files), WIPED.join(steps) + WIPED
+                + cause("plain", printed.PLAIN) + cause("sex", of_field(printed.NO_SEX))
+                + cause("other.edf", printed.STORED_OTHERWISE)
+                + cause("half.edf", printed.OVERLAPS), status=1)
     on_terminal(checks, "export s.db 1", status=3, into=Path("/dev/full"),
                 err=cause("/dev/full", printed.FULL) + printed.fault("export", faults.write())
                 + cause("export", printed.NOT_WHOLE))
@@ -184,10 +192,15 @@ def files_of_runs(checks: Checks) -> None:
     on_terminal(checks, "split a.edf part", runs.split_lines("part", made), first + WIPED + second
                 + WIPED)
     checks.same("the files", checks.names(), sorted(["a.edf", *runs.split_names("part", made)]))
+    checks.begin("a file of that name is there")
+    checks.file("a.edf", R9)
+    checks.file("part-1.edf", b"mine")
+    on_terminal(checks, "split a.edf part", status=1, err=first + WIPED
+                + printed.is_there("part-1.edf") + cause("part-1.edf", printed.TAKEN))
     checks.begin("a part is there")
     checks.file("a.edf", R9)
     checks.file("part-2.edf.part", b"mine")
-    unwritten = printed.line("part-2.edf", UNWRITTEN) + cause("part-2.edf", printed.NOT_WHOLE)
+    unwritten = printed.line("part-2.edf", UNWRITTEN) + cause("part-2.edf", printed.NOTHING_LEFT)
     on_terminal(checks, "split a.edf part", status=3, err=first + WIPED + second + WIPED
                 + cause("part-2.edf.part", printed.THERE) + unwritten)
     checks.same("the files", checks.names(), ["a.edf", "part-2.edf.part"])
@@ -240,18 +253,96 @@ def read_again(checks: Checks) -> None:
                 on_terminal(checks, command, status=3, err=below if size else above)
 
 
+BOTH_READ = "".join(step(nth, 2, 0, 1, "reading") + WIPED for nth in (1, 2))
+ROUNDED = in_block(1, b"+1\x14", b"+0.9\x14")(GOOD)
+ONE_SIGNAL = edf.fragment(edf.Header((edf.Signal(),)), [(by_hand.SAMPLES, [])])
+# Files that edfmend does not mend by all its rules
+UNMENDED = (
+    ("bdf", field(GOOD, VERSION, b"\xffBIOSEMI"), faults.unprintable(0), printed.IS_BDF),
+    ("time", field(GOOD, STARTTIME, b"23.59.5\xb0"), faults.unprintable(183), printed.KEPT_TIMES),
+    ("hour", field(GOOD, STARTTIME, "24.00.00"), faults.starttime(), printed.NO_TIME),
+    ("birthdate", identified(f"P7 F 03.03.1961 {LONG}abcde", FULL), faults.patient(),
+     of_field(printed.NO_BIRTHDATE, printed.NO_ROOM)),
+    ("startdate", field(field(GOOD, RECORDING, "Night 1"), STARTDATE, "32.13.02"),
+     faults.recording(), of_field(printed.NO_STARTDATE, printed.NO_ROOM_OR_DATE)),
+    ("mark", field(identified("P7 F 02-MAY-1951 X", f"{FULL}b"), COUNT, "7"), faults.recording(),
+     printed.NO_MARK),
+    ("count", field(GOOD, COUNT, "0")[:1024], faults.count(), printed.NONE_COUNTED),
+    ("one", ONE_SIGNAL, faults.signals(), printed.NONE_ADDED),
+    ("label", ALMOST, faults.annotations(), printed.NO_LABEL),
+    ("physical", column(GOOD, by_hand.LOW, 1, "-1e-12"), faults.physical(1), printed.NO_PHYSICAL),
+    ("digital", column(GOOD, by_hand.DIGITAL_LOW, 2, "-8388608"), faults.digital(2),
+     printed.NO_DIGITAL),
+    ("cut", GOOD[:1030], faults.cut_record(1), printed.NONE_WHOLE),
+    ("list", in_block(0, b"Snore\x14", b"Snore")(GOOD), faults.tal(1, 5), printed.NOT_SPELLED),
+    ("text", in_block(0, b"Snore", b"\xf6" * 20)(GOOD), faults.text(1, 10),
+     printed.NO_ROOM_FOR_TEXT),
+    ("order", column(ROUNDED, by_hand.DIMENSION, 1, b"\xb5V"), faults.order(2),
+     printed.NAME_THE_RULES),
+    ("zeros", GOOD.ljust(4096, b"\0"), faults.trailing(), printed.ZEROS),
+)
+# Files that it does not mend by these rules
+UNMENDED_BY = (
+    ("sex", "ascii", field(GOOD, PATIENT, "P7 W 02-MAY-1951 X"), faults.patient(),
+     of_field(printed.NO_SEX, printed.BY_NAMED)),
+    ("plain", "patient,count", PLAIN, faults.not_plus(), printed.BY_NAMED),
+    ("hour", "ascii", field(GOOD, STARTTIME, "24.00.00"), faults.starttime(), printed.NO_TIME),
+    ("far", "ascii,clock", column(in_block(1, b"+1\x14", b"+1.5\x14")(GOOD), by_hand.DIMENSION, 1,
+                                  b"\xb5V"), faults.unprintable_signals(544), printed.BY_NAMED),
+)
+
+
+def why_not_mended(checks: Checks) -> None:
+    """What edfmend prints below a refusal: never that edfmend mends it."""
+    checks.begin("why a file is not mended")
+    for name, data, fault, words in UNMENDED:
+        checks.file(name, data)
+        on_terminal(checks, f"{name} --dry-run", status=1,
+                    err=BOTH_READ + printed.fault(name, fault) + cause(name, words))
+    checks.begin("why it is not mended by the rules that were named")
+    for name, rules, data, fault, words in UNMENDED_BY:
+        checks.file(name, data)
+        on_terminal(checks, f"{name} --dry-run --as {rules}", status=1,
+                    err=BOTH_READ + printed.fault(name, fault) + cause(name, words))
+
+
+def mended_files(checks: Checks) -> None:
+    """What edfmend prints of a file that it makes, of one that needs nothing, and why it can't make
+    one."""
+    checks.begin("a file without a fault")
+    checks.file("a.edf", GOOD)
+    on_terminal(checks, "a.edf --dry-run", err=BOTH_READ + cause("a.edf", printed.NO_FAULT))
+    on_terminal(checks, "a.edf b.edf", err=BOTH_READ + cause("a.edf", printed.COPIED))
+    checks.begin("a file with a fault")
+    checks.file("a.edf", field(GOOD, COUNT, "7"))
+    ledger = checks.program.ran("a.edf", "--dry-run").out
+    on_terminal(checks, "a.edf --dry-run", ledger, BOTH_READ)
+    on_terminal(checks, "a.edf b.edf", ledger, BOTH_READ)
+    on_terminal(checks, "a.edf b.edf", status=1,
+                err=printed.is_there("b.edf") + cause("b.edf", printed.TAKEN))
+    checks.file("c.edf.part", b"mine")
+    for name, part, why in (("c.edf", "c.edf.part", printed.THERE),
+                            ("none/export", "none/export.part", printed.NO_FILE)):
+        on_terminal(checks, f"a.edf {name}", status=3,
+                    err=step(1, 2, 0, 1, "reading") + WIPED + cause(part, why)
+                    + printed.line(name, UNWRITTEN) + cause(name, printed.NOTHING_LEFT))
+    checks.same("the files", checks.names(), ["a.edf", "b.edf", "c.edf.part"])
+
+
 def main() -> None:
-    given = arguments.Parser(__doc__, arguments.BOTH).read()
+    given = arguments.Parser(__doc__, ("edfstore", "edfruns", "edfmend")).read()
     measure.need("bash", "sqlite3")
     with measure.scratch() as name:
         checks = Checks(given.program, Path(name))
         for case in (new_stores, how_far, causes, unread_files, what_to_do):
             case(checks)
-        of_runs = Checks(given.edfruns, Path(name), "edfruns")
-        of_runs.done, of_runs.failed = checks.done, checks.failed
+        checks.program, checks.name = replace(checks.program, path=given.edfruns), "edfruns"
         for case in (files_of_runs, outside_of_runs, read_again):
-            case(of_runs)
-    of_runs.end()
+            case(checks)
+        checks.program, checks.name = replace(checks.program, path=given.edfmend), "edfmend"
+        for case in (why_not_mended, mended_files):
+            case(checks)
+    checks.end()
 
 
 if __name__ == "__main__":

@@ -73,7 +73,10 @@ fn on_signals(number: u8) -> Option<&'static str> {
 /// What to do after a refusal of a file's data records, by its number.
 fn on_records(number: u8) -> Option<&'static str> {
     match number {
-        21 => Some("it ends within a data record, so it was cut: send it again"),
+        21 => Some(
+            "it was cut, or its count is too high: send it again, or edfmend makes its count what \
+            is there, where a data record is whole",
+        ),
         22 => Some(
             "annotations of this data record are not spelled as EDF+ has it, from there on: \
             edfmend mends times finer than a nanosecond, and what fills a block",
@@ -100,20 +103,29 @@ fn on_others(number: u8) -> Option<&'static str> {
     match number {
         30 => Some(
             "it overlaps what is stored, which stays, as where a clock was set back: keep the \
-            file, and tell a person",
+            file; a store of its own takes it",
         ),
         31 => Some(
-            "other samples or annotations are stored for this start, and stay: keep the file; a \
-            card that EDFlib wrote beside its pieces goes into a new store",
+            "other samples or annotations are stored for this start, and stay: keep the file; \
+            where a clock was set back, or EDFlib wrote a card beside its pieces, a store of its \
+            own takes it",
         ),
         32 => Some("its recording is full: begin another store"),
         41 => Some("run it again with more memory: what standard output got may not be whole"),
-        43 => Some("mend the cause and run it again: what standard output got is not whole"),
         _ => None,
     }
 }
 
-/// What to do after the refusal of that number.
+/// What to do after a failed write, to a new file or else to a stream.
+pub(crate) fn on_unwritten(is_new_file: bool) -> &'static str {
+    if is_new_file {
+        "remove the cause and run it again: nothing of it is left that could be removed"
+    } else {
+        "remove the cause and run it again: what standard output got is not whole"
+    }
+}
+
+/// What to do after the refusal of that number, which is not 43.
 pub(crate) fn advice(number: u8) -> Option<&'static str> {
     match number {
         0..=13 => on_header(number),

@@ -22,7 +22,7 @@ fn system_words(error: &io::Error) -> Option<&'static str> {
         ErrorKind::AlreadyExists => Some("it is there already"),
         ErrorKind::BrokenPipe => Some("what reads it has ended"),
         ErrorKind::Unsupported | ErrorKind::IsADirectory => Some(
-            "not a plain file, but a directory, a device or a linked file",
+            "not a plain file, but a directory, a device or a file with a second hard link",
         ),
         _ => None,
     }

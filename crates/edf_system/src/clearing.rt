@@ -9,7 +9,7 @@ use std::io::{self, Write};
 const LONGEST: usize = 8_192;
 
 /// A standard stream that erases the line of progress before it writes, and prints what to do below
-/// each line that tells a refusal, or annotations outside of their run.
+/// each line that tells a refusal, a name that is taken, or annotations outside of their run.
 #[derive(Drop)]
 pub struct Clearing<'t, W> {
     rt: &'t HostRuntime,
@@ -78,6 +78,9 @@ impl<W: Write> Write for Clearing<'_, W> {
         self.terminal.wipe_progress();
         match self.stream.write(buf) {
             Ok(count) => {
+                if self.is_output && count != 0 {
+                    self.terminal.note_output();
+                }
                 if self.line.is_some() {
                     for byte in &buf[..count] {
                         self.note(*byte);

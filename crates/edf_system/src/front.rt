@@ -1,6 +1,6 @@
 //! What the first fields of a refused file's header tell, in words for a person.
 
-use edf_field::next_subfield;
+use edf_field::{next_subfield, read_recording};
 use edf_time::id_date;
 use std::fs::{self, File};
 use std::io::Read;
@@ -29,23 +29,20 @@ const IS_NO_EDF: &str = "its first bytes are not those of EDF: it has another fo
     damaged";
 
 const FEW_OF_PATIENT: &str = "its patient field has fewer than the four subfields code, sex, \
-    birthdate and name: edfmend makes it that of EDF+, where it has room";
+    birthdate and name";
 
-const NO_SEX: &str = "the second subfield of its patient field is no sex (F, M or X): edfmend \
-    makes it that of EDF+, where it has room";
+const NO_SEX: &str = "the second subfield of its patient field is no sex (F, M or X)";
 
 const NO_BIRTHDATE: &str = "the third subfield of its patient field is no birthdate (dd-MMM-yyyy, \
-    in capitals, or X): edfmend makes it that of EDF+, where it has room";
+    in capitals, or X)";
 
-const NO_STARTDATE: &str = "its recording field does not begin with Startdate and a space: edfmend \
-    makes it that of EDF+, where it has room";
+const NO_STARTDATE: &str = "its recording field does not begin with Startdate and a space";
 
 const NO_DATE: &str = "after Startdate its recording field has no date (dd-MMM-yyyy, in capitals) \
-    and no X: edfmend makes it that of EDF+, where it has room";
+    and no X";
 
 const FEW_OF_RECORDING: &str = "its recording field has fewer than the three subfields \
-    investigation, technician and equipment after its date: edfmend makes it that of EDF+, where \
-    it has room";
+    investigation, technician and equipment after its date";
 
 /// The front of a plain file.
 fn front_of(rt: &HostRuntime, name: &str) -> Option<[u8; FRONT]> {
@@ -97,16 +94,25 @@ fn on_patient(field: &[u8]) -> Option<&'static str> {
     }
 }
 
-/// Why a field is no recording identification, where it is one of 80 bytes.
-fn on_recording(field: &[u8]) -> &'static str {
+/// Why a field of 80 bytes is no recording identification, where it is none.
+fn on_recording(field: &[u8]) -> Option<&'static str> {
+    if field.len() == 80 && read_recording(field).is_some() {
+        return None;
+    }
     match field.strip_prefix(b"Startdate ".as_slice()) {
-        None => NO_STARTDATE,
-        Some([b'X', ..]) => FEW_OF_RECORDING,
+        None => Some(NO_STARTDATE),
+        Some([b'X', ..]) => Some(FEW_OF_RECORDING),
         Some(rest) => match rest.split_at_checked(11) {
-            Some((date, _)) if id_date(date).is_some() => FEW_OF_RECORDING,
-            _ => NO_DATE,
+            Some((date, _)) if id_date(date).is_some() => Some(FEW_OF_RECORDING),
+            _ => Some(NO_DATE),
         },
     }
+}
+
+/// Whether a refusal of that number is one of the patient field or the recording field, of which
+/// the front tells what is wrong, and not what to do.
+pub(crate) fn has_field(number: u8) -> bool {
+    matches!(number, 4 | 5)
 }
 
 /// What the front of a refused file tells of its refusal, by that one's number, where it tells more
@@ -119,7 +125,7 @@ pub(crate) fn told_by_front(rt: &HostRuntime, name: &str, number: u8) -> Option<
     match number {
         2 | 3 => on_format(&front),
         4 => on_patient(&front[8..88]),
-        5 => Some(on_recording(&front[88..168])),
+        5 => on_recording(&front[88..168]),
         _ => None,
     }
 }

@@ -7,8 +7,8 @@
 //! - [`NewFiles`]: what makes files, of which none is written over; [`NewFile`]: its writers.
 //! - [`Streams`]: standard output and standard error.
 //! - [`Terminal`]: progress and messages, where standard error is a terminal; [`Clearing`]: a
-//!   stream beside it, which explains the refusals among its lines. [`tell_system_error`],
-//!   [`FULL`]: causes in plain words.
+//!   stream beside it, which explains the refusals among its lines. [`Mending`]: what its program
+//!   mends. [`tell_system_error`], [`FULL`]: causes in plain words.
 #![tactic(auto)]
 
 mod advice;
@@ -17,6 +17,7 @@ mod clearing;
 mod explain;
 mod files;
 mod front;
+mod mending;
 mod new_files;
 mod program;
 mod streams;
@@ -25,6 +26,7 @@ mod terminal;
 pub use cause::{FULL, tell_system_error};
 pub use clearing::Clearing;
 pub use files::{FileReader, Files};
+pub use mending::Mending;
 pub use new_files::{NewFile, NewFiles};
 pub use program::{Program, run_program, run_words};
 pub use streams::{Streams, refuse_words, words};

@@ -2,6 +2,7 @@
 //!
 //! Messages are lines; progress is one overwritten line, erased before other output.
 
+use crate::mending::Mending;
 use std::cell::Cell;
 use std::fmt::Display;
 use std::io::IsTerminal;
@@ -21,6 +22,8 @@ pub struct Terminal<'rt> {
     /// progress is shown.
     unit: &'static str,
     units: usize,
+    /// What the program mends of the files that it refuses.
+    mending: Mending,
     begun: Cell<usize>,
     /// How many bytes of the file were read that was begun last, and how many it has, where that is
     /// known.
@@ -29,44 +32,57 @@ pub struct Terminal<'rt> {
     is_progress_shown: Cell<bool>,
     /// Whether it was printed why a file could not be read.
     is_unread_told: Cell<bool>,
+    /// Whether something was written to standard output.
+    is_output_begun: Cell<bool>,
     /// The numbers of the refusals that were explained, a bit each.
     explained: Cell<u64>,
 }
 
 impl<'rt> Terminal<'rt> {
-    /// A terminal that shows the progress of reading `units` files or whatever else `unit` names,
-    /// if there are any.
-    pub fn new(rt: &'rt HostRuntime, unit: &'static str, units: usize) -> Terminal<'rt> {
-        let is_there = rt.stderr().is_terminal();
+    /// One that shows the progress of reading so many units, if a person is there.
+    fn of(
+        rt: &'rt HostRuntime,
+        is_there: bool,
+        unit: &'static str,
+        units: usize,
+        mending: Mending,
+    ) -> Terminal<'rt> {
         Terminal {
             rt,
             is_there,
             unit,
             units: if is_there { units } else { 0 },
+            mending,
             begun: Cell::new(0),
             bytes: Cell::new(0),
             size: Cell::new(None),
             is_progress_shown: Cell::new(false),
             is_unread_told: Cell::new(false),
+            is_output_begun: Cell::new(false),
             explained: Cell::new(0),
         }
+    }
+
+    /// A terminal that shows the progress of reading `units` files or whatever else `unit` names,
+    /// if there are any.
+    pub fn new(rt: &'rt HostRuntime, unit: &'static str, units: usize) -> Terminal<'rt> {
+        Terminal::of_mender(rt, unit, units, Mending::Nothing)
+    }
+
+    /// The same, of a program that mends files.
+    pub fn of_mender(
+        rt: &'rt HostRuntime,
+        unit: &'static str,
+        units: usize,
+        mending: Mending,
+    ) -> Terminal<'rt> {
+        Terminal::of(rt, rt.stderr().is_terminal(), unit, units, mending)
     }
 
     /// Standard error as a journal keeps it, whether it is a terminal or not: it gets messages, and
     /// no progress.
     pub fn journal(rt: &'rt HostRuntime) -> Terminal<'rt> {
-        Terminal {
-            rt,
-            is_there: true,
-            unit: "file",
-            units: 0,
-            begun: Cell::new(0),
-            bytes: Cell::new(0),
-            size: Cell::new(None),
-            is_progress_shown: Cell::new(false),
-            is_unread_told: Cell::new(false),
-            explained: Cell::new(0),
-        }
+        Terminal::of(rt, true, "file", 0, Mending::Nothing)
     }
 
     /// Whether a person reads what is printed.
@@ -81,6 +97,29 @@ impl<'rt> Terminal<'rt> {
             self.wipe_progress();
             let _ = eprintln!(self.rt; "{name}: {words}");
         }
+    }
+
+    /// The same in two parts: what is wrong, and what to do.
+    pub(crate) fn say_both(&self, name: &str, wrong: &str, to_do: &str) {
+        if self.is_there {
+            self.wipe_progress();
+            let _ = eprintln!(self.rt; "{name}: {wrong}: {to_do}");
+        }
+    }
+
+    /// What the program mends of the files that it refuses.
+    pub(crate) fn mending(&self) -> Mending {
+        self.mending
+    }
+
+    /// Keeps that something was written to standard output.
+    pub(crate) fn note_output(&self) {
+        self.is_output_begun.set(true);
+    }
+
+    /// Whether something was written to standard output.
+    pub fn is_output_begun(&self) -> bool {
+        self.is_output_begun.get()
     }
 
     /// Keeps that it was printed why a file could not be read.

@@ -6,7 +6,7 @@ mod new_file;
 
 use edf_fragment::Output;
 use edf_program::Status;
-use edf_system::{Files, NewFiles, Program, Streams, Terminal, run_program};
+use edf_system::{Files, Mending, NewFiles, Program, Streams, Terminal, run_program};
 use edfmend_command::{MendCommand, read_command, run_mend};
 use new_file::MendedFiles;
 use std::alloc::Global;
@@ -14,6 +14,23 @@ use std::process::ExitCode;
 
 /// How often a file is read.
 const READINGS: usize = 2;
+
+/// What is said of a file without a fault.
+fn told_of_good(command: &MendCommand) -> &'static str {
+    match &command.output {
+        Some(_) => "it has no fault, and was copied as it is",
+        None => "it has no fault: there is nothing to mend",
+    }
+}
+
+/// By which rules a command mends.
+fn mending_of(command: &MendCommand) -> Mending {
+    if command.rules.is_empty() {
+        Mending::ByAll
+    } else {
+        Mending::ByNamed
+    }
+}
 
 /// Runs a command over the system's files and streams.
 fn run_over(
@@ -49,12 +66,15 @@ impl Program for Edfmend {
     }
 
     fn run(rt: &HostRuntime, command: &MendCommand) -> Status {
-        let terminal = Terminal::new(rt, "reading", READINGS);
+        let terminal = Terminal::of_mender(rt, "reading", READINGS, mending_of(command));
         let mut streams = Streams::new(rt, &terminal);
         let mut inputs = Files::new(rt, &terminal);
         let mut maker = MendedFiles::new(rt.alloc(), NewFiles::new(rt, &terminal));
         let status = run_over(rt, command, &mut inputs, &mut maker, &mut streams);
         terminal.wipe_progress();
+        if status == Status::Done && !terminal.is_output_begun() {
+            terminal.say(command.input.as_str(), told_of_good(command));
+        }
         status
     }
 }
