@@ -195,7 +195,7 @@ STORED_OTHERWISE = ("other samples or annotations are stored for this start, and
 LEFT_OUT = ("readers may leave out annotations that lie outside of the run; with --by-onset only "
             "those do whose onsets lie in no run")
 NOT_WHOLE = "remove the cause and run it again: what standard output got is not whole"
-NOTHING_LEFT = "remove the cause and run it again: nothing of it is left that could be removed"
+NOTHING_LEFT = "remove the cause and run it again: no part of it is left, unless a line says so"
 
 # What is wrong with a field, and what is said behind that: by the programs that mend nothing, and
 # by edfmend of E4 and of E5

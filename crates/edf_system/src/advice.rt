@@ -119,7 +119,7 @@ fn on_others(number: u8) -> Option<&'static str> {
 /// What to do after a failed write, to a new file or else to a stream.
 pub(crate) fn on_unwritten(is_new_file: bool) -> &'static str {
     if is_new_file {
-        "remove the cause and run it again: nothing of it is left that could be removed"
+        "remove the cause and run it again: no part of it is left, unless a line says so"
     } else {
         "remove the cause and run it again: what standard output got is not whole"
     }
