@@ -9,3 +9,4 @@ pub mod Accepted
 pub mod Good
 pub mod Surveyed
 pub mod Further
+pub mod Unchanged

@@ -1,3 +1,4 @@
 pub mod Timed
 pub mod Steps
 pub mod Faults
+pub mod Whole

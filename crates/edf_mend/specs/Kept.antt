@@ -9,6 +9,6 @@ use Rattle.edf_mend.specs.Signals.{KeepsSignals}
 
 -- its mark of EDF+, and its signals; and each step changes only what its rule is for
 pub record KeepsHeader (added : ℕ) (steps : List RuleEdits) (before after : List ℕ) : Type 0 where
-  pub mark : KeepsMark before after
+  pub mark : KeepsMark added before after
   pub signals : KeepsSignals added before after
   pub fields : All (IsOfRule (whole_value (signals_field before))) steps

@@ -1,6 +1,7 @@
 -- Which fields of a header a rule may change.
-use Rattle.std.specs.Prelude.{◌≡◌, ◌⊎◌, ℕ, ◌+◌, ◌*◌, ◌≤◌, [], length, All}
-use Rattle.edf_field.specs.Text.{IsPrintable}
+use Rattle.std.specs.Prelude.{◌≡◌, ◌⊎◌, ℕ, ◌+◌, ◌*◌, ◌≤◌, List, [], ◌∷◌, ◌++◌, length, All, codes}
+use Rattle.std.specs.Prelude.{ℤ, Option}
+use Rattle.edf_field.specs.Text.{subfields, IsPrintable, IsRecording}
 use Rattle.edf_mend.specs.Edits.{Edit, RuleEdits}
 use Rattle.edf_mend.specs.declared.rule.Rule.{Rule}
 use Rattle.edf_mend.specs.declared.rule.Rule.TheVariants.{Ascii, Patient, Recording, Physical}
@@ -26,13 +27,32 @@ pub record IsTransliterated (e : Edit) : Type 0 where
   pub short : length e.old ≤ 80
   pub same_len : length e.new ≡ length e.old
 
+-- the recording field changes, which was no recording identification
+pub record MendsRecording (e : Edit) : Type 0 where
+  pub field : IsField 88 80 e
+  pub wrong : (startdate : Option ℤ) (after : List ℕ) → ¬ IsRecording e.old startdate after
+
+-- `mended` comes after the first subfields that a text had, five or more of them; those behind them,
+-- if any, are dropped, so that there is room for it
+pub record SaysMendedToo (old new : List ℕ) : Type 0 where
+  pub kept : List (List ℕ)
+  pub dropped : List (List ℕ)
+  pub before : subfields old ≡ kept ++ dropped
+  pub five : 5 ≤ length kept
+  pub after : subfields new ≡ kept ++ codes "mended" ∷ []
+
+-- so does the recording field
+pub record MarksRecording (e : Edit) : Type 0 where
+  pub field : IsField 88 80 e
+  pub says : SaysMendedToo e.old e.new
+
 -- what a rule may change in a header of n signals: the field that it is for; `physical` dimensions
 -- and physical limits; `digital` both pairs of limits; `annotations` these too, and it may add a
 -- signal; `plain` the reserved field, and it may add a signal
 abbrev pub MayChange : Rule → ℕ → Edit → Type 0
 MayChange Ascii n e = IsTransliterated e
 MayChange Patient n e = IsField 8 80 e
-MayChange Recording n e = IsField 88 80 e
+MayChange Recording n e = MendsRecording e
 MayChange Physical n e = IsInColumns n 96 120 e
 MayChange Digital n e = IsInColumns n 104 136 e
 MayChange Annotations n e = IsInColumns n 104 136 e ⊎ AddsSignal e
@@ -40,7 +60,7 @@ MayChange Plain n e = IsField 192 44 e ⊎ AddsSignal e
 MayChange Count n e = IsField 236 8 e
 MayChange Texts n e = ⊥
 MayChange Clock n e = ⊥
-MayChange Mended n e = IsField 88 80 e
+MayChange Mended n e = MarksRecording e
 
 -- a rule changes nothing else
 abbrev pub IsOfRule : ℕ → RuleEdits → Type 0

@@ -1,8 +1,8 @@
 -- No signal of a header becomes another.
-use Rattle.std.specs.Prelude.{◌≡◌, ◌⊎◌, ℕ, ◌+◌, ◌*◌, ◌<◌, ◌&&◌, nat_lt, List, length, take, codes}
-use Rattle.std.specs.Prelude.{Bool}
+use Rattle.std.specs.Prelude.{◌≡◌, ◌⊎◌, ℕ, ◌+◌, ◌*◌, ◌<◌, ◌&&◌, nat_lt, List, length, take, drop}
+use Rattle.std.specs.Prelude.{Bool, codes}
 use Rattle.std.specs.List.{prefix_len}
-use Rattle.edf_field.specs.Number.{field, digits, IsNumber, IsPhysical, Differ}
+use Rattle.edf_field.specs.Number.{field, digits, IsNumber, IsPhysical, Differ, AreSpaces}
 use Rattle.edf_header.specs.Fields.{signals_field}
 
 -- a field of signal i of n, counted from 0. `at` is where it is in a row of 256 bytes, and `width`
@@ -17,44 +17,62 @@ is_printable b = nat_lt 31 b && nat_lt b 127
 abbrev pub printable_len : List ℕ → ℕ
 printable_len text = prefix_len is_printable text
 
+-- these bytes
+abbrev pub front_of : List ℕ → List ℕ
+front_of text = take (printable_len text) text
+
 -- a text stays up to its first byte that is not printable; so all of it, where each is
 abbrev pub KeepsText : List ℕ → List ℕ → Type 0
 KeepsText before after =
     take (printable_len before) after ≡ take (printable_len before) before
 
+-- a number stays: its text does, and only spaces come after that
+pub record KeepsNumber (before after : List ℕ) : Type 0 where
+  pub text : KeepsText before after
+  pub rest : AreSpaces (drop (printable_len before) after)
+
+-- the label of an annotations signal, or all of it before a byte that is not printable
+abbrev pub NamesAnnotations : List ℕ → Type 0
+NamesAnnotations label = (label ≡ codes "EDF Annotations ")
+    ⊎ (front_of label ≡ codes "EDF Annotations")
+
 -- the label of an annotations signal stays; and no other becomes one, but for a label that is one
 -- up to its last byte
 pub record KeepsLabel (before after : List ℕ) : Type 0 where
   pub text : KeepsText before after
-  pub annotations : before ≡ codes "EDF Annotations " → after ≡ codes "EDF Annotations "
+  pub annotations : NamesAnnotations before → after ≡ codes "EDF Annotations "
   pub ordinary : after ≡ codes "EDF Annotations " → take 15 before ≡ codes "EDF Annotations"
 
 -- signal i of n is no annotations signal
 abbrev pub IsOrdinaryAt : List ℕ → ℕ → ℕ → Type 0
-IsOrdinaryAt header n i = ¬ (cell header n i 0 16 ≡ codes "EDF Annotations ")
+IsOrdinaryAt header n i = ¬ NamesAnnotations (cell header n i 0 16)
 
--- its physical limits, at 104 and 112 of its row, are numbers that differ
+-- two texts are numbers that differ, each up to its first byte that is not printable
+abbrev pub FrontsDiffer : List ℕ → List ℕ → Type 0
+FrontsDiffer low high = IsPhysical (front_of low) × IsPhysical (front_of high)
+    × Differ (front_of low) (front_of high)
+
+-- the physical limits of a signal, at 104 and 112 of its row, are
 abbrev pub HasLimits : List ℕ → ℕ → ℕ → Type 0
-HasLimits header n i = IsPhysical (cell header n i 104 8) × IsPhysical (cell header n i 112 8)
-    × Differ (cell header n i 104 8) (cell header n i 112 8)
+HasLimits header n i = FrontsDiffer (cell header n i 104 8) (cell header n i 112 8)
 
 -- the digital limits, at 120 and 128, stay in their places, or change them
 abbrev pub KeepsDigital : List ℕ → ℕ → List ℕ → ℕ → ℕ → Type 0
-KeepsDigital before n after m i = KeepsText (cell before n i 120 8) (cell after m i 120 8)
-    × KeepsText (cell before n i 128 8) (cell after m i 128 8)
+KeepsDigital before n after m i = KeepsNumber (cell before n i 120 8) (cell after m i 120 8)
+    × KeepsNumber (cell before n i 128 8) (cell after m i 128 8)
 
 abbrev pub SwapsDigital : List ℕ → ℕ → List ℕ → ℕ → ℕ → Type 0
-SwapsDigital before n after m i = KeepsText (cell before n i 120 8) (cell after m i 128 8)
-    × KeepsText (cell before n i 128 8) (cell after m i 120 8)
+SwapsDigital before n after m i = KeepsNumber (cell before n i 120 8) (cell after m i 128 8)
+    × KeepsNumber (cell before n i 128 8) (cell after m i 120 8)
 
--- the same of the physical ones, byte by byte
+-- the same of the physical ones
 abbrev pub KeepsPhysical : List ℕ → ℕ → List ℕ → ℕ → ℕ → Type 0
-KeepsPhysical before n after m i = (cell after m i 104 8 ≡ cell before n i 104 8)
-    × (cell after m i 112 8 ≡ cell before n i 112 8)
+KeepsPhysical before n after m i = KeepsNumber (cell before n i 104 8) (cell after m i 104 8)
+    × KeepsNumber (cell before n i 112 8) (cell after m i 112 8)
 
 abbrev pub SwapsPhysical : List ℕ → ℕ → List ℕ → ℕ → ℕ → Type 0
-SwapsPhysical before n after m i = (cell after m i 112 8 ≡ cell before n i 104 8)
-    × (cell after m i 104 8 ≡ cell before n i 112 8)
+SwapsPhysical before n after m i = KeepsNumber (cell before n i 104 8) (cell after m i 112 8)
+    × KeepsNumber (cell before n i 112 8) (cell after m i 104 8)
 
 -- the mapping of digital to physical values stays: both pairs of limits as they were, or both
 -- swapped. Where the physical ones before were equal or no numbers of EDF, there was no mapping
@@ -64,11 +82,25 @@ pub record KeepsMapping (before : List ℕ) (n : ℕ) (after : List ℕ) (m i : 
       (KeepsPhysical before n after m i × KeepsDigital before n after m i)
       ⊎ (SwapsPhysical before n after m i × SwapsDigital before n after m i)
 
--- signal i of n keeps its label, its number of samples in a data record, and, where it is ordinary,
--- its mapping, as the ith of m
+-- the dimension of a signal stays; or it is left out, where there was no mapping to its values
+abbrev pub KeepsDimension : List ℕ → ℕ → List ℕ → ℕ → ℕ → Type 0
+KeepsDimension before n after m i = KeepsText (cell before n i 96 8) (cell after m i 96 8)
+    ⊎ ((HasLimits before n i → ⊥) × AreSpaces (cell after m i 96 8))
+
+-- what a signal says of itself in words stays: its transducer, dimension, prefiltering and reserved
+-- field
+pub record KeepsWords (before : List ℕ) (n : ℕ) (after : List ℕ) (m i : ℕ) : Type 0 where
+  pub transducer : KeepsText (cell before n i 16 80) (cell after m i 16 80)
+  pub dimension : KeepsDimension before n after m i
+  pub prefiltering : KeepsText (cell before n i 136 80) (cell after m i 136 80)
+  pub reserved : KeepsText (cell before n i 224 32) (cell after m i 224 32)
+
+-- signal i of n keeps its label, its number of samples in a data record, its words, and, where it
+-- is ordinary, its mapping, as the ith of m
 pub record KeepsSignal (before : List ℕ) (n : ℕ) (after : List ℕ) (m i : ℕ) : Type 0 where
   pub label : KeepsLabel (cell before n i 0 16) (cell after m i 0 16)
   pub samples : digits (cell after m i 216 8) ≡ digits (cell before n i 216 8)
+  pub words : KeepsWords before n after m i
   pub mapping : IsOrdinaryAt after m i → KeepsMapping before n after m i
 
 -- the header before is as long as its own number of signals says. Each of its signals is in its

@@ -33,6 +33,7 @@ mod saying;
 mod signals;
 mod surveying;
 mod texts;
+mod words;
 
 pub use change::Change;
 pub use fault::MendFault;

@@ -1,13 +1,14 @@
 //! The limits of a signal before and after a header was mended.
 
-ghost use Rattle.std.specs.Prelude.{◌≡◌, ◌⊎◌, IsTrue};
-ghost use Rattle.edf_mend.specs.Signals.{cell, KeepsText, HasLimits, KeepsDigital, SwapsDigital};
-ghost use Rattle.edf_mend.specs.Signals.{KeepsPhysical, SwapsPhysical, KeepsMapping, IsOrdinaryAt};
+ghost use Rattle.std.specs.Prelude.{◌≡◌, ◌⊎◌, length, IsTrue};
+ghost use Rattle.edf_mend.specs.Signals.{cell, KeepsNumber, FrontsDiffer, HasLimits, KeepsDigital};
+ghost use Rattle.edf_mend.specs.Signals.{SwapsDigital, KeepsPhysical, SwapsPhysical, KeepsMapping};
+ghost use Rattle.edf_mend.specs.Signals.{IsOrdinaryAt};
 
-use crate::signals::{cell, is_annotations, keeps_text};
+use crate::signals::{cell, front_of, is_annotations, keeps_number};
 use edf_field::physical_values_differ;
 
-/// Whether the field of eight bytes at `old` of a signal's row is now the one at `new`.
+/// Whether the number in the field of eight bytes at `old` of a signal's row is now the one at `new`.
 fn is_moved(
     before: &[u8],
     n: usize,
@@ -17,28 +18,10 @@ fn is_moved(
     new: usize,
     i: usize,
 ) -> bool
-    ensures { IsTrue result → cell after.now m i new 8 ≡ cell before.now n i old 8 }
+    ensures { IsTrue result → KeepsNumber (cell before.now n i old 8) (cell after.now m i new 8) }
 {
     match (cell(before, n, i, old, 8), cell(after, m, i, new, 8)) {
-        (Some(before), Some(after)) => after == before,
-        _ => false,
-    }
-}
-
-/// The same up to its first byte that is not printable.
-fn is_moved_text(
-    before: &[u8],
-    n: usize,
-    old: usize,
-    after: &[u8],
-    m: usize,
-    new: usize,
-    i: usize,
-) -> bool
-    ensures { IsTrue result → KeepsText (cell before.now n i old 8) (cell after.now m i new 8) }
-{
-    match (cell(before, n, i, old, 8), cell(after, m, i, new, 8)) {
-        (Some(before), Some(after)) => keeps_text(before, after),
+        (Some(before), Some(after)) => keeps_number(before, after),
         _ => false,
     }
 }
@@ -47,16 +30,14 @@ fn is_moved_text(
 fn keeps_digital(before: &[u8], n: usize, after: &[u8], m: usize, i: usize) -> bool
     ensures { IsTrue result → KeepsDigital before.now n after.now m i }
 {
-    is_moved_text(before, n, 120, after, m, 120, i)
-        && is_moved_text(before, n, 128, after, m, 128, i)
+    is_moved(before, n, 120, after, m, 120, i) && is_moved(before, n, 128, after, m, 128, i)
 }
 
 /// Whether the digital limits are swapped.
 fn swaps_digital(before: &[u8], n: usize, after: &[u8], m: usize, i: usize) -> bool
     ensures { IsTrue result → SwapsDigital before.now n after.now m i }
 {
-    is_moved_text(before, n, 120, after, m, 128, i)
-        && is_moved_text(before, n, 128, after, m, 120, i)
+    is_moved(before, n, 120, after, m, 128, i) && is_moved(before, n, 128, after, m, 120, i)
 }
 
 /// Whether the physical limits stay.
@@ -96,12 +77,22 @@ fn keeps_either(before: &[u8], n: usize, after: &[u8], m: usize, i: usize) -> bo
     swaps_digital(before, n, after, m, i)
 }
 
-/// Whether the physical limits of signal `i` are numbers that differ.
-fn has_limits(header: &[u8], n: usize, i: usize) -> bool
+/// Whether two texts are numbers that differ, each up to its first byte that is not printable.
+fn fronts_differ(low: &[u8], high: &[u8]) -> bool
+    requires low { length low.now ≡ 8 }
+    requires high { length high.now ≡ 8 }
+    ensures { FrontsDiffer low.now high.now → IsTrue result }
+{
+    physical_values_differ(front_of(low), front_of(high))
+}
+
+/// Whether the physical limits of signal `i` are numbers that differ, each up to its first byte
+/// that is not printable.
+pub(crate) fn has_limits(header: &[u8], n: usize, i: usize) -> bool
     ensures { HasLimits header.now n i → IsTrue result }
 {
     match (cell(header, n, i, 104, 8), cell(header, n, i, 112, 8)) {
-        (Some(low), Some(high)) => physical_values_differ(low, high),
+        (Some(low), Some(high)) => fronts_differ(low, high),
         _ => true,
     }
 }

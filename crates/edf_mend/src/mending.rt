@@ -2,10 +2,9 @@
 
 ghost use Rattle.std.specs.Prelude.{◌≡◌, ◌≤◌, ◌++◌, [], ℕ, List, Option, Some, None, option_map};
 ghost use Rattle.std.specs.Prelude.{length, IfOk, IfErr, IsTrue, All, MatchResult, ⊤};
-ghost use Rattle.std.specs.Prelude.{◌+◌, ◌*◌, ◌≢◌, false};
+ghost use Rattle.std.specs.Prelude.{◌≢◌, false, codes};
 ghost use Rattle.std.specs.Io.KnownBytes.{Consumes, Appends, IsAtEnd};
-ghost use Rattle.edf_field.specs.Number.{IsNumber};
-ghost use Rattle.edf_header.specs.Fields.{signals_field, recording_field};
+ghost use Rattle.edf_header.specs.Fields.{version_field, recording_field};
 ghost use Rattle.edf_header.specs.Key.{Key};
 ghost use Rattle.edf_fragment.specs.Fragment.{DataRecord, Spells};
 ghost use Rattle.edf_fragment.specs.Reading.{at_first};
@@ -20,6 +19,7 @@ ghost use Rattle.edf_mend.specs.Patient.{KeepsPatient};
 ghost use Rattle.edf_mend.specs.Counts.{CountsCalls};
 ghost use Rattle.edf_mend.specs.Inside.Steps.{IsFitting, IsSent, HoldsRecords, IsCounted};
 ghost use Rattle.edf_mend.specs.Inside.Timed.{IsUntold};
+ghost use Rattle.edf_mend.specs.Inside.Whole.{IsWholeHeader};
 
 use crate::accepting::accept_header;
 use crate::asked::keeps_to;
@@ -93,7 +93,8 @@ fn keeps_clock_and_code(given: Option<&[u8]>, before: &[u8], after: &[u8]) -> bo
     ensures clock { IsTrue result → KeepsClock before.now after.now }
     ensures patient { IsTrue result →
         KeepsPatient (option_map (λ code. code.now) given.entry) before.now after.now }
-    ensures same { 256 ≤ length before.now → after.now ≡ before.now → IsTrue result }
+    ensures same { 256 ≤ length before.now → version_field before.now ≡ codes "0       " →
+        after.now ≡ before.now → IsTrue result }
 {
     if before.len() < 256 || after.len() < 256 {
         return false;
@@ -114,8 +115,7 @@ fn keeps_identity(
     ensures patient { IsTrue result →
         KeepsPatient (option_map (λ code. code.now) given.entry) before.now after.now }
     ensures kept { IsTrue result → KeepsHeader added steps.now before.now after.now }
-    ensures same { (n : ℕ) → 256 ≤ length before.now → IsNumber (signals_field before.now) n →
-        length before.now ≡ 256 + 256 * n → after.now ≡ before.now → added ≡ 0 →
+    ensures same { (n : ℕ) → IsWholeHeader before.now n → after.now ≡ before.now → added ≡ 0 →
         steps.now ≡ [] → IsTrue result }
 {
     keeps_clock_and_code(given, before, after) && keeps_header(added, steps, before, after)

@@ -4,6 +4,7 @@ ghost use Rattle.std.specs.Prelude.{IfErr, option_map};
 ghost use Rattle.edf_mend.specs.Answers.{AsksCode, IsTrouble};
 ghost use Rattle.edf_mend.specs.Inside.Faults.{IsQuiet};
 
+use crate::code::is_no_code;
 use crate::fault::MendFault;
 use crate::fields::{in_capitals, part, push_subfield, push_subfields, set};
 use edf_field::{is_patient, next_subfield};
@@ -103,11 +104,6 @@ fn places_of(field: &[u8]) -> Option<Places<'_>> {
         name,
         more,
     })
-}
-
-/// Whether a subfield stands for no code.
-fn is_no_code(code: &[u8]) -> bool {
-    code == b"X".as_slice() || code == b"x".as_slice()
 }
 
 /// Whether a code was given, and is this one.

@@ -4,13 +4,14 @@ ghost use Rattle.std.specs.Prelude.{◌≡◌, ◌⊎◌, ◌≤◌, ◌+◌, �
 ghost use Rattle.edf_field.specs.Number.{whole_value};
 ghost use Rattle.edf_header.specs.Fields.{signals_field};
 ghost use Rattle.edf_mend.specs.Rules.{IsField, IsInColumns, AddsSignal, IsTransliterated};
-ghost use Rattle.edf_mend.specs.Rules.{MayChange, IsOfRule};
+ghost use Rattle.edf_mend.specs.Rules.{MendsRecording, MarksRecording, MayChange, IsOfRule};
 
 use crate::change::Change;
 use crate::code::has_unprintable;
 use crate::ledger::Step;
 use crate::rule::Rule;
-use edf_field::read_whole;
+use crate::saying::adds_mended;
+use edf_field::{read_recording, read_whole};
 
 /// Whether a change is one of the whole field that is there.
 fn is_field(change: &Change, at: usize, width: usize) -> bool
@@ -64,6 +65,26 @@ fn is_transliterated(change: &Change) -> bool
     has_unprintable(change.old())
 }
 
+/// Whether a change is one of the whole recording field, which was no recording identification.
+fn mends_recording(change: &Change) -> bool
+    ensures { IsTrue result → MendsRecording change.now }
+{
+    if !is_field(change, 88, 80) {
+        return false;
+    }
+    match read_recording(change.old()) {
+        Some(_) => false,
+        None => true,
+    }
+}
+
+/// Whether a change is one of the whole recording field, which gets `mended` behind its subfields.
+fn marks_recording(change: &Change) -> bool
+    ensures { IsTrue result → MarksRecording change.now }
+{
+    is_field(change, 88, 80) && adds_mended(change.old(), change.new())
+}
+
 /// Whether a rule may change so in a header of `n` signals.
 fn may_change(rule: Rule, n: u32, change: &Change) -> bool
     ensures { IsTrue result → MayChange rule n change.now }
@@ -71,14 +92,14 @@ fn may_change(rule: Rule, n: u32, change: &Change) -> bool
     match rule {
         Rule::Ascii => is_transliterated(change),
         Rule::Patient => is_field(change, 8, 80),
-        Rule::Recording => is_field(change, 88, 80),
+        Rule::Recording => mends_recording(change),
         Rule::Physical => is_physical(change, n),
         Rule::Digital => is_limit(change, n),
         Rule::Annotations => is_limit(change, n) || adds_signal(change),
         Rule::Plain => is_field(change, 192, 44) || adds_signal(change),
         Rule::Count => is_field(change, 236, 8),
         Rule::Texts | Rule::Clock => false,
-        Rule::Mended => is_field(change, 88, 80),
+        Rule::Mended => marks_recording(change),
     }
 }
 

@@ -1,6 +1,8 @@
 //! Whether a recording field says that the file was mended.
 
-ghost use Rattle.std.specs.Prelude.{IsTrue};
+ghost use Rattle.std.specs.Prelude.{◌≡◌, ◌∷◌, [], codes, IsTrue};
+ghost use Rattle.edf_field.specs.Text.{subfields};
+ghost use Rattle.edf_mend.specs.Rules.{SaysMendedToo};
 ghost use Rattle.edf_mend.specs.Says.{SaysMended};
 
 use edf_field::next_subfield;
@@ -20,6 +22,44 @@ pub(crate) fn says_mended(field: &[u8]) -> bool
         };
         last = subfield;
         left = rest;
+    }
+    false
+}
+
+/// Whether a text has one subfield, which is `mended`.
+fn is_mended(text: &[u8]) -> bool
+    ensures { IsTrue result → subfields text.now ≡ codes "mended" ∷ [] }
+{
+    let Some((subfield, rest)) = next_subfield(text) else {
+        return false;
+    };
+    match next_subfield(rest) {
+        Some(_) => false,
+        None => subfield == b"mended".as_slice(),
+    }
+}
+
+/// Whether a text has the first subfields of another, five or more, and then `mended` as the last.
+pub(crate) fn adds_mended(old: &[u8], new: &[u8]) -> bool
+    ensures { IsTrue result → SaysMendedToo old.now new.now }
+{
+    let mut old_left = old;
+    let mut new_left = new;
+    for count in 0..80usize {
+        if count >= 5 && is_mended(new_left) {
+            return true;
+        }
+        let Some((subfield, new_rest)) = next_subfield(new_left) else {
+            return false;
+        };
+        let Some((same, old_rest)) = next_subfield(old_left) else {
+            return false;
+        };
+        if same != subfield {
+            return false;
+        }
+        old_left = old_rest;
+        new_left = new_rest;
     }
     false
 }

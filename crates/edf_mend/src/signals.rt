@@ -3,11 +3,13 @@
 ghost use Rattle.std.specs.Prelude.{◌≡◌, ◌≤◌, ◌<◌, ◌+◌, ◌*◌, ℕ, length, take, codes, IfSome};
 ghost use Rattle.std.specs.Prelude.{IsTrue};
 ghost use Rattle.edf_field.specs.Number.{digits, digits_len};
-ghost use Rattle.edf_mend.specs.Signals.{cell, is_printable, printable_len, KeepsText, KeepsLabel};
-ghost use Rattle.edf_mend.specs.Signals.{KeepsSignal, KeepsSignals, IsOrdinaryAt};
+ghost use Rattle.edf_mend.specs.Signals.{cell, is_printable, printable_len, front_of, KeepsText};
+ghost use Rattle.edf_mend.specs.Signals.{KeepsNumber, KeepsLabel, KeepsSignal, KeepsSignals};
+ghost use Rattle.edf_mend.specs.Signals.{NamesAnnotations, IsOrdinaryAt};
 
 use crate::limits::keeps_mapping_of;
-use edf_field::read_whole;
+use crate::words::keeps_words;
+use edf_field::{are_spaces, read_whole};
 
 /// A field of signal `i` of `n`, by its place in a row of 256 bytes; nothing where the header ends
 /// before its end.
@@ -67,6 +69,26 @@ pub(crate) fn keeps_text(before: &[u8], after: &[u8]) -> bool
     &after[..end] == &before[..end]
 }
 
+/// What comes before the first byte that is not printable.
+pub(crate) fn front_of(text: &[u8]) -> &[u8]
+    ensures front { result.now ≡ front_of text.now }
+    ensures len { length result.now ≤ length text.now }
+{
+    let (front, _) = text.split_at(printable_end(text));
+    front
+}
+
+/// Whether a number stays: up to its first byte that is not printable, and then only spaces come.
+pub(crate) fn keeps_number(before: &[u8], after: &[u8]) -> bool
+    ensures { IsTrue result → KeepsNumber before.now after.now }
+{
+    let end = printable_end(before);
+    if end > after.len() {
+        return false;
+    }
+    keeps_text(before, after) && are_spaces(&after[end..])
+}
+
 /// Whether two texts begin with the same digits.
 fn keeps_digits(before: &[u8], after: &[u8]) -> bool
     ensures { IsTrue result → digits after.now ≡ digits before.now }
@@ -87,6 +109,13 @@ pub(crate) fn is_annotations(label: &[u8]) -> bool
     label == b"EDF Annotations ".as_slice()
 }
 
+/// Whether a label is that of annotations signals, or all of it before a byte that is not printable.
+fn names_annotations(label: &[u8]) -> bool
+    ensures { NamesAnnotations label.now → IsTrue result }
+{
+    is_annotations(label) || front_of(label) == b"EDF Annotations".as_slice()
+}
+
 /// Whether a label is that of annotations signals up to its last byte.
 fn may_be_annotations(label: &[u8]) -> bool
     ensures { IsTrue result → take 15 label.now ≡ codes "EDF Annotations" }
@@ -97,14 +126,14 @@ fn may_be_annotations(label: &[u8]) -> bool
 /// Whether a label stays that of an annotations signal, or of none.
 fn keeps_kind(before: &[u8], after: &[u8]) -> bool
     ensures annotations { IsTrue result →
-        before.now ≡ codes "EDF Annotations " → after.now ≡ codes "EDF Annotations " }
+        NamesAnnotations before.now → after.now ≡ codes "EDF Annotations " }
     ensures ordinary { IsTrue result →
         after.now ≡ codes "EDF Annotations " → take 15 before.now ≡ codes "EDF Annotations" }
 {
     if is_annotations(after) {
         return may_be_annotations(before);
     }
-    !is_annotations(before)
+    !names_annotations(before)
 }
 
 /// Whether a label is kept.
@@ -139,9 +168,16 @@ fn keeps_samples_of(before: &[u8], n: usize, after: &[u8], m: usize, i: usize) -
 fn keeps_signal(before: &[u8], n: usize, after: &[u8], m: usize, i: usize) -> bool
     ensures { IsTrue result → KeepsSignal before.now n after.now m i }
 {
-    keeps_label_of(before, n, after, m, i)
-        && keeps_samples_of(before, n, after, m, i)
-        && keeps_mapping_of(before, n, after, m, i)
+    if !keeps_label_of(before, n, after, m, i) {
+        return false;
+    }
+    if !keeps_samples_of(before, n, after, m, i) {
+        return false;
+    }
+    if !keeps_words(before, n, after, m, i) {
+        return false;
+    }
+    keeps_mapping_of(before, n, after, m, i)
 }
 
 /// Whether each of `n` signals is kept.
@@ -161,7 +197,7 @@ fn is_ordinary(header: &[u8], n: usize, i: usize) -> bool
     ensures { IsTrue result → IsOrdinaryAt header.now n i }
 {
     match cell(header, n, i, 0, 16) {
-        Some(label) => !is_annotations(label),
+        Some(label) => !names_annotations(label),
         None => false,
     }
 }
@@ -214,8 +250,14 @@ pub(crate) fn keeps_signals(added: usize, before: &[u8], after: &[u8]) -> bool
     };
     let n = n as usize;
     let m = m as usize;
-    is_number_after(added, n, m)
-        && is_long_for(before, n)
-        && keep_signals(before, n, after, m)
-        && is_first_block(added, before, n)
+    if !is_number_after(added, n, m) {
+        return false;
+    }
+    if !is_long_for(before, n) {
+        return false;
+    }
+    if !keep_signals(before, n, after, m) {
+        return false;
+    }
+    is_first_block(added, before, n)
 }

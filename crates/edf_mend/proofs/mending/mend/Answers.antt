@@ -1,5 +1,5 @@
 use Rattle.std.proofs.Common.{rules, ◌≡◌, ◌<◌, ◌∙◌, ℕ, List, [], refl, sym, subst, arith, option_map}
-use Rattle.std.proofs.Common.{◌≤◌, ◌+◌, ◌*◌, ◌≢◌, None, length, ap}
+use Rattle.std.proofs.Common.{◌≢◌, None}
 use Rattle.std.proofs.lemmas.Result.{err_from_is_err_and}
 use Rattle.edf_mend.specs.Clock.{KeepsClock}
 use Rattle.edf_mend.specs.Edits.{RuleEdits}
@@ -9,14 +9,14 @@ use Rattle.edf_mend.specs.Says.{SaysMended}
 use Rattle.edf_mend.specs.Patient.{KeepsPatient}
 use Rattle.edf_mend.specs.Counts.{CountsFault}
 use Rattle.edf_mend.specs.Inside.Steps.{IsDrafted, IsOpened, IsSent, IsFitting, EndsInHeader}
-use Rattle.edf_field.specs.Number.{IsNumber}
-use Rattle.edf_header.specs.Fields.{signals_field, recording_field}
+use Rattle.edf_mend.specs.Inside.Whole.{IsWholeHeader}
+use Rattle.edf_header.specs.Fields.{recording_field}
 use Rattle.edf_header.specs.Header.{IsHeader}
 use Rattle.edf_mend.proofs.Accepted.{refuses-then, refuses-some, asks-none, NoHeader}
 use Rattle.edf_mend.proofs.Further.{further-then, reads-on}
 use Rattle.edf_mend.proofs.Good.{not-in-header, good-header, good-opened, drafted-none, copies}
-use Rattle.edf_mend.proofs.Good.{names-signals, header-length}
 use Rattle.edf_mend.proofs.Parts.{mends}
+use Rattle.edf_mend.proofs.Unchanged.{header-whole}
 use Rattle.edf_mend.proofs.mending.mend.Goals as goal
 
 pub returns-in_err-draft-clause-counted : goal.returns-in_err-draft-clause-counted
@@ -280,21 +280,12 @@ returns-then-not-keeps_identity-clause-welcome g c bytes key records none left_i
     (g.R.Input.remaining c.read_header.new.input) bytes key records old left_is spells
     c.in_ok-old.ensures.read c.in_ok-old.ensures.long c.in_ok-old.ensures.whole in
     let n = good.header.fixed.signal_count in
-    let names = names-signals old [] good.header good.is_header in
     let before = c.as_slice-3.result.now in
     let before_is : before ≡ old = search rules in
     let after_is : c.as_slice-4.result.now ≡ draft.header.items = search rules in
-    let long : 256 ≤ length before = subst (λ (x : List ℕ). 256 ≤ length x) (sym before_is)
-    c.in_ok-old.ensures.long in
-    let named : IsNumber (signals_field before) n =
-    subst (λ (x : List ℕ). IsNumber (signals_field x) n) (sym before_is) names.named in
-    let len : length before ≡ 256 + 256 * n =
-    omega (
-      arith,
-      header-length old [] good.header good.is_header,
-      ap (λ (x : List ℕ). length x) before_is,
-    ) in
+    let whole : IsWholeHeader before n = subst (λ (x : List ℕ). IsWholeHeader x n) (sym before_is)
+    (header-whole old good.header good.is_header) in
     let steps_is : c.as_slice-5.result.now ≡ draft.steps.items = search rules in
-    let may = c.keeps_identity.ensures.same n long named len (after_is ∙ same ∙ sym before_is)
-    kept.1 (steps_is ∙ kept.0) in
+    let may = c.keeps_identity.ensures.same n whole (after_is ∙ same ∙ sym before_is) kept.1
+    (steps_is ∙ kept.0) in
     search (rules, may)
