@@ -35,10 +35,11 @@ abbrev pub IsNoCode : List ℕ → Type 0
 IsNoCode code = (code ≡ codes "X") ⊎ (code ≡ codes "x")
 
 -- a code is the one that was given, for a field that was no patient identification, or whose code
--- stood for none
+-- stood for none, or had a byte that is not printable
 abbrev pub IsGiven : Option (List ℕ) → List ℕ → List ℕ → Type 0
 IsGiven given field code = (given ≡ Some code)
-    × ((IsPatient field → ⊥) ⊎ IsNoCode (code_of field))
+    × ((IsPatient field → ⊥) ⊎ (IsNoCode (code_of field)
+    ⊎ (All IsPrintable (code_of field) → ⊥)))
 
 -- a code that had a byte which is not printable stays up to that byte
 abbrev pub IsSpelledOut : List ℕ → List ℕ → Type 0

@@ -32,14 +32,9 @@ pub record MendsRecording (e : Edit) : Type 0 where
   pub field : IsField 88 80 e
   pub wrong : (startdate : Option ℤ) (after : List ℕ) → ¬ IsRecording e.old startdate after
 
--- `mended` comes after the first subfields that a text had, five or more of them; those behind them,
--- if any, are dropped, so that there is room for it
-pub record SaysMendedToo (old new : List ℕ) : Type 0 where
-  pub kept : List (List ℕ)
-  pub dropped : List (List ℕ)
-  pub before : subfields old ≡ kept ++ dropped
-  pub five : 5 ≤ length kept
-  pub after : subfields new ≡ kept ++ codes "mended" ∷ []
+-- `mended` comes after all subfields that a text had
+abbrev pub SaysMendedToo : List ℕ → List ℕ → Type 0
+SaysMendedToo old new = subfields new ≡ subfields old ++ codes "mended" ∷ []
 
 -- so does the recording field
 pub record MarksRecording (e : Edit) : Type 0 where

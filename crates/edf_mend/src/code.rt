@@ -121,14 +121,26 @@ pub(crate) fn has_unprintable(text: &[u8]) -> bool
     false
 }
 
-/// Whether a field wants a code: it is no patient identification, or its code stands for none.
+/// Whether a code stands for none, or has a byte that is not printable.
+fn is_no_good_code(code: &[u8]) -> bool
+    ensures { IsTrue result → IsNoCode code.now ⊎ (All IsPrintable code.now → ⊥) }
+{
+    if is_no_code(code) {
+        return true;
+    }
+    has_unprintable(code)
+}
+
+/// Whether a field wants a code: it is no patient identification, or its code is none or can't be
+/// spelled.
 fn wants_code(field: &[u8]) -> bool
-    ensures { IsTrue result → (IsPatient field.now → ⊥) ⊎ IsNoCode (code_of field.now) }
+    ensures { IsTrue result → (IsPatient field.now → ⊥)
+        ⊎ (IsNoCode (code_of field.now) ⊎ (All IsPrintable (code_of field.now) → ⊥)) }
 {
     if !is_patient(field) {
         return true;
     }
-    is_no_code(code_of(field))
+    is_no_good_code(code_of(field))
 }
 
 /// Whether a code is the one that was given, and the field before wanted one.

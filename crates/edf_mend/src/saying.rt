@@ -39,20 +39,17 @@ fn is_mended(text: &[u8]) -> bool
     }
 }
 
-/// Whether a text has the first subfields of another, five or more, and then `mended` as the last.
+/// Whether a text has all subfields of another, and then `mended` as the last.
 pub(crate) fn adds_mended(old: &[u8], new: &[u8]) -> bool
     ensures { IsTrue result → SaysMendedToo old.now new.now }
 {
     let mut old_left = old;
     let mut new_left = new;
-    for count in 0..80usize {
-        if count >= 5 && is_mended(new_left) {
-            return true;
-        }
-        let Some((subfield, new_rest)) = next_subfield(new_left) else {
-            return false;
-        };
+    for _ in 0..80usize {
         let Some((same, old_rest)) = next_subfield(old_left) else {
+            return is_mended(new_left);
+        };
+        let Some((subfield, new_rest)) = next_subfield(new_left) else {
             return false;
         };
         if same != subfield {
